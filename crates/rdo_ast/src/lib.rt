@@ -1,0 +1,6 @@
+//! Statements of RDO as they are written, and the replies to them.
+#![tactic(auto)]
+
+mod copied;
+pub mod reply;
+pub mod syntax;
