@@ -94,8 +94,6 @@ pub data Command : Type 0 where
   define_index : IndexDefinition → Command
   delete_relation : Name → Command
   delete_index : Name → Command
-  stop : Command
-  online_backup : ℕ → Command
 
 pub data Uttered : Type 0 where
   said : Command → Uttered

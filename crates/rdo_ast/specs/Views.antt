@@ -20,7 +20,7 @@ use Rattle.rdo_ast.specs.declared.syntax.Statement.{Statement}
 use Rattle.rdo_ast.specs.declared.syntax.Statement.TheVariants as s
 use Rattle.rdo_ast.specs.declared.syntax.Item.{Item}
 use Rattle.rdo_ast.specs.declared.syntax.Item.TheVariants as i
-use Rattle.rdo_ast.specs.Tree.{Expression, number, text, field, negative, chain, count, statistic, Operations, no_operation, operation, Testing, compare, between, containing, starting_with, missing, any, negated, group, Conjunction, no_test, test, Condition, no_conjunction, conjunction, Ranging, ranging, With, without_condition, with_condition, Assignment, Shown, value, all_fields, Act, store, for_each, print, modify, erase, Acts, no_act, act, Command, invoke, start_read_only, start_read_write, commit, rollback, finish, perform, define_field, define_relation, define_index, delete_relation, delete_index, stop, online_backup, Uttered, said, syntax_fault}
+use Rattle.rdo_ast.specs.Tree.{Expression, number, text, field, negative, chain, count, statistic, Operations, no_operation, operation, Testing, compare, between, containing, starting_with, missing, any, negated, group, Conjunction, no_test, test, Condition, no_conjunction, conjunction, Ranging, ranging, With, without_condition, with_condition, Assignment, Shown, value, all_fields, Act, store, for_each, print, modify, erase, Acts, no_act, act, Command, invoke, start_read_only, start_read_write, commit, rollback, finish, perform, define_field, define_relation, define_index, delete_relation, delete_index, Uttered, said, syntax_fault}
 
 -- an operator and its operand, as they are found in a list
 pub record Applied : Type 0 where
@@ -127,8 +127,6 @@ command_of (s.DefineRelation n fs) = define_relation n fs
 command_of (s.DefineIndex d) = define_index d
 command_of (s.DeleteRelation n) = delete_relation n
 command_of (s.DeleteIndex n) = delete_index n
-command_of s.Stop = stop
-command_of (s.BackupOnline n) = online_backup n
 
 abbrev pub uttered_of : Item → Uttered
 uttered_of (i.Statement s) = said (command_of s)

@@ -199,8 +199,6 @@ pub enum Statement {
     DefineIndex(IndexDefinition),
     DeleteRelation(Chars),
     DeleteIndex(Chars),
-    Stop,
-    BackupOnline(u32),
 }
 
 /// What a script holds: a statement, or the line and column of a token with which no statement goes on.
