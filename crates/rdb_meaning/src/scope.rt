@@ -1,4 +1,11 @@
+//! Bound variables.
+ghost use Rattle.std.specs.Prelude.{◌≡◌, [], ◌∷◌, ◌++◌, IfOk};
+ghost use Rattle.std.specs.Option.{option_copied};
+ghost use Rattle.rdb_meaning.specs.Evaluation.{bind_source, bound_as};
+
+use crate::same_name;
 use rdb_types::{Chars, Copied, Dbkey, Items, NoMemory};
+use rdo_ast::syntax::Range;
 use std::alloc::Global;
 
 /// A variable, its relation, and its row's Dbkey; a variable of STORE has no row yet.
@@ -9,6 +16,7 @@ pub struct Binding {
     pub key: Option<Dbkey>,
 }
 
+/// Bound variables, the outermost first.
 pub type Scope = Items<Binding>;
 
 impl Copied for Binding {
@@ -21,4 +29,46 @@ impl Copied for Binding {
             key: self.key,
         })
     }
+}
+
+/// The binding of a variable, if it is bound.
+pub fn binding_of<'a>(scope: &'a [Binding], variable: &Chars) -> Option<&'a Binding>
+    ensures { option_copied result ≡ bound_as variable.now scope.now }
+{
+    for binding in scope {
+        if same_name(variable, &binding.variable) {
+            return Some(binding);
+        }
+    }
+    None
+}
+
+fn copied_scope(alloc: Global, scope: &[Binding]) -> Result<Scope, NoMemory>
+    ensures { IfOk result (λ made. made ≡ scope.now) }
+{
+    let mut copy = Items::new(alloc);
+    for binding in scope {
+        copy.push(binding.copied(alloc)?)?;
+    }
+    Ok(copy)
+}
+
+/// The scope with one more variable.
+pub fn extended(
+    alloc: Global,
+    scope: &[Binding],
+    range: &Range,
+    key: Option<Dbkey>,
+) -> Result<Scope, NoMemory>
+    ensures { IfOk result (λ made. made ≡ scope.now ++ bind_source range.now key ∷ []) }
+{
+    let mut copy = copied_scope(alloc, scope)?;
+    let variable = range.variable.copied(alloc)?;
+    let relation = range.relation.copied(alloc)?;
+    copy.push(Binding {
+        variable,
+        relation,
+        key,
+    })?;
+    Ok(copy)
 }

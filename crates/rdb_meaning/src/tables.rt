@@ -1,6 +1,16 @@
-use rdb_types::{Chars, Copied, Dbkey, FieldType, Fields, Items, NoMemory, Positions, Row};
+//! Tables in memory, and what is looked up in them.
+ghost use Rattle.std.specs.Prelude.{◌≡◌, ◌<◌, length, IfSome};
+ghost use Rattle.std.specs.Option.{option_copied};
+ghost use Rattle.std.specs.Ordering.{is_eq};
+ghost use Rattle.std.specs.FinMap.Entries.{find};
+ghost use Rattle.rdb_meaning.specs.Contents.{name_order, key_order, relation_named, rows_of, place_of};
+ghost use Rattle.rdb_meaning.specs.Lookups.{place_and_field};
+
+use crate::same_name;
+use rdb_types::{Chars, Copied, Dbkey, Field, FieldType, Fields, Items, NoMemory, Positions, Row};
 use std::alloc::Global;
 
+/// A relation: its logical area, its fields in the order of their definition, and its rows in the order of their Dbkeys.
 #[derive(Drop)]
 pub struct Relation {
     pub area: u32,
@@ -8,10 +18,10 @@ pub struct Relation {
     pub rows: Items<(Dbkey, Row)>,
 }
 
+/// An index: its logical area, that of its relation, and the places of its fields.
 #[derive(Drop)]
 pub struct Index {
     pub area: u32,
-    /// The logical area of its relation.
     pub relation: u32,
     pub unique: bool,
     pub fields: Positions,
@@ -23,6 +33,81 @@ pub struct Tables {
     pub globals: Items<(Chars, FieldType)>,
     pub relations: Items<(Chars, Relation)>,
     pub indexes: Items<(Chars, Index)>,
+}
+
+/// A field and its place among the fields of its relation, counted from 0.
+pub struct FieldAt<'a> {
+    pub place: usize,
+    pub field: &'a Field,
+}
+
+fn same_key(a: &Dbkey, b: &Dbkey) -> bool
+    ensures { result ≡ is_eq (key_order a.now b.now) }
+{
+    a.area == b.area && a.page == b.page && a.line == b.line
+}
+
+fn row_among<'a>(rows: &'a [(Dbkey, Row)], key: &Dbkey) -> Option<&'a Row>
+    ensures { option_copied result ≡ find key_order key.now rows.now }
+{
+    for entry in rows {
+        if same_key(key, &entry.0) {
+            return Some(&entry.1);
+        }
+    }
+    None
+}
+
+fn relation_among<'a>(relations: &'a [(Chars, Relation)], name: &Chars) -> Option<&'a Relation>
+    ensures { option_copied result ≡ find name_order name.now relations.now }
+{
+    for entry in relations {
+        if same_name(name, &entry.0) {
+            return Some(&entry.1);
+        }
+    }
+    None
+}
+
+impl Relation {
+    /// The row at a Dbkey.
+    pub fn row(&self, key: &Dbkey) -> Option<&Row>
+        ensures { option_copied result ≡ find key_order key.now self.now.rows }
+    {
+        row_among(self.rows.as_slice(), key)
+    }
+}
+
+impl Tables {
+    /// The relation of a name.
+    pub fn relation(&self, name: &Chars) -> Option<&Relation>
+        ensures { option_copied result ≡ relation_named name.now self.now }
+    {
+        relation_among(self.relations.as_slice(), name)
+    }
+
+    /// The rows of a relation, none where it isn't there.
+    pub fn rows(&self, name: &Chars) -> &[(Dbkey, Row)]
+        ensures { result.now ≡ rows_of (relation_named name.now self.now) }
+    {
+        match self.relation(name) {
+            Some(relation) => relation.rows.as_slice(),
+            None => &[],
+        }
+    }
+}
+
+/// The field of a name, with its place.
+pub fn field_of<'a>(fields: &'a [Field], name: &Chars) -> Option<FieldAt<'a>>
+    ensures found { place_and_field result ≡ place_of name.now fields.now }
+    ensures within { IfSome result (λ p. p.place < length fields.now) }
+{
+    for (place, field) in fields.iter().enumerate() {
+        if same_name(name, &field.name) {
+            return Some(FieldAt { place, field });
+        }
+    }
+    None
 }
 
 impl Copied for Relation {
