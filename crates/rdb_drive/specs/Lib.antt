@@ -1,0 +1,4 @@
+pub mod Boards
+pub mod Steps
+pub mod Orders
+pub mod Turns
