@@ -1,0 +1,8 @@
+//! A map in the order of its keys that contracts see as the list of its entries.
+#![tactic(auto)]
+
+mod entries;
+mod key;
+
+pub use entries::Entries;
+pub use key::Key;
