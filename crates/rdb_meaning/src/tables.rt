@@ -1,13 +1,13 @@
 //! Tables in memory, and what is looked up in them.
 ghost use Rattle.std.specs.Prelude.{◌≡◌, ◌<◌, length, IfSome};
 ghost use Rattle.std.specs.Option.{option_copied};
-ghost use Rattle.std.specs.Ordering.{is_eq};
 ghost use Rattle.std.specs.FinMap.Entries.{find};
 ghost use Rattle.rdb_meaning.specs.Contents.{name_order, key_order, relation_named, rows_of, place_of};
 ghost use Rattle.rdb_meaning.specs.Lookups.{place_and_field};
 
 use crate::same_name;
-use rdb_types::{Chars, Copied, Dbkey, Field, FieldType, Fields, Items, NoMemory, Positions, Row};
+use ordered_entries::Entries;
+use rdb_types::{Chars, Copied, Dbkey, Field, FieldType, Fields, NoMemory, Positions, Row};
 use std::alloc::Global;
 
 /// A relation: its logical area, its fields in the order of their definition, and its rows in the order of their Dbkeys.
@@ -15,7 +15,7 @@ use std::alloc::Global;
 pub struct Relation {
     pub area: u32,
     pub fields: Fields,
-    pub rows: Items<(Dbkey, Row)>,
+    pub rows: Entries<Dbkey, Row>,
 }
 
 /// An index: its logical area, that of its relation, and the places of its fields.
@@ -27,12 +27,12 @@ pub struct Index {
     pub fields: Positions,
 }
 
-/// Three finite maps, each kept as the list of its entries in the order of their names.
+/// Three finite maps, in the order of their names.
 #[derive(Drop)]
 pub struct Tables {
-    pub globals: Items<(Chars, FieldType)>,
-    pub relations: Items<(Chars, Relation)>,
-    pub indexes: Items<(Chars, Index)>,
+    pub globals: Entries<Chars, FieldType>,
+    pub relations: Entries<Chars, Relation>,
+    pub indexes: Entries<Chars, Index>,
 }
 
 /// A field and its place among the fields of its relation, counted from 0.
@@ -41,40 +41,12 @@ pub struct FieldAt<'a> {
     pub field: &'a Field,
 }
 
-fn same_key(a: &Dbkey, b: &Dbkey) -> bool
-    ensures { result ≡ is_eq (key_order a.now b.now) }
-{
-    a.area == b.area && a.page == b.page && a.line == b.line
-}
-
-fn row_among<'a>(rows: &'a [(Dbkey, Row)], key: &Dbkey) -> Option<&'a Row>
-    ensures { option_copied result ≡ find key_order key.now rows.now }
-{
-    for entry in rows {
-        if same_key(key, &entry.0) {
-            return Some(&entry.1);
-        }
-    }
-    None
-}
-
-fn relation_among<'a>(relations: &'a [(Chars, Relation)], name: &Chars) -> Option<&'a Relation>
-    ensures { option_copied result ≡ find name_order name.now relations.now }
-{
-    for entry in relations {
-        if same_name(name, &entry.0) {
-            return Some(&entry.1);
-        }
-    }
-    None
-}
-
 impl Relation {
     /// The row at a Dbkey.
     pub fn row(&self, key: &Dbkey) -> Option<&Row>
         ensures { option_copied result ≡ find key_order key.now self.now.rows }
     {
-        row_among(self.rows.as_slice(), key)
+        self.rows.find(key)
     }
 }
 
@@ -83,7 +55,7 @@ impl Tables {
     pub fn relation(&self, name: &Chars) -> Option<&Relation>
         ensures { option_copied result ≡ relation_named name.now self.now }
     {
-        relation_among(self.relations.as_slice(), name)
+        self.relations.find(name)
     }
 
     /// The rows of a relation, none where it isn't there.
