@@ -25,15 +25,15 @@ pub record World : Type 0 where
 abbrev pub world : Tables → List Dbkey → List (List Scaled) → World
 world t ks lines = record { tables = t; choices = ks; lines = lines }
 
--- what doing an action gives; `astray` where a Dbkey that is to be given may not be
+-- What doing an action gives. A refusal has the Dbkeys that no row was given before it; `astray` is where a Dbkey that is to be given may not be.
 pub data Ran : Type 0 where
   ran : World → Ran
-  refused : Reply → Ran
+  refused : Reply → List Dbkey → Ran
   astray : Ran
 
 abbrev pub and_then : Ran → (World → Ran) → Ran
 and_then (ran w) next = next w
-and_then (refused r) next = refused r
+and_then (refused r ks) next = refused r ks
 and_then astray next = astray
 
 -- the body for each tuple in turn
@@ -43,7 +43,7 @@ over (k ∷ ks) body w = and_then (body k w) (over ks body)
 
 abbrev pub over_selected : Selected → (Tuple → World → Ran) → World → Ran
 over_selected (these ks) body w = over ks body w
-over_selected not_computed body w = refused Overflow
+over_selected not_computed body w = refused Overflow w.choices
 
 -- ---- PRINT
 
@@ -87,7 +87,7 @@ printed (i ∷ items) t scope = joined (item_line i t scope) (printed items t sc
 
 abbrev pub printed_in : World → Line → Ran
 printed_in w (line vs) = ran (record w { lines = w.lines ++ vs ∷ [] })
-printed_in w no_line = refused Overflow
+printed_in w no_line = refused Overflow w.choices
 
 -- ---- assignments
 
@@ -125,13 +125,13 @@ abbrev pub taken_by : Name → Row → Dbkey → Tables → Option Name
 taken_by n row own t =
     first_taken (λ positions. is_taken positions row own (rows_of (relation_named n t))) (indexes_on (area_of (relation_named n t)) t)
 
-abbrev pub unless_taken : Option Name → Ran → Ran
-unless_taken (Some index) next = refused (Duplicate index)
-unless_taken None next = next
+abbrev pub unless_taken : Option Name → World → Ran → Ran
+unless_taken (Some index) w next = refused (Duplicate index) w.choices
+unless_taken None w next = next
 
 abbrev pub writing : Name → Row → Dbkey → World → Ran → Ran
 writing n row own w next =
-    if is_too_long (fields_of (relation_named n w.tables)) row then refused TooLong else unless_taken (taken_by n row own w.tables) next
+    if is_too_long (fields_of (relation_named n w.tables)) row then refused TooLong w.choices else unless_taken (taken_by n row own w.tables) w next
 
 -- A Dbkey may be given where it has the relation's area, and neither now nor at the start of the statement the relation has a row there.
 abbrev pub may_be_given : Name → Dbkey → Tables → Tables → Bool
@@ -149,7 +149,7 @@ nowhere = record { area = 0; page = 0; line = 0 }
 
 abbrev pub store_assigned : Name → Tables → World → Assigned → Ran
 store_assigned n start w (assigned row) = writing n row nowhere w (place_row n row start w w.choices)
-store_assigned n start w (unassigned r) = refused r
+store_assigned n start w (unassigned r) = refused r w.choices
 
 -- a field that is not assigned is missing
 abbrev pub stored : Range → List Assignment → Tables → Scope → World → Ran
@@ -160,7 +160,7 @@ stored s as' start scope w =
 
 abbrev pub modify_assigned : Name → Dbkey → World → Assigned → Ran
 modify_assigned n k w (assigned row) = writing n row k w (ran (record w { tables = with_row n k row w.tables }))
-modify_assigned n k w (unassigned r) = refused r
+modify_assigned n k w (unassigned r) = refused r w.choices
 
 -- where the Dbkey has no row any more, nothing is done
 abbrev pub modify_at : Option Binding → Option Dbkey → Option Row → List Assignment → Scope → World → Ran

@@ -69,7 +69,7 @@ reservations_of _ = []
 
 abbrev pub after_running : Ran → Tables → Standing → List Dbkey → Meaning
 after_running (ran w) t standing choices = means (r.Done w.lines) w.tables standing w.choices
-after_running (refused reply) t standing choices = refusing reply t standing choices
+after_running (refused reply left) t standing choices = refusing reply t standing left
 after_running astray t standing choices = meaningless
 
 abbrev pub clash : Bool → Refusal
