@@ -1,6 +1,8 @@
-//! What happened in a run: the events, and which lists of events are lawful.
+//! What happened in a run: the events, which lists of events are lawful, and what is written of them.
 #![tactic(auto)]
 
 mod event;
+mod text;
 
-pub use event::{Event, Events};
+pub use event::{Account, Event, Events};
+pub use text::{render, transcript};
