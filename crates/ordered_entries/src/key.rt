@@ -1,8 +1,8 @@
 ghost use Rattle.std.specs.Prelude.{◌≡◌};
 ghost use Rattle.std.specs.declared.cmp.Ordering.{Ordering};
-ghost use Rattle.std.specs.Ordering.{nat_cmp, on, then_cmp};
 ghost use Rattle.std.specs.Cmp.{IsTotalOrder, nat_cmp_total, on_total, then_total};
-ghost use Rattle.std.specs.Cmp.Lexicographic.{slice_cmp, lists_total};
+ghost use Rattle.std.specs.Cmp.Lexicographic.{lists_total};
+ghost use Rattle.ordered_entries.specs.Order.{dbkey_order, chars_order};
 
 use rdb_types::{Chars, Dbkey};
 use std::cmp::Ordering;
@@ -20,7 +20,7 @@ pub trait Key: Drop {
 
 /// By area, then by page, then by line.
 impl Key for Dbkey {
-    ghost order = { then_cmp (on (λ k. k.area) nat_cmp) (then_cmp (on (λ k. k.page) nat_cmp) (on (λ k. k.line) nat_cmp)) };
+    ghost order = { dbkey_order };
 
     ghost total = { then_total (on_total (λ k. k.area) nat_cmp_total) (then_total (on_total (λ k. k.page) nat_cmp_total) (on_total (λ k. k.line) nat_cmp_total)) };
 
@@ -31,7 +31,7 @@ impl Key for Dbkey {
 
 /// By the first character that differs, a name before those that it begins.
 impl Key for Chars {
-    ghost order = { slice_cmp nat_cmp };
+    ghost order = { chars_order };
 
     ghost total = { lists_total nat_cmp_total };
 

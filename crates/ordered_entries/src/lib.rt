@@ -3,6 +3,8 @@
 
 mod entries;
 mod key;
+#[cfg(test)]
+mod tests;
 
 pub use entries::Entries;
 pub use key::Key;
