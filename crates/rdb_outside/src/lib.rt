@@ -1,0 +1,15 @@
+//! What stands outside the engine: a disk of numbered files of slots, which may fail and may crash, the source of the scripts and the sink of the output. Each has an implementation in memory.
+#![tactic(auto)]
+
+mod disk;
+mod event;
+mod memory_disk;
+mod memory_streams;
+mod streams;
+#[cfg(test)]
+mod tests;
+
+pub use disk::Disk;
+pub use memory_disk::MemoryDisk;
+pub use memory_streams::{MemorySink, MemorySource};
+pub use streams::{Failed, Sink, Source};
