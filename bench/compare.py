@@ -1,0 +1,86 @@
+"""Compares rdb with the sqlite3 shell. Each work is run several times; the best time of each counts."""
+import os
+import shutil
+import subprocess
+import sys
+import tempfile
+import time
+
+RDB = sys.argv[1]
+ROUNDS = 5
+SQLITE = shutil.which("sqlite3")
+
+
+def rdo_prints(count):
+    return "".join(f"PRINT {n}, 'row {n}'\n" for n in range(count))
+
+
+def sql_prints(count):
+    return "".join(f"SELECT {n}, 'row {n}';\n" for n in range(count))
+
+
+def rdo_stores(count):
+    head = (
+        "START_TRANSACTION READ_WRITE\n"
+        "DEFINE RELATION R.\n A DATATYPE IS SIGNED LONGWORD.\n B DATATYPE IS TEXT SIZE IS 20.\nEND R RELATION.\n"
+    )
+    rows = "".join(
+        f"STORE X IN R USING X.A = {n}; X.B = 'row {n}'; END_STORE\n" for n in range(count)
+    )
+    return head + rows + "FOR X IN R PRINT X.A, X.B END_FOR\nCOMMIT\n"
+
+
+def sql_stores(count):
+    rows = "".join(f"INSERT INTO R VALUES ({n}, 'row {n}');\n" for n in range(count))
+    return "BEGIN;\nCREATE TABLE R (A INTEGER, B TEXT);\n" + rows + "SELECT A, B FROM R;\nCOMMIT;\n"
+
+
+def timed(words, text, folder):
+    best = None
+    for _ in range(ROUNDS):
+        start = time.perf_counter()
+        done = subprocess.run(words, input=text, capture_output=True, cwd=folder)
+        took = time.perf_counter() - start
+        if done.returncode != 0:
+            return None, done.stdout
+        best = took if best is None else min(best, took)
+    return best, done.stdout
+
+
+def compare(name, rdo, sql, folder):
+    script = os.path.join(folder, "s1")
+    with open(script, "w") as out:
+        out.write(rdo)
+    ours, printed = timed([RDB, "RDO", "PERS", "s1"], b"", folder)
+    if ours is None:
+        print(f"{name}: rdb failed")
+        return
+    line = f"{name}: rdb {ours * 1000:.1f} ms"
+    if SQLITE is None:
+        print(line + " (no sqlite3 to compare with)")
+        return
+    theirs, answer = timed([SQLITE, "-separator", " ", ":memory:"], sql.encode(), folder)
+    if printed != answer:
+        print(f"{name}: the outputs differ")
+        return
+    print(f"{line}, sqlite3 {theirs * 1000:.1f} ms, ratio {ours / theirs:.2f}")
+
+
+def growth(name, make, small, large, folder):
+    times = []
+    for count in (small, large):
+        with open(os.path.join(folder, "s1"), "w") as out:
+            out.write(make(count))
+        took, _ = timed([RDB, "RDO", "PERS", "s1"], b"", folder)
+        if took is None:
+            print(f"{name}: rdb failed")
+            return
+        times.append(took)
+    print(f"{name}: {large // small} times the work takes {times[1] / times[0]:.1f} times as long")
+
+
+with tempfile.TemporaryDirectory() as folder:
+    compare("20,000 PRINTs", rdo_prints(20000), sql_prints(20000), folder)
+    compare("10,000 STOREs and a FOR", rdo_stores(10000), sql_stores(10000), folder)
+    growth("PRINTs", rdo_prints, 4000, 16000, folder)
+    growth("STOREs", rdo_stores, 2500, 10000, folder)

@@ -1,0 +1,6 @@
+//! The words of the command line.
+#![tactic(auto)]
+
+mod words;
+
+pub use words::{Command, command_of, database_word, script_words};
