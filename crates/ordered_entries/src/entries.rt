@@ -53,7 +53,7 @@ impl<K: Key, V> Entries<K, V> {
         ensures value { result.now ≡ self.now }
         ensures ordered { IsTrue (is_sorted K.order self.now) }
     {
-        &self.held
+        self.held.as_slice()
     }
 
     /// The value at a key.
