@@ -15,15 +15,12 @@ use Rattle.rdo_ast.specs.declared.syntax.FieldDefinition.{FieldDefinition}
 use Rattle.rdo_ast.specs.declared.syntax.DefinedType.TheVariants.{Own, BasedOn}
 use Rattle.rdo_ast.specs.declared.reply.Reply.{Reply}
 use Rattle.rdo_ast.specs.declared.reply.Reply.TheVariants as r
-use Rattle.rdo_ast.specs.declared.reply.Standing.TheVariants.{Closed}
 use Rattle.rdo_ast.specs.Tree.{Name, Expression, number, text, field, negative, chain, count, statistic, no_operation, operation, Testing, compare, missing, negated, Conjunction, no_test, test, no_conjunction, conjunction, Ranging, ranging, With, without_condition, with_condition, Assignment, value, all_fields, Act, store, for_each, print, modify, no_act, act, Command, invoke, start_read_write, commit, rollback, finish, perform, define_field, define_relation, define_index, Uttered, said, syntax_fault}
-use Rattle.rdb_meaning.specs.declared.tables.Tables.{Tables}
 use Rattle.rdb_meaning.specs.Numbers.{numeral, letters, absent}
-use Rattle.rdb_meaning.specs.Contents.{no_tables}
-use Rattle.rdb_meaning.specs.Scripts.{Script, replies, tables_after}
+use Rattle.rdb_meaning.specs.Scripts.{Script, Alone, fresh, replies, after_script}
 
 abbrev pub run : Script → List Reply
-run script = replies (codes "PERS") script no_tables no_tables Closed
+run script = replies (codes "PERS") script fresh
 
 -- ---- short words
 
@@ -228,10 +225,10 @@ refusals_script =
     plain (said (define_relation dept (defined a word ∷ []))) ∷
     plain (said finish) ∷ []
 
-abbrev pub after_first_run : Tables
-after_first_run = tables_after (codes "PERS") first_script no_tables Closed
+abbrev pub after_first_run : Alone
+after_first_run = after_script (codes "PERS") first_script fresh
 
-pub refusals_in_order : replies (codes "PERS") refusals_script after_first_run after_first_run Closed ≡
+pub refusals_in_order : replies (codes "PERS") refusals_script after_first_run ≡
     r.NoTransaction ∷ r.Syntax 2 11 ∷ r.NoSuch (codes "DEPTS") ∷ r.ReadOnly ∷ r.InTransaction ∷ nothing ∷ nothing ∷
     r.NotReserved dept ∷ r.TypeClash ∷ r.Exists dept ∷ r.InTransaction ∷ []
 refusals_in_order = refl
