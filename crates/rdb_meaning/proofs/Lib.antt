@@ -1,2 +1,3 @@
 mod Rows
 mod More
+pub mod Unchanged
