@@ -1,0 +1,12 @@
+use Rattle.std.proofs.Common.{refl, rules}
+use Rattle.slot_fields.proofs.Laws.{laid_out}
+use Rattle.aij_journal.specs.Header.{header_fields}
+use Rattle.aij_journal.proofs.header.put_header.Goals as goal
+
+pub returns : goal.returns
+returns c = record {
+  fields = laid_out (header_fields c.args.first) c.put_zeros.new.slot 512
+      (rw (c.put_zeros.ensures.front, c.put_u64.ensures.front, c.put_bytes.ensures.front) refl)
+      (search rules) (search rules);
+  allowed = c.requires.allowed;
+}

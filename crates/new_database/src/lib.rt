@@ -1,0 +1,8 @@
+//! Makes the files of a new database: a root, and a journal without groups.
+#![tactic(auto)]
+
+mod maker;
+mod new;
+
+pub use maker::NewFault;
+pub use new::make_new;
