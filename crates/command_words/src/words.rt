@@ -1,27 +1,22 @@
-ghost use Rattle.std.specs.Prelude.{◌≡◌, ◌&&◌, ◌≢◌, Some, None, true};
+//! The rows of the table of commands.
+ghost use Rattle.std.specs.Prelude.{◌≡◌, ◌≢◌, ◌&&◌, None, Some, IfSome, codes};
 ghost use Rattle.std.specs.List.{list_all};
-ghost use Rattle.command_words.specs.Words.{is_letter as letter, is_digit as digit, is_database_byte as database_byte, is_database as database, is_rdo_words as rdo_words, command_of as command_for, database_place};
+ghost use Rattle.command_words.specs.Words.{is_database_byte as database_byte, is_database as database, is_command, database_place, new_words as new_of, is_rdo_words as rdo_words, command_of as command_for, IsAllowedCommand};
+ghost use Rattle.command_words.specs.Options.{nothing_asked};
+ghost use Rattle.root_file.specs.Root.{IsAllowed};
+ghost use Rattle.new_database.specs.New.{new_root};
 
-use rdb_types::Word;
+use crate::bytes::{is_digit, is_letter, to_upper};
+use crate::options::{Asked, ask, limits_of};
+use rdb_types::{Limits, Word};
 
 /// A command, by its words.
 #[derive(Clone, Copy, Debug, PartialEq, Eq)]
 pub enum Command {
-    /// `RDO db script`: the script is said to the database.
+    /// `NEW [options] db` makes an empty database with these limits.
+    New(Limits),
+    /// `RDO db script` says the script to the database.
     Rdo,
-}
-
-
-fn is_letter(b: u8) -> bool
-    ensures { result ≡ letter b }
-{
-    (65 <= b && b <= 90) || (97 <= b && b <= 122)
-}
-
-fn is_digit(b: u8) -> bool
-    ensures { result ≡ digit b }
-{
-    48 <= b && b <= 57
 }
 
 fn is_database_byte(b: u8) -> bool
@@ -50,6 +45,57 @@ fn is_database(word: &[u8]) -> bool
     }
 }
 
+fn is_rdo(word: &[u8]) -> bool
+    ensures { result ≡ is_command (codes "RDO") word.now }
+{
+    match word {
+        [r, d, o] => {
+            to_upper(*r) == b'R' && to_upper(*d) == b'D' && to_upper(*o) == b'O'
+        }
+        _ => false,
+    }
+}
+
+fn is_new(word: &[u8]) -> bool
+    ensures { result ≡ is_command (codes "NEW") word.now }
+{
+    match word {
+        [n, e, w] => {
+            to_upper(*n) == b'N' && to_upper(*e) == b'E' && to_upper(*w) == b'W'
+        }
+        _ => false,
+    }
+}
+
+/// The limits that the words behind NEW name.
+fn new_words(words: &[Word]) -> Option<Limits>
+    ensures value { result ≡ new_of nothing_asked words.now }
+    ensures allowed { IfSome result (λ limits. IsAllowed (new_root limits)) }
+{
+    let mut asked = Asked {
+        pages: None,
+        snaps: None,
+        entries: None,
+        slots: None,
+    };
+    let mut rest = words;
+    while let [word, more @ ..] = rest {
+        if more.len() == 0 {
+            return if is_database(word.as_slice()) {
+                Some(limits_of(asked))
+            } else {
+                None
+            };
+        }
+        match ask(asked, word.as_slice()) {
+            Some(next) => asked = next,
+            None => return None,
+        }
+        rest = more;
+    }
+    None
+}
+
 fn is_rdo_words(words: &[Word]) -> bool
     ensures { result ≡ rdo_words words.now }
 {
@@ -59,39 +105,51 @@ fn is_rdo_words(words: &[Word]) -> bool
     }
 }
 
-/// The row of the table of commands that the words are, and None where they are in none.
+/// The row of the table of commands that the words are.
 pub fn command_of(words: &[Word]) -> Option<Command>
-    ensures { result ≡ command_for words.now }
+    ensures row { result ≡ command_for words.now }
+    ensures allowed { IfSome result (λ command. IsAllowedCommand command) }
 {
     match words {
+        [] => None,
         [command, rest @ ..] => {
-            if command.as_slice().eq_ignore_ascii_case(b"RDO") && is_rdo_words(rest) {
-                Some(Command::Rdo)
+            let is_new = is_new(command.as_slice());
+            if is_rdo(command.as_slice()) {
+                if is_rdo_words(rest) {
+                    Some(Command::Rdo)
+                } else {
+                    None
+                }
+            } else if is_new {
+                match new_words(rest) {
+                    Some(limits) => Some(Command::New(limits)),
+                    None => None,
+                }
             } else {
                 None
             }
         }
-        [] => None,
     }
 }
 
-/// The place of the database's word, and None exactly where the words are in no row of the table.
+/// The place of the database's word, and None exactly where the words are no row of the table.
 pub fn database_word(words: &[Word]) -> Option<usize>
     ensures { result ≡ database_place words.now }
 {
     match command_of(words) {
         Some(Command::Rdo) => Some(1),
+        Some(Command::New(_)) => Some(words.len().saturating_sub(1)),
         None => None,
     }
 }
 
-/// The first place and the count of the words that name scripts, and zeros where there are none.
+/// The first place and the count of the script words, and (0, 0) where there are none.
 pub fn script_words(words: &[Word]) -> (usize, usize)
-    ensures none { command_for words.now ≡ None → result ≡ record { 0 = 0; 1 = 0 } }
+    ensures none { command_for words.now ≢ Some Command.Rdo → result ≡ record { 0 = 0; 1 = 0 } }
     ensures some { command_for words.now ≡ Some Command.Rdo → result ≡ record { 0 = 2; 1 = 1 } }
 {
     match command_of(words) {
         Some(Command::Rdo) => (2, 1),
-        None => (0, 0),
+        _ => (0, 0),
     }
 }

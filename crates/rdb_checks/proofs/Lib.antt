@@ -1,0 +1,2 @@
+pub mod Unreserved
+pub mod Reserving

@@ -1,0 +1,4 @@
+mod FreeArea
+mod Removal
+mod KeyNames
+mod SameKey

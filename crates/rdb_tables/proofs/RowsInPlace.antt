@@ -1,0 +1,36 @@
+-- A relation that is taken out and put back.
+use Rattle.std.proofs.Common.{◌≡◌, true, List, Some, Option, sym, ap, ◌∙◌, subst}
+use Rattle.std.specs.Prelude.{OnSome}
+use Rattle.std.specs.Cmp.{nat_cmp_total}
+use Rattle.std.specs.Cmp.Lexicographic.{lists_total}
+use Rattle.std.specs.FinMap.Entries.{find, put, is_sorted}
+use Rattle.rdo_ast.specs.Tree.{Name}
+use Rattle.rdb_meaning.specs.declared.tables.Relation.{Relation}
+use Rattle.rdb_types.specs.declared.keys.Dbkey.{Dbkey}
+use Rattle.rdb_meaning.specs.declared.tables.Tables.{Tables}
+use Rattle.rdb_meaning.specs.Contents.{name_order, key_order, Row, with_row, rows_changed}
+use Rattle.ordered_entries.proofs.Laws.{put-put, find-put_same, put_found}
+
+abbrev Relations : Type 0
+Relations = List (Name × Relation)
+
+-- what is put where something else stood
+pub put_back : (n : Name) (stands r : Relation) (es es' es'' : Relations) (found : Option Relation) → es' ≡ put name_order n stands es → found ≡ find name_order n es' → OnSome found (es'' ≡ put name_order n r es') → es'' ≡ put name_order n r es
+put_back n stands r es es' es'' found first is second =
+    let there : found ≡ Some stands = is ∙ ap (find name_order n) first ∙ find-put_same name_order (lists_total nat_cmp_total) n stands es in
+    let last : es'' ≡ put name_order n r es' = subst (λ (o : Option Relation). OnSome o (es'' ≡ put name_order n r es')) there second in
+    last ∙ ap (put name_order n r) first ∙ put-put name_order (lists_total nat_cmp_total) n stands r es
+
+-- a relation is taken out, its rows are changed, and it is put back
+module _ (n : Name) (t : Tables) (stands r : Relation) (rows : List (Dbkey × Row)) (es' es'' : Relations) (found : Option Relation) (was : Some r ≡ find name_order n t.relations) (first : es' ≡ put name_order n stands t.relations) (is : found ≡ find name_order n es') (second : OnSome found (es'' ≡ put name_order n (record r { rows = rows }) es')) where
+  pub row_put : (k : Dbkey) (row : Row) → rows ≡ put key_order k row r.rows → record t { relations = es'' } ≡ with_row n k row t
+  row_put k row added =
+      ap (λ (es : Relations). record t { relations = es }) (put_back n stands (record r { rows = rows }) t.relations es' es'' found first is second)
+      ∙ ap (λ (l : List (Dbkey × Row)). record t { relations = put name_order n (record r { rows = l }) t.relations }) added
+      ∙ ap (λ (o : Option Relation). rows_changed n (put key_order k row) o t) was
+
+  pub row_not_put : is_sorted name_order t.relations ≡ true → rows ≡ r.rows → record t { relations = es'' } ≡ t
+  row_not_put sorted same =
+      ap (λ (es : Relations). record t { relations = es }) (put_back n stands (record r { rows = rows }) t.relations es' es'' found first is second
+      ∙ ap (λ (l : List (Dbkey × Row)). put name_order n (record r { rows = l }) t.relations) same
+      ∙ put_found name_order (lists_total nat_cmp_total) n r t.relations sorted (sym was))

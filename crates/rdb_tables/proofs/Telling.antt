@@ -1,0 +1,113 @@
+-- From a run to an answer.
+use Rattle.std.proofs.Common.{◌≡◌, ℕ, List, [], ◌++◌, inl, inr, Some, None, Result, Ok, Err, sym, ap, ◌∙◌, append-nil}
+use Rattle.std.specs.Prelude.{IfOk, OnErr, false}
+use Rattle.rdb_types.specs.declared.memory.NoMemory.{NoMemory}
+use Rattle.rdb_types.specs.declared.keys.Dbkey.{Dbkey}
+use Rattle.rdb_types.specs.declared.values.Scaled.{Scaled}
+use Rattle.rdo_ast.specs.declared.reply.Reply.{Reply}
+use Rattle.rdo_ast.specs.declared.reply.Reply.TheVariants as r
+use Rattle.rdo_ast.specs.declared.reply.Standing.{Standing}
+use Rattle.rdo_ast.specs.Tree.{Act, Uttered, said, perform}
+use Rattle.rdb_meaning.specs.declared.tables.Tables.{Tables}
+use Rattle.rdb_meaning.specs.Checks.{Refusal}
+use Rattle.rdb_meaning.specs.Execution.{World, world, Ran, ran, done}
+use Rattle.rdb_meaning.specs.Meaning.{Meaning, meaning, Does, means, act_meaning, act_refusal, standing_for, unless, after_running}
+use Rattle.rdb_meaning.specs.Usual.{is_refusal_of_means}
+use Rattle.rdb_tables.specs.declared.told.Told.{Told}
+use Rattle.rdb_tables.specs.declared.stop.Stop.{Stop}
+use Rattle.rdb_tables.specs.declared.stop.Stop.TheVariants as stop
+use Rattle.rdb_tables.specs.Stages.{Goes, Runs, refusing}
+use Rattle.rdb_tables.specs.Answers.{Answers, Tells, reply_to}
+use Rattle.rdb_tables.proofs.Actions.{at_stage}
+
+-- nothing is taken, and the choices are left whatever they are
+pub tells_plain : (m : List Dbkey → Meaning) (choices : List Dbkey) (d : Told) (t : Tables) → d.taken ≡ [] → ((left : List Dbkey) → m left ≡ means d.reply t d.standing left) → Tells m choices d t
+tells_plain m choices d t none h = record {
+  means = λ left. ap (λ (ks : List Dbkey). m (ks ++ left)) none ∙ h left;
+  follows = inr (choices, ap (λ (ks : List Dbkey). ks ++ choices) (sym none));
+}
+
+-- ---- an action
+
+module _ (a : Act) (s : Standing) (t : Tables) where
+  abbrev pub act_told : List Dbkey → Meaning
+  act_told ks = act_meaning a s ks t
+
+  -- it is refused before it is done
+  pub act_refused : (reply : Reply) → act_refusal a s t ≡ Some reply → (left : List Dbkey) → act_told left ≡ means reply t (standing_for a s) left
+  act_refused reply e left =
+      ap (λ (o : Refusal). unless o t (standing_for a s) left (after_running (done a t [] (world t left [])) t (standing_for a s) left)) e
+
+  act_runs : act_refusal a s t ≡ None → (left : List Dbkey) → act_told left ≡ after_running (done a t [] (world t left [])) t (standing_for a s) left
+  act_runs e left =
+      ap (λ (o : Refusal). unless o t (standing_for a s) left (after_running (done a t [] (world t left [])) t (standing_for a s) left)) e
+
+  -- What it comes to is what it means. The reply after `rest` has the tables t'.
+  come : (choices : List Dbkey) (rest : World → Ran) (d : Told) (t' : Tables) (lines : List (List Scaled)) → act_refusal a s t ≡ None → d.standing ≡ standing_for a s → Goes choices (done a t []) rest (at_stage t [] []) (at_stage t' lines d.taken) → ((left ks : List Dbkey) → after_running (rest (world t' left lines)) t (standing_for a s) ks ≡ means d.reply t' (standing_for a s) left) → Tells act_told choices d t'
+  come choices rest d t' lines free standing goes ends = record {
+    means = λ left.
+        act_runs free (d.taken ++ left)
+        ∙ ap (λ (ks : List Dbkey). after_running (done a t [] (world t (ks ++ left) [])) t (standing_for a s) (d.taken ++ left)) goes.gives
+        ∙ ap (λ (x : Ran). after_running x t (standing_for a s) (d.taken ++ left)) (goes.comes left)
+        ∙ ends left (d.taken ++ left)
+        ∙ ap (λ (x : Standing). means d.reply t' x left) (sym standing);
+    follows = elim goes.follows [
+      | inl strays ↦ inl (act_runs free choices ∙ ap (λ (x : Ran). after_running x t (standing_for a s) choices) strays)
+      | inr found ↦ inr (found.0, found.1 ∙ ap (λ (ks : List Dbkey). ks ++ found.0) (sym goes.gives))
+    ];
+  }
+
+  ended : (choices : List Dbkey) (reply : Reply) (d : Told) (t' : Tables) (lines : List (List Scaled)) → act_refusal a s t ≡ None → d.standing ≡ standing_for a s → d.reply ≡ reply → t' ≡ t → Goes choices (done a t []) (refusing reply) (at_stage t [] []) (at_stage t' lines d.taken) → Tells act_told choices d t'
+  ended choices reply d t' lines free standing is same goes =
+      come choices (refusing reply) d t' lines free standing goes
+      (λ left ks. ap (λ (x : Reply). means x t (standing_for a s) left) (sym is) ∙ ap (λ (x : Tables). means d.reply x (standing_for a s) left) (sym same))
+
+  -- it was done, or refused on the way
+  pub act_tells : (end : Result (Unit {0}) Stop) (choices : List Dbkey) (d : Told) (t' : Tables) (lines : List (List Scaled)) → act_refusal a s t ≡ None → d.standing ≡ standing_for a s → reply_to end lines ≡ Some d.reply → OnErr end (t' ≡ t) → Runs end choices (done a t []) (at_stage t [] []) (at_stage t' lines d.taken) → Tells act_told choices d t'
+  act_tells (Ok _) choices d t' lines free standing is same goes =
+      let e : r.Done lines ≡ d.reply = cc in
+      come choices ran d t' lines free standing goes (λ left ks. ap (λ (x : Reply). means x t' (standing_for a s) left) e)
+  act_tells (Err stop.Overflow) choices d t' lines free standing is same goes =
+      let e : d.reply ≡ r.Overflow = cc in ended choices r.Overflow d t' lines free standing e same goes
+  act_tells (Err stop.TooLong) choices d t' lines free standing is same goes =
+      let e : d.reply ≡ r.TooLong = cc in ended choices r.TooLong d t' lines free standing e same goes
+  act_tells (Err (stop.Duplicate index)) choices d t' lines free standing is same goes =
+      let e : d.reply ≡ r.Duplicate index = cc in ended choices (r.Duplicate index) d t' lines free standing e same goes
+  act_tells (Err stop.Memory) choices d t' lines free standing is same goes = absurd (cc)
+
+pub usual_end : (end : Result (Unit {0}) Stop) (lines : List (List Scaled)) (reply : Reply) → reply_to end lines ≡ Some reply → is_refusal_of_means reply ≡ false
+usual_end (Ok _) lines reply h = let e : r.Done lines ≡ reply = cc in ap is_refusal_of_means (sym e)
+usual_end (Err stop.Overflow) lines reply h = let e : r.Overflow ≡ reply = cc in ap is_refusal_of_means (sym e)
+usual_end (Err stop.TooLong) lines reply h = let e : r.TooLong ≡ reply = cc in ap is_refusal_of_means (sym e)
+usual_end (Err (stop.Duplicate index)) lines reply h = let e : r.Duplicate index ≡ reply = cc in ap is_refusal_of_means (sym e)
+usual_end (Err stop.Memory) lines reply h = absurd (cc)
+
+-- ---- the public clauses
+
+pub does_so : (m : List Dbkey → Meaning) (choices : List Dbkey) (d : Told) (t : Tables) → Tells m choices d t → m d.taken ≡ means d.reply t d.standing []
+does_so m choices d t tells = ap m (sym (append-nil d.taken)) ∙ tells.means []
+
+pub chosen_so : (m : List Dbkey → Meaning) (choices : List Dbkey) (d : Told) (t : Tables) → Tells m choices d t → (reply : Reply) (t' : Tables) (s : Standing) → m choices ≡ means reply t' s [] → d.taken ≡ choices
+chosen_so m choices d t tells reply t' s e =
+    elim tells.follows [
+      | inl none ↦ absurd (cc)
+      | inr found ↦
+          let (more, is) = found in
+          let ends : means d.reply t d.standing more ≡ means reply t' s [] = sym (tells.means more) ∙ ap m (sym is) ∙ e in
+          let nothing : more ≡ [] = cc in
+          sym (is ∙ ap (λ ks. d.taken ++ ks) nothing ∙ append-nil d.taken)
+    ]
+
+pub does_act : (res : Result Told NoMemory) (word : List ℕ) (s : Standing) (u : Uttered) (a : Act) (choices : List Dbkey) (t t' : Tables) → u ≡ said (perform a) → Answers res (λ ks. act_meaning a s ks t) choices t' → IfOk res (λ d. Does word s u d.taken t d.reply t' d.standing)
+does_act (Ok d) word s u a choices t t' is tells = ap (λ (x : Uttered). meaning word s x d.taken t) is ∙ does_so (λ ks. act_meaning a s ks t) choices d t' tells
+does_act (Err e) word s u a choices t t' is tells = tt
+
+pub chosen_act : (res : Result Told NoMemory) (word : List ℕ) (s : Standing) (u : Uttered) (a : Act) (choices : List Dbkey) (t t' : Tables) → u ≡ said (perform a) → Answers res (λ ks. act_meaning a s ks t) choices t' → IfOk res (λ d. (reply : Reply) (t'' : Tables) (s' : Standing) → meaning word s u choices t ≡ means reply t'' s' [] → d.taken ≡ choices)
+chosen_act (Ok d) word s u a choices t t' is tells = λ reply t'' s' e. chosen_so (λ ks. act_meaning a s ks t) choices d t' tells reply t'' s' (sym (ap (λ (x : Uttered). meaning word s x choices t) is) ∙ e)
+chosen_act (Err e) word s u a choices t t' is tells = tt
+
+-- an action that is refused before it is done
+pub refused_tells : (a : Act) (s after : Standing) (choices : List Dbkey) (t : Tables) (d : Told) (reply : Reply) → act_refusal a s t ≡ Some reply → after ≡ standing_for a s → d ≡ record { reply = reply; standing = after; taken = [] } → Tells (λ ks. act_meaning a s ks t) choices d t
+refused_tells a s after choices t d reply e standing is =
+    tells_plain (λ ks. act_meaning a s ks t) choices d t (ap (λ (x : Told). x.taken) is)
+    (λ left. act_refused a s t reply e left ∙ ap (λ (x : Standing). means reply t x left) (sym standing) ∙ ap (λ (x : Told). means x.reply t x.standing left) (sym is))

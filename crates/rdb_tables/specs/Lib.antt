@@ -1,0 +1,8 @@
+pub mod Forms
+pub mod Indexes
+pub mod Causes
+pub mod Rooms
+pub mod Stages
+pub mod Answers
+pub mod Writing
+pub mod Redefining

@@ -1,0 +1,6 @@
+//! The top call: a command, by its words, over a disk, scripts and an output.
+#![tactic(auto)]
+
+mod top;
+
+pub use top::{Accounts, Finish, run};

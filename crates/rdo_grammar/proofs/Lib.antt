@@ -1,0 +1,3 @@
+pub mod AheadLaws
+pub mod TakesLaws
+pub mod GrammarLaws

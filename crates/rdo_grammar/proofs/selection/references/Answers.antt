@@ -1,0 +1,31 @@
+use Rattle.std.proofs.Common.{rules, arith}
+use Rattle.std.proofs.lemmas.Grind.{common_steps}
+use Rattle.rdo_tokens.specs.declared.token.Kind.TheVariants as k
+use Rattle.rdo_tokens.specs.Input.{more_from, separated}
+use Rattle.rdo_grammar.specs.Grammar.{reference, references}
+use Rattle.rdo_tokens.proofs.Turns.{one_more, no_more}
+use Rattle.rdo_grammar.proofs.selection.references.Goals as goal
+
+pub returns-then-not-eat : goal.returns-then-not-eat
+unfolding more_from
+returns-then-not-eat c =
+    let e = one_more (λ n. more_from k.Comma reference n c.loop-turn.found c.loop-turn.tokens) _ c.loop-turn._turn c.loop-turn-test.true c.loop-turn.invariant in
+    first_of (search rules, grind (arith, common_steps))
+
+pub returns-in_err-reference-2 : goal.returns-in_err-reference-2
+unfolding more_from
+returns-in_err-reference-2 c =
+    let e = one_more (λ n. more_from k.Comma reference n c.loop-turn.found c.loop-turn.tokens) _ c.loop-turn._turn c.loop-turn-test.true c.loop-turn.invariant in
+    first_of (search rules, grind (arith, common_steps))
+
+pub loop-turn-preserved : goal.loop-turn-preserved
+unfolding more_from
+loop-turn-preserved c =
+    let e = one_more (λ n. more_from k.Comma reference n c.loop-turn.found c.loop-turn.tokens) _ c.loop-turn._turn c.loop-turn-test.true c.loop-turn.invariant in
+    first_of (search rules, grind (arith, common_steps))
+
+pub returns : goal.returns
+unfolding more_from
+returns c =
+    let e = no_more (λ n. more_from k.Comma reference n c.loop-turn.found c.loop-turn.tokens) _ c.loop-turn._turn c.loop-turn-test.false c.loop-turn.invariant in
+    first_of (search rules, grind (arith, common_steps))

@@ -1,0 +1,4 @@
+pub mod StatementLaws
+pub mod PlaceLaws
+pub mod ScriptLaws
+mod Examples

@@ -1,0 +1,5 @@
+pub mod Places
+pub mod Statements
+pub mod Script
+pub mod Reader
+pub mod Ahead
