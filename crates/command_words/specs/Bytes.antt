@@ -21,4 +21,3 @@ abbrev pub behind : List ℕ → List ℕ → Option (List ℕ)
 behind [] word = Some word
 behind (c ∷ name) [] = None
 behind (c ∷ name) (b ∷ word) = if nat_eq (upper_of b) c then behind name word else None
-

@@ -79,4 +79,3 @@ pub record IsAsked (a : Asked) : Type 0 where
   pub snaps : InRange 1 65536 a.snaps
   pub entries : InRange 1 65535 a.entries
   pub slots : InRange 2 262144 a.slots
-

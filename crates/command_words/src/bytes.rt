@@ -61,4 +61,3 @@ pub fn behind<'a>(name: &[u8], word: &'a [u8]) -> Option<&'a [u8]>
     }
     Some(rest)
 }
-

@@ -109,4 +109,3 @@ pub fn limits_of(asked: Asked) -> Limits
         slots: asked.slots.unwrap_or(262144),
     }
 }
-

@@ -49,9 +49,7 @@ fn is_rdo(word: &[u8]) -> bool
     ensures { result ≡ is_command (codes "RDO") word.now }
 {
     match word {
-        [r, d, o] => {
-            to_upper(*r) == b'R' && to_upper(*d) == b'D' && to_upper(*o) == b'O'
-        }
+        [r, d, o] => { to_upper(*r) == b'R' && to_upper(*d) == b'D' && to_upper(*o) == b'O' }
         _ => false,
     }
 }
@@ -60,9 +58,7 @@ fn is_new(word: &[u8]) -> bool
     ensures { result ≡ is_command (codes "NEW") word.now }
 {
     match word {
-        [n, e, w] => {
-            to_upper(*n) == b'N' && to_upper(*e) == b'E' && to_upper(*w) == b'W'
-        }
+        [n, e, w] => { to_upper(*n) == b'N' && to_upper(*e) == b'E' && to_upper(*w) == b'W' }
         _ => false,
     }
 }

@@ -16,7 +16,7 @@ more_said : (all rest : List Item) (events : List Event) (event : Event) (item :
     items_in (map event_of (events ++ event ∷ [])) ++ map uttered_of rest ≡ map uttered_of all
 more_said all rest events event item e h =
     let a : items_in (map event_of (events ++ event ∷ [])) ≡ items_in (map event_of events) ++ uttered_of item ∷ [] =
-        ap items_in (map-append event_of events (event ∷ [])) ∙ flat_map-append item_in (map event_of events) (event_of event ∷ []) ∙ ap (λ x. items_in (map event_of events) ++ x) e in
+    ap items_in (map-append event_of events (event ∷ [])) ∙ flat_map-append item_in (map event_of events) (event_of event ∷ []) ∙ ap (λ x. items_in (map event_of events) ++ x) e in
     ap (λ x. x ++ map uttered_of rest) a ∙ append_assoc (items_in (map event_of events)) (uttered_of item ∷ []) (map uttered_of rest) ∙ h
 
 more_answered : (word : List ℕ) (s : ℕ) (events : List Event) (event : Event) (a b : Alone) →
@@ -25,7 +25,7 @@ more_answered : (word : List ℕ) (s : ℕ) (events : List Event) (event : Event
     (tail : List Seen) → IsAnsweredFrom word s b tail → IsAnsweredFrom word s fresh (map event_of (events ++ event ∷ []) ++ tail)
 more_answered word s events event a b h k tail x =
     let e : map event_of (events ++ event ∷ []) ++ tail ≡ map event_of events ++ (event_of event ∷ tail) =
-        ap (λ l. l ++ tail) (map-append event_of events (event ∷ [])) ∙ append_assoc (map event_of events) (event_of event ∷ []) tail in
+    ap (λ l. l ++ tail) (map-append event_of events (event ∷ [])) ∙ append_assoc (map event_of events) (event_of event ∷ []) tail in
     subst (IsAnsweredFrom word s fresh) (sym e) (h (event_of event ∷ tail) (k tail x))
 
 pub says_one : (word : List ℕ) (s : ℕ) (all rest : List Item) (l l' : Lone) (events : List Event) (event : Event) (item : Item) →

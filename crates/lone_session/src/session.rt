@@ -117,13 +117,7 @@ impl Lone {
 }
 
 /// The event of an item: as it means, or that no memory was found for it.
-fn event_of_item(
-    alloc: Global,
-    lone: &mut Lone,
-    word: &Word,
-    session: Session,
-    item: Item,
-) -> Event
+fn event_of_item(alloc: Global, lone: &mut Lone, word: &Word, session: Session, item: Item) -> Event
     requires kept { IsReadOnly lone.old.before lone.old.standing }
     ensures said { items_in (event_of result ∷ []) ≡ uttered_of item ∷ [] }
     ensures answered { (tail : List Seen) → IsAnsweredFrom word.now session.number (state_of lone.new) tail →

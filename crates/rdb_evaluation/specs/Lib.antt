@@ -1,1 +1,4 @@
 pub mod Answers
+pub mod Crossing
+pub mod Sorting
+pub mod RowLaws

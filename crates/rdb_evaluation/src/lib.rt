@@ -1,6 +1,18 @@
-//! STAND-IN: what an expression, a condition and a selection give on tables.
+//! What expressions, conditions and selections give on tables in memory, where variables are bound to rows.
 #![tactic(auto)]
 
+mod binding;
+mod cursor;
 mod evaluate;
+mod reading;
+mod reducing;
+mod scale;
+mod select;
+mod sorting;
+mod statistic;
+mod tuples;
 
-pub use evaluate::{FitStop, Stop, Tuples, fit, scaled, selection, value_of};
+pub use evaluate::{chooses, value_of};
+pub use reading::{read, scaled};
+pub use select::selection;
+pub use tuples::Tuples;

@@ -8,4 +8,9 @@ mod Storing
 mod UsualReplies
 mod Commands
 mod Telling
-pub mod Redefining
+mod SortedEntries
+mod Beginnings
+mod Undos
+mod Givings
+mod Updating
+mod Redefining

@@ -8,7 +8,7 @@ use Rattle.rdo_ast.specs.Tree.{Name}
 use Rattle.rdb_meaning.specs.declared.tables.Relation.{Relation}
 use Rattle.rdb_types.specs.declared.keys.Dbkey.{Dbkey}
 use Rattle.rdb_meaning.specs.declared.tables.Tables.{Tables}
-use Rattle.rdb_meaning.specs.Contents.{name_order, key_order, Row, with_row, rows_changed}
+use Rattle.rdb_meaning.specs.Contents.{name_order, Row, change_rows, rows_changed}
 use Rattle.ordered_entries.proofs.Laws.{put-put, find-put_same, put_found}
 
 abbrev Relations : Type 0
@@ -23,11 +23,11 @@ put_back n stands r es es' es'' found first is second =
 
 -- a relation is taken out, its rows are changed, and it is put back
 module _ (n : Name) (t : Tables) (stands r : Relation) (rows : List (Dbkey × Row)) (es' es'' : Relations) (found : Option Relation) (was : Some r ≡ find name_order n t.relations) (first : es' ≡ put name_order n stands t.relations) (is : found ≡ find name_order n es') (second : OnSome found (es'' ≡ put name_order n (record r { rows = rows }) es')) where
-  pub row_put : (k : Dbkey) (row : Row) → rows ≡ put key_order k row r.rows → record t { relations = es'' } ≡ with_row n k row t
-  row_put k row added =
+  pub rows_put : (f : List (Dbkey × Row) → List (Dbkey × Row)) → rows ≡ f r.rows → record t { relations = es'' } ≡ change_rows n f t
+  rows_put f changed =
       ap (λ (es : Relations). record t { relations = es }) (put_back n stands (record r { rows = rows }) t.relations es' es'' found first is second)
-      ∙ ap (λ (l : List (Dbkey × Row)). record t { relations = put name_order n (record r { rows = l }) t.relations }) added
-      ∙ ap (λ (o : Option Relation). rows_changed n (put key_order k row) o t) was
+      ∙ ap (λ (l : List (Dbkey × Row)). record t { relations = put name_order n (record r { rows = l }) t.relations }) changed
+      ∙ ap (λ (o : Option Relation). rows_changed n f o t) was
 
   pub row_not_put : is_sorted name_order t.relations ≡ true → rows ≡ r.rows → record t { relations = es'' } ≡ t
   row_not_put sorted same =

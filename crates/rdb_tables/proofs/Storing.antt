@@ -1,7 +1,6 @@
 -- How a STORE comes on.
-use Rattle.std.proofs.Common.{◌≡◌, ℕ, zero, suc, Bool, true, false, not, ◌&&◌, cond, List, [], ◌∷◌, ◌++◌, length, drop, inl, inr, Option, Some, None, refl, sym, ap, ◌∙◌, Err, replicate}
-use Rattle.std.specs.Prelude.{slice_get, is_some, ◌==◌}
-use Rattle.std.specs.FinMap.Entries.{find}
+use Rattle.std.proofs.Common.{◌≡◌, ℕ, zero, suc, Bool, true, false, cond, List, [], ◌∷◌, ◌++◌, length, drop, inl, inr, Option, Some, None, refl, sym, ap, ◌∙◌, Err, replicate}
+use Rattle.std.specs.Prelude.{slice_get}
 use Rattle.rdb_types.specs.declared.keys.Dbkey.{Dbkey}
 use Rattle.rdb_types.specs.declared.values.Scaled.{Scaled}
 use Rattle.rdb_types.specs.declared.values.Value.TheVariants.{Missing}
@@ -9,15 +8,13 @@ use Rattle.rdo_ast.specs.declared.reply.Reply.{Reply}
 use Rattle.rdo_ast.specs.declared.reply.Reply.TheVariants as r
 use Rattle.rdo_ast.specs.declared.syntax.Range.{Range}
 use Rattle.rdo_ast.specs.Tree.{Name, Assignment}
-use Rattle.rdb_meaning.specs.declared.tables.Relation.{Relation}
 use Rattle.rdb_meaning.specs.declared.tables.Tables.{Tables}
-use Rattle.rdb_meaning.specs.Contents.{Row, key_order, relation_named, fields_of, with_row, is_too_long, row_at}
+use Rattle.rdb_meaning.specs.Contents.{Row, relation_named, fields_of, with_row, is_too_long}
 use Rattle.rdb_meaning.specs.Evaluation.{Scope, bind_source}
-use Rattle.rdb_meaning.specs.Execution.{World, world, Ran, ran, refused, astray, Assigned, assigned, assign, area_of, taken_by, unless_taken, writing, may_be_given, place_row, nowhere, store_assigned, stored}
+use Rattle.rdb_meaning.specs.Execution.{World, world, Ran, ran, refused, astray, Assigned, assigned, assign, taken_by, unless_taken, writing, may_be_given, place_row, nowhere, store_assigned, stored}
 use Rattle.rdb_tables.specs.declared.stop.Stop.{Stop}
 use Rattle.rdb_tables.specs.declared.stop.Stop.TheVariants as stop
 use Rattle.rdb_tables.specs.Stages.{Stage, Goes, Follows, Runs, refusing}
-use Rattle.rdb_tables.specs.Rooms.{is_free}
 use Rattle.rdb_tables.specs.Writing.{obstacle, obstacle_of, Finds}
 use Rattle.rdb_tables.proofs.Going.{goes_keyless}
 use Rattle.rdb_tables.proofs.Actions.{at_stage}
@@ -44,17 +41,6 @@ pub writing_hindered : (n : Name) (row : Row) (own : Dbkey) (w : World) (next : 
 writing_hindered n row own w next reply h = hindered (is_too_long (fields_of (relation_named n w.tables)) row) (taken_by n row own w.tables) w next reply h
 
 -- ---- the Dbkey
-
--- a Dbkey that is free now and was at the start, since the tables are the same
-pub may_be_given_now : (n : Name) (k : Dbkey) (t : Tables) (rel : Relation) → relation_named n t ≡ Some rel → may_be_given n k t t ≡ is_free k rel
-may_be_given_now n k t rel here =
-    ap (λ (o : Option Relation). (k.area == area_of o) && not (is_some (row_at k o)) && not (is_some (row_at k o))) here
-    ∙ twice (k.area == rel.area) (not (is_some (find key_order k rel.rows)))
-  where
-    twice : (a b : Bool) → (a && b && b) ≡ (a && b)
-    twice true true = refl
-    twice true false = refl
-    twice false b = refl
 
 pub get_left : (xs : List Dbkey) (n : ℕ) (x : Dbkey) (more : List Dbkey) → drop n xs ≡ x ∷ more → slice_get xs n ≡ Some x
 get_left [] zero x more h = absurd (cc)

@@ -1,6 +1,7 @@
 -- From a run to an answer.
-use Rattle.std.proofs.Common.{◌≡◌, ℕ, List, [], ◌++◌, inl, inr, Some, None, Result, Ok, Err, sym, ap, ◌∙◌, append-nil}
-use Rattle.std.specs.Prelude.{IfOk, OnErr, false}
+use Rattle.std.proofs.Common.{◌≡◌, ℕ, List, [], ◌++◌, inl, inr, Some, None, Result, Ok, Err, sym, ap, ◌∙◌, subst, append-nil}
+use Rattle.std.specs.Prelude.{IfOk, OnOk, OnErr, false}
+use Rattle.std.proofs.lemmas.Result.{on_err_weaker}
 use Rattle.rdb_types.specs.declared.memory.NoMemory.{NoMemory}
 use Rattle.rdb_types.specs.declared.keys.Dbkey.{Dbkey}
 use Rattle.rdb_types.specs.declared.values.Scaled.{Scaled}
@@ -16,9 +17,13 @@ use Rattle.rdb_meaning.specs.Usual.{is_refusal_of_means}
 use Rattle.rdb_tables.specs.declared.told.Told.{Told}
 use Rattle.rdb_tables.specs.declared.stop.Stop.{Stop}
 use Rattle.rdb_tables.specs.declared.stop.Stop.TheVariants as stop
-use Rattle.rdb_tables.specs.Stages.{Goes, Runs, refusing}
+use Rattle.rdb_tables.specs.Stages.{stage, Goes, Runs, refusing}
 use Rattle.rdb_tables.specs.Answers.{Answers, Tells, reply_to}
+use Rattle.rdb_tables.specs.declared.undo.Undo.{Undo}
+use Rattle.rdb_tables.specs.declared.work.Work.{Work}
+use Rattle.rdb_tables.specs.Undoing.{beginning}
 use Rattle.rdb_tables.proofs.Actions.{at_stage}
+use Rattle.rdb_tables.proofs.Undos.{beginning_nothing, undo_with}
 
 -- nothing is taken, and the choices are left whatever they are
 pub tells_plain : (m : List Dbkey → Meaning) (choices : List Dbkey) (d : Told) (t : Tables) → d.taken ≡ [] → ((left : List Dbkey) → m left ≡ means d.reply t d.standing left) → Tells m choices d t
@@ -28,6 +33,9 @@ tells_plain m choices d t none h = record {
 }
 
 -- ---- an action
+
+abbrev pub no_work : Work
+no_work = record { lines = []; taken = []; undo = undo_with [] [] }
 
 module _ (a : Act) (s : Standing) (t : Tables) where
   abbrev pub act_told : List Dbkey → Meaning
@@ -42,9 +50,9 @@ module _ (a : Act) (s : Standing) (t : Tables) where
   act_runs e left =
       ap (λ (o : Refusal). unless o t (standing_for a s) left (after_running (done a t [] (world t left [])) t (standing_for a s) left)) e
 
-  -- What it comes to is what it means. The reply after `rest` has the tables t'.
-  come : (choices : List Dbkey) (rest : World → Ran) (d : Told) (t' : Tables) (lines : List (List Scaled)) → act_refusal a s t ≡ None → d.standing ≡ standing_for a s → Goes choices (done a t []) rest (at_stage t [] []) (at_stage t' lines d.taken) → ((left ks : List Dbkey) → after_running (rest (world t' left lines)) t (standing_for a s) ks ≡ means d.reply t' (standing_for a s) left) → Tells act_told choices d t'
-  come choices rest d t' lines free standing goes ends = record {
+  -- What it comes to is what it means, where the tables are t'' when it ends and t' in the answer.
+  come : (choices : List Dbkey) (rest : World → Ran) (d : Told) (t' t'' : Tables) (lines : List (List Scaled)) → act_refusal a s t ≡ None → d.standing ≡ standing_for a s → Goes choices (done a t []) rest (at_stage t [] []) (at_stage t'' lines d.taken) → ((left ks : List Dbkey) → after_running (rest (world t'' left lines)) t (standing_for a s) ks ≡ means d.reply t' (standing_for a s) left) → Tells act_told choices d t'
+  come choices rest d t' t'' lines free standing goes ends = record {
     means = λ left.
         act_runs free (d.taken ++ left)
         ∙ ap (λ (ks : List Dbkey). after_running (done a t [] (world t (ks ++ left) [])) t (standing_for a s) (d.taken ++ left)) goes.gives
@@ -57,30 +65,55 @@ module _ (a : Act) (s : Standing) (t : Tables) where
     ];
   }
 
-  ended : (choices : List Dbkey) (reply : Reply) (d : Told) (t' : Tables) (lines : List (List Scaled)) → act_refusal a s t ≡ None → d.standing ≡ standing_for a s → d.reply ≡ reply → t' ≡ t → Goes choices (done a t []) (refusing reply) (at_stage t [] []) (at_stage t' lines d.taken) → Tells act_told choices d t'
-  ended choices reply d t' lines free standing is same goes =
-      come choices (refusing reply) d t' lines free standing goes
+  ended : (choices : List Dbkey) (reply : Reply) (d : Told) (t' t'' : Tables) (lines : List (List Scaled)) → act_refusal a s t ≡ None → d.standing ≡ standing_for a s → d.reply ≡ reply → t' ≡ t → Goes choices (done a t []) (refusing reply) (at_stage t [] []) (at_stage t'' lines d.taken) → Tells act_told choices d t'
+  ended choices reply d t' t'' lines free standing is same goes =
+      come choices (refusing reply) d t' t'' lines free standing goes
       (λ left ks. ap (λ (x : Reply). means x t (standing_for a s) left) (sym is) ∙ ap (λ (x : Tables). means d.reply x (standing_for a s) left) (sym same))
 
-  -- it was done, or refused on the way
-  pub act_tells : (end : Result (Unit {0}) Stop) (choices : List Dbkey) (d : Told) (t' : Tables) (lines : List (List Scaled)) → act_refusal a s t ≡ None → d.standing ≡ standing_for a s → reply_to end lines ≡ Some d.reply → OnErr end (t' ≡ t) → Runs end choices (done a t []) (at_stage t [] []) (at_stage t' lines d.taken) → Tells act_told choices d t'
-  act_tells (Ok _) choices d t' lines free standing is same goes =
+  -- it was done, or refused on the way and undone
+  act_tells : (end : Result (Unit {0}) Stop) (choices : List Dbkey) (d : Told) (t' t'' : Tables) (lines : List (List Scaled)) → act_refusal a s t ≡ None → d.standing ≡ standing_for a s → reply_to end lines ≡ Some d.reply → OnOk end (t' ≡ t'') → OnErr end (t' ≡ t) → Runs end choices (done a t []) (at_stage t [] []) (at_stage t'' lines d.taken) → Tells act_told choices d t'
+  act_tells (Ok _) choices d t' t'' lines free standing is kept same goes =
       let e : r.Done lines ≡ d.reply = cc in
-      come choices ran d t' lines free standing goes (λ left ks. ap (λ (x : Reply). means x t' (standing_for a s) left) e)
-  act_tells (Err stop.Overflow) choices d t' lines free standing is same goes =
-      let e : d.reply ≡ r.Overflow = cc in ended choices r.Overflow d t' lines free standing e same goes
-  act_tells (Err stop.TooLong) choices d t' lines free standing is same goes =
-      let e : d.reply ≡ r.TooLong = cc in ended choices r.TooLong d t' lines free standing e same goes
-  act_tells (Err (stop.Duplicate index)) choices d t' lines free standing is same goes =
-      let e : d.reply ≡ r.Duplicate index = cc in ended choices (r.Duplicate index) d t' lines free standing e same goes
-  act_tells (Err stop.Memory) choices d t' lines free standing is same goes = absurd (cc)
+      come choices ran d t' t'' lines free standing goes
+      (λ left ks. ap (λ (x : Reply). means x t'' (standing_for a s) left) e ∙ ap (λ (x : Tables). means d.reply x (standing_for a s) left) (sym kept))
+  act_tells (Err stop.Overflow) choices d t' t'' lines free standing is kept same goes =
+      let e : d.reply ≡ r.Overflow = cc in ended choices r.Overflow d t' t'' lines free standing e same goes
+  act_tells (Err stop.TooLong) choices d t' t'' lines free standing is kept same goes =
+      let e : d.reply ≡ r.TooLong = cc in ended choices r.TooLong d t' t'' lines free standing e same goes
+  act_tells (Err (stop.Duplicate index)) choices d t' t'' lines free standing is kept same goes =
+      let e : d.reply ≡ r.Duplicate index = cc in ended choices (r.Duplicate index) d t' t'' lines free standing e same goes
+  act_tells (Err stop.Memory) choices d t' t'' lines free standing is kept same goes = absurd (cc)
 
-pub usual_end : (end : Result (Unit {0}) Stop) (lines : List (List Scaled)) (reply : Reply) → reply_to end lines ≡ Some reply → is_refusal_of_means reply ≡ false
+  -- where what was changed is undone
+  module _ (work : Work) (t'' t' : Tables) (undo : Undo) (end : Result (Unit {0}) Stop) (new : work ≡ no_work) (kept : beginning t'' undo ≡ beginning t work.undo) (done_so : OnOk end (t' ≡ t'')) (undone_so : OnErr end (t' ≡ beginning t'' undo)) where
+    begins : beginning t work.undo ≡ t
+    begins = ap (λ (w : Work). beginning t w.undo) new ∙ beginning_nothing t
+
+    undone_to : OnErr end (t' ≡ t)
+    undone_to = on_err_weaker end (λ is. is ∙ kept ∙ begins) undone_so
+
+    pub act_answers : (res : Result Told NoMemory) (choices taken : List Dbkey) (lines : List (List Scaled)) (after : Standing) → act_refusal a s t ≡ None → after ≡ standing_for a s → IfOk res (λ d. reply_to end lines ≡ Some d.reply) → IfOk res (λ d. d.standing ≡ after) → IfOk res (λ d. d.taken ≡ taken) → Runs end choices (done a (beginning t work.undo) []) (stage t work) (at_stage t'' lines taken) → Answers res act_told choices t'
+    act_answers (Ok d) choices taken lines after free stands reply standing took runs =
+        act_tells end choices d t' t'' lines free (standing ∙ stands) reply done_so undone_to
+        (subst (λ (ks : List Dbkey). Runs end choices (done a t []) (at_stage t [] []) (at_stage t'' lines ks)) (sym took)
+        (subst (λ (w : Work). Runs end choices (done a t []) (stage t w) (at_stage t'' lines taken)) new
+        (subst (λ (x : Tables). Runs end choices (done a x []) (stage t work) (at_stage t'' lines taken)) begins runs)))
+    act_answers (Err e) choices taken lines after free stands reply standing took runs = tt
+
+    pub act_same : (res : Result Told NoMemory) → OnErr res (end ≡ Err stop.Memory) → OnErr res (t' ≡ t)
+    act_same (Ok d) h = tt
+    act_same (Err e) h = subst (λ (x : Result (Unit {0}) Stop). OnErr x (t' ≡ t)) h undone_to
+
+usual_end : (end : Result (Unit {0}) Stop) (lines : List (List Scaled)) (reply : Reply) → reply_to end lines ≡ Some reply → is_refusal_of_means reply ≡ false
 usual_end (Ok _) lines reply h = let e : r.Done lines ≡ reply = cc in ap is_refusal_of_means (sym e)
 usual_end (Err stop.Overflow) lines reply h = let e : r.Overflow ≡ reply = cc in ap is_refusal_of_means (sym e)
 usual_end (Err stop.TooLong) lines reply h = let e : r.TooLong ≡ reply = cc in ap is_refusal_of_means (sym e)
 usual_end (Err (stop.Duplicate index)) lines reply h = let e : r.Duplicate index ≡ reply = cc in ap is_refusal_of_means (sym e)
 usual_end (Err stop.Memory) lines reply h = absurd (cc)
+
+pub usual_answer : (res : Result Told NoMemory) (end : Result (Unit {0}) Stop) (lines : List (List Scaled)) → IfOk res (λ d. reply_to end lines ≡ Some d.reply) → IfOk res (λ d. is_refusal_of_means d.reply ≡ false)
+usual_answer (Ok d) end lines h = usual_end end lines d.reply h
+usual_answer (Err e) end lines h = tt
 
 -- ---- the public clauses
 

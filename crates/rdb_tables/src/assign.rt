@@ -6,9 +6,10 @@ ghost use Rattle.rdb_meaning.specs.Execution.{assign};
 ghost use Rattle.rdb_tables.specs.Answers.{AssignsTo};
 
 use crate::stop::Stop;
-use rdb_evaluation::{fit, value_of};
+use rdb_evaluation::value_of;
 use rdb_meaning::{Binding, FieldAt, Tables, field_of};
 use rdb_types::{Field, Items, NoMemory, Row, Value};
+use rdo_arithmetic::fit;
 use rdo_ast::syntax::Assign;
 use std::alloc::Global;
 
@@ -31,17 +32,17 @@ fn assign_one(
     assignment: &Assign,
     row: &mut Row,
 ) -> Result<(), Stop>
-    requires { length row.old ≡ length fields.now }
-    ensures value { AssignsTo result
+    ensures { AssignsTo result
         (assign (assignment_of assignment.now ∷ []) fields.now tables.now scope.now row.old) row.new }
-    ensures same_length { length row.new ≡ length row.old }
 {
     let Some(FieldAt { place, field }) = field_of(fields, &assignment.left.field) else {
         return Ok(());
     };
     let value = value_of(alloc, tables, scope, &assignment.right)?;
     let kept = fit(&field.kind, value)?;
-    row.set(place, kept);
+    if place < row.len() {
+        row.set(place, kept);
+    }
     Ok(())
 }
 
@@ -54,10 +55,8 @@ pub fn assign_all(
     assignments: &[Assign],
     row: &mut Row,
 ) -> Result<(), Stop>
-    requires { length row.old ≡ length fields.now }
-    ensures value { AssignsTo result
+    ensures { AssignsTo result
         (assign (map assignment_of assignments.now) fields.now tables.now scope.now row.old) row.new }
-    ensures same_length { length row.new ≡ length row.old }
 {
     for assignment in assignments {
         assign_one(alloc, tables, scope, fields, assignment, row)?;

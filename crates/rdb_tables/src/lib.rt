@@ -4,7 +4,6 @@
 mod area;
 mod assign;
 mod definition;
-mod forms;
 mod image;
 mod lines;
 mod room;
@@ -16,9 +15,10 @@ mod stop;
 mod store;
 mod told;
 mod transaction;
+mod undo;
 mod unique;
+mod update;
 mod work;
 
-pub use forms::is_done;
 pub use statement::does;
 pub use told::Told;

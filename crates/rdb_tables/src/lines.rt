@@ -17,7 +17,10 @@ fn value_at(alloc: Global, field: &Field, row: &[Value], at: usize) -> Result<Sc
     ensures { IfOk result (λ v. v ≡ scaled_if field.now.kind (slice_get row.now at)) }
 {
     match row.get(at) {
-        Some(value) => scaled(alloc, &field.kind, value),
+        Some(value) => match scaled(alloc, &field.kind, value) {
+            Ok(scaled) => Ok(scaled),
+            Err(_) => Err(NoMemory {}),
+        },
         None => Ok(Scaled {
             value: Value::Missing,
             scale: 0,

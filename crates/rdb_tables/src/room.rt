@@ -1,8 +1,10 @@
 //! The Dbkey that a stored row is given.
-ghost use Rattle.std.specs.Prelude.{◌≡◌, ◌≤◌, true, Some, IfOk, length};
+ghost use Rattle.std.specs.Prelude.{◌≡◌, true, Some, IfOk};
+ghost use Rattle.std.specs.Option.{option_copied};
 ghost use Rattle.rdb_types.specs.declared.keys.Dbkey.{Dbkey};
-ghost use Rattle.rdb_tables.specs.Rooms.{is_free as free};
+ghost use Rattle.rdb_tables.specs.Rooms.{may_take as may_be_taken};
 
+use ordered_entries::Key;
 use rdb_meaning::Relation;
 use rdb_types::{Dbkey, NoMemory, Row};
 
@@ -21,43 +23,66 @@ fn nth_key(area: u32, n: usize) -> Option<Dbkey> {
     })
 }
 
-// How many lines from the first on have a row, where no row stands before the first.
-fn first_gap(area: u32, rows: &[(Dbkey, Row)]) -> usize {
-    let mut low = 0;
+// The first line from the n-th on that has no row.
+fn gap_from(area: u32, rows: &[(Dbkey, Row)], n: usize) -> usize {
+    let Some(first) = nth_key(area, n) else {
+        return n;
+    };
+    let Ok(start) = rows.binary_search_by(|entry| entry.0.order(&first)) else {
+        return n;
+    };
+    let mut low = start;
     let mut high = rows.len();
     while low < high {
         let middle = low + (high - low) / 2;
-        if nth_key(area, middle) == Some(rows[middle].0) {
+        if nth_key(area, n.saturating_add(middle - start)) == Some(rows[middle].0) {
             low = middle + 1;
         } else {
             high = middle;
         }
     }
-    low
+    n.saturating_add(low - start)
 }
 
-fn is_free(relation: &Relation, key: &Dbkey) -> bool
-    ensures { result ≡ free key.now relation.now }
+fn may_take(relation: &Relation, saved: Option<&Relation>, key: &Dbkey) -> bool
+    ensures { result ≡ may_be_taken key.now relation.now (option_copied saved.entry) }
 {
-    key.area == relation.area && relation.row(key).is_none()
+    if key.area != relation.area || relation.row(key).is_some() {
+        return false;
+    }
+    match saved {
+        Some(saved) => saved.row(key).is_none(),
+        None => true,
+    }
 }
 
-/// A Dbkey that a new row of the relation may be given: the choice where it may be, else the least free one.
-pub fn free_key(relation: &Relation, choice: Option<Dbkey>) -> Result<Dbkey, NoMemory>
-    ensures free { IfOk result (λ key. free key relation.now ≡ true) }
+/// A Dbkey that a new row of the relation may be given, where `saved` is what the relation was at the start of the statement, if rows of it were erased: the choice where it may be given, else the least that may.
+pub fn free_key(
+    relation: &Relation,
+    saved: Option<&Relation>,
+    choice: Option<Dbkey>,
+) -> Result<Dbkey, NoMemory>
+    ensures free { IfOk result (λ key. may_be_taken key relation.now (option_copied saved.entry) ≡ true) }
     ensures chosen { IfOk result
-        (λ key. (chosen : Dbkey) → choice ≡ Some chosen → free chosen relation.now ≡ true → key ≡ chosen) }
+        (λ key. (chosen : Dbkey) → choice ≡ Some chosen → may_be_taken chosen relation.now (option_copied saved.entry) ≡ true → key ≡ chosen) }
 {
     if let Some(key) = choice {
-        if is_free(relation, &key) {
+        if may_take(relation, saved, &key) {
             return Ok(key);
         }
     }
+    let area = relation.area;
     let rows = relation.rows.as_slice();
-    for n in first_gap(relation.area, rows)..=rows.len() {
-        let key = nth_key(relation.area, n).ok_or(NoMemory {})?;
-        if is_free(relation, &key) {
+    let mut n = 0;
+    // Each turn passes a row that stands now, so there are not more.
+    for _ in 0..=rows.len().saturating_add(1) {
+        n = gap_from(area, rows, n);
+        let key = nth_key(area, n).ok_or(NoMemory {})?;
+        if may_take(relation, saved, &key) {
             return Ok(key);
+        }
+        if let Some(saved) = saved {
+            n = gap_from(area, saved.rows.as_slice(), n);
         }
     }
     Err(NoMemory {})

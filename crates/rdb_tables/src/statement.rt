@@ -1,22 +1,21 @@
 //! Does an item of a script.
-ghost use Rattle.std.specs.Prelude.{◌≡◌, [], false, Some, IfOk, OnErr};
+ghost use Rattle.std.specs.Prelude.{◌≡◌, [], false, Some, IfOk, OnOk, OnErr};
 ghost use Rattle.rdo_ast.specs.declared.reply.Reply.{Reply};
 ghost use Rattle.rdo_ast.specs.declared.reply.Standing.{Standing};
 ghost use Rattle.rdo_ast.specs.Views.{act_of, uttered_of};
 ghost use Rattle.rdb_meaning.specs.declared.tables.Tables.{Tables};
-ghost use Rattle.rdb_meaning.specs.Execution.{done};
 ghost use Rattle.rdb_meaning.specs.Meaning.{Does, act_meaning, meaning as meaning_of, means, standing_for};
 ghost use Rattle.rdb_meaning.specs.Usual.{is_refusal_of_means};
 ghost use Rattle.rdb_tables.specs.Answers.{Answers, reply_to};
-ghost use Rattle.rdb_tables.specs.Stages.{Runs, stage};
+ghost use Rattle.rdb_tables.specs.Undoing.{beginning};
 
 use crate::definition::definition;
-use crate::run::{Given, run_action};
+use crate::run::run_action;
 use crate::stop::Stop;
-use crate::store::store;
 use crate::told::Told;
 use crate::transaction::transaction;
-use crate::work::Work;
+use crate::undo::roll_back;
+use crate::work::{Given, Work};
 use rdb_checks::{Stop as CheckStop, check_action, is_retrieval};
 use rdb_meaning::Tables;
 use rdb_types::{Copied, Dbkey, NoMemory, Word};
@@ -34,28 +33,26 @@ fn standing_after(alloc: Global, standing: &Standing, action: &Action) -> Result
     }
 }
 
-// The action is checked. Where it isn't done, the tables stay as they are.
-fn run(given: &Given, tables: &mut Tables, action: &Action, work: &mut Work) -> Result<(), Stop>
-    ensures runs { Runs result given.now.choices.now (done (act_of action.now) tables.old [])
-        (stage tables.old work.old) (stage tables.new work.new) }
-    ensures kept { OnErr result (tables.new ≡ tables.old) }
-{
-    match action {
-        Action::Store(range, assignments) => {
-            store(given, tables, &[], range, assignments.as_slice(), work)
-        }
-        _ => run_action(given, tables, &[], action, work),
-    }
-}
-
-// The answer to an action, by how it ended.
-fn answer(end: Result<(), Stop>, work: Work, standing: Standing) -> Result<Told, NoMemory>
+// The answer to an action, by how it ended. Where it wasn't done, the tables are brought back.
+fn answer(
+    tables: &mut Tables,
+    alloc: Global,
+    end: Result<(), Stop>,
+    work: Work,
+    standing: Standing,
+) -> Result<Told, NoMemory>
     ensures reply { IfOk result (λ d. reply_to end work.lines ≡ Some d.reply) }
     ensures standing { IfOk result (λ d. d.standing ≡ standing) }
     ensures taken { IfOk result (λ d. d.taken ≡ work.taken) }
     ensures memory { OnErr result (end ≡ Err Stop.Memory) }
+    ensures done { OnOk end (tables.new ≡ tables.old) }
+    ensures undone { OnErr end (tables.new ≡ beginning tables.old work.undo) }
 {
-    let Work { lines, taken } = work;
+    let Work { lines, taken, undo } = work;
+    match &end {
+        Ok(()) => drop(undo),
+        Err(_) => roll_back(tables, alloc, undo),
+    }
     let reply = match end {
         Ok(()) => Reply::Done(lines),
         Err(Stop::Overflow) => Reply::Overflow,
@@ -88,8 +85,8 @@ fn act(
         Err(CheckStop::Memory) => return Err(NoMemory {}),
     }
     let mut work = Work::new(alloc);
-    let end = run(&Given { alloc, choices }, tables, action, &mut work);
-    answer(end, work, after)
+    let end = run_action(&Given { alloc, choices }, tables, &[], action, &mut work);
+    answer(tables, alloc, end, work, after)
 }
 
 /// Does an item on the tables, in the given standing. Each stored row takes the next of `choices`; where none is left, or it may not be given, another. After want of memory the tables are as before.

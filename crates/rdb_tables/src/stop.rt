@@ -1,7 +1,7 @@
 ghost use Rattle.std.specs.Prelude.{◌≡◌};
 
-use rdb_evaluation::{FitStop, Stop as EvaluationStop};
 use rdb_types::{Chars, NoMemory};
+use rdo_arithmetic::{Misfit, Stop as EvaluationStop};
 use std::alloc::AllocError;
 
 /// Why an action ends before it is done.
@@ -47,16 +47,16 @@ impl From<EvaluationStop> for Stop {
     }
 }
 
-impl From<FitStop> for Stop {
+impl From<Misfit> for Stop {
     ghost use Rattle.rdb_tables.specs.Causes.{of_fitting};
 
     ghost from_gives = { λ s e. e ≡ of_fitting s };
 
-    fn from(stop: FitStop) -> Stop {
+    fn from(stop: Misfit) -> Stop {
         match stop {
-            FitStop::Overflow => Stop::Overflow,
-            FitStop::TooLong => Stop::TooLong,
-            FitStop::Memory => Stop::Memory,
+            Misfit::Overflow => Stop::Overflow,
+            Misfit::TooLong => Stop::TooLong,
+            Misfit::Memory => Stop::Memory,
         }
     }
 }

@@ -1,23 +1,24 @@
 //! STORE.
-ghost use Rattle.std.specs.Prelude.{◌≡◌, ◌++◌, [], ◌∷◌, None, length, map, replicate, OnErr};
+ghost use Rattle.std.specs.Prelude.{◌≡◌, ◌++◌, [], ◌∷◌, true, Some, None, length, map, replicate, slice_get, IfOk};
+ghost use Rattle.rdb_types.specs.declared.keys.Dbkey.{Dbkey};
 ghost use Rattle.rdb_types.specs.declared.values.Value.TheVariants.{Missing};
 ghost use Rattle.rdo_ast.specs.Views.{assignment_of};
 ghost use Rattle.rdb_meaning.specs.Contents.{fields_of, relation_named};
 ghost use Rattle.rdb_meaning.specs.Evaluation.{bind_source};
-ghost use Rattle.rdb_meaning.specs.Execution.{assign, stored};
+ghost use Rattle.rdb_meaning.specs.Execution.{assign, may_be_given, stored};
 ghost use Rattle.rdb_tables.specs.Stages.{Runs, stage};
+ghost use Rattle.rdb_tables.specs.Undoing.{beginning};
 ghost use Rattle.rdb_tables.specs.Writing.{obstacle, Finds, Makes};
 
 use crate::assign::{assign_all, missing_row};
 use crate::image::is_too_long;
 use crate::room::free_key;
-use crate::rows::put_row;
-use crate::run::Given;
 use crate::stop::Stop;
+use crate::undo::{saved_as, write_row};
 use crate::unique::taken_by;
-use crate::work::Work;
+use crate::work::{Given, Work};
 use rdb_meaning::{Binding, Tables, extended};
-use rdb_types::{Chars, Dbkey, Row, Value};
+use rdb_types::{Chars, Dbkey, NoMemory, Row, Value};
 use rdo_ast::syntax::{Assign, Range};
 use sqlite_items::at;
 use std::alloc::Global;
@@ -80,7 +81,26 @@ pub fn check_row(
     }
 }
 
-/// Stores a row. Where it isn't stored, the tables stay as they are.
+// The Dbkey that the next row of the relation is given.
+fn next_key(
+    choices: &[Dbkey],
+    tables: &Tables,
+    name: &Chars,
+    work: &Work,
+) -> Result<Dbkey, NoMemory>
+    ensures free { IfOk result (λ key. may_be_given name.now key (beginning tables.now work.now.undo) tables.now ≡ true) }
+    ensures chosen { IfOk result
+        (λ key. (chosen : Dbkey) → slice_get choices.now (length work.now.taken) ≡ Some chosen → may_be_given name.now chosen (beginning tables.now work.now.undo) tables.now ≡ true → key ≡ chosen) }
+{
+    let Some(relation) = tables.relation(name) else {
+        return Err(NoMemory {});
+    };
+    let saved = saved_as(work.undo.saved.as_slice(), name);
+    let choice = at(choices, work.taken.len()).copied();
+    free_key(relation, saved, choice)
+}
+
+/// Stores a row. `kept`: what undoes the changes still leads back to the start of the statement.
 pub fn store(
     given: &Given,
     tables: &mut Tables,
@@ -89,19 +109,16 @@ pub fn store(
     assignments: &[Assign],
     work: &mut Work,
 ) -> Result<(), Stop>
-    ensures runs { Runs result given.now.choices.now (stored range.now (map assignment_of assignments.now) tables.old scope.now)
+    ensures runs { Runs result given.now.choices.now
+        (stored range.now (map assignment_of assignments.now) (beginning tables.old work.old.undo) scope.now)
         (stage tables.old work.old) (stage tables.new work.new) }
-    ensures kept { OnErr result (tables.new ≡ tables.old) }
+    ensures kept { beginning tables.new work.new.undo ≡ beginning tables.old work.old.undo }
 {
     let row = new_row(given.alloc, tables, scope, range, assignments)?;
     let name = &range.relation;
     check_row(given.alloc, tables, name, row.as_slice(), &NOWHERE)?;
-    let Some(relation) = tables.relation(name) else {
-        return Err(Stop::Memory);
-    };
-    let choice = at(given.choices, work.taken.len()).copied();
-    let key = free_key(relation, choice)?;
+    let key = next_key(given.choices, tables, name, work)?;
     work.taken.push(key)?;
-    put_row(tables, given.alloc, name, key, row)?;
+    write_row(&mut work.undo, given.alloc, tables, name, key, row)?;
     Ok(())
 }

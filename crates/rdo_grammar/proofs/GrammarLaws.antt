@@ -20,7 +20,7 @@ use Rattle.rdo_tokens.specs.Lex.{Text, same_kind, max_number}
 use Rattle.rdo_tokens.specs.Input.{Parser, ◌>>=◌, pure, peek, sees}
 use Rattle.rdo_grammar.specs.Ahead.{LooksAhead}
 use Rattle.rdo_grammar.specs.Grammar as g
-use Rattle.rdo_grammar.specs.Grammar.{Level, level_at, operation, chained, crossed, ranges, range, first, open_level, with, inner, count, statistic, minus, parenthesized, statistic_of, statistic_by, prim_by, prim, products_from, products, term_after, term, signed_term, sums_from, sums, expr_after, expr, expr_with, compared, between, compare_by, compare_op, compare_after, compare, negated, grouped, any, test_by, test, tests, conj, conjunctions, cond_at, test_at, expr_at, operator, ref_from, reference, assign, assigns_from, assigns, printed_ref, printed_name, printed_by, printed, order_by, order, key, keys, references, sorted, reduced, sorted_only, reduced_only, shape_by, shape, selection, store, print, printed_list, point, begins_action, body_from, body, for_action, action_by, action, action_at}
+use Rattle.rdo_grammar.specs.Grammar.{Level, level_at, operation, chained, crossed, ranges, range, first, open_level, with, inner, count, statistic, minus, parenthesized, statistic_of, statistic_by, prim_by, prim, products_from, products, term_after, term, signed_term, sums_from, sums, expr_after, expr, expr_with, compared, between, compare_by, compare_op, compare_after, compare, negated, grouped, any, test_by, test, tests, conj, conjunctions, cond_at, test_at, expr_at, operator, ref_from, reference, assign, assigns_from, assigns, printed_ref, printed_name, printed_by, printed, order_by, order, key, keys, references, sorted, reduced, sorted_only, reduced_only, shape_by, shape, selection, store, modify, print, printed_list, point, begins_action, body_from, body, for_action, action_by, action, action_at}
 use Rattle.rdo_grammar.proofs.TakesLaws.{TakesToken, takes_refuse, takes_first, takes_peek, takes_if, takes_bind}
 use Rattle.rdo_grammar.proofs.AheadLaws.{law_pure, law_refuse, law_bind, law_peek, law_take, law_expect, law_name, law_eat, law_sized, law_if, law_text, law_number, law_whole, law_separated}
 
@@ -265,6 +265,10 @@ law_store : (d : ℕ) → LooksAhead (store d)
 unfolding store
 law_store d = law_bind _ _ law_range (λ r. law_bind _ _ (law_expect k.Using) (λ _. law_bind _ _ (law_assigns d) (λ vs. law_bind _ _ (law_expect k.EndStore) (λ _. law_pure _))))
 
+law_modify : (d : ℕ) → LooksAhead (modify d)
+unfolding modify
+law_modify d = law_bind _ _ law_name (λ r. law_bind _ _ (law_expect k.Using) (λ _. law_bind _ _ (law_assigns d) (λ vs. law_bind _ _ (law_expect k.EndModify) (λ _. law_pure _))))
+
 law_print : (d : ℕ) → LooksAhead (print d)
 unfolding print printed_list
 law_print d = law_bind _ _ (law_separated k.Comma (printed d) (law_printed d)) (λ ps. law_pure _)
@@ -282,9 +286,11 @@ module _ (d : ℕ) (na : Parser Action) (la : LooksAhead na) where
       (λ o. law_bind _ _ (law_sized (λ n. body_from d na n []) (λ n. law_body_from n [])) (λ xs. law_bind _ _ (law_expect k.EndFor) (λ _. law_pure _))))
 
   law_action_by : (nested : Bool) (kind : Kind) → LooksAhead (action_by d na nested kind)
-  law_action_by nested k.Store = law_if _ _ nested law_refuse (law_bind _ _ law_take (λ _. law_store d))
+  law_action_by nested k.Store = law_bind _ _ law_take (λ _. law_store d)
   law_action_by nested k.For = law_for
   law_action_by nested k.Print = law_bind _ _ law_take (λ _. law_print d)
+  law_action_by nested k.Modify = law_if _ _ nested (law_bind _ _ law_take (λ _. law_modify d)) law_refuse
+  law_action_by nested k.Erase = law_if _ _ nested (law_bind _ _ law_take (λ _. law_bind _ _ law_name (λ v. law_pure (a.Erase v)))) law_refuse
   law_action_by nested _ = law_refuse
 
   law_action : (nested : Bool) → LooksAhead (action d na nested)
@@ -297,9 +303,11 @@ module _ (d : ℕ) (na : Parser Action) (la : LooksAhead na) where
       (λ o. law_bind _ _ (law_sized (λ n. body_from d na n []) (λ n. law_body_from n [])) (λ xs. law_bind _ _ (law_expect k.EndFor) (λ _. law_pure _))))
 
   takes_action_by : (nested : Bool) (kind : Kind) → TakesToken (action_by d na nested kind)
-  takes_action_by nested k.Store = takes_if _ _ nested takes_refuse (takes_first _ (λ _. law_store d))
+  takes_action_by nested k.Store = takes_first _ (λ _. law_store d)
   takes_action_by nested k.For = takes_for
   takes_action_by nested k.Print = takes_first _ (λ _. law_print d)
+  takes_action_by nested k.Modify = takes_if _ _ nested (takes_first _ (λ _. law_modify d)) takes_refuse
+  takes_action_by nested k.Erase = takes_if _ _ nested (takes_first _ (λ _. law_bind _ _ law_name (λ v. law_pure (a.Erase v)))) takes_refuse
   takes_action_by nested _ = takes_refuse
 
   takes_action : (nested : Bool) → TakesToken (action d na nested)

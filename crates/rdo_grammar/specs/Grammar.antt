@@ -424,8 +424,11 @@ point = eat k.Dot
 
 -- whether a token begins an action2
 abbrev pub begins_action : Kind → Bool
+begins_action k.Store = true
 begins_action k.For = true
 begins_action k.Print = true
+begins_action k.Modify = true
+begins_action k.Erase = true
 begins_action _ = false
 
 -- action := STORE range USING { assign } END_STORE
@@ -436,6 +439,15 @@ store depth = do
   values ← assigns depth
   expect k.EndStore
   pure (a.Store into values)
+
+-- action2 := action | MODIFY name USING { assign } END_MODIFY
+unfoldable pub modify : ℕ → Parser Action
+modify depth = do
+  variable ← name
+  expect k.Using
+  values ← assigns depth
+  expect k.EndModify
+  pure (a.Modify variable values)
 
 -- | PRINT printed { "," printed }
 unfoldable pub print : ℕ → Parser Action
@@ -462,11 +474,13 @@ module _ (depth : ℕ) (next_action : Parser Action) where
     expect k.EndFor
     pure (a.For over actions)
 
-  -- A FOR opens a level. The flag says whether the action stands in a FOR: no STORE may stand there, since actions in a FOR change no table yet.
+  -- A FOR opens a level. The flag says whether MODIFY and ERASE may stand here.
   abbrev pub action_by : Bool → Kind → Parser Action
-  action_by nested k.Store = if nested then refuse else (take_token >> store depth)
+  action_by nested k.Store = take_token >> store depth
   action_by nested k.For = for_action
   action_by nested k.Print = take_token >> print depth
+  action_by nested k.Modify = if nested then take_token >> modify depth else refuse
+  action_by nested k.Erase = if nested then take_token >> a.Erase <$> name else refuse
   action_by nested _ = refuse
 
   unfoldable pub action : Bool → Parser Action

@@ -104,7 +104,10 @@ pub fn printed_list(
 fn begins_action(kind: Kind) -> bool
     ensures { result ≡ spec.begins_action kind }
 {
-    matches!(kind, Kind::For | Kind::Print)
+    matches!(
+        kind,
+        Kind::Store | Kind::For | Kind::Print | Kind::Modify | Kind::Erase
+    )
 }
 
 /// `STORE name IN name USING { assign } END_STORE`, after STORE.
@@ -117,6 +120,18 @@ fn store(alloc: Global, tokens: &mut Tokens<'_>, depth: usize) -> Result<Action,
     let values = assigns(alloc, tokens, depth)?;
     tokens.expect(Kind::EndStore)?;
     Ok(Action::Store(into, values))
+}
+
+/// `MODIFY name USING { assign } END_MODIFY`, after MODIFY.
+#[tactic(auto, unfolding(crate::specs::Grammar::modify))]
+fn modify(alloc: Global, tokens: &mut Tokens<'_>, depth: usize) -> Result<Action, Stop>
+    ensures { Reads (spec.modify depth tokens.old) result tokens.new }
+{
+    let variable = tokens.name(alloc)?;
+    tokens.expect(Kind::Using)?;
+    let values = assigns(alloc, tokens, depth)?;
+    tokens.expect(Kind::EndModify)?;
+    Ok(Action::Modify(variable, values))
 }
 
 /// `PRINT printed { "," printed }`, after PRINT.
@@ -175,14 +190,14 @@ impl<A: Fn(Global, &mut Tokens<'_>, usize, bool) -> Result<Action, Stop>> Action
         Ok(Action::For(over, actions))
     }
 
-    /// An action. A STORE isn't nested in a FOR.
+    /// An action. MODIFY and ERASE stand only where it is nested in a FOR.
     #[tactic(auto, unfolding(crate::specs::Grammar::action))]
     fn action(&self, tokens: &mut Tokens<'_>, nested: bool) -> Result<Action, Stop>
         requires { ParsesAction self.now.depth (A.pre self.now.action) (A.post self.now.action) }
         ensures { Reads (spec.action self.now.depth (spec.action_at self.now.depth true) nested tokens.old) result tokens.new }
     {
         match tokens.peek() {
-            Kind::Store if !nested => {
+            Kind::Store => {
                 tokens.take();
                 store(self.alloc, tokens, self.depth)
             }
@@ -190,6 +205,14 @@ impl<A: Fn(Global, &mut Tokens<'_>, usize, bool) -> Result<Action, Stop>> Action
             Kind::Print => {
                 tokens.take();
                 print(self.alloc, tokens, self.depth)
+            }
+            Kind::Modify if nested => {
+                tokens.take();
+                modify(self.alloc, tokens, self.depth)
+            }
+            Kind::Erase if nested => {
+                tokens.take();
+                Ok(Action::Erase(tokens.name(self.alloc)?))
             }
             _ => Err(Stop::Offending),
         }

@@ -8,6 +8,9 @@ const FORMS: &[u8] = b"FOR FIRST 2 D IN DEPT CROSS E IN EMP
       AND D.B CONTAINING 'y' AND D.B STARTING WITH 'z' OR COUNT OF E IN EMP MISSING
     SORTED BY DESCENDING D.A, E.A REDUCED TO D.A, E.B
   PRINT D.*, D.A * 2
+  STORE X IN T USING X.A = D.A; X.B = 'b'; END_STORE.
+  MODIFY D USING D.A = (1); END_MODIFY
+  ERASE D
   FOR E IN EMP REDUCED TO E.A SORTED BY E.A END_FOR
 END_FOR";
 
@@ -21,13 +24,6 @@ fn is_read(alloc: Global, text: &[u8], levels: usize) -> bool {
 #[test]
 fn forms(rt: HostRuntime) {
     assert!(rt; is_read(rt.alloc(), FORMS, 17));
-    assert!(rt;
-        is_read(
-            rt.alloc(),
-            b"STORE X IN T USING X.A = (1); X.B = 'b'; END_STORE",
-            3
-        )
-    );
     assert!(rt; is_read(rt.alloc(), b"PRINT ((1))", 3));
     assert!(rt; !is_read(rt.alloc(), b"PRINT ((1))", 2));
     assert!(rt; !is_read(rt.alloc(), b"ERASE X", 17));

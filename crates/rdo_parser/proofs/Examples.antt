@@ -26,7 +26,7 @@ use Rattle.rdo_ast.specs.declared.syntax.Item.{Item}
 use Rattle.rdo_ast.specs.declared.syntax.Item.TheVariants as i
 use Rattle.rdo_tokens.specs.Lex.{Text, word_kind, text_value, symbol, token, tokens, same_kind}
 use Rattle.rdo_tokens.specs.Input.{kind, spelling, next, left, sees, after, expect, upper, name, same_name, text, number_value, number, whole_number, more_from, separated}
-use Rattle.rdo_grammar.specs.Grammar.{ref_from, reference, range, crossed, ranges, first, open_level, with, inner, count, statistic, minus, parenthesized, statistic_by, prim, products_from, products, term_after, term, signed_term, sums_from, sums, expr_after, expr, expr_with, compared, between, compare_after, compare, negated, grouped, any, test, tests, conj, conjunctions, cond, cond_at, test_at, expr_at, assign, assigns_from, assigns, printed_ref, printed_name, printed, order, key, keys, references, sorted, reduced, sorted_only, reduced_only, shape, selection, printed_list, point, store, print, body_from, body, for_action, action, action_at}
+use Rattle.rdo_grammar.specs.Grammar.{ref_from, reference, range, crossed, ranges, first, open_level, with, inner, count, statistic, minus, parenthesized, statistic_by, prim, products_from, products, term_after, term, signed_term, sums_from, sums, expr_after, expr, expr_with, compared, between, compare_after, compare, negated, grouped, any, test, tests, conj, conjunctions, cond, cond_at, test_at, expr_at, assign, assigns_from, assigns, printed_ref, printed_name, printed, order, key, keys, references, sorted, reduced, sorted_only, reduced_only, shape, selection, printed_list, point, store, modify, print, body_from, body, for_action, action, action_at}
 use Rattle.rdo_parser.specs.Statements.{share_mode, writes, reservation, reservations, wait, reserving, read_write, start_transaction, integer_type, scale, text_type, signed_type, field_type, field_kind, field_definition, pointed_field, fields_from, fields, define_relation, duplicates, index_type, pointed_name, index_fields_from, index_fields, index_head, define_index, define_field, define, delete, invoke, statement, pointed}
 use Rattle.rdo_parser.specs.Script.{parsed_at, syntax_at, next_statement, item_at, items_from, script_items}
 
@@ -58,7 +58,7 @@ texts =
     -- a fault behind a statement, a fault at a line's end, and one at the script's end
     (codes "COMMIT 5 FINISH" ++ 10 ∷ codes "  PRINT 1 + ;" ++ 10 ∷ codes "FINISH. PRINT" ++ 10 ∷ []) ∷
     codes "print 1 + 2 * x.a - -3.50" ∷
-    codes "FOR FIRST 3 X IN T WITH X.A = 1 AND NOT X.B MISSING OR (X.A > 2) SORTED BY DESCENDING X.A PRINT X.*. END_FOR" ∷
+    codes "FOR FIRST 3 X IN T WITH X.A = 1 AND NOT X.B MISSING OR (X.A > 2) SORTED BY DESCENDING X.A ERASE X. END_FOR" ∷
     codes "PRINT COUNT OF FIRST 2 X IN T WITH X.A <= 'it''s', X.*" ∷
     -- AND goes to the innermost condition
     codes "PRINT 1 FOR X IN T WITH ANY X IN T WITH X.A BETWEEN 1 AND 2 AND X.B EQ 3 END_FOR" ∷
@@ -85,7 +85,7 @@ items =
             all_of (t.Group (any_of (all_of (t.Compare op.Greater (of_x (codes "A")) (e.Number (pos 2) 0) ∷ []) ∷ [])) ∷ []) ∷ []));
       });
       clauses = clause.Sorted (record { descending = true; reference = field (codes "A") } ∷ []) ∷ [];
-    }) (a.Print (p.Fields (codes "X") ∷ []) ∷ [])) ∷ []) ∷
+    }) (a.Erase (codes "X") ∷ [])) ∷ []) ∷
     (act (a.Print (p.Value (e.Count (roll-Inner (record {
       first = Some 2;
       ranges = x_in_t ∷ [];
@@ -117,5 +117,5 @@ items =
     (i.Statement (s.DefineIndex (record { name = codes "I"; relation = codes "T"; unique = true; fields = codes "A" ∷ codes "B" ∷ [] })) ∷ i.SyntaxAt 2 47 ∷ []) ∷ []
 
 items_of_texts : map script_items texts ≡ items
-unfolding texts items word_kind text_value symbol token tokens same_kind kind spelling next left sees after expect upper name same_name text number_value number whole_number more_from separated ref_from reference range crossed ranges first open_level with inner count statistic minus parenthesized statistic_by prim products_from products term_after term signed_term sums_from sums expr_after expr expr_with compared between compare_after compare negated grouped any test tests conj conjunctions cond cond_at test_at expr_at assign assigns_from assigns printed_ref printed_name printed order key keys references sorted reduced sorted_only reduced_only shape selection printed_list point store print body_from body for_action action action_at share_mode writes reservation reservations wait reserving read_write start_transaction integer_type scale text_type signed_type field_type field_kind field_definition pointed_field fields_from fields define_relation duplicates index_type pointed_name index_fields_from index_fields index_head define_index define_field define delete invoke statement pointed parsed_at syntax_at next_statement item_at items_from
+unfolding texts items word_kind text_value symbol token tokens same_kind kind spelling next left sees after expect upper name same_name text number_value number whole_number more_from separated ref_from reference range crossed ranges first open_level with inner count statistic minus parenthesized statistic_by prim products_from products term_after term signed_term sums_from sums expr_after expr expr_with compared between compare_after compare negated grouped any test tests conj conjunctions cond cond_at test_at expr_at assign assigns_from assigns printed_ref printed_name printed order key keys references sorted reduced sorted_only reduced_only shape selection printed_list point store modify print body_from body for_action action action_at share_mode writes reservation reservations wait reserving read_write start_transaction integer_type scale text_type signed_type field_type field_kind field_definition pointed_field fields_from fields define_relation duplicates index_type pointed_name index_fields_from index_fields index_head define_index define_field define delete invoke statement pointed parsed_at syntax_at next_statement item_at items_from
 items_of_texts = refl

@@ -5,7 +5,7 @@ use std::test::Fail;
 
 const SCRIPT: &[u8] = b"COMMIT 5
 for d in dept with d.staff gt (1 + 2) or not d.code missing
-  print d.*, -0.05 * d.staff. print 'it''s  '
+  print d.*, -0.05 * d.staff. modify d using d.code = 'it''s  '; end_modify
 end_for.
 PRINT 1 + ; COMMIT
 DEFINE RELATION R. A DATATYPE IS TEXT SIZE IS 4. END S RELATION.
