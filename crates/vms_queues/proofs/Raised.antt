@@ -45,16 +45,16 @@ fits-raised p o k m (x ∷ xs) other r e h =
     let once = and_parts (not (has_owner x.owner xs)) (each_once xs) e in
     elim (cases_eq x.owner o) [
       | inl own ↦
-        let absent : has_owner o xs ≡ false = subst (λ (q : ℕ). has_owner q xs ≡ false) own (not-true (has_owner x.owner xs) once.0) in
-        let same : with_mode o m xs ≡ xs = with_mode-absent o m xs absent in
-        let mine = moded-own o m x own in
-        let there : (not (blocks p k (entry o m)) && fits p k xs) ≡ true =
-            subst (λ (hs : List Held). (not (blocks p k (entry o m)) && fits p k hs) ≡ true) same (subst (λ (y : Held). (not (blocks p k y) && fits p k (with_mode o m xs)) ≡ true) mine h) in
-        and_mono (not (blocks p k (entry o m))) (fits p k xs) (not (blocks p k x)) (fits p k xs) (beside_raised p o k m x other own (own_raised o m x xs absent r)) (λ f. f) there
+          let absent : has_owner o xs ≡ false = subst (λ (q : ℕ). has_owner q xs ≡ false) own (not-true (has_owner x.owner xs) once.0) in
+          let same : with_mode o m xs ≡ xs = with_mode-absent o m xs absent in
+          let mine = moded-own o m x own in
+          let there : (not (blocks p k (entry o m)) && fits p k xs) ≡ true =
+          subst (λ (hs : List Held). (not (blocks p k (entry o m)) && fits p k hs) ≡ true) same (subst (λ (y : Held). (not (blocks p k y) && fits p k (with_mode o m xs)) ≡ true) mine h) in
+          and_mono (not (blocks p k (entry o m))) (fits p k xs) (not (blocks p k x)) (fits p k xs) (beside_raised p o k m x other own (own_raised o m x xs absent r)) (λ f. f) there
       | inr foreign ↦
-        let mine = moded-other o m x foreign in
-        let there : (not (blocks p k x) && fits p k (with_mode o m xs)) ≡ true = subst (λ (y : Held). (not (blocks p k y) && fits p k (with_mode o m xs)) ≡ true) mine h in
-        and_mono (not (blocks p k x)) (fits p k (with_mode o m xs)) (not (blocks p k x)) (fits p k xs) (λ f. f) (fits-raised p o k m xs other (others_raised o m x xs foreign r) once.1) there
+          let mine = moded-other o m x foreign in
+          let there : (not (blocks p k x) && fits p k (with_mode o m xs)) ≡ true = subst (λ (y : Held). (not (blocks p k y) && fits p k (with_mode o m xs)) ≡ true) mine h in
+          and_mono (not (blocks p k x)) (fits p k (with_mode o m xs)) (not (blocks p k x)) (fits p k xs) (λ f. f) (fits-raised p o k m xs other (others_raised o m x xs foreign r) once.1) there
     ]
 
 -- the owner of an entry of others is another
@@ -75,7 +75,7 @@ requests_wait-raised o m k g l (w ∷ ws) r e absent h =
     let p = and_parts (not (is_free k g l w)) (requests_wait k g (l ++ w ∷ []) ws) h in
     let less = fits-raised w.owner o w.mode m g (another o w ws absent) r e in
     let free : is_free k (with_mode o m g) l w ≡ true → is_free k g l w ≡ true =
-        free-less (fits w.owner w.mode g) (fits w.owner w.mode k) (fits w.owner w.mode l) (fits w.owner w.mode (with_mode o m g)) (fits w.owner w.mode k) less (λ f. f) in
+    free-less (fits w.owner w.mode g) (fits w.owner w.mode k) (fits w.owner w.mode l) (fits w.owner w.mode (with_mode o m g)) (fits w.owner w.mode k) less (λ f. f) in
     and_from _ _ (not_from_false (is_free k (with_mode o m g) l w) (busy-less (is_free k (with_mode o m g) l w) (is_free k g l w) free (not-true (is_free k g l w) p.0)))
     (requests_wait-raised o m k g (l ++ w ∷ []) ws r e (or_parts (w.owner == o) (has_owner o ws) absent).1 p.1)
 

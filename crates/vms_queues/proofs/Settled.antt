@@ -116,8 +116,8 @@ is_settled-passes zero q h = and_from _ _ (none_convert q.granted q.converting (
 is_settled-passes (suc n) q h =
     elim (cases_eq (queue_length (passed q)) (queue_length q)) [
       | inl same ↦
-        let settled = is_settled-same_length q same in
-        subst (λ (r : Queues). is_settled r ≡ true) (sym (passes-settled (suc n) q settled)) settled
+          let settled = is_settled-same_length q same in
+          subst (λ (r : Queues). is_settled r ≡ true) (sym (passes-settled (suc n) q settled)) settled
       | inr other ↦ is_settled-passes n (passed q) (let less = queue_length-passed q in omega (arith, less, other, h))
     ]
 
@@ -192,7 +192,7 @@ requests_wait-less k n g e l (w ∷ ws) f d h =
     let p = and_parts (not (is_free k g l w)) (requests_wait k g (l ++ w ∷ []) ws) h in
     let ahead = fits w.owner w.mode l in
     let free : is_free n e l w ≡ true → is_free k g l w ≡ true =
-        free-less (fits w.owner w.mode g) (fits w.owner w.mode k) ahead (fits w.owner w.mode e) (fits w.owner w.mode n) (d w.owner w.mode) (f w.owner w.mode) in
+    free-less (fits w.owner w.mode g) (fits w.owner w.mode k) ahead (fits w.owner w.mode e) (fits w.owner w.mode n) (d w.owner w.mode) (f w.owner w.mode) in
     and_from _ _ (not_from_false (is_free n e l w) (busy-less (is_free n e l w) (is_free k g l w) free (not-true (is_free k g l w) p.0)))
     (requests_wait-less k n g e (l ++ w ∷ []) ws f d p.1)
 

@@ -37,12 +37,7 @@ impl Blockers {
     }
 
     // Adds the owners of those among the entries that stand in the way.
-    pub(crate) fn add(
-        &mut self,
-        entries: &[Held],
-        owner: u32,
-        mode: Mode,
-    ) -> Result<(), AllocError>
+    pub(crate) fn add(&mut self, entries: &[Held], owner: u32, mode: Mode) -> Result<(), AllocError>
         ensures { OnOk result (self.new ≡ self.old ++ blockers owner mode entries.now) }
     {
         add_blockers(&mut self.owners, entries, owner, mode)
