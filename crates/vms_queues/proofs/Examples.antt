@@ -2,7 +2,7 @@
 use Rattle.std.proofs.Common.{◌≡◌, [], ◌∷◌, refl}
 use Rattle.vms_queues.specs.declared.lock_mode.Mode.TheVariants.{CR, CW, PR, EX}
 use Rattle.vms_queues.specs.declared.answer.Answer.TheVariants.{Queued}
-use Rattle.vms_queues.specs.Queues.{Queues, entry, after_ask, after_convert, after_release, after_cancel}
+use Rattle.vms_queues.specs.Queues.{Queues, entry, after_convert, after_release, after_cancel}
 use Rattle.vms_queues.specs.Answers.{ask_answer}
 
 -- a reader, a writer that waits for it, and a reader that waits behind the writer

@@ -1,12 +1,12 @@
 -- A conversion to a mode that is at least the old one grants nothing else.
 use Rattle.std.proofs.Common.{◌≡◌, ℕ, ◌++◌, ◌∷◌, [], inl, inr, Bool, true, false, List, refl, ◌∙◌, sym, ap, subst, arith}
-use Rattle.std.specs.Prelude.{◌==◌, not, ◌&&◌, ◌||◌, if◌then◌else◌}
-use Rattle.std.proofs.lemmas.Bool.{false≢true, eq-eqb, cases_eq, or_cases, or_parts, and_parts, and_from, not-true, not_from_false, ne_eqb, eqb-true}
+use Rattle.std.specs.Prelude.{◌==◌, not, ◌&&◌, if◌then◌else◌}
+use Rattle.std.proofs.lemmas.Bool.{false≢true, eq-eqb, cases_eq, or_cases, or_parts, and_parts, and_from, not-true, not_from_false, eqb-true}
 use Rattle.std.proofs.lemmas.Grind.{common_steps}
 use Rattle.vms_queues.specs.declared.lock_mode.Mode.{Mode}
 use Rattle.vms_queues.specs.declared.held.Held.{Held}
-use Rattle.vms_queues.specs.Modes.{may_share, at_most}
-use Rattle.vms_queues.specs.Queues.{Queues, IsSound, has_owner, blocks, fits, with_mode, moded, entry, each_once, raises, is_free, considered, conversions_wait, requests_wait, is_settled, after_convert, after_raise, with_conversion}
+use Rattle.vms_queues.specs.Modes.{at_most}
+use Rattle.vms_queues.specs.Queues.{Queues, IsSound, has_owner, blocks, fits, with_mode, entry, each_once, raises, is_free, conversions_wait, requests_wait, is_settled, after_convert, after_raise, with_conversion}
 use Rattle.vms_queues.proofs.ModeLaws.{may_share-comm, may_share-weaker}
 use Rattle.vms_queues.proofs.Entries.{with_mode-absent}
 use Rattle.vms_queues.proofs.PassEdges.{not_named_in}

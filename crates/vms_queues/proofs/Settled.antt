@@ -1,13 +1,11 @@
 -- Nothing that is queued could be granted: passes lead there, and what keeps it so.
-use Rattle.std.proofs.Common.{◌≡◌, ℕ, zero, suc, ◌+◌, ◌≤◌, ◌<◌, ◌++◌, ◌∷◌, [], ◌⊎◌, inl, inr, Bool, true, false, List, length, refl, ◌∙◌, sym, ap, subst, arith, append_assoc, append-nil, length-append}
-use Rattle.std.specs.Prelude.{◌==◌, not, ◌&&◌, if◌then◌else◌}
-use Rattle.std.specs.List.{list_all}
-use Rattle.std.proofs.lemmas.Bool.{false≢true, cases_eq, and_parts, and_from, and_left, and_right, and_cases, not-true, not_from_false, not_from_true}
+use Rattle.std.proofs.Common.{◌≡◌, ℕ, zero, suc, ◌+◌, ◌≤◌, ◌++◌, ◌∷◌, [], inl, inr, Bool, true, false, List, length, refl, ◌∙◌, sym, ap, subst, arith, append_assoc, append-nil, length-append}
+use Rattle.std.specs.Prelude.{not, ◌&&◌, if◌then◌else◌}
+use Rattle.std.proofs.lemmas.Bool.{false≢true, cases_eq, and_parts, and_from, not-true, not_from_false}
 use Rattle.std.proofs.lemmas.Grind.{common_steps}
 use Rattle.vms_queues.specs.declared.lock_mode.Mode.{Mode}
 use Rattle.vms_queues.specs.declared.held.Held.{Held}
-use Rattle.vms_queues.specs.Modes.{at_most}
-use Rattle.vms_queues.specs.Queues.{Queues, has_owner, fits, with_mode, moded, entry, covers, conversions_considered, requests_considered, is_free, passed, passes, considered, queue_length, conversions_wait, requests_wait, is_settled, is_grantable, with_lock, with_request, with_conversion}
+use Rattle.vms_queues.specs.Queues.{Queues, fits, with_mode, entry, conversions_considered, requests_considered, is_free, passed, passes, considered, queue_length, conversions_wait, requests_wait, is_settled, is_grantable, with_lock, with_request, with_conversion}
 
 -- a pass takes entries out of the queues and puts none in
 
