@@ -33,13 +33,14 @@ fn items_of_script(rt: HostRuntime) -> Result<(), Fail> {
 fn next_statements(rt: HostRuntime) {
     let mut at = 0;
     for place in PLACES {
+        assert!(rt; at <= SCRIPT.len());
         match next_statement(rt.alloc(), SCRIPT, at) {
             Ok(Parsed::Statement(_, next)) => {
-                assert!(rt; place == (0, 0) && next <= SCRIPT.len());
+                assert!(rt; place == (0, 0));
                 at = next;
             }
             Err(OrMemory::Other(fault)) => {
-                assert!(rt; place == (fault.line, fault.column) && fault.resume <= SCRIPT.len());
+                assert!(rt; place == (fault.line, fault.column));
                 at = fault.resume;
             }
             _ => assert!(rt; false),
