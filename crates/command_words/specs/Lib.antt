@@ -1,3 +1,4 @@
 pub mod Bytes
 pub mod Options
+pub mod Orders
 pub mod Words

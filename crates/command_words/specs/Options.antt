@@ -1,5 +1,5 @@
 -- The options of NEW.
-use Rattle.std.specs.Prelude.{ℕ, ◌≡◌, ◌≤◌, Bool, ◌&&◌, nat_le, List, length, codes, Option, Some, None, if◌then◌else◌}
+use Rattle.std.specs.Prelude.{ℕ, ◌≤◌, Bool, ◌&&◌, nat_le, List, length, codes, Option, Some, None, if◌then◌else◌}
 use Rattle.std.specs.List.{list_all}
 use Rattle.rdb_types.specs.declared.keys.Limits.{Limits}
 use Rattle.command_words.specs.Bytes.{is_digit, digits_from, behind}

@@ -1,12 +1,14 @@
 -- The words of the command line.
-use Rattle.std.specs.Prelude.{ℕ, Bool, true, false, ◌||◌, ◌&&◌, ◌-◌, nat_le, nat_eq, List, [], ◌∷◌, map, length, codes, bytes_eq, Option, Some, None, if◌then◌else◌}
+use Rattle.std.specs.Prelude.{◌≡◌, ◌≤◌, ℕ, Bool, true, false, ◌||◌, ◌&&◌, ◌+◌, ◌-◌, nat_le, nat_eq, List, [], ◌∷◌, map, length, codes, bytes_eq, slice_index_or, Option, Some, None, is_some, if◌then◌else◌}
 use Rattle.std.specs.List.{list_all}
 use Rattle.rdb_types.specs.declared.keys.Limits.{Limits}
 use Rattle.root_file.specs.Root.{IsAllowed}
 use Rattle.new_database.specs.New.{new_root}
-use Rattle.command_words.specs.Bytes.{is_letter, is_digit, upper_of}
+use Rattle.command_words.specs.Bytes.{is_letter, is_digit, upper_of, behind}
 use Rattle.command_words.specs.Options.{ask, limits_of, nothing_asked}
+use Rattle.command_words.specs.Orders.{is_order, sessions_in}
 use Rattle.command_words.specs.declared.options.Asked.{Asked}
+use Rattle.command_words.specs.declared.words.Scripts.{Scripts}
 use Rattle.command_words.specs.declared.words.Command.{Command}
 use Rattle.command_words.specs.declared.words.Command.TheVariants.{New, Rdo}
 
@@ -30,12 +32,33 @@ new_words a (w ∷ ws) =
     if nat_eq (length ws) 0 then (if is_database w then Some (limits_of a) else None)
     else elim (ask a w) [ None ↦ None | Some b ↦ new_words b ws ]
 
--- the words behind RDO: a database and a script
-abbrev pub is_rdo_words : List (List ℕ) → Bool
-is_rdo_words [] = false
-is_rdo_words (d ∷ []) = false
-is_rdo_words (d ∷ s ∷ []) = is_database d
-is_rdo_words (d ∷ s ∷ t ∷ rest) = false
+-- what a word says for `--ORDER`
+abbrev pub order_text : List ℕ → Option (List ℕ)
+order_text word = behind (codes "--ORDER=") word
+
+-- a database and 1 to 16 scripts, of which the first stands at this place
+abbrev pub scripts_at : ℕ → Bool → List (List ℕ) → Option Scripts
+scripts_at first has_order [] = None
+scripts_at first has_order (d ∷ scripts) =
+    if is_database d && (nat_le 1 (length scripts) && nat_le (length scripts) 16) then Some (record { first = first; count = length scripts; has_order = has_order }) else None
+
+-- the scripts, where the order is one of their sessions
+abbrev pub with_order : List ℕ → Option Scripts → Option Scripts
+with_order order None = None
+with_order order (Some s) = if is_order s.count order then Some s else None
+
+-- the words behind RDO: `--ORDER` or none, a database and its scripts
+abbrev pub rdo_from : Option (List ℕ) → List ℕ → List (List ℕ) → Option Scripts
+rdo_from None w ws = scripts_at 2 false (w ∷ ws)
+rdo_from (Some order) w ws = with_order order (scripts_at 3 true ws)
+
+abbrev pub rdo_words : List (List ℕ) → Option Scripts
+rdo_words [] = None
+rdo_words (w ∷ ws) = rdo_from (order_text w) w ws
+
+abbrev pub as_rdo : Option Scripts → Option Command
+as_rdo None = None
+as_rdo (Some s) = Some (Rdo s)
 
 abbrev pub as_new : Option Limits → Option Command
 as_new None = None
@@ -45,25 +68,57 @@ as_new (Some l) = Some (New l)
 abbrev pub command_of : List (List ℕ) → Option Command
 command_of [] = None
 command_of (c ∷ ws) =
-    if is_command (codes "RDO") c then (if is_rdo_words ws then Some Rdo else None)
+    if is_command (codes "RDO") c then as_rdo (rdo_words ws)
     else (if is_command (codes "NEW") c then as_new (new_words nothing_asked ws) else None)
 
 -- the place of the database's word
 abbrev pub place_for : ℕ → Option Command → Option ℕ
 place_for n None = None
-place_for n (Some Rdo) = Some 1
+place_for n (Some (Rdo s)) = Some (s.first - 1)
 place_for n (Some (New l)) = Some (n - 1)
 
 abbrev pub database_place : List (List ℕ) → Option ℕ
 database_place words = place_for (length words) (command_of words)
 
+abbrev pub first_word : List (List ℕ) → List ℕ
+first_word [] = []
+first_word (w ∷ ws) = w
+
 -- the database's word behind RDO
 abbrev pub word_of : List (List ℕ) → List ℕ
 word_of [] = []
 word_of (c ∷ []) = []
-word_of (c ∷ d ∷ ws) = d
+word_of (c ∷ w ∷ ws) = if is_some (order_text w) then first_word ws else w
 
--- the limits of a command are within their ranges
-abbrev pub IsAllowedCommand : Command → Type 0
-IsAllowedCommand (New limits) = IsAllowed (new_root limits)
-IsAllowedCommand Rdo = Unit {0}
+-- what `--ORDER` says behind a command word
+abbrev pub said_order : List (List ℕ) → Option (List ℕ)
+said_order [] = None
+said_order (c ∷ []) = None
+said_order (c ∷ w ∷ ws) = order_text w
+
+abbrev pub sessions_said : ℕ → Option (List ℕ) → List ℕ
+sessions_said sessions None = []
+sessions_said sessions (Some order) = sessions_in sessions order
+
+abbrev pub order_for : Option Command → Option (List ℕ) → List ℕ
+order_for None order = []
+order_for (Some (New l)) order = []
+order_for (Some (Rdo s)) order = sessions_said s.count order
+
+-- the sessions that `--ORDER` names, in order
+abbrev pub order_in : List (List ℕ) → List ℕ
+order_in words = order_for (command_of words) (said_order words)
+
+-- the scripts are the last words, 1 to 16 of them; the database's word stands in front of them
+pub record AreLast (words : List (List ℕ)) (s : Scripts) : Type 0 where
+  pub some : 1 ≤ s.count
+  pub few : s.count ≤ 16
+  pub behind_database : 2 ≤ s.first
+  pub last : s.first + s.count ≡ length words
+  pub database : slice_index_or words (s.first - 1) [] ≡ word_of words
+  pub order : s.has_order ≡ is_some (said_order words)
+
+-- the limits of a command are within their ranges, and its scripts within its words
+abbrev pub IsAllowedCommand : List (List ℕ) → Command → Type 0
+IsAllowedCommand words (New limits) = IsAllowed (new_root limits)
+IsAllowedCommand words (Rdo scripts) = AreLast words scripts

@@ -3,6 +3,7 @@
 
 mod bytes;
 mod options;
+mod orders;
 mod words;
 
-pub use words::{Command, command_of, database_word, script_words};
+pub use words::{Command, Scripts, command_of, database_word, order_of, script_words};

@@ -25,7 +25,7 @@ pub struct Asked {
 }
 
 /// A number from low to high.
-fn number_in(low: u32, high: u32, digits: &[u8]) -> Option<u32>
+pub fn number_in(low: u32, high: u32, digits: &[u8]) -> Option<u32>
     ensures value { result ≡ number_of_range low high digits.now }
     ensures range { InRange low high result }
 {

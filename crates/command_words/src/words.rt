@@ -1,22 +1,41 @@
 //! The rows of the table of commands.
-ghost use Rattle.std.specs.Prelude.{◌≡◌, ◌≢◌, ◌&&◌, None, Some, IfSome, codes};
+ghost use Rattle.std.specs.Prelude.{◌≡◌, ◌≢◌, ◌≤◌, ◌<◌, ◌+◌, ◌&&◌, None, Some, IfSome, IfOk, All, codes, length, slice_index_or, []};
 ghost use Rattle.std.specs.List.{list_all};
-ghost use Rattle.command_words.specs.Words.{is_database_byte as database_byte, is_database as database, is_command, database_place, new_words as new_of, is_rdo_words as rdo_words, command_of as command_for, IsAllowedCommand};
+ghost use Rattle.std.specs.Option.{option_copied};
+ghost use Rattle.command_words.specs.Words.{is_database_byte as database_byte, is_database as database, is_command, new_words as new_of};
+ghost use Rattle.command_words.specs.Words.{order_text as text_said, scripts_at as scripts_from, rdo_words as rdo_of, said_order as order_said};
+ghost use Rattle.command_words.specs.Words.{command_of as command_for, IsAllowedCommand, database_place, word_of, order_in};
 ghost use Rattle.command_words.specs.Options.{nothing_asked};
 ghost use Rattle.root_file.specs.Root.{IsAllowed};
 ghost use Rattle.new_database.specs.New.{new_root};
 
-use crate::bytes::{is_digit, is_letter, to_upper};
+use crate::bytes::{behind, is_digit, is_letter, to_upper};
 use crate::options::{Asked, ask, limits_of};
-use rdb_types::{Limits, Word};
+use crate::orders::{is_order, sessions_of};
+use rdb_types::{Items, Limits, NoMemory, Word};
+use std::alloc::Global;
+
+/// The most scripts that a command names.
+const MOST_SCRIPTS: usize = 16;
+
+/// Where the scripts of `RDO` stand among the words. The database's word stands in front of the first.
+#[derive(Clone, Copy, Debug, PartialEq, Eq)]
+pub struct Scripts {
+    /// The place of the first script's word.
+    pub first: usize,
+    /// How many scripts there are. Each is said by a session of its own.
+    pub count: u32,
+    /// Whether `--ORDER` is among the words.
+    pub has_order: bool,
+}
 
 /// A command, by its words.
 #[derive(Clone, Copy, Debug, PartialEq, Eq)]
 pub enum Command {
     /// `NEW [options] db` makes an empty database with these limits.
     New(Limits),
-    /// `RDO db script` says the script to the database.
-    Rdo,
+    /// `RDO [--ORDER=list] db script ...` says 1 to 16 scripts to the database.
+    Rdo(Scripts),
 }
 
 fn is_database_byte(b: u8) -> bool
@@ -92,29 +111,64 @@ fn new_words(words: &[Word]) -> Option<Limits>
     None
 }
 
-fn is_rdo_words(words: &[Word]) -> bool
-    ensures { result ≡ rdo_words words.now }
+/// What a word says for `--ORDER`.
+fn order_text(word: &[u8]) -> Option<&[u8]>
+    ensures { option_copied result ≡ text_said word.now }
+{
+    behind(b"--ORDER=", word)
+}
+
+/// A database and 1 to 16 scripts, of which the first stands at this place.
+fn scripts_at(first: usize, has_order: bool, words: &[Word]) -> Option<Scripts>
+    ensures { result ≡ scripts_from first has_order words.now }
 {
     match words {
-        [database, _] => is_database(database.as_slice()),
-        _ => false,
+        [] => None,
+        [database, scripts @ ..] => {
+            let is_good = is_database(database.as_slice());
+            let is_some = 1 <= scripts.len();
+            if is_good && is_some && scripts.len() <= MOST_SCRIPTS {
+                Some(Scripts {
+                    first,
+                    count: scripts.len() as u32,
+                    has_order,
+                })
+            } else {
+                None
+            }
+        }
+    }
+}
+
+/// The words behind RDO.
+fn rdo_words(words: &[Word]) -> Option<Scripts>
+    ensures { result ≡ rdo_of words.now }
+{
+    match words {
+        [] => None,
+        [word, rest @ ..] => match order_text(word.as_slice()) {
+            None => scripts_at(2, false, words),
+            Some(order) => match scripts_at(3, true, rest) {
+                Some(scripts) if is_order(scripts.count, order) => Some(scripts),
+                _ => None,
+            },
+        },
     }
 }
 
 /// The row of the table of commands that the words are.
 pub fn command_of(words: &[Word]) -> Option<Command>
     ensures row { result ≡ command_for words.now }
-    ensures allowed { IfSome result (λ command. IsAllowedCommand command) }
+    ensures allowed { IfSome result (λ command. IsAllowedCommand words.now command) }
 {
     match words {
         [] => None,
         [command, rest @ ..] => {
             let is_new = is_new(command.as_slice());
             if is_rdo(command.as_slice()) {
-                if is_rdo_words(rest) {
-                    Some(Command::Rdo)
-                } else {
-                    None
+                match rdo_words(rest) {
+                    Some(scripts) => Some(Command::Rdo(scripts)),
+                    None => None,
                 }
             } else if is_new {
                 match new_words(rest) {
@@ -130,10 +184,13 @@ pub fn command_of(words: &[Word]) -> Option<Command>
 
 /// The place of the database's word, and None exactly where the words are no row of the table.
 pub fn database_word(words: &[Word]) -> Option<usize>
-    ensures { result ≡ database_place words.now }
+    ensures place { result ≡ database_place words.now }
+    ensures within { IfSome result (λ at. at < length words.now) }
+    ensures word { (scripts : Scripts) → command_for words.now ≡ Some (Command.Rdo scripts) →
+        IfSome result (λ at. slice_index_or words.now at [] ≡ word_of words.now) }
 {
     match command_of(words) {
-        Some(Command::Rdo) => Some(1),
+        Some(Command::Rdo(scripts)) => Some(scripts.first.saturating_sub(1)),
         Some(Command::New(_)) => Some(words.len().saturating_sub(1)),
         None => None,
     }
@@ -141,11 +198,37 @@ pub fn database_word(words: &[Word]) -> Option<usize>
 
 /// The first place and the count of the script words, and (0, 0) where there are none.
 pub fn script_words(words: &[Word]) -> (usize, usize)
-    ensures none { command_for words.now ≢ Some Command.Rdo → result ≡ record { 0 = 0; 1 = 0 } }
-    ensures some { command_for words.now ≡ Some Command.Rdo → result ≡ record { 0 = 2; 1 = 1 } }
+    ensures none { ((scripts : Scripts) → command_for words.now ≢ Some (Command.Rdo scripts)) →
+        result ≡ record { 0 = 0; 1 = 0 } }
+    ensures some { (scripts : Scripts) → command_for words.now ≡ Some (Command.Rdo scripts) →
+        result ≡ record { 0 = scripts.first; 1 = scripts.count } }
+    ensures within { result.0 + result.1 ≤ length words.now }
 {
     match command_of(words) {
-        Some(Command::Rdo) => (2, 1),
+        Some(Command::Rdo(scripts)) => (scripts.first, scripts.count as usize),
         _ => (0, 0),
+    }
+}
+
+/// What `--ORDER` says behind a command word.
+fn said_order(words: &[Word]) -> Option<&[u8]>
+    ensures { option_copied result ≡ order_said words.now }
+{
+    match words {
+        [_, word, ..] => order_text(word.as_slice()),
+        _ => None,
+    }
+}
+
+/// The sessions that `--ORDER` names, in order: none where it isn't there, or the words are no row of the table.
+/// Err where memory is wanted.
+pub fn order_of(alloc: Global, words: &[Word]) -> Result<Items<u32>, NoMemory>
+    ensures order { IfOk result (λ order. order ≡ order_in words.now) }
+    ensures sessions { (scripts : Scripts) → command_for words.now ≡ Some (Command.Rdo scripts) →
+        IfOk result (λ order. All (λ s. (1 ≤ s) × (s ≤ scripts.count)) order) }
+{
+    match (command_of(words), said_order(words)) {
+        (Some(Command::Rdo(scripts)), Some(order)) => sessions_of(alloc, scripts.count, order),
+        _ => Ok(Items::new(alloc)),
     }
 }

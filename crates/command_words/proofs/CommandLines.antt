@@ -1,0 +1,85 @@
+-- Some command lines, worked.
+use Rattle.std.proofs.Common.{◌≡◌, ℕ, zero, suc, List, [], ◌∷◌, Option, Some, None, refl}
+use Rattle.std.specs.Prelude.{codes, replicate, ◌++◌, true, false}
+use Rattle.command_words.specs.Orders.{is_order}
+use Rattle.command_words.specs.Words.{command_of, database_place, word_of, order_in}
+use Rattle.command_words.specs.declared.words.Command.{Command}
+use Rattle.command_words.specs.declared.words.Command.TheVariants.{Rdo}
+
+-- `RDO --ORDER=1,2 PERS a b`
+in_turns : List (List ℕ)
+in_turns = codes "RDO" ∷ codes "--ORDER=1,2" ∷ codes "PERS" ∷ codes "a" ∷ codes "b" ∷ []
+
+in_turns-row : command_of in_turns ≡ Some (Rdo (record { first = 3; count = 2; has_order = true }))
+unfolding in_turns
+in_turns-row = refl
+
+in_turns-word : word_of in_turns ≡ codes "PERS"
+unfolding in_turns
+in_turns-word = refl
+
+in_turns-place : database_place in_turns ≡ Some 2
+unfolding in_turns
+in_turns-place = refl
+
+in_turns-order : order_in in_turns ≡ 1 ∷ 2 ∷ []
+unfolding in_turns
+in_turns-order = refl
+
+-- `RDO PERS a`
+without_order : command_of (codes "RDO" ∷ codes "PERS" ∷ codes "a" ∷ []) ≡ Some (Rdo (record { first = 2; count = 1; has_order = false }))
+without_order = refl
+
+-- Behind the database's word stand scripts: `rdo PERS --ORDER=1`
+named_like_an_option : command_of (codes "rdo" ∷ codes "PERS" ∷ codes "--ORDER=1" ∷ []) ≡ Some (Rdo (record { first = 2; count = 1; has_order = false }))
+named_like_an_option = refl
+
+in_small_letters : command_of (codes "Rdo" ∷ codes "--order=0000000001" ∷ codes "Pers" ∷ codes "a" ∷ []) ≡ Some (Rdo (record { first = 3; count = 1; has_order = true }))
+in_small_letters = refl
+
+-- sixteen scripts, and one more
+sixteen : command_of (codes "RDO" ∷ codes "PERS" ∷ replicate 16 (codes "a")) ≡ Some (Rdo (record { first = 2; count = 16; has_order = false }))
+sixteen = refl
+
+seventeen : command_of (codes "RDO" ∷ codes "PERS" ∷ replicate 17 (codes "a")) ≡ None
+seventeen = refl
+
+no_script : command_of (codes "RDO" ∷ codes "PERS" ∷ []) ≡ None
+no_script = refl
+
+-- orders of two sessions that are none
+empty : is_order 2 (codes "") ≡ false
+empty = refl
+
+empty_entry : is_order 2 (codes "1,,2") ≡ false
+empty_entry = refl
+
+third_session : is_order 2 (codes "3") ≡ false
+third_session = refl
+
+eleven_digits : is_order 2 (codes "00000000001") ≡ false
+eleven_digits = refl
+
+with_order : List ℕ → Option Command
+with_order word = command_of (codes "RDO" ∷ word ∷ codes "PERS" ∷ codes "a" ∷ codes "b" ∷ [])
+
+refused : (with_order (codes "--ORDER=") ≡ None) × (with_order (codes "--ORDER=1,,2") ≡ None) × (with_order (codes "--ORDER=3") ≡ None) × (with_order (codes "--ORDER=1,2,") ≡ None)
+unfolding with_order
+refused = (refl, refl, refl, refl)
+
+-- `--ORDER` twice
+twice : command_of (codes "RDO" ∷ codes "--ORDER=1" ∷ codes "--ORDER=1" ∷ codes "PERS" ∷ codes "a" ∷ []) ≡ None
+twice = refl
+
+-- a turn of session 1 behind so many others
+turns : ℕ → List ℕ
+turns zero = codes "1"
+turns (suc n) = codes "1," ++ turns n
+
+thousand : is_order 1 (turns 999) ≡ true
+unfolding turns
+thousand = refl
+
+one_more : is_order 1 (turns 1000) ≡ false
+unfolding turns
+one_more = refl
