@@ -1,0 +1,3 @@
+mod Upward
+mod Givens
+mod Reading

@@ -1,8 +1,29 @@
--- How a run ends.
-use Rattle.std.specs.Prelude.{◌≡◌, ◌⊎◌, ℕ, Bool, ◌∷◌, [], nat_eq}
-use Rattle.std.specs.List.{list_any}
+-- What a run says and writes, and how it ends.
+use Rattle.std.specs.Prelude.{◌≡◌, ◌⊎◌, ℕ, Bool, List, ◌∷◌, [], map, nat_eq, Option, None, Some}
+use Rattle.std.specs.List.{list_any, flat_map}
+use Rattle.rdo_ast.specs.declared.syntax.Item.{Item}
+use Rattle.rdo_parser.specs.Script.{script_items}
+use Rattle.rdb_drive.specs.Orders.{upward}
+use Rattle.rdb_account.specs.declared.event.Event.{Event}
+use Rattle.rdb_account.specs.Transcript.{transcript}
+use Rattle.command_words.specs.declared.words.Command.{Command}
+use Rattle.command_words.specs.declared.words.Command.TheVariants.{New, Rdo}
 use Rattle.script_streams.specs.declared.read.ReadStop.{ReadStop}
 use Rattle.script_streams.specs.declared.read.ReadStop.TheVariants.{Failed, OutOfMemory, TooLong}
+
+-- the items of the scripts of so many sessions, by the texts that are left for each
+abbrev pub scripts_of : (ℕ → List ℕ) → ℕ → List (List Item)
+scripts_of left sessions = map (λ s. script_items (left s)) (upward 1 sessions)
+
+-- what so many sessions write, one after another
+abbrev pub transcripts : ℕ → List Event → List ℕ
+transcripts sessions events = flat_map (λ s. transcript s events) (upward 1 sessions)
+
+-- the sessions of a command
+abbrev pub sessions_of : Option Command → ℕ
+sessions_of None = 0
+sessions_of (Some (New limits)) = 0
+sessions_of (Some (Rdo scripts)) = scripts.count
 
 -- the statuses at which every item was said
 abbrev pub IsWhole : ℕ → Type 0

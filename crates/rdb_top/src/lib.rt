@@ -1,6 +1,7 @@
 //! The top call: a command, by its words, over a disk, scripts and an output.
 #![tactic(auto)]
 
+mod scripts;
 mod top;
 
 pub use top::{Accounts, Finish, run};

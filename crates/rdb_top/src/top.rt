@@ -1,32 +1,33 @@
-ghost use Rattle.std.specs.Prelude.{◌≡◌, ◌⊎◌, ◌↔◌, ◌<◌, true, None, Some, ◌++◌, length, map, ℕ, List, [], IsTrue};
+ghost use Rattle.std.specs.Prelude.{◌≡◌, ◌⊎◌, ◌↔◌, ◌<◌, ◌≤◌, true, None, Some, ◌++◌, length, map, ℕ, List, [], All, IsTrue, IfOk, OnErr};
 ghost use Rattle.rdb_types.specs.declared.keys.Limits.{Limits};
 ghost use Rattle.rdb_outside.specs.Causes.{Rose};
 ghost use Rattle.rdb_outside.specs.Disk.{Image, LeftNow, LeavesOnly, Keeps};
 ghost use Rattle.root_file.specs.Root.{IsAllowed};
 ghost use Rattle.new_database.specs.Maker.{IsEmpty, HasRoot};
 ghost use Rattle.new_database.specs.New.{new_root, IsNewDatabase, IsNewDatabaseOrNone};
-ghost use Rattle.command_words.specs.Words.{command_of as command_for, word_of};
+ghost use Rattle.command_words.specs.declared.words.Scripts.{Scripts as GivenScripts};
+ghost use Rattle.command_words.specs.Words.{command_of as command_for, word_of, order_in, AreLast};
 ghost use Rattle.script_streams.specs.Fronts.{WritesFront};
-ghost use Rattle.rdo_ast.specs.declared.syntax.Item.{Item};
-ghost use Rattle.rdo_parser.specs.Script.{script_items};
+ghost use Rattle.rdb_drive.specs.Boards.{IsSession};
 ghost use Rattle.rdb_meaning.specs.Contents.{no_tables};
-ghost use Rattle.rdb_meaning.specs.Scripts.{fresh};
 ghost use Rattle.rdb_account.specs.Events.{event_of};
-ghost use Rattle.rdb_account.specs.Lone.{IsAnsweredFrom};
-ghost use Rattle.rdb_account.specs.Transcript.{transcript as transcript_of};
-ghost use Rattle.lone_session.specs.Lone.{SaysFront, SaysAll};
-ghost use Rattle.rdb_top.specs.Runs.{IsWhole, is_status, is_script_status, status_at};
+ghost use Rattle.rdb_account.specs.Legal.{IsLegal, AreWhole};
+ghost use Rattle.session_steps.specs.Openings.{opening};
+ghost use Rattle.cluster.specs.Turns.{KeepsTurns, is_session};
+ghost use Rattle.rdb_top.specs.Runs.{IsWhole, is_status, is_script_status, status_at, scripts_of, transcripts, sessions_of};
 
-use command_words::{Command, command_of};
-use lone_session::{no_tables, say};
+use crate::scripts::{read_scripts, write_transcripts};
+use cluster::{Cluster, Origin, Ran, no_tables, run_in_order};
+use command_words::{Command, Scripts, command_of, order_of};
 use new_database::{NewFault, make_new};
-use rdb_account::{Account, transcript};
+use rdb_account::Account;
 use rdb_drive::Gate;
 use rdb_outside::{Disk, Sink, Source};
-use rdb_types::{Bytes, Items, Limits, Session, Word};
-use rdo_parser::Script;
-use script_streams::{ReadStop, read_script, write_all};
+use rdb_types::{Copied, Items, Limits, NoMemory, Word};
+use script_streams::ReadStop;
+use session_steps::ItemQueue;
 use std::alloc::Global;
+use std::marker::Brand;
 use std::sync::Wait;
 use std::thread::Threads;
 
@@ -42,7 +43,7 @@ pub struct Finish<D> {
     pub earlier: Accounts,
 }
 
-/// How the one session ended.
+/// How the sessions ended.
 #[derive(Drop)]
 struct Ended {
     status: u8,
@@ -53,8 +54,6 @@ fn unsaid(alloc: Global, status: u8) -> Ended
     ensures status { result.status ≡ status }
     ensures opening { result.account.opening ≡ no_tables }
     ensures events { result.account.events ≡ [] }
-    ensures said { (items : List Item) → SaysFront items result.account.events }
-    ensures front { (taken : List ℕ) → WritesFront taken taken (transcript_of 1 result.account.events) }
 {
     Ended {
         status,
@@ -75,25 +74,6 @@ fn status_of(stop: ReadStop) -> u8
     }
 }
 
-/// Writes what the session was answered.
-fn write_transcript<K: Sink>(alloc: Global, account: &Account, session: Session, out: &mut K) -> u8
-    ensures status { (result ≡ 0) ⊎ (result ≡ 5) ⊎ (result ≡ 6) }
-    ensures whole { K.tells out.old ≡ true → result ≡ 0 →
-        K.taken out.new ≡ K.taken out.old ++ transcript_of session.number account.now.events }
-    ensures front { K.tells out.old ≡ true →
-        WritesFront (K.taken out.old) (K.taken out.new) (transcript_of session.number account.now.events) }
-    ensures cause { result ≡ 6 → Rose (K.faults out.old) (K.faults out.new) }
-{
-    let mut bytes = Bytes::new(alloc);
-    if transcript(account, session, &mut bytes).is_err() {
-        return 5;
-    }
-    match write_all(out, bytes.as_slice()) {
-        Ok(()) => 0,
-        Err(_) => 6,
-    }
-}
-
 /// What is handed back.
 fn ended_with<D>(alloc: Global, ended: Ended, disk: D) -> Finish<D>
     ensures status { result.status ≡ ended.status }
@@ -109,62 +89,110 @@ fn ended_with<D>(alloc: Global, ended: Ended, disk: D) -> Finish<D>
     }
 }
 
-/// Reads the script of the one session, says it and writes what it was answered.
-fn run_script<S: Source, K: Sink>(alloc: Global, word: &Word, scripts: &mut S, out: &mut K) -> Ended
-    ensures status { is_script_status result.status ≡ true }
-    ensures source { result.status ≡ 2 → Rose (S.faults scripts.old) (S.faults scripts.new) }
-    ensures sink { result.status ≡ 6 → Rose (K.faults out.old) (K.faults out.new) }
-    ensures long { S.tells scripts.old ≡ true → result.status ≡ 10 → 1048576 < length (S.left scripts.old 1) }
-    ensures too_long { S.tells scripts.old ≡ true → 1048576 < length (S.left scripts.old 1) →
-        (result.status ≡ 2) ⊎ (result.status ≡ 5) ⊎ (result.status ≡ 10) }
-    ensures opening { result.account.opening ≡ no_tables }
-    ensures answered { IsAnsweredFrom word.now 1 fresh (map event_of result.account.events) }
-    ensures said { S.tells scripts.old ≡ true → SaysFront (script_items (S.left scripts.old 1)) result.account.events }
-    ensures whole { S.tells scripts.old ≡ true → IsWhole result.status →
-        SaysAll (script_items (S.left scripts.old 1)) result.account.events }
-    ensures written { K.tells out.old ≡ true → result.status ≡ 0 →
-        K.taken out.new ≡ K.taken out.old ++ transcript_of 1 result.account.events }
-    ensures front { K.tells out.old ≡ true →
-        WritesFront (K.taken out.old) (K.taken out.new) (transcript_of 1 result.account.events) }
+// Runs the sessions of an origin.
+fn run_of<O: Origin, G: Gate>(
+    alloc: Global,
+    word: Word,
+    scripts: Vec<ItemQueue>,
+    sessions: u32,
+    order: &[u32],
+    gate: &G,
+) -> Result<Ran, NoMemory>
+    requires word { word ≡ O.word }
+    requires scripts { scripts.items ≡ O.scripts }
+    requires sessions { sessions ≡ length O.scripts }
+    requires few { sessions ≤ 16 }
+    requires entries { All (λ s. IsSession (length O.scripts) s) order.now }
+    ensures legal { IfOk result (λ ran. IsLegal (opening O.word O.scripts) (map event_of ran.events)) }
+    ensures whole { IfOk result (λ ran. ran.is_whole ≡ true → AreWhole (is_session (length O.scripts)) (opening O.word O.scripts) (map event_of ran.events)) }
+    ensures order { IfOk result (λ ran. ran.is_whole ≡ true → KeepsTurns (opening O.word O.scripts) (length O.scripts) order.now ran.events) }
 {
-    let text = match read_script(alloc, scripts, 1) {
-        Ok(text) => text,
-        Err(stop) => return unsaid(alloc, status_of(stop)),
+    let cluster: Cluster<O> = Cluster::start(alloc, word, scripts)?;
+    Ok(run_in_order(cluster, sessions, order, gate))
+}
+
+// The database's word.
+fn database_of(alloc: Global, words: &[Word], given: Scripts) -> Result<Word, NoMemory>
+    requires { AreLast words.now given }
+    ensures { IfOk result (λ word. word ≡ word_of words.now) }
+{
+    words[given.first - 1].copied(alloc)
+}
+
+// Says the items of the scripts to the database that the words name.
+fn say_scripts<G: Gate>(
+    alloc: Global,
+    words: &[Word],
+    given: Scripts,
+    scripts: Vec<ItemQueue>,
+    gate: &G,
+) -> Result<Ran, NoMemory>
+    requires row { command_for words.now ≡ Some (Command.Rdo given) }
+    requires last { AreLast words.now given }
+    requires count { length scripts.items ≡ given.count }
+    ensures legal { IfOk result (λ ran. IsLegal (opening (word_of words.now) scripts.items) (map event_of ran.events)) }
+    ensures whole { IfOk result (λ ran. ran.is_whole ≡ true → AreWhole (is_session given.count) (opening (word_of words.now) scripts.items) (map event_of ran.events)) }
+    ensures order { IfOk result (λ ran. ran.is_whole ≡ true → KeepsTurns (opening (word_of words.now) scripts.items) given.count (order_in words.now) ran.events) }
+{
+    let order = order_of(alloc, words)?;
+    let word = database_of(alloc, words, given)?;
+    run_of::<Brand, G>(alloc, word, scripts, given.count, order.as_slice(), gate)
+}
+
+// Writes what the sessions were answered, where all came to their ends.
+fn finish_scripts<K: Sink>(alloc: Global, ran: Ran, sessions: u32, out: &mut K) -> Ended
+    ensures status { (result.status ≡ 0) ⊎ (result.status ≡ 5) ⊎ (result.status ≡ 6) }
+    ensures opening { result.account.opening ≡ no_tables }
+    ensures events { result.account.events ≡ ran.events }
+    ensures whole { IsWhole result.status → ran.is_whole ≡ true }
+    ensures sink { result.status ≡ 6 → Rose (K.faults out.old) (K.faults out.new) }
+    ensures written { K.tells out.old ≡ true → result.status ≡ 0 → K.taken out.new ≡ K.taken out.old ++ transcripts sessions ran.events }
+    ensures front { K.tells out.old ≡ true → WritesFront (K.taken out.old) (K.taken out.new) (transcripts sessions ran.events) }
+{
+    let account = Account {
+        opening: no_tables(alloc),
+        events: ran.events,
     };
-    let session = Session { number: 1 };
-    let saying = say(alloc, word, session, Script::new(text.as_slice()));
-    let status = if saying.is_whole {
-        write_transcript(alloc, &saying.account, session, out)
+    let status = if ran.is_whole {
+        write_transcripts(alloc, &account, sessions, out)
     } else {
         5
     };
-    Ended {
-        status,
-        account: saying.account,
-    }
+    Ended { status, account }
 }
 
-/// Says the script to the database that the second word names.
-fn run_rdo<S: Source, K: Sink>(alloc: Global, words: &[Word], scripts: &mut S, out: &mut K) -> Ended
+// Reads the scripts, says them and writes what was answered.
+fn run_rdo<S: Source, K: Sink, G: Gate>(
+    alloc: Global,
+    words: &[Word],
+    given: Scripts,
+    scripts: &mut S,
+    out: &mut K,
+    gate: &G,
+) -> Ended
+    requires row { command_for words.now ≡ Some (Command.Rdo given) }
+    requires last { AreLast words.now given }
     ensures status { is_script_status result.status ≡ true }
     ensures source { result.status ≡ 2 → Rose (S.faults scripts.old) (S.faults scripts.new) }
     ensures sink { result.status ≡ 6 → Rose (K.faults out.old) (K.faults out.new) }
-    ensures long { S.tells scripts.old ≡ true → result.status ≡ 10 → 1048576 < length (S.left scripts.old 1) }
-    ensures too_long { S.tells scripts.old ≡ true → 1048576 < length (S.left scripts.old 1) →
+    ensures long { S.tells scripts.old ≡ true → result.status ≡ 10 → (s : ℕ) × IsSession given.count s × (1048576 < length (S.left scripts.old s)) }
+    ensures too_long { S.tells scripts.old ≡ true → (s : ℕ) → IsSession given.count s → 1048576 < length (S.left scripts.old s) →
         (result.status ≡ 2) ⊎ (result.status ≡ 5) ⊎ (result.status ≡ 10) }
     ensures opening { result.account.opening ≡ no_tables }
-    ensures answered { IsAnsweredFrom (word_of words.now) 1 fresh (map event_of result.account.events) }
-    ensures said { S.tells scripts.old ≡ true → SaysFront (script_items (S.left scripts.old 1)) result.account.events }
+    ensures legal { S.tells scripts.old ≡ true → IsLegal (opening (word_of words.now) (scripts_of (S.left scripts.old) given.count)) (map event_of result.account.events) }
     ensures whole { S.tells scripts.old ≡ true → IsWhole result.status →
-        SaysAll (script_items (S.left scripts.old 1)) result.account.events }
-    ensures written { K.tells out.old ≡ true → result.status ≡ 0 →
-        K.taken out.new ≡ K.taken out.old ++ transcript_of 1 result.account.events }
-    ensures front { K.tells out.old ≡ true →
-        WritesFront (K.taken out.old) (K.taken out.new) (transcript_of 1 result.account.events) }
+        AreWhole (is_session given.count) (opening (word_of words.now) (scripts_of (S.left scripts.old) given.count)) (map event_of result.account.events) }
+    ensures order { S.tells scripts.old ≡ true → IsWhole result.status →
+        KeepsTurns (opening (word_of words.now) (scripts_of (S.left scripts.old) given.count)) given.count (order_in words.now) result.account.events }
+    ensures written { K.tells out.old ≡ true → result.status ≡ 0 → K.taken out.new ≡ K.taken out.old ++ transcripts given.count result.account.events }
+    ensures front { K.tells out.old ≡ true → WritesFront (K.taken out.old) (K.taken out.new) (transcripts given.count result.account.events) }
 {
-    match words {
-        [_, word, ..] => run_script(alloc, word, scripts, out),
-        _ => run_script(alloc, &Word::new(alloc), scripts, out),
+    match read_scripts(alloc, scripts, given.count) {
+        Err(stop) => unsaid(alloc, status_of(stop)),
+        Ok(items) => match say_scripts(alloc, words, given, items, gate) {
+            Err(_) => unsaid(alloc, 5),
+            Ok(ran) => finish_scripts(alloc, ran, given.count, out),
+        },
     }
 }
 
@@ -188,7 +216,7 @@ fn run_new<D: Disk>(disk: &mut D, limits: Limits) -> u8
     }
 }
 
-/// Runs a command: `NEW` makes a database, `RDO` says a script.
+/// Runs a command: `NEW` makes a database, `RDO` says 1 to 16 scripts, each by a session of its own.
 pub fn run<R, D, S, K, G>(
     rt: &R,
     alloc: Global,
@@ -214,24 +242,28 @@ where
     ensures device { result.status ≡ 3 → Rose (D.view disk).faults (D.view result.disk).faults }
     // A call on the sink failed in this run.
     ensures sink { result.status ≡ 6 → Rose (K.faults out.old) (K.faults out.new) }
-    // The script is too long.
-    ensures long { S.tells scripts.old ≡ true → result.status ≡ 10 → 1048576 < length (S.left scripts.old 1) }
-    ensures too_long { S.tells scripts.old ≡ true → command_for words.now ≡ Some Command.Rdo → 1048576 < length (S.left scripts.old 1) →
+    // Some session's script is too long.
+    ensures long { S.tells scripts.old ≡ true → result.status ≡ 10 → (s : ℕ) × IsSession (sessions_of (command_for words.now)) s × (1048576 < length (S.left scripts.old s)) }
+    ensures too_long { S.tells scripts.old ≡ true → (s : ℕ) → IsSession (sessions_of (command_for words.now)) s → 1048576 < length (S.left scripts.old s) →
         (result.status ≡ 2) ⊎ (result.status ≡ 5) ⊎ (result.status ≡ 10) }
-    // The tables are empty at first, and each item is answered as it means, from where those before it led; want of memory aside.
+    // The tables are empty at first. The account is legal: it says the scripts' items, each answered as one thread in the order of
+    // the commits answers it, or refused for a cause that stands.
     ensures opening { result.account.opening ≡ no_tables }
-    ensures answered { IsAnsweredFrom (word_of words.now) 1 fresh (map event_of result.account.events) }
-    // What was said is the items of the script, or the first of them.
-    ensures said { S.tells scripts.old ≡ true → SaysFront (script_items (S.left scripts.old 1)) result.account.events }
-    ensures whole { S.tells scripts.old ≡ true → command_for words.now ≡ Some Command.Rdo → IsWhole result.status →
-        SaysAll (script_items (S.left scripts.old 1)) result.account.events }
-    // What was written is the transcript, or a front of it.
+    ensures legal { (given : GivenScripts) → command_for words.now ≡ Some (Command.Rdo given) → S.tells scripts.old ≡ true →
+        IsLegal (opening (word_of words.now) (scripts_of (S.left scripts.old) given.count)) (map event_of result.account.events) }
+    // Every session came to its script's end.
+    ensures whole { (given : GivenScripts) → command_for words.now ≡ Some (Command.Rdo given) → S.tells scripts.old ≡ true → IsWhole result.status →
+        AreWhole (is_session given.count) (opening (word_of words.now) (scripts_of (S.left scripts.old) given.count)) (map event_of result.account.events) }
+    // The events keep to the order that the words name.
+    ensures order { (given : GivenScripts) → command_for words.now ≡ Some (Command.Rdo given) → given.has_order ≡ true → S.tells scripts.old ≡ true → IsWhole result.status →
+        KeepsTurns (opening (word_of words.now) (scripts_of (S.left scripts.old) given.count)) given.count (order_in words.now) result.account.events }
+    // What was written are the transcripts in the order of the sessions, or a front of them.
     ensures written { K.tells out.old ≡ true → result.status ≡ 0 →
-        K.taken out.new ≡ K.taken out.old ++ transcript_of 1 result.account.events }
+        K.taken out.new ≡ K.taken out.old ++ transcripts (sessions_of (command_for words.now)) result.account.events }
     ensures front { K.tells out.old ≡ true →
-        WritesFront (K.taken out.old) (K.taken out.new) (transcript_of 1 result.account.events) }
+        WritesFront (K.taken out.old) (K.taken out.new) (transcripts (sessions_of (command_for words.now)) result.account.events) }
     // A script changes no file yet.
-    ensures disk { command_for words.now ≡ Some Command.Rdo → result.disk ≡ disk }
+    ensures disk { (given : GivenScripts) → command_for words.now ≡ Some (Command.Rdo given) → result.disk ≡ disk }
     // Every crash behind NEW leaves the new database.
     ensures made { (limits : Limits) → command_for words.now ≡ Some (Command.New limits) → result.status ≡ 0 →
         IsTrue (D.view disk).tells → IsEmpty (D.view disk) →
@@ -252,6 +284,12 @@ where
             let status = run_new(&mut disk, limits);
             ended_with(alloc, unsaid(alloc, status), disk)
         }
-        Some(Command::Rdo) => ended_with(alloc, run_rdo(alloc, words, scripts, out), disk),
+        Some(Command::Rdo(given)) => {
+            ended_with(
+                alloc,
+                run_rdo(alloc, words, given, scripts, out, gate),
+                disk,
+            )
+        }
     }
 }

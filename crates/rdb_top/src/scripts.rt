@@ -1,0 +1,102 @@
+//! The scripts of the sessions, read and written.
+ghost use Rattle.std.specs.Prelude.{◌≡◌, ◌≢◌, ◌≤◌, ◌<◌, ◌^◌, ◌⊎◌, ◌++◌, ℕ, true, length, IfOk, IsOk, OnOk, IsErrOf};
+ghost use Rattle.rdb_outside.specs.Causes.{Rose};
+ghost use Rattle.rdo_parser.specs.Script.{script_items};
+ghost use Rattle.rdb_drive.specs.Boards.{IsSession};
+ghost use Rattle.script_streams.specs.Fronts.{WritesFront};
+ghost use Rattle.rdb_top.specs.Runs.{scripts_of, transcripts};
+
+use rdb_account::{Account, transcript};
+use rdb_outside::{Sink, Source};
+use rdb_types::{Bytes, NoMemory, Session};
+use rdo_parser::Script;
+use script_streams::{ReadStop, read_script, write_all};
+use session_steps::ItemQueue;
+use std::alloc::Global;
+
+// The items of a script's text.
+fn items_of(alloc: Global, text: &[u8]) -> Result<ItemQueue, NoMemory>
+    requires { length text.now < 2 ^ 31 }
+    ensures { IfOk result (λ items. items ≡ script_items text.now) }
+{
+    let mut queue = ItemQueue::new(alloc);
+    let mut script = Script::new(text);
+    loop {
+        match script.next_item(alloc) {
+            Err(e) => return Err(e),
+            Ok(None) => return Ok(queue),
+            Ok(Some(item)) => queue.push(item)?,
+        }
+    }
+}
+
+// The items of a session's script.
+fn read_items<S: Source>(alloc: Global, source: &mut S, session: u32) -> Result<ItemQueue, ReadStop>
+    ensures items { S.tells source.old ≡ true → IfOk result (λ items. items ≡ script_items (S.left source.old session)) }
+    ensures told { S.tells source.new ≡ S.tells source.old }
+    ensures others { S.tells source.old ≡ true → (other : ℕ) → other ≢ session → S.left source.new other ≡ S.left source.old other }
+    ensures short { S.tells source.old ≡ true → IsOk result → length (S.left source.old session) ≤ 1048576 }
+    ensures long { S.tells source.old ≡ true → IsErrOf result ReadStop.TooLong → 1048576 < length (S.left source.old session) }
+    ensures later { S.faults source.old ≤ S.faults source.new }
+    ensures cause { IsErrOf result ReadStop.Failed → Rose (S.faults source.old) (S.faults source.new) }
+{
+    let text = read_script(alloc, source, session)?;
+    match items_of(alloc, text.as_slice()) {
+        Ok(items) => Ok(items),
+        Err(_) => Err(ReadStop::OutOfMemory),
+    }
+}
+
+/// The items of the scripts of the sessions from 1 to a count.
+pub fn read_scripts<S: Source>(
+    alloc: Global,
+    source: &mut S,
+    sessions: u32,
+) -> Result<Vec<ItemQueue>, ReadStop>
+    ensures items { S.tells source.old ≡ true → IfOk result (λ scripts. scripts.items ≡ scripts_of (S.left source.old) sessions) }
+    ensures length { IfOk result (λ scripts. length scripts.items ≡ sessions) }
+    ensures short { S.tells source.old ≡ true → IsOk result → (s : ℕ) → IsSession sessions s → length (S.left source.old s) ≤ 1048576 }
+    ensures long { S.tells source.old ≡ true → IsErrOf result ReadStop.TooLong → (s : ℕ) × IsSession sessions s × (1048576 < length (S.left source.old s)) }
+    ensures cause { IsErrOf result ReadStop.Failed → Rose (S.faults source.old) (S.faults source.new) }
+{
+    let mut scripts = Vec::new(alloc);
+    for done in 0..sessions {
+        let items = read_items(alloc, source, done + 1)?;
+        if scripts.push(items).is_err() {
+            return Err(ReadStop::OutOfMemory);
+        }
+    }
+    Ok(scripts)
+}
+
+// All transcripts, one after another.
+fn render_all(alloc: Global, account: &Account, sessions: u32) -> Result<Bytes, NoMemory>
+    ensures { IfOk result (λ bytes. bytes ≡ transcripts sessions account.now.events) }
+{
+    let mut bytes = Bytes::new(alloc);
+    for done in 0..sessions {
+        transcript(account, Session { number: done + 1 }, &mut bytes)?;
+    }
+    Ok(bytes)
+}
+
+/// Writes what the sessions were answered, in their order, and gives the status.
+pub fn write_transcripts<K: Sink>(
+    alloc: Global,
+    account: &Account,
+    sessions: u32,
+    out: &mut K,
+) -> u8
+    ensures status { (result ≡ 0) ⊎ (result ≡ 5) ⊎ (result ≡ 6) }
+    ensures whole { K.tells out.old ≡ true → result ≡ 0 → K.taken out.new ≡ K.taken out.old ++ transcripts sessions account.now.events }
+    ensures front { K.tells out.old ≡ true → WritesFront (K.taken out.old) (K.taken out.new) (transcripts sessions account.now.events) }
+    ensures cause { result ≡ 6 → Rose (K.faults out.old) (K.faults out.new) }
+{
+    match render_all(alloc, account, sessions) {
+        Err(_) => 5,
+        Ok(bytes) => match write_all(out, bytes.as_slice()) {
+            Ok(()) => 0,
+            Err(_) => 6,
+        },
+    }
+}

@@ -1,0 +1,11 @@
+pub mod Frame
+pub mod Turns
+pub mod Kept
+pub mod Saying
+pub mod Outside
+pub mod Reading
+pub mod Ending
+pub mod Writing
+pub mod Asking
+pub mod Starting
+pub mod Whole

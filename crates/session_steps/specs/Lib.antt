@@ -1,0 +1,5 @@
+pub mod Openings
+pub mod Members
+pub mod Happenings
+pub mod Right
+pub mod Steps
