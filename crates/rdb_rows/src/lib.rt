@@ -1,0 +1,9 @@
+//! Worked rows, run over objects in memory.
+#![tactic(auto)]
+
+#[cfg(test)]
+mod new_rows;
+#[cfg(test)]
+mod runs;
+#[cfg(test)]
+mod session_rows;

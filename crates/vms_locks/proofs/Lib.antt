@@ -1,0 +1,11 @@
+pub mod Nodes
+pub mod Walks
+pub mod Traces
+pub mod Queued
+pub mod Places
+pub mod Awake
+pub mod Granting
+pub mod Listing
+pub mod Used
+pub mod Requested
+pub mod Empty

@@ -1,0 +1,4 @@
+pub mod Walks
+pub mod Search
+pub mod Table
+pub mod Answers
