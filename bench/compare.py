@@ -7,6 +7,7 @@ import tempfile
 import time
 
 RDB = sys.argv[1]
+SESSIONS = 16
 ROUNDS = 5
 SQLITE = shutil.which("sqlite3")
 
@@ -33,6 +34,20 @@ def rdo_stores(count):
 def sql_stores(count):
     rows = "".join(f"INSERT INTO R VALUES ({n}, 'row {n}');\n" for n in range(count))
     return "BEGIN;\nCREATE TABLE R (A INTEGER, B TEXT);\n" + rows + "SELECT A, B FROM R;\nCOMMIT;\n"
+
+
+def rdo_session(number, count):
+    rows = "".join(f"STORE X IN R{number} USING X.A = {n}; END_STORE\n" for n in range(count))
+    head = f"START_TRANSACTION READ_WRITE\nDEFINE RELATION R{number}. A DATATYPE IS SIGNED LONGWORD. END R{number} RELATION.\n"
+    return head + rows + f"PRINT COUNT OF X IN R{number}\nCOMMIT\n"
+
+
+def sql_sessions(count):
+    text = ""
+    for number in range(SESSIONS):
+        rows = "".join(f"INSERT INTO R{number} VALUES ({n});\n" for n in range(count))
+        text += f"BEGIN;\nCREATE TABLE R{number} (A INTEGER);\n{rows}SELECT COUNT(*) FROM R{number};\nCOMMIT;\n"
+    return text
 
 
 def timed(words, text, folder):
@@ -79,8 +94,34 @@ def growth(name, make, small, large, folder):
     print(f"{name}: {large // small} times the work takes {times[1] / times[0]:.1f} times as long")
 
 
+def sessions(count, folder):
+    names = [f"s{number}" for number in range(SESSIONS)]
+    for number, name in enumerate(names):
+        with open(os.path.join(folder, name), "w") as out:
+            out.write(rdo_session(number, count))
+    return timed([RDB, "RDO", "PERS"] + names, b"", folder)
+
+
+def compare_sessions(count, folder):
+    ours, printed = sessions(count, folder)
+    if ours is None:
+        print("sessions: rdb failed")
+        return
+    line = f"{SESSIONS} sessions of {count} STOREs: rdb {ours * 1000:.1f} ms"
+    if SQLITE is not None:
+        theirs, answer = timed([SQLITE, ":memory:"], sql_sessions(count).encode(), folder)
+        if printed != answer:
+            print("sessions: the outputs differ")
+            return
+        line += f", sqlite3 {theirs * 1000:.1f} ms, ratio {ours / theirs:.2f}"
+    print(line)
+    fourfold, _ = sessions(4 * count, folder)
+    print(f"sessions: 4 times the work takes {fourfold / ours:.1f} times as long")
+
+
 with tempfile.TemporaryDirectory() as folder:
     compare("20,000 PRINTs", rdo_prints(20000), sql_prints(20000), folder)
     compare("10,000 STOREs and a FOR", rdo_stores(10000), sql_stores(10000), folder)
     growth("PRINTs", rdo_prints, 4000, 16000, folder)
     growth("STOREs", rdo_stores, 2500, 10000, folder)
+    compare_sessions(500, folder)

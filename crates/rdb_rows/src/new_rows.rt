@@ -1,5 +1,5 @@
 //! The statuses of NEW.
-use crate::runs::{Outcome, empty_disk, run_on, texts};
+use crate::runs::{Outcome, empty_disk, run_on};
 use rdb_types::NoMemory;
 use std::alloc::Global;
 use std::sync::Wait;
@@ -15,7 +15,7 @@ fn run_new<R: Threads + Wait + Sync>(
         rt,
         alloc,
         line,
-        texts(alloc, &[])?,
+        Vec::new(alloc),
         &[],
         &[],
         empty_disk(alloc, fails)?,
@@ -43,7 +43,7 @@ fn new_has_its_statuses(rt: HostRuntime) -> Result<(), NoMemory> {
         &rt,
         rt.alloc(),
         &["NEW", "P"],
-        texts(rt.alloc(), &[])?,
+        Vec::new(rt.alloc()),
         &[],
         &[],
         first.disk,

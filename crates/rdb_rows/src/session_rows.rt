@@ -138,7 +138,7 @@ fn words_are_refused(rt: HostRuntime) -> Result<(), NoMemory> {
             &rt,
             alloc,
             line,
-            texts(alloc, &[])?,
+            Vec::new(alloc),
             &[],
             &[],
             empty_disk(alloc, &[])?,
