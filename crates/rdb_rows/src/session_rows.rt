@@ -119,7 +119,6 @@ fn sessions_answer_by_turns(rt: HostRuntime) -> Result<(), NoMemory> {
 #[test]
 fn words_are_refused(rt: HostRuntime) -> Result<(), NoMemory> {
     for line in [
-        [].as_slice(),
         [""].as_slice(),
         ["RDO"].as_slice(),
         ["RDO", "PERS"].as_slice(),
