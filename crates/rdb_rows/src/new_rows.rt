@@ -37,8 +37,8 @@ fn new_has_its_statuses(rt: HostRuntime) -> Result<(), NoMemory> {
     for call in 1..=5u32 {
         assert_eq!(rt; run_new(&rt, rt.alloc(), &["NEW", "P"], &[call])?.status, 3);
     }
-    let first = run_new(&rt, rt.alloc(), &["NEW", "P"], &[6])?;
-    assert_eq!(rt; first.status, 0);
+    assert_eq!(rt; run_new(&rt, rt.alloc(), &["NEW", "P"], &[6])?.status, 0);
+    let first = run_new(&rt, rt.alloc(), &["NEW", "P"], &[])?;
     let again = run_on(
         &rt,
         rt.alloc(),
