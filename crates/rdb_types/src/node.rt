@@ -1,5 +1,5 @@
 /// What a lock is on.
-#[derive(Clone, Copy, Debug, PartialEq, Eq)]
+#[derive(Clone, Copy, Debug, PartialEq, Eq, Hash)]
 pub enum Level {
     Area,
     Range,
@@ -9,7 +9,7 @@ pub enum Level {
 }
 
 /// A resource of the lock tree: a logical area, one of its ranges or pages (`at` is its number), a line of a page, or the after-image journal.
-#[derive(Clone, Copy, Debug, PartialEq, Eq)]
+#[derive(Clone, Copy, Debug, PartialEq, Eq, Hash)]
 pub struct Node {
     pub level: Level,
     pub area: u32,

@@ -2,7 +2,7 @@
 use Rattle.std.proofs.Common.{◌≡◌, ℕ, Bool, true, false, ◌∙◌, ap}
 use Rattle.std.specs.Prelude.{◌==◌, if◌then◌else◌}
 use Rattle.std.proofs.lemmas.Bool.{or_parts, or_from}
-use Rattle.vms_locks.specs.declared.node.Node.{Node}
+use Rattle.rdb_types.specs.declared.node.Node.{Node}
 use Rattle.vms_queues.specs.declared.lock_mode.Mode.{Mode}
 use Rattle.vms_queues.specs.Queues.{Queues, is_queued, has_owner, entry, with_mode, with_lock, with_request, with_conversion, after_weaken}
 use Rattle.vms_queues.proofs.Entries.{has_owner-push}

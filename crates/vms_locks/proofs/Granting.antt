@@ -2,7 +2,7 @@
 use Rattle.std.proofs.Common.{◌≡◌, ℕ, ◌++◌, ◌∷◌, [], ◌⊎◌, inl, inr, Bool, true, false, ◌∙◌, sym, subst, List}
 use Rattle.std.specs.Prelude.{not, ◌==◌, if◌then◌else◌}
 use Rattle.std.proofs.lemmas.Bool.{false≢true, or_cases, or_left, or_right, or_from, eqb-true}
-use Rattle.vms_locks.specs.declared.node.Node.{Node}
+use Rattle.rdb_types.specs.declared.node.Node.{Node}
 use Rattle.vms_queues.specs.declared.lock_mode.Mode.{Mode}
 use Rattle.vms_queues.specs.declared.held.Held.{Held}
 use Rattle.vms_queues.specs.Queues.{Queues, is_queued, has_owner, is_absent, is_grantable, fits, covers, entry, with_mode, without, considered, with_lock, with_request, with_conversion, after_weaken, after_release, after_cancel}

@@ -2,11 +2,11 @@
 use Rattle.std.proofs.Common.{◌≡◌, ◌⊎◌, inl, inr, Bool, true, false, refl, sym, ◌∙◌, subst, rules}
 use Rattle.std.specs.Prelude.{◌==◌, ◌&&◌}
 use Rattle.std.proofs.lemmas.Bool.{false≢true, cases_Bool, and_parts, and_from, eqb-true, eq-eqb}
-use Rattle.vms_locks.specs.declared.node.Node.{Node}
-use Rattle.vms_locks.specs.declared.node.Level.{Level}
-use Rattle.vms_locks.specs.declared.node.Level.TheVariants.{Area, Range, Page, Line, Journal}
-use Rattle.vms_locks.specs.contracts.node.LevelPartialEq.TheImpl as level_eq
-use Rattle.vms_locks.specs.contracts.node.Level.{the_type}
+use Rattle.rdb_types.specs.declared.node.Node.{Node}
+use Rattle.rdb_types.specs.declared.node.Level.{Level}
+use Rattle.rdb_types.specs.declared.node.Level.TheVariants.{Area, Range, Page, Line, Journal}
+use Rattle.rdb_types.specs.contracts.node.LevelPartialEq.TheImpl as level_eq
+use Rattle.rdb_types.specs.contracts.node.Level.{the_type}
 use denote.Enum.Bare.{same_true}
 use Rattle.vms_locks.specs.Table.{same_node}
 

@@ -2,7 +2,7 @@
 use Rattle.std.proofs.Common.{◌≡◌, ℕ, ◌⊎◌, inl, inr, true, false, refl, ◌∙◌, sym, subst}
 use Rattle.std.specs.Prelude.{if◌then◌else◌}
 use Rattle.std.proofs.lemmas.Bool.{false≢true, cases_Bool}
-use Rattle.vms_locks.specs.declared.node.Node.{Node}
+use Rattle.rdb_types.specs.declared.node.Node.{Node}
 use Rattle.vms_queues.specs.Queues.{Queues, IsSound, is_settled, is_queued, considered}
 use Rattle.vms_queues.specs.Waits.{waits}
 use Rattle.vms_queues.proofs.Settled.{is_settled-considered}

@@ -1,6 +1,6 @@
 -- What a request is answered, and the table that it leaves.
 use Rattle.std.specs.Prelude.{◌≡◌, ℕ, Bool, true, false, List, Some}
-use Rattle.vms_locks.specs.declared.node.Node.{Node}
+use Rattle.rdb_types.specs.declared.node.Node.{Node}
 use Rattle.vms_queues.specs.declared.lock_mode.Mode.{Mode}
 use Rattle.vms_queues.specs.Queues.{Queues, is_grantable, ask_blockers, fits, blockers, first_of, with_lock, with_request, with_conversion, after_weaken}
 use Rattle.vms_locks.specs.declared.answer.Enq.{Enq}

@@ -2,8 +2,8 @@
 use Rattle.std.specs.Prelude.{◌≡◌, ℕ, Bool, true, false, unwrap_or, if◌then◌else◌, Some, List}
 use Rattle.std.specs.List.{list_any}
 use Rattle.std.specs.Map.{lookup, values_of}
-use Rattle.vms_locks.specs.declared.node.Node.{Node}
-use Rattle.vms_locks.specs.contracts.node.NodePartialEq.TheImpl as node_eq
+use Rattle.rdb_types.specs.declared.node.Node.{Node}
+use Rattle.rdb_types.specs.contracts.node.NodePartialEq.TheImpl as node_eq
 use Rattle.vms_queues.specs.declared.lock_mode.Mode.{Mode}
 use Rattle.vms_queues.specs.Queues.{Queues, IsSound, is_settled, is_queued, no_queues, has_owner, with_mode, with_request, with_conversion}
 use Rattle.vms_queues.specs.Waits.{waits}

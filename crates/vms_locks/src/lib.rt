@@ -4,14 +4,13 @@
 mod answer;
 mod cycles;
 mod locks;
-mod node;
 mod requests;
 mod table;
 mod waits;
 
 pub use answer::{Cycle, Enq};
 pub use locks::Locks;
-pub use node::{Level, Node};
+pub use rdb_types::{Level, Node};
 
 #[cfg(test)]
 mod tests;

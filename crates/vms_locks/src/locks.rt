@@ -4,11 +4,10 @@ ghost use Rattle.vms_locks.specs.Walks.{IsCycle, IsOnNoCycle};
 ghost use Rattle.vms_locks.specs.Table.{queues_at, WaitsIn, WaitsIf, IsAwake, AddsNoWait, IsLive, ChangesAt};
 ghost use Rattle.vms_locks.specs.Answers.{Answers, asking, converting};
 
-use crate::node::Node;
 use crate::table::{cancel_at, release_at, weaken_at};
 use crate::{Cycle, Enq, requests, waits};
 use indexmap::IndexMap;
-use rdb_types::NoMemory;
+use rdb_types::{NoMemory, Node};
 use std::alloc::Global;
 use std::marker::Model;
 use vms_queues::{Blockers, Mode, Resource};

@@ -4,11 +4,10 @@ ghost use Rattle.vms_locks.specs.Table.{queues_at, HasNoEmpty};
 ghost use Rattle.vms_locks.specs.Answers.{Answers, asking, converting};
 
 use crate::Enq;
-use crate::node::Node;
 use crate::table::{ask_at, conversion_blocker, convert_at, request_blocker};
 use crate::waits::cycle_if;
 use indexmap::IndexMap;
-use rdb_types::NoMemory;
+use rdb_types::{NoMemory, Node};
 use vms_queues::{Mode, Resource};
 
 // Asks a mode at the node. Only a request that closes no cycle of waits is queued.

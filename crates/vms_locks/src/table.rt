@@ -2,8 +2,8 @@ ghost use Rattle.std.specs.Prelude.{◌≡◌, true, false, is_none, OnOk, OnErr
 ghost use Rattle.vms_queues.specs.Queues.{is_absent, is_grantable, has_owner, covers, fits, blockers, ask_blockers, first_of, after_ask, after_convert, after_weaken, after_release, after_cancel};
 ghost use Rattle.vms_locks.specs.Table.{queues_at, ChangesAt, HasNoEmpty};
 
-use crate::node::Node;
 use indexmap::IndexMap;
+use rdb_types::Node;
 use std::alloc::AllocError;
 use vms_queues::{Mode, Resource};
 

@@ -1,7 +1,7 @@
 ghost use Rattle.std.specs.Prelude.{◌≡◌};
 
-use crate::node::{Level, Node};
 use crate::{Enq, Locks};
+use rdb_types::{Level, Node};
 use std::test::Fail;
 use vms_queues::Mode;
 

@@ -8,9 +8,8 @@ ghost use Rattle.vms_locks.specs.Table.{same_node, queues_at, requested, any_wai
 
 use crate::Cycle;
 use crate::cycles::find_cycle;
-use crate::node::Node;
 use indexmap::IndexMap;
-use rdb_types::NoMemory;
+use rdb_types::{NoMemory, Node};
 use std::alloc::AllocError;
 use vms_queues::{Mode, Resource, Wait};
 

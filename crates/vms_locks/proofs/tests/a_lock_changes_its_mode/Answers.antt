@@ -1,5 +1,5 @@
 use Rattle.std.proofs.Common.{◌≡◌, ◌∷◌, [], refl, inl, sym, subst, ap, ◌∙◌}
-use Rattle.vms_locks.specs.declared.node.Node.{Node}
+use Rattle.rdb_types.specs.declared.node.Node.{Node}
 use Rattle.vms_queues.specs.declared.lock_mode.Mode.TheVariants.{CR, PR}
 use Rattle.vms_queues.specs.Queues.{Queues, has_owner, covers, entry, with_lock, after_weaken}
 use Rattle.vms_locks.specs.Table.{Table, queues_at, IsAwake, ChangesAt}
