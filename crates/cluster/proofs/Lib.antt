@@ -5,3 +5,4 @@ pub mod Comings
 pub mod Taking
 pub mod Holding
 pub mod Ordered
+pub mod Crossing

@@ -16,5 +16,5 @@ mod writing;
 
 pub use cluster::{Cluster, no_tables};
 pub use origin::Origin;
-pub use run::{Ran, run_in_order};
+pub use run::{Ran, run_in_order, run_in_threads};
 pub use sessions::Turn;

@@ -7,3 +7,5 @@ mod new_rows;
 mod runs;
 #[cfg(test)]
 mod session_rows;
+#[cfg(test)]
+mod thread_rows;

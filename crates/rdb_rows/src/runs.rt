@@ -53,9 +53,24 @@ pub fn run_on<R: Threads + Wait + Sync>(
     sink_fails: &[u32],
     disk: MemoryDisk,
 ) -> Result<Outcome, NoMemory> {
+    let source = MemorySource::new(alloc, scripts, source_fails)?;
+    let out = MemorySink::new(alloc, 65536, sink_fails)?;
+    run_past(rt, alloc, line, source, out, disk, &OpenGate {})
+}
+
+/// The same past a gate.
+pub fn run_past<R: Threads + Wait + Sync, G: Gate + Sync>(
+    rt: &R,
+    alloc: Global,
+    line: &[&str],
+    source: MemorySource,
+    out: MemorySink,
+    disk: MemoryDisk,
+    gate: &G,
+) -> Result<Outcome, NoMemory> {
     let words = words(alloc, line)?;
-    let mut source = MemorySource::new(alloc, scripts, source_fails)?;
-    let mut out = MemorySink::new(alloc, 65536, sink_fails)?;
+    let mut source = source;
+    let mut out = out;
     let finish = run(
         rt,
         alloc,
@@ -63,7 +78,7 @@ pub fn run_on<R: Threads + Wait + Sync>(
         disk,
         &mut source,
         &mut out,
-        &OpenGate {},
+        gate,
     );
     Ok(Outcome {
         status: finish.status,

@@ -75,11 +75,6 @@ fn sessions_answer_by_turns(rt: HostRuntime) -> Result<(), NoMemory> {
             "7\n",
         ),
         (
-            ["RDO", "PERS", "s1", "s2"].as_slice(),
-            [WRITER, READER].as_slice(),
-            "7\n",
-        ),
-        (
             ["RDO", "--ORDER=2,1,2", "PERS", "s1", "s2"].as_slice(),
             [WRITER, READER].as_slice(),
             "%RDO-E-NOSUCH, A\n",

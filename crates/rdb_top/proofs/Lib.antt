@@ -1,3 +1,4 @@
 mod Upward
 mod Givens
 mod Reading
+mod Unsaid

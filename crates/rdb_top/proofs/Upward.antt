@@ -1,5 +1,5 @@
 -- The sessions from 1 on, one more.
-use Rattle.std.proofs.Common.{◌≡◌, ℕ, zero, suc, ◌+◌, ◌++◌, ◌∷◌, [], List, ◌∙◌, ap, arith, map}
+use Rattle.std.proofs.Common.{◌≡◌, ℕ, zero, suc, ◌+◌, ◌++◌, ◌∷◌, [], List, length, refl, ◌∙◌, ap, arith, map}
 use Rattle.std.proofs.lemmas.List.{map-append, append-nil}
 use Rattle.std.proofs.lemmas.Grind.{flat_map-append}
 use Rattle.std.specs.List.{flat_map}
@@ -36,3 +36,10 @@ scripts-more left n =
     ap (λ k. scripts_of left k) (plus-one n)
     ∙ (ap (λ ks. map (λ s. script_items (left s)) ks) (upward-more 1 n ∙ ap (λ k. upward 1 n ++ k ∷ []) (one-behind n))
     ∙ map-append (λ s. script_items (left s)) (upward 1 n) ((n + 1) ∷ []))
+
+scripts-from : (left : ℕ → List ℕ) (first n : ℕ) → length (map (λ s. script_items (left s)) (upward first n)) ≡ n
+scripts-from left first zero = refl
+scripts-from left first (suc n) = ap suc (scripts-from left (first + 1) n)
+
+pub scripts-length : (left : ℕ → List ℕ) (n : ℕ) → length (scripts_of left n) ≡ n
+scripts-length left n = scripts-from left 1 n

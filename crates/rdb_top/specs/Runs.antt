@@ -1,11 +1,16 @@
 -- What a run says and writes, and how it ends.
-use Rattle.std.specs.Prelude.{◌≡◌, ◌⊎◌, ℕ, Bool, List, ◌∷◌, [], map, nat_eq, Option, None, Some}
+use Rattle.std.specs.Prelude.{◌≡◌, ◌⊎◌, ℕ, Bool, true, List, ◌∷◌, [], map, length, nat_eq, Option, None, Some}
 use Rattle.std.specs.List.{list_any, flat_map}
 use Rattle.rdo_ast.specs.declared.syntax.Item.{Item}
 use Rattle.rdo_parser.specs.Script.{script_items}
 use Rattle.rdb_drive.specs.Orders.{upward}
 use Rattle.rdb_account.specs.declared.event.Event.{Event}
+use Rattle.rdb_account.specs.Events.{event_of}
+use Rattle.rdb_account.specs.Legal.{IsLegal, AreWhole}
 use Rattle.rdb_account.specs.Transcript.{transcript}
+use Rattle.session_steps.specs.Openings.{opening}
+use Rattle.cluster.specs.Turns.{KeepsTurns, is_session}
+use Rattle.command_words.specs.declared.words.Scripts.{Scripts}
 use Rattle.command_words.specs.declared.words.Command.{Command}
 use Rattle.command_words.specs.declared.words.Command.TheVariants.{New, Rdo}
 use Rattle.script_streams.specs.declared.read.ReadStop.{ReadStop}
@@ -28,6 +33,17 @@ sessions_of (Some (Rdo scripts)) = scripts.count
 -- the statuses at which every item was said
 abbrev pub IsWhole : ℕ → Type 0
 IsWhole status = (status ≡ 0) ⊎ (status ≡ 6)
+
+-- the account of a run of these scripts' items is legal, whole where every item was said, and keeps to the order where there is one
+abbrev pub IsRun : List ℕ → Scripts → List ℕ → ℕ → List Event → List (List Item) → Type 0
+IsRun word given order status events scripts =
+    IsLegal (opening word scripts) (map event_of events)
+    × (IsWhole status → AreWhole (is_session given.count) (opening word scripts) (map event_of events))
+    × (given.has_order ≡ true → IsWhole status → KeepsTurns (opening word scripts) given.count order events)
+
+-- there are so many scripts of which it holds: where the source tells them, its own
+abbrev pub OfSomeScripts : ℕ → Type 0 → List (List Item) → (List (List Item) → Type 0) → Type 0
+OfSomeScripts sessions Tells own Holds = (scripts : List (List Item)) × (length scripts ≡ sessions) × (Tells → scripts ≡ own) × Holds scripts
 
 abbrev pub is_status : ℕ → Bool
 is_status n = list_any (nat_eq n) (0 ∷ 1 ∷ 2 ∷ 3 ∷ 5 ∷ 6 ∷ 9 ∷ 10 ∷ [])

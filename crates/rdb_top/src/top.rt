@@ -14,10 +14,10 @@ ghost use Rattle.rdb_account.specs.Events.{event_of};
 ghost use Rattle.rdb_account.specs.Legal.{IsLegal, AreWhole};
 ghost use Rattle.session_steps.specs.Openings.{opening};
 ghost use Rattle.cluster.specs.Turns.{KeepsTurns, is_session};
-ghost use Rattle.rdb_top.specs.Runs.{IsWhole, is_status, is_script_status, status_at, scripts_of, transcripts, sessions_of};
+ghost use Rattle.rdb_top.specs.Runs.{IsWhole, IsRun, OfSomeScripts, is_status, is_script_status, status_at, scripts_of, transcripts, sessions_of};
 
 use crate::scripts::{read_scripts, write_transcripts};
-use cluster::{Cluster, Origin, Ran, no_tables, run_in_order};
+use cluster::{Cluster, Origin, Ran, no_tables, run_in_order, run_in_threads};
 use command_words::{Command, Scripts, command_of, order_of};
 use new_database::{NewFault, make_new};
 use rdb_account::Account;
@@ -27,7 +27,7 @@ use rdb_types::{Copied, Items, Limits, NoMemory, Word};
 use script_streams::ReadStop;
 use session_steps::ItemQueue;
 use std::alloc::Global;
-use std::marker::Brand;
+use std::marker::{Brand, Send};
 use std::sync::Wait;
 use std::thread::Threads;
 
@@ -89,26 +89,31 @@ fn ended_with<D>(alloc: Global, ended: Ended, disk: D) -> Finish<D>
     }
 }
 
-// Runs the sessions of an origin.
-fn run_of<O: Origin, G: Gate>(
+// Runs the sessions of an origin: by the order, where the words have one, else in threads.
+fn run_of<R: Threads + Wait + Sync, O: Origin + Send, G: Gate + Sync>(
+    rt: &R,
     alloc: Global,
     word: Word,
     scripts: Vec<ItemQueue>,
-    sessions: u32,
+    given: Scripts,
     order: &[u32],
     gate: &G,
 ) -> Result<Ran, NoMemory>
     requires word { word ≡ O.word }
     requires scripts { scripts.items ≡ O.scripts }
-    requires sessions { sessions ≡ length O.scripts }
-    requires few { sessions ≤ 16 }
+    requires sessions { given.count ≡ length O.scripts }
+    requires few { given.count ≤ 16 }
     requires entries { All (λ s. IsSession (length O.scripts) s) order.now }
     ensures legal { IfOk result (λ ran. IsLegal (opening O.word O.scripts) (map event_of ran.events)) }
     ensures whole { IfOk result (λ ran. ran.is_whole ≡ true → AreWhole (is_session (length O.scripts)) (opening O.word O.scripts) (map event_of ran.events)) }
-    ensures order { IfOk result (λ ran. ran.is_whole ≡ true → KeepsTurns (opening O.word O.scripts) (length O.scripts) order.now ran.events) }
+    ensures order { IfOk result (λ ran. given.has_order ≡ true → ran.is_whole ≡ true → KeepsTurns (opening O.word O.scripts) (length O.scripts) order.now ran.events) }
 {
     let cluster: Cluster<O> = Cluster::start(alloc, word, scripts)?;
-    Ok(run_in_order(cluster, sessions, order, gate))
+    if given.has_order {
+        Ok(run_in_order(cluster, given.count, order, gate))
+    } else {
+        Ok(run_in_threads(rt, cluster, given.count, gate))
+    }
 }
 
 // The database's word.
@@ -120,7 +125,8 @@ fn database_of(alloc: Global, words: &[Word], given: Scripts) -> Result<Word, No
 }
 
 // Says the items of the scripts to the database that the words name.
-fn say_scripts<G: Gate>(
+fn say_scripts<R: Threads + Wait + Sync, G: Gate + Sync>(
+    rt: &R,
     alloc: Global,
     words: &[Word],
     given: Scripts,
@@ -132,11 +138,11 @@ fn say_scripts<G: Gate>(
     requires count { length scripts.items ≡ given.count }
     ensures legal { IfOk result (λ ran. IsLegal (opening (word_of words.now) scripts.items) (map event_of ran.events)) }
     ensures whole { IfOk result (λ ran. ran.is_whole ≡ true → AreWhole (is_session given.count) (opening (word_of words.now) scripts.items) (map event_of ran.events)) }
-    ensures order { IfOk result (λ ran. ran.is_whole ≡ true → KeepsTurns (opening (word_of words.now) scripts.items) given.count (order_in words.now) ran.events) }
+    ensures order { IfOk result (λ ran. given.has_order ≡ true → ran.is_whole ≡ true → KeepsTurns (opening (word_of words.now) scripts.items) given.count (order_in words.now) ran.events) }
 {
     let order = order_of(alloc, words)?;
     let word = database_of(alloc, words, given)?;
-    run_of::<Brand, G>(alloc, word, scripts, given.count, order.as_slice(), gate)
+    run_of::<R, Brand, G>(rt, alloc, word, scripts, given, order.as_slice(), gate)
 }
 
 // Writes what the sessions were answered, where all came to their ends.
@@ -162,7 +168,8 @@ fn finish_scripts<K: Sink>(alloc: Global, ran: Ran, sessions: u32, out: &mut K) 
 }
 
 // Reads the scripts, says them and writes what was answered.
-fn run_rdo<S: Source, K: Sink, G: Gate>(
+fn run_rdo<R: Threads + Wait + Sync, S: Source, K: Sink, G: Gate + Sync>(
+    rt: &R,
     alloc: Global,
     words: &[Word],
     given: Scripts,
@@ -179,17 +186,19 @@ fn run_rdo<S: Source, K: Sink, G: Gate>(
     ensures too_long { S.tells scripts.old ≡ true → (s : ℕ) → IsSession given.count s → 1048576 < length (S.left scripts.old s) →
         (result.status ≡ 2) ⊎ (result.status ≡ 5) ⊎ (result.status ≡ 10) }
     ensures opening { result.account.opening ≡ no_tables }
+    ensures account { OfSomeScripts given.count (S.tells scripts.old ≡ true) (scripts_of (S.left scripts.old) given.count)
+        (IsRun (word_of words.now) given (order_in words.now) result.status result.account.events) }
     ensures legal { S.tells scripts.old ≡ true → IsLegal (opening (word_of words.now) (scripts_of (S.left scripts.old) given.count)) (map event_of result.account.events) }
     ensures whole { S.tells scripts.old ≡ true → IsWhole result.status →
         AreWhole (is_session given.count) (opening (word_of words.now) (scripts_of (S.left scripts.old) given.count)) (map event_of result.account.events) }
-    ensures order { S.tells scripts.old ≡ true → IsWhole result.status →
+    ensures order { given.has_order ≡ true → S.tells scripts.old ≡ true → IsWhole result.status →
         KeepsTurns (opening (word_of words.now) (scripts_of (S.left scripts.old) given.count)) given.count (order_in words.now) result.account.events }
     ensures written { K.tells out.old ≡ true → result.status ≡ 0 → K.taken out.new ≡ K.taken out.old ++ transcripts given.count result.account.events }
     ensures front { K.tells out.old ≡ true → WritesFront (K.taken out.old) (K.taken out.new) (transcripts given.count result.account.events) }
 {
     match read_scripts(alloc, scripts, given.count) {
         Err(stop) => unsaid(alloc, status_of(stop)),
-        Ok(items) => match say_scripts(alloc, words, given, items, gate) {
+        Ok(items) => match say_scripts(rt, alloc, words, given, items, gate) {
             Err(_) => unsaid(alloc, 5),
             Ok(ran) => finish_scripts(alloc, ran, given.count, out),
         },
@@ -246,9 +255,14 @@ where
     ensures long { S.tells scripts.old ≡ true → result.status ≡ 10 → (s : ℕ) × IsSession (sessions_of (command_for words.now)) s × (1048576 < length (S.left scripts.old s)) }
     ensures too_long { S.tells scripts.old ≡ true → (s : ℕ) → IsSession (sessions_of (command_for words.now)) s → 1048576 < length (S.left scripts.old s) →
         (result.status ≡ 2) ⊎ (result.status ≡ 5) ⊎ (result.status ≡ 10) }
-    // The tables are empty at first. The account is legal: it says the scripts' items, each answered as one thread in the order of
-    // the commits answers it, or refused for a cause that stands.
+    // The tables are empty at first.
     ensures opening { result.account.opening ≡ no_tables }
+    // There are scripts, those of the source where it tells them, for which the account is that of a run of them.
+    ensures account { (given : GivenScripts) → command_for words.now ≡ Some (Command.Rdo given) →
+        OfSomeScripts given.count (S.tells scripts.old ≡ true) (scripts_of (S.left scripts.old) given.count)
+        (IsRun (word_of words.now) given (order_in words.now) result.status result.account.events) }
+    // The account is legal: it says the scripts' items, each answered as one thread in the order of the commits answers it, or
+    // refused for a cause that stands.
     ensures legal { (given : GivenScripts) → command_for words.now ≡ Some (Command.Rdo given) → S.tells scripts.old ≡ true →
         IsLegal (opening (word_of words.now) (scripts_of (S.left scripts.old) given.count)) (map event_of result.account.events) }
     // Every session came to its script's end.
@@ -287,7 +301,7 @@ where
         Some(Command::Rdo(given)) => {
             ended_with(
                 alloc,
-                run_rdo(alloc, words, given, scripts, out, gate),
+                run_rdo(rt, alloc, words, given, scripts, out, gate),
                 disk,
             )
         }

@@ -2,7 +2,7 @@ use Rattle.std.proofs.Common.{◌∙◌, sym}
 use Rattle.rdb_top.proofs.top.say_scripts.Goals as goal
 
 pub run_of-requires-clause-entries : goal.run_of-requires-clause-entries
-run_of-requires-clause-entries g c = rw c.requires.count (rw c.as_slice.ensures (c.in_ok-order.ensures.sessions c.args.given c.requires.row))
+run_of-requires-clause-entries g c κs l = rw c.requires.count (rw c.as_slice.ensures (c.in_ok-order.ensures.sessions c.args.given c.requires.row))
 
 pub returns-clause-legal : goal.returns-clause-legal
 returns-clause-legal g c = rw (sym c.in_ok-word.ensures) c.run_of.ensures.legal
