@@ -1,4 +1,4 @@
-"""Compares rdb with the sqlite3 shell. Each work is run several times; the best time of each counts."""
+"""Compares rdb with the sqlite3 shell, and its disk with plain C. Each work is run several times; the best time of each counts."""
 import os
 import shutil
 import subprocess
@@ -119,9 +119,28 @@ def compare_sessions(count, folder):
     print(f"sessions: 4 times the work takes {fourfold / ours:.1f} times as long")
 
 
+def compare_disks(writes, barriers, folder):
+    ours_at = os.path.join(os.path.dirname(RDB), "..", "..", "disk_bench", "out", "disk_bench")
+    compiler = shutil.which("gcc") or shutil.which("cc")
+    if not os.path.exists(ours_at) or compiler is None:
+        print("disk: skipped, disk_bench isn't built (rt run in crates/disk_bench) or there is no C compiler")
+        return
+    theirs_at = os.path.join(folder, "disk")
+    source = os.path.join(os.path.dirname(os.path.abspath(__file__)), "disk.c")
+    subprocess.run([compiler, "-O2", "-o", theirs_at, source], check=True)
+    words = [str(writes), str(barriers)]
+    ours, printed = timed([os.path.abspath(ours_at)] + words, b"", folder)
+    theirs, answer = timed([theirs_at] + words, b"", folder)
+    if ours is None or theirs is None or printed != answer:
+        print("disk: a program failed")
+        return
+    print(f"{writes} slot writes and {barriers} barriers: rdb {ours * 1000:.1f} ms, C {theirs * 1000:.1f} ms, ratio {ours / theirs:.2f}")
+
+
 with tempfile.TemporaryDirectory() as folder:
     compare("20,000 PRINTs", rdo_prints(20000), sql_prints(20000), folder)
     compare("10,000 STOREs and a FOR", rdo_stores(10000), sql_stores(10000), folder)
     growth("PRINTs", rdo_prints, 4000, 16000, folder)
     growth("STOREs", rdo_stores, 2500, 10000, folder)
     compare_sessions(500, folder)
+    compare_disks(10000, 1000, folder)
