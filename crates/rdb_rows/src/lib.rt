@@ -2,6 +2,8 @@
 #![tactic(auto)]
 
 #[cfg(test)]
+mod language_rows;
+#[cfg(test)]
 mod new_rows;
 #[cfg(test)]
 mod runs;
