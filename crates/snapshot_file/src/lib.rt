@@ -2,5 +2,7 @@
 #![tactic(auto)]
 
 mod entry;
+mod free;
 
 pub use entry::{SnapEntry, one_entry, put_entry, read_entry};
+pub use free::{Free, SnapFull};
