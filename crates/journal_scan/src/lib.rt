@@ -1,0 +1,10 @@
+//! The whole groups of an after-image journal, which are read slot by slot, and the room that is left for more.
+#![tactic(auto)]
+
+mod full;
+mod group;
+mod scan;
+
+pub use full::{AijFull, room};
+pub use group::{Group, GroupLines, Groups};
+pub use scan::{Begun, Scan, Stage, Turn};
