@@ -1,11 +1,7 @@
--- The whole groups of a journal, read slot by slot.
-use Rattle.std.specs.Prelude.{◌≡◌, ℕ, ◌+◌, ◌-◌, ◌==◌, ◌&&◌, nat_lt, Bool, true, List, [], ◌∷◌, ◌++◌, length, slice_get, Option, Some, None, if◌then◌else◌}
-use Rattle.std.specs.Ordering.{is_lt}
-use Rattle.rdb_types.specs.declared.keys.Dbkey.{Dbkey}
-use Rattle.ordered_entries.specs.Order.{dbkey_order}
+-- A journal read slot by slot.
+use Rattle.std.specs.Prelude.{ℕ, ◌+◌, ◌-◌, ◌==◌, ◌&&◌, nat_lt, Bool, List, [], ◌∷◌, ◌++◌, length, slice_get, Option, Some, None, if◌then◌else◌}
 use Rattle.aij_journal.specs.declared.part.GroupLine.{GroupLine}
 use Rattle.aij_journal.specs.declared.part.AijPart.{AijPart}
-use Rattle.aij_journal.specs.Part.{IsPart}
 use Rattle.journal_scan.specs.declared.group.Group.{Group}
 use Rattle.journal_scan.specs.declared.scan.Begun.{Begun}
 use Rattle.journal_scan.specs.declared.scan.Scan.{Scan}
@@ -13,11 +9,7 @@ use Rattle.journal_scan.specs.declared.scan.Stage.{Stage}
 use Rattle.journal_scan.specs.declared.scan.Stage.TheVariants.{Between, Within, Ended}
 use Rattle.journal_scan.specs.declared.scan.Turn.{Turn}
 use Rattle.journal_scan.specs.declared.scan.Turn.TheVariants as turn
-
--- what stands in a slot behind the header: one of a group's slots, or none
-abbrev pub Holds : List ℕ → Option AijPart → Type 0
-Holds slot None = (part : AijPart) → IsPart slot part → ⊥
-Holds slot (Some part) = IsPart slot part
+use Rattle.journal_scan.specs.Whole.{is_above}
 
 -- reading begins at a slot, with the group of this number
 abbrev pub begins_at : ℕ → ℕ → Scan
@@ -37,14 +29,9 @@ with_line line b = record b { lines = b.lines ++ line ∷ [] }
 abbrev pub is_next : Begun → AijPart → Bool
 is_next b part = (part.tsn.number == b.tsn.number) && (part.count == b.count) && (part.index == length b.lines)
 
--- its after-images are in ascending order of their Dbkeys
-abbrev pub is_behind : Dbkey → Option GroupLine → Bool
-is_behind key None = true
-is_behind key (Some last) = is_lt (dbkey_order last.key key)
-
--- a line that may come next: the slot isn't the last of the count
+-- the line may come next: its slot is not the last of the count, and its Dbkey is above that of the line before
 abbrev pub grows_by : Begun → GroupLine → Bool
-grows_by b line = nat_lt (length b.lines + 1) b.count && is_behind line.key (slice_get b.lines (length b.lines - 1))
+grows_by b line = nat_lt (length b.lines + 1) b.count && is_above line.key (slice_get b.lines (length b.lines - 1))
 
 -- the commit comes next: its slot is the last of the count
 abbrev pub closes : Begun → Bool

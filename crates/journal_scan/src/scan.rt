@@ -1,7 +1,8 @@
 // The state machine that the slots behind the header are given to.
 ghost use Rattle.std.specs.Prelude.{◌≡◌, ◌<◌, ◌≤◌, ◌+◌, ◌^◌, Option, Some, None, length, IfOk, OnOk, OnErr};
 ghost use Rattle.aij_journal.specs.declared.part.AijPart.{AijPart as Part};
-ghost use Rattle.journal_scan.specs.Reading.{Holds, begins_at, read, read_all, ended, turn_at, slot_at, no_lines, is_next as is_next_in, closes as closes_in, grows_by as grows_by_in, grown, closed};
+ghost use Rattle.journal_scan.specs.Whole.{Holds};
+ghost use Rattle.journal_scan.specs.Reading.{begins_at, read, read_all, ended, turn_at, slot_at, no_lines, is_next as is_next_in, grows_by as grows_by_in, grown, closed};
 
 use crate::{Group, GroupLines, Groups};
 use aij_journal::{AijPart, GroupLine, read_slot};
