@@ -1,1 +1,5 @@
 pub mod Written
+pub mod Found
+pub mod Groups
+pub mod Steps
+pub mod Examples

@@ -61,7 +61,7 @@ module _ (groups : List Group) (slot : ℕ) (g : Group) where
   rest_read [] front index rest at all up =
       ap (λ (s : Scan). read_all s rest) (next_read front None index at ∙ commit_read front (sym (append-nil front) ∙ all))
   rest_read (line ∷ back) front index rest at all up =
-      let parts = and_parts _ _ up in
+      let parts = and_parts (is_above line.key (slice_get front (length front - 1))) (ascends (Some line) back) up in
       let long : length front + length (line ∷ back) ≡ length g.lines = sym (length-append front (line ∷ back)) ∙ ap length all in
       let more : length front + 1 < count_of g = omega (arith, long) in
       let next : index + 1 ≡ length (front ++ line ∷ []) = omega (arith, at, length-append front (line ∷ [])) in

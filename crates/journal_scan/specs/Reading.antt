@@ -77,8 +77,12 @@ turn_at Ended = turn.Ended
 turn_at Between = turn.More
 turn_at (Within b) = turn.More
 
+-- how many slots were read behind the last whole group
+abbrev pub slots_read : Stage → ℕ
+slots_read Between = 0
+slots_read (Within b) = length b.lines
+slots_read Ended = 0
+
 -- the slot that is to be taken next
-abbrev pub slot_at : ℕ → Stage → ℕ
-slot_at next Between = next
-slot_at next (Within b) = next + length b.lines
-slot_at next Ended = next
+abbrev pub slot_of : Scan → ℕ
+slot_of scan = scan.next_slot + slots_read scan.stage

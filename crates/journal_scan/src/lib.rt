@@ -3,8 +3,10 @@
 
 mod full;
 mod group;
+mod laws;
 mod scan;
 
 pub use full::{AijFull, room};
 pub use group::{Group, GroupLines, Groups};
+pub use laws::{finds_what_was_written, finds_whole_groups, one_holding};
 pub use scan::{Begun, Scan, Stage, Turn};
