@@ -1,5 +1,5 @@
 -- What reading finds is the whole groups.
-use Rattle.std.proofs.Common.{◌≡◌, ℕ, zero, suc, ◌+◌, ◌-◌, ◌<◌, ◌≤◌, ◌==◌, ◌&&◌, Bool, true, false, List, [], ◌∷◌, ◌++◌, length, Option, Some, None, slice_get, nat_lt, refl, sym, ◌∙◌, ap, subst, arith, ◌⊎◌, inl, inr, append_assoc, length-append}
+use Rattle.std.proofs.Common.{◌≡◌, ℕ, ◌+◌, ◌-◌, ◌==◌, ◌&&◌, true, false, List, [], ◌∷◌, ◌++◌, length, Option, Some, None, slice_get, nat_lt, refl, sym, ◌∙◌, ap, subst, ◌⊎◌, inl, inr, append_assoc, length-append}
 use Rattle.std.proofs.lemmas.Bool.{eqb-true, and_parts, and_from}
 use Rattle.std.proofs.lemmas.List.{append-nil}
 use Rattle.rdb_types.specs.declared.keys.Tsn.{Tsn}
@@ -9,10 +9,10 @@ use Rattle.journal_scan.specs.declared.group.Group.{Group}
 use Rattle.journal_scan.specs.declared.scan.Begun.{Begun}
 use Rattle.journal_scan.specs.declared.scan.Scan.{Scan}
 use Rattle.journal_scan.specs.declared.scan.Stage.{Stage}
-use Rattle.journal_scan.specs.declared.scan.Stage.TheVariants.{Between, Within, Ended}
+use Rattle.journal_scan.specs.declared.scan.Stage.TheVariants.{Within, Ended}
 use Rattle.journal_scan.specs.Whole.{count_of, slot_of, slots_from, is_above, ascends}
-use Rattle.journal_scan.specs.Reading.{read, read_all, continued, grown, closes, grows_by, is_next, no_lines, with_line}
-use Rattle.journal_scan.proofs.Written.{at_stage, last_pushed, behind, group_read}
+use Rattle.journal_scan.specs.Reading.{read_all, continued, grown, closes, grows_by, is_next, with_line}
+use Rattle.journal_scan.proofs.Written.{at_stage, last_pushed, behind}
 
 module _ (groups : List Group) (slot number : ℕ) where
   -- no group more was found

@@ -1,5 +1,5 @@
 -- Reading gives the whole groups, and where the next one is written.
-use Rattle.std.proofs.Common.{◌≡◌, ℕ, zero, suc, ◌+◌, ◌-◌, ◌<◌, ◌≤◌, List, [], ◌∷◌, ◌++◌, length, Option, Some, None, refl, sym, ◌∙◌, ap, subst, arith, ◌⊎◌, inl, inr, append_assoc, length-append}
+use Rattle.std.proofs.Common.{◌≡◌, ℕ, zero, suc, ◌+◌, ◌≤◌, List, [], ◌∷◌, ◌++◌, length, Option, Some, None, refl, sym, ◌∙◌, ap, subst, arith, ◌⊎◌, inl, inr, append_assoc, length-append}
 use Rattle.std.specs.List.{flat_map}
 use Rattle.std.proofs.lemmas.List.{append-nil}
 use Rattle.aij_journal.specs.declared.part.GroupLine.{GroupLine}
@@ -12,7 +12,7 @@ use Rattle.journal_scan.specs.declared.scan.Stage.TheVariants.{Between, Within, 
 use Rattle.journal_scan.specs.Whole.{count_of, slots_from, slots_of, IsWhole, AreWhole, AreGroups}
 use Rattle.journal_scan.specs.Reading.{read, read_all, begins_at, grown, no_lines, groups_of}
 use Rattle.journal_scan.proofs.Written.{at_stage, behind, group_read}
-use Rattle.journal_scan.proofs.Found.{Stays, Completes, end_stays, from_within}
+use Rattle.journal_scan.proofs.Found.{Stays, end_stays, from_within}
 
 length_slots : (g : Group) (index : ℕ) (lines : List GroupLine) → length (slots_from g index lines) ≡ length lines + 1
 length_slots g index [] = refl

@@ -1,5 +1,5 @@
 -- The slots of a whole group are read as it.
-use Rattle.std.proofs.Common.{◌≡◌, ℕ, zero, suc, ◌+◌, ◌-◌, ◌<◌, ◌≤◌, ◌==◌, ◌&&◌, Bool, true, List, [], ◌∷◌, ◌++◌, length, get_or, Option, Some, None, slice_get, nat_lt, refl, sym, ◌∙◌, ap, subst, arith, append_assoc, length-append}
+use Rattle.std.proofs.Common.{◌≡◌, ℕ, ◌+◌, ◌-◌, ◌<◌, ◌==◌, true, List, [], ◌∷◌, ◌++◌, length, Option, Some, None, slice_get, nat_lt, refl, sym, ◌∙◌, ap, arith, append_assoc, length-append}
 use Rattle.std.proofs.lemmas.Bool.{eq-eqb, lt-ltb, and_parts}
 use Rattle.std.proofs.lemmas.Option.{slice_get-get_or}
 use Rattle.std.proofs.lemmas.List.{append-nil}
@@ -10,8 +10,8 @@ use Rattle.journal_scan.specs.declared.group.Group.{Group}
 use Rattle.journal_scan.specs.declared.scan.Begun.{Begun}
 use Rattle.journal_scan.specs.declared.scan.Scan.{Scan}
 use Rattle.journal_scan.specs.declared.scan.Stage.{Stage}
-use Rattle.journal_scan.specs.declared.scan.Stage.TheVariants.{Between, Within, Ended}
-use Rattle.journal_scan.specs.Whole.{count_of, slots_from, slots_of, is_above, ascends, IsWhole}
+use Rattle.journal_scan.specs.declared.scan.Stage.TheVariants.{Between, Within}
+use Rattle.journal_scan.specs.Whole.{count_of, slots_from, slots_of, is_above, ascends}
 use Rattle.journal_scan.specs.Reading.{read, read_all, grown}
 
 -- the last of some lines

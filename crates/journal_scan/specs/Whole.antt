@@ -14,6 +14,13 @@ abbrev pub Holds : List ℕ → Option AijPart → Type 0
 Holds slot None = (part : AijPart) → IsPart slot part → ⊥
 Holds slot (Some part) = IsPart slot part
 
+-- what stands in slots that follow one another
+abbrev pub Hold : List (List ℕ) → List (Option AijPart) → Type 0
+Hold [] [] = Unit {0}
+Hold [] (what ∷ whats) = ⊥
+Hold (slot ∷ slots) [] = ⊥
+Hold (slot ∷ slots) (what ∷ whats) = Holds slot what × Hold slots whats
+
 -- A group of n lines has n + 1 slots.
 abbrev pub count_of : Group → ℕ
 count_of g = length g.lines + 1

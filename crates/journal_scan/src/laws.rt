@@ -3,7 +3,7 @@ ghost use Rattle.std.specs.Prelude.{◌≡◌, ◌+◌, ◌++◌, ◌∷◌, ℕ
 ghost use Rattle.std.specs.List.{flat_map};
 ghost use Rattle.aij_journal.specs.declared.part.AijPart.{AijPart as Part};
 ghost use Rattle.journal_scan.specs.declared.group.Group.{Group as Written};
-ghost use Rattle.journal_scan.specs.Whole.{Holds, slots_of, AreWhole, AreGroups};
+ghost use Rattle.journal_scan.specs.Whole.{Holds, Hold, slots_of, AreWhole, AreGroups};
 ghost use Rattle.journal_scan.specs.Reading.{begins_at, read_all, groups_of};
 
 use aij_journal::one_part;
@@ -24,9 +24,10 @@ pub fn finds_what_was_written()
         → groups_of first (flat_map slots_of groups ++ behind) ≡ groups ++ groups_of (first + length groups) behind }
 {}
 
-/// One thing stands in a slot.
+/// What stands in slots is determined by their bytes: a slot that was laid out as one of a group's holds that and nothing else.
 pub fn one_holding()
-    ensures { (slot : List ℕ) (a b : Option Part) → Holds slot a → Holds slot b → a ≡ b }
+    ensures slot { (slot : List ℕ) (a b : Option Part) → Holds slot a → Holds slot b → a ≡ b }
+    ensures slots { (slots : List (List ℕ)) (a b : List (Option Part)) → Hold slots a → Hold slots b → a ≡ b }
 {
     one_part();
 }
