@@ -3,3 +3,4 @@ pub mod Found
 pub mod Groups
 pub mod Steps
 pub mod Examples
+pub mod Stands
