@@ -1,7 +1,7 @@
 -- Reading gives the whole groups, and where the next one is written.
-use Rattle.std.proofs.Common.{◌≡◌, ℕ, zero, suc, ◌+◌, ◌≤◌, List, [], ◌∷◌, ◌++◌, length, Option, Some, None, refl, sym, ◌∙◌, ap, subst, arith, ◌⊎◌, inl, inr, append_assoc, length-append}
+use Rattle.std.proofs.Common.{◌≡◌, ℕ, zero, suc, ◌+◌, ◌≤◌, List, [], ◌∷◌, ◌++◌, length, map, Option, Some, None, refl, sym, ◌∙◌, ap, subst, arith, ◌⊎◌, inl, inr, append_assoc, length-append}
 use Rattle.std.specs.List.{flat_map}
-use Rattle.std.proofs.lemmas.List.{append-nil}
+use Rattle.std.proofs.lemmas.List.{append-nil, map-append}
 use Rattle.aij_journal.specs.declared.part.GroupLine.{GroupLine}
 use Rattle.aij_journal.specs.declared.part.AijPart.{AijPart}
 use Rattle.journal_scan.specs.declared.group.Group.{Group}
@@ -9,8 +9,10 @@ use Rattle.journal_scan.specs.declared.scan.Begun.{Begun}
 use Rattle.journal_scan.specs.declared.scan.Scan.{Scan}
 use Rattle.journal_scan.specs.declared.scan.Stage.{Stage}
 use Rattle.journal_scan.specs.declared.scan.Stage.TheVariants.{Between, Within, Ended}
-use Rattle.journal_scan.specs.Whole.{count_of, slots_from, slots_of, IsWhole, AreWhole, AreGroups}
+use Rattle.journal_scan.specs.Whole.{count_of, slots_from, slots_of, Hold, IsWhole, AreWhole, AreGroups}
 use Rattle.journal_scan.specs.Reading.{read, read_all, begins_at, grown, no_lines, groups_of}
+use Rattle.journal_scan.specs.Standing.{what_stands, groups_in}
+use Rattle.journal_scan.proofs.Stands.{all_stand}
 use Rattle.journal_scan.proofs.Written.{at_stage, behind, group_read}
 use Rattle.journal_scan.proofs.Found.{Stays, end_stays, from_within}
 
@@ -187,13 +189,15 @@ joined (g ∷ gs) more first behind whole are =
     preceded first g (flat_map slots_of (g ∷ gs) ++ behind) (flat_map slots_of gs ++ behind) (gs ++ more) whole.0 (append_assoc (slots_of g) (flat_map slots_of gs) behind)
     (joined gs more (first + 1) behind whole.1 (subst (λ (k : ℕ). AreGroups k behind more) (let same : first + length (g ∷ gs) ≡ first + 1 + length gs = omega arith in same) are))
 
-pub written_then : (first : ℕ) (groups : List Group) (behind : List (Option AijPart)) → AreWhole first groups → groups_of first (flat_map slots_of groups ++ behind) ≡ groups ++ groups_of (first + length groups) behind
-written_then first groups behind whole =
-    let more : List Group = groups_of (first + length groups) behind in
-    sym (only first (flat_map slots_of groups ++ behind) (groups ++ more) (joined groups more first behind whole (are_groups (first + length groups) behind)))
+pub written_then : (first : ℕ) (groups : List Group) (slots behind : List (List ℕ)) → AreWhole first groups → Hold slots (flat_map slots_of groups) → groups_in first (slots ++ behind) ≡ groups ++ groups_in (first + length groups) behind
+written_then first groups slots behind whole held =
+    let later : List (Option AijPart) = map what_stands behind in
+    let more : List Group = groups_of (first + length groups) later in
+    ap (λ (l : List (Option AijPart)). groups_of first l) (map-append what_stands slots behind ∙ ap (λ (l : List (Option AijPart)). l ++ later) (all_stand slots (flat_map slots_of groups) held))
+    ∙ sym (only first (flat_map slots_of groups ++ later) (groups ++ more) (joined groups more first later whole (are_groups (first + length groups) later)))
 
-pub written : (first : ℕ) (groups : List Group) → AreWhole first groups → groups_of first (flat_map slots_of groups) ≡ groups
-written first groups whole =
-    ap (λ (slots : List (Option AijPart)). groups_of first slots) (sym (append-nil (flat_map slots_of groups)))
-    ∙ written_then first groups [] whole
+pub written : (first : ℕ) (groups : List Group) (slots : List (List ℕ)) → AreWhole first groups → Hold slots (flat_map slots_of groups) → groups_in first slots ≡ groups
+written first groups slots whole held =
+    ap (λ (l : List (List ℕ)). groups_in first l) (sym (append-nil slots))
+    ∙ written_then first groups slots [] whole held
     ∙ append-nil groups

@@ -1,5 +1,5 @@
 -- What is computed from a slot's bytes stands there.
-use Rattle.std.proofs.Common.{◌≡◌, ℕ, ◌+◌, ◌^◌, ◌==◌, ◌&&◌, ◌||◌, nat_le, nat_lt, Bool, true, false, List, [], ◌∷◌, length, take, drop, replicate, Option, Some, None, if◌then◌else◌, refl, sym, ◌∙◌, ap, subst, inl, inr}
+use Rattle.std.proofs.Common.{◌≡◌, ℕ, ◌+◌, ◌^◌, ◌==◌, ◌&&◌, ◌||◌, nat_le, nat_lt, Bool, true, false, List, [], ◌∷◌, length, take, drop, replicate, map, Option, Some, None, if◌then◌else◌, refl, sym, ◌∙◌, ap, subst, inl, inr}
 use Rattle.std.proofs.lemmas.Bool.{eqb-true, eq-eqb, leb-true, le-leb, ltb-true, lt-ltb, and_parts, and_from, or_cases, both_ways}
 use Rattle.slot_fields.specs.Fields.{Field, number, text, gap, number_at, HasFrom}
 use Rattle.rdb_types.specs.declared.keys.LineState.{LineState}
@@ -9,7 +9,7 @@ use Rattle.rdb_page.specs.Page.{IsClass}
 use Rattle.aij_journal.specs.declared.part.GroupLine.{GroupLine}
 use Rattle.aij_journal.specs.declared.part.AijPart.{AijPart}
 use Rattle.aij_journal.specs.Part.{IsPart, IsAllowedLine, IsAllowedWhat, LeavesLine, part_fields, what_fields}
-use Rattle.journal_scan.specs.Whole.{Holds}
+use Rattle.journal_scan.specs.Whole.{Holds, Hold}
 use Rattle.journal_scan.specs.Standing.{are_same, has_from, leaves, is_allowed_what, is_part, said_state, said_line, said_part, what_stands}
 
 -- ---- the tests mean what they say
@@ -82,8 +82,8 @@ yes-what : (what : Option GroupLine) → IsAllowedWhat what → is_allowed_what 
 yes-what None is = refl
 yes-what (Some l) is =
     and_from (((l.class == 208) || (l.class == 440)) && nat_le (length l.image) l.class) (leaves l.state l.image)
-        (and_from ((l.class == 208) || (l.class == 440)) (nat_le (length l.image) l.class) (yes-class l.class is.class) (le-leb (length l.image) l.class is.image))
-        (yes-leaves l.state l.image is.leaves)
+    (and_from ((l.class == 208) || (l.class == 440)) (nat_le (length l.image) l.class) (yes-class l.class is.class) (le-leb (length l.image) l.class is.image))
+    (yes-leaves l.state l.image is.leaves)
 
 part-yes : (slot : List ℕ) (p : AijPart) → is_part slot p ≡ true → IsPart slot p
 part-yes slot p e =
@@ -100,10 +100,10 @@ part-yes slot p e =
 yes-part : (slot : List ℕ) (p : AijPart) → IsPart slot p → is_part slot p ≡ true
 yes-part slot p is =
     and_from ((has_from 0 (part_fields p) slot && nat_le p.number (2 ^ 62)) && nat_lt p.tsn.number (2 ^ 62)) (is_allowed_what p.line)
-        (and_from (has_from 0 (part_fields p) slot && nat_le p.number (2 ^ 62)) (nat_lt p.tsn.number (2 ^ 62))
-            (and_from (has_from 0 (part_fields p) slot) (nat_le p.number (2 ^ 62)) (yes-has 0 (part_fields p) slot is.fields) (le-leb p.number (2 ^ 62) is.number))
-            (lt-ltb p.tsn.number (2 ^ 62) is.tsn))
-        (yes-what p.line is.what)
+    (and_from (has_from 0 (part_fields p) slot && nat_le p.number (2 ^ 62)) (nat_lt p.tsn.number (2 ^ 62))
+    (and_from (has_from 0 (part_fields p) slot) (nat_le p.number (2 ^ 62)) (yes-has 0 (part_fields p) slot is.fields) (le-leb p.number (2 ^ 62) is.number))
+    (lt-ltb p.tsn.number (2 ^ 62) is.tsn))
+    (yes-what p.line is.what)
 
 -- ---- what stands there is what the bytes say
 
@@ -144,3 +144,21 @@ stands slot =
       | true ↦ λ e. part-yes slot (said_part slot) e
       | false ↦ λ e. λ part is. both_ways (is_part slot (said_part slot)) e (yes-part slot (said_part slot) (subst (λ (p : AijPart). IsPart slot p) (part-said slot part is) is))
     ] refl
+
+pub only_stands : (slot : List ℕ) (what : Option AijPart) → Holds slot what → what ≡ what_stands slot
+unfolding what_stands
+only_stands slot (Some part) is =
+    let said : part ≡ said_part slot = part-said slot part is in
+    let yes : is_part slot (said_part slot) ≡ true = yes-part slot (said_part slot) (subst (λ (p : AijPart). IsPart slot p) said is) in
+    rw yes (ap Some said)
+only_stands slot None none =
+    elim (is_part slot (said_part slot)) as (λ v. is_part slot (said_part slot) ≡ v → None ≡ (if v then Some (said_part slot) else None)) [
+      | true ↦ λ e. absurd (none (said_part slot) (part-yes slot (said_part slot) e))
+      | false ↦ λ e. refl
+    ] refl
+
+pub all_stand : (slots : List (List ℕ)) (whats : List (Option AijPart)) → Hold slots whats → map what_stands slots ≡ whats
+all_stand [] [] held = refl
+all_stand [] (what ∷ whats) held = absurd held
+all_stand (slot ∷ slots) [] held = absurd held
+all_stand (slot ∷ slots) (what ∷ whats) held = λ i. sym (only_stands slot what held.0) i ∷ all_stand slots whats held.1 i

@@ -10,5 +10,5 @@ mod tests;
 
 pub use full::{AijFull, room};
 pub use group::{Group, GroupLines, Groups};
-pub use laws::{finds_what_was_written, finds_whole_groups, one_holding};
+pub use laws::{finds_what_was_written, finds_whole_groups, one_thing_stands, reads_in_pieces};
 pub use scan::{Begun, Scan, Stage, Turn};

@@ -1,8 +1,9 @@
 // The state machine that the slots behind the header are given to.
-ghost use Rattle.std.specs.Prelude.{◌≡◌, ◌<◌, ◌≤◌, ◌+◌, ◌^◌, List, [], ◌∷◌, ◌++◌, Option, Some, None, length, IfOk, OnOk, OnErr};
+ghost use Rattle.std.specs.Prelude.{◌≡◌, ◌<◌, ◌≤◌, ◌+◌, ◌^◌, ℕ, List, [], ◌∷◌, ◌++◌, map, Option, Some, None, length, IfOk, OnOk, OnErr};
 ghost use Rattle.aij_journal.specs.declared.part.AijPart.{AijPart as Part};
 ghost use Rattle.journal_scan.specs.declared.scan.Scan.{Scan as Scanned};
 ghost use Rattle.journal_scan.specs.Whole.{Holds};
+ghost use Rattle.journal_scan.specs.Standing.{what_stands};
 ghost use Rattle.journal_scan.specs.Reading.{begins_at, read, read_all, ended, turn_at, slot_of, no_lines, is_next as is_next_in, grows_by as grows_by_in, grown, closed};
 
 use crate::{Group, GroupLines, Groups};
@@ -64,21 +65,19 @@ impl Scan {
     }
 
     /// Takes the next slot. Where memory is wanted and there is none, the scan ends with the groups that it has.
-    #[tactic(auto, using(crate::proofs::Steps::read_more))]
+    #[tactic(auto, using(crate::proofs::Steps::one_more, crate::proofs::Stands::stands))]
     pub fn take(&mut self, alloc: Global, slot: &[u8]) -> Result<Turn, NoMemory>
         requires size { length slot.now ≡ 512 }
         requires number { slot_of self.old + 1 < 2 ^ 32 }
-        ensures stands { OnOk result ((what : Option Part) × Holds slot.now what) }
-        ensures taken { OnOk result ((what : Option Part) → Holds slot.now what
-            → self.new ≡ read self.old what) }
+        ensures taken { OnOk result (self.new ≡ read self.old (what_stands slot.now)) }
         ensures turn { IfOk result (λ turn. turn ≡ turn_at self.new.stage) }
         ensures next { IfOk result (λ turn. turn ≡ Turn.More → slot_of self.new ≡ slot_of self.old + 1) }
         ensures err { OnErr result (self.new ≡ ended self.old) }
 
         // Whatever slots were taken before.
-        ensures so_far { OnOk result ((first : Scanned) (slots : List (Option Part)) (what : Option Part)
-            → self.old ≡ read_all first slots → Holds slot.now what
-            → self.new ≡ read_all first (slots ++ what ∷ [])) }
+        ensures so_far { OnOk result ((first : Scanned) (slots : List (List ℕ))
+            → self.old ≡ read_all first (map what_stands slots)
+            → self.new ≡ read_all first (map what_stands (slots ++ slot.now ∷ []))) }
     {
         match self.advance(alloc, slot) {
             Ok(turn) => Ok(turn),
@@ -89,7 +88,6 @@ impl Scan {
     fn advance(&mut self, alloc: Global, slot: &[u8]) -> Result<Turn, NoMemory>
         requires size { length slot.now ≡ 512 }
         requires number { slot_of self.old + 1 < 2 ^ 32 }
-        ensures stands { OnOk result ((what : Option Part) × Holds slot.now what) }
         ensures taken { OnOk result ((what : Option Part) → Holds slot.now what
             → self.new ≡ read self.old what) }
         ensures turn { IfOk result (λ turn. turn ≡ turn_at self.new.stage) }
