@@ -1,5 +1,5 @@
 -- What is computed from a slot's bytes stands there.
-use Rattle.std.proofs.Common.{◌≡◌, ℕ, ◌+◌, ◌^◌, ◌==◌, ◌&&◌, ◌||◌, nat_le, nat_lt, Bool, true, false, List, [], ◌∷◌, length, take, drop, replicate, map, Option, Some, None, if◌then◌else◌, refl, sym, ◌∙◌, ap, subst, inl, inr}
+use Rattle.std.proofs.Common.{◌≡◌, ℕ, ◌+◌, ◌^◌, ◌==◌, ◌&&◌, ◌||◌, nat_le, nat_lt, true, false, List, [], ◌∷◌, length, take, drop, replicate, map, Option, Some, None, if◌then◌else◌, refl, sym, ◌∙◌, ap, subst, inl, inr}
 use Rattle.std.proofs.lemmas.Bool.{eqb-true, eq-eqb, leb-true, le-leb, ltb-true, lt-ltb, and_parts, and_from, or_cases, both_ways}
 use Rattle.slot_fields.specs.Fields.{Field, number, text, gap, number_at, HasFrom}
 use Rattle.rdb_types.specs.declared.keys.LineState.{LineState}
@@ -8,7 +8,7 @@ use Rattle.rdb_page.specs.Lines.{byte_of}
 use Rattle.rdb_page.specs.Page.{IsClass}
 use Rattle.aij_journal.specs.declared.part.GroupLine.{GroupLine}
 use Rattle.aij_journal.specs.declared.part.AijPart.{AijPart}
-use Rattle.aij_journal.specs.Part.{IsPart, IsAllowedLine, IsAllowedWhat, LeavesLine, part_fields, what_fields}
+use Rattle.aij_journal.specs.Part.{IsPart, IsAllowedWhat, LeavesLine, part_fields, what_fields}
 use Rattle.journal_scan.specs.Whole.{Holds, Hold}
 use Rattle.journal_scan.specs.Standing.{are_same, has_from, leaves, is_allowed_what, is_part, said_state, said_line, said_part, what_stands}
 

@@ -5,7 +5,7 @@ use Rattle.aij_journal.specs.declared.part.AijPart.{AijPart}
 use Rattle.journal_scan.specs.declared.scan.Scan.{Scan}
 use Rattle.journal_scan.specs.declared.scan.Stage.{Stage}
 use Rattle.journal_scan.specs.declared.scan.Stage.TheVariants.{Ended}
-use Rattle.journal_scan.specs.Reading.{read, read_all, read_part, ended}
+use Rattle.journal_scan.specs.Reading.{read, read_all, read_part}
 use Rattle.journal_scan.specs.Standing.{what_stands}
 
 pub in_pieces : (scan : Scan) (slots behind : List (Option AijPart)) → read_all scan (slots ++ behind) ≡ read_all (read_all scan slots) behind

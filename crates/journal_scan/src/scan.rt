@@ -64,7 +64,7 @@ impl Scan {
         Scan::at(alloc, 1, first)
     }
 
-    /// Takes the next slot. Where memory is wanted and there is none, the scan ends with the groups that it has.
+    /// Takes the next slot, and says whether reading goes on. Where memory is wanted and there is none, the scan ends with the groups that it has.
     #[tactic(auto, using(crate::proofs::Steps::one_more, crate::proofs::Stands::stands))]
     pub fn take(&mut self, alloc: Global, slot: &[u8]) -> Result<Turn, NoMemory>
         requires size { length slot.now ≡ 512 }
