@@ -10,7 +10,7 @@ use Rattle.journal_scan.specs.declared.scan.Begun.{Begun}
 use Rattle.journal_scan.specs.declared.scan.Scan.{Scan}
 use Rattle.journal_scan.specs.declared.scan.Stage.{Stage}
 use Rattle.journal_scan.specs.declared.scan.Stage.TheVariants.{Within, Ended}
-use Rattle.journal_scan.specs.Whole.{count_of, slot_of, slots_from, is_above, ascends}
+use Rattle.journal_scan.specs.Whole.{count_of, group_slot, slots_from, is_above, ascends}
 use Rattle.journal_scan.specs.Reading.{read_all, continued, grown, closes, grows_by, is_next, with_line}
 use Rattle.journal_scan.proofs.Written.{at_stage, last_pushed, behind}
 
@@ -41,7 +41,7 @@ module _ (groups : List Group) (slot number : ℕ) where
     pub is_read : read_all (at (Within b)) slots ≡ read_all (behind groups slot group) rest
 
   -- a slot in its place is the group's
-  in_place : (b : Begun) (part : AijPart) (g : Group) → ((part.number == number) && is_next b part) ≡ true → g.number ≡ number → g.tsn ≡ b.tsn → count_of g ≡ b.count → Some part ≡ slot_of g (length b.lines) part.line
+  in_place : (b : Begun) (part : AijPart) (g : Group) → ((part.number == number) && is_next b part) ≡ true → g.number ≡ number → g.tsn ≡ b.tsn → count_of g ≡ b.count → Some part ≡ group_slot g (length b.lines) part.line
   in_place b part g test n t c =
       let first = and_parts (part.number == number) (is_next b part) test in
       let second = and_parts ((part.tsn.number == b.tsn.number) && (part.count == b.count)) (part.index == length b.lines) first.1 in
@@ -68,7 +68,7 @@ module _ (groups : List Group) (slot number : ℕ) where
         count = count;
         lines = sym (append-nil b.lines);
         in_order = refl;
-        stand = ap (λ (s : Option AijPart). s ∷ slots) (in_place b part g test refl refl count ∙ ap (λ (l : Option GroupLine). slot_of g (length b.lines) l) what);
+        stand = ap (λ (s : Option AijPart). s ∷ slots) (in_place b part g test refl refl count ∙ ap (λ (l : Option GroupLine). group_slot g (length b.lines) l) what);
         is_read = ap (λ (s : Scan). read_all s slots) (let same : continued (at (Within b)) b part ≡ behind groups slot g = rw (test, what, close) refl in same);
       }
 
@@ -86,8 +86,8 @@ module _ (groups : List Group) (slot number : ℕ) where
         count = next.count;
         lines = next.lines ∙ append_assoc b.lines (line ∷ []) next.more;
         in_order = and_from _ _ above.1 (subst (λ (last : Option GroupLine). ascends last next.more ≡ true) (last_pushed b.lines line) next.in_order);
-        stand = ap (λ (s : Option AijPart). s ∷ slots) (in_place b part g test next.numbered next.tsn next.count ∙ ap (λ (l : Option GroupLine). slot_of g (length b.lines) l) what)
-            ∙ ap (λ (rest : List (Option AijPart)). slot_of g (length b.lines) (Some line) ∷ rest) (next.stand ∙ ap (λ i. slots_from g i next.more ++ next.rest) long);
+        stand = ap (λ (s : Option AijPart). s ∷ slots) (in_place b part g test next.numbered next.tsn next.count ∙ ap (λ (l : Option GroupLine). group_slot g (length b.lines) l) what)
+            ∙ ap (λ (rest : List (Option AijPart)). group_slot g (length b.lines) (Some line) ∷ rest) (next.stand ∙ ap (λ i. slots_from g i next.more ++ next.rest) long);
         is_read = ap (λ (s : Scan). read_all s slots) (let same : continued (at (Within b)) b part ≡ at (Within (with_line line b)) = rw (test, what, grow) refl in same) ∙ next.is_read;
       }
 

@@ -26,13 +26,13 @@ abbrev pub count_of : Group → ℕ
 count_of g = length g.lines + 1
 
 -- one of its slots: all have its number, its TSN and its count
-abbrev pub slot_of : Group → ℕ → Option GroupLine → Option AijPart
-slot_of g index line = Some (record { number = g.number; tsn = g.tsn; index = index; count = count_of g; line = line })
+abbrev pub group_slot : Group → ℕ → Option GroupLine → Option AijPart
+group_slot g index line = Some (record { number = g.number; tsn = g.tsn; index = index; count = count_of g; line = line })
 
 -- its slots from this index on: one for each of these lines, and the commit last
 abbrev pub slots_from : Group → ℕ → List GroupLine → List (Option AijPart)
-slots_from g index [] = slot_of g index None ∷ []
-slots_from g index (line ∷ lines) = slot_of g index (Some line) ∷ slots_from g (index + 1) lines
+slots_from g index [] = group_slot g index None ∷ []
+slots_from g index (line ∷ lines) = group_slot g index (Some line) ∷ slots_from g (index + 1) lines
 
 abbrev pub slots_of : Group → List (Option AijPart)
 slots_of g = slots_from g 0 g.lines
