@@ -1,0 +1,4 @@
+pub mod Parts
+pub mod Images
+pub mod Values
+pub mod Rows
