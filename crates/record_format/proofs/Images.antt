@@ -1,12 +1,11 @@
 -- Bytes that are certain fields.
 use Rattle.std.proofs.Common.{ℕ, zero, suc, ◌+◌, ◌*◌, ◌<◌, ◌≤◌, ◌≡◌, List, [], ◌∷◌, ◌++◌, length, take, drop, refl, sym, ap, ◌∙◌, arith, length-drop}
-use Rattle.std.specs.List.{All}
 use Rattle.std.proofs.lemmas.List.{drop_all, drop-drop, take-append-drop}
 use Rattle.std.proofs.lemmas.List.Elements.{All-head, All-tail, All-drop}
 use Rattle.std.proofs.Math.Seq.{take-length}
-use Rattle.byteorder.specs.Endian.{little_number, little_from}
+use Rattle.byteorder.specs.Endian.{little_number}
 use Rattle.byteorder.specs.Numbers.{little_from-cons}
-use Rattle.slot_fields.specs.Fields.{Field, number, text, gap, number_at, Has, HasFrom, Fit, laid, size}
+use Rattle.slot_fields.specs.Fields.{Field, number, text, gap, number_at, Has, HasFrom, Fit, laid}
 use Rattle.slot_fields.proofs.Laws.{laid_out, whole_ends}
 use Rattle.record_format.specs.Values.{AreBytes}
 

@@ -1,4 +1,5 @@
 pub mod Parts
+pub mod Laying
 pub mod Images
 pub mod Values
 pub mod Rows

@@ -1,5 +1,5 @@
 -- The images of rows.
-use Rattle.std.proofs.Common.{ℕ, ◌+◌, ◌<◌, ◌≤◌, ◌≡◌, List, length, arith}
+use Rattle.std.proofs.Common.{ℕ, ◌<◌, ◌≡◌, List, length, arith}
 use Rattle.slot_fields.proofs.Laws.{whole_ends}
 use Rattle.record_format.proofs.Images as images
 use Rattle.record_format.proofs.Values.{one_list}

@@ -4,11 +4,11 @@ use Rattle.std.specs.Prelude.{IfNone}
 use Rattle.std.specs.Int.{cast_signed}
 use Rattle.std.specs.List.{All}
 use Rattle.std.proofs.lemmas.Int.{to_z-of_z}
-use Rattle.std.proofs.lemmas.List.Elements.{All-head, All-tail, All-nil, All-push, All-more}
+use Rattle.std.proofs.lemmas.List.Elements.{All-head, All-tail, All-nil, All-push}
 use Rattle.std.proofs.lemmas.List.Concat.{flat_map-append}
 use Rattle.std.proofs.lemmas.List.{append-nil, take_more}
-use Rattle.slot_fields.specs.Fields.{number_at, size, laid, Fit, HasPart, HasFrom}
-use Rattle.slot_fields.proofs.Laws.{size_append, part_first, part_append, laid_append, fit_append, from_first, from_rest, whole_ends, whole_of_part, part_of_whole}
+use Rattle.slot_fields.specs.Fields.{number_at, size, HasPart, HasFrom}
+use Rattle.slot_fields.proofs.Laws.{size_append, part_first, part_append, from_first, from_rest, whole_ends, whole_of_part, part_of_whole}
 use Rattle.record_format.proofs.Parts.{part_rest}
 use Rattle.rdb_types.specs.declared.values.Value.{Value}
 use Rattle.rdb_types.specs.declared.values.Value.TheVariants.{Missing, Number, Text}
@@ -149,22 +149,6 @@ size_more vs i v inside is = ap size (values_more vs i v inside is) ∙ size_app
 
 pub size_up_to : (vs : List Value) (i : ℕ) (v : Value) → i < length vs → v ≡ get_or vs i v → size (values_fields (take i vs)) + size (value_fields v) ≤ size (values_fields vs)
 size_up_to vs i v inside is = let within = size_within vs i v inside in let same = ap (λ w. size (value_fields w)) is in omega (arith, within, same)
-
--- values that are being laid out from a place on
-pub record HasLaid (old slot : List ℕ) (at end : ℕ) (front : List Value) : Type 0 where
-  pub ends : end ≡ at + size (values_fields front)
-  pub laid_so : take end slot ≡ laid (take at old) (values_fields front)
-  pub fits : Fit (values_fields front)
-  pub values : All IsValue front
-
-pub laid_more : (old slot new : List ℕ) (at middle end : ℕ) (vs : List Value) (i : ℕ) (v : Value) → i < length vs → v ≡ get_or vs i v → HasLaid old slot at middle (take i vs)
-    → end ≡ middle + size (value_fields v) → take end new ≡ laid (take middle slot) (value_fields v) → Fit (value_fields v) → IsValue v → HasLaid old new at end (take (i + 1) vs)
-laid_more old slot new at middle end vs i v inside is was ends laid_so fits value = record {
-  ends = rw (size_more vs i v inside is) (omega (arith, was.ends, ends));
-  laid_so = laid_so ∙ ap (λ bytes. laid bytes (value_fields v)) was.laid_so ∙ sym (ap (laid (take at old)) (values_more vs i v inside is) ∙ laid_append (take at old) (values_fields (take i vs)) (value_fields v));
-  fits = rw (values_more vs i v inside is) (fit_append (values_fields (take i vs)) (value_fields v) was.fits fits);
-  values = All-more IsValue vs i v inside was.values (subst IsValue is value);
-}
 
 pub one_list : (bytes : List ℕ) (from : ℕ) (a b : List Value) → AreValues bytes from a → AreValues bytes from b → a ≡ b
 one_list bytes from a b x y =

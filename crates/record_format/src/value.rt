@@ -1,5 +1,5 @@
 // Values one after another.
-ghost use Rattle.std.specs.Prelude.{◌≡◌, ◌≤◌, ◌<◌, ◌+◌, ◌^◌, ℤ, ℕ, List, Some, true, false, length, take, IfSome, IfNone, IfOk};
+ghost use Rattle.std.specs.Prelude.{◌≡◌, ◌≤◌, ◌<◌, ◌+◌, ◌^◌, ℤ, ℕ, List, Some, true, false, length, take, drop, IfSome, IfNone, IfOk};
 ghost use Rattle.std.specs.List.{All};
 ghost use Rattle.slot_fields.specs.Fields.{laid, size, Fit, HasPart, number_at};
 ghost use Rattle.rdb_types.specs.declared.values.Value.TheVariants.{Number, Text};
@@ -69,6 +69,7 @@ fn put_value(slot: &mut [u8], at: usize, value: &Value) -> usize
     requires storable { IsStorable value.now }
     ensures end { result ≡ at + size (value_fields value.now) }
     ensures front { take result slot.new ≡ laid (take at slot.old) (value_fields value.now) }
+    ensures rest { drop result slot.new ≡ drop result slot.old }
     ensures fits { Fit (value_fields value.now) }
     ensures value { IsValue value.now }
 {
@@ -99,6 +100,7 @@ pub fn put_values(slot: &mut [u8], at: usize, values: &[Value]) -> usize
     requires storable { All IsStorable values.now }
     ensures end { result ≡ at + size (values_fields values.now) }
     ensures front { take result slot.new ≡ laid (take at slot.old) (values_fields values.now) }
+    ensures rest { drop result slot.new ≡ drop result slot.old }
     ensures fits { Fit (values_fields values.now) }
     ensures values { All IsValue values.now }
 {
