@@ -2,9 +2,10 @@
 use Rattle.std.specs.Prelude.{ℕ, ◌+◌, ◌-◌, ◌≤◌, ◌<◌, ◌≡◌, ◌≢◌, List, [], ◌∷◌, length, Some, slice_get, FitsSigned}
 use Rattle.std.specs.Int.{w64, cast_unsigned}
 use Rattle.std.specs.List.{All, flat_map}
-use Rattle.slot_fields.specs.Fields.{Field, number, text, HasFrom, HasPart, size}
+use Rattle.slot_fields.specs.Fields.{Field, number, text}
 use Rattle.rdb_types.specs.declared.values.Value.{Value}
 use Rattle.rdb_types.specs.declared.values.Value.TheVariants.{Missing, Number, Text}
+use Rattle.record_format.specs.Lists.{AreListed}
 
 -- printable characters, of which the last is no blank
 pub record IsText (bytes : List ℕ) : Type 0 where
@@ -33,16 +34,8 @@ IsValue (Number n) = FitsSigned w64 n
 IsValue (Text t) = IsText t
 
 -- from this place on the bytes are these values, and no more
-pub record AreValues (bytes : List ℕ) (from : ℕ) (values : List Value) : Type 0 where
-  pub fields : HasFrom from (values_fields values) bytes
-  pub allowed : All IsValue values
-
--- the value stands at this place, and ends before that one
-pub record StandsAt (bytes : List ℕ) (at : ℕ) (value : Value) (end : ℕ) : Type 0 where
-  pub fields : HasPart at (value_fields value) bytes
-  pub allowed : IsValue value
-  pub ends : end ≡ at + size (value_fields value)
-  pub within : end ≤ length bytes
+abbrev pub AreValues : List ℕ → ℕ → List Value → Type 0
+AreValues = AreListed value_fields IsValue
 
 abbrev pub AreBytes : List ℕ → Type 0
 AreBytes = All (λ b. b < 256)

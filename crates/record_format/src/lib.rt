@@ -9,4 +9,4 @@ mod value;
 
 pub use dbkey::{dbkey_at, put_dbkey};
 pub use row::{TooLong, VersionedRow, one_image, one_row, put_row, read_row};
-pub use value::{are_storable, put_values, read_values, room_behind};
+pub use value::{are_storable, put_values, read_values, values_size};

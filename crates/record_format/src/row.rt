@@ -5,7 +5,7 @@ ghost use Rattle.slot_fields.specs.Fields.{size};
 ghost use Rattle.record_format.specs.Values.{IsStorable, AreBytes};
 ghost use Rattle.record_format.specs.Rows.{row_fields, IsVersion, IsRowImage};
 
-use crate::value::{put_values, read_values, room_behind};
+use crate::value::{put_values, read_values, values_size};
 use rdb_types::{Image, NoMemory, Row, Value};
 use slot_fields::{put_u8, put_u16, u8_at, u16_at};
 use std::alloc::Global;
@@ -17,7 +17,7 @@ pub struct VersionedRow {
     pub row: Row,
 }
 
-/// The image is longer than a line may be.
+/// The image would be longer than one of its kind may be.
 #[derive(Clone, Copy, Debug, PartialEq, Eq)]
 pub struct TooLong {}
 
@@ -29,7 +29,7 @@ pub fn put_row(version: u16, row: &[Value]) -> Result<Image, TooLong>
     ensures image { IfOk result (λ image. IsRowImage image version row.now) }
     ensures too_long { IsErr result ↔ (440 < size (row_fields version row.now)) }
 {
-    if room_behind(row, 437).is_none() {
+    if values_size(row, 437).is_none() {
         return Err(TooLong {});
     }
     let mut slot = [0; 440];

@@ -1,5 +1,5 @@
 use crate::{
-    are_storable, dbkey_at, put_dbkey, put_row, put_values, read_row, read_values, room_behind,
+    are_storable, dbkey_at, put_dbkey, put_row, put_values, read_row, read_values, values_size,
 };
 use rdb_types::{Chars, Dbkey, NoMemory, Row, Value};
 use std::alloc::Global;
@@ -56,10 +56,10 @@ fn values_stand_where_they_were_put(rt: HostRuntime) -> Result<(), Fail> {
     for case in &CASES {
         let row = row_of(rt.alloc(), case)?;
         let mut slot = [9; 40];
-        let left = room_behind(row.as_slice(), 39).ok_or("no room")?;
+        let size = values_size(row.as_slice(), 39).ok_or("no room")?;
         assert!(rt; are_storable(row.as_slice()));
         let end = put_values(&mut slot, 1, row.as_slice());
-        assert_eq!(rt; end + left, 40);
+        assert_eq!(rt; end, size + 1);
         let image = &slot[..end];
         let read = read_values(rt.alloc(), image, 1)?.ok_or("no values")?;
         assert_eq!(rt; read.len(), 2);

@@ -3,7 +3,8 @@ ghost use Rattle.std.specs.Prelude.{◌≡◌, ◌≤◌, ◌<◌, ◌+◌, ◌^
 ghost use Rattle.std.specs.List.{All};
 ghost use Rattle.slot_fields.specs.Fields.{laid, size, Fit, HasPart, number_at};
 ghost use Rattle.rdb_types.specs.declared.values.Value.TheVariants.{Number, Text};
-ghost use Rattle.record_format.specs.Values.{value_fields, values_fields, IsText, IsStorable, IsValue, AreValues, StandsAt};
+ghost use Rattle.record_format.specs.Lists.{StandsAt};
+ghost use Rattle.record_format.specs.Values.{value_fields, values_fields, IsText, IsStorable, IsValue, AreValues};
 
 use rdb_types::{Chars, NoMemory, Row, Value};
 use slot_fields::{bytes_at, put_bytes, put_u8, put_u16, put_u64, u8_at, u16_at, u64_at};
@@ -25,17 +26,24 @@ fn is_text(bytes: &[u8]) -> bool
 
 fn is_storable(value: &Value) -> bool
     ensures yes { result ≡ true → IsStorable value.now }
+    ensures value { result ≡ true → IsValue value.now }
     ensures no { result ≡ false → IsStorable value.now → ⊥ }
 {
     match value {
+        Value::Missing => true,
+        Value::Number(number) => {
+            // A proof knows the range of a number only where it is read.
+            let _number = *number;
+            true
+        }
         Value::Text(text) => is_text(text.as_slice()),
-        _ => true,
     }
 }
 
 /// Whether values may be laid out: each byte of a text is from 32 to 126, and its last is no blank.
 pub fn are_storable(values: &[Value]) -> bool
     ensures yes { result ≡ true → All IsStorable values.now }
+    ensures values { result ≡ true → All IsValue values.now }
     ensures no { result ≡ false → All IsStorable values.now → ⊥ }
 {
     values.iter().all(|value| is_storable(value))
@@ -51,16 +59,21 @@ fn value_size(value: &Value) -> usize
     }
 }
 
-/// What is left of so many bytes behind the values, or None where they are too few.
-pub fn room_behind(values: &[Value], room: usize) -> Option<usize>
-    ensures left { IfSome result (λ left. left + size (values_fields values.now) ≡ room) }
-    ensures none { IfNone result (room < size (values_fields values.now)) }
+/// The bytes that values take, or None where they are more than the limit.
+pub fn values_size(values: &[Value], limit: usize) -> Option<usize>
+    ensures value { IfSome result (λ bytes. bytes ≡ size (values_fields values.now)) }
+    ensures within { IfSome result (λ bytes. bytes ≤ limit) }
+    ensures none { IfNone result (limit < size (values_fields values.now)) }
 {
-    let mut left = room;
+    let mut bytes = 0;
     for value in values {
-        left = left.checked_sub(value_size(value))?;
+        let more = value_size(value);
+        if limit - bytes < more {
+            return None;
+        }
+        bytes += more;
     }
-    Some(left)
+    Some(bytes)
 }
 
 fn put_value(slot: &mut [u8], at: usize, value: &Value) -> usize
@@ -114,7 +127,7 @@ pub fn put_values(slot: &mut [u8], at: usize, values: &[Value]) -> usize
 fn number_value(bytes: &[u8], at: usize) -> Option<Found>
     requires place { at < length bytes.now }
     requires kind { number_at 1 at bytes.now ≡ 1 }
-    ensures found { IfSome result (λ found. StandsAt bytes.now at found.value found.end) }
+    ensures found { IfSome result (λ found. StandsAt value_fields IsValue bytes.now at found.value found.end) }
     ensures none { IfNone result ((n : ℤ) → at + size (value_fields (Number n)) ≤ length bytes.now → ⊥) }
 {
     if bytes.len() - at < 9 {
@@ -130,7 +143,7 @@ fn number_value(bytes: &[u8], at: usize) -> Option<Found>
 fn text_value(alloc: Global, bytes: &[u8], at: usize) -> Result<Option<Found>, NoMemory>
     requires place { at < length bytes.now }
     requires kind { number_at 1 at bytes.now ≡ 2 }
-    ensures found { IfOk result (λ read. IfSome read (λ found. StandsAt bytes.now at found.value found.end)) }
+    ensures found { IfOk result (λ read. IfSome read (λ found. StandsAt value_fields IsValue bytes.now at found.value found.end)) }
     ensures none { IfOk result (λ read. IfNone read ((t : List ℕ) → HasPart at (value_fields (Text t)) bytes.now → IsText t → at + size (value_fields (Text t)) ≤ length bytes.now → ⊥)) }
 {
     if bytes.len() - at < 3 {
@@ -153,8 +166,8 @@ fn text_value(alloc: Global, bytes: &[u8], at: usize) -> Result<Option<Found>, N
 
 fn value_at(alloc: Global, bytes: &[u8], at: usize) -> Result<Option<Found>, NoMemory>
     requires { at < length bytes.now }
-    ensures found { IfOk result (λ read. IfSome read (λ found. StandsAt bytes.now at found.value found.end)) }
-    ensures none { IfOk result (λ read. IfNone read ((value : _) (end : ℕ) → StandsAt bytes.now at value end → ⊥)) }
+    ensures found { IfOk result (λ read. IfSome read (λ found. StandsAt value_fields IsValue bytes.now at found.value found.end)) }
+    ensures none { IfOk result (λ read. IfNone read ((value : _) (end : ℕ) → StandsAt value_fields IsValue bytes.now at value end → ⊥)) }
 {
     match u8_at(bytes, at) {
         0 => Ok(Some(Found {
