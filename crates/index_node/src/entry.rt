@@ -21,13 +21,13 @@ pub struct NodeEntry {
 
 // An entry that was read, and the place behind its bytes.
 #[derive(Drop)]
-pub struct FoundEntry {
+pub(crate) struct FoundEntry {
     pub entry: NodeEntry,
     pub end: usize,
 }
 
 /// Whether an entry may stand in a node of this level.
-pub fn is_entry(level: u8, entry: &NodeEntry) -> bool
+pub(crate) fn is_entry(level: u8, entry: &NodeEntry) -> bool
     ensures yes { result ≡ true → IsEntry level entry.now }
     ensures no { result ≡ false → IsEntry level entry.now → ⊥ }
 {
@@ -36,7 +36,7 @@ pub fn is_entry(level: u8, entry: &NodeEntry) -> bool
 }
 
 /// The bytes that an entry takes.
-pub fn entry_size(entry: &NodeEntry) -> usize
+pub(crate) fn entry_size(entry: &NodeEntry) -> usize
     requires { size (values_fields entry.now.key) ≤ 120 }
     ensures value { result ≡ size (entry_fields entry.now) }
     ensures within { result ≤ 141 }
@@ -65,7 +65,7 @@ fn put_child(slot: &mut [u8], at: usize, child: Option<Dbkey>) -> usize
 }
 
 /// Writes an entry at a place, and gives the place behind it.
-pub fn put_entry(slot: &mut [u8], at: usize, entry: &NodeEntry) -> usize
+pub(crate) fn put_entry(slot: &mut [u8], at: usize, entry: &NodeEntry) -> usize
     requires room { at + size (entry_fields entry.now) ≤ length slot.old }
     requires small { length slot.old < 2 ^ 16 }
     requires key { All IsValue entry.now.key }
@@ -101,7 +101,7 @@ fn child_at(bytes: &[u8], at: usize, level: u8) -> Option<Dbkey>
 }
 
 /// The entry of a node of this level that stands at a place. None is answered only where none stands there.
-pub fn entry_at(
+pub(crate) fn entry_at(
     alloc: Global,
     bytes: &[u8],
     at: usize,

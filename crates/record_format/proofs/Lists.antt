@@ -48,7 +48,7 @@ one_part f P bytes code at (x ∷ xs) (y ∷ ys) part each also too same =
     let size_is : size (f x) ≡ size (f y) = ap (λ z. size (f z)) first in
     let middle = at + size (f x) in
     let rest = one_part f P bytes code middle xs ys (part_rest at middle (f x) (flat_map f xs) bytes refl part) (All-tail P x xs each) (part_rest at middle (f y) (flat_map f ys) bytes (omega (arith, size_is)) also) (All-tail P y ys too)
-        (omega (arith, same, size_is, size_append (f x) (flat_map f xs), size_append (f y) (flat_map f ys))) in
+    (omega (arith, same, size_is, size_append (f x) (flat_map f xs), size_append (f y) (flat_map f ys))) in
     λ i. first i ∷ rest i
 
 -- what is left behind this place of all things, whose front was read
@@ -71,8 +71,8 @@ remains f P bytes code at end (a ∷ front) (b ∷ all) part each ends within fi
     let middle = at + size (f a) in
     let same : a ≡ b = code.one at a b (part_first at (f a) (flat_map f front) bytes part) (All-head P a front each) (from_first at (f b) (flat_map f all) bytes fields) (All-head P b all allowed) in
     let left = remains f P bytes code middle end front all (part_rest at middle (f a) (flat_map f front) bytes refl part) (All-tail P a front each)
-        (omega (arith, ends, size_append (f a) (flat_map f front))) within
-        (from_rest at middle (f b) (flat_map f all) bytes (ap (λ v. at + size (f v)) same) fields) (All-tail P b all allowed) in
+    (omega (arith, ends, size_append (f a) (flat_map f front))) within
+    (from_rest at middle (f b) (flat_map f all) bytes (ap (λ v. at + size (f v)) same) fields) (All-tail P b all allowed) in
     record { rest = left.rest; is = λ i. sym same i ∷ left.is i; fields = left.fields; allowed = left.allowed }
 
 -- these things were read up to this place

@@ -1,5 +1,5 @@
 -- Values, as they stand in rows and in keys.
-use Rattle.std.specs.Prelude.{ℕ, ◌+◌, ◌-◌, ◌≤◌, ◌<◌, ◌≡◌, ◌≢◌, List, [], ◌∷◌, length, Some, slice_get, FitsSigned}
+use Rattle.std.specs.Prelude.{ℕ, ◌-◌, ◌≤◌, ◌<◌, ◌≢◌, List, [], ◌∷◌, length, Some, slice_get, FitsSigned}
 use Rattle.std.specs.Int.{w64, cast_unsigned}
 use Rattle.std.specs.List.{All, flat_map}
 use Rattle.slot_fields.specs.Fields.{Field, number, text}
