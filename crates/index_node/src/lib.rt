@@ -1,0 +1,12 @@
+//! Nodes of sorted indexes as bytes, and the order of their keys.
+#![tactic(auto)]
+
+mod entry;
+mod node;
+mod order;
+#[cfg(test)]
+mod tests;
+
+pub use entry::NodeEntry;
+pub use node::{IndexNode, is_allowed_node, one_image, one_node, put_node, read_node};
+pub use order::{entry_order, key_order, orders_are_total, value_order};

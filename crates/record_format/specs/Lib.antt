@@ -1,0 +1,4 @@
+pub mod Lists
+pub mod Values
+pub mod Rows
+pub mod Dbkeys
