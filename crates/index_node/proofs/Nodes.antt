@@ -1,7 +1,7 @@
 -- The order of entries, and the images of nodes.
 use Rattle.std.proofs.Common.{ℕ, ◌+◌, ◌<◌, ◌≤◌, ◌≡◌, Bool, true, false, List, [], ◌∷◌, length, get_or, ◌-◌, Option, Some, None, is_some, arith, sym, ap, subst, refl, ◌∙◌}
 use Rattle.std.specs.Prelude.{IfSome}
-use Rattle.std.specs.List.{All, AllAdjacentBelow, flat_map}
+use Rattle.std.specs.List.{AllAdjacentBelow, flat_map}
 use Rattle.std.specs.declared.cmp.Ordering.{Ordering}
 use Rattle.std.specs.declared.cmp.Ordering.TheVariants.{Less, Equal, Greater}
 use Rattle.std.specs.Ordering.{is_lt}
