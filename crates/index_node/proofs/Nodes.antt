@@ -1,5 +1,5 @@
 -- The order of entries, and the images of nodes.
-use Rattle.std.proofs.Common.{ℕ, ◌+◌, ◌<◌, ◌≤◌, ◌≡◌, Bool, true, false, List, [], ◌∷◌, length, get_or, ◌-◌, Option, Some, None, is_some, arith, sym, ap, subst, refl, ◌∙◌}
+use Rattle.std.proofs.Common.{ℕ, ◌+◌, ◌<◌, ◌≤◌, ◌≡◌, Bool, true, List, [], ◌∷◌, length, get_or, ◌-◌, Option, Some, None, is_some, arith, sym, ap, subst, refl, ◌∙◌}
 use Rattle.std.specs.Prelude.{IfSome}
 use Rattle.std.specs.List.{AllAdjacentBelow, flat_map}
 use Rattle.std.specs.declared.cmp.Ordering.{Ordering}
