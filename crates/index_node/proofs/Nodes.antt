@@ -1,7 +1,7 @@
 -- The order of entries, and the images of nodes.
-use Rattle.std.proofs.Common.{ℕ, ◌+◌, ◌<◌, ◌≤◌, ◌≡◌, Bool, true, false, List, [], ◌∷◌, length, get_or, ◌-◌, Option, Some, None, is_some, arith, sym, ap, subst, refl, ◌∙◌}
+use Rattle.std.proofs.Common.{ℕ, ◌+◌, ◌<◌, ◌≤◌, ◌≡◌, Bool, true, List, [], ◌∷◌, length, get_or, ◌-◌, Option, Some, None, is_some, arith, sym, ap, subst, refl, ◌∙◌}
 use Rattle.std.specs.Prelude.{IfSome}
-use Rattle.std.specs.List.{All, AllAdjacentBelow, flat_map}
+use Rattle.std.specs.List.{AllAdjacentBelow, flat_map}
 use Rattle.std.specs.declared.cmp.Ordering.{Ordering}
 use Rattle.std.specs.declared.cmp.Ordering.TheVariants.{Less, Equal, Greater}
 use Rattle.std.specs.Ordering.{is_lt}
@@ -36,13 +36,6 @@ ascends_more es i a b r past inside first second said is was = all_adjacent_more
 
 pub ascends_all : (es : List NodeEntry) (i : ℕ) → length es ≤ i → AllAdjacentBelow Below es i → IsAscending es
 ascends_all es i past was k d inside = was k d (omega (arith, inside, past))
-
-pub ascends_not : (es : List NodeEntry) (i : ℕ) (a b : NodeEntry) (r : Bool) → 1 ≤ i → i < length es → a ≡ get_or es (i - 1) a → b ≡ get_or es i b → r ≡ is_lt (entry_order a b) → r ≡ false → IsAscending es → ⊥
-ascends_not es i a b r past inside first second said is all =
-    let here : entry_order (get_or es (i - 1) a) (get_or es i a) ≡ Less = subst (λ (j : ℕ). entry_order (get_or es (i - 1) a) (get_or es j a) ≡ Less) (let same : i - 1 + 1 ≡ i = omega (arith, past) in same) (all (i - 1) a (omega (arith, past, inside))) in
-    let link : entry_order (get_or es (i - 1) a) (get_or es i a) ≡ entry_order a b = pair_read es (λ x y. entry_order x y ≡ entry_order a b) (i - 1) i a b (omega (arith, inside, past)) inside first second refl a in
-    let bad : false ≡ true = sym is ∙ said ∙ ap is_lt (sym link ∙ here) in
-    cc
 
 pub entries_of : (bytes : List ℕ) (n : IndexNode) → IsNode bytes n → AreListed entry_fields (IsEntry n.level) bytes 4 n.entries
 entries_of bytes n is = record { fields = is.fields.1.1.1; allowed = is.allowed.entries }

@@ -1,7 +1,8 @@
--- Values, keys and entries are in a total order.
-use Rattle.std.specs.Prelude.{◌≡◌, ℕ, ℤ, List, [], pos}
-use Rattle.std.proofs.Common.{refl, subst}
+-- Values, keys and entries are in a total order, in which different values and keys never tie.
+use Rattle.std.specs.Prelude.{◌≡◌, ℕ, ℤ, List, [], ◌∷◌, pos}
+use Rattle.std.proofs.Common.{refl, ap, subst}
 use Rattle.std.proofs.lemmas.Cmp.{nat_cmp_total, int_cmp_total, nat_list_cmp_total, on_total, then_total, lists_total}
+use Rattle.std.proofs.lemmas.Map.Lookups.{exact_signed, exact_bytes}
 use Rattle.std.specs.Cmp.{IsTotalOrder}
 use Rattle.std.specs.Cmp.Lexicographic.{slice_cmp}
 use Rattle.std.specs.declared.cmp.Ordering.{Ordering}
@@ -60,3 +61,29 @@ dbkeys_total = then_total (on_total (λ k. k.area) nat_cmp_total) (then_total (o
 
 pub entries_total : IsTotalOrder entry_order
 entries_total = then_total (on_total (λ (e : NodeEntry). e.key) keys_total) (on_total (λ (e : NodeEntry). e.row) dbkeys_total)
+
+-- what ties is equal
+
+then_ties : (o p : Ordering) → ordering_then o p ≡ Equal → (o ≡ Equal) × (p ≡ Equal)
+then_ties Less p ties = cc
+then_ties Equal p ties = (refl, ties)
+then_ties Greater p ties = cc
+
+pub values_exact : (a b : Value) → value_order a b ≡ Equal → a ≡ b
+values_exact Missing Missing ties = refl
+values_exact Missing (Number n) ties = cc
+values_exact Missing (Text t) ties = cc
+values_exact (Number m) Missing ties = cc
+values_exact (Number m) (Number n) ties = ap Number (exact_signed m n ties)
+values_exact (Number m) (Text t) ties = cc
+values_exact (Text s) Missing ties = cc
+values_exact (Text s) (Number n) ties = cc
+values_exact (Text s) (Text t) ties = ap Text (exact_bytes s t ties)
+
+pub keys_exact : (a b : List Value) → key_order a b ≡ Equal → a ≡ b
+keys_exact [] [] ties = refl
+keys_exact [] (y ∷ ys) ties = cc
+keys_exact (x ∷ xs) [] ties = cc
+keys_exact (x ∷ xs) (y ∷ ys) ties =
+    let both = then_ties (value_order x y) (key_order xs ys) ties in
+    λ i. values_exact x y both.0 i ∷ keys_exact xs ys both.1 i

@@ -9,4 +9,4 @@ mod tests;
 
 pub use entry::NodeEntry;
 pub use node::{IndexNode, is_allowed_node, one_image, one_node, put_node, read_node};
-pub use order::{entry_order, key_order, orders_are_total, value_order};
+pub use order::{entry_order, key_order, orders_are_exact, orders_are_total, value_order};

@@ -1,5 +1,6 @@
 // The order of keys.
 ghost use Rattle.std.specs.Prelude.{◌≡◌};
+ghost use Rattle.std.specs.declared.cmp.Ordering.TheVariants.{Equal};
 ghost use Rattle.std.specs.Cmp.{IsTotalOrder};
 ghost use Rattle.index_node.specs.Order.{value_order as value_order_of, key_order as key_order_of, entry_order as entry_order_of};
 
@@ -54,4 +55,10 @@ pub fn orders_are_total()
     ensures values { IsTotalOrder value_order_of }
     ensures keys { IsTotalOrder key_order_of }
     ensures entries { IsTotalOrder entry_order_of }
+{}
+
+/// Different values never tie, nor do different keys.
+pub fn orders_are_exact()
+    ensures values { (a b : _) → value_order_of a b ≡ Equal → a ≡ b }
+    ensures keys { (a b : _) → key_order_of a b ≡ Equal → a ≡ b }
 {}

@@ -1,4 +1,4 @@
-use Rattle.std.proofs.Common.{◌+◌, ◌∙◌, sym, refl, arith, ap}
+use Rattle.std.proofs.Common.{◌+◌, sym, refl, arith, ap}
 use Rattle.index_node.proofs.Entries.{entry_found, entry_too_long, entry_without_key}
 use Rattle.index_node.proofs.entry.entry_at.Goals.{then-key_size-gt120-via-then-key_size-gt120, then-key_size-gt120-via-else-key_size-gt120+then-bytes-at}
 use Rattle.index_node.proofs.entry.entry_at.Goals as goal

@@ -1,4 +1,4 @@
-use Rattle.index_node.proofs.Nodes.{ascends_none, ascends_more, ascends_all, ascends_not}
+use Rattle.index_node.proofs.Nodes.{ascends_none, ascends_more, ascends_all}
 use Rattle.index_node.proofs.node.is_ascending.Goals as goal
 
 pub loop-next-init : goal.loop-next-init

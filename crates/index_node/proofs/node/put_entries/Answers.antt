@@ -1,6 +1,6 @@
 use Rattle.std.proofs.Common.{take, arith}
 use Rattle.std.specs.List.{flat_map}
-use Rattle.record_format.proofs.Laying.{HasLaid, laid_then}
+use Rattle.record_format.proofs.Laying.{laid_then}
 use Rattle.record_format.proofs.Lists.{size_up_to, fields_more}
 use Rattle.index_node.specs.Node.{entry_fields}
 use Rattle.index_node.proofs.node.put_entries.Goals as goal

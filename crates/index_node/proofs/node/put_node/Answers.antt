@@ -1,4 +1,4 @@
-use Rattle.std.proofs.Common.{ℕ, ◌<◌, ◌^◌, refl, ap, subst, arith, ◌∙◌, length}
+use Rattle.std.proofs.Common.{ℕ, ◌<◌, ◌^◌, refl, ap, subst, arith, length}
 use Rattle.std.specs.List.{flat_map}
 use Rattle.slot_fields.specs.Fields.{size, Fit}
 use Rattle.slot_fields.proofs.Laws.{whole_ends}
