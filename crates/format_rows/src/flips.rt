@@ -1,4 +1,6 @@
 //! Each byte of each kind of slot changed in turn: what is read then is refused, or is a value that is written as the same bytes.
+ghost use Rattle.rdb_page.specs.Lines.{IsAllowedLine};
+
 use aij_journal::{AijPart, GroupLine, put_slot, read_slot};
 use index_node::{is_allowed_node, put_node, read_node};
 use rdb_page::{Head, put_head, read_head};
@@ -42,7 +44,7 @@ fn page_head(slot: &[u8; 1024]) -> Read {
     };
     let mut again = [0; 1024];
     put_head(&mut again, &head);
-    compared(again[..24] == slot[..24])
+    compared(again.iter().zip(slot).take(24).all(|(a, b)| a == b))
 }
 
 fn ruj_header(slot: &[u8; 512]) -> Read {
@@ -117,25 +119,27 @@ fn node(alloc: Global, bytes: &[u8]) -> Result<Read, NoMemory> {
     }
 }
 
-fn image(bytes: &[u8]) -> Image {
-    Image::from_bytes(bytes)
-}
-
-fn limits() -> Limits {
-    Limits {
+const ROOT: Root = Root {
+    format: 1,
+    state: 1,
+    limits: Limits {
         pages: 7,
         snaps: 8,
         entries: 9,
         slots: 10,
-    }
-}
+    },
+    ceiling: 65,
+    applied: 2,
+};
 
-fn line() -> Line {
+fn line() -> Line
+    ensures { IsAllowedLine 440 result }
+{
     Line {
         state: LineState::Present,
         tsn: Tsn { number: 5 },
         chain: 3,
-        image: image(b"abc"),
+        image: Image::from_bytes(b"abc"),
     }
 }
 
@@ -143,16 +147,7 @@ fn line() -> Line {
 #[test]
 fn large_slots_are_read_as_they_stand(rt: HostRuntime) {
     let mut slot = [0; 1024];
-    put_root(
-        &mut slot,
-        &Root {
-            format: 1,
-            state: 1,
-            limits: limits(),
-            ceiling: 65,
-            applied: 2,
-        },
-    );
+    put_root(&mut slot, &ROOT);
     assert_eq!(rt; root(&slot), Read::Same);
     let mut page = [0; 1024];
     put_head(
@@ -205,7 +200,7 @@ fn small_slots_are_read_as_they_stand(rt: HostRuntime) {
                 key: KEY,
                 class: 208,
                 state: LineState::Present,
-                image: image(b"abc"),
+                image: Image::from_bytes(b"abc"),
             }),
         },
     );
@@ -216,7 +211,7 @@ fn small_slots_are_read_as_they_stand(rt: HostRuntime) {
             key: KEY,
             tsn: Tsn { number: 5 },
             state: LineState::Present,
-            image: image(b"abc"),
+            image: Image::from_bytes(b"abc"),
             pusher: Tsn { number: 6 },
             previous: 0,
         },
