@@ -36,6 +36,50 @@ def sql_stores(count):
     return "BEGIN;\nCREATE TABLE R (A INTEGER, B TEXT);\n" + rows + "SELECT A, B FROM R;\nCOMMIT;\n"
 
 
+RDO_TABLE = "START_TRANSACTION READ_WRITE\nDEFINE RELATION {name}.\n A DATATYPE IS SIGNED LONGWORD.\n B DATATYPE IS TEXT SIZE IS 20.\nEND {name} RELATION.\n"
+
+
+def mixed(count):
+    """The numbers below count, each once, in an order that isn't theirs."""
+    return [n * 7919 % count for n in range(count)]
+
+
+def rdo_rows(name, numbers):
+    return "".join(f"STORE X IN {name} USING X.A = {n}; X.B = 'row {n}'; END_STORE\n" for n in numbers)
+
+
+def sql_rows(name, numbers):
+    return "".join(f"INSERT INTO {name} VALUES ({n}, 'row {n}');\n" for n in numbers)
+
+
+def rdo_unique(count):
+    index = "DEFINE INDEX I FOR R DUPLICATES ARE NOT ALLOWED. A. END I INDEX.\n"
+    return RDO_TABLE.format(name="R") + index + rdo_rows("R", mixed(count)) + "PRINT COUNT OF X IN R\nCOMMIT\n"
+
+
+def sql_unique(count):
+    return "BEGIN;\nCREATE TABLE R (A INTEGER, B TEXT);\nCREATE UNIQUE INDEX I ON R (A);\n" + sql_rows("R", mixed(count)) + "SELECT COUNT(*) FROM R;\nCOMMIT;\n"
+
+
+def rdo_asked(question):
+    return lambda count: RDO_TABLE.format(name="R") + rdo_rows("R", mixed(count)) + question + "\nCOMMIT\n"
+
+
+def sql_asked(question):
+    return lambda count: "BEGIN;\nCREATE TABLE R (A INTEGER, B TEXT);\n" + sql_rows("R", mixed(count)) + question + ";\nCOMMIT;\n"
+
+
+CONDITION = (
+    "FOR X IN R WITH X.A BETWEEN 100 AND 4000 AND X.B CONTAINING '7' PRINT X.A END_FOR",
+    "SELECT A FROM R WHERE A BETWEEN 100 AND 4000 AND B LIKE '%7%'",
+)
+JOIN = (
+    "FOR X IN R CROSS Y IN R WITH X.A EQ Y.A AND X.A LT 250 PRINT X.A, Y.B END_FOR",
+    "SELECT X.A, Y.B FROM R X CROSS JOIN R Y WHERE X.A = Y.A AND X.A < 250",
+)
+SORT = ("FOR X IN R SORTED BY DESCENDING X.A PRINT X.A END_FOR", "SELECT A FROM R ORDER BY A DESC")
+
+
 def rdo_session(number, count):
     rows = "".join(f"STORE X IN R{number} USING X.A = {n}; END_STORE\n" for n in range(count))
     head = f"START_TRANSACTION READ_WRITE\nDEFINE RELATION R{number}. A DATATYPE IS SIGNED LONGWORD. END R{number} RELATION.\n"
@@ -142,5 +186,10 @@ with tempfile.TemporaryDirectory() as folder:
     compare("10,000 STOREs and a FOR", rdo_stores(10000), sql_stores(10000), folder)
     growth("PRINTs", rdo_prints, 4000, 16000, folder)
     growth("STOREs", rdo_stores, 2500, 10000, folder)
+    compare("5,000 STOREs under a unique index", rdo_unique(5000), sql_unique(5000), folder)
+    growth("STOREs under a unique index", rdo_unique, 1250, 5000, folder)
+    for name, (ours, theirs), count in [("a condition over", CONDITION, 5000), ("a join of twice", JOIN, 500), ("a sort of", SORT, 5000)]:
+        compare(f"{name} {count:,} rows, with their STOREs", rdo_asked(ours)(count), sql_asked(theirs)(count), folder)
+        growth(f"{name} rows", rdo_asked(ours), count // 4, count, folder)
     compare_sessions(500, folder)
     compare_disks(10000, 1000, folder)
