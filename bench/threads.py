@@ -1,7 +1,7 @@
 #!/usr/bin/env python3
 """Runs sessions in threads, again and again, and looks for one order of the commits that explains the transcripts.
 
-Usage: bench/threads.py PROGRAM [RUNS]. Each of 16 sessions has five read-write transactions; each stores a row of its own in one
+Usage: bench/threads.py PROGRAM [RUNS]. Each of 16 sessions has 40 read-write transactions, 200 statements; each stores a row of its own in one
 relation and prints all its rows. Session 1 defines the relation first; a transaction before that is answered NOSUCH. Outside the gate,
 since what is printed depends on the schedule."""
 import os
@@ -10,7 +10,7 @@ import sys
 import tempfile
 
 SESSIONS = 16
-TRANSACTIONS = 5
+TRANSACTIONS = 40
 
 
 def script(session):
