@@ -1,0 +1,6 @@
+use Rattle.std.proofs.Common.{rules, ◌≡◌, None, Some, map, OnOk, OnErr, IsTrue, ℕ, ◌+◌, ◌-◌, ◌*◌, ◌<◌, ◌≤◌, length, Bool, true, false, List, [], ◌∷◌, ◌++◌, refl, sym, ap, subst, ◌∙◌}
+use Rattle.line_view.proofs.Steps.{line_learnt}
+use Rattle.line_view.proofs.known.Known.learn_line.Goals as goal
+
+pub returns-clause-ok : goal.returns-clause-ok
+returns-clause-ok c = line_learnt c.self.inside.lines.entries c.insert.new.self.entries _ _ c.args.self.now c.args.key c.args.image c.self.view_is c.in_ok-_before.ensures.entries

@@ -1,0 +1,9 @@
+use Rattle.std.proofs.Common.{rules, ◌≡◌, None, Some, map, OnOk, OnErr, IsTrue, ℕ, ◌+◌, ◌-◌, ◌*◌, ◌<◌, ◌≤◌, length, take, drop, Bool, true, false, List, [], ◌∷◌, ◌++◌, refl, sym, ap, subst, ◌∙◌}
+use Rattle.line_view.proofs.Steps.{laid_over, all_back}
+use Rattle.line_view.proofs.known.Known.put.Goals as goal
+
+pub returns-in-Err-clause-err : goal.returns-in-Err-clause-err
+returns-in-Err-clause-err c = all_back c.self.inside.lines.entries c.take_back.new.lines.entries c.insert.new.self.entries _ _ _ c.args.self.now c.args.key c.args.image c.in_ok-before.before c.self.view_is c.insert.ensures.was_ordered c.in_ok-before.ensures.entries c.in_ok-before.ensures.old c.take_back.ensures c.in-Err.ensures.err
+
+pub returns-clause-ok : goal.returns-clause-ok
+returns-clause-ok c = laid_over c.self.inside.lines.entries c.insert.new.self.entries _ _ _ c.args.self.now c.args.key c.args.image _ c.self.view_is c.in_ok-before.ensures.entries (search rules) c.in_default.ensures.ok

@@ -1,0 +1,172 @@
+ghost use Rattle.std.specs.Prelude.{◌≡◌, ℕ, Some, map, take, IfOk, OnOk, OnErr};
+ghost use Rattle.std.specs.FinMap.Entries.{find};
+ghost use Rattle.line_view.specs.Knowledge.{keys_of};
+ghost use Rattle.line_view.specs.Held.{nothing, knows, ordered, key_sets, entry_of, TakesBack, with_line, with_lines, with_area, with_room, with_write, areas_written, room_order};
+
+use crate::{Room, Seen, View};
+use rdb_types::{Dbkey, Image, NoMemory};
+use std::alloc::Global;
+use std::collections::{BTreeMap, BTreeSet};
+use std::marker::Model;
+
+/// A present line.
+#[derive(Drop)]
+pub struct PresentLine {
+    pub key: Dbkey,
+    pub image: Image,
+}
+
+// The keys of a known area behind a write. Only a new key wants memory.
+fn write_key(
+    areas: &mut BTreeMap<u32, BTreeSet<Dbkey>>,
+    key: Dbkey,
+    is_present: bool,
+) -> Result<(), NoMemory>
+    ensures ok { OnOk result (key_sets areas.new.entries ≡ areas_written key is_present (key_sets areas.old.entries)) }
+    ensures err { OnErr result (key_sets areas.new.entries ≡ key_sets areas.old.entries) }
+{
+    let Some(keys) = areas.get_mut(&key.area) else {
+        return Ok(());
+    };
+    if is_present {
+        let _is_new = keys.insert(key)?;
+    } else {
+        let _was_there = keys.remove(&key);
+    }
+    Ok(())
+}
+
+// What was known of the line before it was laid over, which wants no memory.
+fn take_back(
+    lines: &mut BTreeMap<Dbkey, Option<Image>>,
+    key: Dbkey,
+    before: Option<Option<Image>>,
+)
+    ensures { TakesBack key before lines.old.entries lines.new.entries }
+{
+    match before {
+        Some(image) => {
+            let _laid = lines.insert(key, image);
+        }
+        None => {
+            let _laid = lines.remove(&key);
+        }
+    }
+}
+
+fn key_set(alloc: Global, lines: &[PresentLine]) -> Result<BTreeSet<Dbkey>, NoMemory>
+    ensures { IfOk result (λ keys. keys.keys ≡ ordered (keys_of (map entry_of lines.now))) }
+{
+    let mut keys = BTreeSet::new(alloc);
+    for line in lines {
+        let _is_new = keys.insert(line.key)?;
+    }
+    Ok(keys)
+}
+
+/// What is known of lines, areas and rooms. A look-up takes time in the logarithm of what is known.
+#[derive(Drop)]
+pub struct Known {
+    lines: BTreeMap<Dbkey, Option<Image>>,
+    areas: BTreeMap<u32, BTreeSet<Dbkey>>,
+    rooms: BTreeMap<Room, Dbkey>,
+}
+
+impl Model for Known {
+    ghost use Rattle.line_view.specs.Held.{Held, AreRooms, key_sets};
+
+    ghost Value = { Held };
+
+    ghost view = { λ k. record { lines = k.lines.entries; areas = key_sets k.areas.entries; rooms = k.rooms.entries } };
+
+    ghost invariant = { λ k. AreRooms k.rooms.entries };
+}
+
+impl Known {
+    /// Nothing is known.
+    pub fn new(alloc: Global) -> Known
+        ensures { result ≡ nothing }
+    {
+        Known {
+            lines: BTreeMap::new(alloc),
+            areas: BTreeMap::new(alloc),
+            rooms: BTreeMap::new(alloc),
+        }
+    }
+
+    /// Takes the answer to the need of a line.
+    pub fn learn_line(&mut self, key: Dbkey, image: Option<Image>) -> Result<(), NoMemory>
+        ensures ok { OnOk result (self.new ≡ with_line key image self.old) }
+        ensures err { OnErr result (self.new ≡ self.old) }
+    {
+        let _before = self.lines.insert(key, image)?;
+        Ok(())
+    }
+
+    /// Takes the answer to the need of an area: its present lines. Where memory fails some of the lines may be known.
+    pub fn learn_area(
+        &mut self,
+        alloc: Global,
+        area: u32,
+        lines: &[PresentLine],
+    ) -> Result<(), NoMemory>
+        ensures ok { OnOk result (self.new ≡ with_area area (map entry_of lines.now) self.old) }
+        ensures err { OnErr result ((n : ℕ) × (self.new ≡ with_lines (take n (map entry_of lines.now)) self.old)) }
+    {
+        let keys = key_set(alloc, lines)?;
+        for line in lines {
+            self.learn_line(line.key, Some(Image::from_bytes(line.image.bytes())))?;
+        }
+        let _before = self.areas.insert(area, keys)?;
+        Ok(())
+    }
+
+    /// Takes the answer to the need of a room.
+    pub fn learn_room(&mut self, room: Room, key: Dbkey) -> Result<(), NoMemory>
+        requires within { key.area ≡ room.area }
+        requires apart { (other : Room) → find room_order other self.old.rooms ≡ Some key → other ≡ room }
+        ensures ok { OnOk result (self.new ≡ with_room room key self.old) }
+        ensures err { OnErr result (self.new ≡ self.old) }
+    {
+        let _before = self.rooms.insert(room, key)?;
+        Ok(())
+    }
+
+    /// Lays a write over what is known: the line is present with this image, or it isn't.
+    pub fn put(&mut self, key: Dbkey, image: Option<Image>) -> Result<(), NoMemory>
+        ensures ok { OnOk result (self.new ≡ with_write key image self.old) }
+        ensures err { OnErr result (self.new ≡ self.old) }
+    {
+        let is_present = image.is_some();
+        let before = self.lines.insert(key, image)?;
+        if let Err(stop) = write_key(&mut self.areas, key, is_present) {
+            take_back(&mut self.lines, key, before);
+            return Err(stop);
+        }
+        Ok(())
+    }
+}
+
+impl View for Known {
+    ghost knows = { knows };
+
+    fn line(&self, key: Dbkey) -> Seen<'_> {
+        match self.lines.get(&key) {
+            None => Seen::Unknown,
+            Some(None) => Seen::Absent,
+            Some(Some(image)) => Seen::Present(image.bytes()),
+        }
+    }
+
+    fn area(&self, area: u32) -> Option<&BTreeSet<Dbkey>> {
+        self.areas.get(&area)
+    }
+
+    fn room(&self, room: Room) -> Option<Dbkey> {
+        let key = *self.rooms.get(&room)?;
+        if let Seen::Present(_) = self.line(key) {
+            return None;
+        }
+        Some(key)
+    }
+}

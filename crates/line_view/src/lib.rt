@@ -1,0 +1,13 @@
+//! What is known of the lines of a database, for work that stops where it lacks one.
+#![tactic(auto)]
+
+mod known;
+mod need;
+mod view;
+
+pub use known::{Known, PresentLine};
+pub use need::{Need, Room, Stop};
+pub use view::{Seen, View};
+
+
+

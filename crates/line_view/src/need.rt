@@ -1,0 +1,28 @@
+use rdb_types::Dbkey;
+
+/// The nth line, from 0, that may be taken for a new row of a logical area on pages of a class.
+#[derive(Clone, Copy, Debug, PartialEq, Eq, PartialOrd, Ord)]
+pub struct Room {
+    pub area: u32,
+    pub class: u16,
+    pub nth: u32,
+}
+
+/// What work over a view reads.
+#[derive(Clone, Copy, Debug, PartialEq, Eq)]
+pub enum Need {
+    Line(Dbkey),
+    /// All present lines of a logical area.
+    Area(u32),
+    Room(Room),
+}
+
+/// Why work over a view stops.
+#[derive(Clone, Copy, Debug, PartialEq, Eq)]
+pub enum Stop {
+    /// The view lacks what the work reads next.
+    Missing(Need),
+    /// This line's bytes are none of its kind.
+    Bad(Dbkey),
+    NoMemory,
+}
