@@ -83,7 +83,7 @@ module _ {K V : Type 0} (R : K → K → Ordering) (o : IsTotalOrder R) where
     | Greater ↦ λ p h. ap (λ r. cond (is_eq r) (put R k v es) (e ∷ remove_entry (is_at (R k)) (put R k v es))) p ∙ ap (λ l. e ∷ l) (remove-put k v es h)
   ] refl none
 
--- ---- what was put is found, and nothing else changes
+  -- ---- what was put is found, and nothing else changes
 
   pub found_behind : (q k : K) (v w : V) (es : List (K × V)) → ((a b : K) → R a b ≡ Equal → a ≡ b) → find R q (put R k v es) ≡ Some w → ((q ≡ k) × (w ≡ v)) ⊎ (find R q es ≡ Some w)
   found_behind q k v w es same found =

@@ -1,2 +1,4 @@
 pub mod Entries
 pub mod Steps
+pub mod FullMap
+pub mod Agreements

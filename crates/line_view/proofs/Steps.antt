@@ -105,13 +105,13 @@ are_rooms rooms new room key are step area alone = subst AreRooms (put_insert ro
   apart : (a b : Room) (k : Dbkey) → find room_order a (put room_order room key rooms) ≡ Some k → find room_order b (put room_order room key rooms) ≡ Some k → a ≡ b
   apart a b k p q = elim (behind a k p) [
     | inl e ↦ elim (behind b k q) [
-        | inl f ↦ e.0 ∙ sym f.0
-        | inr f ↦ e.0 ∙ sym (alone b (f ∙ ap Some e.1))
-      ]
+      | inl f ↦ e.0 ∙ sym f.0
+      | inr f ↦ e.0 ∙ sym (alone b (f ∙ ap Some e.1))
+    ]
     | inr e ↦ elim (behind b k q) [
-        | inl f ↦ alone a (e ∙ ap Some f.1) ∙ sym f.0
-        | inr f ↦ are.apart a b k e f
-      ]
+      | inl f ↦ alone a (e ∙ ap Some f.1) ∙ sym f.0
+      | inr f ↦ are.apart a b k e f
+    ]
   ]
 
 -- ---- a line that is taken back
@@ -164,7 +164,7 @@ pub one_line_more : (lines : List PresentLine) (i : ℕ) (line : PresentLine) (h
     with_lines (take (i + 1) (map entry_of lines)) h ≡ with_line line.key (Some line.image) (with_lines (take i (map entry_of lines)) h)
 one_line_more lines i line h inside is =
     ap (λ es. with_lines es h) (take_more (map entry_of lines) i (entry_of line) (omega (arith, length-map lines entry_of, inside))
-      ∙ ap (λ e. take i (map entry_of lines) ++ e ∷ []) (get_or-map entry_of lines i line (entry_of line) inside ∙ ap entry_of (sym is)))
+    ∙ ap (λ e. take i (map entry_of lines) ++ e ∷ []) (get_or-map entry_of lines i line (entry_of line) inside ∙ ap entry_of (sym is)))
     ∙ lines_behind (take i (map entry_of lines)) (entry_of line ∷ []) h
 
 pub all_lines : (lines : List PresentLine) (i : ℕ) (h : Held) → length lines ≤ i → with_lines (take i (map entry_of lines)) h ≡ with_lines (map entry_of lines) h

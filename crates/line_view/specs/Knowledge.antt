@@ -1,8 +1,8 @@
 -- What a view knows of a full map of lines, and what it means that it agrees with one.
-use Rattle.std.specs.Prelude.{◌≡◌, ℕ, ◌==◌, not, List, map, Option, Some, None}
+use Rattle.std.specs.Prelude.{◌≡◌, ℕ, ◌==◌, true, not, List, map, Option, Some, None}
 use Rattle.std.specs.List.{filter}
 use Rattle.std.specs.Ordering.{is_eq}
-use Rattle.std.specs.FinMap.Entries.{find, put}
+use Rattle.std.specs.FinMap.Entries.{find, put, is_sorted}
 use Rattle.rdb_types.specs.declared.keys.Dbkey.{Dbkey}
 use Rattle.ordered_entries.specs.Order.{dbkey_order}
 use Rattle.line_view.specs.declared.need.Room.{Room}
@@ -14,6 +14,9 @@ use Rattle.line_view.specs.declared.view.Seen.TheVariants.{Unknown, Absent, Pres
 -- the present lines with the bytes of their images, in the order of their Dbkeys
 abbrev pub Lines : Type 0
 Lines = List (Dbkey × List ℕ)
+
+abbrev pub IsInOrder : Lines → Type 0
+IsInOrder lines = is_sorted dbkey_order lines ≡ true
 
 abbrev pub line_in : Dbkey → Lines → Option (List ℕ)
 line_in = find dbkey_order

@@ -1,6 +1,6 @@
-ghost use Rattle.std.specs.Prelude.{◌≡◌, ℕ, Some, map, take, IfOk, OnOk, OnErr};
+ghost use Rattle.std.specs.Prelude.{◌≡◌, ℕ, None, Some, map, take, IfOk, OnOk, OnErr};
 ghost use Rattle.std.specs.FinMap.Entries.{find};
-ghost use Rattle.line_view.specs.Knowledge.{keys_of};
+ghost use Rattle.line_view.specs.Knowledge.{Lines, IsInOrder, Agrees, keys_of, line_in, lines_in, laid};
 ghost use Rattle.line_view.specs.Held.{nothing, knows, ordered, key_sets, entry_of, TakesBack, with_line, with_lines, with_area, with_room, with_write, areas_written, room_order};
 
 use crate::{Room, Seen, View};
@@ -37,11 +37,7 @@ fn write_key(
 }
 
 // What was known of the line before it was laid over, which wants no memory.
-fn take_back(
-    lines: &mut BTreeMap<Dbkey, Option<Image>>,
-    key: Dbkey,
-    before: Option<Option<Image>>,
-)
+fn take_back(lines: &mut BTreeMap<Dbkey, Option<Image>>, key: Dbkey, before: Option<Option<Image>>)
     ensures { TakesBack key before lines.old.entries lines.new.entries }
 {
     match before {
@@ -97,6 +93,8 @@ impl Known {
     /// Takes the answer to the need of a line.
     pub fn learn_line(&mut self, key: Dbkey, image: Option<Image>) -> Result<(), NoMemory>
         ensures ok { OnOk result (self.new ≡ with_line key image self.old) }
+        ensures agrees { OnOk result ((all : Lines) → Agrees (knows self.old) all
+            → image ≡ line_in key all → Agrees (knows self.new) all) }
         ensures err { OnErr result (self.new ≡ self.old) }
     {
         let _before = self.lines.insert(key, image)?;
@@ -111,6 +109,8 @@ impl Known {
         lines: &[PresentLine],
     ) -> Result<(), NoMemory>
         ensures ok { OnOk result (self.new ≡ with_area area (map entry_of lines.now) self.old) }
+        ensures agrees { OnOk result ((all : Lines) → IsInOrder all → Agrees (knows self.old) all
+            → map entry_of lines.now ≡ lines_in area all → Agrees (knows self.new) all) }
         ensures err { OnErr result ((n : ℕ) × (self.new ≡ with_lines (take n (map entry_of lines.now)) self.old)) }
     {
         let keys = key_set(alloc, lines)?;
@@ -126,6 +126,8 @@ impl Known {
         requires within { key.area ≡ room.area }
         requires apart { (other : Room) → find room_order other self.old.rooms ≡ Some key → other ≡ room }
         ensures ok { OnOk result (self.new ≡ with_room room key self.old) }
+        ensures agrees { OnOk result ((all : Lines) → Agrees (knows self.old) all
+            → line_in key all ≡ None → Agrees (knows self.new) all) }
         ensures err { OnErr result (self.new ≡ self.old) }
     {
         let _before = self.rooms.insert(room, key)?;
@@ -135,6 +137,8 @@ impl Known {
     /// Lays a write over what is known: the line is present with this image, or it isn't.
     pub fn put(&mut self, key: Dbkey, image: Option<Image>) -> Result<(), NoMemory>
         ensures ok { OnOk result (self.new ≡ with_write key image self.old) }
+        ensures agrees { OnOk result ((all : Lines) → IsInOrder all → Agrees (knows self.old) all
+            → Agrees (knows self.new) (laid key image all)) }
         ensures err { OnErr result (self.new ≡ self.old) }
     {
         let is_present = image.is_some();

@@ -9,5 +9,5 @@ pub use known::{Known, PresentLine};
 pub use need::{Need, Room, Stop};
 pub use view::{Seen, View};
 
-
-
+#[cfg(test)]
+mod tests;

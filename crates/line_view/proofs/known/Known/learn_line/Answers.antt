@@ -1,6 +1,14 @@
 use Rattle.std.proofs.Common.{rules, ◌≡◌, None, Some, map, OnOk, OnErr, IsTrue, ℕ, ◌+◌, ◌-◌, ◌*◌, ◌<◌, ◌≤◌, length, Bool, true, false, List, [], ◌∷◌, ◌++◌, refl, sym, ap, subst, ◌∙◌}
+use Rattle.line_view.specs.Knowledge.{Agrees, laid}
+use Rattle.line_view.specs.Held.{AreRooms, knows}
+use Rattle.line_view.proofs.Agreements.{line_agrees}
 use Rattle.line_view.proofs.Steps.{line_learnt}
 use Rattle.line_view.proofs.known.Known.learn_line.Goals as goal
 
 pub returns-clause-ok : goal.returns-clause-ok
 returns-clause-ok c = line_learnt c.self.inside.lines.entries c.insert.new.self.entries _ _ c.args.self.now c.args.key c.args.image c.self.view_is c.in_ok-_before.ensures.entries
+
+pub returns-clause-agrees : goal.returns-clause-agrees
+returns-clause-agrees c = λ all agrees is.
+    subst (λ h. Agrees (knows h) all) (sym (returns-clause-ok c))
+    (line_agrees c.args.self.now c.args.key c.args.image (subst (λ h. AreRooms h.rooms) c.self.view_is c.self.invariant) all agrees is)

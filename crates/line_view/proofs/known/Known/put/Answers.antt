@@ -1,4 +1,7 @@
 use Rattle.std.proofs.Common.{rules, ◌≡◌, None, Some, map, OnOk, OnErr, IsTrue, ℕ, ◌+◌, ◌-◌, ◌*◌, ◌<◌, ◌≤◌, length, take, drop, Bool, true, false, List, [], ◌∷◌, ◌++◌, refl, sym, ap, subst, ◌∙◌}
+use Rattle.line_view.specs.Knowledge.{Agrees, laid}
+use Rattle.line_view.specs.Held.{AreRooms, knows}
+use Rattle.line_view.proofs.Agreements.{write_agrees}
 use Rattle.line_view.proofs.Steps.{laid_over, all_back}
 use Rattle.line_view.proofs.known.Known.put.Goals as goal
 
@@ -7,3 +10,8 @@ returns-in-Err-clause-err c = all_back c.self.inside.lines.entries c.take_back.n
 
 pub returns-clause-ok : goal.returns-clause-ok
 returns-clause-ok c = laid_over c.self.inside.lines.entries c.insert.new.self.entries _ _ _ c.args.self.now c.args.key c.args.image _ c.self.view_is c.in_ok-before.ensures.entries (search rules) c.in_default.ensures.ok
+
+pub returns-clause-agrees : goal.returns-clause-agrees
+returns-clause-agrees c = λ all sorted agrees.
+    subst (λ h. Agrees (knows h) (laid c.args.key c.args.image all)) (sym (returns-clause-ok c))
+    (write_agrees c.args.self.now c.args.key c.args.image (subst (λ h. AreRooms h.rooms) c.self.view_is c.self.invariant) all sorted agrees)
