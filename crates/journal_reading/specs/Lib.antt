@@ -1,0 +1,2 @@
+pub mod OnlyReads
+pub mod Journal
