@@ -7,6 +7,7 @@ import tempfile
 import time
 
 RDB = sys.argv[1]
+FILE_BENCH = os.path.abspath(os.path.join(os.path.dirname(RDB), "..", "..", "file_bench", "out", "file_bench"))
 SESSIONS = 16
 ROUNDS = 5
 SQLITE = shutil.which("sqlite3")
@@ -164,21 +165,40 @@ def compare_sessions(count, folder):
 
 
 def compare_disks(writes, barriers, folder):
-    ours_at = os.path.join(os.path.dirname(RDB), "..", "..", "disk_bench", "out", "disk_bench")
     compiler = shutil.which("gcc") or shutil.which("cc")
-    if not os.path.exists(ours_at) or compiler is None:
-        print("disk: skipped, disk_bench isn't built (rt run in crates/disk_bench) or there is no C compiler")
+    if not os.path.exists(FILE_BENCH) or compiler is None:
+        print("disk: skipped, file_bench isn't built (rt run in crates/file_bench) or there is no C compiler")
         return
     theirs_at = os.path.join(folder, "disk")
     source = os.path.join(os.path.dirname(os.path.abspath(__file__)), "disk.c")
     subprocess.run([compiler, "-O2", "-o", theirs_at, source], check=True)
     words = [str(writes), str(barriers)]
-    ours, printed = timed([os.path.abspath(ours_at)] + words, b"", folder)
+    ours, printed = timed([FILE_BENCH, "writes"] + words, b"", folder)
     theirs, answer = timed([theirs_at] + words, b"", folder)
     if ours is None or theirs is None or printed != answer:
         print("disk: a program failed")
         return
     print(f"{writes} slot writes and {barriers} barriers: rdb {ours * 1000:.1f} ms, C {theirs * 1000:.1f} ms, ratio {ours / theirs:.2f}")
+
+
+def scan(slots, folder):
+    """The seconds that a scan of a journal of so many slots takes, or none."""
+    filled, _ = timed([FILE_BENCH, "fill", str(slots)], b"", folder)
+    ours, printed = timed([FILE_BENCH, "scan"], b"", folder)
+    if filled is None or ours is None or not printed.endswith(f" in {slots} slots\n".encode()):
+        return None
+    return ours
+
+
+def growth_of_scan(slots, folder):
+    if not os.path.exists(FILE_BENCH):
+        print("scan: skipped, file_bench isn't built (rt run in crates/file_bench)")
+        return
+    quarter, whole = scan(slots // 4, folder), scan(slots, folder)
+    if quarter is None or whole is None:
+        print("scan: a program failed")
+        return
+    print(f"a scan of a journal of {slots:,} slots: {whole * 1000:.1f} ms; 4 times the work takes {whole / quarter:.1f} times as long")
 
 
 with tempfile.TemporaryDirectory() as folder:
@@ -193,3 +213,4 @@ with tempfile.TemporaryDirectory() as folder:
         growth(f"{name} rows", rdo_asked(ours), count // 4, count, folder)
     compare_sessions(500, folder)
     compare_disks(10000, 1000, folder)
+    growth_of_scan(262144, folder)

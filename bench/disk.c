@@ -1,4 +1,4 @@
-// The same writes and barriers as the program disk_bench, by plain calls: disk WRITES BARRIERS.
+// The same writes and barriers as the program file_bench, by plain calls: disk WRITES BARRIERS.
 #include <fcntl.h>
 #include <stdio.h>
 #include <stdlib.h>

@@ -117,7 +117,7 @@ fn read_groups<D: Disk>(
     requires { slot_bytes file ≡ 512 }
     ensures read { IfOk result (λ scan. IsTrue (D.view disk.old).tells
         → IsReadUpTo (D.view disk.old).content file first length scan) }
-    ensures header { IsErrOf result AijFault.BadHeader → ⊥ }
+    ensures bad_header { IsErrOf result AijFault.BadHeader → ⊥ }
     ensures failed { IsErrOf result AijFault.Failed
         → Rose (D.view disk.old).faults (D.view disk.new).faults }
     ensures reads { OnlyReads (D.view disk.old) (D.view disk.new) }
