@@ -157,7 +157,7 @@ write_agrees h key image are all sorted agrees = agreeing (with_write key image 
 
 -- ---- an area
 
-abbrev Found : Lines → Lines → Type 0
+abbrev pub Found : Lines → Lines → Type 0
 Found all es = AllByRecursion (λ (e : Dbkey × List ℕ). line_in e.0 all ≡ Some e.1) es
 
 less : (r : Ordering) → is_lt r ≡ true → r ≡ Less
@@ -171,13 +171,13 @@ found_on e all (x ∷ xs) below found =
     let parts = and_parts _ _ below in
     (ap (λ r. cond (is_eq r) (Some e.1) (line_in x.0 all)) (dbkey_total.antisymm x.0 e.0 ∙ ap ordering_reverse (less _ parts.0)) ∙ found.0, found_on e all xs parts.1 found.1)
 
-found_all : (all : Lines) → is_sorted dbkey_order all ≡ true → Found all all
+pub found_all : (all : Lines) → is_sorted dbkey_order all ≡ true → Found all all
 found_all [] sorted = tt
 found_all (e ∷ es) sorted =
     let parts = and_parts _ _ sorted in
     (ap (λ r. cond (is_eq r) (Some e.1) (line_in e.0 es)) (tied_itself dbkey_total e.0), found_on e es es parts.0 (found_all es parts.1))
 
-found_some : (all es : Lines) (p : Dbkey × List ℕ → Bool) → Found all es → Found all (filter p es)
+pub found_some : (all es : Lines) (p : Dbkey × List ℕ → Bool) → Found all es → Found all (filter p es)
 found_some all [] p found = tt
 found_some all (e ∷ es) p found = elim (p e) as (λ b. Found all (cond b (e ∷ filter p es) (filter p es))) [
   | true ↦ (found.0, found_some all es p found.1)

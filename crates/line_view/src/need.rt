@@ -1,4 +1,7 @@
-use rdb_types::Dbkey;
+ghost use Rattle.std.specs.Prelude.{◌≡◌};
+
+use rdb_types::{Dbkey, NoMemory};
+use std::alloc::AllocError;
 
 /// The nth line, from 0, that may be taken for a new row of a logical area on pages of a class.
 #[derive(Clone, Copy, Debug, PartialEq, Eq, PartialOrd, Ord)]
@@ -25,4 +28,24 @@ pub enum Stop {
     /// This line's bytes are none of its kind.
     Bad(Dbkey),
     NoMemory,
+}
+
+impl From<NoMemory> for Stop {
+    ghost use Rattle.line_view.specs.declared.need.Stop.TheVariants as stops;
+
+    ghost from_gives = { λ _ e. e ≡ stops.NoMemory };
+
+    fn from(_: NoMemory) -> Self {
+        Stop::NoMemory
+    }
+}
+
+impl From<AllocError> for Stop {
+    ghost use Rattle.line_view.specs.declared.need.Stop.TheVariants as stops;
+
+    ghost from_gives = { λ _ e. e ≡ stops.NoMemory };
+
+    fn from(_: AllocError) -> Self {
+        Stop::NoMemory
+    }
 }
