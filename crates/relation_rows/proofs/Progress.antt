@@ -61,7 +61,7 @@ split_row known r key left rows row image told is all sorted agrees s = go s.es 
     stands = stands ∙ sym (append_assoc s.done (e ∷ []) es);
     keys = ap tail keys;
     are = one_row r s.done rows e (record { key = key; row = row }) s.are (first keys)
-      (subst (λ i. IsRowOf r i row) (same_Some _ _ (agrees.line key (Some image) told ∙ (ap (λ k. line_in k all) (first keys) ∙ first_found r all s.done es e sorted stands))) is);
+        (subst (λ i. IsRowOf r i row) (same_Some _ _ (agrees.line key (Some image) told ∙ (ap (λ k. line_in k all) (first keys) ∙ first_found r all s.done es e sorted stands))) is);
   } where
     first : key ∷ left ≡ e.0 ∷ keys_of es → key ≡ e.0
     first eq = cc

@@ -6,3 +6,6 @@ mod stored;
 
 pub use reading::{row, rows};
 pub use stored::{Rows, StoredRelation, StoredRow};
+
+#[cfg(test)]
+mod tests;

@@ -33,11 +33,7 @@ pub fn row<V: View>(
 }
 
 /// The rows of a relation, in the order of their Dbkeys.
-pub fn rows<V: View>(
-    alloc: Global,
-    view: &V,
-    relation: &StoredRelation<'_>,
-) -> Result<Rows, Stop>
+pub fn rows<V: View>(alloc: Global, view: &V, relation: &StoredRelation<'_>) -> Result<Rows, Stop>
     ensures rows { IfOk result (λ rows. (all : Lines) → IsInOrder all → Agrees (V.knows view.now) all → AreRowsOf relation.now (lines_in relation.now.area all) rows) }
     ensures missing { (need : _) → result ≡ Err (stop.Missing need) → IsNextNeed (V.knows view.now) relation.now.area need }
     ensures bad { (at : _) → result ≡ Err (stop.Bad at) → (all : Lines) → Agrees (V.knows view.now) all → IsBadIn relation.now at all }

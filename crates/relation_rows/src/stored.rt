@@ -64,7 +64,10 @@ fn are_values_of(fields: &[Field], values: &[Value]) -> bool
 fn count_in(version: u16, fields: &[Field]) -> usize
     ensures { result ≡ fields_in version fields.now }
 {
-    fields.iter().filter(|field| field.version <= version).count()
+    fields
+        .iter()
+        .filter(|field| field.version <= version)
+        .count()
 }
 
 fn are_values_in(relation: &StoredRelation<'_>, found: &VersionedRow) -> bool
