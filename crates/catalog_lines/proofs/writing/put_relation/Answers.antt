@@ -1,0 +1,14 @@
+use Rattle.std.proofs.Common.{refl, subst}
+use Rattle.slot_fields.specs.Fields.{Fit}
+use Rattle.record_format.proofs.Images.{laid_whole}
+use Rattle.catalog_lines.specs.Parts.{name_fields}
+use Rattle.catalog_lines.specs.Lines.{relation_fields}
+use Rattle.catalog_lines.proofs.writing.put_relation.Goals as goal
+
+pub returns-clause-image : goal.returns-clause-image
+returns-clause-image c = record {
+  fields = laid_whole (relation_fields c.args.line.now) c.from_bytes.result
+      (rw (c.from_bytes.ensures, c.put_name-end.ensures.front, c.put_u16-2.ensures.front, c.put_u16.ensures.front, c.put_u32.ensures.front, c.put_u8.ensures.front, c.as_slice.ensures) refl)
+      (c.put_u8.ensures.fits, (c.put_u32.ensures.fits, (c.put_u16.ensures.fits, (c.put_u16-2.ensures.fits, subst (λ name. Fit (name_fields name)) c.as_slice.ensures c.put_name-end.ensures.fits))));
+  allowed = c.requires;
+}

@@ -1,0 +1,16 @@
+//! The lines of the catalog as bytes: relations, global fields, fields and indexes.
+#![tactic(auto)]
+
+mod allowed;
+mod line;
+mod parts;
+mod reading;
+#[cfg(test)]
+mod tests;
+mod writing;
+
+pub use allowed::is_allowed_line;
+pub use line::{CatalogLine, FieldLine, GlobalLine, IndexLine, RelationLine};
+pub use parts::{is_name, is_type};
+pub use reading::{one_line, read_catalog_line};
+pub use writing::{one_image, put_catalog_line};

@@ -1,0 +1,5 @@
+pub mod Words
+pub mod Trees
+pub mod Commands
+pub mod Printable
+pub mod Law

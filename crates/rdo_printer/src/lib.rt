@@ -1,0 +1,4 @@
+//! Statements in canonical words.
+#![tactic(auto)]
+
+pub mod laws;

@@ -1,0 +1,5 @@
+pub mod Chains
+pub mod Reading
+pub mod Filling
+pub mod Tuples
+pub mod Examples
