@@ -1,14 +1,13 @@
 -- A reference is located by going through the variables from the outermost on, and it is located exactly where its names stand for something.
-use Rattle.std.proofs.Common.{◌≡◌, ℕ, ◌+◌, ◌<◌, ◌≤◌, Bool, true, false, if◌then◌else◌, List, [], ◌∷◌, length, get_or, drop, Result, Ok, Err, Option, Some, None, option_map, option_and_then, refl, ap, sym, ◌∙◌, subst, add_assoc, zero-add, arith}
+use Rattle.std.proofs.Common.{◌≡◌, ℕ, ◌+◌, ◌<◌, ◌≤◌, Bool, true, false, if◌then◌else◌, List, [], ◌∷◌, length, get_or, drop, Err, Option, Some, None, option_map, option_and_then, refl, ap, sym, ◌∙◌, add_assoc, zero-add}
 use Rattle.std.proofs.lemmas.List.{at_drop_more, at_drop_all}
 use Rattle.rdb_types.specs.declared.values.Field.{Field}
-use Rattle.rdo_ast.specs.Tree.{Name}
 use Rattle.rdo_ast.specs.declared.syntax.Reference.{Reference}
 use Rattle.rdo_ast.specs.declared.reply.Reply.TheVariants.{NoSuch}
 use Rattle.rdb_meaning.specs.declared.tables.Tables.{Tables}
 use Rattle.rdb_meaning.specs.declared.scope.Binding.{Binding}
 use Rattle.rdb_meaning.specs.Contents.{same_name, relation_named, fields_of, place_of}
-use Rattle.rdb_meaning.specs.Evaluation.{Scope, bound_as, field_in, referred}
+use Rattle.rdb_meaning.specs.Evaluation.{bound_as, field_in, referred}
 use Rattle.rdb_meaning.specs.Checks.{Refusal, or_else, needs_some, reference_names}
 use Rattle.rdb_checks.specs.declared.stop.Stop.{Stop}
 use Rattle.rdb_checks.specs.declared.stop.Stop.TheVariants.{Refused, Memory}

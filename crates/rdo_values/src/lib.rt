@@ -4,8 +4,6 @@
 mod bound;
 mod condition;
 mod expression;
-#[cfg(test)]
-mod tests;
 
 pub use bound::{
     BoundClause, BoundCondition, BoundConjunction, BoundExpression, BoundInner, BoundOperation,

@@ -1,4 +1,4 @@
-use Rattle.std.proofs.Common.{◌≡◌, ◌∙◌, ◌++◌, sym, ap, subst, map, refl, rules}
+use Rattle.std.proofs.Common.{◌∙◌, ◌++◌, sym, ap, subst, map, refl}
 use Rattle.rdo_ast.specs.Views.{expression_of, operations_of, applied_of, testing_of, conjunction_of, conjunction_with, condition_with}
 use Rattle.rdb_meaning.specs.Checks.{operations_names, conjunction_names, condition_names}
 use Rattle.rdo_values.specs.declared.bound.BoundExpression as tree

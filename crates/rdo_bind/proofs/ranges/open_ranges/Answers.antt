@@ -1,4 +1,4 @@
-use Rattle.std.proofs.Common.{◌≡◌, ◌∙◌, ◌++◌, [], ◌∷◌, sym, ap, subst, map, refl}
+use Rattle.std.proofs.Common.{◌∙◌, ◌++◌, [], ◌∷◌, sym, ap, subst, map}
 use Rattle.rdb_meaning.specs.Contents.{relation_named}
 use Rattle.rdb_meaning.specs.Checks.{source_names}
 use Rattle.rdo_values.specs.Places.{AreRanges, IsRangeOf}

@@ -1,8 +1,7 @@
-use Rattle.std.proofs.Common.{◌≡◌, ◌∙◌, sym, ap, Some, None, option_map}
-use Rattle.rdb_meaning.specs.Checks.{reference_names}
+use Rattle.std.proofs.Common.{◌∙◌, sym, ap, option_map}
 use Rattle.rdo_values.specs.declared.bound.BoundReference.{BoundReference}
-use Rattle.rdo_bind.specs.Answers.{Refuses, place_of}
-use Rattle.rdo_bind.proofs.Locating.{located_from, names_unlocated, names_located, refused_as}
+use Rattle.rdo_bind.specs.Answers.{place_of}
+use Rattle.rdo_bind.proofs.Locating.{names_unlocated, names_located, refused_as}
 use Rattle.rdo_bind.proofs.reference.bind_reference.Goals as goal
 
 pub returns-in_default-clause-names : goal.returns-in_default-clause-names

@@ -1,4 +1,4 @@
-use Rattle.std.proofs.Common.{◌≡◌, ◌∙◌, sym, ap, subst, map, refl}
+use Rattle.std.proofs.Common.{◌∙◌, sym, ap, subst, map, refl}
 use Rattle.std.specs.List.{All}
 use Rattle.rdb_meaning.specs.Checks.{first_refusal, reference_names}
 use Rattle.rdo_values.specs.Rows.{variables_of}

@@ -1,4 +1,4 @@
-use Rattle.std.proofs.Common.{◌∙◌, ◌++◌, sym, ap, subst}
+use Rattle.std.proofs.Common.{◌∙◌, ◌++◌, ap, subst}
 use Rattle.std.specs.List.{All}
 use Rattle.rdo_values.specs.Rows.{variables_of}
 use Rattle.rdo_values.specs.Selections.{IsBoundClause}
