@@ -1,0 +1,3 @@
+pub mod Fields
+pub mod Agreements
+pub mod Differences

@@ -1,0 +1,4 @@
+pub mod Directory
+pub mod Schema
+pub mod Reading
+pub mod Differences

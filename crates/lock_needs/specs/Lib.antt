@@ -1,0 +1,5 @@
+pub mod Nodes
+pub mod Needs
+pub mod Keeping
+pub mod Wants
+pub mod Waits

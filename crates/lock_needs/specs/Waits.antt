@@ -1,0 +1,41 @@
+-- Who waits for whom by needs.
+use Rattle.std.specs.Prelude.{ℕ, Bool, false, not, ◌&&◌, ◌||◌, ◌==◌, if◌then◌else◌, Option, Some, None, List, [], ◌∷◌}
+use Rattle.std.specs.List.{list_any}
+use Rattle.rdb_types.specs.declared.node.Node.{Node}
+use Rattle.lock_needs.specs.declared.need.Need.{Need}
+use Rattle.lock_needs.specs.declared.party.OpenWant.{OpenWant}
+use Rattle.lock_needs.specs.declared.party.Asked.{Asked}
+use Rattle.lock_needs.specs.declared.party.Party.{Party}
+use Rattle.lock_needs.specs.Nodes.{same_node, contains, is_on}
+use Rattle.lock_needs.specs.Needs.{conflict}
+
+-- the upper of the nodes of two needs that conflict
+abbrev pub upper_of : Need → Need → Node
+upper_of a b = if contains b.node a.node then b.node else a.node
+
+-- a need is on the node or below it, so that a want there is a conversion
+abbrev pub converts_at : List Need → Node → Bool
+converts_at needs n = list_any (λ w. is_on n w.node) needs
+
+-- a want of the first owner was asked at the node, and before that of the second
+abbrev pub asked_before : (first second : ℕ) → Node → List Asked → Bool
+asked_before first second n [] = false
+asked_before first second n (a ∷ rest) =
+    if same_node a.node n && (a.owner == first || a.owner == second) then a.owner == first else asked_before first second n rest
+
+-- the party has got a need that conflicts with this want
+abbrev pub holds_against : Need → Party → Bool
+holds_against w p = list_any (conflict w) p.needs
+
+abbrev pub wants_against_open : List Asked → ℕ → Need → ℕ → Party → Option OpenWant → Bool
+wants_against_open asks s w t p None = false
+wants_against_open asks s w t p (Some v) = conflict w v.need && (converts_at p.needs (upper_of w v.need) || asked_before t s (upper_of w v.need) asks)
+
+-- t's open want conflicts with this one of s, and converts at the upper node or was asked there before
+abbrev pub wants_against : List Asked → ℕ → Need → ℕ → Party → Bool
+wants_against asks s w t p = wants_against_open asks s w t p p.opened
+
+-- The owner s, of which this want is open, waits for the owner t, of which this is the party: the want conflicts with a need that
+-- t has got, or with an open want of t that comes first.
+abbrev pub waits_for : List Asked → (s : ℕ) → Need → (t : ℕ) → Party → Bool
+waits_for asks s w t p = not (s == t) && (holds_against w p || wants_against asks s w t p)

@@ -1,0 +1,19 @@
+//! Needs of nodes of the lock tree over plain data: which nodes contain which, which needs conflict, what a lock must keep for
+//! an owner's needs and its open want, and who waits for whom by needs.
+#![tactic(auto)]
+
+mod keeping;
+mod need;
+mod node;
+mod party;
+mod waiting;
+
+pub use keeping::{intents_below, is_excess, must_keep, needed_on};
+pub use need::{Need, conflict, covers_below};
+pub use node::{contains, is_above, is_on, level_under, node_above, on_way, step_towards};
+pub use party::{Asked, OpenWant, Party, mode_for};
+pub use rdb_types::{Level, Node};
+pub use waiting::waits_for;
+
+#[cfg(test)]
+mod tests;

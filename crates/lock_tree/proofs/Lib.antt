@@ -1,0 +1,16 @@
+pub mod Outcomes
+pub mod QueueModes
+pub mod HeldModes
+pub mod Changes
+pub mod Conditions
+pub mod Weakening
+pub mod Raising
+pub mod Taking
+pub mod Waking
+pub mod OwnLocks
+pub mod Brought
+pub mod Leaving
+pub mod Depths
+pub mod Whole
+pub mod Released
+pub mod Wanting

@@ -1,0 +1,59 @@
+use Rattle.std.proofs.Common.{◌≡◌, sym, ap, subst, inr, true, Option}
+use Rattle.std.specs.Prelude.{unwrap_or}
+use Rattle.std.proofs.lemmas.Bool.{or_parts}
+use Rattle.vms_queues.specs.declared.lock_mode.Mode.{Mode}
+use Rattle.vms_queues.specs.declared.lock_mode.Mode.TheVariants.{NL}
+use Rattle.vms_queues.specs.Modes.{at_most}
+use Rattle.vms_queues.specs.Queues.{has_owner}
+use Rattle.vms_locks.specs.Table.{queues_at}
+use Rattle.vms_locks.specs.Answers.{asking, converting}
+use Rattle.lock_tree.proofs.HeldModes.{mode-has_owner}
+use Rattle.lock_tree.proofs.Changes.{quiet-at}
+use Rattle.lock_tree.proofs.Conditions.{fits-free, grantable-free, no-wait_free, granted-only, absent-quiet, asked-law, converted-law}
+use Rattle.lock_tree.proofs.holding.raise.Goals as goal
+
+pub convert-requires-clause-granted : goal.convert-requires-clause-granted
+convert-requires-clause-granted c = mode-has_owner c.args.owner (queues_at c.args.locks.now c.args.node).granted c.in-Some.field-0 (sym c.in-Some.ensures.value)
+
+pub convert-requires-clause-once : goal.convert-requires-clause-once
+convert-requires-clause-once c =
+    let q = queues_at c.args.locks.now c.args.node in
+    (or_parts (has_owner c.args.owner q.converting) (has_owner c.args.owner q.waiting) (quiet-at c.args.locks.now c.args.locks.now c.args.owner c.args.node c.in-Some.ensures.live c.requires.awake)).0
+
+pub convert-requires-clause-awake : goal.convert-requires-clause-awake
+convert-requires-clause-awake c =
+    inr (
+      fits-free c.args.locks.now c.args.owner c.args.node c.args.mode c.in-Some.ensures.live c.requires.free c.requires.bars_nobody,
+      no-wait_free c.args.locks.now c.args.owner c.args.node c.args.mode c.in-Some.ensures.live c.requires.free c.requires.bars_nobody,
+    )
+
+pub enq-requires-clause-absent : goal.enq-requires-clause-absent
+enq-requires-clause-absent c =
+    absent-quiet c.args.locks.now c.args.locks.now c.args.owner c.args.node c.args.mode c.in-None.ensures.live
+    (quiet-at c.args.locks.now c.args.locks.now c.args.owner c.args.node c.in-None.ensures.live c.requires.awake) (sym c.in-None.ensures.value)
+
+pub enq-requires-clause-awake : goal.enq-requires-clause-awake
+enq-requires-clause-awake c =
+    inr (grantable-free c.args.locks.now c.args.owner c.args.node c.args.mode c.in-None.ensures.live c.requires.free c.requires.bars_nobody
+    (ap (λ (x : Option Mode). unwrap_or x NL) (sym c.in-None.ensures.value)))
+
+pub returns-in_ok-_granted-in-Some-clause-raised : goal.returns-in_ok-_granted-in-Some-clause-raised
+returns-in_ok-_granted-in-Some-clause-raised c =
+    let t = c.args.locks.now in
+    let fit = fits-free t c.args.owner c.args.node c.args.mode c.in-Some.ensures.live c.requires.free c.requires.bars_nobody in
+    converted-law t c.convert.new.self c.args.owner c.args.node c.args.mode c.in-Some.ensures.live
+    (quiet-at t t c.args.owner c.args.node c.in-Some.ensures.live c.requires.awake)
+    c.in-Some.field-0 (sym c.in-Some.ensures.value)
+    (subst (λ (x : Option Mode). at_most (unwrap_or x NL) c.args.mode ≡ true) (sym c.in-Some.ensures.value) c.requires.ascends)
+    fit
+    (granted-only t c.convert.new.self c.args.owner c.args.node _ (converting (queues_at t c.args.node) c.args.owner c.args.mode) _ fit c.in_ok-_granted-in-Some.ensures.answer)
+
+pub returns-in_ok-_granted-in-None-clause-raised : goal.returns-in_ok-_granted-in-None-clause-raised
+returns-in_ok-_granted-in-None-clause-raised c =
+    let t = c.args.locks.now in
+    let none = sym c.in-None.ensures.value in
+    asked-law t c.enq.new.self c.args.owner c.args.node c.args.mode c.in-None.ensures.live
+    (quiet-at t t c.args.owner c.args.node c.in-None.ensures.live c.requires.awake) none
+    (granted-only t c.enq.new.self c.args.owner c.args.node _ (asking (queues_at t c.args.node) c.args.owner c.args.mode) _
+    (grantable-free t c.args.owner c.args.node c.args.mode c.in-None.ensures.live c.requires.free c.requires.bars_nobody (ap (λ (x : Option Mode). unwrap_or x NL) none))
+    c.in_ok-_granted-in-None.ensures.answer)

@@ -1,0 +1,26 @@
+use Rattle.std.proofs.Common.{◌≡◌, ◌∙◌, ap, sym, subst, true, false}
+use Rattle.std.specs.Prelude.{OnOk, unwrap_or}
+use Rattle.lock_needs.specs.declared.party.Party.{Party}
+use Rattle.lock_needs.specs.Keeping.{is_excess}
+use Rattle.lock_needs.specs.Wants.{kept_at}
+use Rattle.lock_tree.specs.LockTable.{granted_at}
+use Rattle.lock_tree.specs.Forest.{State, idle, party_of}
+use Rattle.lock_tree.proofs.Outcomes.{on_ok-more}
+use Rattle.lock_tree.proofs.tree.Tree.deliver_notice.Goals as goal
+
+pub returns-in-Some-clause-least : goal.returns-in-Some-clause-least
+returns-in-Some-clause-least c =
+    subst (λ (s : State). OnOk c.serve_notice.result (is_excess (granted_at s.table c.args.to c.args.node) (kept_at (granted_at s.table c.args.to) (party_of s.parties c.args.to) c.args.node) ≡ true
+    → granted_at c.serve_notice.new.locks c.args.to c.args.node ≡ kept_at (granted_at s.table c.args.to) (party_of s.parties c.args.to) c.args.node)) c.self.view_is
+    (subst (λ (p : Party). OnOk c.serve_notice.result (is_excess (granted_at c.self.inside.locks c.args.to c.args.node) (kept_at (granted_at c.self.inside.locks c.args.to) p c.args.node) ≡ true
+    → granted_at c.serve_notice.new.locks c.args.to c.args.node ≡ kept_at (granted_at c.self.inside.locks c.args.to) p c.args.node)) (ap (λ x. unwrap_or x idle) c.in-Some.ensures.value)
+    c.serve_notice.ensures.least)
+
+pub returns-in-Some-clause-unchanged : goal.returns-in-Some-clause-unchanged
+returns-in-Some-clause-unchanged c =
+    on_ok-more (is_excess (granted_at c.self.inside.locks c.args.to c.args.node) (kept_at (granted_at c.self.inside.locks c.args.to) c.in-Some.party.now c.args.node) ≡ false → c.serve_notice.new.locks ≡ c.self.inside.locks)
+    _ c.serve_notice.result c.serve_notice.ensures.unchanged
+    (λ f e. ap (λ t. record { table = t; parties = c.self.inside.parties.entries })
+    (f (subst (λ (p : Party). is_excess (granted_at c.self.inside.locks c.args.to c.args.node) (kept_at (granted_at c.self.inside.locks c.args.to) p c.args.node) ≡ false) (sym (ap (λ x. unwrap_or x idle) c.in-Some.ensures.value))
+    (subst (λ (s : State). is_excess (granted_at s.table c.args.to c.args.node) (kept_at (granted_at s.table c.args.to) (party_of s.parties c.args.to) c.args.node) ≡ false) (sym c.self.view_is) e)))
+    ∙ c.self.view_is)

@@ -1,0 +1,6 @@
+pub mod LockTable
+pub mod Parties
+pub mod Lowering
+pub mod Notices
+pub mod Forest
+pub mod Releasing

@@ -1,0 +1,118 @@
+ghost use Rattle.std.specs.Prelude.{◌≡◌, ◌∷◌, [], true, IfOk, OnOk, OnErr};
+ghost use Rattle.std.specs.List.{list_all};
+ghost use Rattle.vms_locks.specs.Table.{queues_at, IsLive};
+ghost use Rattle.lock_needs.specs.Needs.{covers_from, is_covered, all_covered, supposing, is_plain};
+ghost use Rattle.lock_needs.specs.Keeping.{allows, is_enough};
+ghost use Rattle.lock_tree.specs.LockTable.{granted_at};
+ghost use Rattle.lock_tree.specs.Lowering.{MayComeDown, HasTaken, BroughtDown};
+
+use crate::holding::{granted_of, lower, raise};
+use lock_needs::{Level, Need, Node, covers_below, is_above, on_way, step_towards};
+use rdb_types::NoMemory;
+use vms_locks::Locks;
+use vms_queues::{Mode, is_at_most, join};
+
+// The owner's mode at a node, supposing that it keeps this one at another.
+fn held_supposing(locks: &Locks, owner: u32, at: Node, node: Node, keep: Mode) -> Mode
+    ensures { result ≡ supposing node keep (granted_at locks.now owner) at }
+{
+    if at == node {
+        keep
+    } else {
+        granted_of(locks, owner, at)
+    }
+}
+
+// Whether the lock at the node of this level covers the need, supposing that the owner keeps this mode at a node.
+fn covers_at(locks: &Locks, owner: u32, need: Need, level: Level, node: Node, keep: Mode) -> bool
+    ensures { result ≡ covers_from (supposing node keep (granted_at locks.now owner)) need level }
+{
+    is_above(level, need.node.level)
+        && covers_below(
+            held_supposing(locks, owner, on_way(level, need.node), node, keep),
+            need.mode,
+        )
+}
+
+// Whether the need is covered, supposing that the owner keeps this mode at the node.
+fn covered_supposing(locks: &Locks, owner: u32, need: Need, node: Node, keep: Mode) -> bool
+    ensures { result ≡ is_covered (supposing node keep (granted_at locks.now owner)) need }
+{
+    is_at_most(
+        need.mode,
+        held_supposing(locks, owner, need.node, node, keep),
+    ) || covers_at(locks, owner, need, Level::Area, node, keep)
+        || covers_at(locks, owner, need, Level::Range, node, keep)
+        || covers_at(locks, owner, need, Level::Page, node, keep)
+}
+
+// Takes a need one level under the node where it would not be covered otherwise.
+fn take_one(
+    locks: &mut Locks,
+    owner: u32,
+    node: Node,
+    keep: Mode,
+    need: Need,
+) -> Result<(), NoMemory>
+    requires ready { MayComeDown locks.old owner node keep }
+    requires covered { is_covered (granted_at locks.old owner) need ≡ true }
+    requires allowed { allows (granted_at locks.old owner) node keep need ≡ true }
+    requires plain { is_plain need ≡ true }
+
+    ensures ready { MayComeDown locks.new owner node keep }
+    ensures taken { HasTaken owner node (need ∷ []) locks.old locks.new }
+    ensures covered { OnOk result (is_covered (supposing node keep (granted_at locks.new owner)) need ≡ true) }
+{
+    if covered_supposing(locks, owner, need, node, keep) {
+        return Ok(());
+    }
+    let under = step_towards(node, need.node);
+    let mode = join(granted_of(locks, owner, under), need.mode);
+    raise(locks, owner, under, mode)
+}
+
+// Takes one level under the node what would not be covered otherwise.
+fn take_lower(
+    locks: &mut Locks,
+    needs: &[Need],
+    owner: u32,
+    node: Node,
+    keep: Mode,
+) -> Result<(), NoMemory>
+    requires ready { MayComeDown locks.old owner node keep }
+    requires covered { all_covered (granted_at locks.old owner) needs.now ≡ true }
+    requires enough { is_enough (granted_at locks.old owner) needs.now node keep ≡ true }
+    requires plain { list_all is_plain needs.now ≡ true }
+
+    ensures ready { MayComeDown locks.new owner node keep }
+    ensures taken { HasTaken owner node needs.now locks.old locks.new }
+    ensures covered { OnOk result (all_covered (supposing node keep (granted_at locks.new owner)) needs.now ≡ true) }
+{
+    for need in needs {
+        take_one(locks, owner, node, keep, *need)?;
+    }
+    Ok(())
+}
+
+// Brings the owner's lock at the node down to the mode: first it takes one level lower what would not be covered. At want of
+// memory the lock stays, and what was taken lower until then stays too.
+pub(crate) fn bring_down(
+    locks: &mut Locks,
+    needs: &[Need],
+    owner: u32,
+    node: Node,
+    keep: Mode,
+) -> Result<(), NoMemory>
+    requires ready { MayComeDown locks.old owner node keep }
+    requires covered { all_covered (granted_at locks.old owner) needs.now ≡ true }
+    requires enough { is_enough (granted_at locks.old owner) needs.now node keep ≡ true }
+    requires plain { list_all is_plain needs.now ≡ true }
+
+    ensures down { OnOk result (BroughtDown owner node keep needs.now locks.old locks.new) }
+    ensures err { OnErr result (MayComeDown locks.new owner node keep) }
+    ensures taken { OnErr result (HasTaken owner node needs.now locks.old locks.new) }
+{
+    take_lower(locks, needs, owner, node, keep)?;
+    lower(locks, owner, node, keep);
+    Ok(())
+}

@@ -1,0 +1,129 @@
+ghost use Rattle.std.specs.Prelude.{◌≡◌, IfErr, OnOk, OnErr};
+ghost use Rattle.lock_needs.specs.Needs.{covers_from, covered_above as covered_over};
+ghost use Rattle.lock_needs.specs.Keeping.{needed_uncovered, after_want};
+ghost use Rattle.lock_tree.specs.LockTable.{granted_at, sought_at, HasIntents};
+ghost use Rattle.lock_tree.specs.Parties.{IsKept, KeepsOthers, wanting, resting, unasked, StandsStill};
+
+use crate::coming_down::bring_down;
+use crate::holding::granted_of;
+use lock_needs::{
+    Level, Need, Node, OpenWant, covers_below, intents_below, is_above, mode_for, node_above,
+    on_way,
+};
+use rdb_types::NoMemory;
+use vms_locks::Locks;
+use vms_queues::{Mode, is_at_most, join};
+
+// Whether the lock at the node of this level covers the need.
+fn covers_from_level(locks: &Locks, owner: u32, need: Need, level: Level) -> bool
+    ensures { result ≡ covers_from (granted_at locks.now owner) need level }
+{
+    is_above(level, need.node.level)
+        && covers_below(
+            granted_of(locks, owner, on_way(level, need.node)),
+            need.mode,
+        )
+}
+
+// Whether some lock above the need's node covers it.
+pub(crate) fn covered_above(locks: &Locks, owner: u32, need: Need) -> bool
+    ensures { result ≡ covered_over (granted_at locks.now owner) need }
+{
+    covers_from_level(locks, owner, need, Level::Area)
+        || covers_from_level(locks, owner, need, Level::Range)
+        || covers_from_level(locks, owner, need, Level::Page)
+}
+
+// The modes of the needs on the node that no lock above it covers, joined.
+fn uncovered_on(locks: &Locks, owner: u32, needs: &[Need], node: Node) -> Mode
+    ensures { result ≡ needed_uncovered (granted_at locks.now owner) needs.now node }
+{
+    let mut mode = Mode::NL;
+    for need in needs {
+        if node == need.node && !covered_above(locks, owner, *need) {
+            mode = join(mode, need.mode);
+        }
+    }
+    mode
+}
+
+// What the needs require at the node.
+fn left_mode(locks: &Locks, owner: u32, needs: &[Need], node: Node) -> Mode
+    ensures { result ≡ after_want (granted_at locks.now owner) needs.now node }
+{
+    join(
+        intents_below(needs, node),
+        uncovered_on(locks, owner, needs, node),
+    )
+}
+
+// Takes the owner's request out of its queue where it is asleep, and gives the want as it then stands.
+pub(crate) fn stop_asking(locks: &mut Locks, owner: u32, want: OpenWant) -> OpenWant
+    requires intents { HasIntents locks.old }
+
+    ensures here { result.here ≡ want.here }
+    ensures kept { StandsStill owner want result locks.old locks.new }
+    ensures intents { HasIntents locks.new }
+    ensures others { KeepsOthers owner locks.old locks.new }
+{
+    let held = granted_of(locks, owner, want.here);
+    if is_at_most(mode_for(want.need, want.here), held) {
+        return want;
+    }
+    locks.cancel(owner, want.here);
+    OpenWant {
+        need: want.need,
+        here: want.here,
+        is_asked: false,
+    }
+}
+
+// Lowers the owner's lock at the want's node to what its needs require.
+fn leave_node(locks: &mut Locks, owner: u32, needs: &[Need], want: OpenWant) -> Result<(), NoMemory>
+    requires intents { HasIntents locks.old }
+    requires kept { IsKept locks.old owner (wanting needs.now want) }
+    requires quiet { sought_at locks.old owner want.here ≡ granted_at locks.old owner want.here }
+
+    ensures left { OnOk result (IsKept locks.new owner (wanting needs.now (unasked want))) }
+    ensures stands { OnErr result (IsKept locks.new owner (wanting needs.now want)) }
+    ensures intents { HasIntents locks.new }
+    ensures others { KeepsOthers owner locks.old locks.new }
+{
+    let keep = left_mode(locks, owner, needs, want.here);
+    if is_at_most(keep, granted_of(locks, owner, want.here)) {
+        bring_down(locks, needs, owner, want.here, keep)?;
+    }
+    Ok(())
+}
+
+// Ends the owner's open want: its queued request is cancelled, and from the lowest node where it was asked up, the lock comes down to
+// what the needs require. At want of memory the want is open still, as the error says.
+pub(crate) fn end_want(
+    locks: &mut Locks,
+    owner: u32,
+    needs: &[Need],
+    want: OpenWant,
+) -> Result<(), OpenWant>
+    requires intents { HasIntents locks.old }
+    requires kept { IsKept locks.old owner (wanting needs.now want) }
+
+    ensures ended { OnOk result (IsKept locks.new owner (resting needs.now)) }
+    ensures stands { IfErr result (λ w. IsKept locks.new owner (wanting needs.now w)) }
+    ensures intents { HasIntents locks.new }
+    ensures others { KeepsOthers owner locks.old locks.new }
+{
+    let mut left = stop_asking(locks, owner, want);
+    loop {
+        let Ok(()) = leave_node(locks, owner, needs, left) else {
+            return Err(left);
+        };
+        let Some(up) = node_above(left.here) else {
+            return Ok(());
+        };
+        left = OpenWant {
+            need: left.need,
+            here: up,
+            is_asked: true,
+        };
+    }
+}

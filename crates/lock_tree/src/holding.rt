@@ -1,0 +1,55 @@
+ghost use Rattle.std.specs.Prelude.{◌≡◌, true, OnOk, OnErr};
+ghost use Rattle.vms_queues.specs.Modes.{at_most};
+ghost use Rattle.vms_locks.specs.Table.{queues_at, IsLive};
+ghost use Rattle.lock_tree.specs.LockTable.{granted_at, sought_at, IsFree, BarsNobody, RaisedAt, LoweredAt};
+
+use lock_needs::Node;
+use rdb_types::NoMemory;
+use vms_locks::Locks;
+use vms_queues::Mode;
+
+// The mode that the owner has been granted at the node; NL where it has none.
+pub(crate) fn granted_of(locks: &Locks, owner: u32, node: Node) -> Mode
+    ensures value { result ≡ granted_at locks.now owner node }
+    ensures live { IsLive (queues_at locks.now) }
+{
+    match locks.mode_of(owner, node) {
+        Some(mode) => mode,
+        None => Mode::NL,
+    }
+}
+
+// Gives the owner a stronger mode at the node, which is free there and bars nobody, so that it is granted at once.
+pub(crate) fn raise(locks: &mut Locks, owner: u32, node: Node, mode: Mode) -> Result<(), NoMemory>
+    requires awake { sought_at locks.old owner node ≡ granted_at locks.old owner node }
+    requires ascends { at_most (granted_at locks.old owner node) mode ≡ true }
+    requires free { IsFree locks.old owner node mode }
+    requires bars_nobody { BarsNobody locks.old owner node mode }
+
+    ensures raised { OnOk result (RaisedAt locks.old locks.new owner node mode) }
+    ensures err { OnErr result (locks.new ≡ locks.old) }
+{
+    match locks.mode_of(owner, node) {
+        Some(_) => {
+            let _granted = locks.convert(owner, node, mode, false)?;
+        }
+        None => {
+            let _granted = locks.enq(owner, node, mode, false)?;
+        }
+    }
+    Ok(())
+}
+
+// Weakens the owner's lock at the node to the mode; to NL it is released. Takes no memory.
+pub(crate) fn lower(locks: &mut Locks, owner: u32, node: Node, mode: Mode)
+    requires awake { sought_at locks.old owner node ≡ granted_at locks.old owner node }
+    requires weaker { at_most mode (granted_at locks.old owner node) ≡ true }
+
+    ensures { LoweredAt locks.old locks.new owner node mode }
+{
+    match locks.mode_of(owner, node) {
+        None => {}
+        Some(_) if mode == Mode::NL => locks.deq(owner, node),
+        Some(_) => locks.weaken(owner, node, mode),
+    }
+}

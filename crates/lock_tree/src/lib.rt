@@ -1,0 +1,17 @@
+//! The tree of locks: needs of owners, the locks that cover them, and notices.
+#![tactic(auto)]
+
+mod coming_down;
+mod ending;
+mod holding;
+mod notice;
+mod parties;
+mod releasing;
+mod tree;
+
+pub use lock_needs::{Level, Need, Node};
+pub use notice::Demotion;
+pub use tree::Tree;
+
+#[cfg(test)]
+mod tests;

@@ -1,0 +1,77 @@
+ghost use Rattle.std.specs.Prelude.{◌≡◌, ◌==◌, ℕ, true, false, IfOk, OnOk};
+ghost use Rattle.lock_needs.specs.Keeping.{is_excess as exceeds};
+ghost use Rattle.lock_needs.specs.Wants.{opened_at, kept_at};
+ghost use Rattle.lock_tree.specs.LockTable.{granted_at, HasIntents};
+ghost use Rattle.lock_tree.specs.Parties.{IsKept, KeepsOthers};
+ghost use Rattle.lock_tree.specs.Notices.{notice_answer};
+
+use crate::coming_down::bring_down;
+use crate::holding::granted_of;
+use lock_needs::{Node, OpenWant, Party, contains, is_excess, mode_for, must_keep};
+use rdb_types::NoMemory;
+use vms_locks::Locks;
+use vms_queues::{Mode, is_at_most};
+
+/// A lock's mode before and after it was weakened; NL where it was released.
+#[derive(Clone, Copy, Debug, PartialEq, Eq, Drop)]
+pub struct Demotion {
+    pub from: Mode,
+    pub to: Mode,
+}
+
+// The mode that the open want has been granted at the node; NL where none.
+pub(crate) fn opened_mode(locks: &Locks, owner: u32, opened: Option<OpenWant>, node: Node) -> Mode
+    ensures { result ≡ opened_at (granted_at locks.now owner) opened node }
+{
+    let Some(want) = opened else {
+        return Mode::NL;
+    };
+    let mode = mode_for(want.need, node);
+    if contains(node, want.here)
+        || (node == want.here
+            && want.is_asked
+            && is_at_most(mode, granted_of(locks, owner, node)))
+    {
+        mode
+    } else {
+        Mode::NL
+    }
+}
+
+// The least mode that a notice leaves the owner at the node.
+pub(crate) fn kept_mode(locks: &Locks, owner: u32, party: &Party, node: Node) -> Mode
+    ensures { result ≡ kept_at (granted_at locks.now owner) party.now node }
+{
+    let opened = opened_mode(locks, owner, party.opened, node);
+    must_keep(party.needs.as_slice(), opened, node)
+}
+
+// Serves a notice: where the owner's lock at the node is stronger than it has to be, it comes down to the least mode that must be
+// kept. At want of memory it stays.
+pub(crate) fn serve_notice(
+    locks: &mut Locks,
+    owner: u32,
+    party: &Party,
+    node: Node,
+) -> Result<Option<Demotion>, NoMemory>
+    requires intents { HasIntents locks.old }
+    requires kept { IsKept locks.old owner party.now }
+
+    ensures answer { IfOk result (λ d. d ≡ notice_answer (granted_at locks.old owner node) (kept_at (granted_at locks.old owner) party.now node)) }
+    ensures least { OnOk result (exceeds (granted_at locks.old owner node) (kept_at (granted_at locks.old owner) party.now node) ≡ true → granted_at locks.new owner node ≡ kept_at (granted_at locks.old owner) party.now node) }
+    ensures unchanged { OnOk result (exceeds (granted_at locks.old owner node) (kept_at (granted_at locks.old owner) party.now node) ≡ false → locks.new ≡ locks.old) }
+    ensures intents { HasIntents locks.new }
+    ensures kept { IsKept locks.new owner party.now }
+    ensures others { KeepsOthers owner locks.old locks.new }
+{
+    let held = granted_of(locks, owner, node);
+    let keep = kept_mode(locks, owner, party, node);
+    if !is_excess(held, keep) {
+        return Ok(None);
+    }
+    bring_down(locks, party.needs.as_slice(), owner, node, keep)?;
+    Ok(Some(Demotion {
+        from: held,
+        to: keep,
+    }))
+}

@@ -1,0 +1,7 @@
+pub mod Keys
+pub mod Wanted
+pub mod Tree
+pub mod Search
+pub mod Nodes
+pub mod Steps
+pub mod Changes

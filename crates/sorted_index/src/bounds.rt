@@ -1,0 +1,85 @@
+// Which keys are in question.
+ghost use Rattle.std.specs.Prelude.{◌≡◌};
+ghost use Rattle.index_node.specs.Order.{key_order as key_order_of};
+ghost use Rattle.sorted_index.specs.Keys.{first_values_order as first_values_order_of, is_below_low as is_below_low_of, is_above_high as is_above_high_of, is_within as is_within_of};
+ghost use Rattle.sorted_index.specs.Wanted.{interval_of};
+
+use index_node::key_order;
+use rdb_types::{Row, Value};
+use std::cmp::Ordering;
+
+/// The keys that a range has: none below the low bound, and none above the high one, where there is one. A key is compared with a bound by as many of its first values as the bound has; those that tie are in the range where `low_in` or `high_in` says so.
+#[derive(Debug, Drop)]
+pub struct Bounds {
+    pub low: Option<Row>,
+    pub low_in: bool,
+    pub high: Option<Row>,
+    pub high_in: bool,
+}
+
+/// The keys that a search is for: one key, or those within bounds.
+#[derive(Clone, Copy)]
+pub(crate) enum Wanted<'a> {
+    Key(&'a [Value]),
+    Within(&'a Bounds),
+}
+
+fn first_values_order(key: &[Value], bound: &[Value]) -> Ordering
+    ensures { result ≡ first_values_order_of key.now bound.now }
+{
+    let length = key.len().min(bound.len());
+    key_order(&key[..length], bound)
+}
+
+fn is_below_low(low: &Option<Row>, low_in: bool, key: &[Value]) -> bool
+    ensures { result ≡ is_below_low_of low.now low_in key.now }
+{
+    let Some(low) = low else {
+        return false;
+    };
+    let order = first_values_order(key, low.as_slice());
+    if low_in { order.is_lt() } else { order.is_le() }
+}
+
+fn is_above_high(high: &Option<Row>, high_in: bool, key: &[Value]) -> bool
+    ensures { result ≡ is_above_high_of high.now high_in key.now }
+{
+    let Some(high) = high else {
+        return false;
+    };
+    let order = first_values_order(key, high.as_slice());
+    if high_in {
+        order.is_gt()
+    } else {
+        order.is_ge()
+    }
+}
+
+impl<'a> Wanted<'a> {
+    /// Whether a key is below all that are wanted.
+    pub fn is_below(self, key: &[Value]) -> bool
+        ensures { result ≡ (interval_of self.entry).is_below key.now }
+    {
+        match self {
+            Wanted::Key(wanted) => key_order(key, wanted).is_lt(),
+            Wanted::Within(bounds) => is_below_low(&bounds.low, bounds.low_in, key),
+        }
+    }
+
+    /// Whether a key is above all that are wanted.
+    pub fn is_above(self, key: &[Value]) -> bool
+        ensures { result ≡ (interval_of self.entry).is_above key.now }
+    {
+        match self {
+            Wanted::Key(wanted) => key_order(key, wanted).is_gt(),
+            Wanted::Within(bounds) => is_above_high(&bounds.high, bounds.high_in, key),
+        }
+    }
+
+    /// Whether a key is wanted.
+    pub fn holds(self, key: &[Value]) -> bool
+        ensures { result ≡ is_within_of (interval_of self.entry) key.now }
+    {
+        !self.is_below(key) && !self.is_above(key)
+    }
+}

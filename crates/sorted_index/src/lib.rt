@@ -1,0 +1,15 @@
+//! Sorted indexes over a view of the lines that their nodes stand on.
+#![tactic(auto)]
+
+mod bounds;
+mod laws;
+mod nodes;
+mod search;
+mod stop;
+#[cfg(test)]
+mod tests;
+
+pub use bounds::Bounds;
+pub use laws::pairs_are_ordered;
+pub use search::{find, range};
+pub use stop::IndexStop;
