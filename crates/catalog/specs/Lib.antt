@@ -2,3 +2,4 @@ pub mod Directory
 pub mod Schema
 pub mod Reading
 pub mod Differences
+pub mod Deletions

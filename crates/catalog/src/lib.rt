@@ -1,12 +1,14 @@
 //! The catalog, from its lines.
 #![tactic(auto)]
 
+mod deletions;
 mod directory;
 mod reading;
 mod schema;
 #[cfg(test)]
 mod tests;
 
+pub use deletions::{delete_index, delete_relation};
 pub use directory::PlacedLine;
 pub use reading::{Catalog, bad_is_no_catalog, one_catalog, read_catalog};
 pub use schema::things_differ;

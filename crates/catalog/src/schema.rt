@@ -138,7 +138,8 @@ fn positions_differ(positions: &[u16]) -> bool
     true
 }
 
-fn area_named(tables: &Tables, name: &Chars) -> u32
+/// The logical area of a relation, 0 where it isn't there.
+pub(crate) fn area_named(tables: &Tables, name: &Chars) -> u32
     ensures { result ≡ area_of (relation_named name.now tables.now) }
 {
     match tables.relation(name) {

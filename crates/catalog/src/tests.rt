@@ -1,4 +1,4 @@
-use crate::{Catalog, read_catalog};
+use crate::{Catalog, delete_index, delete_relation, read_catalog};
 use line_view::{Known, Need, PresentLine, Stop};
 use rdb_meaning::{Index, Relation};
 use rdb_types::{Chars, Dbkey, Image};
@@ -201,5 +201,26 @@ fn the_first_bad_line_is_named(rt: HostRuntime) -> Result<(), Fail> {
         };
         assert!(rt; bad == Some(key_of(fault.bad)));
     }
+    Ok(())
+}
+
+#[test]
+fn deletions_name_the_lines_that_go(rt: HostRuntime) -> Result<(), Fail> {
+    let known = known_of(rt.alloc(), &PERSONNEL)?;
+    let Ok(catalog) = read_catalog(rt.alloc(), &known) else {
+        return Err("no catalog".into());
+    };
+    let jobs = Chars::from_slice(rt.alloc(), b"JOBS")?;
+    let Ok(keys) = delete_relation(rt.alloc(), &catalog, &jobs) else {
+        return Err("JOBS stays".into());
+    };
+    assert!(rt; keys.as_slice() == [key_of(7), key_of(8), key_of(9), key_of(10)].as_slice());
+    let employees = Chars::from_slice(rt.alloc(), b"EMP_ID")?;
+    let Ok(keys) = delete_index(rt.alloc(), &catalog, &employees) else {
+        return Err("EMP_ID stays".into());
+    };
+    assert!(rt; keys.as_slice() == [key_of(6)].as_slice());
+    assert!(rt; delete_index(rt.alloc(), &catalog, &jobs).is_err());
+    assert!(rt; delete_relation(rt.alloc(), &catalog, &employees).is_err());
     Ok(())
 }

@@ -1,3 +1,5 @@
+ghost use Rattle.std.specs.Prelude.{◌≡◌};
+
 use crate::{Known, PresentLine, Room, Seen, View};
 use rdb_types::{Dbkey, Image, NoMemory};
 use std::alloc::Global;
@@ -9,7 +11,9 @@ const ROOM: Room = Room {
     nth: 0,
 };
 
-fn at_page(area: u32, page: u32) -> Dbkey {
+fn at_page(area: u32, page: u32) -> Dbkey
+    ensures { result.area ≡ area }
+{
     Dbkey {
         area,
         page,
@@ -38,6 +42,7 @@ fn pages_in(known: &Known, area: u32, pages: &[u32]) -> bool {
 // Area 16 has rows on pages 2, 4 and 6, and its first room on page 5.
 fn learnt(alloc: Global) -> Result<Known, NoMemory> {
     let mut known = Known::new(alloc);
+    known.learn_room(ROOM, at_page(16, 5))?;
     known.learn_line(at_page(18, 2), None)?;
     known.learn_line(at_page(18, 3), Some(image_of(9)))?;
     let lines = [2, 4, 6].map(|page: u8| PresentLine {
@@ -45,7 +50,6 @@ fn learnt(alloc: Global) -> Result<Known, NoMemory> {
         image: image_of(page),
     });
     known.learn_area(alloc, 16, &lines)?;
-    known.learn_room(ROOM, at_page(16, 5))?;
     Ok(known)
 }
 

@@ -1,3 +1,5 @@
+ghost use Rattle.std.specs.Prelude.{◌≤◌, length};
+
 use crate::{StoredRelation, StoredRow, rows};
 use line_view::{Known, Need, PresentLine, Stop};
 use rdb_types::{Chars, DataType, Dbkey, Field, FieldType, Fields, Image, NoMemory, Row, Value};
@@ -85,7 +87,9 @@ fn is_row(row: &Row, number: i64, name: Option<&[u8]>) -> bool {
     }
 }
 
-fn known_of(alloc: Global, bytes: &[u8]) -> Result<Known, NoMemory> {
+fn known_of(alloc: Global, bytes: &[u8]) -> Result<Known, NoMemory>
+    requires { length bytes.now ≤ 440 }
+{
     let mut known = Known::new(alloc);
     let lines = [PresentLine {
         key: at_page(2),
