@@ -13,21 +13,21 @@ use Rattle.sorted_index.specs.Tree.{Tree, place, node_of, places, Bears, Stands}
 abbrev pub IsApart : Dbkey → List Dbkey → Type 0
 IsApart key = AllByRecursion (λ (k : Dbkey). is_eq (dbkey_order k key) ≡ false)
 
-apart_front : (key : Dbkey) (xs ys : List Dbkey) → IsApart key (xs ++ ys) → IsApart key xs
+pub apart_front : (key : Dbkey) (xs ys : List Dbkey) → IsApart key (xs ++ ys) → IsApart key xs
 apart_front key [] ys h = tt
 apart_front key (x ∷ xs) ys h = (h.0, apart_front key xs ys h.1)
 
-apart_behind : (key : Dbkey) (xs ys : List Dbkey) → IsApart key (xs ++ ys) → IsApart key ys
+pub apart_behind : (key : Dbkey) (xs ys : List Dbkey) → IsApart key (xs ++ ys) → IsApart key ys
 apart_behind key [] ys h = h
 apart_behind key (x ∷ xs) ys h = apart_behind key xs ys h.1
 
-same_line : (lines : Lines) (key at : Dbkey) (image : Option (List ℕ)) → is_eq (dbkey_order at key) ≡ false → line_in at (laid key image lines) ≡ line_in at lines
+pub same_line : (lines : Lines) (key at : Dbkey) (image : Option (List ℕ)) → is_eq (dbkey_order at key) ≡ false → line_in at (laid key image lines) ≡ line_in at lines
 same_line lines key at image apart = laid_found at key image lines ∙ ap (λ b. cond b image (line_in at lines)) apart
 
-abbrev StandsBelow : Lines → ℕ → (level : ℕ) → NodeEntry × Tree level → Type 0
+abbrev pub StandsBelow : Lines → ℕ → (level : ℕ) → NodeEntry × Tree level → Type 0
 StandsBelow lines area level child = ((child.0).child ≡ Some (place level child.1)) × Stands lines area level child.1
 
-all_beside : (lines : Lines) (key : Dbkey) (image : Option (List ℕ)) (area level : ℕ) → ((tree : Tree level) → IsApart key (places level tree) → Stands lines area level tree → Stands (laid key image lines) area level tree)
+pub all_beside : (lines : Lines) (key : Dbkey) (image : Option (List ℕ)) (area level : ℕ) → ((tree : Tree level) → IsApart key (places level tree) → Stands lines area level tree → Stands (laid key image lines) area level tree)
     → (children : List (NodeEntry × Tree level)) → IsApart key (flat_map (λ child. places level child.1) children) → AllByRecursion (StandsBelow lines area level) children → AllByRecursion (StandsBelow (laid key image lines) area level) children
 all_beside lines key image area level inner [] apart is = tt
 all_beside lines key image area level inner (child ∷ children) apart is = (

@@ -8,3 +8,11 @@ pub mod Ordered
 pub mod OneTree
 pub mod Frame
 mod Examples
+pub mod Lines
+pub mod Without
+pub mod Removed
+pub mod After
+pub mod PlacesIn
+pub mod Laid
+pub mod Chosen
+pub mod TakenOut

@@ -15,10 +15,10 @@ use Rattle.line_view.specs.Knowledge.{Lines, line_in}
 use Rattle.sorted_index.specs.Tree.{Tree, place, node_of, pairs, Bears, AreParted, Stands}
 use Rattle.sorted_index.proofs.Children.{IsFrom}
 
-abbrev Lt : NodeEntry → NodeEntry → Type 0
+abbrev pub Lt : NodeEntry → NodeEntry → Type 0
 Lt a b = entry_order a b ≡ Less
 
-abbrev UpTo : NodeEntry → NodeEntry → Type 0
+abbrev pub UpTo : NodeEntry → NodeEntry → Type 0
 UpTo a b = entry_order a b ≢ Greater
 
 abbrev pub Ascend : List NodeEntry → Type 0
@@ -32,14 +32,14 @@ sorted (x ∷ xs) h = (h.0, sorted xs h.1)
 
 -- ---- orders that follow one another
 
-lt_upto : (a b c : NodeEntry) → Lt a b → UpTo b c → Lt a c
+pub lt_upto : (a b c : NodeEntry) → Lt a b → UpTo b c → Lt a c
 lt_upto a b c lt upto = elim (entry_order b c) as (λ o. entry_order b c ≡ o → o ≢ Greater → Lt a c) [
   | Less ↦ λ is h. entries_total.trans a b c lt is
   | Equal ↦ λ is h. sym (alike_right entries_total b c a is) ∙ lt
   | Greater ↦ λ is h. absurd (h refl)
 ] refl upto
 
-less_upto : (o : Ordering) → o ≡ Less → o ≢ Greater
+pub less_upto : (o : Ordering) → o ≡ Less → o ≢ Greater
 less_upto Less is = λ h. cc
 less_upto Equal is = λ h. cc
 less_upto Greater is = λ h. cc
@@ -49,19 +49,19 @@ equal_upto Less is = λ h. cc
 equal_upto Equal is = λ h. cc
 equal_upto Greater is = λ h. cc
 
-upto_upto : (a b c : NodeEntry) → UpTo a b → UpTo b c → UpTo a c
+pub upto_upto : (a b c : NodeEntry) → UpTo a b → UpTo b c → UpTo a c
 upto_upto a b c first second = elim (entry_order a b) as (λ o. entry_order a b ≡ o → o ≢ Greater → UpTo a c) [
   | Less ↦ λ is h. less_upto (entry_order a c) (lt_upto a b c is second)
   | Equal ↦ λ is h. subst (λ o. o ≢ Greater) (sym (entries_total.congr a b c is)) second
   | Greater ↦ λ is h. absurd (h refl)
 ] refl first
 
-itself : (a : NodeEntry) → UpTo a a
+pub itself : (a : NodeEntry) → UpTo a a
 itself a = equal_upto (entry_order a a) (tied_itself entries_total a)
 
 -- ---- lists
 
-all_append : {X : Type 0} (P : X → Type 0) (xs ys : List X) → AllByRecursion P xs → AllByRecursion P ys → AllByRecursion P (xs ++ ys)
+pub all_append : {X : Type 0} (P : X → Type 0) (xs ys : List X) → AllByRecursion P xs → AllByRecursion P ys → AllByRecursion P (xs ++ ys)
 all_append P [] ys h k = k
 all_append P (x ∷ xs) ys h k = (h.0, all_append P xs ys h.1 k)
 
@@ -73,7 +73,7 @@ all_upto : (a b : NodeEntry) (xs : List NodeEntry) → UpTo a b → AllByRecursi
 all_upto a b [] first h = tt
 all_upto a b (x ∷ xs) first h = (upto_upto a b x first h.0, all_upto a b xs first h.1)
 
-less_all : (a : NodeEntry) (xs : List NodeEntry) → AllByRecursion (Lt a) xs → AllByRecursion (UpTo a) xs
+pub less_all : (a : NodeEntry) (xs : List NodeEntry) → AllByRecursion (Lt a) xs → AllByRecursion (UpTo a) xs
 less_all a [] h = tt
 less_all a (x ∷ xs) h = (less_upto (entry_order a x) h.0, less_all a xs h.1)
 
@@ -97,11 +97,11 @@ ascend (x ∷ y ∷ ys) h = ascend_more x y ys (h 0 x (omega arith)) (ascend (y 
 
 -- ---- children
 
-begin : (level : ℕ) (child : NodeEntry × Tree level) (children : List (NodeEntry × Tree level)) → AreParted level (child ∷ children) → AllByRecursion (IsFrom level) children
+pub begin : (level : ℕ) (child : NodeEntry × Tree level) (children : List (NodeEntry × Tree level)) → AreParted level (child ∷ children) → AllByRecursion (IsFrom level) children
 begin level child [] parted = tt
 begin level child (next ∷ children) parted = (parted.0.1, begin level next children parted.1)
 
-all_from : (level : ℕ) (low : NodeEntry) (children : List (NodeEntry × Tree level)) → AllByRecursion (UpTo low) (map (λ c. c.0) children) → AllByRecursion (IsFrom level) children → AllByRecursion (UpTo low) (flat_map (λ c. pairs level c.1) children)
+pub all_from : (level : ℕ) (low : NodeEntry) (children : List (NodeEntry × Tree level)) → AllByRecursion (UpTo low) (map (λ c. c.0) children) → AllByRecursion (IsFrom level) children → AllByRecursion (UpTo low) (flat_map (λ c. pairs level c.1) children)
 all_from level low [] h k = tt
 all_from level low (child ∷ children) h k = all_append (UpTo low) (pairs level child.1) (flat_map (λ c. pairs level c.1) children) (all_upto low child.0 (pairs level child.1) h.0 k.0) (all_from level low children h.1 k.1)
 
@@ -112,14 +112,14 @@ children_ascend level (child ∷ next ∷ children) h parted entries =
     ascend_append next.0 (pairs level child.1) (flat_map (λ c. pairs level c.1) (next ∷ children)) h.0 (children_ascend level (next ∷ children) h.1 parted.1 entries.1) parted.0.0
     (all_from level next.0 (next ∷ children) (itself next.0, less_all next.0 (map (λ c. c.0) children) entries.1.0) (begin level child (next ∷ children) parted))
 
-node_ascends : (image : Option (List ℕ)) (node : IndexNode) → Bears image node → Ascend node.entries
+pub node_ascends : (image : Option (List ℕ)) (node : IndexNode) → Bears image node → Ascend node.entries
 node_ascends None node is = absurd is
 node_ascends (Some bytes) node is = ascend node.entries is.allowed.ascending
 
-abbrev StandsBelow : Lines → ℕ → (level : ℕ) → NodeEntry × Tree level → Type 0
+abbrev pub StandsBelow : Lines → ℕ → (level : ℕ) → NodeEntry × Tree level → Type 0
 StandsBelow lines area level child = ((child.0).child ≡ Some (place level child.1)) × Stands lines area level child.1
 
-each_ascends : (lines : Lines) (area level : ℕ) → ((tree : Tree level) → Stands lines area level tree → Ascend (pairs level tree)) → (children : List (NodeEntry × Tree level)) → AllByRecursion (StandsBelow lines area level) children → AllByRecursion (λ c. Ascend (pairs level c.1)) children
+pub each_ascends : (lines : Lines) (area level : ℕ) → ((tree : Tree level) → Stands lines area level tree → Ascend (pairs level tree)) → (children : List (NodeEntry × Tree level)) → AllByRecursion (StandsBelow lines area level) children → AllByRecursion (λ c. Ascend (pairs level c.1)) children
 each_ascends lines area level inner [] h = tt
 each_ascends lines area level inner (child ∷ children) h = (inner child.1 h.0.1, each_ascends lines area level inner children h.1)
 

@@ -5,3 +5,4 @@ pub mod Search
 pub mod Nodes
 pub mod Steps
 pub mod Changes
+pub mod Removal

@@ -1,8 +1,12 @@
 -- What one step of a search tells.
-use Rattle.std.specs.Prelude.{◌≡◌, ◌≢◌, ℕ, List, ◌++◌, Option, Some, None, option_map, Result, Ok, Err}
+use Rattle.std.specs.Prelude.{◌≡◌, ◌≢◌, ℕ, List, ◌++◌, Option, Some, None, option_map, Result, Ok, Err, ◌≤◌, suc, [], ◌∷◌, if◌then◌else◌}
 use Rattle.rdb_types.specs.declared.keys.Dbkey.{Dbkey}
 use Rattle.index_node.specs.declared.node.IndexNode.{IndexNode}
-use Rattle.index_node.specs.Node.{IsNode}
+use Rattle.slot_fields.specs.Fields.{size}
+use Rattle.std.specs.Ordering.{is_le}
+use Rattle.index_node.specs.declared.entry.NodeEntry.{NodeEntry}
+use Rattle.index_node.specs.Order.{entry_order}
+use Rattle.index_node.specs.Node.{IsNode, IsAllowedNode, node_fields}
 use Rattle.line_view.specs.declared.need.Need.TheVariants.{Line}
 use Rattle.line_view.specs.Knowledge.{Knowledge}
 use Rattle.sorted_index.specs.declared.stop.IndexStop.{IndexStop}
@@ -30,3 +34,17 @@ Adds known lines rows old new (Err (Missing need)) = option_map Line (first_unkn
 Adds known lines rows old new (Err Duplicate) = ⊥
 Adds known lines rows old new (Err (Bad key)) = ⊥
 Adds known lines rows old new (Err NoMemory) = Unit {0}
+
+-- a node that fits a line
+abbrev pub IsLaid : IndexNode → Type 0
+IsLaid node = IsAllowedNode node × (size (node_fields node) ≤ 430)
+
+-- how many entries at the front are at or below the pair
+abbrev pub count_up_to : NodeEntry → List NodeEntry → ℕ
+count_up_to pair [] = 0
+count_up_to pair (entry ∷ entries) = if is_le (entry_order entry pair) then suc (count_up_to pair entries) else 0
+
+-- the place of the child that the pair belongs below
+abbrev pub child_place : NodeEntry → List NodeEntry → ℕ
+child_place pair [] = 0
+child_place pair (first ∷ entries) = count_up_to pair entries

@@ -4,12 +4,17 @@
 mod bounds;
 mod laws;
 mod nodes;
+mod places;
+mod removal;
 mod search;
 mod stop;
 #[cfg(test)]
 mod tests;
+mod writes;
 
 pub use bounds::Bounds;
 pub use laws::pairs_are_ordered;
+pub use removal::remove;
 pub use search::{find, range};
 pub use stop::IndexStop;
+pub use writes::{Write, Writes};

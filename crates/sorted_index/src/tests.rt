@@ -1,7 +1,7 @@
-use crate::{Bounds, IndexStop, find, range};
+use crate::{Bounds, IndexStop, Writes, find, range, remove};
 use index_node::{IndexNode, NodeEntry, is_allowed_node, put_node};
 use line_view::{Known, Need};
-use rdb_types::{Dbkey, Items, Keys, NoMemory, Row, Value};
+use rdb_types::{Dbkey, Image, Items, Keys, NoMemory, Row, Value};
 use std::alloc::Global;
 use std::test::Fail;
 
@@ -198,5 +198,50 @@ fn names_what_it_lacks(rt: HostRuntime) -> Result<(), Fail> {
     assert!(rt; found.err() == Some(IndexStop::Bad(node(3))));
     let found = find(alloc, &known, node(root), last.as_slice())?;
     assert!(rt; found.len() == 3);
+    Ok(())
+}
+
+// The writes laid over what is known; the count of lines that are erased.
+fn lay_writes(known: &mut Known, writes: &Writes) -> Result<usize, Fail> {
+    let mut erased = 0_usize;
+    for write in writes.as_slice() {
+        match &write.image {
+            Some(image) => {
+                known.put(write.key, Some(Image::from_bytes(image.bytes())))?;
+            }
+            None => {
+                known.put(write.key, None)?;
+                erased = erased.checked_add(1).ok_or("too many")?;
+            }
+        }
+    }
+    Ok(erased)
+}
+
+// Of the 62 nodes all but the root are erased.
+#[test]
+fn takes_out_all_pairs(rt: HostRuntime) -> Result<(), Fail> {
+    let alloc = rt.alloc();
+    let pairs = some_pairs(alloc)?;
+    let Laid { mut known, root } = lay_index(alloc, &pairs)?;
+    let mut erased = 0_usize;
+    for (at, pair) in pairs.iter().enumerate() {
+        let key = row_of(alloc, &[pair.first, pair.second])?;
+        let row = at_page(16, pair.row);
+        let writes = remove(alloc, &known, node(root), key.as_slice(), row)?;
+        let more = lay_writes(&mut known, &writes)?;
+        erased = erased.checked_add(more).ok_or("too many")?;
+        let left = find(alloc, &known, node(root), key.as_slice())?;
+        assert_eq!(rt; left.len(), 2 - at % 3);
+        assert!(rt; left.as_slice().iter().all(|found| *found != row));
+    }
+    assert_eq!(rt; erased, 61);
+    let all = Bounds {
+        low: None,
+        low_in: false,
+        high: None,
+        high_in: false,
+    };
+    assert!(rt; range(alloc, &known, node(root), &all)?.is_empty());
     Ok(())
 }
