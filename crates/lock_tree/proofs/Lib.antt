@@ -14,3 +14,9 @@ pub mod Depths
 pub mod Whole
 pub mod Released
 pub mod Wanting
+pub mod WantAsked
+pub mod Answered
+pub mod Exactness
+pub mod Getting
+pub mod Descending
+pub mod InWay

@@ -21,23 +21,23 @@ use Rattle.lock_needs.proofs.Joins.{nothing, join-none}
 use Rattle.lock_tree.specs.Parties.{IsKeptBut, was_asked, nowhere, wanting, resting, unasked, asked_at}
 use Rattle.lock_tree.proofs.Leaving.{reopened, opened-unasked, and-none, unasked-sleeps, the-want, opened-up, up-same}
 
-list_all-push : (p : Need → Bool) (ws : List Need) (w : Need) → list_all p ws ≡ true → p w ≡ true → list_all p (ws ++ w ∷ []) ≡ true
+pub list_all-push : (p : Need → Bool) (ws : List Need) (w : Need) → list_all p ws ≡ true → p w ≡ true → list_all p (ws ++ w ∷ []) ≡ true
 list_all-push p [] w h g = and_from (p w) true g refl
 list_all-push p (v ∷ ws) w h g = let q = and_parts (p v) (list_all p ws) h in and_from (p v) (list_all p (ws ++ w ∷ [])) q.0 (list_all-push p ws w q.1 g)
 
-list_any-push : (p : Need → Bool) (ws : List Need) (w : Need) → list_any p ws ≡ true → list_any p (ws ++ w ∷ []) ≡ true
+pub list_any-push : (p : Need → Bool) (ws : List Need) (w : Need) → list_any p ws ≡ true → list_any p (ws ++ w ∷ []) ≡ true
 list_any-push p [] w h = absurd (false≢true h)
 list_any-push p (v ∷ ws) w h = elim (or_cases (p v) (list_any p ws) h) [
   | inl y ↦ or_left (p v) (list_any p (ws ++ w ∷ [])) y
   | inr y ↦ or_right (p v) (list_any p (ws ++ w ∷ [])) (list_any-push p ws w y)
 ]
 
-list_any-pushed : (p : Need → Bool) (ws : List Need) (w : Need) → p w ≡ true → list_any p (ws ++ w ∷ []) ≡ true
+pub list_any-pushed : (p : Need → Bool) (ws : List Need) (w : Need) → p w ≡ true → list_any p (ws ++ w ∷ []) ≡ true
 list_any-pushed p [] w g = or_left (p w) false g
 list_any-pushed p (v ∷ ws) w g = or_right (p v) (list_any p (ws ++ w ∷ [])) (list_any-pushed p ws w g)
 
 -- one need more asks no less of a node
-intents-push : (ws : List Need) (w : Need) (x : Node) → at_most (intents_on ws x) (intents_on (ws ++ w ∷ []) x) ≡ true
+pub intents-push : (ws : List Need) (w : Need) (x : Node) → at_most (intents_on ws x) (intents_on (ws ++ w ∷ []) x) ≡ true
 intents-push [] w x = nothing (intents_on (w ∷ []) x)
 intents-push (v ∷ ws) w x =
     let rest : Mode = intents_on (ws ++ w ∷ []) x in
@@ -49,7 +49,7 @@ intents-push (v ∷ ws) w x =
     grows true i r m h = at_most-trans m r (least_above i r) h (join-right i r)
     grows false i r m h = h
 
-intents-pushed : (ws : List Need) (w : Need) (x : Node) → is_on x w.node ≡ true → at_most (intent w.mode) (intents_on (ws ++ w ∷ []) x) ≡ true
+pub intents-pushed : (ws : List Need) (w : Need) (x : Node) → is_on x w.node ≡ true → at_most (intent w.mode) (intents_on (ws ++ w ∷ []) x) ≡ true
 intents-pushed [] w x on = subst (λ (b : Bool). at_most (intent w.mode) (if b then least_above (intent w.mode) NL else NL) ≡ true) (sym on) (join-left (intent w.mode) NL)
 intents-pushed (v ∷ ws) w x on = grows (is_on x v.node) (intent v.mode) (intents_on (ws ++ w ∷ []) x) (intent w.mode) (intents-pushed ws w x on)
   where

@@ -4,3 +4,4 @@ pub mod Lowering
 pub mod Notices
 pub mod Forest
 pub mod Releasing
+pub mod Asking

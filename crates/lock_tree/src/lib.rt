@@ -1,13 +1,16 @@
 //! The tree of locks: needs of owners, the locks that cover them, and notices.
 #![tactic(auto)]
 
+mod asking;
 mod coming_down;
 mod ending;
 mod holding;
+mod looking;
 mod notice;
 mod parties;
 mod releasing;
 mod tree;
+mod way;
 
 pub use lock_needs::{Level, Need, Node};
 pub use notice::Demotion;

@@ -1,0 +1,43 @@
+use Rattle.std.proofs.Common.{◌≡◌, sym, subst, inl, true, Option}
+use Rattle.std.specs.Prelude.{unwrap_or}
+use Rattle.std.proofs.lemmas.Bool.{or_parts}
+use Rattle.vms_queues.specs.declared.lock_mode.Mode.{Mode}
+use Rattle.vms_queues.specs.declared.lock_mode.Mode.TheVariants.{NL}
+use Rattle.vms_queues.specs.Modes.{at_most}
+use Rattle.vms_queues.specs.Queues.{has_owner}
+use Rattle.vms_locks.specs.Table.{queues_at}
+use Rattle.lock_tree.proofs.HeldModes.{mode-has_owner}
+use Rattle.lock_tree.proofs.Changes.{quiet-at}
+use Rattle.lock_tree.proofs.Conditions.{absent-quiet}
+use Rattle.lock_tree.proofs.Answered.{if_ok-more, quiet-awake, request-answered, conversion-answered}
+use Rattle.lock_tree.proofs.asking.ask.Goals as goal
+
+pub convert-requires-clause-granted : goal.convert-requires-clause-granted
+convert-requires-clause-granted c = mode-has_owner c.args.owner (queues_at c.args.locks.now c.args.node).granted c.in-Some.field-0 (sym c.in-Some.ensures.value)
+
+pub convert-requires-clause-once : goal.convert-requires-clause-once
+convert-requires-clause-once c =
+    let q = queues_at c.args.locks.now c.args.node in
+    (or_parts (has_owner c.args.owner q.converting) (has_owner c.args.owner q.waiting) (quiet-at c.args.locks.now c.args.locks.now c.args.owner c.args.node c.in-Some.ensures.live (c.requires.quiet c.args.node))).0
+
+pub convert-requires-clause-awake : goal.convert-requires-clause-awake
+convert-requires-clause-awake c = inl (quiet-awake c.args.locks.now c.args.owner c.in-Some.ensures.live c.requires.quiet)
+
+pub enq-requires-clause-absent : goal.enq-requires-clause-absent
+enq-requires-clause-absent c =
+    absent-quiet c.args.locks.now c.args.locks.now c.args.owner c.args.node c.args.mode c.in-None.ensures.live
+    (quiet-at c.args.locks.now c.args.locks.now c.args.owner c.args.node c.in-None.ensures.live (c.requires.quiet c.args.node)) (sym c.in-None.ensures.value)
+
+pub enq-requires-clause-awake : goal.enq-requires-clause-awake
+enq-requires-clause-awake c = inl (quiet-awake c.args.locks.now c.args.owner c.in-None.ensures.live c.requires.quiet)
+
+pub returns-in-Some-clause-answer : goal.returns-in-Some-clause-answer
+returns-in-Some-clause-answer c =
+    if_ok-more _ _ c.convert.result c.convert.ensures.answer
+    (conversion-answered c.args.locks.now c.convert.new.self c.args.owner c.args.node c.args.mode c.args.wait c.in-Some.ensures.live c.requires.quiet c.in-Some.field-0 (sym c.in-Some.ensures.value)
+    (subst (λ (x : Option Mode). at_most (unwrap_or x NL) c.args.mode ≡ true) (sym c.in-Some.ensures.value) c.requires.ascends))
+
+pub returns-in-None-clause-answer : goal.returns-in-None-clause-answer
+returns-in-None-clause-answer c =
+    if_ok-more _ _ c.enq.result c.enq.ensures.answer
+    (request-answered c.args.locks.now c.enq.new.self c.args.owner c.args.node c.args.mode c.args.wait c.in-None.ensures.live c.requires.quiet (sym c.in-None.ensures.value))

@@ -1,0 +1,95 @@
+ghost use Rattle.std.specs.Prelude.{◌≡◌, false, Some, IfOk, OnErr};
+ghost use Rattle.vms_queues.specs.Queues.{blockers};
+ghost use Rattle.vms_locks.specs.Table.{queues_at};
+ghost use Rattle.lock_needs.specs.Needs.{covered_above};
+ghost use Rattle.lock_tree.specs.LockTable.{granted_at, HasIntents};
+ghost use Rattle.lock_tree.specs.Parties.{IsKept, KeepsOthers, unasked};
+ghost use Rattle.lock_tree.specs.Asking.{exceeds_at, first_excess, asked_mode, TakesLook};
+
+use crate::asking::{ask_here, make_least};
+use crate::holding::granted_of;
+use crate::notice::kept_mode;
+use indexmap::IndexMap;
+use lock_needs::{Node, OpenWant, Party, is_excess, mode_for};
+use rdb_types::NoMemory;
+use vms_locks::{Enq, Locks};
+use vms_queues::{Mode, join};
+
+/// What comes of a want as it looks at its node.
+#[derive(Debug, Drop)]
+pub(crate) enum Look {
+    /// This owner's lock is in the way of the mode, and stronger than it has to be. Nothing was asked.
+    NoticeTo(u32, Mode),
+    /// The mode was asked.
+    Asked(Enq),
+}
+
+// Whether the owner's lock at the node is stronger than it has to be.
+fn exceeds(locks: &Locks, parties: &IndexMap<u32, Party>, owner: u32, node: Node) -> bool
+    ensures { result ≡ exceeds_at locks.now parties.now.entries node owner }
+{
+    let held = granted_of(locks, owner, node);
+    match parties.get(&owner) {
+        Some(party) => is_excess(held, kept_mode(locks, owner, party, node)),
+        None => is_excess(held, Mode::NL),
+    }
+}
+
+// The first of the others that hold a mode at the node beside which this one can't be held, and hold a stronger one than they
+// have to.
+pub(crate) fn find_excess(
+    locks: &Locks,
+    parties: &IndexMap<u32, Party>,
+    owner: u32,
+    node: Node,
+    mode: Mode,
+) -> Result<Option<u32>, NoMemory>
+    ensures { IfOk result (λ o. o ≡ first_excess locks.now parties.now.entries node (blockers owner mode (queues_at locks.now node).granted)) }
+{
+    let in_way = locks.notices_due(owner, node, mode)?;
+    for other in in_way.as_slice() {
+        if exceeds(locks, parties, *other, node) {
+            return Ok(Some(*other));
+        }
+    }
+    Ok(None)
+}
+
+// The mode that the want asks at its node.
+fn mode_of_want(locks: &Locks, owner: u32, want: OpenWant) -> Mode
+    ensures { result ≡ asked_mode locks.now owner want }
+{
+    join(
+        granted_of(locks, owner, want.here),
+        mode_for(want.need, want.here),
+    )
+}
+
+// The open want looks at its node: the owner's own lock comes down to what must be kept, then the want asks, if nobody is in the way
+// whose lock may come down first. At want of memory the want stands as it did.
+pub(crate) fn look_here(
+    locks: &mut Locks,
+    parties: &IndexMap<u32, Party>,
+    owner: u32,
+    party: &Party,
+    want: OpenWant,
+    wait: bool,
+) -> Result<Look, NoMemory>
+    requires intents { HasIntents locks.old }
+    requires kept { IsKept locks.old owner party.now }
+    requires opened { party.now.opened ≡ Some (unasked want) }
+    requires uncovered { covered_above (granted_at locks.old owner) want.need ≡ false }
+
+    ensures look { IfOk result (TakesLook locks.new parties.now.entries owner party.now.needs want wait) }
+    ensures stands { OnErr result (IsKept locks.new owner party.now) }
+    ensures intents { HasIntents locks.new }
+    ensures others { KeepsOthers owner locks.old locks.new }
+{
+    make_least(locks, owner, party, want)?;
+    let mode = mode_of_want(locks, owner, want);
+    if let Some(other) = find_excess(locks, parties, owner, want.here, mode)? {
+        return Ok(Look::NoticeTo(other, mode));
+    }
+    let answer = ask_here(locks, owner, party.needs.as_slice(), want, wait)?;
+    Ok(Look::Asked(answer))
+}
