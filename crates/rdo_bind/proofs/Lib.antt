@@ -1,2 +1,5 @@
+pub mod Actions
+pub mod Checked
 pub mod Locating
 pub mod Lists
+pub mod Variables

@@ -21,7 +21,7 @@ use Rattle.rdo_values.specs.Places.{Place, place_of_field, behind, located}
 abbrev pub located_from : Tables → Reference → List Binding → Option Place
 located_from t r scope = located r t (variables_of scope)
 
-abbrev fields_in : Tables → Binding → List Field
+abbrev pub fields_in : Tables → Binding → List Field
 fields_in t b = fields_of (relation_named b.relation t)
 
 behind_none : (p : Place) → p ≡ behind 0 p
@@ -35,7 +35,7 @@ behind_both : (n w : ℕ) (o : Option Place) → option_map (behind n) (option_m
 behind_both n w None = refl
 behind_both n w (Some p) = λ i. Some (record { place = sym (add_assoc n w p.place) i; kind = p.kind })
 
-at_item : {Y : Type 0} (F : List Binding → Y) (xs : List Binding) (i : ℕ) (x : Binding) → i < length xs → x ≡ get_or xs i x → F (drop i xs) ≡ F (x ∷ drop (i + 1) xs)
+pub at_item : {Y : Type 0} (F : List Binding → Y) (xs : List Binding) (i : ℕ) (x : Binding) → i < length xs → x ≡ get_or xs i x → F (drop i xs) ≡ F (x ∷ drop (i + 1) xs)
 at_item F xs i x h e = at_drop_more F xs i x h ∙ ap (λ y. F (y ∷ drop (i + 1) xs)) (sym e)
 
 pub located_own : (t : Tables) (r : Reference) (scope : List Binding) (i : ℕ) (b : Binding) (total : Option Place) (n : ℕ) → i < length scope → b ≡ get_or scope i b → total ≡ option_map (behind n) (located_from t r (drop i scope)) → same_name r.variable b.variable ≡ true → total ≡ option_map (behind n) (option_map place_of_field (place_of r.field (fields_in t b)))

@@ -25,7 +25,7 @@ pub(crate) struct ValuePlace {
     pub kind: FieldType,
 }
 
-fn fields_of<'a>(tables: &'a Tables, relation: &Chars) -> &'a [Field]
+pub(crate) fn fields_of<'a>(tables: &'a Tables, relation: &Chars) -> &'a [Field]
     ensures { result.now ≡ fields_in (relation_named relation.now tables.now) }
 {
     match tables.relation(relation) {

@@ -4,6 +4,8 @@
 mod bound;
 mod condition;
 mod expression;
+#[cfg(test)]
+mod tests;
 
 pub use bound::{
     BoundClause, BoundCondition, BoundConjunction, BoundExpression, BoundInner, BoundOperation,
