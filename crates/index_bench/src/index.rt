@@ -11,7 +11,11 @@ use std::alloc::Global;
 use std::cell::Cell;
 use std::collections::BTreeSet;
 
-const ROOT: Dbkey = node_at(2);
+const ROOT: Dbkey = Dbkey {
+    area: 17,
+    page: 2,
+    line: 0,
+};
 
 /// A node of each level may be split, and the root twice.
 const MAX_TRIES: u32 = 258;
@@ -25,7 +29,7 @@ pub struct Index {
     visits: Cell<u64>,
 }
 
-const fn node_at(page: u32) -> Dbkey {
+fn node_at(page: u32) -> Dbkey {
     Dbkey {
         area: 17,
         page,
@@ -101,7 +105,9 @@ impl Index {
 
     fn add_room(&mut self) -> Result<(), IndexStop> {
         let page = self.next_page;
-        self.rooms.push(node_at(page))?;
+        let Ok(()) = self.rooms.push(node_at(page)) else {
+            return Err(IndexStop::NoMemory);
+        };
         self.next_page = page.wrapping_add(1);
         Ok(())
     }

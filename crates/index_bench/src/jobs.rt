@@ -98,7 +98,9 @@ fn decode_all(alloc: Global, keys: u32, rounds: u32) -> Result<Work, IndexStop> 
 fn map_all(alloc: Global, keys: u32, rounds: u32) -> Result<Work, IndexStop> {
     let mut map = BTreeMap::new(alloc);
     for n in 0..keys {
-        let _before = map.insert(i64::from(nth_key(n, keys)), n)?;
+        let Ok(_before) = map.insert(i64::from(nth_key(n, keys)), n) else {
+            return Err(IndexStop::NoMemory);
+        };
     }
     let mut found = 0_u64;
     for n in 0..u64::from(rounds) * u64::from(keys) {
