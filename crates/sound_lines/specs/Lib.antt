@@ -1,0 +1,4 @@
+pub mod Gathered
+pub mod Contents
+pub mod Sound
+pub mod Reading
