@@ -3,4 +3,7 @@ pub mod RowsRead
 pub mod RelationsRead
 pub mod OneTables
 pub mod BadRows
+pub mod Empty
 pub mod Worked
+pub mod LaidRows
+pub mod Longest
