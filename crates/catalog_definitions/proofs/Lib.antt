@@ -1,0 +1,14 @@
+pub mod Puts
+pub mod Growth
+pub mod Laying
+pub mod Fitting
+pub mod GlobalFields
+pub mod LaidLines
+pub mod FreeAreas
+pub mod KeyPlaces
+pub mod Lookups
+pub mod IndexLines
+pub mod NewIndexes
+pub mod NewFields
+pub mod RelationLines
+pub mod NewRelations
