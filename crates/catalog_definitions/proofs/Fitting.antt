@@ -1,5 +1,5 @@
 -- Catalogs that have grown.
-use Rattle.std.proofs.Common.{◌≡◌, ℕ, Bool, true, false, List, [], ◌∷◌, ◌++◌, length, Option, Some, None, refl, sym, ap, subst, ◌∙◌, arith, if◌then◌else◌}
+use Rattle.std.proofs.Common.{◌≡◌, ℕ, Bool, true, false, List, [], ◌∷◌, length, Option, Some, None, refl, sym, ap, subst, ◌∙◌, arith, if◌then◌else◌}
 use Rattle.std.specs.List.{AllByRecursion}
 use Rattle.rdb_types.specs.declared.keys.Dbkey.{Dbkey}
 use Rattle.rdb_meaning.specs.declared.tables.Tables.{Tables}
@@ -10,9 +10,8 @@ use Rattle.catalog_lines.specs.declared.line.CatalogLine.TheVariants.{Relation, 
 use Rattle.std.specs.FinMap.Entries.{put}
 use Rattle.catalog.specs.declared.directory.PlacedLine.{PlacedLine}
 use Rattle.catalog.specs.declared.directory.Directory.{Directory}
-use Rattle.catalog.specs.declared.reading.Catalog.{Catalog}
 use Rattle.catalog.specs.Directory.{directory, directory_from, no_directory}
-use Rattle.catalog.specs.Schema.{with_thing, relation_fields, fields_from, tables_from, catalog_tables, stands, misfit_from, misfit}
+use Rattle.catalog.specs.Schema.{with_thing, relation_fields, fields_from, tables_from, catalog_tables, stands, misfit_from}
 use Rattle.catalog.specs.Reading.{AreCatalogLines, IsCatalogOf}
 use Rattle.catalog_definitions.proofs.Growth.{Step, Grows, GrowsApart, AllApart, note_grown, thing_grown, all_grown}
 use Rattle.catalog_definitions.proofs.Laying.{placed_at, LaidAll}

@@ -1,7 +1,6 @@
 -- The logical area that a definition gives out isn't in use.
-use Rattle.std.proofs.Common.{◌≡◌, ℕ, zero, suc, ◌+◌, ◌<◌, ◌≤◌, ◌%◌, Bool, true, false, List, [], ◌∷◌, map, length, Option, Some, None, refl, sym, ap, subst, ◌∙◌, arith, nat_eq, cond, if◌then◌else◌, T}
+use Rattle.std.proofs.Common.{◌≡◌, ℕ, zero, suc, ◌+◌, ◌<◌, ◌≤◌, ◌%◌, true, false, List, [], ◌∷◌, map, length, Some, refl, sym, ap, ◌∙◌, arith, nat_eq, cond, if◌then◌else◌}
 use Rattle.std.specs.Prelude.{◌||◌, nat_le}
-use Rattle.std.specs.List.{list_any}
 use Rattle.std.specs.declared.cmp.Ordering.{Ordering}
 use Rattle.std.specs.declared.cmp.Ordering.TheVariants.{Less, Equal, Greater}
 use Rattle.std.specs.Ordering.{is_eq, nat_cmp}
@@ -9,6 +8,7 @@ use Rattle.std.specs.FinMap.Entries.{find}
 use Rattle.std.proofs.lemmas.Bool.Decides.{nat_tests}
 use Rattle.std.proofs.lemmas.Cmp.{ranked}
 use Rattle.rdb_meaning.specs.Contents.{is_used, first_free}
+use Rattle.catalog_definitions.proofs.Basics.{or_true}
 
 pub numbers_differ : (a b : ℕ) → (a ≡ b → ⊥) → is_eq (nat_cmp a b) ≡ false
 numbers_differ a b apart =
@@ -79,10 +79,6 @@ free_bounds (suc more) n us =
       | true ↦ (omega (arith, rest.0), rest.1 ∙ omega arith)
       | false ↦ (omega arith, refl)
     ]
-
-or_true : (b : Bool) → (b || true) ≡ true
-or_true true = refl
-or_true false = refl
 
 -- what is found is in use
 pub used_found : {K V : Type 0} (R : K → K → Ordering) (area : V → ℕ) (q : K) (v : V) (es : List (K × V)) → find R q es ≡ Some v → is_used (area v) (map (λ e. area e.1) es) ≡ true

@@ -1,17 +1,15 @@
 -- A global field more.
-use Rattle.std.proofs.Common.{◌≡◌, ℕ, Bool, true, false, List, [], ◌∷◌, Option, Some, None, refl, sym, ap, subst, ◌∙◌}
+use Rattle.std.proofs.Common.{◌≡◌, true, List, [], ◌∷◌, None, refl, sym, ap, ◌∙◌}
 use Rattle.std.specs.List.{AllByRecursion}
 use Rattle.std.specs.Ordering.{is_eq}
 use Rattle.std.specs.Cmp.{tied_itself}
-use Rattle.std.specs.FinMap.Entries.{find, put}
+use Rattle.std.specs.FinMap.Entries.{find}
 use Rattle.rdb_types.specs.declared.keys.Dbkey.{Dbkey}
-use Rattle.ordered_entries.specs.Order.{dbkey_order}
 use Rattle.ordered_entries.proofs.Laws.{chars_total, dbkey_total, find-put_same}
 use Rattle.rdb_meaning.specs.declared.tables.Tables.{Tables}
 use Rattle.rdb_meaning.specs.Contents.{name_order, no_tables}
-use Rattle.rdb_meaning.specs.Checks.{needs_none}
-use Rattle.rdb_meaning.specs.Defining.{field_names, with_field}
-use Rattle.line_view.specs.Knowledge.{Knowledge, Lines, IsInOrder, Agrees}
+use Rattle.rdb_meaning.specs.Defining.{with_field}
+use Rattle.line_view.specs.Knowledge.{Knowledge, Lines}
 use Rattle.catalog_lines.specs.declared.line.GlobalLine.{GlobalLine}
 use Rattle.catalog_lines.specs.declared.line.CatalogLine.{CatalogLine}
 use Rattle.catalog_lines.specs.declared.line.CatalogLine.TheVariants.{Relation, Global, Field as FieldOf, Index}
@@ -25,16 +23,12 @@ use Rattle.catalog.specs.Schema.{with_thing, tables_from, catalog_tables, is_key
 use Rattle.catalog.specs.Reading.{IsPresent, IsCatalogOf, IsWhole}
 use Rattle.catalog_lines.specs.Lines.{IsAllowedLine}
 use Rattle.std.proofs.lemmas.List.Elements.{recursion_from_All}
-use Rattle.catalog_definitions.specs.Written.{AreWritten, global_line}
+use Rattle.catalog_definitions.specs.Written.{AreWritten}
 use Rattle.catalog_definitions.specs.Leaving.{Leaves, Turns}
 use Rattle.catalog_definitions.proofs.Puts.{none_put, untied_back, find-put_other}
 use Rattle.catalog_definitions.proofs.Growth.{Apart, AllApart}
 use Rattle.catalog_definitions.proofs.Laying.{LaidAll, laid_lines, rooms_apart, rooms_free}
-use Rattle.catalog_definitions.proofs.Fitting.{Stands, fit_all, all_pairs, tables_by, grown_catalog, LaidOne, laid_one, one_grows}
-
-pub none_named : {A : Type 0} (name : List ℕ) (found : Option A) → needs_none name found ≡ None → found ≡ None
-none_named name (Some x) none = let bad : ⊥ = cc in absurd bad
-none_named name None none = refl
+use Rattle.catalog_definitions.proofs.Fitting.{Stands, fit_all, all_pairs, tables_by, grown_catalog, laid_one, one_grows}
 
 allowed_lines : (all : Lines) (ps : List PlacedLine) → AllByRecursion (IsPresent all) ps → AllByRecursion (λ p. IsAllowedLine p.line) ps
 allowed_lines all [] each = tt

@@ -1,5 +1,5 @@
 -- An index more.
-use Rattle.std.proofs.Common.{◌≡◌, ℕ, zero, suc, ◌+◌, ◌-◌, ◌<◌, ◌≤◌, ◌%◌, Bool, true, false, not, ◌&&◌, ◌==◌, nat_eq, List, [], ◌∷◌, map, length, Option, Some, None, refl, sym, ap, subst, ◌∙◌, arith}
+use Rattle.std.proofs.Common.{◌≡◌, ℕ, ◌+◌, ◌-◌, ◌<◌, Bool, true, not, ◌&&◌, ◌==◌, nat_eq, List, [], ◌∷◌, length, None, refl, ap, ◌∙◌, arith}
 use Rattle.std.specs.Prelude.{is_some, ◌||◌}
 use Rattle.std.specs.List.{AllByRecursion, list_all}
 use Rattle.std.specs.Ordering.{is_eq}
@@ -7,13 +7,11 @@ use Rattle.std.specs.Cmp.{tied_itself}
 use Rattle.std.specs.FinMap.Entries.{find, put}
 use Rattle.std.proofs.lemmas.Bool.{and_parts}
 use Rattle.rdb_types.specs.declared.keys.Dbkey.{Dbkey}
-use Rattle.rdb_types.specs.declared.values.Field.{Field}
-use Rattle.ordered_entries.specs.Order.{dbkey_order}
 use Rattle.ordered_entries.proofs.Laws.{chars_total, dbkey_total, find-put_same}
 use Rattle.rdb_meaning.specs.declared.tables.Relation.{Relation as RelationOf}
 use Rattle.rdb_meaning.specs.declared.tables.Index.{Index as IndexOf}
 use Rattle.rdb_meaning.specs.declared.tables.Tables.{Tables}
-use Rattle.rdb_meaning.specs.Contents.{name_order, no_tables, relation_named, fields_of, is_used}
+use Rattle.rdb_meaning.specs.Contents.{name_order, relation_named, fields_of}
 use Rattle.rdb_meaning.specs.Execution.{area_of}
 use Rattle.catalog_lines.specs.declared.line.FieldLine.{FieldLine}
 use Rattle.catalog_lines.specs.declared.line.IndexLine.{IndexLine}
@@ -21,14 +19,13 @@ use Rattle.catalog_lines.specs.declared.line.CatalogLine.{CatalogLine}
 use Rattle.catalog_lines.specs.declared.line.CatalogLine.TheVariants.{Relation, Global, Field as FieldOf, Index}
 use Rattle.catalog.specs.declared.directory.PlacedLine.{PlacedLine}
 use Rattle.catalog.specs.declared.directory.Directory.{Directory}
-use Rattle.catalog.specs.Directory.{area_order, place_order, numbered, place, noted, directory, no_directory}
-use Rattle.catalog.specs.Schema.{with_thing, tables_from, catalog_tables, is_key, is_field_key, index_area, has_field, has_area, relation_fields, max_fields, differ, same_field, stands}
-use Rattle.catalog.proofs.Differences.{relation_parts, index_parts}
+use Rattle.catalog.specs.Directory.{area_order, place_order, numbered, place, noted}
+use Rattle.catalog.specs.Schema.{with_thing, tables_from, is_key, is_field_key, index_area, has_field, has_area, relation_fields, max_fields, differ, same_field, stands}
+use Rattle.catalog.proofs.Differences.{relation_parts}
 use Rattle.catalog_definitions.proofs.Puts.{none_put, untied_back, find-put_other}
 use Rattle.catalog_definitions.proofs.Growth.{Apart, AllApart, DifferentAreas, area_total}
-use Rattle.catalog_definitions.proofs.Fitting.{Stands, all_pairs}
 use Rattle.catalog_definitions.proofs.FreeAreas.{eq_itself}
-use Rattle.catalog_definitions.proofs.Lookups.{Good, IsOff, RelationFrom, relation_from, other_area, key_there, field_there}
+use Rattle.catalog_definitions.proofs.Lookups.{IsOff, RelationFrom, other_area, key_there, field_there}
 
 abbrev pub noted_index : Dbkey → IndexLine → Directory → Directory
 noted_index k x d = noted k (Index x) d

@@ -1,32 +1,21 @@
 -- The places of an index's fields.
-use Rattle.std.proofs.Common.{◌≡◌, ℕ, zero, suc, ◌+◌, ◌<◌, ◌≤◌, Bool, true, false, not, ◌&&◌, List, [], ◌∷◌, map, length, Option, Some, None, refl, sym, ap, subst, ◌∙◌, arith, nat_eq, if◌then◌else◌}
+use Rattle.std.proofs.Common.{◌≡◌, ℕ, suc, ◌+◌, ◌<◌, ◌≤◌, Bool, true, false, not, ◌&&◌, List, [], ◌∷◌, length, Option, Some, None, refl, sym, ap, subst, ◌∙◌, arith, nat_eq, if◌then◌else◌}
 use Rattle.std.specs.Prelude.{◌||◌}
-use Rattle.std.specs.List.{AllByRecursion, list_any, list_all, filter_map}
+use Rattle.std.specs.List.{AllByRecursion, list_any}
 use Rattle.std.specs.Ordering.{is_eq}
-use Rattle.std.specs.declared.cmp.Ordering.{Ordering}
-use Rattle.std.specs.declared.cmp.Ordering.TheVariants.{Less, Equal, Greater}
 use Rattle.std.proofs.lemmas.Map.Text.{is_eq-slice_cmp}
 use Rattle.std.proofs.lemmas.Option.{same_Some}
 use Rattle.rdb_types.specs.declared.values.Field.{Field}
-use Rattle.rdo_ast.specs.declared.reply.Reply.{Reply}
 use Rattle.rdo_ast.specs.declared.reply.Reply.TheVariants.{Exists}
 use Rattle.rdo_ast.specs.Tree.{Name}
 use Rattle.ordered_entries.proofs.Laws.{same_chars, chars_total}
 use Rattle.std.specs.Cmp.{tied_itself}
 use Rattle.rdb_meaning.specs.Contents.{name_order, same_name, place_from, place_of}
 use Rattle.rdb_meaning.specs.Checks.{Refusal, or_else, needs_some}
-use Rattle.rdb_meaning.specs.Defining.{is_among, index_fields_names, place_number, positions_of}
+use Rattle.rdb_meaning.specs.Defining.{is_among, index_fields_names, positions_of}
 use Rattle.catalog.specs.Schema.{differ}
 use Rattle.catalog_definitions.proofs.FreeAreas.{eq_is}
-
-or_true : (b : Bool) → (b || true) ≡ true
-or_true true = refl
-or_true false = refl
-
-equal : (r : Ordering) → is_eq r ≡ true → r ≡ Equal
-equal Less is = let bad : ⊥ = cc in absurd bad
-equal Equal is = refl
-equal Greater is = let bad : ⊥ = cc in absurd bad
+use Rattle.catalog_definitions.proofs.Basics.{equal, or_true}
 
 pub names_are : (m n : Name) → same_name m n ≡ true → m ≡ n
 names_are m n is = same_chars m n (equal (name_order m n) (is_eq-slice_cmp m n ∙ is))

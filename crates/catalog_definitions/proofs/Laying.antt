@@ -1,12 +1,11 @@
 -- The catalog's lines behind writes.
-use Rattle.std.proofs.Common.{◌≡◌, ℕ, suc, ◌+◌, ◌≤◌, Bool, true, false, cond, List, [], ◌∷◌, ◌++◌, map, length, Option, Some, None, T, refl, sym, ap, subst, ◌∙◌, arith}
-use Rattle.std.specs.List.{All, AllByRecursion}
+use Rattle.std.proofs.Common.{◌≡◌, ℕ, suc, ◌+◌, ◌≤◌, false, cond, List, [], ◌∷◌, length, Some, None, T, refl, sym, ap, subst, ◌∙◌, arith}
+use Rattle.std.specs.List.{AllByRecursion}
 use Rattle.std.proofs.lemmas.List.Elements.{All-from_recursion, recursion_from_All}
 use Rattle.std.specs.declared.cmp.Ordering.{Ordering}
 use Rattle.std.specs.declared.cmp.Ordering.TheVariants.{Less, Equal, Greater}
 use Rattle.std.specs.Ordering.{is_eq, match_ordering}
 use Rattle.std.specs.BTreeSet.{insert_key}
-use Rattle.std.specs.Cmp.{tied_itself}
 use Rattle.std.specs.FinMap.Entries.{put, is_sorted-put}
 use Rattle.rdb_types.specs.declared.keys.Dbkey.{Dbkey}
 use Rattle.ordered_entries.specs.Order.{dbkey_order}
@@ -21,12 +20,9 @@ use Rattle.sorted_index.specs.Changes.{laid_all}
 use Rattle.catalog.specs.declared.directory.PlacedLine.{PlacedLine}
 use Rattle.catalog.specs.Reading.{catalog_area, line_keys, IsPresent, AreCatalogLines}
 use Rattle.catalog_definitions.specs.Causes.{catalog_room}
-use Rattle.catalog_definitions.specs.Written.{IsWritten, AreWritten}
+use Rattle.catalog_definitions.specs.Written.{AreWritten}
 use Rattle.catalog_definitions.proofs.Growth.{Step, Grows, all_step}
-
-true_from_T : (b : Bool) → T b → b ≡ true
-true_from_T true h = refl
-true_from_T false h = absurd h
+use Rattle.catalog_definitions.proofs.Basics.{true_from_T, itself}
 
 -- ---- one write
 
@@ -68,9 +64,6 @@ still_there all key image none q is =
       | Greater ↦ λ p. refl
     ] refl in
     record { image = is.image; present = laid_found q.key key (Some image) all ∙ ap (λ b. cond b (Some image) (line_in q.key all)) other ∙ is.present; decodes = is.decodes }
-
-itself : (key : Dbkey) → is_eq (dbkey_order key key) ≡ true
-itself key = ap is_eq (tied_itself dbkey_total key)
 
 pub found_itself : (all : Lines) (key : Dbkey) (image : List ℕ) → line_in key (laid key (Some image) all) ≡ Some image
 found_itself all key image = laid_found key key (Some image) all ∙ ap (λ b. cond b (Some image) (line_in key all)) (itself key)

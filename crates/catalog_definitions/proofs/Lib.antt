@@ -1,3 +1,4 @@
+pub mod Basics
 pub mod Puts
 pub mod Growth
 pub mod Laying
@@ -12,3 +13,9 @@ pub mod NewIndexes
 pub mod NewFields
 pub mod RelationLines
 pub mod NewRelations
+pub mod Erasing
+pub mod Pairwise
+pub mod Remaining
+pub mod Remains
+pub mod DeletedIndexes
+pub mod DeletedRelations

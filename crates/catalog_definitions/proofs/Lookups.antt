@@ -1,22 +1,18 @@
 -- What lines that stand leave in the tables and in the directory.
-use Rattle.std.proofs.Common.{◌≡◌, ℕ, zero, suc, ◌+◌, ◌<◌, ◌≤◌, ◌%◌, Bool, true, false, cond, not, ◌&&◌, ◌==◌, nat_eq, List, [], ◌∷◌, map, length, Option, Some, None, ◌⊎◌, inl, inr, refl, sym, ap, subst, ◌∙◌, arith}
-use Rattle.std.specs.Prelude.{is_some, ◌||◌}
-use Rattle.std.specs.List.{AllByRecursion, list_all}
-use Rattle.std.specs.Ordering.{is_eq, nat_cmp}
-use Rattle.std.specs.FinMap.Entries.{find, put, find-put}
-use Rattle.std.proofs.lemmas.Bool.{and_parts}
+use Rattle.std.proofs.Common.{◌≡◌, ℕ, zero, suc, ◌+◌, ◌<◌, ◌%◌, true, false, cond, List, [], ◌∷◌, map, length, Option, Some, None, ◌⊎◌, inl, inr, refl, sym, ap, subst, ◌∙◌, arith}
+use Rattle.std.specs.Prelude.{is_some}
+use Rattle.std.specs.List.{AllByRecursion}
+use Rattle.std.specs.Ordering.{is_eq}
+use Rattle.std.specs.FinMap.Entries.{find, find-put}
 use Rattle.rdb_types.specs.declared.keys.Dbkey.{Dbkey}
-use Rattle.rdb_types.specs.declared.values.Field.{Field}
 use Rattle.ordered_entries.proofs.Laws.{chars_total}
 use Rattle.rdb_meaning.specs.declared.tables.Relation.{Relation as RelationOf}
 use Rattle.rdb_meaning.specs.declared.tables.Index.{Index as IndexOf}
 use Rattle.rdb_meaning.specs.declared.tables.Tables.{Tables}
-use Rattle.rdb_meaning.specs.Contents.{name_order, no_tables, relation_named, fields_of, is_used}
+use Rattle.rdb_meaning.specs.Contents.{name_order, no_tables, relation_named, is_used}
 use Rattle.rdb_meaning.specs.Execution.{area_of}
 use Rattle.catalog_lines.specs.declared.line.RelationLine.{RelationLine}
 use Rattle.catalog_lines.specs.declared.line.IndexLine.{IndexLine}
-use Rattle.catalog_lines.specs.declared.line.FieldLine.{FieldLine}
-use Rattle.catalog_lines.specs.declared.line.GlobalLine.{GlobalLine}
 use Rattle.catalog_lines.specs.declared.line.CatalogLine.{CatalogLine}
 use Rattle.catalog_lines.specs.declared.line.CatalogLine.TheVariants.{Relation, Global, Field as FieldOf, Index}
 use Rattle.catalog_lines.specs.Lines.{IsAllowedLine, IsRelationLine}
@@ -24,13 +20,13 @@ use Rattle.catalog.specs.declared.directory.FieldPlace.{FieldPlace}
 use Rattle.catalog.specs.declared.directory.PlacedField.{PlacedField}
 use Rattle.catalog.specs.declared.directory.PlacedLine.{PlacedLine}
 use Rattle.catalog.specs.declared.directory.Directory.{Directory}
-use Rattle.catalog.specs.Directory.{area_order, place_order, numbered, place, noted, directory, directory_from, no_directory}
-use Rattle.catalog.specs.Schema.{with_thing, tables_from, catalog_tables, is_key, index_area, has_field, has_area, fields_from, next_field, relation_fields, max_fields, stands}
+use Rattle.catalog.specs.Directory.{area_order, place_order, numbered, place, noted, directory, directory_from}
+use Rattle.catalog.specs.Schema.{with_thing, tables_from, catalog_tables, is_key, index_area, fields_from, next_field, relation_fields, stands}
 use Rattle.catalog.proofs.Differences.{relation_parts, index_parts}
-use Rattle.catalog_definitions.proofs.Puts.{none_put, untied_back, find-put_other}
-use Rattle.catalog_definitions.proofs.Growth.{area_total, place_total, DifferentAreas}
+use Rattle.catalog_definitions.proofs.Puts.{find-put_other}
+use Rattle.catalog_definitions.proofs.Growth.{area_total, DifferentAreas}
 use Rattle.catalog_definitions.proofs.Fitting.{Stands}
-use Rattle.catalog_definitions.proofs.FreeAreas.{numbers_differ, used_found, eq_is, eq_itself}
+use Rattle.catalog_definitions.proofs.FreeAreas.{numbers_differ, used_found}
 
 -- a line that may be laid out and goes with the others
 pub record Good (d : Directory) (t : Tables) (q : PlacedLine) : Type 0 where

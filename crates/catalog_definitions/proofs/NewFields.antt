@@ -1,24 +1,20 @@
 -- The fields of a new relation in the directory.
-use Rattle.std.proofs.Common.{◌≡◌, ℕ, zero, suc, ◌+◌, ◌<◌, ◌≤◌, Bool, true, false, cond, List, [], ◌∷◌, ◌++◌, length, Option, Some, None, refl, sym, ap, subst, ◌∙◌, arith}
-use Rattle.std.specs.Prelude.{is_some}
-use Rattle.std.specs.List.{AllByRecursion}
+use Rattle.std.proofs.Common.{◌≡◌, ℕ, zero, suc, ◌+◌, ◌<◌, ◌≤◌, false, List, [], ◌∷◌, length, Some, None, refl, ap, ◌∙◌, arith}
 use Rattle.std.specs.declared.cmp.Ordering.{Ordering}
 use Rattle.std.specs.declared.cmp.Ordering.TheVariants.{Less, Equal, Greater}
 use Rattle.std.specs.Ordering.{is_eq, nat_cmp, ordering_then}
-use Rattle.std.specs.FinMap.Entries.{find, put}
-use Rattle.std.proofs.lemmas.Cmp.{ranked}
+use Rattle.std.specs.FinMap.Entries.{find}
 use Rattle.rdb_types.specs.declared.keys.Dbkey.{Dbkey}
 use Rattle.rdb_types.specs.declared.values.Field.{Field}
 use Rattle.ordered_entries.proofs.Laws.{find-put_same}
 use Rattle.rdb_meaning.specs.declared.tables.Tables.{Tables}
-use Rattle.catalog_lines.specs.declared.line.CatalogLine.{CatalogLine}
-use Rattle.catalog_lines.specs.declared.line.CatalogLine.TheVariants.{Relation, Global, Field as FieldOf, Index}
+use Rattle.catalog_lines.specs.declared.line.CatalogLine.TheVariants.{Field as FieldOf}
 use Rattle.catalog.specs.declared.directory.FieldPlace.{FieldPlace}
 use Rattle.catalog.specs.declared.directory.PlacedField.{PlacedField}
 use Rattle.catalog.specs.declared.directory.PlacedLine.{PlacedLine}
 use Rattle.catalog.specs.declared.directory.Directory.{Directory}
 use Rattle.catalog.specs.Directory.{place_order, place, noted, directory_from}
-use Rattle.catalog.specs.Schema.{next_field, fields_from, relation_fields, has_field, with_thing, tables_from}
+use Rattle.catalog.specs.Schema.{next_field, fields_from, relation_fields, tables_from}
 use Rattle.catalog_definitions.specs.Written.{field_lines}
 use Rattle.catalog_definitions.proofs.Puts.{find-put_other}
 use Rattle.catalog_definitions.proofs.Growth.{DifferentAreas, place_total}

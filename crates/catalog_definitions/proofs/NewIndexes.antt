@@ -1,5 +1,5 @@
 -- What DEFINE INDEX leaves of the catalog.
-use Rattle.std.proofs.Common.{◌≡◌, ℕ, ◌<◌, ◌≤◌, ◌%◌, Bool, true, false, nat_eq, List, [], ◌∷◌, map, length, Option, Some, None, refl, sym, ap, subst, ◌∙◌, arith}
+use Rattle.std.proofs.Common.{◌≡◌, ℕ, ◌<◌, ◌≤◌, false, nat_eq, List, [], ◌∷◌, map, length, Some, None, refl, sym, ap, subst, ◌∙◌, arith}
 use Rattle.std.specs.List.{AllByRecursion}
 use Rattle.std.specs.Prelude.{IsSome}
 use Rattle.std.proofs.lemmas.List.{length-map}
@@ -9,17 +9,17 @@ use Rattle.rdo_ast.specs.declared.syntax.IndexDefinition.{IndexDefinition}
 use Rattle.rdb_meaning.specs.declared.tables.Relation.{Relation as RelationOf}
 use Rattle.rdb_meaning.specs.declared.tables.Tables.{Tables}
 use Rattle.rdb_meaning.specs.Contents.{name_order, no_tables, relation_named, fields_of, is_used, new_index_area}
-use Rattle.rdb_meaning.specs.Checks.{or_else, needs_some, needs_none}
+use Rattle.rdb_meaning.specs.Checks.{needs_some, needs_none}
 use Rattle.rdb_meaning.specs.Defining.{index_names, index_fields_names, positions_of, with_index}
 use Rattle.rdb_meaning.specs.Execution.{area_of}
 use Rattle.rdb_meaning.specs.declared.tables.Index.{Index as IndexOf}
 use Rattle.rdb_definitions.specs.NewIndex.{new_index}
 use Rattle.ordered_entries.proofs.Laws.{chars_total, find-put_same}
 use Rattle.std.proofs.lemmas.Option.{same_Some}
-use Rattle.line_view.specs.Knowledge.{Knowledge, Lines, IsInOrder, Agrees}
+use Rattle.line_view.specs.Knowledge.{Knowledge, Lines}
 use Rattle.catalog_lines.specs.declared.line.IndexLine.{IndexLine}
 use Rattle.catalog_lines.specs.declared.line.CatalogLine.TheVariants.{Index}
-use Rattle.catalog_lines.specs.Lines.{IsAllowedLine, IsIndexArea, IsRelationArea, IsIndexLine}
+use Rattle.catalog_lines.specs.Lines.{IsAllowedLine, IsIndexArea, IsRelationArea}
 use Rattle.catalog_lines.specs.Parts.{IsName}
 use Rattle.sorted_index.specs.declared.writes.Write.{Write}
 use Rattle.sorted_index.specs.Changes.{laid_all}
@@ -28,16 +28,17 @@ use Rattle.catalog.specs.declared.reading.Catalog.{Catalog}
 use Rattle.catalog.specs.Directory.{area_order, numbered, directory, no_directory}
 use Rattle.catalog.specs.Schema.{catalog_tables, differ}
 use Rattle.catalog.specs.Reading.{IsCatalogOf, IsWhole}
-use Rattle.catalog_definitions.specs.Written.{AreWritten, index_line, index_room, IsIndexWritten}
+use Rattle.catalog_definitions.specs.Written.{index_line, index_room, IsIndexWritten}
 use Rattle.catalog_definitions.specs.Leaving.{Leaves, Turns}
 use Rattle.catalog_definitions.proofs.Growth.{Apart, AllApart}
 use Rattle.catalog_definitions.proofs.Laying.{LaidAll, laid_lines, rooms_apart, rooms_free}
-use Rattle.catalog_definitions.proofs.Fitting.{Stands, fit_all, all_pairs, tables_by, grown_catalog, LaidOne, laid_one, one_grows}
+use Rattle.catalog_definitions.proofs.Fitting.{Stands, fit_all, all_pairs, tables_by, grown_catalog, laid_one, one_grows}
 use Rattle.catalog_definitions.proofs.FreeAreas.{unused, free_bounds}
 use Rattle.catalog_definitions.proofs.KeyPlaces.{first_none, count_places, places_within, places_differ}
 use Rattle.catalog_definitions.proofs.Lookups.{Good, all_good, RelationFrom, relation_from, odd_offs, off_lines}
 use Rattle.catalog_definitions.proofs.IndexLines.{noted_index, with_index_line, lines_apart, still_stands, new_stands}
-use Rattle.catalog_definitions.proofs.GlobalFields.{none_named, whole_of}
+use Rattle.catalog_definitions.proofs.GlobalFields.{whole_of}
+use Rattle.catalog_definitions.proofs.Basics.{none_named, some_named}
 
 -- ---- what isn't refused
 
@@ -46,10 +47,6 @@ pub record Sound (d : IndexDefinition) (t : Tables) : Type 0 where
   pub rel : RelationOf
   pub there : relation_named d.relation t ≡ Some rel
   pub places : index_fields_names [] d.fields rel.fields ≡ None
-
-some_named : (n : List ℕ) (found : Option RelationOf) → needs_some n found ≡ None → (rel : RelationOf) × (found ≡ Some rel)
-some_named n (Some rel) none = (rel, refl)
-some_named n None none = let bad : ⊥ = cc in absurd bad
 
 pub sound : (d : IndexDefinition) (t : Tables) → index_names d t ≡ None → Sound d t
 sound d t none =

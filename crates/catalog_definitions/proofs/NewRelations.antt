@@ -1,11 +1,11 @@
 -- What DEFINE RELATION leaves of the catalog.
-use Rattle.std.proofs.Common.{◌≡◌, ℕ, zero, suc, ◌+◌, ◌<◌, ◌≤◌, ◌%◌, Bool, true, false, cond, not, ◌&&◌, List, [], ◌∷◌, ◌++◌, map, length, Option, Some, None, ◌⊎◌, inl, inr, refl, sym, ap, subst, ◌∙◌, arith, if◌then◌else◌}
+use Rattle.std.proofs.Common.{◌≡◌, ℕ, suc, ◌+◌, ◌≤◌, ◌%◌, true, false, cond, not, ◌&&◌, List, [], ◌∷◌, ◌++◌, map, length, Option, Some, None, ◌⊎◌, inl, inr, refl, sym, ap, subst, ◌∙◌, arith, if◌then◌else◌}
 use Rattle.std.specs.Prelude.{is_some, IsSome, ◌||◌, nat_le, sum_by}
 use Rattle.std.specs.List.{AllByRecursion, list_any}
 use Rattle.std.proofs.lemmas.List.{length-map}
 use Rattle.std.proofs.lemmas.List.Folds.{list_any-append}
 use Rattle.std.specs.Ordering.{is_eq}
-use Rattle.std.specs.FinMap.Entries.{find, put, find-put}
+use Rattle.std.specs.FinMap.Entries.{find, find-put}
 use Rattle.rdb_types.specs.declared.keys.Dbkey.{Dbkey}
 use Rattle.rdb_types.specs.declared.values.Field.{Field}
 use Rattle.rdb_types.specs.declared.values.FieldType.{FieldType}
@@ -21,12 +21,12 @@ use Rattle.rdb_meaning.specs.declared.tables.Tables.{Tables}
 use Rattle.rdb_meaning.specs.Contents.{name_order, same_name, no_tables, relation_named, is_used, longest_value, class_of, new_relation_area}
 use Rattle.rdb_meaning.specs.Checks.{or_else, needs_some, needs_none}
 use Rattle.rdb_meaning.specs.Defining.{is_among, type_names, fields_names, relation_names, copied_type, type_of, new_field, with_relation}
-use Rattle.line_view.specs.Knowledge.{Knowledge, Lines, IsInOrder, Agrees}
+use Rattle.line_view.specs.Knowledge.{Knowledge, Lines}
 use Rattle.catalog_lines.specs.declared.line.RelationLine.{RelationLine}
 use Rattle.catalog_lines.specs.declared.line.CatalogLine.{CatalogLine}
 use Rattle.catalog_lines.specs.declared.line.CatalogLine.TheVariants.{Relation, Global, Field as FieldOf, Index}
-use Rattle.catalog_lines.specs.Lines.{IsAllowedLine, IsRelationArea, IsRelationLine, IsClass}
-use Rattle.catalog_lines.specs.Parts.{IsName, IsType}
+use Rattle.catalog_lines.specs.Lines.{IsAllowedLine, IsRelationArea, IsClass}
+use Rattle.catalog_lines.specs.Parts.{IsType}
 use Rattle.sorted_index.specs.declared.writes.Write.{Write}
 use Rattle.sorted_index.specs.Changes.{laid_all}
 use Rattle.catalog.specs.declared.directory.PlacedLine.{PlacedLine}
@@ -38,21 +38,18 @@ use Rattle.catalog.specs.Reading.{AreCatalogLines, IsCatalogOf, IsWhole}
 use Rattle.catalog_definitions.specs.Written.{AreWritten, field_lines, lines_of_relation, relation_lines, IsOwnType, IsFieldDefinition, IsRelationDefinition}
 use Rattle.catalog_definitions.specs.Leaving.{Leaves, Turns}
 use Rattle.catalog_definitions.proofs.Puts.{untied_back}
-use Rattle.catalog_definitions.proofs.Growth.{Apart, AllApart, Grows, GrowsApart, DifferentAreas, area_total, all_step}
-use Rattle.catalog_definitions.proofs.Laying.{placed_at, LaidAll, laid_lines, rooms_apart, rooms_free}
+use Rattle.catalog_definitions.proofs.Growth.{Apart, AllApart, Grows, GrowsApart, area_total, all_step}
+use Rattle.catalog_definitions.proofs.Laying.{placed_at, laid_lines, rooms_apart, rooms_free}
 use Rattle.catalog_definitions.proofs.Fitting.{Stands, fit_all, all_pairs, HasFields, tables_on, grown_catalog}
 use Rattle.catalog_definitions.proofs.FreeAreas.{unused, free_bounds}
 use Rattle.catalog_definitions.proofs.KeyPlaces.{first_none, names_are, name_itself, apart_names, not_again}
-use Rattle.catalog_definitions.proofs.Lookups.{Good, all_good, even_offs, off_lines, IsOff}
+use Rattle.catalog_definitions.proofs.Lookups.{all_good, even_offs, off_lines, IsOff}
 use Rattle.catalog_definitions.proofs.NewFields.{at_keys, same_areas, same_globals, elsewhere, other_relation, other_position, AreFound, are_found, no_things, relation_alike, relation_found}
 use Rattle.catalog_definitions.proofs.RelationLines.{lines_apart, IsFieldOff, fields_off, no_fields, IsBelow, offs_below, fields_grow, HasMore, with_relation_named, still_stands, area_found, relation_stands, fields_stand}
-use Rattle.catalog_definitions.proofs.GlobalFields.{none_named, whole_of}
+use Rattle.catalog_definitions.proofs.GlobalFields.{whole_of}
+use Rattle.catalog_definitions.proofs.Basics.{none_named, or_true}
 
 -- ---- names that differ
-
-or_true : (b : Bool) → (b || true) ≡ true
-or_true true = refl
-or_true false = refl
 
 now_named : (n : Name) (before : List Name) → is_among n (before ++ n ∷ []) ≡ true
 now_named n before =
@@ -285,3 +282,8 @@ relation_is n fs t u rel made found = same_Some rel (new_relation fs t) (sym fou
 
 pub count_fields : (fs : List FieldDefinition) (t : Tables) (rel : RelationOf) → rel ≡ new_relation fs t → length fs ≤ 50 → length rel.fields ≤ 50
 count_fields fs t rel is few = omega (arith, ap (λ (r : RelationOf). length r.fields) is, length-map fs (new_field t), few)
+
+-- the lines that are made behind the definition
+pub lines_behind : (n : Name) (fs : List FieldDefinition) (before t u : Tables) (rel : RelationOf) (made lines : List CatalogLine) → t ≡ before → u ≡ with_relation n fs t → relation_named n u ≡ Some rel → made ≡ lines_of_relation rel.area n rel.fields → lines ≡ made → lines ≡ relation_lines n fs before
+lines_behind n fs before t u rel made lines same defined found is whole =
+    whole ∙ is ∙ ap (λ (r : RelationOf). lines_of_relation r.area n r.fields) (relation_is n fs t u rel defined found) ∙ ap (relation_lines n fs) same

@@ -1,37 +1,30 @@
 -- A relation more, with its fields.
-use Rattle.std.proofs.Common.{◌≡◌, ℕ, zero, suc, ◌+◌, ◌-◌, ◌<◌, ◌≤◌, Bool, true, false, not, ◌&&◌, ◌==◌, nat_eq, List, [], ◌∷◌, ◌++◌, map, length, Option, Some, None, refl, sym, ap, subst, ◌∙◌, arith}
+use Rattle.std.proofs.Common.{◌≡◌, ℕ, ◌+◌, ◌-◌, ◌≤◌, Bool, true, false, not, ◌&&◌, ◌==◌, nat_eq, List, [], ◌∷◌, Some, None, refl, ap, ◌∙◌, arith}
 use Rattle.std.specs.Prelude.{is_some, ◌||◌}
 use Rattle.std.specs.List.{AllByRecursion, list_all}
-use Rattle.std.specs.Ordering.{is_eq}
-use Rattle.std.specs.Cmp.{tied_itself}
 use Rattle.std.specs.FinMap.Entries.{find, put}
 use Rattle.rdb_types.specs.declared.keys.Dbkey.{Dbkey}
 use Rattle.rdb_types.specs.declared.values.Field.{Field}
-use Rattle.ordered_entries.specs.Order.{dbkey_order}
-use Rattle.ordered_entries.proofs.Laws.{chars_total, dbkey_total, find-put_same}
+use Rattle.ordered_entries.proofs.Laws.{chars_total, find-put_same}
 use Rattle.rdb_meaning.specs.declared.tables.Relation.{Relation as RelationOf}
 use Rattle.rdb_meaning.specs.declared.tables.Tables.{Tables}
-use Rattle.rdb_meaning.specs.Contents.{name_order, no_tables, relation_named, fields_of}
+use Rattle.rdb_meaning.specs.Contents.{name_order, fields_of}
 use Rattle.rdb_meaning.specs.Execution.{area_of}
 use Rattle.catalog_lines.specs.declared.line.RelationLine.{RelationLine}
-use Rattle.catalog_lines.specs.declared.line.FieldLine.{FieldLine}
-use Rattle.catalog_lines.specs.declared.line.IndexLine.{IndexLine}
 use Rattle.catalog_lines.specs.declared.line.CatalogLine.{CatalogLine}
 use Rattle.catalog_lines.specs.declared.line.CatalogLine.TheVariants.{Relation, Global, Field as FieldOf, Index}
-use Rattle.catalog.specs.declared.directory.FieldPlace.{FieldPlace}
-use Rattle.catalog.specs.declared.directory.PlacedField.{PlacedField}
 use Rattle.catalog.specs.declared.directory.PlacedLine.{PlacedLine}
 use Rattle.catalog.specs.declared.directory.Directory.{Directory}
-use Rattle.catalog.specs.Directory.{area_order, place_order, numbered, place, noted, directory, directory_from}
-use Rattle.catalog.specs.Schema.{with_thing, tables_from, is_key, is_field_key, index_area, has_field, has_area, relation_fields, max_fields, differ, same_field, stands}
-use Rattle.catalog.proofs.Differences.{relation_parts, index_parts}
+use Rattle.catalog.specs.Directory.{area_order, place_order, numbered, place, noted, directory_from}
+use Rattle.catalog.specs.Schema.{with_thing, tables_from, is_key, is_field_key, index_area, has_field, has_area, max_fields, differ, same_field, stands}
 use Rattle.catalog_definitions.proofs.Puts.{none_put, untied_back, find-put_other}
-use Rattle.catalog_definitions.proofs.Growth.{Step, Grows, GrowsApart, Apart, AllApart, DifferentAreas, area_total, place_total, all_step}
-use Rattle.catalog_definitions.proofs.Fitting.{Stands, all_pairs}
-use Rattle.catalog_definitions.proofs.FreeAreas.{eq_itself, numbers_differ}
-use Rattle.catalog_definitions.proofs.Lookups.{Good, IsOff, other_area}
+use Rattle.catalog_definitions.proofs.Growth.{Grows, GrowsApart, Apart, AllApart, DifferentAreas, area_total, place_total, all_step}
+use Rattle.catalog_definitions.proofs.Fitting.{Stands}
+use Rattle.catalog_definitions.proofs.FreeAreas.{eq_itself}
+use Rattle.catalog_definitions.proofs.Lookups.{IsOff, other_area}
 use Rattle.catalog_definitions.proofs.IndexLines.{field_area, index_relation}
 use Rattle.catalog_definitions.proofs.NewFields.{DifferentPlaces, other_relation, other_position, at_keys, AreFound}
+use Rattle.catalog_definitions.proofs.Basics.{or_true, itself}
 
 -- ---- another name and another area
 
@@ -170,9 +163,6 @@ five a b c d e p q r s t = simp (p, q, r, s, t)
 three : (a b c : Bool) → a ≡ true → b ≡ true → c ≡ true → (a && b && c) ≡ true
 three a b c p q r = simp (p, q, r)
 
-itself : (k : Dbkey) → is_eq (dbkey_order k k) ≡ true
-itself k = ap is_eq (tied_itself dbkey_total k)
-
 pub area_found : (area : ℕ) (k : Dbkey) (d e : Directory) → HasMore area k d e → find area_order (numbered area) e.areas ≡ Some k
 area_found area k d e more = ap (find area_order (numbered area)) more.areas ∙ find-put_same area_order area_total (numbered area) k d.areas
 
@@ -185,10 +175,6 @@ relation_stands d e t k r rel more area first last differs =
     first
     (ap not last)
     (ap (λ o. differ same_field (fields_of o)) named ∙ differs)
-
-or_true : (b : Bool) → (b || true) ≡ true
-or_true true = refl
-or_true false = refl
 
 -- a position is the first one, or the one before it has a field
 abbrev pub IsNextField : ℕ → ℕ → Directory → Type 0

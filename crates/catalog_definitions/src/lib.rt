@@ -2,6 +2,7 @@
 #![tactic(auto)]
 
 mod allowed;
+mod deletions;
 mod fields;
 mod indexes;
 mod relations;
@@ -11,6 +12,7 @@ mod tests;
 mod writing;
 
 pub use allowed::{is_index_definition, is_relation_definition};
+pub use deletions::{index_goes, relation_goes};
 pub use fields::define_field;
 pub use indexes::define_index;
 pub use relations::define_relation;

@@ -5,7 +5,8 @@ use Rattle.rdb_meaning.specs.Defining.{field_names, with_field}
 use Rattle.catalog_definitions.specs.Written.{AreWritten, global_line}
 use Rattle.catalog_definitions.specs.Leaving.{Turns}
 use Rattle.catalog_definitions.proofs.LaidLines.{if_ok}
-use Rattle.catalog_definitions.proofs.GlobalFields.{none_named, turns}
+use Rattle.catalog_definitions.proofs.Basics.{none_named}
+use Rattle.catalog_definitions.proofs.GlobalFields.{turns}
 use Rattle.catalog_definitions.proofs.fields.define_field.Goals as goal
 
 pub returns-clause-tables : goal.returns-clause-tables

@@ -1,9 +1,9 @@
-use Rattle.std.proofs.Common.{ap, sym, subst, ◌∙◌, ◌≡◌, ◌∷◌, [], None, Some}
+use Rattle.std.proofs.Common.{ap, sym, subst, ◌∙◌}
 use Rattle.std.specs.Prelude.{IfOk, IfErr}
 use Rattle.rdb_meaning.specs.declared.tables.Index.{Index as IndexOf}
 use Rattle.catalog_definitions.specs.Causes.{Lacks, Stops}
 use Rattle.rdb_types.specs.declared.keys.Dbkey.{Dbkey}
-use Rattle.rdb_meaning.specs.Contents.{name_order, new_index_area}
+use Rattle.rdb_meaning.specs.Contents.{new_index_area}
 use Rattle.rdb_meaning.specs.Checks.{or_else}
 use Rattle.rdb_meaning.specs.Defining.{index_names, index_refusal, with_index}
 use Rattle.rdb_definitions.specs.NewIndex.{new_index}
@@ -12,7 +12,7 @@ use Rattle.catalog_definitions.specs.Written.{index_line, index_rooms, IsIndexWr
 use Rattle.catalog_definitions.specs.Leaving.{Turns}
 use Rattle.catalog_definitions.proofs.LaidLines.{if_ok, stops_writing, stops_refused}
 use Rattle.catalog_definitions.proofs.KeyPlaces.{first_none}
-use Rattle.catalog_definitions.proofs.NewIndexes.{Sound, sound, allowed_index, turns, index_is, index_found}
+use Rattle.catalog_definitions.proofs.NewIndexes.{sound, allowed_index, turns, index_is, index_found}
 use Rattle.catalog_definitions.proofs.indexes.define_index.Goals as goal
 
 pub returns-in_err-add_index-clause-stop : goal.returns-in_err-add_index-clause-stop

@@ -1,7 +1,7 @@
 use Rattle.std.proofs.Common.{rules, sym, subst, ◌∷◌, []}
 use Rattle.catalog_lines.specs.Lines.{IsAllowedLine}
 use Rattle.catalog_definitions.specs.Causes.{catalog_room}
-use Rattle.catalog_definitions.specs.Written.{AreWritten, index_line, index_room, IsIndexWritten}
+use Rattle.catalog_definitions.specs.Written.{AreWritten, index_room, IsIndexWritten}
 use Rattle.catalog_definitions.proofs.LaidLines.{lacks_first, err_behind, if_ok}
 use Rattle.catalog_definitions.proofs.indexes.write_index.Goals as goal
 
