@@ -1,7 +1,7 @@
 -- Catalogs that are read in views.
 use Rattle.std.proofs.Common.{ℕ, ◌≡◌, List, [], ◌∷◌, ◌++◌, Option, Some, None, refl, sym, ap, subst, ◌∙◌}
 use Rattle.std.specs.Prelude.{IsSome}
-use Rattle.std.specs.List.{All}
+use Rattle.std.specs.List.{All, AllByRecursion}
 use Rattle.std.proofs.lemmas.List.Elements.{All-head, All-tail, All-push, All-weaker}
 use Rattle.rdb_types.specs.declared.keys.Dbkey.{Dbkey}
 use Rattle.rdb_meaning.specs.declared.tables.Tables.{Tables}
@@ -10,7 +10,7 @@ use Rattle.line_view.specs.declared.need.Stop.{Stop}
 use Rattle.line_view.specs.declared.need.Stop.TheVariants.{Missing, Bad, NoMemory}
 use Rattle.line_view.specs.Knowledge.{Knowledge, Lines, line_in, Agrees}
 use Rattle.catalog_lines.specs.declared.line.CatalogLine.{CatalogLine}
-use Rattle.catalog_lines.specs.Lines.{IsCatalogLine}
+use Rattle.catalog_lines.specs.Lines.{IsAllowedLine, IsCatalogLine}
 use Rattle.catalog_lines.proofs.Lines.{one_line}
 use Rattle.catalog.specs.declared.directory.PlacedLine.{PlacedLine}
 use Rattle.catalog.specs.declared.directory.Directory.{Directory}
@@ -39,6 +39,14 @@ each_present known all agrees ps each = All-weaker (λ (q : PlacedLine). IsKnown
 
 same_image : (all : Lines) (key other : Dbkey) (image also : List ℕ) → line_in key all ≡ Some image → line_in other all ≡ Some also → key ≡ other → image ≡ also
 same_image all key other image also is too same = cc (ap (λ k. line_in k all) same)
+
+-- ---- lines that may be laid out
+
+pub allowed_lines : (known : Knowledge) (ps : List PlacedLine) → AreKnown known ps → AllByRecursion (λ p. IsAllowedLine p.line) ps
+allowed_lines known [] each = tt
+allowed_lines known (p ∷ ps) each =
+    let Is : PlacedLine → Type 0 = λ q. IsKnown known q.key q.line in
+    ((All-head Is p ps each).decodes.allowed, allowed_lines known ps (All-tail Is p ps each))
 
 -- ---- a map has one catalog
 

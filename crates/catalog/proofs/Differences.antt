@@ -54,14 +54,14 @@ stands_as : (ps : List PlacedLine) (i : ℕ) (p : PlacedLine) (line : CatalogLin
 stands_as ps i p line fit at is = ap (λ l. stands (directory ps) (catalog_tables ps) p.key l) (sym is) ∙ fits ps i p fit at
 
 -- two keys that are found in one place are one
-one_key : (a b : Dbkey) (found also : Option Dbkey) → is_key a found ≡ true → is_key b also ≡ true → found ≡ also → a ≡ b
+pub one_key : (a b : Dbkey) (found also : Option Dbkey) → is_key a found ≡ true → is_key b also ≡ true → found ≡ also → a ≡ b
 one_key a b None also is too same = let bad : ⊥ = cc in absurd bad
 one_key a b (Some k) None is too same = let bad : ⊥ = cc in absurd bad
 one_key a b (Some k) (Some l) is too same =
     let keys : k ≡ l = cc in
     same_dbkey a k (equal (dbkey_order a k) is) ∙ keys ∙ sym (same_dbkey b l (equal (dbkey_order b l) too))
 
-one_field_key : (a b : Dbkey) (found also : Option PlacedField) → is_field_key a found ≡ true → is_field_key b also ≡ true → found ≡ also → a ≡ b
+pub one_field_key : (a b : Dbkey) (found also : Option PlacedField) → is_field_key a found ≡ true → is_field_key b also ≡ true → found ≡ also → a ≡ b
 one_field_key a b None also is too same = let bad : ⊥ = cc in absurd bad
 one_field_key a b (Some k) None is too same = let bad : ⊥ = cc in absurd bad
 one_field_key a b (Some k) (Some l) is too same =
@@ -71,12 +71,12 @@ one_field_key a b (Some k) (Some l) is too same =
 number_is : (m n : ℕ) → (m == n) ≡ true → m ≡ n
 number_is m n is = grind (arith, nat_tests)
 
-relation_parts : (d : Directory) (t : Tables) (key : Dbkey) (r : RelationLine) → stands d t key (Relation r) ≡ true → (area_of (relation_named r.name t) ≡ r.area) × (is_key key (find area_order (numbered r.area) d.areas) ≡ true)
+pub relation_parts : (d : Directory) (t : Tables) (key : Dbkey) (r : RelationLine) → stands d t key (Relation r) ≡ true → (area_of (relation_named r.name t) ≡ r.area) × (is_key key (find area_order (numbered r.area) d.areas) ≡ true)
 relation_parts d t key r stood =
     let two = first_two_of_5 (area_of (relation_named r.name t) == r.area) (is_key key (find area_order (numbered r.area) d.areas)) (has_field r.area d 0) (not (has_field r.area d max_fields)) (differ same_field (fields_of (relation_named r.name t))) stood in
     (number_is (area_of (relation_named r.name t)) r.area two.0, two.1)
 
-index_parts : (d : Directory) (t : Tables) (key : Dbkey) (x : IndexLine) → stands d t key (Index x) ≡ true → (index_area (find name_order x.name t.indexes) ≡ x.area) × (is_key key (find area_order (numbered x.area) d.areas) ≡ true)
+pub index_parts : (d : Directory) (t : Tables) (key : Dbkey) (x : IndexLine) → stands d t key (Index x) ≡ true → (index_area (find name_order x.name t.indexes) ≡ x.area) × (is_key key (find area_order (numbered x.area) d.areas) ≡ true)
 index_parts d t key x stood =
     let two = first_two_of_6 (index_area (find name_order x.name t.indexes) == x.area) (is_key key (find area_order (numbered x.area) d.areas)) (has_area x.relation d) (differ nat_eq x.fields) (list_all (has_field x.relation d) x.fields) (x.root.area == x.area) stood in
     (number_is (index_area (find name_order x.name t.indexes)) x.area two.0, two.1)
@@ -116,7 +116,7 @@ global_names : (ps : List PlacedLine) → misfit ps ≡ None → OnePer Global (
 global_names ps fit i j p q g h at also is too same =
     one_key p.key q.key _ _ (stands_as ps i p (Global g) fit at is) (stands_as ps j q (Global h) fit also too) (ap (λ n. find name_order n (directory ps).globals) same)
 
-field_part : (d : Directory) (t : Tables) (key : Dbkey) (f : FieldLine) → stands d t key (FieldOf f) ≡ true → is_field_key key (find place_order (place f.relation f.position) d.fields) ≡ true
+pub field_part : (d : Directory) (t : Tables) (key : Dbkey) (f : FieldLine) → stands d t key (FieldOf f) ≡ true → is_field_key key (find place_order (place f.relation f.position) d.fields) ≡ true
 field_part d t key f stood =
     let here = is_field_key key (find place_order (place f.relation f.position) d.fields) in
     let there = has_area f.relation d in

@@ -1,6 +1,6 @@
 -- The catalog of a full map of lines, and how far one can be read in a view.
 use Rattle.std.specs.Prelude.{◌≡◌, ℕ, List, ◌∷◌, ◌++◌, map, Some, None, IsSome}
-use Rattle.std.specs.List.{All}
+use Rattle.std.specs.List.{All, AllByRecursion}
 use Rattle.rdb_types.specs.declared.keys.Dbkey.{Dbkey}
 use Rattle.line_view.specs.declared.need.Need.{Need}
 use Rattle.line_view.specs.declared.need.Need.TheVariants.{Line, Area, Room}
@@ -8,7 +8,7 @@ use Rattle.line_view.specs.declared.need.Stop.{Stop}
 use Rattle.line_view.specs.declared.need.Stop.TheVariants.{Missing, Bad, NoMemory}
 use Rattle.line_view.specs.Knowledge.{Knowledge, Lines, line_in, lines_in, keys_of}
 use Rattle.catalog_lines.specs.declared.line.CatalogLine.{CatalogLine}
-use Rattle.catalog_lines.specs.Lines.{IsCatalogLine}
+use Rattle.catalog_lines.specs.Lines.{IsAllowedLine, IsCatalogLine}
 use Rattle.catalog.specs.declared.directory.PlacedLine.{PlacedLine}
 use Rattle.catalog.specs.declared.reading.Catalog.{Catalog}
 use Rattle.catalog.specs.Schema.{catalog_tables, misfit}
@@ -36,6 +36,12 @@ pub record AreCatalogLines (lines : Lines) (ps : List PlacedLine) : Type 0 where
 -- The map's catalog decodes, and this is it: its lines, none of which is a misfit, and the tables that they stand for.
 pub record IsCatalogOf (all : Lines) (c : Catalog) : Type 0 where
   pub lines : AreCatalogLines all c.lines
+  pub fit : misfit c.lines ≡ None
+  pub tables : c.tables ≡ catalog_tables c.lines
+
+-- a catalog as it is read from some map: each line may be laid out, none is a misfit, and the tables are those that the lines stand for
+pub record IsWhole (c : Catalog) : Type 0 where
+  pub allowed : AllByRecursion (λ p. IsAllowedLine p.line) c.lines
   pub fit : misfit c.lines ≡ None
   pub tables : c.tables ≡ catalog_tables c.lines
 

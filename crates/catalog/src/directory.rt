@@ -22,20 +22,20 @@ pub struct PlacedLine {
 
 /// The number of a logical area.
 #[derive(Clone, Copy, Debug, PartialEq, Eq)]
-pub(crate) struct LogicalArea {
+pub struct LogicalArea {
     pub number: u32,
 }
 
 /// The logical area of a relation, and the position of one of its fields.
 #[derive(Clone, Copy, Debug, PartialEq, Eq)]
-pub(crate) struct FieldPlace {
+pub struct FieldPlace {
     pub relation: u32,
     pub position: u16,
 }
 
 /// A field, and the Dbkey of its line.
 #[derive(Debug, Drop)]
-pub(crate) struct PlacedField {
+pub struct PlacedField {
     pub key: Dbkey,
     pub field: Field,
 }
@@ -64,7 +64,7 @@ impl Key for FieldPlace {
 
 /// The lines of the catalog by the names of global fields, by the areas of relations and indexes, and by the places of fields.
 #[derive(Drop)]
-pub(crate) struct Directory {
+pub struct Directory {
     pub globals: Entries<Chars, Dbkey>,
     pub areas: Entries<LogicalArea, Dbkey>,
     pub fields: Entries<FieldPlace, PlacedField>,

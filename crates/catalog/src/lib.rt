@@ -9,6 +9,6 @@ mod schema;
 mod tests;
 
 pub use deletions::{delete_index, delete_relation};
-pub use directory::PlacedLine;
+pub use directory::{Directory, FieldPlace, LogicalArea, PlacedField, PlacedLine};
 pub use reading::{Catalog, bad_is_no_catalog, one_catalog, read_catalog};
 pub use schema::things_differ;

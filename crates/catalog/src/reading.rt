@@ -1,7 +1,7 @@
 ghost use Rattle.std.specs.Prelude.{◌≡◌, ◌≢◌, IfOk, IfErr};
 ghost use Rattle.rdb_types.specs.declared.keys.Dbkey.{Dbkey};
 ghost use Rattle.line_view.specs.Knowledge.{Knowledge, Lines, Agrees};
-ghost use Rattle.catalog.specs.Reading.{IsBad, IsCatalogOf, IsKnown, ReadsAll, StopsAt, StopsReading, StopsCatalog};
+ghost use Rattle.catalog.specs.Reading.{IsBad, IsCatalogOf, IsWhole, IsKnown, ReadsAll, StopsAt, StopsReading, StopsCatalog};
 
 use crate::directory::{PlacedLine, directory_of};
 use crate::schema::{misfit, tables_of};
@@ -56,6 +56,7 @@ fn read_lines<V: View>(alloc: Global, view: &V) -> Result<Items<PlacedLine>, Sto
 /// The catalog that a view shows. Where the view doesn't know the keys of the catalog's area, or a line of it, the need is answered; where a line's bytes are no line of the catalog, or a line doesn't go with the others, its Dbkey. The lines are read in the order of their Dbkeys, and compared once all are read.
 pub fn read_catalog<V: View>(alloc: Global, view: &V) -> Result<Catalog, Stop>
     ensures catalog { IfOk result (λ catalog. (all : Lines) → Agrees (V.knows view.now) all → IsCatalogOf all catalog) }
+    ensures whole { IfOk result IsWhole }
     ensures stop { IfErr result (StopsCatalog (V.knows view.now)) }
 {
     let lines = read_lines(alloc, view)?;
