@@ -1,0 +1,2 @@
+pub mod KnownBefore
+pub mod Steps
