@@ -1,2 +1,5 @@
 pub mod KnownBefore
 pub mod Steps
+pub mod Truncated
+pub mod Ends
+pub mod Nearer

@@ -1,5 +1,5 @@
 -- One step of the loops over operations, tests, positions and indexes.
-use Rattle.std.proofs.Common.{◌≡◌, ℕ, ◌+◌, ◌<◌, Bool, true, false, ◌&&◌, List, [], ◌∷◌, ◌++◌, map, length, get_or, drop, Option, Some, None, if◌then◌else◌, refl, ap, sym, ◌∙◌, rules}
+use Rattle.std.proofs.Common.{◌≡◌, ℕ, ◌+◌, ◌<◌, Bool, true, false, ◌&&◌, List, [], ◌∷◌, ◌++◌, map, length, get_or, drop, Option, Some, None, Result, Ok, Err, IfOk, if◌then◌else◌, refl, ap, sym, ◌∙◌, rules}
 use Rattle.std.specs.Option.{option_or}
 use Rattle.rdb_types.specs.declared.values.FieldType.{FieldType}
 use Rattle.rdo_ast.specs.declared.syntax.Comparison.{Comparison}
@@ -9,7 +9,7 @@ use Rattle.rdb_meaning.specs.Contents.{Row}
 use Rattle.rdo_values.specs.declared.bound.BoundExpression as tree
 use Rattle.rdo_values.specs.declared.bound.BoundOperation.{BoundOperation}
 use Rattle.rdo_values.specs.declared.bound.BoundTest.{BoundTest}
-use Rattle.rdo_values.specs.Tree.{Expression, Conjunction}
+use Rattle.rdo_values.specs.Tree.{Expression, between}
 use Rattle.rdo_values.specs.Views.{operations_of, applied_of, expression_of, testing_of, conjunction_with}
 use Rattle.rdo_values.specs.Filled.{value_at}
 use Rattle.access_paths.specs.declared.limits.Limited.{Limited}
@@ -51,6 +51,10 @@ narrowed_more rows place tests i x total l m h e inv c =
 pub narrowed_twice : (rows : Row) (l m r : Limited) (xs ys : List Asked) → m ≡ narrowed_from rows l xs → r ≡ narrowed_from rows m ys → r ≡ narrowed_from rows l (xs ++ ys)
 narrowed_twice rows l m r xs ys c d = d ∙ ap (λ m. narrowed_from rows m ys) c ∙ sym (narrowed_from-append rows l xs ys)
 
+pub narrowed_twice_if : {E : Type 0} (rows : Row) (l m : Limited) (r : Result Limited E) (xs ys : List Asked) → m ≡ narrowed_from rows l xs → IfOk r (λ r. r ≡ narrowed_from rows m ys) → IfOk r (λ r. r ≡ narrowed_from rows l (xs ++ ys))
+narrowed_twice_if rows l m (Ok r) xs ys c d = narrowed_twice rows l m r xs ys c d
+narrowed_twice_if rows l m (Err e) xs ys c d = tt
+
 pub first_equated-append : (rows : Row) (xs ys : List Asked) → first_equated rows (xs ++ ys) ≡ option_or (first_equated rows xs) (first_equated rows ys)
 first_equated-append rows [] ys = refl
 first_equated-append rows (x ∷ xs) ys =
@@ -61,6 +65,14 @@ equated_more rows place tests i x total e h k inv c =
     inv ∙ at_item (λ ts. first_equated rows (asked_by_tests (length rows) place ts)) tests i x h k
     ∙ first_equated-append rows (asked_of (length rows) place (testing_of x)) (asked_by_tests (length rows) place (drop (i + 1) tests))
     ∙ ap (λ e. option_or e (first_equated rows (asked_by_tests (length rows) place (drop (i + 1) tests)))) (sym c)
+
+pub equated_found : (rows : Row) (place : ℕ) (tests : List BoundTest) (i : ℕ) (x : BoundTest) (total e : Option Equated) (v : Equated) → i < length tests → x ≡ get_or tests i x → total ≡ first_equated rows (asked_by_tests (length rows) place (drop i tests)) → e ≡ first_equated rows (asked_of (length rows) place (testing_of x)) → e ≡ Some v → Some v ≡ total
+equated_found rows place tests i x total e v h k inv c d =
+    sym (equated_more rows place tests i x total e h k inv c ∙ ap (λ e. option_or e (first_equated rows (asked_by_tests (length rows) place (drop (i + 1) tests)))) d)
+
+pub equated_passed : (rows : Row) (place : ℕ) (tests : List BoundTest) (i : ℕ) (x : BoundTest) (total e : Option Equated) → i < length tests → x ≡ get_or tests i x → total ≡ first_equated rows (asked_by_tests (length rows) place (drop i tests)) → e ≡ first_equated rows (asked_of (length rows) place (testing_of x)) → e ≡ None → total ≡ first_equated rows (asked_by_tests (length rows) place (drop (i + 1) tests))
+equated_passed rows place tests i x total e h k inv c d =
+    equated_more rows place tests i x total e h k inv c ∙ ap (λ e. option_or e (first_equated rows (asked_by_tests (length rows) place (drop (i + 1) tests)))) d
 
 -- no other comparison equates
 
@@ -94,3 +106,7 @@ equating by.Greater h = absurd (cc)
 equating by.GreaterEqual h = absurd (cc)
 equating by.Less h = absurd (cc)
 equating by.LessEqual h = absurd (cc)
+
+pub between_unequated_test : (rows : Row) (start place : ℕ) (t : BoundTest) (a low high : Expression) → testing_of t ≡ between a low high → None ≡ first_equated rows (asked_of start place (testing_of t))
+between_unequated_test rows start place t a low high e =
+    between_unequated rows (is_before start low && is_before start high) start place a low high ∙ ap (λ t. first_equated rows (asked_of start place t)) (sym e)
