@@ -50,7 +50,7 @@ falling n m s t h =
     let cut : (n : ℤ) → order_at n s m t ≡ int_cmp (n *ℤ pos (10 ^ (t - s))) m = λ n. ap (λ k. int_cmp (brought n s k) (brought m t k)) e ∙ ap (λ m. int_cmp (n *ℤ pos (10 ^ (t - s))) m) (unbrought m t) in
     cut n ∙ truncated n m (10 ^ (t - s)) (power_positive (t - s)) ∙ ap (λ o. ordering_then (int_cmp n x) o) (sym (cut x))
 
-choose_test : {A : Type 0} (P : A → Type 0) (b : Bool) (x y : A) → (b ≡ true → P x) → (b ≡ false → P y) → P (if b then x else y)
+pub choose_test : {A : Type 0} (P : A → Type 0) (b : Bool) (x y : A) → (b ≡ true → P x) → (b ≡ false → P y) → P (if b then x else y)
 choose_test P true x y h k = h refl
 choose_test P false x y h k = k refl
 

@@ -13,16 +13,16 @@ use Rattle.std.proofs.Math.Nat.{mul-le-mul_right, suc-mul, mul-one, sub_self, ze
 
 -- ---- orders of numbers
 
-pos_less : (x y : ℕ) → x < y → int_cmp (pos x) (pos y) ≡ Less
+pub pos_less : (x y : ℕ) → x < y → int_cmp (pos x) (pos y) ≡ Less
 pos_less x y h = sym (int_cmp_is (pos x) (pos y) Less (omega (arith, ints)))
 
-pos_greater : (x y : ℕ) → y < x → int_cmp (pos x) (pos y) ≡ Greater
+pub pos_greater : (x y : ℕ) → y < x → int_cmp (pos x) (pos y) ≡ Greater
 pos_greater x y h = sym (int_cmp_is (pos x) (pos y) Greater (omega (arith, ints)))
 
-neg_less : (x y : ℕ) → y < x → int_cmp (negsuc x) (negsuc y) ≡ Less
+pub neg_less : (x y : ℕ) → y < x → int_cmp (negsuc x) (negsuc y) ≡ Less
 neg_less x y h = sym (int_cmp_is (negsuc x) (negsuc y) Less (omega (arith, ints)))
 
-neg_greater : (x y : ℕ) → x < y → int_cmp (negsuc x) (negsuc y) ≡ Greater
+pub neg_greater : (x y : ℕ) → x < y → int_cmp (negsuc x) (negsuc y) ≡ Greater
 neg_greater x y h = sym (int_cmp_is (negsuc x) (negsuc y) Greater (omega (arith, ints)))
 
 -- ---- products

@@ -4,11 +4,9 @@
 mod before;
 mod choice;
 mod equated;
-
+mod laws;
 mod limits;
 mod nearest;
 
-
-
 pub use choice::{Access, IndexPath, choose};
-
+pub use laws::no_row_is_lost;
