@@ -1,5 +1,5 @@
 -- A row that the tests don't pass over is among those that are come by.
-use Rattle.std.proofs.Common.{◌≡◌, ◌≢◌, ℕ, zero, suc, ◌+◌, Bool, true, false, not, ◌&&◌, if◌then◌else◌, List, [], ◌∷◌, ◌++◌, map, take, length, get_or, Option, Some, None, option_map, option_and_then, unwrap_or, inl, inr, refl, ap, sym, ◌∙◌, subst, append_assoc, arith}
+use Rattle.std.proofs.Common.{◌≡◌, ◌≢◌, ℕ, zero, suc, ◌+◌, Bool, true, false, not, ◌&&◌, if◌then◌else◌, List, [], ◌∷◌, ◌++◌, map, take, length, get_or, Option, Some, None, option_map, option_and_then, unwrap_or, inl, inr, refl, ap, sym, ◌∙◌, subst, append_assoc, append-nil, arith}
 use Rattle.std.specs.List.{AllByRecursion}
 use Rattle.std.specs.Option.{option_or}
 use Rattle.std.specs.declared.cmp.Ordering.{Ordering}
@@ -77,15 +77,17 @@ longer_key (key.To values) to.Lost vs v h e = tt
 longer_key key.Never e vs v h f = absurd h
 longer_key key.Lost e vs v h f = tt
 
+key_behind : (rows own : Row) (tests : Conjunction) (k : EquatedKey) (ps : List ℕ) (vs : Row) (v : Value) → ((k : EquatedKey) (vs : Row) → IsKey k vs → IsKeyIf (key_from rows tests k ps) (vs ++ key_of ps own)) → IsKey k vs → (e : Option Equated) → IsEquated e v → IsKeyIf (option_and_then (λ e. key_from rows tests (with_equated k e) ps) e) (vs ++ v ∷ key_of ps own)
+key_behind rows own tests k ps vs v further is None f = tt
+key_behind rows own tests k ps vs v further is (Some e) f =
+    subst (IsKeyIf (key_from rows tests (with_equated k e) ps)) (append_assoc vs (v ∷ []) (key_of ps own))
+    (further (with_equated k e) (vs ++ v ∷ []) (longer_key k e vs v is f))
+
 key_with : (rows own : Row) (tests : Conjunction) (k : EquatedKey) (ps : List ℕ) (vs : Row) → IsGiven rows own tests → IsKey k vs → IsKeyIf (key_from rows tests k ps) (vs ++ key_of ps own)
-key_with rows own tests k [] vs h is = subst (IsKey k) (sym (append_nil vs)) is
-key_with rows own tests k (p ∷ ps) vs h is = key_behind (first_equated rows (asked_in (length rows) (length rows + p) tests)) (field_equated rows own tests p h)
-  where
-    key_behind : (e : Option Equated) → IsEquated e (get_or own p Missing) → IsKeyIf (option_and_then (λ v. key_from rows tests (with_equated k v) ps) e) (vs ++ get_or own p Missing ∷ key_of ps own)
-    key_behind None f = tt
-    key_behind (Some e) f =
-        subst (IsKeyIf (key_from rows tests (with_equated k e) ps)) (append_assoc vs (get_or own p Missing ∷ []) (key_of ps own))
-        (key_with rows own tests (with_equated k e) ps (vs ++ get_or own p Missing ∷ []) h (longer_key k e vs (get_or own p Missing) is f))
+key_with rows own tests k [] vs h is = subst (IsKey k) (sym (append-nil vs)) is
+key_with rows own tests k (p ∷ ps) vs h is =
+    key_behind rows own tests k ps vs (get_or own p Missing) (λ k vs is. key_with rows own tests k ps vs h is) is
+    (first_equated rows (asked_in (length rows) (length rows + p) tests)) (field_equated rows own tests p h)
 
 -- ---- bounds
 
