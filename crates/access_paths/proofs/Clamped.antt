@@ -1,17 +1,16 @@
 -- A field's number compares with a number as with the nearest one of 64 bits, and where it is that, as that does.
-use Rattle.std.proofs.Common.{◌≡◌, ℕ, zero, suc, ◌+◌, ◌-◌, ◌*◌, ◌/◌, ◌^◌, ◌<◌, ◌≤◌, ◌⊎◌, inl, inr, Bool, true, false, if◌then◌else◌, refl, ap, sym, ◌∙◌, subst, arith}
-use Rattle.std.specs.Prelude.{ℤ, pos, negsuc, ◌*ℤ◌, neg_ℤ, nat_lt, nat_le}
+use Rattle.std.proofs.Common.{◌≡◌, ℕ, zero, suc, ◌-◌, ◌*◌, ◌/◌, ◌^◌, ◌<◌, ◌≤◌, inl, inr, true, false, if◌then◌else◌, refl, ap, sym, ◌∙◌, arith}
+use Rattle.std.specs.Prelude.{ℤ, pos, negsuc, neg_ℤ, nat_lt, nat_le}
 use Rattle.std.specs.Int.RustNames.{int_div}
-use Rattle.std.specs.declared.cmp.Ordering.{Ordering}
-use Rattle.std.specs.declared.cmp.Ordering.TheVariants.{Less, Equal, Greater}
+use Rattle.std.specs.declared.cmp.Ordering.TheVariants.{Less, Greater}
 use Rattle.std.specs.Ordering.{int_cmp, ordering_then}
 use Rattle.std.proofs.lemmas.Bool.{cases_order}
 use Rattle.std.proofs.lemmas.Bool.Decides.{nat_tests}
 use Rattle.rdb_types.specs.declared.values.Value.{Value}
 use Rattle.rdb_types.specs.declared.values.Value.TheVariants.{Number}
-use Rattle.rdb_meaning.specs.Numbers.{fits_bits, brought, rescaled, Fitted, fitting, too_large}
+use Rattle.rdb_meaning.specs.Numbers.{fits_bits, brought, rescaled, fitting, too_large}
 use Rattle.access_paths.specs.Nearest.{nearest_number}
-use Rattle.access_paths.proofs.Truncated.{pos_less, pos_greater, neg_less, neg_greater}
+use Rattle.access_paths.proofs.Truncated.{pos_less, neg_greater}
 use Rattle.access_paths.proofs.Nearer.{order_at, by_rescaled, choose_test}
 
 -- ---- signs
@@ -42,10 +41,10 @@ at_most_greatest : (n : ℤ) → fits_bits 63 n ≡ true → ordering_then (int_
 at_most_greatest (pos b) h =
     let small : b < 9223372036854775808 = fits_below b h in
     elim (cases_order b 9223372036854775807) [
-      inl e ↦ ap (λ b. ordering_then (int_cmp (pos b) (pos 9223372036854775807)) Less) e
-    | inr k ↦ elim k [
-        inl less ↦ ap (λ o. ordering_then o Less) (pos_less b 9223372036854775807 less)
-      | inr more ↦ absurd (omega arith)
+      | inl e ↦ ap (λ b. ordering_then (int_cmp (pos b) (pos 9223372036854775807)) Less) e
+      | inr k ↦ elim k [
+        | inl less ↦ ap (λ o. ordering_then o Less) (pos_less b 9223372036854775807 less)
+        | inr more ↦ absurd (omega arith)
       ]
     ]
 at_most_greatest (negsuc b) h = refl
@@ -55,10 +54,10 @@ at_least_least (pos b) h = refl
 at_least_least (negsuc b) h =
     let small : b < 9223372036854775808 = fits_below b h in
     elim (cases_order b 9223372036854775807) [
-      inl e ↦ ap (λ b. ordering_then (int_cmp (negsuc b) (negsuc 9223372036854775807)) Greater) e
-    | inr k ↦ elim k [
-        inl less ↦ ap (λ o. ordering_then o Greater) (neg_greater b 9223372036854775807 less)
-      | inr more ↦ absurd (omega arith)
+      | inl e ↦ ap (λ b. ordering_then (int_cmp (negsuc b) (negsuc 9223372036854775807)) Greater) e
+      | inr k ↦ elim k [
+        | inl less ↦ ap (λ o. ordering_then o Greater) (neg_greater b 9223372036854775807 less)
+        | inr more ↦ absurd (omega arith)
       ]
     ]
 

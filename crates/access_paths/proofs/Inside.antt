@@ -1,9 +1,9 @@
 -- A field's value that meets a comparison is within the limits that the comparison gives.
-use Rattle.std.proofs.Common.{◌≡◌, ◌≢◌, ℕ, List, Bool, true, false, not, if◌then◌else◌, Option, Some, None, refl, ap, sym, ◌∙◌, subst}
+use Rattle.std.proofs.Common.{◌≡◌, ◌≢◌, ℕ, List, Bool, true, false, if◌then◌else◌, Option, Some, None, refl, ap, sym, ◌∙◌, subst}
 use Rattle.std.specs.Prelude.{ℤ}
 use Rattle.std.specs.declared.cmp.Ordering.{Ordering}
 use Rattle.std.specs.declared.cmp.Ordering.TheVariants.{Less, Equal, Greater}
-use Rattle.std.specs.Ordering.{int_cmp, nat_cmp, ordering_then}
+use Rattle.std.specs.Ordering.{nat_cmp, ordering_then}
 use Rattle.std.specs.Cmp.Lexicographic.{slice_cmp}
 use Rattle.std.proofs.lemmas.Cmp.{nat_list_cmp_total, tied_itself}
 use Rattle.rdb_types.specs.declared.values.Value.{Value}
@@ -12,8 +12,8 @@ use Rattle.rdb_types.specs.declared.values.Scaled.{Scaled}
 use Rattle.rdb_types.specs.declared.values.FieldType.{FieldType}
 use Rattle.rdo_ast.specs.declared.syntax.Comparison.{Comparison}
 use Rattle.rdo_ast.specs.declared.syntax.Comparison.TheVariants as by
-use Rattle.rdb_meaning.specs.Numbers.{Computed, is, overflow, fits_bits, rescaled, Fitted, fitting, too_large, fitted_value}
-use Rattle.rdb_meaning.specs.Comparison.{Weighed, holds, fails, unknown, overflows, weighed, order_of_values, passes, judged, compared, rank_of, Verdict, passed_over, verdict_of}
+use Rattle.rdb_meaning.specs.Numbers.{Computed, is, overflow, fits_bits, fitted_value}
+use Rattle.rdb_meaning.specs.Comparison.{holds, weighed, order_of_values, passes, judged, compared, rank_of, passed_over, verdict_of}
 use Rattle.rdb_meaning.specs.Evaluation.{scaled_by}
 use Rattle.index_node.specs.Order.{value_order}
 use Rattle.index_node.specs.OrderLaws.{values_exact}
@@ -25,11 +25,11 @@ use Rattle.access_paths.specs.declared.equated.Equated.{Equated}
 use Rattle.access_paths.specs.declared.equated.Equated.TheVariants as to
 use Rattle.access_paths.specs.Reached.{IsWide}
 use Rattle.access_paths.specs.Nearest.{quadword, nearest_number, nearest_value, nearest, is_holding, meets}
-use Rattle.access_paths.specs.Limits.{open_end, nothing, limits_by, limits_to, limits_of, highest_by, highest, lowest_by, lowest, lowest_high, meet, narrowed, narrowed_by}
-use Rattle.access_paths.specs.Equated.{equal_to, equal_value, equated_with}
+use Rattle.access_paths.specs.Limits.{open_end, limits_by, limits_to, limits_of, highest_by, lowest_by, lowest_high, narrowed, narrowed_by}
+use Rattle.access_paths.specs.Equated.{equal_to, equated_with}
 use Rattle.access_paths.proofs.Ends.{is_from, is_up_to, IsInEnd, ends}
 use Rattle.access_paths.proofs.Nearer.{order_at, choose_test}
-use Rattle.access_paths.proofs.Clamped.{Compares, near_number}
+use Rattle.access_paths.proofs.Clamped.{near_number}
 
 -- ---- values within limits
 
@@ -72,7 +72,7 @@ number_inside : (op : Comparison) (kind : FieldType) (n m : ℤ) (other : Scaled
 number_inside op kind n m other e wide h =
     let near = near_number n m kind.scale other.scale wide in
     let meets_is : meets op kind (Number near.0) other ≡ passes op (order_at near.0 kind.scale m other.scale) =
-        ap (λ w. is_holding (judged op (order_of_values (Number near.0) kind.scale w other.scale))) e ∙ is_holding-weighed (passes op (order_at near.0 kind.scale m other.scale)) in
+    ap (λ w. is_holding (judged op (order_of_values (Number near.0) kind.scale w other.scale))) e ∙ is_holding-weighed (passes op (order_at near.0 kind.scale m other.scale)) in
     subst (λ f. IsIn (limits_to op kind other (Some f)) (Number n)) (sym near.1.0)
     (by_end op kind (Number n) (Number near.0) other (order_at near.0 kind.scale m other.scale) (order_at n kind.scale m other.scale) refl meets_is near.1.1 h)
 
@@ -84,7 +84,7 @@ then_equal Greater = refl
 text_inside : (op : Comparison) (kind : FieldType) (s t : List ℕ) (other : Scaled) → other.value ≡ Text t → weighed (passes op (slice_cmp nat_cmp s t)) ≡ holds → IsIn (limits_to op kind other (Some (Text t))) (Text s)
 text_inside op kind s t other e h =
     let meets_is : meets op kind (Text t) other ≡ passes op Equal =
-        ap (λ w. is_holding (judged op (order_of_values (Text t) 0 w other.scale))) e ∙ is_holding-weighed (passes op (slice_cmp nat_cmp t t)) ∙ ap (passes op) (tied_itself nat_list_cmp_total t) in
+    ap (λ w. is_holding (judged op (order_of_values (Text t) 0 w other.scale))) e ∙ is_holding-weighed (passes op (slice_cmp nat_cmp t t)) ∙ ap (passes op) (tied_itself nat_list_cmp_total t) in
     by_end op kind (Text s) (Text t) other Equal (slice_cmp nat_cmp s t) refl meets_is (then_equal (slice_cmp nat_cmp s t)) h
 
 inside_by : (op : Comparison) (kind : FieldType) (v w : Value) (other : Scaled) → other.value ≡ w → IsWide v → judged op (order_of_values (scaled_by kind v).value (scaled_by kind v).scale w other.scale) ≡ holds → IsIn (limits_to op kind other (nearest_value kind w other.scale)) v

@@ -1,7 +1,6 @@
 -- An expression that is known before a row is settled, and gives the same whatever the row is.
-use Rattle.std.proofs.Common.{◌≡◌, ℕ, ◌<◌, Bool, true, false, ◌&&◌, List, [], ◌∷◌, ◌++◌, length, slice_get, zero, suc, refl, ap, sym, ◌∙◌, arith}
+use Rattle.std.proofs.Common.{◌≡◌, ℕ, Bool, true, false, ◌&&◌, List, [], ◌∷◌, ◌++◌, length, slice_get, zero, suc, refl, ap, ◌∙◌, arith}
 use Rattle.std.specs.Prelude.{nat_lt}
-use Rattle.rdb_types.specs.declared.values.Value.{Value}
 use Rattle.rdb_meaning.specs.Numbers.{Computed, arithmetic, negation}
 use Rattle.rdb_meaning.specs.Contents.{Row, no_tables}
 use Rattle.rdb_meaning.specs.Evaluation.{scaled_if, computed}

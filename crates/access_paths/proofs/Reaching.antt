@@ -1,10 +1,10 @@
 -- A row that the tests don't pass over is among those that are come by.
-use Rattle.std.proofs.Common.{◌≡◌, ◌≢◌, ℕ, zero, suc, ◌+◌, Bool, true, false, not, ◌&&◌, if◌then◌else◌, List, [], ◌∷◌, ◌++◌, map, take, length, get_or, Option, Some, None, option_map, option_and_then, unwrap_or, inl, inr, refl, ap, sym, ◌∙◌, subst, append_assoc, append-nil, arith}
+use Rattle.std.proofs.Common.{◌≡◌, ◌≢◌, ℕ, zero, suc, ◌+◌, Bool, true, false, ◌&&◌, List, [], ◌∷◌, ◌++◌, length, get_or, Option, Some, None, option_map, option_and_then, unwrap_or, inl, inr, refl, ap, sym, ◌∙◌, subst, append_assoc, append-nil}
 use Rattle.std.specs.List.{AllByRecursion}
 use Rattle.std.specs.Option.{option_or}
 use Rattle.std.specs.declared.cmp.Ordering.{Ordering}
 use Rattle.std.specs.declared.cmp.Ordering.TheVariants.{Less, Equal, Greater}
-use Rattle.std.specs.Ordering.{ordering_then, is_lt, is_le, is_gt, is_ge}
+use Rattle.std.specs.Ordering.{ordering_then}
 use Rattle.std.proofs.lemmas.List.{get_or-append-add}
 use Rattle.rdb_types.specs.declared.keys.Dbkey.{Dbkey}
 use Rattle.rdb_types.specs.declared.values.Value.{Value}
@@ -15,9 +15,7 @@ use Rattle.rdo_values.specs.Tree.{Conjunction}
 use Rattle.rdo_values.specs.Filled.{parts_at}
 use Rattle.index_node.specs.Order.{value_order}
 use Rattle.sorted_index.specs.Keys.{is_within, between}
-use Rattle.sorted_index.specs.Nodes.{AnyByRecursion}
 use Rattle.access_paths.specs.declared.limits.End.{End}
-use Rattle.access_paths.specs.declared.limits.Limits.{Limits}
 use Rattle.access_paths.specs.declared.limits.Limited.{Limited}
 use Rattle.access_paths.specs.declared.limits.Limited.TheVariants as limited
 use Rattle.access_paths.specs.declared.equated.Equated.{Equated}
@@ -28,12 +26,12 @@ use Rattle.access_paths.specs.declared.choice.IndexPath.{IndexPath}
 use Rattle.access_paths.specs.declared.choice.Access.{Access}
 use Rattle.access_paths.specs.declared.choice.Access.TheVariants.{Scan, Find, Range}
 use Rattle.access_paths.specs.Serving.{asked_in}
-use Rattle.access_paths.specs.Limits.{bounds_to, bounds_of, limits_at}
+use Rattle.access_paths.specs.Limits.{bounds_to, limits_at}
 use Rattle.access_paths.specs.Equated.{first_equated, with_equated, key_from, key_at}
 use Rattle.access_paths.specs.Choice.{access_by_key, first_by_key, access_by_limits, first_limits, first_by_limits, choice}
 use Rattle.access_paths.specs.Reached.{IsWide, Reaches}
 use Rattle.access_paths.proofs.Ends.{is_from, is_up_to}
-use Rattle.access_paths.proofs.Inside.{rank_is, is_above_end, is_below_end, IsIn, IsLimited, IsEquated}
+use Rattle.access_paths.proofs.Inside.{rank_is, is_above_end, is_below_end, IsLimited, IsEquated}
 use Rattle.access_paths.proofs.Served.{limited_by_tests, equated_by_tests}
 
 -- ---- the field at a position

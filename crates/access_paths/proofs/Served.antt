@@ -1,7 +1,6 @@
 -- What tests that don't pass a row over say of its fields.
-use Rattle.std.proofs.Common.{◌≡◌, ◌≢◌, ℕ, zero, suc, ◌+◌, max, Bool, true, false, ◌&&◌, if◌then◌else◌, List, [], ◌∷◌, ◌++◌, length, get_or, slice_get, Option, Some, None, refl, ap, sym, ◌∙◌, subst, arith}
+use Rattle.std.proofs.Common.{◌≡◌, ◌≢◌, ℕ, zero, suc, max, Bool, true, false, ◌&&◌, if◌then◌else◌, List, [], ◌∷◌, ◌++◌, length, get_or, slice_get, Option, Some, None, refl, ap, sym, ◌∙◌, subst, arith}
 use Rattle.std.specs.Prelude.{nat_eq}
-use Rattle.std.specs.List.{AllByRecursion}
 use Rattle.std.specs.Option.{option_or}
 use Rattle.std.specs.declared.cmp.Ordering.{Ordering}
 use Rattle.std.specs.declared.cmp.Ordering.TheVariants.{Less, Equal, Greater}
@@ -11,12 +10,11 @@ use Rattle.std.proofs.lemmas.Bool.Decides.{nat_tests}
 use Rattle.std.proofs.lemmas.Cmp.{int_cmp_total, nat_list_cmp_total}
 use Rattle.rdb_types.specs.declared.values.Value.{Value}
 use Rattle.rdb_types.specs.declared.values.Value.TheVariants.{Missing, Number, Text}
-use Rattle.rdb_types.specs.declared.values.Scaled.{Scaled}
 use Rattle.rdb_types.specs.declared.values.FieldType.{FieldType}
 use Rattle.rdo_ast.specs.declared.syntax.Comparison.{Comparison}
 use Rattle.rdo_ast.specs.declared.syntax.Comparison.TheVariants as by
 use Rattle.rdb_meaning.specs.Numbers.{Computed, is, overflow, brought}
-use Rattle.rdb_meaning.specs.Comparison.{Weighed, holds, fails, unknown, overflows, weighed, order_of, order_of_values, passes, judged, compared, within, lies_between, Verdict, chosen, passed_over, undecided, verdict_of, both_parts}
+use Rattle.rdb_meaning.specs.Comparison.{weighed, order_of, order_of_values, passes, judged, compared, within, lies_between, Verdict, chosen, passed_over, undecided, verdict_of, both_parts}
 use Rattle.rdb_meaning.specs.Contents.{Row}
 use Rattle.rdb_meaning.specs.Evaluation.{scaled_by, scaled_if}
 use Rattle.rdo_values.specs.Tree.{Expression, number, text, field, negative, chain, count, statistic, known, Testing, compare, between, containing, starting_with, missing, any, negated, group, decided, Conjunction, no_test, test}
@@ -25,13 +23,11 @@ use Rattle.rdo_values.proofs.Filling.{literal_gives}
 use Rattle.access_paths.specs.declared.limits.Limited.{Limited}
 use Rattle.access_paths.specs.declared.limits.Limited.TheVariants as limited
 use Rattle.access_paths.specs.declared.equated.Equated.{Equated}
-use Rattle.access_paths.specs.declared.equated.Equated.TheVariants as to
 use Rattle.access_paths.specs.Serving.{Asked, is_before, kind_at, turned, is_bounding, is_equating, asked_if, asked_by, asked_between, asked_of, asked_in}
 use Rattle.access_paths.specs.Reached.{IsWide}
 use Rattle.access_paths.specs.Limits.{narrowed_by, narrowed_from}
 use Rattle.access_paths.specs.Equated.{equated_with, first_equated}
 use Rattle.access_paths.proofs.KnownBefore.{both_true, before_value}
-use Rattle.access_paths.proofs.Nearer.{choose_test}
 use Rattle.access_paths.proofs.Steps.{narrowed_from-append, first_equated-append, between_unequated, equating}
 use Rattle.access_paths.proofs.Inside.{IsLimited, limited_by_value, IsEquated, equated_by_value}
 
@@ -206,10 +202,10 @@ limited_by_between rows own place a low high true l e wide h k =
     let v = get_or full place Missing in
     let both = both_true (is_before (length rows) low) (is_before (length rows) high) e in
     let whole : IsLimited (narrowed_from rows l (asked_if true by.GreaterEqual low (kind_at place a) ++ asked_if true by.LessEqual high (kind_at place a))) v =
-        between_if rows low high (kind_at place a) l v wide
-        (λ kind f. subst (λ c. verdict_of (lies_between (is (scaled_by kind v)) (value_at rows low) c) ≢ passed_over) (before_value rows own high both.1)
-        (subst (λ c. verdict_of (lies_between (is (scaled_by kind v)) c (value_at full high)) ≢ passed_over) (before_value rows own low both.0)
-        (subst (λ x. verdict_of (lies_between x (value_at full low) (value_at full high)) ≢ passed_over) (field_value full place a kind f) h))) k in
+    between_if rows low high (kind_at place a) l v wide
+    (λ kind f. subst (λ c. verdict_of (lies_between (is (scaled_by kind v)) (value_at rows low) c) ≢ passed_over) (before_value rows own high both.1)
+    (subst (λ c. verdict_of (lies_between (is (scaled_by kind v)) c (value_at full high)) ≢ passed_over) (before_value rows own low both.0)
+    (subst (λ x. verdict_of (lies_between x (value_at full low) (value_at full high)) ≢ passed_over) (field_value full place a kind f) h))) k in
     subst (λ g. IsLimited (narrowed_from rows l (asked_if g by.GreaterEqual low (kind_at place a) ++ asked_if (is_before (length rows) high) by.LessEqual high (kind_at place a))) v) (sym both.0)
     (subst (λ g. IsLimited (narrowed_from rows l (asked_if true by.GreaterEqual low (kind_at place a) ++ asked_if g by.LessEqual high (kind_at place a))) v) (sym both.1) whole)
 

@@ -1,15 +1,15 @@
 -- A number is compared with another as with the whole part of a quotient, and where it is that, as that is.
-use Rattle.std.proofs.Common.{◌≡◌, ℕ, zero, suc, ◌+◌, ◌-◌, ◌*◌, ◌/◌, ◌^◌, ◌<◌, ◌≤◌, ◌⊎◌, inl, inr, Bool, true, false, if◌then◌else◌, max, refl, ap, sym, ◌∙◌, subst, arith}
-use Rattle.std.specs.Prelude.{ℤ, pos, negsuc, ◌*ℤ◌, neg_ℤ, nat_lt, nat_le}
+use Rattle.std.proofs.Common.{◌≡◌, ℕ, zero, suc, ◌+◌, ◌-◌, ◌*◌, ◌/◌, ◌<◌, ◌≤◌, inl, inr, refl, ap, sym, ◌∙◌, subst, arith}
+use Rattle.std.specs.Prelude.{ℤ, pos, negsuc, ◌*ℤ◌, neg_ℤ}
 use Rattle.std.specs.Int.RustNames.{int_div}
 use Rattle.std.specs.declared.cmp.Ordering.{Ordering}
-use Rattle.std.specs.declared.cmp.Ordering.TheVariants.{Less, Equal, Greater}
+use Rattle.std.specs.declared.cmp.Ordering.TheVariants.{Less, Greater}
 use Rattle.std.specs.Ordering.{int_cmp, ordering_then}
 use Rattle.std.specs.Cmp.{int_cmp_is}
-use Rattle.std.proofs.lemmas.Bool.{cases_order, cases_lt}
+use Rattle.std.proofs.lemmas.Bool.{cases_order}
 use Rattle.std.proofs.lemmas.Cmp.{int_cmp_total, tied_itself}
 use Rattle.std.proofs.lemmas.Int.{ints}
-use Rattle.std.proofs.Math.Nat.{mul-le-mul_right, suc-mul, mul-one, sub_self, zero-mul, div-mul-le_self, lt-div-mul-add}
+use Rattle.std.proofs.Math.Nat.{mul-le-mul_right, suc-mul, zero-mul, div-mul-le_self, lt-div-mul-add}
 
 -- ---- orders of numbers
 
@@ -62,10 +62,10 @@ both_positive b a p h =
     let low : q * p ≤ a = div-mul-le_self a p in
     let high : a < q * p + p = lt-div-mul-add h in
     elim (cases_order b q) [
-      inl e ↦ at_same (pos b) (pos q) (pos a) p (ap pos e)
-    | inr k ↦ elim k [
-        inl less ↦ at_less (pos b) (pos q) (pos a) p (pos_less b q less) (pos_less (b * p) a (omega (arith, times_below b q p less)))
-      | inr more ↦ at_greater (pos b) (pos q) (pos a) p (pos_greater b q more) (pos_greater (b * p) a (omega (arith, times_below q b p more)))
+      | inl e ↦ at_same (pos b) (pos q) (pos a) p (ap pos e)
+      | inr k ↦ elim k [
+        | inl less ↦ at_less (pos b) (pos q) (pos a) p (pos_less b q less) (pos_less (b * p) a (omega (arith, times_below b q p less)))
+        | inr more ↦ at_greater (pos b) (pos q) (pos a) p (pos_greater b q more) (pos_greater (b * p) a (omega (arith, times_below q b p more)))
       ]
     ]
 
@@ -76,12 +76,12 @@ neg_pos b a p h = at_less (negsuc b) (pos (a / p)) (pos a) p refl (ap (λ n. int
 
 zero_or_more : (b : ℕ) (o : Ordering) → o ≡ Greater → Greater ≡ ordering_then (int_cmp (pos b) (pos 0)) o
 zero_or_more b o e = elim (cases_order b 0) [
-    inl z ↦ sym (ap (λ b. ordering_then (int_cmp (pos b) (pos 0)) o) z ∙ e)
+  | inl z ↦ sym (ap (λ b. ordering_then (int_cmp (pos b) (pos 0)) o) z ∙ e)
   | inr k ↦ elim k [
-      inl less ↦ absurd (omega arith)
+    | inl less ↦ absurd (omega arith)
     | inr more ↦ sym (ap (λ c. ordering_then c o) (pos_greater b 0 more))
-    ]
   ]
+]
 
 by_quotient : (n : ℤ) (a p q : ℕ) → 0 < p → q * p ≤ suc a → suc a < q * p + p → Follows n (neg_ℤ (pos q)) p (negsuc a)
 by_quotient (pos b) a p zero h low high = zero_or_more b (int_cmp (pos (0 * p)) (negsuc a)) refl
@@ -90,14 +90,14 @@ by_quotient (negsuc b) a p zero h low high =
     at_less (negsuc b) (pos 0) (negsuc a) p refl
     (ap (λ n. int_cmp n (negsuc a)) (neg_times b p h) ∙ neg_less (suc b * p - 1) a (omega (arith, times_positive b p h, zero-mul p)))
 by_quotient (negsuc b) a p (suc q) h low high = elim (cases_order b q) [
-    inl e ↦ at_same (negsuc b) (negsuc q) (negsuc a) p (ap negsuc e)
+  | inl e ↦ at_same (negsuc b) (negsuc q) (negsuc a) p (ap negsuc e)
   | inr k ↦ elim k [
-      inl less ↦ at_greater (negsuc b) (negsuc q) (negsuc a) p (neg_greater b q less)
+    | inl less ↦ at_greater (negsuc b) (negsuc q) (negsuc a) p (neg_greater b q less)
         (ap (λ n. int_cmp n (negsuc a)) (neg_times b p h) ∙ neg_greater (suc b * p - 1) a (omega (arith, times_below (suc b) (suc q) p (omega arith), times_positive b p h)))
     | inr more ↦ at_less (negsuc b) (negsuc q) (negsuc a) p (neg_less b q more)
         (ap (λ n. int_cmp n (negsuc a)) (neg_times b p h) ∙ neg_less (suc b * p - 1) a (omega (arith, times_below (suc q) (suc b) p (omega arith))))
-    ]
   ]
+]
 
 pub truncated : (n m : ℤ) (p : ℕ) → 0 < p → Follows n (int_div m (pos p)) p m
 truncated (pos b) (pos a) p h = both_positive b a p h

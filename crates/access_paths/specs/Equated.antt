@@ -1,9 +1,8 @@
 -- With which key a condition equates the fields of an index.
-use Rattle.std.specs.Prelude.{ℕ, ◌+◌, Bool, true, false, if◌then◌else◌, List, [], ◌∷◌, ◌++◌, length, Option, Some, None, option_and_then}
+use Rattle.std.specs.Prelude.{ℕ, ◌+◌, if◌then◌else◌, List, [], ◌∷◌, ◌++◌, length, Option, Some, None, option_and_then}
 use Rattle.rdb_types.specs.declared.values.Value.{Value}
 use Rattle.rdb_types.specs.declared.values.Scaled.{Scaled}
 use Rattle.rdb_types.specs.declared.values.FieldType.{FieldType}
-use Rattle.rdo_ast.specs.declared.syntax.Comparison.{Comparison}
 use Rattle.rdo_ast.specs.declared.syntax.Comparison.TheVariants as by
 use Rattle.rdb_meaning.specs.Numbers.{Computed, is, overflow}
 use Rattle.rdb_meaning.specs.Contents.{Row}

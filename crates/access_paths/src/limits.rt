@@ -98,13 +98,7 @@ fn highest(a: End, b: End) -> End
     match rank(&a.value, &b.value) {
         Ordering::Less => b,
         Ordering::Greater => a,
-        Ordering::Equal => {
-            if a.included {
-                b
-            } else {
-                a
-            }
-        }
+        Ordering::Equal => { if a.included { b } else { a } }
     }
 }
 
@@ -114,13 +108,7 @@ fn lowest(a: End, b: End) -> End
     match rank(&a.value, &b.value) {
         Ordering::Less => a,
         Ordering::Greater => b,
-        Ordering::Equal => {
-            if a.included {
-                b
-            } else {
-                a
-            }
-        }
+        Ordering::Equal => { if a.included { b } else { a } }
     }
 }
 

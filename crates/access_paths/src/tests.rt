@@ -161,7 +161,12 @@ fn comparisons_leave_ranges(rt: HostRuntime) -> Result<(), Fail> {
     let outer = outer(alloc)?;
     for case in &CASES {
         let tests = comparison(alloc, case.op, case.digits, case.scale)?;
-        let access = choose(alloc, indexes.as_slice(), tests.as_slice(), outer.as_slice())?;
+        let access = choose(
+            alloc,
+            indexes.as_slice(),
+            tests.as_slice(),
+            outer.as_slice(),
+        )?;
         assert!(rt; is_case(&access, case));
     }
     Ok(())
@@ -183,7 +188,12 @@ fn an_equation_finds_a_key(rt: HostRuntime) -> Result<(), Fail> {
     let indexes = indexes(alloc)?;
     let outer = outer(alloc)?;
     let tests = comparison(alloc, Comparison::Equal, 15, 1)?;
-    let access = choose(alloc, indexes.as_slice(), tests.as_slice(), outer.as_slice())?;
+    let access = choose(
+        alloc,
+        indexes.as_slice(),
+        tests.as_slice(),
+        outer.as_slice(),
+    )?;
     assert!(rt; is_found(&access, 19, 150));
     Ok(())
 }
@@ -194,7 +204,12 @@ fn nothing_asked_is_a_scan(rt: HostRuntime) -> Result<(), Fail> {
     let indexes = indexes(alloc)?;
     let outer = outer(alloc)?;
     let tests = comparison(alloc, Comparison::NotEqual, 15, 1)?;
-    let access = choose(alloc, indexes.as_slice(), tests.as_slice(), outer.as_slice())?;
+    let access = choose(
+        alloc,
+        indexes.as_slice(),
+        tests.as_slice(),
+        outer.as_slice(),
+    )?;
     assert!(rt; matches!(&access, Access::Scan));
     Ok(())
 }
