@@ -9,4 +9,4 @@ mod tuples;
 
 pub use crossing::{Found, FoundTuples};
 pub use stop::SelectStop;
-pub use tuples::matching;
+pub use tuples::{matching, selected};
