@@ -74,8 +74,7 @@ request-waits g k a ahead (w ∷ ws) h e =
       | inl s ↦
           let found = three w.owner w.mode g k ahead (not-true (is_free k g ahead w) p.0) in
           let way : (blocked_by found.0 a w.mode g || (blocked_by found.0 a w.mode k || blocked_by found.0 a w.mode ahead)) ≡ true =
-          subst (λ (z : ℕ). (blocked_by found.0 z w.mode g || (blocked_by found.0 z w.mode k || blocked_by found.0 z w.mode ahead)) ≡ true) (eqb-true w.owner a s) found.1 in
-          (
+          subst (λ (z : ℕ). (blocked_by found.0 z w.mode g || (blocked_by found.0 z w.mode k || blocked_by found.0 z w.mode ahead)) ≡ true) (eqb-true w.owner a s) found.1 in (
             found.0,
             or_left ((w.owner == a) && (blocked_by found.0 a w.mode g || (blocked_by found.0 a w.mode k || blocked_by found.0 a w.mode ahead))) (request_waits g k a found.0 (ahead ++ w ∷ []) ws)
                 (and_from (w.owner == a) (blocked_by found.0 a w.mode g || (blocked_by found.0 a w.mode k || blocked_by found.0 a w.mode ahead)) s way),

@@ -100,11 +100,7 @@ pub(crate) fn make_least(
 
 // Asks the whole need of an owner's open want at the node that this has come to. It doesn't wait there: where the need isn't
 // granted at once, nothing changes.
-pub(crate) fn ask_whole(
-    locks: &mut Locks,
-    owner: u32,
-    want: OpenWant,
-) -> Result<bool, NoMemory>
+pub(crate) fn ask_whole(locks: &mut Locks, owner: u32, want: OpenWant) -> Result<bool, NoMemory>
     requires intents { HasIntents locks.old }
     requires kept { (ws : List Need) × IsKept locks.old owner (wanting ws (unasked want)) }
     requires plain { is_plain want.need ≡ true }

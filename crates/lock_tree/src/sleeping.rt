@@ -27,18 +27,11 @@ pub(crate) fn is_asleep(locks: &Locks, owner: u32, opened: Option<OpenWant>, nod
 pub(crate) fn is_crowded(locks: &Locks, parties: &IndexMap<u32, Party>, node: Node) -> bool
     ensures { result ≡ someone_sleeps locks.now node parties.now.entries }
 {
-    parties
-        .as_slice()
-        .iter()
-        .any(|(owner, party)| is_asleep(locks, *owner, party.opened, node))
+    parties.as_slice().iter().any(|(owner, party)| is_asleep(locks, *owner, party.opened, node))
 }
 
 // The first of the owners for whom this one waits.
-pub(crate) fn find_blocker(
-    locks: &Locks,
-    parties: &IndexMap<u32, Party>,
-    owner: u32,
-) -> Option<u32>
+pub(crate) fn find_blocker(locks: &Locks, parties: &IndexMap<u32, Party>, owner: u32) -> Option<u32>
     ensures waits { IfSome result (λ u. WaitsIn (queues_at locks.now) owner u) }
     ensures none { IfNone result ((u : ℕ) → is_known parties.now.entries u ≡ true → WaitsIn (queues_at locks.now) owner u → ⊥) }
 {

@@ -18,8 +18,8 @@ use crate::closing::{end_open, mark_asked, note_ask};
 use crate::ending::is_covered as has_cover;
 use crate::looking::{Look, look_here};
 use crate::parties::{add_need, set_opened};
-use crate::sleeping::{find_blocker, is_asleep, is_crowded};
 use crate::parts::Parts;
+use crate::sleeping::{find_blocker, is_asleep, is_crowded};
 use crate::way::further_down;
 use lock_needs::{Need, OpenWant};
 use rdb_types::NoMemory;
@@ -177,16 +177,8 @@ impl Parts {
         let Some(party) = self.parties.get(&owner) else {
             unreachable!();
         };
-        match look_here(
-            &mut self.locks,
-            &self.parties,
-            owner,
-            party,
-            want,
-            wait,
-        )? {
-            Look::NoticeTo(other, mode) =>
-                Ok(Step::Ends(Want::NoticeTo(other, want.here, mode))),
+        match look_here(&mut self.locks, &self.parties, owner, party, want, wait)? {
+            Look::NoticeTo(other, mode) => Ok(Step::Ends(Want::NoticeTo(other, want.here, mode))),
             Look::Asked(Enq::Granted) => {
                 let asked = mark_asked(&mut self.parties, &mut self.trail, owner, want);
                 self.go_on(owner, asked)

@@ -90,8 +90,8 @@ fn is_told(answer: &Want, told: Told) -> bool {
         (Want::Got, Told::Got) => true,
         (Want::Asleep(other), Told::Asleep(expected)) => *other == expected,
         (Want::Conflict(other), Told::Conflict(expected)) => *other == expected,
-        (Want::Deadlock(cycle), Told::Deadlock(first, second)) =>
-            cycle.as_slice() == [first, second, first].as_slice(),
+        (Want::Deadlock(cycle), Told::Deadlock(first, second)) => cycle.as_slice()
+            == [first, second, first].as_slice(),
         _ => false,
     }
 }
