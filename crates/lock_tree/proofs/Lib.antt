@@ -22,5 +22,6 @@ pub mod Exactness
 pub mod Getting
 pub mod Opened
 pub mod Looked
+pub mod SameNeeds
 pub mod Descending
 pub mod InWay

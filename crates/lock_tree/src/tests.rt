@@ -1,5 +1,7 @@
 ghost use Rattle.std.specs.Prelude.{◌≡◌, true, IfSome};
 ghost use Rattle.lock_needs.specs.Needs.{is_plain};
+ghost use Rattle.lock_tree.specs.Forest.{party_of};
+ghost use Rattle.lock_tree.specs.Wanted.{IsOf};
 
 use crate::{Level, Need, Node, Tree, Want};
 use rdb_types::NoMemory;
@@ -31,9 +33,9 @@ const PAGE: Node = Node {
 #[derive(Clone, Copy, Drop)]
 enum Act {
     // It wants to read this line of page 2.
-    Read(u32),
+    Read(u16),
     // It wants to change this line of page 2.
-    Write(u32),
+    Write(u16),
     // It wants the area in this mode.
     Reserve(Mode),
     // It gives everything back.
@@ -59,7 +61,7 @@ struct Turn {
     told: Told,
 }
 
-fn line(number: u32) -> Node {
+fn line(number: u16) -> Node {
     Node {
         level: Level::Line,
         area: 16,
@@ -96,6 +98,16 @@ fn is_told(answer: &Want, told: Told) -> bool {
     }
 }
 
+// Whether the owner has no other want open.
+fn may_want(tree: &Tree, owner: u32, need: Need) -> bool
+    ensures { result ≡ true → IsOf need (party_of tree.now.parties owner).opened }
+{
+    match tree.wanted(owner) {
+        Some(open) => open == need,
+        None => true,
+    }
+}
+
 // Wants the need until no notice is due, and says whether the owner was told so after so many notices.
 fn is_answered(
     tree: &mut Tree,
@@ -108,10 +120,8 @@ fn is_answered(
     requires { is_plain need ≡ true }
 {
     for delivered in 0..16 {
-        if let Some(open) = tree.wanted(owner) {
-            if open != need {
-                return Ok(false);
-            }
+        if !may_want(tree, owner, need) {
+            return Ok(false);
         }
         match tree.want(owner, need, wait)? {
             Want::NoticeTo(other, node, mode) => {
