@@ -143,6 +143,12 @@ module _ (old new : Table) (owner : ℕ) (ws : List Need) (w : OpenWant) (mode :
         (subst (λ (y : Mode). at_most w.need.mode y ≡ true) (sym (here-granted w.here (same_node-refl w.here) ∙ is)) (join-right (granted_at old owner w.here) w.need.mode)))
         plain whole-quiet_after
 
+  pub whole-raised : (answer : Enq) → AnswersAt old new owner w.here mode false answer → was_granted answer ≡ true → RaisedAt old new owner w.here (least_above (granted_at old owner w.here) w.need.mode)
+  whole-raised Granted r g = subst (λ (m : Mode). RaisedAt old new owner w.here m) is r
+  whole-raised Asleep r g = absurd (false≢true g)
+  whole-raised (NotQueued b) r g = absurd (false≢true g)
+  whole-raised (Deadlock c) r g = absurd (false≢true g)
+
   -- intents of the need stand above the node
   whole-intent : (a : Node) → contains a w.here ≡ true → at_most (intent w.need.mode) (granted_at old owner a) ≡ true
   whole-intent a c =

@@ -11,6 +11,8 @@ pub mod OwnLocks
 pub mod Brought
 pub mod Leaving
 pub mod Depths
+pub mod Trails
+pub mod Sleepers
 pub mod Whole
 pub mod Released
 pub mod Wanting
@@ -18,5 +20,8 @@ pub mod WantAsked
 pub mod Answered
 pub mod Exactness
 pub mod Getting
+pub mod Opened
+pub mod Looked
+pub mod SameNeeds
 pub mod Descending
 pub mod InWay

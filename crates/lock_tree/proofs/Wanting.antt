@@ -153,7 +153,7 @@ got-asked held sought ws w k here plain granted quiet =
         mode-intent false = intent-twice w.need.mode
 
 -- the want, at another node
-abbrev at_node : OpenWant → Node → OpenWant
+abbrev pub at_node : OpenWant → Node → OpenWant
 at_node w n = record w { here = n }
 
 -- a want that was granted its mode goes one node down

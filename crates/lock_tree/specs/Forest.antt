@@ -1,14 +1,18 @@
--- The tree's state: the lock table, and the owners with their needs and open wants.
-use Rattle.std.specs.Prelude.{◌≡◌, ℕ, Bool, true, false, not, ◌==◌, nat_eq, is_some, unwrap_or, None, List, []}
-use Rattle.std.specs.List.{list_any, list_all}
+-- The tree's state: the lock table, the owners with their needs and open wants, and where wants were asked.
+use Rattle.std.specs.Prelude.{◌≡◌, ℕ, Bool, true, false, not, ◌&&◌, ◌==◌, nat_eq, is_some, unwrap_or, Option, Some, None, List, []}
+use Rattle.std.specs.List.{list_any, list_all, filter}
 use Rattle.std.specs.Map.{lookup}
 use Rattle.vms_locks.specs.Table.{Table}
+use Rattle.rdb_types.specs.declared.node.Node.{Node}
 use Rattle.lock_needs.specs.declared.need.Need.{Need}
+use Rattle.lock_needs.specs.declared.party.OpenWant.{OpenWant}
+use Rattle.lock_needs.specs.declared.party.Asked.{Asked}
 use Rattle.lock_needs.specs.declared.party.Party.{Party}
 use Rattle.lock_needs.specs.contracts.need.NeedPartialEq.TheImpl as need_eq
+use Rattle.lock_needs.specs.Nodes.{same_node}
 use Rattle.lock_needs.specs.Needs.{conflict}
 use Rattle.lock_tree.specs.LockTable.{HasIntents}
-use Rattle.lock_tree.specs.Parties.{IsKept}
+use Rattle.lock_tree.specs.Parties.{IsKept, was_asked}
 
 abbrev pub Parties : Type 0
 Parties = List (ℕ × Party)
@@ -31,14 +35,41 @@ has_party ps owner = is_some (lookup (nat_eq owner) ps)
 abbrev pub KeepsParties : ℕ → Parties → Parties → Type 0
 KeepsParties owner old new = (u : ℕ) → (u == owner) ≡ false → party_of new u ≡ party_of old u
 
+-- the entries of the owner
+abbrev pub asks_of : List Asked → ℕ → List Asked
+asks_of trail owner = filter (λ a. a.owner == owner) trail
+
+-- the entries of owners whose wants are open
+abbrev pub open_asks : Parties → List Asked → List Asked
+open_asks ps trail = filter (λ a. is_some (party_of ps a.owner).opened) trail
+
+-- the owner's last want was asked at the node
+abbrev pub is_asked_at : List Asked → ℕ → Node → Bool
+is_asked_at trail owner n = list_any (λ a. (a.owner == owner) && same_node a.node n) trail
+
+-- the entries of an owner with an open want name just the nodes at which this was asked
+abbrev pub HasAsks : List Asked → ℕ → Option OpenWant → Type 0
+HasAsks trail owner None = Unit {0}
+HasAsks trail owner (Some w) = (n : Node) → is_asked_at trail owner n ≡ was_asked w n
+
+-- each other owner was asked for where it was
+abbrev pub KeepsAsks : ℕ → List Asked → List Asked → Type 0
+KeepsAsks owner old new = (u : ℕ) (n : Node) → (u == owner) ≡ false → is_asked_at new u n ≡ is_asked_at old u n
+
 pub record State : Type 0 where
   pub table : Table
   pub parties : Parties
+  -- the nodes at which the last want of each owner was asked, open or ended, in the order of asking
+  pub trail : List Asked
+
+abbrev pub opened_of : State → ℕ → Option OpenWant
+opened_of s owner = (party_of s.parties owner).opened
 
 -- What is true of the tree at every moment.
 pub record IsWhole (s : State) : Type 0 where
   pub intents : HasIntents s.table
   pub kept : (owner : ℕ) → IsKept s.table owner (party_of s.parties owner)
+  pub asks : (owner : ℕ) → HasAsks s.trail owner (party_of s.parties owner).opened
 
 -- no need of the first conflicts with one of the second
 abbrev pub no_conflict : List Need → List Need → Bool

@@ -5,3 +5,5 @@ pub mod Notices
 pub mod Forest
 pub mod Releasing
 pub mod Asking
+pub mod Wanted
+pub mod States

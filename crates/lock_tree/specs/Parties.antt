@@ -18,6 +18,10 @@ use Rattle.lock_tree.specs.LockTable.{granted_at, sought_at}
 abbrev pub was_asked : OpenWant → Node → Bool
 was_asked w n = contains n w.here || (same_node n w.here && w.is_asked)
 
+-- the second want was asked nowhere but where the first was
+abbrev pub AsksLess : OpenWant → OpenWant → Type 0
+AsksLess w v = (n : Node) → was_asked v n ≡ true → was_asked w n ≡ true
+
 -- some need is on the node or below it
 abbrev pub is_needed : List Need → Node → Bool
 is_needed ws n = list_any (λ w. is_on n w.node) ws

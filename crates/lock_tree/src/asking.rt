@@ -1,16 +1,20 @@
-ghost use Rattle.std.specs.Prelude.{◌≡◌, ◌++◌, ◌∷◌, [], true, false, Some, IfOk, OnOk, OnErr};
+ghost use Rattle.std.specs.Prelude.{◌≡◌, ◌++◌, ◌∷◌, [], List, true, false, Some, IfOk, OnOk, OnErr};
 ghost use Rattle.vms_queues.specs.Modes.{at_most};
+ghost use Rattle.vms_locks.specs.Answers.{Answers};
+ghost use Rattle.lock_needs.specs.declared.need.Need.{Need};
 ghost use Rattle.lock_needs.specs.Needs.{covered_above, is_plain};
 ghost use Rattle.lock_needs.specs.Wants.{kept_at};
 ghost use Rattle.lock_tree.specs.LockTable.{granted_at, HasIntents};
 ghost use Rattle.lock_tree.specs.Parties.{IsKept, KeepsOthers, wanting, resting, unasked};
 ghost use Rattle.lock_tree.specs.Releasing.{IsQuiet};
-ghost use Rattle.lock_tree.specs.Asking.{was_granted, AnswersAt, TakesAnswer};
+ghost use Rattle.lock_tree.specs.Asking.{was_granted, request_at, asked_mode, AnswersAt, TakesAnswer, TakesWhole, HasTakenWhole};
+ghost use Rattle.lock_tree.specs.Forest.{party_of, KeepsParties};
 
 use crate::holding::granted_of;
 use crate::notice::serve_notice;
+use indexmap::IndexMap;
 use lock_needs::{Need, Node, OpenWant, Party, mode_for};
-use rdb_types::NoMemory;
+use rdb_types::{Items, NoMemory};
 use vms_locks::{Enq, Locks};
 use vms_queues::{Mode, join};
 
@@ -36,6 +40,7 @@ pub(crate) fn ask(
     requires ascends { at_most (granted_at locks.old owner node) mode ≡ true }
 
     ensures answer { IfOk result (AnswersAt locks.old locks.new owner node mode wait) }
+    ensures exact { IfOk result (Answers locks.old locks.new owner node wait (request_at locks.old owner node mode)) }
     ensures err { OnErr result (locks.new ≡ locks.old) }
 {
     match locks.mode_of(owner, node) {
@@ -57,6 +62,7 @@ pub(crate) fn ask_here(
     requires least { at_most (granted_at locks.old owner want.here) (kept_at (granted_at locks.old owner) (wanting needs.now (unasked want)) want.here) ≡ true }
 
     ensures answer { IfOk result (TakesAnswer locks.new owner needs.now want wait) }
+    ensures exact { IfOk result (Answers locks.old locks.new owner want.here wait (request_at locks.old owner want.here (asked_mode locks.old owner want))) }
     ensures intents { HasIntents locks.new }
     ensures others { KeepsOthers owner locks.old locks.new }
     ensures err { OnErr result (locks.new ≡ locks.old) }
@@ -92,20 +98,15 @@ pub(crate) fn make_least(
     Ok(())
 }
 
-// Asks the whole need of the open want at the node that it has come to. It doesn't wait there: where the need isn't granted at
-// once, nothing changes.
-pub(crate) fn ask_whole(
-    locks: &mut Locks,
-    owner: u32,
-    party: &Party,
-    want: OpenWant,
-) -> Result<bool, NoMemory>
+// Asks the whole need of an owner's open want at the node that this has come to. It doesn't wait there: where the need isn't
+// granted at once, nothing changes.
+pub(crate) fn ask_whole(locks: &mut Locks, owner: u32, want: OpenWant) -> Result<bool, NoMemory>
     requires intents { HasIntents locks.old }
-    requires kept { IsKept locks.old owner party.now }
-    requires opened { party.now.opened ≡ Some (unasked want) }
+    requires kept { (ws : List Need) × IsKept locks.old owner (wanting ws (unasked want)) }
     requires plain { is_plain want.need ≡ true }
 
-    ensures got { IfOk result (λ got. got ≡ true → IsKept locks.new owner (resting (party.now.needs ++ want.need ∷ []))) }
+    ensures got { IfOk result (λ got. got ≡ true → TakesWhole owner want locks.old locks.new) }
+    ensures taken { IfOk result (λ got. got ≡ true → HasTakenWhole owner want locks.old locks.new) }
     ensures left { IfOk result (λ got. got ≡ false → locks.new ≡ locks.old) }
     ensures err { OnErr result (locks.new ≡ locks.old) }
     ensures intents { HasIntents locks.new }
@@ -115,4 +116,77 @@ pub(crate) fn ask_whole(
     let mode = join(held, want.need.mode);
     let answer = ask(locks, owner, want.here, mode, false)?;
     Ok(is_granted(&answer))
+}
+
+// Takes back the need that was added last.
+fn take_back(needs: &mut Items<Need>)
+    ensures { (ws : List Need) (w : Need) → needs.old ≡ ws ++ w ∷ [] → needs.new ≡ ws }
+{
+    let _last = needs.pop();
+}
+
+// Asks the whole need of the party's open want, as `ask_whole` does. Where it is granted, the party has got it. Its room is made
+// before, so that no memory is wanted once the lock is granted.
+fn take_for(
+    locks: &mut Locks,
+    owner: u32,
+    party: &mut Party,
+    want: OpenWant,
+) -> Result<bool, NoMemory>
+    requires intents { HasIntents locks.old }
+    requires kept { IsKept locks.old owner party.old }
+    requires opened { party.old.opened ≡ Some (unasked want) }
+    requires plain { is_plain want.need ≡ true }
+
+    ensures got { IfOk result (λ got. got ≡ true → party.new ≡ resting (party.old.needs ++ want.need ∷ [])) }
+    ensures taken { IfOk result (λ got. got ≡ true → HasTakenWhole owner want locks.old locks.new) }
+    ensures left { IfOk result (λ got. got ≡ false → (party.new ≡ party.old) × (locks.new ≡ locks.old)) }
+    ensures err { OnErr result ((party.new ≡ party.old) × (locks.new ≡ locks.old)) }
+    ensures intents { HasIntents locks.new }
+    ensures kept { IsKept locks.new owner party.new }
+    ensures others { KeepsOthers owner locks.old locks.new }
+{
+    party.needs.push(want.need)?;
+    match ask_whole(locks, owner, want) {
+        Ok(true) => {
+            party.opened = None;
+            Ok(true)
+        }
+        Ok(false) => {
+            take_back(&mut party.needs);
+            Ok(false)
+        }
+        Err(error) => {
+            take_back(&mut party.needs);
+            Err(error)
+        }
+    }
+}
+
+// Asks the whole need of the owner's open want at the node that this has come to, as `ask_whole` does. Where it is granted, the
+// owner has got it.
+pub(crate) fn take_whole(
+    locks: &mut Locks,
+    parties: &mut IndexMap<u32, Party>,
+    owner: u32,
+    want: OpenWant,
+) -> Result<bool, NoMemory>
+    requires intents { HasIntents locks.old }
+    requires kept { IsKept locks.old owner (party_of parties.old.entries owner) }
+    requires opened { (party_of parties.old.entries owner).opened ≡ Some (unasked want) }
+    requires plain { is_plain want.need ≡ true }
+
+    ensures got { IfOk result (λ got. got ≡ true → party_of parties.new.entries owner ≡ resting ((party_of parties.old.entries owner).needs ++ want.need ∷ [])) }
+    ensures taken { IfOk result (λ got. got ≡ true → HasTakenWhole owner want locks.old locks.new) }
+    ensures left { IfOk result (λ got. got ≡ false → (party_of parties.new.entries owner ≡ party_of parties.old.entries owner) × (locks.new ≡ locks.old)) }
+    ensures err { OnErr result ((party_of parties.new.entries owner ≡ party_of parties.old.entries owner) × (locks.new ≡ locks.old)) }
+    ensures intents { HasIntents locks.new }
+    ensures kept { IsKept locks.new owner (party_of parties.new.entries owner) }
+    ensures others { KeepsOthers owner locks.old locks.new }
+    ensures parties { KeepsParties owner parties.old.entries parties.new.entries }
+{
+    match parties.get_mut(&owner) {
+        Some(party) => take_for(locks, owner, party, want),
+        None => Ok(false),
+    }
 }

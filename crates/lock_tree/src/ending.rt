@@ -1,8 +1,8 @@
 ghost use Rattle.std.specs.Prelude.{◌≡◌, IfErr, OnOk, OnErr};
-ghost use Rattle.lock_needs.specs.Needs.{covers_from, covered_above as covered_over};
+ghost use Rattle.lock_needs.specs.Needs.{covers_from, covered_above as covered_over, is_covered as is_covered_by};
 ghost use Rattle.lock_needs.specs.Keeping.{needed_uncovered, after_want};
 ghost use Rattle.lock_tree.specs.LockTable.{granted_at, sought_at, HasIntents};
-ghost use Rattle.lock_tree.specs.Parties.{IsKept, KeepsOthers, wanting, resting, unasked, StandsStill};
+ghost use Rattle.lock_tree.specs.Parties.{IsKept, KeepsOthers, wanting, resting, unasked, AsksLess, StandsStill};
 
 use crate::coming_down::bring_down;
 use crate::holding::granted_of;
@@ -34,6 +34,13 @@ pub(crate) fn covered_above(locks: &Locks, owner: u32, need: Need) -> bool
         || covers_from_level(locks, owner, need, Level::Page)
 }
 
+// Whether some lock covers the need.
+pub(crate) fn is_covered(locks: &Locks, owner: u32, need: Need) -> bool
+    ensures { result ≡ is_covered_by (granted_at locks.now owner) need }
+{
+    is_at_most(need.mode, granted_of(locks, owner, need.node)) || covered_above(locks, owner, need)
+}
+
 // The modes of the needs on the node that no lock above it covers, joined.
 fn uncovered_on(locks: &Locks, owner: u32, needs: &[Need], node: Node) -> Mode
     ensures { result ≡ needed_uncovered (granted_at locks.now owner) needs.now node }
@@ -62,6 +69,8 @@ pub(crate) fn stop_asking(locks: &mut Locks, owner: u32, want: OpenWant) -> Open
     requires intents { HasIntents locks.old }
 
     ensures here { result.here ≡ want.here }
+    ensures need { result.need ≡ want.need }
+    ensures less { AsksLess want result }
     ensures kept { StandsStill owner want result locks.old locks.new }
     ensures intents { HasIntents locks.new }
     ensures others { KeepsOthers owner locks.old locks.new }
@@ -109,6 +118,8 @@ pub(crate) fn end_want(
 
     ensures ended { OnOk result (IsKept locks.new owner (resting needs.now)) }
     ensures stands { IfErr result (λ w. IsKept locks.new owner (wanting needs.now w)) }
+    ensures need { IfErr result (λ w. w.need ≡ want.need) }
+    ensures less { IfErr result (λ w. AsksLess want w) }
     ensures intents { HasIntents locks.new }
     ensures others { KeepsOthers owner locks.old locks.new }
 {

@@ -1,20 +1,29 @@
 //! The tree of locks: needs of owners, the locks that cover them, and notices.
 #![tactic(auto)]
 
+mod answer;
 mod asking;
+mod closing;
 mod coming_down;
 mod ending;
 mod holding;
 mod looking;
 mod notice;
 mod parties;
+mod parts;
 mod releasing;
+mod sleeping;
+mod steps;
+mod trail;
 mod tree;
+mod wants;
 mod way;
 
+pub use answer::Want;
 pub use lock_needs::{Level, Need, Node};
 pub use notice::Demotion;
 pub use tree::Tree;
+pub use vms_locks::Cycle;
 
 #[cfg(test)]
 mod tests;

@@ -1,9 +1,10 @@
 ghost use Rattle.std.specs.Prelude.{◌≡◌, false, Some, IfOk, OnErr};
 ghost use Rattle.vms_queues.specs.Queues.{blockers};
-ghost use Rattle.vms_locks.specs.Table.{queues_at};
+ghost use Rattle.vms_locks.specs.Table.{queues_at, IsLive};
 ghost use Rattle.lock_needs.specs.Needs.{covered_above};
 ghost use Rattle.lock_tree.specs.LockTable.{granted_at, HasIntents};
 ghost use Rattle.lock_tree.specs.Parties.{IsKept, KeepsOthers, unasked};
+ghost use Rattle.lock_tree.specs.Forest.{party_of};
 ghost use Rattle.lock_tree.specs.Asking.{exceeds_at, first_excess, asked_mode, TakesLook};
 
 use crate::asking::{ask_here, make_least};
@@ -57,7 +58,8 @@ pub(crate) fn find_excess(
 
 // The mode that the want asks at its node.
 fn mode_of_want(locks: &Locks, owner: u32, want: OpenWant) -> Mode
-    ensures { result ≡ asked_mode locks.now owner want }
+    ensures value { result ≡ asked_mode locks.now owner want }
+    ensures live { IsLive (queues_at locks.now) }
 {
     join(
         granted_of(locks, owner, want.here),
@@ -79,6 +81,7 @@ pub(crate) fn look_here(
     requires kept { IsKept locks.old owner party.now }
     requires opened { party.now.opened ≡ Some (unasked want) }
     requires uncovered { covered_above (granted_at locks.old owner) want.need ≡ false }
+    requires party { party.now ≡ party_of parties.now.entries owner }
 
     ensures look { IfOk result (TakesLook locks.new parties.now.entries owner party.now.needs want wait) }
     ensures stands { OnErr result (IsKept locks.new owner party.now) }

@@ -1,51 +1,93 @@
-ghost use Rattle.std.specs.Prelude.{◌≡◌, [], true, false, None, IfOk, OnOk};
+ghost use Rattle.std.specs.Prelude.{◌≡◌, [], true, false, None, Some, is_some, option_map, slice_get, IfOk, OnOk, OnErr};
 ghost use Rattle.rdb_types.specs.declared.node.Node.{Node};
 ghost use Rattle.vms_queues.specs.declared.lock_mode.Mode.TheVariants.{NL};
+ghost use Rattle.lock_needs.specs.Needs.{is_plain};
 ghost use Rattle.lock_needs.specs.Keeping.{is_excess};
 ghost use Rattle.lock_needs.specs.Wants.{kept_at};
 ghost use Rattle.lock_tree.specs.LockTable.{granted_at, AllShare};
-ghost use Rattle.lock_tree.specs.Forest.{IsWhole, KeepsParties, NeedsAreApart, idle, party_of, has_need};
+ghost use Rattle.lock_tree.specs.Forest.{IsWhole, KeepsParties, NeedsAreApart, idle, party_of, has_need, asks_of};
 ghost use Rattle.lock_tree.specs.Notices.{notice_answer};
+ghost use Rattle.lock_tree.specs.Wanted.{needs_of, wanted_of, IsOf, Answered};
 
-use crate::ending::end_want;
+use crate::answer::Want;
 use crate::holding::granted_of;
 use crate::notice::{Demotion, serve_notice};
-use crate::parties::{forget, set_opened};
+use crate::parties::forget;
+use crate::parts::Parts;
 use crate::releasing::release_owner;
+use crate::trail::nth_ask;
 use indexmap::IndexMap;
-use lock_needs::{Need, Node, Party};
+use lock_needs::{Need, Node};
 use rdb_types::NoMemory;
 use std::alloc::Global;
 use std::marker::Model;
 use vms_locks::Locks;
 use vms_queues::Mode;
 
-/// The tree of locks: the needs of each owner, its open want, and the locks that cover its needs.
+/// The tree of locks: the needs of each owner, its open want, the locks that cover its needs, and the nodes at which the last want
+/// of each owner was asked.
 #[derive(Drop)]
 pub struct Tree {
-    locks: Locks,
-    parties: IndexMap<u32, Party>,
+    parts: Parts,
 }
 
 impl Model for Tree {
     ghost use Rattle.lock_tree.specs.Forest.{State, IsWhole};
+    ghost use Rattle.lock_tree.specs.States.{state_of};
 
     ghost Value = { State };
 
-    ghost view = { λ t. record { table = t.locks; parties = t.parties.entries } };
+    ghost view = { λ t. state_of t.parts };
 
-    ghost invariant = { λ t. IsWhole (record { table = t.locks; parties = t.parties.entries }) };
+    ghost invariant = { λ t. IsWhole (state_of t.parts) };
 }
 
 impl Tree {
     /// Nobody has or wants anything.
     pub fn new(alloc: Global) -> Tree
-        ensures { result ≡ record { table = []; parties = [] } }
+        ensures { result ≡ record { table = []; parties = []; trail = [] } }
     {
         Tree {
-            locks: Locks::new(alloc),
-            parties: IndexMap::new(alloc),
+            parts: Parts {
+                locks: Locks::new(alloc),
+                parties: IndexMap::new(alloc),
+                trail: Vec::new(alloc),
+            },
         }
+    }
+
+    /// Asks for the need. Where a lock of the owner covers it, it is got. Else a want opens at the topmost node on the way to the
+    /// need's, and goes down: at each node the whole need is asked where nothing is queued there and it can be granted at once; else
+    /// the owner's own lock comes down to what must be kept, and the want's mode is asked, unless a notice is due before. A want that
+    /// is open goes on from where it stands; after a notice was delivered it looks again. Where it isn't to wait, what can't be
+    /// granted is refused. For want of memory nothing is got, and a want that was open is open still.
+    pub fn want(&mut self, owner: u32, need: Need, wait: bool) -> Result<Want, NoMemory>
+        requires plain { is_plain need ≡ true }
+        requires same { IsOf need (party_of self.old.parties owner).opened }
+
+        ensures answer { IfOk result (Answered (needs_of self.old owner) self.new owner need wait) }
+        ensures others { KeepsParties owner self.old.parties self.new.parties }
+        ensures err { OnErr result (needs_of self.new owner ≡ needs_of self.old owner) }
+        ensures err_open { OnErr result (IsOf need (party_of self.new.parties owner).opened) }
+        ensures err_stands { OnErr result (is_some (party_of self.old.parties owner).opened ≡ true → is_some (party_of self.new.parties owner).opened ≡ true) }
+    {
+        self.parts.want(owner, need, wait)
+    }
+
+    /// The need of the owner's open want.
+    pub fn wanted(&self, owner: u32) -> Option<Need>
+        ensures { result ≡ wanted_of self.now owner }
+    {
+        let want = self.parts.opened_of(owner)?;
+        Some(want.need)
+    }
+
+    /// The node at this place, from 0, at which the owner's last want was asked, open or ended; None exactly where there are no
+    /// more.
+    pub fn asked(&self, owner: u32, nth: u32) -> Option<Node>
+        ensures { result ≡ option_map (λ a. a.node) (slice_get (asks_of self.now.trail owner) nth) }
+    {
+        nth_ask(&self.parts.trail, owner, nth)
     }
 
     /// Serves a notice at the node: where the owner's lock there is stronger than it has to be, it comes down to the least mode that
@@ -61,9 +103,10 @@ impl Tree {
         ensures least { OnOk result (is_excess (granted_at self.old.table to node) (kept_at (granted_at self.old.table to) (party_of self.old.parties to) node) ≡ true → granted_at self.new.table to node ≡ kept_at (granted_at self.old.table to) (party_of self.old.parties to) node) }
         ensures unchanged { OnOk result (is_excess (granted_at self.old.table to node) (kept_at (granted_at self.old.table to) (party_of self.old.parties to) node) ≡ false → self.new ≡ self.old) }
         ensures parties { self.new.parties ≡ self.old.parties }
+        ensures trail { self.new.trail ≡ self.old.trail }
     {
-        match self.parties.get(&to) {
-            Some(party) => serve_notice(&mut self.locks, to, party, node),
+        match self.parts.parties.get(&to) {
+            Some(party) => serve_notice(&mut self.parts.locks, to, party, node),
             None => Ok(None),
         }
     }
@@ -76,22 +119,11 @@ impl Tree {
         ensures needs { (party_of self.new.parties owner).needs ≡ (party_of self.old.parties owner).needs }
         ensures others { KeepsParties owner self.old.parties self.new.parties }
         ensures unchanged { (party_of self.old.parties owner).opened ≡ None → self.new ≡ self.old }
+        ensures err { OnErr result (wanted_of self.new owner ≡ wanted_of self.old owner) }
     {
-        let Some(party) = self.parties.get(&owner) else {
-            return Ok(());
-        };
-        let Some(want) = party.opened else {
-            return Ok(());
-        };
-        match end_want(&mut self.locks, owner, party.needs.as_slice(), want) {
-            Ok(()) => {
-                set_opened(&mut self.parties, owner, None);
-                Ok(())
-            }
-            Err(left) => {
-                set_opened(&mut self.parties, owner, Some(left));
-                Err(NoMemory {})
-            }
+        match self.parts.opened_of(owner) {
+            Some(want) => self.parts.close_want(owner, want),
+            None => Ok(()),
         }
     }
 
@@ -101,7 +133,7 @@ impl Tree {
         ensures compatible { AllShare self.now.table }
         ensures apart { NeedsAreApart self.now }
     {
-        granted_of(&self.locks, owner, node)
+        granted_of(&self.parts.locks, owner, node)
     }
 
     /// Whether the owner has got the need.
@@ -109,7 +141,7 @@ impl Tree {
         ensures value { result ≡ has_need (party_of self.now.parties owner).needs need }
         ensures whole { IsWhole self.now }
     {
-        match self.parties.get(&owner) {
+        match self.parts.parties.get(&owner) {
             Some(party) => party.needs.as_slice().iter().any(|held| *held == need),
             None => false,
         }
@@ -121,9 +153,9 @@ impl Tree {
         ensures none { (n : Node) → granted_at self.new.table owner n ≡ NL }
         ensures others { KeepsParties owner self.old.parties self.new.parties }
     {
-        if let Some(party) = self.parties.get(&owner) {
-            release_owner(&mut self.locks, owner, party);
-            forget(&mut self.parties, owner);
+        if let Some(party) = self.parts.parties.get(&owner) {
+            release_owner(&mut self.parts.locks, owner, party);
+            forget(&mut self.parts.parties, owner);
         }
     }
 }

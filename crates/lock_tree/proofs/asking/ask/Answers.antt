@@ -6,10 +6,11 @@ use Rattle.vms_queues.specs.declared.lock_mode.Mode.TheVariants.{NL}
 use Rattle.vms_queues.specs.Modes.{at_most}
 use Rattle.vms_queues.specs.Queues.{has_owner}
 use Rattle.vms_locks.specs.Table.{queues_at}
-use Rattle.lock_tree.proofs.HeldModes.{mode-has_owner}
+use Rattle.vms_locks.specs.Answers.{Request, Answers}
+use Rattle.lock_tree.proofs.HeldModes.{mode-has_owner, no-mode_absent}
 use Rattle.lock_tree.proofs.Changes.{quiet-at}
 use Rattle.lock_tree.proofs.Conditions.{absent-quiet}
-use Rattle.lock_tree.proofs.Answered.{if_ok-more, quiet-awake, request-answered, conversion-answered}
+use Rattle.lock_tree.proofs.Answered.{if_ok-more, quiet-awake, request-answered, conversion-answered, request-converts, request-asks}
 use Rattle.lock_tree.proofs.asking.ask.Goals as goal
 
 pub convert-requires-clause-granted : goal.convert-requires-clause-granted
@@ -41,3 +42,15 @@ pub returns-in-None-clause-answer : goal.returns-in-None-clause-answer
 returns-in-None-clause-answer c =
     if_ok-more _ _ c.enq.result c.enq.ensures.answer
     (request-answered c.args.locks.now c.enq.new.self c.args.owner c.args.node c.args.mode c.args.wait c.in-None.ensures.live c.requires.quiet (sym c.in-None.ensures.value))
+
+pub returns-in-Some-clause-exact : goal.returns-in-Some-clause-exact
+returns-in-Some-clause-exact c =
+    if_ok-more _ _ c.convert.result c.convert.ensures.answer
+    (λ answer h. subst (λ (r : Request). Answers c.args.locks.now c.convert.new.self c.args.owner c.args.node c.args.wait r answer)
+    (sym (request-converts c.args.locks.now c.args.owner c.args.node c.args.mode (mode-has_owner c.args.owner (queues_at c.args.locks.now c.args.node).granted c.in-Some.field-0 (sym c.in-Some.ensures.value)))) h)
+
+pub returns-in-None-clause-exact : goal.returns-in-None-clause-exact
+returns-in-None-clause-exact c =
+    if_ok-more _ _ c.enq.result c.enq.ensures.answer
+    (λ answer h. subst (λ (r : Request). Answers c.args.locks.now c.enq.new.self c.args.owner c.args.node c.args.wait r answer)
+    (sym (request-asks c.args.locks.now c.args.owner c.args.node c.args.mode (no-mode_absent c.args.owner (queues_at c.args.locks.now c.args.node).granted (sym c.in-None.ensures.value)))) h)

@@ -1,5 +1,8 @@
 use Rattle.std.proofs.Common.{sym, subst}
+use Rattle.vms_queues.specs.declared.lock_mode.Mode.{Mode}
+use Rattle.vms_locks.specs.Answers.{Answers}
 use Rattle.lock_tree.specs.LockTable.{HasIntents}
+use Rattle.lock_tree.specs.Asking.{request_at}
 use Rattle.lock_tree.specs.Parties.{IsKept, KeepsOthers}
 use Rattle.lock_tree.proofs.Answered.{if_ok-more, by_answer}
 use Rattle.lock_tree.proofs.WantAsked.{want-quiet, want-answered, answer-intents, answer-others, asked-mode}
@@ -29,3 +32,9 @@ returns-clause-others c =
     by_answer _ _ (KeepsOthers c.args.owner c.args.locks.now c.ask.new.locks) c.ask.result c.ask.ensures.answer c.ask.ensures.err
     (answer-others c.args.locks.now c.ask.new.locks c.args.owner c.args.needs.now c.args.want mode (asked-mode _ _ _ _ mode c.granted_of-held.ensures.value c.mode_for.ensures c.join.ensures.table) c.requires.kept c.requires.least c.requires.intents c.args.wait)
     (λ e u q d h. subst (λ t. IsKept t u q) (sym e) h)
+
+pub returns-clause-exact : goal.returns-clause-exact
+returns-clause-exact c =
+    if_ok-more _ _ c.ask.result c.ask.ensures.exact
+    (λ answer h. subst (λ (m : Mode). Answers c.args.locks.now c.ask.new.locks c.args.owner c.args.want.here c.args.wait (request_at c.args.locks.now c.args.owner c.args.want.here m) answer)
+    (asked-mode _ _ _ _ c.join.result c.granted_of-held.ensures.value c.mode_for.ensures c.join.ensures.table) h)

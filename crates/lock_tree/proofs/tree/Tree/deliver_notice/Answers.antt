@@ -12,15 +12,15 @@ pub returns-in-Some-clause-least : goal.returns-in-Some-clause-least
 returns-in-Some-clause-least c =
     subst (λ (s : State). OnOk c.serve_notice.result (is_excess (granted_at s.table c.args.to c.args.node) (kept_at (granted_at s.table c.args.to) (party_of s.parties c.args.to) c.args.node) ≡ true
     → granted_at c.serve_notice.new.locks c.args.to c.args.node ≡ kept_at (granted_at s.table c.args.to) (party_of s.parties c.args.to) c.args.node)) c.self.view_is
-    (subst (λ (p : Party). OnOk c.serve_notice.result (is_excess (granted_at c.self.inside.locks c.args.to c.args.node) (kept_at (granted_at c.self.inside.locks c.args.to) p c.args.node) ≡ true
-    → granted_at c.serve_notice.new.locks c.args.to c.args.node ≡ kept_at (granted_at c.self.inside.locks c.args.to) p c.args.node)) (ap (λ x. unwrap_or x idle) c.in-Some.ensures.value)
+    (subst (λ (p : Party). OnOk c.serve_notice.result (is_excess (granted_at c.self.inside.parts.locks c.args.to c.args.node) (kept_at (granted_at c.self.inside.parts.locks c.args.to) p c.args.node) ≡ true
+    → granted_at c.serve_notice.new.locks c.args.to c.args.node ≡ kept_at (granted_at c.self.inside.parts.locks c.args.to) p c.args.node)) (ap (λ x. unwrap_or x idle) c.in-Some.ensures.value)
     c.serve_notice.ensures.least)
 
 pub returns-in-Some-clause-unchanged : goal.returns-in-Some-clause-unchanged
 returns-in-Some-clause-unchanged c =
-    on_ok-more (is_excess (granted_at c.self.inside.locks c.args.to c.args.node) (kept_at (granted_at c.self.inside.locks c.args.to) c.in-Some.party.now c.args.node) ≡ false → c.serve_notice.new.locks ≡ c.self.inside.locks)
+    on_ok-more (is_excess (granted_at c.self.inside.parts.locks c.args.to c.args.node) (kept_at (granted_at c.self.inside.parts.locks c.args.to) c.in-Some.party.now c.args.node) ≡ false → c.serve_notice.new.locks ≡ c.self.inside.parts.locks)
     _ c.serve_notice.result c.serve_notice.ensures.unchanged
-    (λ f e. ap (λ t. record { table = t; parties = c.self.inside.parties.entries })
-    (f (subst (λ (p : Party). is_excess (granted_at c.self.inside.locks c.args.to c.args.node) (kept_at (granted_at c.self.inside.locks c.args.to) p c.args.node) ≡ false) (sym (ap (λ x. unwrap_or x idle) c.in-Some.ensures.value))
+    (λ f e. ap (λ t. record { table = t; parties = c.self.inside.parts.parties.entries; trail = c.self.inside.parts.trail.items })
+    (f (subst (λ (p : Party). is_excess (granted_at c.self.inside.parts.locks c.args.to c.args.node) (kept_at (granted_at c.self.inside.parts.locks c.args.to) p c.args.node) ≡ false) (sym (ap (λ x. unwrap_or x idle) c.in-Some.ensures.value))
     (subst (λ (s : State). is_excess (granted_at s.table c.args.to c.args.node) (kept_at (granted_at s.table c.args.to) (party_of s.parties c.args.to) c.args.node) ≡ false) (sym c.self.view_is) e)))
     ∙ c.self.view_is)

@@ -8,9 +8,9 @@ use Rattle.lock_tree.proofs.tree.Tree.mode_of.Goals as goal
 pub returns-clause-compatible : goal.returns-clause-compatible
 returns-clause-compatible c =
     subst (λ (s : State). AllShare s.table) c.self.view_is
-    (shares-live c.self.inside.locks c.self.inside.locks c.args.owner c.args.node c.granted_of.ensures.live)
+    (shares-live c.self.inside.parts.locks c.self.inside.parts.locks c.args.owner c.args.node c.granted_of.ensures.live)
 
 pub returns-clause-apart : goal.returns-clause-apart
 returns-clause-apart c =
     subst NeedsAreApart c.self.view_is
-    (whole-apart (record { table = c.self.inside.locks; parties = c.self.inside.parties.entries }) c.self.invariant c.granted_of.ensures.live)
+    (whole-apart (record { table = c.self.inside.parts.locks; parties = c.self.inside.parts.parties.entries; trail = c.self.inside.parts.trail.items }) c.self.invariant c.granted_of.ensures.live)

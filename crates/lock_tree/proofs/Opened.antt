@@ -1,0 +1,188 @@
+-- The steps of an open want, by the tree's state.
+use Rattle.std.proofs.Common.{◌≡◌, ℕ, ◌++◌, ◌∷◌, [], ◌<◌, ◌-◌, Bool, true, false, List, refl, sym, ◌∙◌, ap, subst, inl, inr, arith}
+use Rattle.std.specs.Prelude.{◌==◌, not, ◌&&◌, ◌||◌, if◌then◌else◌, Option, Some, None, option_map, unwrap_or}
+use Rattle.std.specs.List.{list_all}
+use Rattle.std.proofs.lemmas.Bool.{false≢true, cases_Bool, and_parts, and_from, or_left, or_right, or_cases, not-true}
+use Rattle.rdb_types.specs.declared.node.Level.{Level}
+use Rattle.rdb_types.specs.declared.node.Level.TheVariants.{Area, Range, Page, Line, Journal}
+use Rattle.rdb_types.specs.declared.node.Node.{Node}
+use Rattle.vms_queues.specs.declared.lock_mode.Mode.{Mode}
+use Rattle.vms_queues.specs.Modes.{at_most, intent}
+use Rattle.vms_locks.specs.Table.{Table}
+use Rattle.lock_needs.specs.declared.need.Need.{Need}
+use Rattle.lock_needs.specs.declared.party.OpenWant.{OpenWant}
+use Rattle.lock_needs.specs.declared.party.Party.{Party}
+use Rattle.lock_needs.specs.declared.party.Asked.{Asked}
+use Rattle.lock_needs.specs.Nodes.{is_above, level_over, same_node, contains, is_on, above_of}
+use Rattle.lock_needs.specs.Needs.{Holding, is_covered, covered_above, is_plain}
+use Rattle.lock_needs.specs.Wants.{mode_for, sleeps_at}
+use Rattle.lock_needs.proofs.NodeLaws.{same_node-true, same_node-refl, contains-above}
+use Rattle.lock_needs.proofs.Above.{above-contains, above-level}
+use Rattle.lock_tree.specs.LockTable.{granted_at, sought_at, HasIntents}
+use Rattle.lock_tree.specs.Parties.{IsKeptBut, IsKept, KeepsOthers, nowhere, wanting, resting, unasked, asked_at, was_asked}
+use Rattle.lock_tree.specs.Releasing.{IsQuiet}
+use Rattle.lock_tree.specs.Forest.{Parties, State, IsWhole, HasAsks, KeepsAsks, KeepsParties, is_asked_at, party_of, opened_of}
+use Rattle.lock_tree.specs.Wanted.{needs_of, wanted_of, IsOpen, IsOf}
+use Rattle.lock_tree.proofs.Depths.{depth}
+use Rattle.lock_tree.proofs.Leaving.{and-none, sleeps-elsewhere, up-same}
+use Rattle.lock_tree.proofs.Wanting.{at_node, descends}
+use Rattle.lock_tree.proofs.Getting.{got-open}
+use Rattle.lock_tree.proofs.Trails.{entry_of, pushed-others, asks-pushed}
+use Rattle.lock_tree.proofs.Whole.{whole-after}
+
+pub as-open : (p : Party) (w : OpenWant) → p.opened ≡ Some w → p ≡ wanting p.needs w
+as-open p w opened = ap (λ (o : Option OpenWant). record p { opened = o }) opened
+
+pub as-resting : (p : Party) → p.opened ≡ None → p ≡ resting p.needs
+as-resting p opened = ap (λ (o : Option OpenWant). record p { opened = o }) opened
+
+-- ---- what stays
+
+-- nothing changed but the others' shares of the map
+pub whole-same : (s r : State) (owner : ℕ) → IsWhole s → r.table ≡ s.table → party_of r.parties owner ≡ party_of s.parties owner → KeepsParties owner s.parties r.parties → r.trail ≡ s.trail → IsWhole r
+whole-same s r owner whole table own same trail =
+    whole-after s r owner (party_of s.parties owner) whole (subst HasIntents (sym table) whole.intents) (λ u q d k. subst (λ (t : Table). IsKept t u q) (sym table) k)
+    own (subst (λ (t : Table). IsKept t owner (party_of s.parties owner)) (sym table) (whole.kept owner)) same
+    (subst (λ (a : List Asked). HasAsks a owner (party_of s.parties owner).opened) (sym trail) (whole.asks owner))
+    (λ u n d. ap (λ (a : List Asked). is_asked_at a u n) trail)
+
+-- the owner's locks changed, and nothing else
+pub whole-kept : (s r : State) (owner : ℕ) → IsWhole s → HasIntents r.table → KeepsOthers owner s.table r.table → IsKept r.table owner (party_of s.parties owner)
+    → party_of r.parties owner ≡ party_of s.parties owner → KeepsParties owner s.parties r.parties → r.trail ≡ s.trail → IsWhole r
+whole-kept s r owner whole intents others kept own same trail =
+    whole-after s r owner (party_of s.parties owner) whole intents others own kept same
+    (subst (λ (a : List Asked). HasAsks a owner (party_of s.parties owner).opened) (sym trail) (whole.asks owner))
+    (λ u n d. ap (λ (a : List Asked). is_asked_at a u n) trail)
+
+-- the owner got its need, and was asked for it at the node
+pub whole-noted : (s r : State) (owner : ℕ) (n : Node) (ws : List Need) → IsWhole s → HasIntents r.table → KeepsOthers owner s.table r.table → IsKept r.table owner (resting ws)
+    → party_of r.parties owner ≡ resting ws → KeepsParties owner s.parties r.parties → r.trail ≡ s.trail ++ entry_of owner n ∷ [] → IsWhole r
+whole-noted s r owner n ws whole intents others kept own same trail =
+    whole-after s r owner (resting ws) whole intents others own kept same tt
+    (λ u x d. ap (λ (a : List Asked). is_asked_at a u x) trail ∙ pushed-others owner n s.trail u x d)
+
+-- what an owner's open want is told by
+pub kept-open : (s : State) (owner : ℕ) (w : OpenWant) → IsWhole s → opened_of s owner ≡ Some w → IsKept s.table owner (wanting (needs_of s owner) w)
+kept-open s owner w whole opened = subst (IsKept s.table owner) (as-open (party_of s.parties owner) w opened) (whole.kept owner)
+
+pub asks-open : (s : State) (owner : ℕ) (w : OpenWant) → IsWhole s → opened_of s owner ≡ Some w → HasAsks s.trail owner (Some w)
+asks-open s owner w whole opened = subst (HasAsks s.trail owner) opened (whole.asks owner)
+
+pub still-open : (s r : State) (owner : ℕ) (w : OpenWant) (n : Need) → opened_of s owner ≡ Some w → w.need ≡ n → party_of r.parties owner ≡ party_of s.parties owner → IsOpen r owner (needs_of s owner) n
+still-open s r owner w n opened is own = (w, own ∙ as-open (party_of s.parties owner) w opened, is)
+
+-- the open want was asked at its node
+pub whole-asked : (s r : State) (owner : ℕ) (w : OpenWant) → IsWhole s → opened_of s owner ≡ Some (unasked w) → HasIntents r.table → KeepsOthers owner s.table r.table
+    → IsKept r.table owner (wanting (needs_of s owner) (asked_at w w.here)) → party_of r.parties owner ≡ wanting (needs_of s owner) (asked_at w w.here)
+    → KeepsParties owner s.parties r.parties → r.trail ≡ s.trail ++ entry_of owner w.here ∷ [] → IsWhole r
+whole-asked s r owner w whole opened intents others kept own same trail =
+    whole-after s r owner (wanting (needs_of s owner) (asked_at w w.here)) whole intents others own kept same
+    (subst (λ (a : List Asked). HasAsks a owner (Some (asked_at w w.here))) (sym trail) (asks-pushed owner w s.trail (asks-open s owner (unasked w) whole opened)))
+    (λ u x d. ap (λ (a : List Asked). is_asked_at a u x) trail ∙ pushed-others owner w.here s.trail u x d)
+
+-- the open want looked at its node, and wasn't asked there, or was refused
+pub whole-looked : (s r : State) (owner : ℕ) (w : OpenWant) → IsWhole s → opened_of s owner ≡ Some (unasked w) → HasIntents r.table → KeepsOthers owner s.table r.table
+    → IsKept r.table owner (wanting (needs_of s owner) (unasked w)) → r.parties ≡ s.parties → r.trail ≡ s.trail → IsWhole r
+whole-looked s r owner w whole opened intents others kept parties trail =
+    whole-kept s r owner whole intents others (subst (IsKept r.table owner) (sym (as-open (party_of s.parties owner) (unasked w) opened)) kept)
+    (ap (λ (ps : Parties). party_of ps owner) parties) (λ u d. ap (λ (ps : Parties). party_of ps u) parties) trail
+
+-- ---- a want that is covered
+
+pub covered-got : (s : State) (owner : ℕ) (ws : List Need) (n : Need) → IsWhole s → IsOpen s owner ws n → is_covered (granted_at s.table owner) n ≡ true → is_plain n ≡ true → IsQuiet s.table owner → IsKept s.table owner (resting (ws ++ n ∷ []))
+covered-got s owner ws n whole open_ covered plain quiet =
+    subst (λ (v : Need). IsKept s.table owner (resting (ws ++ v ∷ []))) open_.2
+    (got-open (granted_at s.table owner) (sought_at s.table owner) ws open_.0 (subst (IsKept s.table owner) open_.1 (whole.kept owner))
+    (subst (λ (v : Need). is_covered (granted_at s.table owner) v ≡ true) (sym open_.2) covered) (subst (λ (v : Need). is_plain v ≡ true) (sym open_.2) plain) quiet)
+
+-- a need that an owner has got is covered
+pub got-covered_need : (t : Table) (owner : ℕ) (ws : List Need) (n : Need) → IsKept t owner (resting (ws ++ n ∷ [])) → is_covered (granted_at t owner) n ≡ true
+got-covered_need t owner ws n k = last ws k.covered
+  where
+    last : (vs : List Need) → list_all (is_covered (granted_at t owner)) (vs ++ n ∷ []) ≡ true → is_covered (granted_at t owner) n ≡ true
+    last [] h = (and_parts (is_covered (granted_at t owner) n) true h).0
+    last (v ∷ vs) h = last vs (and_parts (is_covered (granted_at t owner) v) (list_all (is_covered (granted_at t owner)) (vs ++ n ∷ [])) h).1
+
+-- ---- a want that isn't queued
+
+pub awake-granted : (held : Holding) (w : OpenWant) → w.is_asked ≡ true → sleeps_at held (Some w) w.here ≡ false → at_most (mode_for w.need w.here) (held w.here) ≡ true
+awake-granted held w asked awake = elim (cases_Bool (at_most (mode_for w.need w.here) (held w.here))) [
+  | inl y ↦ y
+  | inr f ↦ absurd (false≢true (sym awake ∙ and_from (same_node w.here w.here) (w.is_asked && not (at_most (mode_for w.need w.here) (held w.here))) (same_node-refl w.here)
+      (and_from w.is_asked (not (at_most (mode_for w.need w.here) (held w.here))) asked (ap not f))))
+]
+
+pub granted-awake : (held : Holding) (w : OpenWant) → at_most (mode_for w.need w.here) (held w.here) ≡ true → (x : Node) → sleeps_at held (Some w) x ≡ false
+granted-awake held w granted x = elim (cases_Bool (same_node x w.here)) [
+  | inr d ↦ sleeps-elsewhere held w x d
+  | inl s ↦
+      ap (λ (b : Bool). same_node x w.here && (w.is_asked && not b)) (subst (λ (z : Node). at_most (mode_for w.need z) (held z) ≡ true) (sym (same_node-true x w.here s)) granted)
+      ∙ (ap (λ (b : Bool). same_node x w.here && b) (and-none w.is_asked) ∙ and-none (same_node x w.here))
+]
+
+pub granted-quiet_all : (s : State) (owner : ℕ) (w : OpenWant) → IsWhole s → opened_of s owner ≡ Some w → at_most (mode_for w.need w.here) (granted_at s.table owner w.here) ≡ true → IsQuiet s.table owner
+granted-quiet_all s owner w whole opened granted x = (kept-open s owner w whole opened).awake x (granted-awake (granted_at s.table owner) w granted x)
+
+pub unasked-quiet : (s : State) (owner : ℕ) (w : OpenWant) → IsWhole s → opened_of s owner ≡ Some (unasked w) → IsQuiet s.table owner
+unasked-quiet s owner w whole opened x = (kept-open s owner (unasked w) whole opened).awake x (and-none (same_node x w.here))
+
+-- a want that was granted its mode at its need's node is covered there
+pub covered-there : (held : Holding) (w : OpenWant) → w.here ≡ w.need.node → at_most (mode_for w.need w.here) (held w.here) ≡ true → is_covered held w.need ≡ true
+covered-there held w here granted =
+    or_left (at_most w.need.mode (held w.need.node)) (covered_above held w.need)
+    (subst (λ (n : Node). at_most w.need.mode (held n) ≡ true) here (subst (λ (b : Bool). at_most (if b then w.need.mode else intent w.need.mode) (held w.here) ≡ true) own granted))
+  where
+    own : same_node w.here w.need.node ≡ true
+    own = subst (λ (n : Node). same_node w.here n ≡ true) here (same_node-refl w.here)
+
+-- ---- a want goes down
+
+next-is : (w v : OpenWant) → v.need ≡ w.need → v ≡ unasked v → v ≡ unasked (at_node w v.here)
+next-is w v need fresh = fresh ∙ ap (λ (n : Need). record { need = n; here = v.here; is_asked = false }) need
+
+and-true : (b : Bool) → (b && true) ≡ b
+and-true true = refl
+and-true false = refl
+
+or-none : (b : Bool) → (b || false) ≡ b
+or-none true = refl
+or-none false = refl
+
+module _ (s : State) (owner : ℕ) (w v : OpenWant) (whole : IsWhole s) (opened : opened_of s owner ≡ Some w) (asked : w.is_asked ≡ true)
+    (granted : at_most (mode_for w.need w.here) (granted_at s.table owner w.here) ≡ true) (need : v.need ≡ w.need) (fresh : v ≡ unasked v)
+    (above : above_of v.here ≡ Some w.here) (way : is_on v.here v.need.node ≡ true) where
+  pub down-kept : IsKept s.table owner (wanting (needs_of s owner) v)
+  down-kept =
+      subst (λ (u : OpenWant). IsKept s.table owner (wanting (needs_of s owner) u)) (sym (next-is w v need fresh))
+      (descends (granted_at s.table owner) (sought_at s.table owner) (needs_of s owner) w v.here above (subst (λ (n : Need). is_on v.here n.node ≡ true) need way) asked granted
+      (granted-quiet_all s owner w whole opened granted) (kept-open s owner w whole opened))
+
+  pub down-asks : HasAsks s.trail owner (Some v)
+  down-asks n =
+      asks-open s owner w whole opened n
+      ∙ (ap (λ (b : Bool). contains n w.here || (same_node n w.here && b)) asked
+      ∙ (ap (λ (b : Bool). contains n w.here || b) (and-true (same_node n w.here))
+      ∙ (sym (up-same (granted_at s.table owner) v w.here above (subst (λ (m : Need). at_most (mode_for m w.here) (granted_at s.table owner w.here) ≡ true) (sym need) granted) n)
+      ∙ sym (subst (λ (u : OpenWant). was_asked u n ≡ contains n v.here) (sym fresh) (ap (λ (b : Bool). contains n v.here || b) (and-none (same_node n v.here)) ∙ or-none (contains n v.here))))))
+
+-- ---- how far it has to go
+
+deeper-level : (l : Level) → is_above (level_over l) l ≡ true → 3 - depth l < 3 - depth (level_over l)
+deeper-level Area h = absurd (false≢true h)
+deeper-level Range h = omega arith
+deeper-level Page h = omega arith
+deeper-level Line h = omega arith
+deeper-level Journal h = absurd (false≢true h)
+
+pub deeper : (n up : Node) → above_of n ≡ Some up → 3 - depth n.level < 3 - depth up.level
+deeper n up e =
+    subst (λ (l : Level). 3 - depth n.level < 3 - depth l) (sym (above-level n up e))
+    (deeper-level n.level (subst (λ (l : Level). is_above l n.level ≡ true) (above-level n up e) (contains-above up n (above-contains n up e))))
+
+-- ---- a want that is of a need
+
+pub open-need : (s r : State) (owner : ℕ) (ws : List Need) (n : Need) → IsOpen r owner ws n → needs_of r owner ≡ ws
+open-need s r owner ws n o = ap (λ (p : Party). p.needs) o.1
+
+pub open-of : (r : State) (owner : ℕ) (ws : List Need) (n : Need) → IsOpen r owner ws n → IsOf n (opened_of r owner)
+open-of r owner ws n o = subst (λ (p : Party). IsOf n p.opened) (sym o.1) o.2

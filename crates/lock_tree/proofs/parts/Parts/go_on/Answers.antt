@@ -1,0 +1,28 @@
+use Rattle.std.proofs.Common.{refl}
+use Rattle.lock_tree.specs.LockTable.{granted_at}
+use Rattle.lock_tree.specs.Parties.{wanting}
+use Rattle.lock_tree.specs.Forest.{State}
+use Rattle.lock_tree.specs.States.{state_of}
+use Rattle.lock_tree.specs.Wanted.{needs_of}
+use Rattle.lock_tree.proofs.Whole.{whole-after}
+use Rattle.lock_tree.proofs.Opened.{still-open, granted-quiet_all, covered-there, down-kept, down-asks}
+use Rattle.lock_tree.proofs.parts.Parts.go_on.Goals as goal
+
+pub get_need-requires-clause-open : goal.get_need-requires-clause-open
+get_need-requires-clause-open c = still-open (state_of c.args.self.now) (state_of c.args.self.now) c.args.owner c.args.want c.args.want.need c.requires.opened refl refl
+
+pub get_need-requires-clause-covered : goal.get_need-requires-clause-covered
+get_need-requires-clause-covered c = covered-there (granted_at c.args.self.now.locks c.args.owner) c.args.want c.in_default.ensures.there c.requires.granted
+
+pub get_need-requires-clause-quiet : goal.get_need-requires-clause-quiet
+get_need-requires-clause-quiet c = granted-quiet_all (state_of c.args.self.now) c.args.owner c.args.want c.requires.whole c.requires.opened c.requires.granted
+
+pub returns-clause-whole : goal.returns-clause-whole
+returns-clause-whole c =
+    let s : State = state_of c.args.self.now in
+    let r : State = record { table = c.args.self.now.locks; parties = c.set_opened.new.parties.entries; trail = c.args.self.now.trail.items } in
+    whole-after s r c.args.owner (wanting (needs_of s c.args.owner) c.in-Some.next) c.requires.whole c.requires.whole.intents (λ u q d k. k) c.set_opened.ensures.own
+    (down-kept s c.args.owner c.args.want c.in-Some.next c.requires.whole c.requires.opened c.requires.asked c.requires.granted c.in-Some.ensures.need c.in-Some.ensures.unasked c.in-Some.ensures.above c.in-Some.ensures.way)
+    c.set_opened.ensures.others
+    (down-asks s c.args.owner c.args.want c.in-Some.next c.requires.whole c.requires.opened c.requires.asked c.requires.granted c.in-Some.ensures.need c.in-Some.ensures.unasked c.in-Some.ensures.above c.in-Some.ensures.way)
+    (λ u n d. refl)

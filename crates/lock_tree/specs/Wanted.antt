@@ -1,0 +1,91 @@
+-- What a want is answered, and what it leaves.
+use Rattle.std.specs.Prelude.{◌≡◌, ℕ, Bool, true, false, not, ◌&&◌, ◌||◌, ◌==◌, option_map, Option, Some, None, List, [], ◌∷◌, ◌++◌, ◌⊎◌}
+use Rattle.std.specs.List.{list_any, filter}
+use Rattle.rdb_types.specs.declared.node.Node.{Node}
+use Rattle.vms_queues.specs.declared.lock_mode.Mode.{Mode}
+use Rattle.vms_queues.specs.Queues.{is_queued}
+use Rattle.vms_locks.specs.Table.{Table, queues_at, WaitsIn}
+use Rattle.vms_locks.specs.declared.answer.Enq.TheVariants.{NotQueued, Deadlock as ClosesCycle}
+use Rattle.lock_needs.specs.declared.need.Need.{Need}
+use Rattle.lock_needs.specs.declared.party.OpenWant.{OpenWant}
+use Rattle.lock_needs.specs.declared.party.Asked.{Asked}
+use Rattle.lock_needs.specs.Nodes.{above_of}
+use Rattle.lock_needs.specs.Needs.{is_covered}
+use Rattle.lock_needs.specs.Wants.{sleeps_at}
+use Rattle.lock_tree.specs.LockTable.{granted_at}
+use Rattle.lock_tree.specs.Parties.{wanting, resting, unasked, was_asked}
+use Rattle.lock_tree.specs.Forest.{Parties, State, IsWhole, KeepsParties, party_of}
+use Rattle.lock_tree.specs.Asking.{HasCause, IsDue}
+use Rattle.lock_tree.specs.declared.answer.Want.{Want}
+use Rattle.lock_tree.specs.declared.answer.Want.TheVariants.{Got, NoticeTo, Asleep, Conflict, Deadlock}
+use Rattle.lock_tree.specs.declared.answer.Step.{Step}
+use Rattle.lock_tree.specs.declared.answer.Step.TheVariants.{Down, Ends}
+
+-- the entries without those of the owner for nodes at which its want wasn't asked
+abbrev pub asks_cut : ℕ → OpenWant → List Asked → List Asked
+asks_cut owner w trail = filter (λ a. not (a.owner == owner) || was_asked w a.node) trail
+
+-- some entry is of the owner
+abbrev pub is_known : Parties → ℕ → Bool
+is_known ps u = list_any (λ e. e.0 == u) ps
+
+-- some owner's open want is queued at the node
+abbrev pub someone_sleeps : Table → Node → Parties → Bool
+someone_sleeps t n ps = list_any (λ e. sleeps_at (granted_at t e.0) e.1.opened n) ps
+
+-- nothing is queued at the node
+abbrev pub IsClear : Table → Node → Type 0
+IsClear t n = (u : ℕ) → is_queued u (queues_at t n) ≡ false
+
+abbrev pub needs_of : State → ℕ → List Need
+needs_of s owner = (party_of s.parties owner).needs
+
+-- the need of the owner's open want
+abbrev pub wanted_of : State → ℕ → Option Need
+wanted_of s owner = option_map (λ w. w.need) (party_of s.parties owner).opened
+
+-- the owner has these needs, and this want is open
+abbrev pub IsWanting : State → ℕ → List Need → OpenWant → Type 0
+IsWanting s owner ws w = party_of s.parties owner ≡ wanting ws w
+
+-- the owner has these needs, and a want of this need is open
+abbrev pub IsOpen : State → ℕ → List Need → Need → Type 0
+IsOpen s owner ws need = (w : OpenWant) × IsWanting s owner ws w × (w.need ≡ need)
+
+-- a want that is open is of this need
+abbrev pub IsOf : Need → Option OpenWant → Type 0
+IsOf need None = Unit {0}
+IsOf need (Some w) = w.need ≡ need
+
+-- the owner's want is queued, and waits for t
+pub record SleepsFor (s : State) (owner : ℕ) (w : OpenWant) (t : ℕ) : Type 0 where
+  pub sleeps : sleeps_at (granted_at s.table owner) (Some w) w.here ≡ true
+  pub waits : WaitsIn (queues_at s.table) owner t
+
+-- What was true of the owner's open want just before it ended without being got.
+pub record Ended (s : State) (owner : ℕ) (ws : List Need) (need : Need) (cause : State → OpenWant → Type 0) : Type 0 where
+  pub before : State
+  pub whole : IsWhole before
+  pub others : KeepsParties owner before.parties s.parties
+  pub want : OpenWant
+  pub stood : IsWanting before owner ws want
+  pub same : want.need ≡ need
+  pub why : cause before want
+  pub rests : party_of s.parties owner ≡ resting ws
+
+-- t is the first in the way of the want, or the want is queued and waits for it
+abbrev pub IsBarredBy : ℕ → ℕ → State → OpenWant → Type 0
+IsBarredBy owner t s w = HasCause s.table s.parties owner w (NotQueued t) ⊎ SleepsFor s owner w t
+
+-- Each answer to an owner with these needs that wants this one, with its cause and what it leaves.
+abbrev pub Answered : List Need → State → ℕ → Need → Bool → Want → Type 0
+Answered ws s owner need wait Got = (party_of s.parties owner ≡ resting (ws ++ need ∷ [])) × (is_covered (granted_at s.table owner) need ≡ true)
+Answered ws s owner need wait (NoticeTo t n mode) = (w : OpenWant) × IsWanting s owner ws w × (w.need ≡ need) × (w ≡ unasked w) × (n ≡ w.here) × IsDue s.table s.parties owner w t mode
+Answered ws s owner need wait (Asleep t) = (wait ≡ true) × ((w : OpenWant) × IsWanting s owner ws w × (w.need ≡ need) × SleepsFor s owner w t)
+Answered ws s owner need wait (Conflict t) = (wait ≡ false) × Ended s owner ws need (IsBarredBy owner t)
+Answered ws s owner need wait (Deadlock cycle) = (wait ≡ true) × Ended s owner ws need (λ r w. HasCause r.table r.parties owner w (ClosesCycle cycle))
+
+-- a step of the open want
+abbrev pub Steps : List Need → State → ℕ → OpenWant → Bool → Step → Type 0
+Steps ws s owner w wait (Down v) = IsWanting s owner ws (unasked v) × (v ≡ unasked v) × (v.need ≡ w.need) × (above_of v.here ≡ Some w.here)
+Steps ws s owner w wait (Ends answer) = Answered ws s owner w.need wait answer

@@ -1,0 +1,44 @@
+ghost use Rattle.std.specs.Prelude.{◌≡◌, ℕ, true, IfSome, IfNone};
+ghost use Rattle.vms_locks.specs.Table.{queues_at, IsLive, WaitsIn};
+ghost use Rattle.lock_needs.specs.Wants.{sleeps_at};
+ghost use Rattle.lock_tree.specs.LockTable.{granted_at};
+ghost use Rattle.lock_tree.specs.Wanted.{is_known, someone_sleeps};
+
+use crate::holding::granted_of;
+use indexmap::IndexMap;
+use lock_needs::{Node, OpenWant, Party, mode_for};
+use vms_locks::Locks;
+use vms_queues::is_at_most;
+
+// Whether the owner's open want is queued at the node.
+pub(crate) fn is_asleep(locks: &Locks, owner: u32, opened: Option<OpenWant>, node: Node) -> bool
+    ensures value { result ≡ sleeps_at (granted_at locks.now owner) opened node }
+    ensures live { result ≡ true → IsLive (queues_at locks.now) }
+{
+    let Some(want) = opened else {
+        return false;
+    };
+    node == want.here
+        && want.is_asked
+        && !is_at_most(mode_for(want.need, node), granted_of(locks, owner, node))
+}
+
+// Whether somebody's open want is queued at the node.
+pub(crate) fn is_crowded(locks: &Locks, parties: &IndexMap<u32, Party>, node: Node) -> bool
+    ensures { result ≡ someone_sleeps locks.now node parties.now.entries }
+{
+    parties.as_slice().iter().any(|(owner, party)| is_asleep(locks, *owner, party.opened, node))
+}
+
+// The first of the owners for whom this one waits.
+pub(crate) fn find_blocker(locks: &Locks, parties: &IndexMap<u32, Party>, owner: u32) -> Option<u32>
+    ensures waits { IfSome result (λ u. WaitsIn (queues_at locks.now) owner u) }
+    ensures none { IfNone result ((u : ℕ) → is_known parties.now.entries u ≡ true → WaitsIn (queues_at locks.now) owner u → ⊥) }
+{
+    for (other, _party) in parties.iter() {
+        if locks.waits_for(owner, *other) {
+            return Some(*other);
+        }
+    }
+    None
+}
