@@ -1,5 +1,5 @@
 -- Two variables over one relation, the first of which has a row that is too short and the second none.
-use Rattle.std.specs.Prelude.{◌≡◌, refl, pos, List, [], ◌∷◌, Some, None, codes}
+use Rattle.std.specs.Prelude.{◌≡◌, refl, pos, [], ◌∷◌, Some, None, codes}
 use Rattle.rdb_types.specs.declared.values.Value.TheVariants.{Missing, Number}
 use Rattle.rdb_types.specs.declared.values.DataType.TheVariants.{Longword}
 use Rattle.rdb_types.specs.declared.values.FieldType.{FieldType}

@@ -20,7 +20,7 @@ use Rattle.rdo_values.specs.Known.{value_known, truth_known, IsKnown, AreKnown, 
 use Rattle.rdo_values.specs.Filled.{literal, known_literal, known_test, value_at, value_after, truth_at, all_at, some_at, parts_at, verdict_at}
 use Rattle.rdo_values.proofs.Reading.{read_located}
 
-literal_gives : (kind : FieldType) (v : Option Value) → computed (literal (scaled_if kind v).value (scaled_if kind v).scale) no_tables [] ≡ is (scaled_if kind v)
+pub literal_gives : (kind : FieldType) (v : Option Value) → computed (literal (scaled_if kind v).value (scaled_if kind v).scale) no_tables [] ≡ is (scaled_if kind v)
 literal_gives kind (Some Missing) = refl
 literal_gives kind (Some (Number n)) = refl
 literal_gives kind (Some (Text s)) = refl

@@ -99,7 +99,8 @@ fn chain_value(
 /// The value of an expression at a row, which has the values of all bound variables, the outermost first. Where a number is outside 64 bits or has more than 18 digits after the point, the answer is `Stop::Overflow`.
 pub fn value(alloc: Global, expr: &BoundExpression, rows: &[Value]) -> Result<Scaled, Stop>
     requires { IsSettled (expression_of expr.now) }
-    ensures { (t : Tables) (scope : Scope) → IsBound (expression_of expr.now) t (variables_of scope)
+    ensures row { Gives result (value_at rows.now (expression_of expr.now)) }
+    ensures named { (t : Tables) (scope : Scope) → IsBound (expression_of expr.now) t (variables_of scope)
         → IsKnown (expression_of expr.now) t scope → row_of t scope ≡ rows.now
         → Gives result (computed (named (expression_of expr.now)) t scope) }
 {
