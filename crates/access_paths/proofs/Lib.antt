@@ -1,0 +1,9 @@
+pub mod KnownBefore
+pub mod Steps
+pub mod Truncated
+pub mod Ends
+pub mod Nearer
+pub mod Clamped
+pub mod Inside
+pub mod Served
+pub mod Reaching
