@@ -1,0 +1,5 @@
+pub mod Keeping
+pub mod RowsAtHand
+pub mod SameTuples
+pub mod Ranges
+pub mod Read

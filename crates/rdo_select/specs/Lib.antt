@@ -1,0 +1,4 @@
+pub mod Stops
+pub mod Chosen
+pub mod Crossed
+pub mod Sources
