@@ -9,6 +9,7 @@ import time
 RDB = sys.argv[1]
 FILE_BENCH = os.path.abspath(os.path.join(os.path.dirname(RDB), "..", "..", "file_bench", "out", "file_bench"))
 INDEX_BENCH = os.path.abspath(os.path.join(os.path.dirname(RDB), "..", "..", "index_bench", "out", "index_bench"))
+LOCK_BENCH = os.path.abspath(os.path.join(os.path.dirname(RDB), "..", "..", "lock_bench", "out", "lock_bench"))
 SESSIONS = 16
 ROUNDS = 5
 SQLITE = shutil.which("sqlite3")
@@ -232,6 +233,20 @@ def compare_index(keys, rounds, folder):
     print(f"{count:,} finds: {ours / count * 1e6:.2f} us each, {visits / count:.1f} nodes each; a map of std and decoding {theirs / count * 1e6:.2f} us, ratio {ours / theirs:.2f}")
 
 
+def growth_of_locks(owners, locks, folder):
+    """Line locks of owners that share pages, and what four times the work takes."""
+    if not os.path.exists(LOCK_BENCH):
+        print("locks: skipped, lock_bench isn't built (rt run in crates/lock_bench)")
+        return
+    quarter, _ = timed([LOCK_BENCH, str(owners), str(locks // 4), "keep"], b"", folder)
+    kept, printed = timed([LOCK_BENCH, str(owners), str(locks), "keep"], b"", folder)
+    whole, _ = timed([LOCK_BENCH, str(owners), str(locks)], b"", folder)
+    if None in (quarter, kept, whole):
+        print("locks: a job failed")
+        return
+    print(f"{locks:,} line locks of {owners} owners ({printed.decode().strip()}): {kept * 1000:.1f} ms; 4 times the work takes {kept / quarter:.1f} times as long; giving them back {(whole - kept) * 1000:.1f} ms")
+
+
 with tempfile.TemporaryDirectory() as folder:
     compare("20,000 PRINTs", rdo_prints(20000), sql_prints(20000), folder)
     compare("10,000 STOREs and a FOR", rdo_stores(10000), sql_stores(10000), folder)
@@ -246,3 +261,4 @@ with tempfile.TemporaryDirectory() as folder:
     compare_disks(10000, 1000, folder)
     growth_of_scan(262144, folder)
     compare_index(5000, 20, folder)
+    growth_of_locks(16, 40000, folder)
