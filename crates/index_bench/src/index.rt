@@ -98,7 +98,10 @@ impl Index {
     fn lay(&mut self, writes: &Writes) -> Result<(), IndexStop> {
         for write in writes.as_slice() {
             let image = write.image.as_ref();
-            self.known.put(write.key, image.map(|image| Image::from_bytes(image.bytes())))?;
+            self.known.put(
+                write.key,
+                image.map(|image| Image::from_bytes(image.bytes())),
+            )?;
         }
         Ok(())
     }

@@ -84,7 +84,10 @@ fn decode_all(alloc: Global, keys: u32, rounds: u32) -> Result<Work, IndexStop> 
     let index = filled(alloc, keys)?;
     let before = index.visits();
     let _found = find_each(alloc, &index, keys)?;
-    let reads = index.visits().wrapping_sub(before).wrapping_mul(u64::from(rounds));
+    let reads = index
+        .visits()
+        .wrapping_sub(before)
+        .wrapping_mul(u64::from(rounds));
     let mut found = 0_u64;
     for turn in 0..reads {
         found = found.wrapping_add(index.decode(alloc, turn)? as u64);

@@ -3,8 +3,8 @@
 
 mod locking;
 
-use locking::{Calls, Stop, lock_lines, release_owners};
 use lock_tree::Tree;
+use locking::{Calls, Stop, lock_lines, release_owners};
 use std::env;
 use std::process::ExitCode;
 use std::rt::Env;

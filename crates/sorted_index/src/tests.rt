@@ -1,8 +1,13 @@
-use crate::{Bounds, IndexStop, Writes, find, range, remove};
+ghost use Rattle.std.specs.Prelude.{slice_get};
+ghost use Rattle.line_view.specs.Held.{knows as knows_of};
+
+use crate::{Bounds, IndexStop, Writes, find, insert, range, remove};
 use index_node::{IndexNode, NodeEntry, is_allowed_node, put_node};
-use line_view::{Known, Need};
-use rdb_types::{Dbkey, Image, Items, Keys, NoMemory, Row, Value};
+use line_view::{Known, Need, Room, Seen, View};
+use rdb_types::{Chars, Dbkey, Image, Items, Keys, NoMemory, Row, Value};
+use record_format::{are_storable, values_size};
 use std::alloc::Global;
+use std::collections::BTreeSet;
 use std::test::Fail;
 
 // An entry whose key is two numbers: the pages of its row and, in an inner node, of its child.
@@ -243,5 +248,155 @@ fn takes_out_all_pairs(rt: HostRuntime) -> Result<(), Fail> {
         high_in: false,
     };
     assert!(rt; range(alloc, &known, node(root), &all)?.is_empty());
+    Ok(())
+}
+
+// ---- pairs put in
+
+// What is known, and the lines that are rooms.
+#[derive(Drop)]
+struct Roomy {
+    known: Known,
+    rooms: Vec<Dbkey>,
+}
+
+impl View for Roomy {
+    ghost knows = { λ r. record { line = (knows_of r.known).line; area = (knows_of r.known).area; room = λ room. slice_get r.rooms.items room.nth } };
+
+    fn line(&self, key: Dbkey) -> Seen<'_> {
+        self.known.line(key)
+    }
+
+    fn area(&self, area: u32) -> Option<&BTreeSet<Dbkey>> {
+        self.known.area(area)
+    }
+
+    fn room(&self, room: Room) -> Option<Dbkey> {
+        self.rooms.get(room.nth as usize).copied()
+    }
+}
+
+// An index whose root, on page 2, has no entries.
+fn empty_index(alloc: Global) -> Result<Roomy, Fail> {
+    let mut known = Known::new(alloc);
+    lay_node(alloc, &mut known, 2, 0, &[])?;
+    Ok(Roomy {
+        known,
+        rooms: Vec::new(alloc),
+    })
+}
+
+// Puts a pair in, unless it is a duplicate. The rooms that are lacked are pages that were never used.
+fn put(
+    alloc: Global,
+    index: &mut Roomy,
+    next: &mut u32,
+    key: &[Value],
+    row: u32,
+    unique: bool,
+) -> Result<bool, Fail> {
+    if !are_storable(key) || values_size(key, 120).is_none() {
+        return Err("no key".into());
+    }
+    index.rooms.clear();
+    for _ in 0..20 {
+        match insert(alloc, index, node(2), key, at_page(16, row), unique) {
+            Ok(writes) => {
+                let _erased = lay_writes(&mut index.known, &writes)?;
+                return Ok(true);
+            }
+            Err(IndexStop::Missing(Need::Room(_))) => {
+                *next = next.checked_add(1).ok_or("no page")?;
+                index.rooms.push(node(*next))?;
+            }
+            Err(IndexStop::Duplicate) => return Ok(false),
+            Err(_) => return Err("refused".into()),
+        }
+    }
+    Err("too many rooms".into())
+}
+
+fn all_rows(alloc: Global, index: &Roomy) -> Result<Keys, Fail> {
+    let all = Bounds {
+        low: None,
+        low_in: false,
+        high: None,
+        high_in: false,
+    };
+    Ok(range(alloc, index, node(2), &all)?)
+}
+
+// All rows, in the order of the pairs, where these rows were put in one after another under their own numbers.
+fn put_rows(alloc: Global, rows: &[u32]) -> Result<Keys, Fail> {
+    let mut index = empty_index(alloc)?;
+    let mut next = 2_u32;
+    for row in rows {
+        let key = row_of(alloc, &[i64::from(*row)])?;
+        if !put(alloc, &mut index, &mut next, key.as_slice(), *row, true)? {
+            return Err("duplicate".into());
+        }
+    }
+    all_rows(alloc, &index)
+}
+
+#[test]
+fn puts_in_rising_falling_and_mixed(rt: HostRuntime) -> Result<(), Fail> {
+    let alloc = rt.alloc();
+    let rising: Vec<u32> = (0..5_000_u32).collect(alloc)?;
+    let falling: Vec<u32> = (0..5_000_u32).rev().collect(alloc)?;
+    let mixed: Vec<u32> = (0..5_000_u32)
+        .map(|n| n.wrapping_mul(1_777) % 5_000)
+        .collect(alloc)?;
+    assert!(rt; are_rows(&put_rows(alloc, &rising)?, &rising));
+    assert!(rt; are_rows(&put_rows(alloc, &falling)?, &rising));
+    assert!(rt; are_rows(&put_rows(alloc, &mixed)?, &rising));
+    Ok(())
+}
+
+// A key of 120 bytes.
+fn long_key(alloc: Global, byte: u8) -> Result<Row, NoMemory> {
+    let text = Chars::from_slice(alloc, &[byte; 117])?;
+    let mut row = Row::new(alloc);
+    row.push(Value::Text(text))?;
+    Ok(row)
+}
+
+// Twenty rows of each of sixteen keys.
+#[test]
+fn puts_in_rows_of_long_keys(rt: HostRuntime) -> Result<(), Fail> {
+    let alloc = rt.alloc();
+    let mut index = empty_index(alloc)?;
+    let mut next = 2_u32;
+    for row in 0..20_u32 {
+        for byte in 48..64_u8 {
+            let key = long_key(alloc, byte)?;
+            assert!(rt; put(alloc, &mut index, &mut next, key.as_slice(), row, false)?);
+        }
+    }
+    assert_eq!(rt; all_rows(alloc, &index)?.len(), 320);
+    let key = long_key(alloc, 50)?;
+    assert_eq!(rt; find(alloc, &index, node(2), key.as_slice())?.len(), 20);
+    assert!(rt; !put(alloc, &mut index, &mut next, key.as_slice(), 20, true)?);
+    Ok(())
+}
+
+// Down to a root without entries, and again.
+#[test]
+fn puts_in_and_takes_out_rows_of_one_key(rt: HostRuntime) -> Result<(), Fail> {
+    let alloc = rt.alloc();
+    let mut index = empty_index(alloc)?;
+    let mut next = 2_u32;
+    let key = row_of(alloc, &[7])?;
+    for _ in 0..2 {
+        for row in 0..300_u32 {
+            assert!(rt; put(alloc, &mut index, &mut next, key.as_slice(), row, false)?);
+        }
+        assert_eq!(rt; all_rows(alloc, &index)?.len(), 300);
+        for row in 0..300_u32 {
+            let writes = remove(alloc, &index, node(2), key.as_slice(), at_page(16, row))?;
+            let _erased = lay_writes(&mut index.known, &writes)?;
+        }
+        assert!(rt; all_rows(alloc, &index)?.is_empty());
+    }
     Ok(())
 }
