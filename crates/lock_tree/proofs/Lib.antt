@@ -20,3 +20,7 @@ pub mod Exactness
 pub mod Getting
 pub mod Descending
 pub mod InWay
+pub mod Blockers
+pub mod Meeting
+pub mod NeedsInWay
+pub mod Ordered

@@ -5,3 +5,4 @@ pub mod Notices
 pub mod Forest
 pub mod Releasing
 pub mod Asking
+pub mod Order

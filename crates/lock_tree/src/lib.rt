@@ -5,6 +5,7 @@ mod asking;
 mod coming_down;
 mod ending;
 mod holding;
+mod laws;
 mod looking;
 mod notice;
 mod parties;
@@ -12,6 +13,7 @@ mod releasing;
 mod tree;
 mod way;
 
+pub use laws::waits_are_by_needs;
 pub use lock_needs::{Level, Need, Node};
 pub use notice::Demotion;
 pub use tree::Tree;

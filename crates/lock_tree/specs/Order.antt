@@ -1,0 +1,67 @@
+-- The order in which owners came to a node, and who waits for whom by needs.
+use Rattle.std.specs.Prelude.{◌≡◌, ℕ, Bool, true, false, not, ◌&&◌, ◌||◌, ◌==◌, if◌then◌else◌, Option, Some, None, List, [], ◌∷◌}
+use Rattle.std.specs.List.{list_all, list_any}
+use Rattle.rdb_types.specs.declared.node.Node.{Node}
+use Rattle.vms_queues.specs.declared.lock_mode.Mode.{Mode}
+use Rattle.vms_queues.specs.declared.lock_mode.Mode.TheVariants.{NL}
+use Rattle.vms_queues.specs.declared.held.Held.{Held}
+use Rattle.vms_queues.specs.Modes.{may_share, at_most}
+use Rattle.vms_queues.specs.Queues.{Queues, has_owner}
+use Rattle.vms_locks.specs.Table.{Table, queues_at}
+use Rattle.lock_needs.specs.declared.party.OpenWant.{OpenWant}
+use Rattle.lock_needs.specs.declared.party.Asked.{Asked}
+use Rattle.lock_needs.specs.declared.party.Party.{Party}
+use Rattle.lock_needs.specs.Nodes.{same_node}
+use Rattle.lock_needs.specs.Wants.{kept_at}
+use Rattle.lock_needs.specs.Waits.{converts_at, asked_before, waits_for}
+use Rattle.lock_tree.specs.LockTable.{granted_in, sought_in, granted_at, sought_at}
+use Rattle.lock_tree.specs.Parties.{IsKept, was_asked}
+
+-- of the entries of these two owners the first is one of the first owner
+abbrev pub stands_before : (first second : ℕ) → List Held → Bool
+stands_before first second [] = false
+stands_before first second (h ∷ hs) = if h.owner == first || h.owner == second then h.owner == first else stands_before first second hs
+
+-- no entry is of the mode that holds nothing
+abbrev pub all_used : List Held → Bool
+all_used hs = list_all (λ h. not (at_most h.mode NL)) hs
+
+-- The queues of a node stand in the order in which owners came there. `before` says who came before whom, `converts` who has
+-- a need there or below, so that it had a lock there when it came.
+pub record IsOrdered (before : ℕ → ℕ → Bool) (converts : ℕ → Bool) (q : Queues) : Type 0 where
+  pub granted_used : all_used q.granted ≡ true
+  pub converting_used : all_used q.converting ≡ true
+  pub waiting_used : all_used q.waiting ≡ true
+  pub converting : (u : ℕ) → has_owner u q.converting ≡ true → converts u ≡ true
+  -- who waits came after those that wait ahead of it
+  pub waiting : (u a : ℕ) → (u == a) ≡ false → has_owner a q.waiting ≡ true → stands_before u a q.waiting ≡ true → before u a ≡ true
+  -- and so did who asks what a lock stands in the way of, where its owner came for a want alone
+  pub granted : (u a : ℕ) → (u == a) ≡ false → has_owner u q.granted ≡ true → converts u ≡ false → may_share (granted_in u q) (sought_in a q) ≡ false → before u a ≡ true
+
+-- the owner's open want was asked at the node
+abbrev pub is_asked_at : Option OpenWant → Node → Bool
+is_asked_at None n = false
+is_asked_at (Some w) n = was_asked w n
+
+-- the list has an entry of the owner and the node
+abbrev pub is_listed : ℕ → Node → List Asked → Bool
+is_listed owner n asks = list_any (λ a. same_node a.node n && (a.owner == owner)) asks
+
+-- Whoever stands in the way at a node does so by what its owner must keep, and those that wait stand in the order of asking.
+pub record IsInOrder (t : Table) (party : ℕ → Party) (asks : List Asked) : Type 0 where
+  -- what stands in the way of what is asked is no more than what must be kept
+  pub least : (u a : ℕ) (n : Node) → (u == a) ≡ false → may_share (granted_at t u n) (sought_at t a n) ≡ false → may_share (kept_at (granted_at t u) (party u) n) (sought_at t a n) ≡ false
+  pub ordered : (n : Node) → IsOrdered (λ u a. asked_before u a n asks) (λ u. converts_at (party u).needs n) (queues_at t n)
+  pub listed : (u : ℕ) (n : Node) → is_listed u n asks ≡ is_asked_at (party u).opened n
+
+abbrev pub waits_with : List Asked → ℕ → Option OpenWant → ℕ → Party → Bool
+waits_with asks a None b p = false
+waits_with asks a (Some w) b p = waits_for asks a w.need b p
+
+-- the first owner's open want waits for the second owner by needs
+abbrev pub waits_by_needs : (ℕ → Party) → List Asked → ℕ → ℕ → Bool
+waits_by_needs party asks a b = waits_with asks a (party a).opened b (party b)
+
+-- what is true of all owners
+abbrev pub AreKept : Table → (ℕ → Party) → Type 0
+AreKept t party = (owner : ℕ) → IsKept t owner (party owner)
