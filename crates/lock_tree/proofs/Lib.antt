@@ -24,3 +24,4 @@ pub mod Blockers
 pub mod Meeting
 pub mod NeedsInWay
 pub mod Ordered
+pub mod OrderedRequests

@@ -65,3 +65,11 @@ waits_by_needs party asks a b = waits_with asks a (party a).opened b (party b)
 -- what is true of all owners
 abbrev pub AreKept : Table → (ℕ → Party) → Type 0
 AreKept t party = (owner : ℕ) → IsKept t owner (party owner)
+
+-- the queues of each node stand in order still, whoever came first there
+abbrev pub KeepsOrder : Table → Table → Type 0
+KeepsOrder old new = (before : Node → ℕ → ℕ → Bool) (converts : Node → ℕ → Bool) → ((n : Node) → IsOrdered (before n) (converts n) (queues_at old n)) → (n : Node) → IsOrdered (before n) (converts n) (queues_at new n)
+
+-- the owner's locks stand in the way of nothing that is asked but what they stood in the way of
+abbrev pub BarsNoMore : ℕ → Table → Table → Type 0
+BarsNoMore owner old new = (a : ℕ) (n : Node) → (owner == a) ≡ false → may_share (granted_at new owner n) (sought_at new a n) ≡ false → may_share (granted_at old owner n) (sought_at old a n) ≡ false
