@@ -25,3 +25,7 @@ pub mod Meeting
 pub mod NeedsInWay
 pub mod Ordered
 pub mod OrderedRequests
+pub mod Asks
+pub mod LeastInWay
+pub mod Arrivals
+pub mod AskedInOrder

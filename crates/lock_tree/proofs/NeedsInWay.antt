@@ -24,10 +24,11 @@ use Rattle.lock_needs.specs.Waits.{upper_of, converts_at, asked_before, holds_ag
 use Rattle.lock_needs.proofs.ModeTables.{at_most-shares}
 use Rattle.lock_needs.proofs.NodeLaws.{same_node-true, IsOn}
 use Rattle.lock_tree.specs.LockTable.{granted_in, sought_in, granted_at, sought_at, HasIntents}
-use Rattle.lock_tree.specs.Parties.{IsKeptBut, nowhere}
+use Rattle.lock_tree.specs.Parties.{IsKeptBut, nowhere, was_asked}
 use Rattle.lock_tree.specs.Order.{stands_before, IsOrdered, IsInOrder, AreKept, waits_with, waits_by_needs}
 use Rattle.lock_tree.proofs.QueueModes.{mode-absent}
 use Rattle.lock_tree.proofs.HeldModes.{nothing-shares, shares-in}
+use Rattle.lock_tree.proofs.OwnLocks.{asked-at_here}
 use Rattle.lock_tree.proofs.Blockers.{StandsInWay, stands-in_way}
 use Rattle.lock_tree.proofs.Meeting.{as-on, on-on, Meets, meets, covered-shares, other-part, Proves, some-below, some-on}
 
@@ -39,6 +40,7 @@ pub record IsAsleepAt (held sought : Holding) (p : Party) (n : Node) : Type 0 wh
   pub want : OpenWant
   pub opened : p.opened ≡ Some want
   pub here : n ≡ want.here
+  pub asked : was_asked want n ≡ true
   pub asks : sought n ≡ least_above (held n) (mode_for want.need n)
   pub on : IsOn n want.need.node
 
@@ -52,10 +54,12 @@ module _ (held sought : Holding) (p : Party) (n : Node) (k : IsKeptBut nowhere h
       elim (cases_Bool (sleeps_at held (Some w) n)) [
         | inr f ↦ absurd (differs (k.awake n (ap (λ (o : Option OpenWant). sleeps_at held o n) e ∙ f)))
         | inl s ↦
-            let here : n ≡ w.here = same_node-true n w.here (and_parts (same_node n w.here) (w.is_asked && not (at_most (mode_for w.need n) (held n))) s).0 in record {
+            let parts = and_parts (same_node n w.here) (w.is_asked && not (at_most (mode_for w.need n) (held n))) s in
+            let here : n ≡ w.here = same_node-true n w.here parts.0 in record {
               want = w;
               opened = e;
               here = here;
+              asked = asked-at_here w n parts.0 (and_parts w.is_asked (not (at_most (mode_for w.need n) (held n))) parts.1).0;
               asks = subst (λ (z : Node). sought z ≡ least_above (held z) (mode_for w.need z)) (sym here)
                   (k.asleep w e (subst (λ (z : Node). sleeps_at held (Some w) z ≡ true) here s));
               on = subst (λ (z : Node). IsOn z w.need.node) (sym here) (on-way p w k.way e);

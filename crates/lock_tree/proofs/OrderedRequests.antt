@@ -262,14 +262,17 @@ module _ (before : ℕ → ℕ → Bool) (converts : ℕ → Bool) where
 -- ---- the table
 
 module _ (old new : Table) (n : Node) (r : Queues) (changes : ChangesAt old new n r) where
-  -- the order of one node's queues is kept, and so is that of all
-  pub order-at : ((before : ℕ → ℕ → Bool) (converts : ℕ → Bool) → IsOrdered before converts (queues_at old n) → IsOrdered before converts r) → KeepsOrder old new
-  order-at f before converts all x =
+  -- the queues of this node stand in order, and so do those of the others still
+  pub order-there : (before : Node → ℕ → ℕ → Bool) (converts : Node → ℕ → Bool) → ((x : Node) → IsOrdered (before x) (converts x) (queues_at old x)) → IsOrdered (before n) (converts n) r → (x : Node) → IsOrdered (before x) (converts x) (queues_at new x)
+  order-there before converts all k x =
       elim (cases_Bool (same_node n x)) [
         | inl s ↦ subst (λ (z : Node). IsOrdered (before z) (converts z) (queues_at new z)) (same_node-true n x s)
-            (subst (IsOrdered (before n) (converts n)) (sym (changed-here old new n r changes)) (f (before n) (converts n) (all n)))
+            (subst (IsOrdered (before n) (converts n)) (sym (changed-here old new n r changes)) k)
         | inr d ↦ subst (IsOrdered (before x) (converts x)) (sym (changed-elsewhere old new n r x changes d)) (all x)
       ]
+
+  pub order-at : ((before : ℕ → ℕ → Bool) (converts : ℕ → Bool) → IsOrdered before converts (queues_at old n) → IsOrdered before converts r) → KeepsOrder old new
+  order-at f before converts all = order-there before converts all (f (before n) (converts n) (all n))
 
 module _ (old new : Table) (owner : ℕ) (n : Node) (live : IsLive (queues_at old)) where
   pub weakened-order : (mode held : Mode) → mode_in owner (queues_at old n).granted ≡ Some held → at_most mode held ≡ true → at_most mode NL ≡ false → sought_at old owner n ≡ granted_at old owner n

@@ -1,6 +1,6 @@
 -- The order in which owners came to a node, and who waits for whom by needs.
-use Rattle.std.specs.Prelude.{◌≡◌, ℕ, Bool, true, false, not, ◌&&◌, ◌||◌, ◌==◌, if◌then◌else◌, Option, Some, None, List, [], ◌∷◌}
-use Rattle.std.specs.List.{list_all, list_any}
+use Rattle.std.specs.Prelude.{◌≡◌, ℕ, Bool, true, false, not, ◌&&◌, ◌||◌, ◌==◌, if◌then◌else◌, Option, Some, None, List, [], ◌∷◌, ◌++◌}
+use Rattle.std.specs.List.{list_all, list_any, filter}
 use Rattle.rdb_types.specs.declared.node.Node.{Node}
 use Rattle.vms_queues.specs.declared.lock_mode.Mode.{Mode}
 use Rattle.vms_queues.specs.declared.lock_mode.Mode.TheVariants.{NL}
@@ -8,6 +8,7 @@ use Rattle.vms_queues.specs.declared.held.Held.{Held}
 use Rattle.vms_queues.specs.Modes.{may_share, at_most}
 use Rattle.vms_queues.specs.Queues.{Queues, has_owner}
 use Rattle.vms_locks.specs.Table.{Table, queues_at}
+use Rattle.vms_locks.specs.Answers.{Request, asking, converting}
 use Rattle.lock_needs.specs.declared.party.OpenWant.{OpenWant}
 use Rattle.lock_needs.specs.declared.party.Asked.{Asked}
 use Rattle.lock_needs.specs.declared.party.Party.{Party}
@@ -73,3 +74,19 @@ KeepsOrder old new = (before : Node → ℕ → ℕ → Bool) (converts : Node �
 -- the owner's locks stand in the way of nothing that is asked but what they stood in the way of
 abbrev pub BarsNoMore : ℕ → Table → Table → Type 0
 BarsNoMore owner old new = (a : ℕ) (n : Node) → (owner == a) ≡ false → may_share (granted_at new owner n) (sought_at new a n) ≡ false → may_share (granted_at old owner n) (sought_at old a n) ≡ false
+
+-- the owner was asked at the node last of all
+abbrev pub asked_last : List Asked → ℕ → Node → List Asked
+asked_last asks owner n = asks ++ (record { owner = owner; node = n }) ∷ []
+
+-- the entries of the others
+abbrev pub without_asks : ℕ → List Asked → List Asked
+without_asks owner asks = filter (λ a. not (a.owner == owner)) asks
+
+-- a request of an owner that has nothing queued: a conversion where it has a lock
+abbrev pub requesting : Queues → ℕ → Mode → Request
+requesting q owner mode = if has_owner owner q.granted then converting q owner mode else asking q owner mode
+
+-- each other's party is as it was
+abbrev pub KeepsParty : ℕ → (ℕ → Party) → (ℕ → Party) → Type 0
+KeepsParty owner old new = (u : ℕ) → (u == owner) ≡ false → new u ≡ old u
