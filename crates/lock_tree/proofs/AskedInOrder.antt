@@ -26,7 +26,7 @@ use Rattle.lock_needs.proofs.Growing.{join-more, kept-more}
 use Rattle.lock_needs.proofs.Joins.{nothing}
 use Rattle.lock_tree.specs.LockTable.{granted_in, sought_in, granted_at, sought_at, AllShare, HasIntents, RaisedAt, QueuedAt}
 use Rattle.lock_tree.specs.Parties.{IsKeptBut, IsKept, nowhere, wanting, unasked, asked_at, was_asked}
-use Rattle.lock_tree.specs.Order.{stands_before, IsOrdered, IsInOrder, AreKept, KeepsParty, is_asked_at, is_listed, asked_last, requesting}
+use Rattle.lock_tree.specs.Order.{stands_before, IsOrdered, IsInOrder, AreKept, KeepsParty, is_asked_at, is_listed, asked_last, requesting, NoneInExcess}
 use Rattle.lock_tree.proofs.HeldModes.{option-cases, mode-has_owner, no-mode_absent}
 use Rattle.lock_tree.proofs.QueueModes.{mode-absent}
 use Rattle.lock_tree.proofs.Changes.{quiet-at, queued-at, shares-live, changed-request, changed-conversion}
@@ -65,10 +65,10 @@ module _ (old : Table) (party : ℕ → Party) (asks : List Asked) (live : IsLiv
   pub own-quiet : (x : Node) → sought_at old o x ≡ granted_at old o x
   own-quiet x = own-kept.awake x (and-none (same_node x w.here))
 
-  unqueued : is_queued o here ≡ false
+  pub unqueued : is_queued o here ≡ false
   unqueued = quiet-at old old o w.here live (own-quiet w.here)
 
-  no-conversion : has_owner o here.converting ≡ false
+  pub no-conversion : has_owner o here.converting ≡ false
   no-conversion = (or_parts (has_owner o here.converting) (has_owner o here.waiting) unqueued).0
 
   mode-real : at_most mode NL ≡ false
@@ -199,7 +199,7 @@ module _ (old : Table) (party : ℕ → Party) (asks : List Asked) (live : IsLiv
 
     -- ---- the request is queued
 
-    module _ (new : Table) (changes : ChangesAt old new w.here (requesting here o mode).queued) (due : (u : ℕ) → (u == o) ≡ false → may_share (granted_at old u w.here) mode ≡ false → is_excess (granted_at old u w.here) (kept_at (granted_at old u) (party u) w.here) ≡ false) where
+    module _ (new : Table) (changes : ChangesAt old new w.here (requesting here o mode).queued) (due : NoneInExcess old party o w.here mode) where
       queued-here : IsOrdered (came w.here) (has_need w.here) (requesting here o mode).queued
       queued-here = elim (cases_Bool (has_owner o here.granted)) [
         | inl t ↦ subst (λ (b : Bool). IsOrdered (came w.here) (has_need w.here) (if b then converting here o mode else asking here o mode).queued) (sym t)

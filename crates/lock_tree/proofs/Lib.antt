@@ -29,3 +29,5 @@ pub mod Asks
 pub mod LeastInWay
 pub mod Arrivals
 pub mod AskedInOrder
+pub mod Refusals
+pub mod WayMade

@@ -1,5 +1,5 @@
 -- The order in which owners came to a node, and who waits for whom by needs.
-use Rattle.std.specs.Prelude.{◌≡◌, ℕ, Bool, true, false, not, ◌&&◌, ◌||◌, ◌==◌, if◌then◌else◌, Option, Some, None, List, [], ◌∷◌, ◌++◌}
+use Rattle.std.specs.Prelude.{◌≡◌, ℕ, Bool, true, false, not, ◌&&◌, ◌||◌, ◌==◌, if◌then◌else◌, Option, Some, None, List, [], ◌∷◌, ◌++◌, ◌⊎◌}
 use Rattle.std.specs.List.{list_all, list_any, filter}
 use Rattle.rdb_types.specs.declared.node.Node.{Node}
 use Rattle.vms_queues.specs.declared.lock_mode.Mode.{Mode}
@@ -8,11 +8,15 @@ use Rattle.vms_queues.specs.declared.held.Held.{Held}
 use Rattle.vms_queues.specs.Modes.{may_share, at_most}
 use Rattle.vms_queues.specs.Queues.{Queues, has_owner}
 use Rattle.vms_locks.specs.Table.{Table, queues_at}
+use Rattle.vms_locks.specs.declared.answer.Enq.{Enq}
+use Rattle.vms_locks.specs.declared.answer.Enq.TheVariants.{Granted, Asleep, NotQueued, Deadlock}
 use Rattle.vms_locks.specs.Answers.{Request, asking, converting}
+use Rattle.vms_locks.specs.Walks.{IsCycle}
 use Rattle.lock_needs.specs.declared.party.OpenWant.{OpenWant}
 use Rattle.lock_needs.specs.declared.party.Asked.{Asked}
 use Rattle.lock_needs.specs.declared.party.Party.{Party}
 use Rattle.lock_needs.specs.Nodes.{same_node}
+use Rattle.lock_needs.specs.Keeping.{is_excess}
 use Rattle.lock_needs.specs.Wants.{kept_at}
 use Rattle.lock_needs.specs.Waits.{converts_at, asked_before, waits_for}
 use Rattle.lock_tree.specs.LockTable.{granted_in, sought_in, granted_at, sought_at}
@@ -48,10 +52,13 @@ is_asked_at (Some w) n = was_asked w n
 abbrev pub is_listed : ℕ → Node → List Asked → Bool
 is_listed owner n asks = list_any (λ a. same_node a.node n && (a.owner == owner)) asks
 
--- Whoever stands in the way at a node does so by what its owner must keep, and those that wait stand in the order of asking.
+-- Where the owner's lock stands in the way of what another asks, what it must keep there does so too.
+abbrev pub StandsByNeeds : Table → ℕ → Party → Type 0
+StandsByNeeds t u p = (a : ℕ) (n : Node) → (u == a) ≡ false → may_share (granted_at t u n) (sought_at t a n) ≡ false → may_share (kept_at (granted_at t u) p n) (sought_at t a n) ≡ false
+
+-- Whoever stands in the way at a node does so by what it must keep, and those that wait stand in the order of asking.
 pub record IsInOrder (t : Table) (party : ℕ → Party) (asks : List Asked) : Type 0 where
-  -- what stands in the way of what is asked is no more than what must be kept
-  pub least : (u a : ℕ) (n : Node) → (u == a) ≡ false → may_share (granted_at t u n) (sought_at t a n) ≡ false → may_share (kept_at (granted_at t u) (party u) n) (sought_at t a n) ≡ false
+  pub least : (u : ℕ) → StandsByNeeds t u (party u)
   pub ordered : (n : Node) → IsOrdered (λ u a. asked_before u a n asks) (λ u. converts_at (party u).needs n) (queues_at t n)
   pub listed : (u : ℕ) (n : Node) → is_listed u n asks ≡ is_asked_at (party u).opened n
 
@@ -71,9 +78,16 @@ AreKept t party = (owner : ℕ) → IsKept t owner (party owner)
 abbrev pub KeepsOrder : Table → Table → Type 0
 KeepsOrder old new = (before : Node → ℕ → ℕ → Bool) (converts : Node → ℕ → Bool) → ((n : Node) → IsOrdered (before n) (converts n) (queues_at old n)) → (n : Node) → IsOrdered (before n) (converts n) (queues_at new n)
 
--- the owner's locks stand in the way of nothing that is asked but what they stood in the way of
-abbrev pub BarsNoMore : ℕ → Table → Table → Type 0
-BarsNoMore owner old new = (a : ℕ) (n : Node) → (owner == a) ≡ false → may_share (granted_at new owner n) (sought_at new a n) ≡ false → may_share (granted_at old owner n) (sought_at old a n) ≡ false
+-- The owner's locks came down or were taken where they stand in nobody's way, or a request of it left its queue. Others may have
+-- been granted what they asked.
+pub record MakesWay (owner : ℕ) (old new : Table) : Type 0 where
+  pub order : KeepsOrder old new
+  -- its locks stand in the way of nothing that is asked but what they stood in the way of
+  pub bars : (a : ℕ) (n : Node) → (owner == a) ≡ false → may_share (granted_at new owner n) (sought_at new a n) ≡ false → may_share (granted_at old owner n) (sought_at old a n) ≡ false
+  pub quiet : (n : Node) → sought_at old owner n ≡ granted_at old owner n → sought_at new owner n ≡ granted_at new owner n
+  pub asks : (n : Node) → (sought_at new owner n ≡ granted_at new owner n) ⊎ (sought_at new owner n ≡ sought_at old owner n)
+  pub sought : (u : ℕ) (n : Node) → (u == owner) ≡ false → sought_at new u n ≡ sought_at old u n
+  pub granted : (u : ℕ) (n : Node) → (u == owner) ≡ false → (granted_at new u n ≡ granted_at old u n) ⊎ (granted_at new u n ≡ sought_at old u n)
 
 -- the owner was asked at the node last of all
 abbrev pub asked_last : List Asked → ℕ → Node → List Asked
@@ -90,3 +104,14 @@ requesting q owner mode = if has_owner owner q.granted then converting q owner m
 -- each other's party is as it was
 abbrev pub KeepsParty : ℕ → (ℕ → Party) → (ℕ → Party) → Type 0
 KeepsParty owner old new = (u : ℕ) → (u == owner) ≡ false → new u ≡ old u
+
+-- The owner waits by needs for whom a refusal names; so does each of those that a deadlock names for the next.
+abbrev pub RefusesByNeeds : (ℕ → Party) → List Asked → ℕ → Enq → Type 0
+RefusesByNeeds party asks owner Granted = Unit {0}
+RefusesByNeeds party asks owner Asleep = Unit {0}
+RefusesByNeeds party asks owner (NotQueued blocker) = waits_by_needs party asks owner blocker ≡ true
+RefusesByNeeds party asks owner (Deadlock cycle) = IsCycle (λ a b. waits_by_needs party asks a b ≡ true) owner cycle
+
+-- nobody else who stands in the way of the mode at the node has a stronger lock there than it has to have
+abbrev pub NoneInExcess : Table → (ℕ → Party) → ℕ → Node → Mode → Type 0
+NoneInExcess t party owner n mode = (u : ℕ) → (u == owner) ≡ false → may_share (granted_at t u n) mode ≡ false → is_excess (granted_at t u n) (kept_at (granted_at t u) (party u) n) ≡ false
