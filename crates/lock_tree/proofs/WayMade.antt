@@ -1,27 +1,49 @@
 -- What an owner's making way leaves of the order.
 use Rattle.std.proofs.Common.{◌≡◌, ℕ, Bool, true, false, refl, sym, ◌∙◌, ap, subst, ◌⊎◌, inl, inr, List}
 use Rattle.std.specs.Prelude.{◌&&◌, ◌||◌, ◌==◌, not, if◌then◌else◌, Option, Some, None}
-use Rattle.std.proofs.lemmas.Bool.{false≢true, cases_Bool, eq-eqb, eqb-true, and_parts, and_from}
+use Rattle.std.proofs.lemmas.Bool.{false≢true, cases_Bool, eq-eqb, eqb-true, and_parts, and_from, or_parts}
 use Rattle.rdb_types.specs.declared.node.Node.{Node}
 use Rattle.vms_queues.specs.declared.lock_mode.Mode.{Mode}
 use Rattle.vms_queues.specs.declared.lock_mode.Mode.TheVariants.{NL, CR, CW, PR, PW, EX}
-use Rattle.vms_queues.specs.Modes.{may_share, at_most}
+use Rattle.vms_queues.specs.contracts.lock_mode.ModePartialEq.TheImpl as mode_eq
+use Rattle.vms_queues.specs.Modes.{may_share, at_most, least_above}
 use Rattle.vms_locks.specs.Table.{Table, queues_at, IsLive}
 use Rattle.lock_needs.specs.declared.party.OpenWant.{OpenWant}
 use Rattle.lock_needs.specs.declared.party.Asked.{Asked}
 use Rattle.lock_needs.specs.declared.party.Party.{Party}
+use Rattle.lock_needs.specs.declared.need.Need.{Need}
 use Rattle.lock_needs.specs.Nodes.{same_node}
+use Rattle.lock_needs.specs.Needs.{Holding, is_covered, covered_above}
 use Rattle.lock_needs.specs.Wants.{kept_at}
-use Rattle.lock_needs.proofs.ModeTables.{at_most-refl, at_most-shares}
+use Rattle.lock_needs.proofs.ModeTables.{at_most-refl, at_most-trans, join-right}
 use Rattle.lock_needs.proofs.NodeLaws.{same_node-true}
 use Rattle.lock_needs.proofs.Growing.{kept-more}
-use Rattle.lock_needs.proofs.Joins.{at_most-both}
+use Rattle.lock_needs.proofs.Joins.{at_most-both, nothing}
 use Rattle.lock_tree.specs.LockTable.{granted_at, sought_at, AllShare, BarsNobody, RaisedAt, LoweredAt}
 use Rattle.lock_tree.specs.Parties.{IsKept}
 use Rattle.lock_tree.specs.Order.{IsInOrder, AreKept, KeepsOrder, MakesWay, StandsByNeeds}
 use Rattle.lock_tree.proofs.Ordered.{flip}
 use Rattle.lock_tree.proofs.LeastInWay.{shut-more}
 use Rattle.lock_tree.proofs.NeedsInWay.{IsAsleepAt, asleep-at}
+
+-- the mode that `==` says isn't NL
+pub something-mode : (m : Mode) → (mode_eq.ghosts).eq m NL ≡ false → at_most m NL ≡ false
+something-mode NL e = absurd (false≢true (sym e))
+something-mode CR e = refl
+something-mode CW e = refl
+something-mode PR e = refl
+something-mode PW e = refl
+something-mode EX e = refl
+
+-- a need that isn't covered is for something, and so is what joins it
+pub taken-used : (held : Holding) (w : Need) (h m : Mode) → is_covered held w ≡ false → m ≡ least_above h w.mode → at_most m NL ≡ false
+taken-used held w h m bare is = elim (cases_Bool (at_most m NL)) [
+  | inr f ↦ f
+  | inl t ↦ absurd (false≢true
+      (sym (or_parts (at_most w.mode (held w.node)) (covered_above held w) bare).0
+      ∙ at_most-trans w.mode NL (held w.node)
+      (at_most-trans w.mode m NL (subst (λ (y : Mode). at_most w.mode y ≡ true) (sym is) (join-right h w.mode)) t) (nothing (held w.node))))
+]
 
 -- nothing changes
 pub way-none : (owner : ℕ) (t : Table) → MakesWay owner t t
@@ -163,9 +185,9 @@ module _ (owner : ℕ) (old new : Table) (way : MakesWay owner old new) (shares 
         | inr f ↦ inr (λ e. false≢true (sym f ∙ subst (λ (y : Mode). (at_most a y && at_most y a) ≡ true) e (and_from (at_most a a) (at_most a a) (at_most-refl a) (at_most-refl a))))
       ]
 
-  -- the owner itself, where it must keep no less
-  pub way-own : (p q : Party) → ((n : Node) → at_most (kept_at (granted_at old owner) p n) (kept_at (granted_at new owner) q n) ≡ true) → StandsByNeeds old owner p → StandsByNeeds new owner q
-  way-own p q more least a n d f =
-      let same : sought_at new a n ≡ sought_at old a n = asked-before owner a n d f in
-      subst (λ (y : Mode). may_share (kept_at (granted_at new owner) q n) y ≡ false) (sym same)
-      (shut-more (kept_at (granted_at old owner) p n) (kept_at (granted_at new owner) q n) (sought_at old a n) (more n) (least a n d (way.bars a n d f)))
+-- the owner itself, where it must keep no less
+pub way-own : (owner : ℕ) (old new : Table) → MakesWay owner old new → (p q : Party) → ((n : Node) → at_most (kept_at (granted_at old owner) p n) (kept_at (granted_at new owner) q n) ≡ true) → StandsByNeeds old owner p → StandsByNeeds new owner q
+way-own owner old new way p q more least a n d f =
+    let same : sought_at new a n ≡ sought_at old a n = way.sought a n (flip owner a d) in
+    subst (λ (y : Mode). may_share (kept_at (granted_at new owner) q n) y ≡ false) (sym same)
+    (shut-more (kept_at (granted_at old owner) p n) (kept_at (granted_at new owner) q n) (sought_at old a n) (more n) (least a n d (way.bars a n d f)))
