@@ -31,3 +31,4 @@ pub mod Arrivals
 pub mod AskedInOrder
 pub mod Refusals
 pub mod WayMade
+pub mod ServedInOrder

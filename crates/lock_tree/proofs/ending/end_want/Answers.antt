@@ -1,6 +1,8 @@
 use Rattle.std.proofs.Common.{sym, ◌∙◌}
 use Rattle.lock_tree.proofs.Leaving.{climbed, closed, up-quiet}
 use Rattle.lock_tree.specs.LockTable.{granted_at, sought_at}
+use Rattle.lock_tree.proofs.WayMade.{way-then}
+use Rattle.lock_tree.proofs.ServedInOrder.{stands-climbed, stands-closed}
 use Rattle.lock_tree.proofs.ending.end_want.Goals as goal
 
 pub returns-in_default-clause-others : goal.returns-in_default-clause-others
@@ -19,4 +21,29 @@ loop-up-preserved c = (
   climbed (granted_at c.leave_node.new.locks c.args.owner) (sought_at c.leave_node.new.locks c.args.owner) c.args.needs.now c.loop-up.left c.in-Some.up (sym c.node_above.ensures ∙ c.in-Some.is) c.in-Ok.ensures.left c.in-Ok.ensures.left.way,
   up-quiet c.leave_node.new.locks c.args.owner c.args.needs.now c.loop-up.left c.in-Some.up c.in-Ok.ensures.left,
   λ u q d k. c.leave_node.ensures.others u q d (c.loop-up.invariant.3 u q d k),
+  way-then c.args.owner c.args.locks.now c.loop-up.locks c.leave_node.new.locks c.loop-up.invariant.4 c.leave_node.ensures.way,
+  λ s. stands-climbed c.leave_node.new.locks c.args.owner c.args.needs.now c.loop-up.left c.in-Some.up (sym c.node_above.ensures ∙ c.in-Some.is) c.in-Ok.ensures.left (c.in-Ok.ensures.leaves (c.loop-up.invariant.5 s)),
+)
+
+pub returns-in_default-clause-way : goal.returns-in_default-clause-way
+returns-in_default-clause-way c = way-then c.args.owner c.args.locks.now c.loop-up.locks c.leave_node.new.locks c.loop-up.invariant.4 c.leave_node.ensures.way
+
+pub returns-in_default-node_above-clause-way : goal.returns-in_default-node_above-clause-way
+returns-in_default-node_above-clause-way c = way-then c.args.owner c.args.locks.now c.loop-up.locks c.leave_node.new.locks c.loop-up.invariant.4 c.leave_node.ensures.way
+
+pub returns-in_default-node_above-clause-rests : goal.returns-in_default-node_above-clause-rests
+returns-in_default-node_above-clause-rests c = λ s.
+    stands-closed c.leave_node.new.locks c.args.owner c.args.needs.now c.loop-up.left (sym c.node_above.ensures ∙ c.in_default-node_above.is) (c.in-Ok.ensures.leaves (c.loop-up.invariant.5 s))
+
+pub returns-in_default-clause-stays : goal.returns-in_default-clause-stays
+returns-in_default-clause-stays c = λ s. c.in_default.ensures.stays (c.loop-up.invariant.5 s)
+
+pub loop-up-init : goal.loop-up-init
+loop-up-init c = (
+  c.stop_asking-left.ensures.intents,
+  (c.stop_asking-left.ensures.kept c.args.needs.now c.requires.kept).0,
+  (c.stop_asking-left.ensures.kept c.args.needs.now c.requires.kept).1,
+  c.stop_asking-left.ensures.others,
+  c.stop_asking-left.ensures.way,
+  c.stop_asking-left.ensures.stands_still c.args.needs.now,
 )
