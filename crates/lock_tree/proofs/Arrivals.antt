@@ -19,7 +19,7 @@ use Rattle.lock_needs.specs.Wants.{mode_for, has_granted, opened_at}
 use Rattle.lock_needs.specs.Waits.{converts_at}
 use Rattle.lock_tree.specs.LockTable.{granted_in, sought_in, granted_at, sought_at}
 use Rattle.lock_tree.specs.Parties.{IsKeptBut, IsKept, HasReason, nowhere, was_asked}
-use Rattle.lock_tree.specs.Order.{all_used, IsOrdered, is_asked_at}
+use Rattle.lock_tree.specs.Order.{all_used, IsOrdered, asked_of_want}
 use Rattle.lock_tree.proofs.QueueModes.{mode-absent}
 use Rattle.lock_tree.proofs.HeldModes.{option-cases, one-mode, no-mode_absent}
 use Rattle.lock_tree.proofs.Blockers.{sought-waited}
@@ -43,7 +43,7 @@ mode-of u hs h =
     ]
 
 -- what an open want was granted it was asked
-pub granted-asked : (held : Holding) (o : Option OpenWant) (n : Node) → at_most (opened_at held o n) NL ≡ false → is_asked_at o n ≡ true
+pub granted-asked : (held : Holding) (o : Option OpenWant) (n : Node) → at_most (opened_at held o n) NL ≡ false → asked_of_want o n ≡ true
 granted-asked held None n f = absurd (false≢true (sym f))
 granted-asked held (Some w) n f =
     elim (cases_Bool (has_granted held w n)) [
@@ -58,7 +58,7 @@ granted-asked held (Some w) n f =
     ]
 
 module _ (t : Table) (u : ℕ) (p : Party) (n : Node) (k : IsKept t u p) where
-  pub holder-came : all_used (queues_at t n).granted ≡ true → has_owner u (queues_at t n).granted ≡ true → converts_at p.needs n ≡ false → is_asked_at p.opened n ≡ true
+  pub holder-came : all_used (queues_at t n).granted ≡ true → has_owner u (queues_at t n).granted ≡ true → converts_at p.needs n ≡ false → asked_of_want p.opened n ≡ true
   holder-came used has none =
       let m = mode-of u (queues_at t n).granted has in
       let held : granted_at t u n ≡ m.0 = ap (λ (x : Option Mode). unwrap_or x NL) m.1 in
@@ -70,12 +70,12 @@ module _ (t : Table) (u : ℕ) (p : Party) (n : Node) (k : IsKept t u p) where
         ]
       ]
 
-  pub asleep-came : (sought_at t u n ≡ granted_at t u n → ⊥) → is_asked_at p.opened n ≡ true
+  pub asleep-came : (sought_at t u n ≡ granted_at t u n → ⊥) → asked_of_want p.opened n ≡ true
   asleep-came differs =
       let w = asleep-at (granted_at t u) (sought_at t u) p n k differs in
-      ap (λ (o : Option OpenWant). is_asked_at o n) w.opened ∙ w.asked
+      ap (λ (o : Option OpenWant). asked_of_want o n) w.opened ∙ w.asked
 
-  pub waiter-came : IsSound (queues_at t n) → all_used (queues_at t n).waiting ≡ true → has_owner u (queues_at t n).waiting ≡ true → is_asked_at p.opened n ≡ true
+  pub waiter-came : IsSound (queues_at t n) → all_used (queues_at t n).waiting ≡ true → has_owner u (queues_at t n).waiting ≡ true → asked_of_want p.opened n ≡ true
   waiter-came sound used has =
       let q : Queues = queues_at t n in
       let m = mode-of u q.waiting has in

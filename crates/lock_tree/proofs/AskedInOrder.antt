@@ -26,7 +26,7 @@ use Rattle.lock_needs.proofs.Growing.{join-more, kept-more}
 use Rattle.lock_needs.proofs.Joins.{nothing}
 use Rattle.lock_tree.specs.LockTable.{granted_in, sought_in, granted_at, sought_at, AllShare, HasIntents, RaisedAt, QueuedAt}
 use Rattle.lock_tree.specs.Parties.{IsKeptBut, IsKept, nowhere, wanting, unasked, asked_at, was_asked}
-use Rattle.lock_tree.specs.Order.{stands_before, IsOrdered, IsInOrder, AreKept, KeepsParty, is_asked_at, is_listed, asked_last, requesting, NoneInExcess}
+use Rattle.lock_tree.specs.Order.{stands_before, IsOrdered, IsInOrder, AreKept, KeepsParty, asked_of_want, is_listed, asked_last, requesting, NoneInExcess}
 use Rattle.lock_tree.proofs.HeldModes.{option-cases, mode-has_owner, no-mode_absent}
 use Rattle.lock_tree.proofs.QueueModes.{mode-absent}
 use Rattle.lock_tree.proofs.Changes.{quiet-at, queued-at, shares-live, changed-request, changed-conversion}
@@ -78,14 +78,14 @@ module _ (old : Table) (party : ℕ → Party) (asks : List Asked) (live : IsLiv
   ]
 
   -- it wasn't asked at the node yet
-  not-come : is_asked_at (Some (unasked w)) w.here ≡ false
+  not-come : asked_of_want (Some (unasked w)) w.here ≡ false
   not-come = ap (λ (b : Bool). b || (same_node w.here w.here && false)) (self w.here) ∙ and-none (same_node w.here w.here)
     where
       self : (n : Node) → contains n n ≡ false
       self n = elim (cases_Bool (contains n n)) [ inr f ↦ f | inl t ↦ absurd (false≢true (sym (contains-self n n t) ∙ same_node-refl n)) ]
 
   not-listed : is_listed o w.here asks ≡ false
-  not-listed = order.listed o w.here ∙ (ap (λ (p : Party). is_asked_at p.opened w.here) own ∙ not-come)
+  not-listed = order.listed o w.here ∙ (ap (λ (p : Party). asked_of_want p.opened w.here) own ∙ not-come)
 
   -- who has a lock there has a need there or below
   own-converts : has_owner o here.granted ≡ true → converts_at ws w.here ≡ true
@@ -136,17 +136,17 @@ module _ (old : Table) (party : ℕ → Party) (asks : List Asked) (live : IsLiv
           (ap (λ (p : Party). converts_at p.needs x) asked ∙ sym (ap (λ (p : Party). converts_at p.needs x) own))
     ]
 
-    pub next-listed : (u : ℕ) (x : Node) → is_listed u x (asked_last asks o w.here) ≡ is_asked_at (next u).opened x
+    pub next-listed : (u : ℕ) (x : Node) → is_listed u x (asked_last asks o w.here) ≡ asked_of_want (next u).opened x
     next-listed u x = elim (cases_Bool (u == o)) [
       | inr d ↦ listed-last u o w.here x asks
           ∙ (ap (λ (b : Bool). is_listed u x asks || (same_node w.here x && b)) (flip u o d)
-          ∙ (off (is_listed u x asks) (same_node w.here x) ∙ (order.listed u x ∙ sym (ap (λ (p : Party). is_asked_at p.opened x) (others u d)))))
-      | inl e ↦ subst (λ (z : ℕ). is_listed z x (asked_last asks o w.here) ≡ is_asked_at (next z).opened x) (sym (eqb-true u o e))
+          ∙ (off (is_listed u x asks) (same_node w.here x) ∙ (order.listed u x ∙ sym (ap (λ (p : Party). asked_of_want p.opened x) (others u d)))))
+      | inl e ↦ subst (λ (z : ℕ). is_listed z x (asked_last asks o w.here) ≡ asked_of_want (next z).opened x) (sym (eqb-true u o e))
           (listed-last o o w.here x asks
           ∙ (ap (λ (b : Bool). is_listed o x asks || (same_node w.here x && b)) (eq-eqb o o refl)
-          ∙ (ap (λ (b : Bool). b || (same_node w.here x && true)) (order.listed o x ∙ ap (λ (p : Party). is_asked_at p.opened x) own)
+          ∙ (ap (λ (b : Bool). b || (same_node w.here x && true)) (order.listed o x ∙ ap (λ (p : Party). asked_of_want p.opened x) own)
           ∙ (ap (λ (b : Bool). (contains x w.here || (same_node x w.here && false)) || (b && true)) (turned x)
-          ∙ (joined (contains x w.here) (same_node x w.here) ∙ sym (ap (λ (p : Party). is_asked_at p.opened x) asked))))))
+          ∙ (joined (contains x w.here) (same_node x w.here) ∙ sym (ap (λ (p : Party). asked_of_want p.opened x) asked))))))
     ]
       where
         off : (a b : Bool) → (a || (b && false)) ≡ a

@@ -32,3 +32,4 @@ pub mod AskedInOrder
 pub mod Refusals
 pub mod WayMade
 pub mod ServedInOrder
+pub mod StepsInOrder

@@ -44,9 +44,9 @@ pub record IsOrdered (before : ℕ → ℕ → Bool) (converts : ℕ → Bool) (
   pub granted : (u a : ℕ) → (u == a) ≡ false → has_owner u q.granted ≡ true → converts u ≡ false → may_share (granted_in u q) (sought_in a q) ≡ false → before u a ≡ true
 
 -- the owner's open want was asked at the node
-abbrev pub is_asked_at : Option OpenWant → Node → Bool
-is_asked_at None n = false
-is_asked_at (Some w) n = was_asked w n
+abbrev pub asked_of_want : Option OpenWant → Node → Bool
+asked_of_want None n = false
+asked_of_want (Some w) n = was_asked w n
 
 -- the list has an entry of the owner and the node
 abbrev pub is_listed : ℕ → Node → List Asked → Bool
@@ -60,7 +60,7 @@ StandsByNeeds t u p = (a : ℕ) (n : Node) → (u == a) ≡ false → may_share 
 pub record IsInOrder (t : Table) (party : ℕ → Party) (asks : List Asked) : Type 0 where
   pub least : (u : ℕ) → StandsByNeeds t u (party u)
   pub ordered : (n : Node) → IsOrdered (λ u a. asked_before u a n asks) (λ u. converts_at (party u).needs n) (queues_at t n)
-  pub listed : (u : ℕ) (n : Node) → is_listed u n asks ≡ is_asked_at (party u).opened n
+  pub listed : (u : ℕ) (n : Node) → is_listed u n asks ≡ asked_of_want (party u).opened n
 
 abbrev pub waits_with : List Asked → ℕ → Option OpenWant → ℕ → Party → Bool
 waits_with asks a None b p = false
