@@ -33,3 +33,4 @@ pub mod Refusals
 pub mod WayMade
 pub mod ServedInOrder
 pub mod StepsInOrder
+pub mod AnsweredInOrder

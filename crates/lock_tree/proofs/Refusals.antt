@@ -28,7 +28,7 @@ use Rattle.lock_needs.specs.Wants.{mode_for, kept_at}
 use Rattle.lock_needs.proofs.NodeLaws.{same_node-true, same_node-refl, same_node-sym}
 use Rattle.lock_tree.specs.LockTable.{granted_at, sought_at, HasIntents}
 use Rattle.lock_tree.specs.Parties.{IsKept, KeepsOthers, wanting, unasked, asked_at}
-use Rattle.lock_tree.specs.Order.{IsInOrder, AreKept, KeepsParty, asked_last, requesting, waits_by_needs, RefusesByNeeds, NoneInExcess}
+use Rattle.lock_tree.specs.Order.{IsInOrder, AreKept, KeepsParty, asked_last, requesting, waits_by_needs, NoneInExcess}
 use Rattle.lock_tree.proofs.QueueModes.{mode-absent}
 use Rattle.lock_tree.proofs.Changes.{quiet-at}
 use Rattle.lock_tree.proofs.Conditions.{absent-quiet}
@@ -164,13 +164,12 @@ module _ (old : Table) (party : ℕ → Party) (asks : List Asked) (live : IsLiv
         let changes : ChangesAt old (with_queues old w.here q) w.here q = with-changes old w.here q in
         queued-needed (with_queues old w.here q) changes due a b (h.0, subst (λ (r : Queues). waits r a b ≡ true) (sym (changes h.0)) h.1)
 
-    pub refused-by_needs : (new : Table) (wait : Bool) (answer : Enq) → Answers old new o w.here wait (requesting here o mode) answer → RefusesByNeeds next (asked_last asks o w.here) o answer
-    refused-by_needs new wait Granted h = tt
-    refused-by_needs new wait Asleep h = tt
-    refused-by_needs new wait (NotQueued b) h =
+    pub refused-first : (b : ℕ) → first_of (requesting here o mode).in_way ≡ Some b → waits_by_needs next (asked_last asks o w.here) o b ≡ true
+    refused-first b e =
         would-wait o b (
           w.here,
-          subst (λ (r : Queues). waits r o b ≡ true) (sym (ap (λ (c : Bool). if c then (requesting here o mode).queued else queues_at old w.here) (same_node-refl w.here))) (first-waits here o mode b h.2),
+          subst (λ (r : Queues). waits r o b ≡ true) (sym (ap (λ (c : Bool). if c then (requesting here o mode).queued else queues_at old w.here) (same_node-refl w.here))) (first-waits here o mode b e),
         )
-    refused-by_needs new wait (Deadlock cycle) h =
-        cycle-more (WaitsQueued old w.here (requesting here o mode)) (λ a b. waits_by_needs next (asked_last asks o w.here) a b ≡ true) would-wait o cycle h.2
+
+    pub refused-cycle : (cycle : List ℕ) → IsCycle (WaitsQueued old w.here (requesting here o mode)) o cycle → IsCycle (λ a b. waits_by_needs next (asked_last asks o w.here) a b ≡ true) o cycle
+    refused-cycle cycle h = cycle-more (WaitsQueued old w.here (requesting here o mode)) (λ a b. waits_by_needs next (asked_last asks o w.here) a b ≡ true) would-wait o cycle h
