@@ -34,3 +34,4 @@ pub mod WayMade
 pub mod ServedInOrder
 pub mod StepsInOrder
 pub mod AnsweredInOrder
+pub mod OpenAsks

@@ -26,11 +26,11 @@ use Rattle.lock_needs.proofs.Growing.{join-more}
 use Rattle.lock_needs.proofs.Joins.{nothing}
 use Rattle.lock_tree.specs.LockTable.{granted_in, sought_in, granted_at, sought_at, AllShare}
 use Rattle.lock_tree.specs.Parties.{IsKeptBut, IsKept, nowhere, wanting, resting, unasked, asked_at, was_asked}
-use Rattle.lock_tree.specs.Order.{stands_before, IsOrdered, IsInOrder, AreKept, KeepsParty, MakesWay, StandsByNeeds, asked_of_want, is_listed, without_asks}
+use Rattle.lock_tree.specs.Order.{stands_before, IsOrdered, IsInOrder, AreKept, KeepsParty, MakesWay, StandsByNeeds, asked_of_want, is_listed, without_asks, lessened_asks}
 use Rattle.lock_tree.proofs.Changes.{shares-live, quiet-at}
 use Rattle.lock_tree.proofs.Ordered.{flip, stands-owner}
-use Rattle.lock_tree.proofs.Leaving.{and-none, opened-unasked, opened-up, up-same}
-use Rattle.lock_tree.proofs.Asks.{listed-without, unlisted-without, before-without}
+use Rattle.lock_tree.proofs.Leaving.{and-none, opened-unasked, opened-up, up-same, sleeps-elsewhere}
+use Rattle.lock_tree.proofs.Asks.{listed-without, unlisted-without, before-without, before-lessened, before-asked, listed-lessened, listed-own}
 use Rattle.lock_tree.proofs.Arrivals.{holder-came}
 use Rattle.lock_tree.proofs.WayMade.{way-none, way-others, way-own}
 use Rattle.lock_tree.proofs.AskedInOrder.{ordered-more}
@@ -70,11 +70,8 @@ module _ (old new : Table) (party next : ℕ → Party) (asks : List Asked) (o :
     ];
   }
 
-  -- the owner's want isn't open any more, whatever needs it has now
-  module _ (closed : (next o).opened ≡ None) where
-    quiet : (n : Node) → sought_at new o n ≡ granted_at new o n
-    quiet n = (after o).awake n (ap (λ (q : Option OpenWant). sleeps_at (granted_at new o) q n) closed)
-
+  -- the owner has nothing queued
+  module _ (quiet : (n : Node) → sought_at new o n ≡ granted_at new o n) where
     unqueued : (n : Node) → is_queued o (queues_at new n) ≡ false
     unqueued n = quiet-at new new o n live (quiet n)
 
@@ -90,6 +87,43 @@ module _ (old new : Table) (party next : ℕ → Party) (asks : List Asked) (o :
       | inl e ↦ absurd (false≢true (sym n ∙ subst (λ (z : ℕ). f z ≡ true) (eqb-true u o e) h))
     ]
 
+    -- the list says of the others what it said, and of the owner what is needed
+    order-with : (more : List Asked) → ((u a : ℕ) (n : Node) → (u == o) ≡ false → (a == o) ≡ false → asked_before u a n more ≡ asked_before u a n asks)
+        → ((a : ℕ) (n : Node) → (o == a) ≡ false → has_owner o (queues_at new n).granted ≡ true → converts_at (next o).needs n ≡ false → may_share (granted_in o (queues_at new n)) (sought_in a (queues_at new n)) ≡ false → asked_before o a n more ≡ true)
+        → (n : Node) → IsOrdered (λ u a. asked_before u a n more) (λ u. converts_at (next u).needs n) (queues_at new n)
+    order-with more same own n =
+        let k = step-order n in record {
+          granted_used = k.granted_used;
+          converting_used = k.converting_used;
+          waiting_used = k.waiting_used;
+          converting = λ u h.
+              let d : (u == o) ≡ false = other-than u (λ z. has_owner z (queues_at new n).converting) (no-conversion n) h in
+              subst (λ (p : Party). converts_at p.needs n ≡ true) (sym (others u d)) (k.converting u h);
+          waiting = λ u a d h s.
+              same u a n
+              (other-than u (λ z. has_owner z (queues_at new n).waiting) (no-request n) (stands-owner u a (queues_at new n).waiting s))
+              (other-than a (λ z. has_owner z (queues_at new n).waiting) (no-request n) h)
+              ∙ k.waiting u a d h s;
+          granted = λ u a d h f s. elim (cases_Bool (u == o)) [
+            | inl e ↦
+                let is : u ≡ o = eqb-true u o e in
+                subst (λ (z : ℕ). asked_before z a n more ≡ true) (sym is)
+                (own a n (subst (λ (z : ℕ). (z == a) ≡ false) is d) (subst (λ (z : ℕ). has_owner z (queues_at new n).granted ≡ true) is h) (subst (λ (z : ℕ). converts_at (next z).needs n ≡ false) is f)
+                (subst (λ (z : ℕ). may_share (granted_in z (queues_at new n)) (sought_in a (queues_at new n)) ≡ false) is s))
+            | inr e ↦ elim (cases_Bool (a == o)) [
+              | inl g ↦
+                  let is : a ≡ o = eqb-true a o g in
+                  absurd (false≢true
+                  (sym s
+                  ∙ (ap (may_share (granted_in u (queues_at new n))) (subst (λ (z : ℕ). sought_at new z n ≡ granted_at new z n) (sym is) (quiet n))
+                  ∙ shares-live new new o n live u a (flip u a d) n)))
+              | inr g ↦ same u a n e g ∙ k.granted u a d h (subst (λ (p : Party). converts_at p.needs n ≡ false) (others u e) f) s
+            ]
+          ];
+        }
+
+  -- the owner's want isn't open any more, whatever needs it has now
+  module _ (closed : (next o).opened ≡ None) where
     -- who holds a lock has a need there or below
     own-converts : (n : Node) → has_owner o (queues_at new n).granted ≡ true → converts_at (next o).needs n ≡ true
     own-converts n has = elim (cases_Bool (converts_at (next o).needs n)) [
@@ -100,38 +134,37 @@ module _ (old new : Table) (party next : ℕ → Party) (asks : List Asked) (o :
     pub ended-in_order : IsInOrder new next (without_asks o asks)
     ended-in_order = record {
       least = step-least;
-      ordered = λ n.
-          let k = step-order n in record {
-            granted_used = k.granted_used;
-            converting_used = k.converting_used;
-            waiting_used = k.waiting_used;
-            converting = λ u h.
-                let d : (u == o) ≡ false = other-than u (λ z. has_owner z (queues_at new n).converting) (no-conversion n) h in
-                subst (λ (p : Party). converts_at p.needs n ≡ true) (sym (others u d)) (k.converting u h);
-            waiting = λ u a d h s.
-                before-without u a o n asks
-                (other-than u (λ z. has_owner z (queues_at new n).waiting) (no-request n) (stands-owner u a (queues_at new n).waiting s))
-                (other-than a (λ z. has_owner z (queues_at new n).waiting) (no-request n) h)
-                ∙ k.waiting u a d h s;
-            granted = λ u a d h f s. elim (cases_Bool (u == o)) [
-              | inl e ↦
-                  let is : u ≡ o = eqb-true u o e in
-                  absurd (false≢true (sym (subst (λ (z : ℕ). converts_at (next z).needs n ≡ false) is f) ∙ own-converts n (subst (λ (z : ℕ). has_owner z (queues_at new n).granted ≡ true) is h)))
-              | inr e ↦ elim (cases_Bool (a == o)) [
-                | inl g ↦
-                    let is : a ≡ o = eqb-true a o g in
-                    absurd (false≢true
-                    (sym s
-                    ∙ (ap (may_share (granted_in u (queues_at new n))) (subst (λ (z : ℕ). sought_at new z n ≡ granted_at new z n) (sym is) (quiet n))
-                    ∙ shares-live new new o n live u a (flip u a d) n)))
-                | inr g ↦ before-without u a o n asks e g ∙ k.granted u a d h (subst (λ (p : Party). converts_at p.needs n ≡ false) (others u e) f) s
-              ]
-            ];
-          };
+      ordered = order-with (λ n. (after o).awake n (ap (λ (q : Option OpenWant). sleeps_at (granted_at new o) q n) closed)) (without_asks o asks)
+          (λ u a n d e. before-without u a o n asks d e)
+          (λ a n d h f s. absurd (false≢true (sym f ∙ own-converts n h)));
       listed = λ u n. elim (cases_Bool (u == o)) [
         | inr d ↦ listed-without u o n asks d ∙ (order.listed u n ∙ sym (ap (λ (p : Party). asked_of_want p.opened n) (others u d)))
         | inl e ↦ subst (λ (z : ℕ). is_listed z n (without_asks o asks) ≡ asked_of_want (next z).opened n) (sym (eqb-true u o e))
             (unlisted-without o n asks ∙ sym (ap (λ (q : Option OpenWant). asked_of_want q n) closed))
+      ];
+    }
+
+  -- the owner's want is open still, and was asked at fewer nodes: for want of memory it wasn't ended whole
+  module _ (w : OpenWant) (opened : (next o).opened ≡ Some w) (needs : (n : Node) → converts_at (next o).needs n ≡ converts_at (party o).needs n) (less : (n : Node) → was_asked w n ≡ true → asked_of_want (party o).opened n ≡ true) (calm : sought_at new o w.here ≡ granted_at new o w.here) where
+    still : (n : Node) → sought_at new o n ≡ granted_at new o n
+    still n = elim (cases_Bool (same_node n w.here)) [
+      | inl s ↦ subst (λ (z : Node). sought_at new o z ≡ granted_at new o z) (sym (same_node-true n w.here s)) calm
+      | inr d ↦ (after o).awake n (ap (λ (q : Option OpenWant). sleeps_at (granted_at new o) q n) opened ∙ sleeps-elsewhere (granted_at new o) w n d)
+    ]
+
+    pub lessened-in_order : IsInOrder new next (lessened_asks o w asks)
+    lessened-in_order = record {
+      least = step-least;
+      ordered = order-with still (lessened_asks o w asks)
+          (λ u a n d e. before-lessened u a o w n asks d e)
+          (λ a n d h f s.
+          before-asked o a o w n asks
+          (ap (λ (q : Option OpenWant). asked_of_want q n) (sym opened) ∙ holder-came new o (next o) n (after o) (step-order n).granted_used h f)
+          ∙ (step-order n).granted o a d h (sym (needs n) ∙ f) s);
+      listed = λ u n. elim (cases_Bool (u == o)) [
+        | inr d ↦ listed-lessened u o w n asks d ∙ (order.listed u n ∙ sym (ap (λ (p : Party). asked_of_want p.opened n) (others u d)))
+        | inl e ↦ subst (λ (z : ℕ). is_listed z n (lessened_asks o w asks) ≡ asked_of_want (next z).opened n) (sym (eqb-true u o e))
+            (listed-own o w n asks (λ t. order.listed o n ∙ less n t) ∙ sym (ap (λ (q : Option OpenWant). asked_of_want q n) opened))
       ];
     }
 

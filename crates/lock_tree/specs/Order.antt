@@ -1,5 +1,5 @@
 -- The order in which owners came to a node, and who waits for whom by needs.
-use Rattle.std.specs.Prelude.{◌≡◌, ℕ, Bool, true, false, not, ◌&&◌, ◌||◌, ◌==◌, if◌then◌else◌, Option, Some, None, List, [], ◌∷◌, ◌++◌, ◌⊎◌}
+use Rattle.std.specs.Prelude.{◌≡◌, ℕ, Bool, true, false, not, ◌&&◌, ◌||◌, ◌==◌, if◌then◌else◌, Option, Some, None, List, [], ◌∷◌, ◌++◌, ◌⊎◌, is_some}
 use Rattle.std.specs.List.{list_all, list_any, filter}
 use Rattle.rdb_types.specs.declared.node.Node.{Node}
 use Rattle.vms_queues.specs.declared.lock_mode.Mode.{Mode}
@@ -97,6 +97,14 @@ asked_last asks owner n = asks ++ (record { owner = owner; node = n }) ∷ []
 -- the entries of the others
 abbrev pub without_asks : ℕ → List Asked → List Asked
 without_asks owner asks = filter (λ a. not (a.owner == owner)) asks
+
+-- but for those of the owner where the want wasn't asked
+abbrev pub lessened_asks : ℕ → OpenWant → List Asked → List Asked
+lessened_asks owner w asks = filter (λ a. not (a.owner == owner) || was_asked w a.node) asks
+
+-- the entries of owners whose wants are open
+abbrev pub opened_asks : (ℕ → Party) → List Asked → List Asked
+opened_asks party trail = filter (λ a. is_some (party a.owner).opened) trail
 
 -- a request of an owner that has nothing queued: a conversion where it has a lock
 abbrev pub requesting : Queues → ℕ → Mode → Request

@@ -120,6 +120,7 @@ pub(crate) fn end_want(
     ensures others { KeepsOthers owner locks.old locks.new }
     ensures way { MakesWay owner locks.old locks.new }
     ensures rests { OnOk result (StandsByNeeds locks.old owner (wanting needs.now want) → StandsByNeeds locks.new owner (resting needs.now)) }
+    ensures quiet { IfErr result (λ w. sought_at locks.new owner w.here ≡ granted_at locks.new owner w.here) }
     ensures stays { IfErr result (λ w. StandsByNeeds locks.old owner (wanting needs.now want) → StandsByNeeds locks.new owner (wanting needs.now w)) }
 {
     let mut left = stop_asking(locks, owner, want);

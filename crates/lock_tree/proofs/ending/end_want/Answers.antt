@@ -47,3 +47,6 @@ loop-up-init c = (
   c.stop_asking-left.ensures.way,
   c.stop_asking-left.ensures.stands_still c.args.needs.now,
 )
+
+pub returns-in_default-clause-quiet : goal.returns-in_default-clause-quiet
+returns-in_default-clause-quiet c = c.leave_node.ensures.way.quiet c.loop-up.left.here c.loop-up.invariant.2
