@@ -27,6 +27,7 @@ use Rattle.lock_needs.proofs.Joins.{nothing}
 use Rattle.lock_tree.specs.LockTable.{granted_in, sought_in, granted_at, sought_at, AllShare}
 use Rattle.lock_tree.specs.Parties.{IsKeptBut, IsKept, nowhere, wanting, resting, unasked, asked_at, was_asked}
 use Rattle.lock_tree.specs.Order.{stands_before, IsOrdered, IsInOrder, AreKept, KeepsParty, MakesWay, StandsByNeeds, asked_of_want, is_listed, without_asks, lessened_asks}
+use Rattle.lock_tree.proofs.HeldModes.{nothing-shares}
 use Rattle.lock_tree.proofs.Changes.{shares-live, quiet-at}
 use Rattle.lock_tree.proofs.Ordered.{flip, stands-owner}
 use Rattle.lock_tree.proofs.Leaving.{and-none, opened-unasked, opened-up, up-same, sleeps-elsewhere}
@@ -38,6 +39,21 @@ use Rattle.lock_tree.proofs.AskedInOrder.{ordered-more}
 -- some node
 any-node : Node
 any-node = record { level = Area; area = 0; at = 0; line = 0 }
+
+-- where nobody holds, asks or wants anything
+pub empty-in_order : (party : ℕ → Party) → ((u : ℕ) → (party u).opened ≡ None) → IsInOrder [] party []
+empty-in_order party none = record {
+  least = λ u a n d f. absurd (false≢true (sym f ∙ nothing-shares (sought_at [] a n)));
+  ordered = λ n. record {
+    granted_used = refl;
+    converting_used = refl;
+    waiting_used = refl;
+    converting = λ u h. absurd (false≢true h);
+    waiting = λ u a d h s. absurd (false≢true h);
+    granted = λ u a d h f s. absurd (false≢true h);
+  };
+  listed = λ u n. sym (ap (λ (q : Option OpenWant). asked_of_want q n) (none u));
+}
 
 module _ (old new : Table) (party next : ℕ → Party) (asks : List Asked) (o : ℕ) (way : MakesWay o old new) (live : IsLive (queues_at new)) (kept : AreKept old party) (after : AreKept new next)
     (others : KeepsParty o party next) (stands : StandsByNeeds new o (next o)) (order : IsInOrder old party asks) where

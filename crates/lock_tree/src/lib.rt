@@ -13,7 +13,7 @@ mod releasing;
 mod tree;
 mod way;
 
-pub use laws::{answers_are_by_needs, waits_are_by_needs};
+pub use laws::{answers_are_by_needs, making_way_keeps_the_order, waits_are_by_needs};
 pub use lock_needs::{Level, Need, Node};
 pub use notice::Demotion;
 pub use tree::Tree;
