@@ -1,32 +1,31 @@
 -- What an open want is answered at its node keeps the order, and names only those for whom its owner waits by needs.
-use Rattle.std.proofs.Common.{◌≡◌, ℕ, ◌++◌, ◌∷◌, [], Bool, true, false, refl, sym, ◌∙◌, ap, subst, ◌⊎◌, inl, inr, List}
-use Rattle.std.specs.Prelude.{◌&&◌, ◌||◌, ◌==◌, not, if◌then◌else◌, Option, Some, None, unwrap_or, map}
+use Rattle.std.proofs.Common.{◌≡◌, ℕ, ◌∷◌, [], Bool, true, false, refl, sym, ◌∙◌, ap, subst, inl, inr, List}
+use Rattle.std.specs.Prelude.{◌&&◌, ◌==◌, not, if◌then◌else◌, Option, Some, None, unwrap_or, map}
 use Rattle.std.specs.List.{filter}
-use Rattle.std.proofs.lemmas.Bool.{false≢true, cases_Bool, eq-eqb, eqb-true, and_parts, and_from, or_parts, not_from_false}
+use Rattle.std.proofs.lemmas.Bool.{false≢true, cases_Bool, eqb-true, and_parts, and_from, not_from_false}
 use Rattle.rdb_types.specs.declared.node.Node.{Node}
 use Rattle.vms_queues.specs.declared.lock_mode.Mode.{Mode}
 use Rattle.vms_queues.specs.declared.lock_mode.Mode.TheVariants.{NL}
 use Rattle.vms_queues.specs.declared.held.Held.{Held}
 use Rattle.vms_queues.specs.Modes.{may_share, at_most, least_above}
-use Rattle.vms_queues.specs.Queues.{Queues, has_owner, mode_in, blocks, blockers, fits, is_grantable}
+use Rattle.vms_queues.specs.Queues.{Queues, has_owner, mode_in, blocks, blockers, fits}
 use Rattle.vms_queues.proofs.ModeLaws.{may_share-comm}
-use Rattle.vms_locks.specs.Table.{Table, queues_at, ChangesAt, IsLive, WaitsIn}
-use Rattle.vms_locks.specs.Answers.{Request, Answers, asking, converting}
+use Rattle.vms_locks.specs.Table.{Table, queues_at, ChangesAt, IsLive}
+use Rattle.vms_locks.specs.Answers.{Answers, asking, converting}
 use Rattle.vms_locks.specs.declared.answer.Enq.{Enq}
 use Rattle.vms_locks.specs.declared.answer.Enq.TheVariants.{Granted, Asleep, NotQueued, Deadlock}
 use Rattle.lock_needs.specs.declared.need.Need.{Need}
 use Rattle.lock_needs.specs.declared.party.OpenWant.{OpenWant}
 use Rattle.lock_needs.specs.declared.party.Asked.{Asked}
 use Rattle.lock_needs.specs.declared.party.Party.{Party}
-use Rattle.lock_needs.specs.Keeping.{is_excess}
-use Rattle.lock_needs.specs.Wants.{mode_for, kept_at}
+use Rattle.lock_needs.specs.Wants.{mode_for}
 use Rattle.lock_needs.proofs.ModeTables.{join-left}
-use Rattle.lock_tree.specs.LockTable.{granted_at, sought_at, AllShare, HasIntents, BarsNobody, RaisedAt}
+use Rattle.lock_tree.specs.LockTable.{granted_at, sought_at, BarsNobody, RaisedAt}
 use Rattle.lock_tree.specs.Forest.{Parties, party_of}
-use Rattle.lock_tree.specs.Asking.{AnswersAt, exceeds_at, first_excess}
-use Rattle.lock_tree.specs.Parties.{IsKept, wanting, unasked, asked_at}
-use Rattle.lock_tree.specs.Order.{IsInOrder, AreKept, KeepsParty, KeepsOrder, MakesWay, MayAsk, AnswersByNeeds, NoneInExcess, asked_last, requesting, waits_by_needs}
-use Rattle.lock_tree.proofs.HeldModes.{option-cases, one-mode, nothing-shares, no-mode_absent}
+use Rattle.lock_tree.specs.Asking.{exceeds_at, first_excess}
+use Rattle.lock_tree.specs.Parties.{IsKept, wanting, asked_at}
+use Rattle.lock_tree.specs.Order.{KeepsParty, MakesWay, MayAsk, AnswersByNeeds, NoneInExcess, asked_last, requesting}
+use Rattle.lock_tree.proofs.HeldModes.{option-cases, one-mode, nothing-shares}
 use Rattle.lock_tree.proofs.QueueModes.{mode-absent}
 use Rattle.lock_tree.proofs.Changes.{shares-live, quiet-at}
 use Rattle.lock_tree.proofs.Conditions.{absent-quiet, asked-law, converted-law}

@@ -1,7 +1,6 @@
 -- Who has a lock or a request at a node has a need there or below, or its open want was asked there.
 use Rattle.std.proofs.Common.{◌≡◌, ℕ, Bool, true, false, refl, sym, ◌∙◌, ap, subst, inl, inr, List, [], ◌∷◌}
-use Rattle.std.specs.Prelude.{◌&&◌, ◌||◌, ◌==◌, not, if◌then◌else◌, Option, Some, None, unwrap_or}
-use Rattle.std.specs.List.{list_all}
+use Rattle.std.specs.Prelude.{◌&&◌, ◌==◌, not, if◌then◌else◌, Option, Some, None, unwrap_or}
 use Rattle.std.proofs.lemmas.Bool.{false≢true, cases_Bool, and_parts, and_from, or_cases, or_left, or_right, not-true}
 use Rattle.rdb_types.specs.declared.node.Node.{Node}
 use Rattle.vms_queues.specs.declared.lock_mode.Mode.{Mode}
@@ -17,13 +16,13 @@ use Rattle.lock_needs.specs.Nodes.{same_node, contains}
 use Rattle.lock_needs.specs.Needs.{Holding}
 use Rattle.lock_needs.specs.Wants.{mode_for, has_granted, opened_at}
 use Rattle.lock_needs.specs.Waits.{converts_at}
-use Rattle.lock_tree.specs.LockTable.{granted_in, sought_in, granted_at, sought_at}
-use Rattle.lock_tree.specs.Parties.{IsKeptBut, IsKept, HasReason, nowhere, was_asked}
-use Rattle.lock_tree.specs.Order.{all_used, IsOrdered, asked_of_want}
+use Rattle.lock_tree.specs.LockTable.{granted_at, sought_at}
+use Rattle.lock_tree.specs.Parties.{IsKept}
+use Rattle.lock_tree.specs.Order.{all_used, asked_of_want}
 use Rattle.lock_tree.proofs.QueueModes.{mode-absent}
 use Rattle.lock_tree.proofs.HeldModes.{option-cases, one-mode, no-mode_absent}
 use Rattle.lock_tree.proofs.Blockers.{sought-waited}
-use Rattle.lock_tree.proofs.NeedsInWay.{IsAsleepAt, asleep-at}
+use Rattle.lock_tree.proofs.NeedsInWay.{asleep-at}
 
 pub used-mode : (u : ℕ) (hs : List Held) (k : Mode) → all_used hs ≡ true → mode_in u hs ≡ Some k → at_most k NL ≡ false
 used-mode u [] k h e = absurd (false≢true (ap (λ (x : Option Mode). elim x [ None ↦ false | Some k ↦ true ]) e))

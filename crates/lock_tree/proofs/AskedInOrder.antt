@@ -1,33 +1,31 @@
 -- The order is kept where an open want is asked at its node, and where it is granted there or queued.
-use Rattle.std.proofs.Common.{◌≡◌, ℕ, ◌++◌, ◌∷◌, [], Bool, true, false, refl, sym, ◌∙◌, ap, subst, ◌⊎◌, inl, inr, List}
-use Rattle.std.specs.Prelude.{◌&&◌, ◌||◌, ◌==◌, not, if◌then◌else◌, Option, Some, None, unwrap_or}
-use Rattle.std.proofs.lemmas.Bool.{false≢true, cases_Bool, eq-eqb, eqb-true, and_parts, and_from, or_parts, or_cases, or_left, or_right}
+use Rattle.std.proofs.Common.{◌≡◌, ℕ, Bool, true, false, refl, sym, ◌∙◌, ap, subst, inl, inr, List}
+use Rattle.std.specs.Prelude.{◌&&◌, ◌||◌, ◌==◌, not, if◌then◌else◌, Some}
+use Rattle.std.proofs.lemmas.Bool.{false≢true, cases_Bool, eq-eqb, eqb-true, and_parts, and_from, or_parts, or_left, or_right}
 use Rattle.rdb_types.specs.declared.node.Node.{Node}
 use Rattle.vms_queues.specs.declared.lock_mode.Mode.{Mode}
 use Rattle.vms_queues.specs.declared.lock_mode.Mode.TheVariants.{NL, EX}
-use Rattle.vms_queues.specs.Modes.{may_share, at_most, least_above, intent}
-use Rattle.vms_queues.specs.Queues.{Queues, IsSound, has_owner, mode_in, fits, is_absent, is_queued, is_grantable, with_mode, with_lock, with_request, with_conversion, considered, after_weaken}
+use Rattle.vms_queues.specs.Modes.{may_share, at_most, least_above}
+use Rattle.vms_queues.specs.Queues.{Queues, has_owner, fits, is_queued, with_mode, with_request, with_conversion}
 use Rattle.vms_queues.proofs.Soundness.{sound-with_mode}
 use Rattle.vms_locks.specs.Table.{Table, queues_at, ChangesAt, IsLive}
-use Rattle.vms_locks.specs.Answers.{Request, asking, converting}
+use Rattle.vms_locks.specs.Answers.{asking, converting}
 use Rattle.lock_needs.specs.declared.need.Need.{Need}
 use Rattle.lock_needs.specs.declared.party.OpenWant.{OpenWant}
 use Rattle.lock_needs.specs.declared.party.Asked.{Asked}
 use Rattle.lock_needs.specs.declared.party.Party.{Party}
 use Rattle.lock_needs.specs.Nodes.{same_node, contains}
 use Rattle.lock_needs.specs.Needs.{Holding}
-use Rattle.lock_needs.specs.Keeping.{is_excess}
 use Rattle.lock_needs.specs.Wants.{mode_for, opened_at, kept_at}
 use Rattle.lock_needs.specs.Waits.{converts_at, asked_before}
-use Rattle.lock_needs.proofs.ModeTables.{at_most-refl, at_most-trans, join-left, join-right}
+use Rattle.lock_needs.proofs.ModeTables.{at_most-refl, at_most-trans, join-right}
 use Rattle.lock_needs.proofs.NodeLaws.{same_node-true, same_node-refl, same_node-sym, contains-self}
 use Rattle.lock_needs.proofs.Cover.{by_test}
 use Rattle.lock_needs.proofs.Growing.{join-more, kept-more}
 use Rattle.lock_needs.proofs.Joins.{nothing}
-use Rattle.lock_tree.specs.LockTable.{granted_in, sought_in, granted_at, sought_at, AllShare, HasIntents, RaisedAt, QueuedAt}
-use Rattle.lock_tree.specs.Parties.{IsKeptBut, IsKept, nowhere, wanting, unasked, asked_at, was_asked}
-use Rattle.lock_tree.specs.Order.{stands_before, IsOrdered, IsInOrder, AreKept, KeepsParty, asked_of_want, is_listed, asked_last, requesting, NoneInExcess}
-use Rattle.lock_tree.proofs.HeldModes.{option-cases, mode-has_owner, no-mode_absent}
+use Rattle.lock_tree.specs.LockTable.{granted_at, sought_at, AllShare, HasIntents, RaisedAt, QueuedAt}
+use Rattle.lock_tree.specs.Parties.{IsKept, wanting, unasked, asked_at}
+use Rattle.lock_tree.specs.Order.{IsOrdered, IsInOrder, AreKept, KeepsParty, asked_of_want, is_listed, asked_last, requesting, NoneInExcess}
 use Rattle.lock_tree.proofs.QueueModes.{mode-absent}
 use Rattle.lock_tree.proofs.Changes.{quiet-at, queued-at, shares-live, changed-request, changed-conversion}
 use Rattle.lock_tree.proofs.Conditions.{absent-quiet}

@@ -2,7 +2,7 @@
 use Rattle.std.proofs.Common.{◌≡◌, ℕ, ◌++◌, ◌∷◌, [], Bool, true, false, List, refl, ◌∙◌, sym, ap, subst, inl, inr}
 use Rattle.std.specs.Prelude.{◌==◌, not, ◌&&◌, ◌||◌, if◌then◌else◌}
 use Rattle.std.specs.List.{filter}
-use Rattle.std.proofs.lemmas.Bool.{false≢true, cases_Bool, eq-eqb, eqb-true, and_parts, and_from, or_parts, or_cases, or_left, or_right, not_from_false}
+use Rattle.std.proofs.lemmas.Bool.{false≢true, cases_Bool, eqb-true, and_parts, and_from, or_parts, or_cases, or_left, or_right, not_from_false}
 use Rattle.std.proofs.lemmas.List.Folds.{list_any-append}
 use Rattle.rdb_types.specs.declared.node.Node.{Node}
 use Rattle.lock_needs.specs.declared.party.OpenWant.{OpenWant}
@@ -20,7 +20,6 @@ before-push u a n (x ∷ xs) e h =
       | inl t ↦ ap (λ (b : Bool). if b then x.owner == u else asked_before u a n (xs ++ e ∷ [])) t ∙ (sym (ap (λ (b : Bool). if b then x.owner == u else asked_before u a n xs) t) ∙ h)
       | inr t ↦ ap (λ (b : Bool). if b then x.owner == u else asked_before u a n (xs ++ e ∷ [])) t ∙ before-push u a n xs e (sym (ap (λ (b : Bool). if b then x.owner == u else asked_before u a n xs) t) ∙ h)
     ]
-
 
 -- who is in the list came before who isn't yet
 pub before-last : (u o : ℕ) (n : Node) (asks es : List Asked) → is_listed u n asks ≡ true → is_listed o n asks ≡ false → asked_before u o n (asks ++ es) ≡ true

@@ -1,7 +1,7 @@
 -- Who waits for whom at a node, by the modes that owners hold and ask there.
 use Rattle.std.proofs.Common.{◌≡◌, ℕ, ◌++◌, ◌∷◌, [], ◌⊎◌, inl, inr, Bool, true, false, List, refl, ◌∙◌, sym, ap, subst, append_assoc}
-use Rattle.std.specs.Prelude.{◌==◌, not, ◌&&◌, ◌||◌, if◌then◌else◌, Some, None, Option, unwrap_or}
-use Rattle.std.proofs.lemmas.Bool.{false≢true, cases_Bool, eq-eqb, eqb-true, and_parts, or_parts, or_cases, or_left, or_right, not-true}
+use Rattle.std.specs.Prelude.{◌==◌, not, ◌&&◌, ◌||◌, if◌then◌else◌, Some, Option, unwrap_or}
+use Rattle.std.proofs.lemmas.Bool.{false≢true, cases_Bool, eqb-true, and_parts, or_parts, or_cases, or_left, or_right, not-true}
 use Rattle.vms_queues.specs.declared.lock_mode.Mode.{Mode}
 use Rattle.vms_queues.specs.declared.lock_mode.Mode.TheVariants.{NL}
 use Rattle.vms_queues.specs.declared.held.Held.{Held}
@@ -128,9 +128,9 @@ request-blocked g k a b ahead (w ∷ ws) once h =
               | inr y ↦ elim (or_cases (blocked_by b a w.mode k) (blocked_by b a w.mode ahead) y) [
                 | inl x ↦ inr (inl x)
                 | inr x ↦ inr (inr (
-                    blocked_by-append b a w.mode ahead (w ∷ ws) ∙ or_left (blocked_by b a w.mode ahead) (blocked_by b a w.mode (w ∷ ws)) x,
-                    ahead-before b a ahead (w ∷ ws) (blocked-owner b a w.mode ahead x) (subst (λ (z : ℕ). has_owner z ahead ≡ false) own parts.0),
-                  ))
+                  blocked_by-append b a w.mode ahead (w ∷ ws) ∙ or_left (blocked_by b a w.mode ahead) (blocked_by b a w.mode (w ∷ ws)) x,
+                  ahead-before b a ahead (w ∷ ws) (blocked-owner b a w.mode ahead x) (subst (λ (z : ℕ). has_owner z ahead ≡ false) own parts.0),
+                ))
               ]
             ];
           }

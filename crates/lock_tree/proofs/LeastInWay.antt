@@ -1,6 +1,6 @@
 -- Who isn't in excess at a node, where no lock of its owner above is exclusive, holds there no more than it must keep.
-use Rattle.std.proofs.Common.{◌≡◌, Bool, true, false, refl, sym, ◌∙◌, ap, subst, inl, inr}
-use Rattle.std.specs.Prelude.{◌&&◌, if◌then◌else◌}
+use Rattle.std.proofs.Common.{◌≡◌, true, false, refl, sym, ◌∙◌, inl, inr}
+use Rattle.std.specs.Prelude.{if◌then◌else◌}
 use Rattle.std.proofs.lemmas.Bool.{false≢true, and_from, cases_Bool}
 use Rattle.rdb_types.specs.declared.node.Node.{Node}
 use Rattle.vms_queues.specs.declared.lock_mode.Mode.{Mode}
@@ -9,7 +9,7 @@ use Rattle.vms_queues.specs.Modes.{may_share, at_most, least_above, intent}
 use Rattle.vms_queues.proofs.ModeLaws.{all_modes_2-at, implies, from_implies}
 use Rattle.lock_needs.specs.declared.need.Need.{Need}
 use Rattle.lock_needs.specs.declared.party.Party.{Party}
-use Rattle.lock_needs.specs.Nodes.{same_node, contains}
+use Rattle.lock_needs.specs.Nodes.{same_node}
 use Rattle.lock_needs.specs.Needs.{Holding, HasIntentsAbove}
 use Rattle.lock_needs.specs.Keeping.{below, needed_on, is_excess}
 use Rattle.lock_needs.specs.Wants.{mode_for, opened_at, kept_at, intents_on, earned_at}

@@ -1,35 +1,33 @@
 -- Who stands in the way of a request is one for whom its owner waits by needs.
-use Rattle.std.proofs.Common.{◌≡◌, ℕ, Bool, true, false, refl, sym, ◌∙◌, ap, subst, ◌⊎◌, inl, inr, List, [], ◌∷◌}
+use Rattle.std.proofs.Common.{◌≡◌, ℕ, Bool, true, false, refl, sym, ◌∙◌, ap, subst, ◌⊎◌, inl, inr, List}
 use Rattle.std.specs.Prelude.{◌&&◌, ◌||◌, ◌==◌, not, if◌then◌else◌, Option, Some, None, unwrap_or}
-use Rattle.std.specs.List.{list_any}
-use Rattle.std.proofs.lemmas.Bool.{false≢true, and_parts, and_from, or_left, or_right, or_cases, cases_Bool, not_from_false, not-true, eq-eqb, eqb-true}
+use Rattle.std.proofs.lemmas.Bool.{false≢true, and_parts, and_from, or_left, or_right, or_cases, cases_Bool, not_from_false, eq-eqb, eqb-true}
 use Rattle.rdb_types.specs.declared.node.Node.{Node}
 use Rattle.vms_queues.specs.declared.lock_mode.Mode.{Mode}
 use Rattle.vms_queues.specs.declared.lock_mode.Mode.TheVariants.{NL}
 use Rattle.vms_queues.specs.Modes.{may_share, at_most, least_above}
-use Rattle.vms_queues.specs.Queues.{Queues, IsSound, has_owner}
+use Rattle.vms_queues.specs.Queues.{IsSound, has_owner}
 use Rattle.vms_queues.specs.Waits.{waits}
 use Rattle.vms_queues.proofs.ModeLaws.{may_share-comm}
 use Rattle.vms_queues.proofs.PassEdges.{not_named_in}
 use Rattle.vms_locks.specs.Table.{Table, queues_at, WaitsIn}
-use Rattle.lock_needs.specs.declared.need.Need.{Need}
 use Rattle.lock_needs.specs.declared.party.OpenWant.{OpenWant}
 use Rattle.lock_needs.specs.declared.party.Asked.{Asked}
 use Rattle.lock_needs.specs.declared.party.Party.{Party}
-use Rattle.lock_needs.specs.Nodes.{same_node, contains, is_on}
+use Rattle.lock_needs.specs.Nodes.{same_node, contains}
 use Rattle.lock_needs.specs.Needs.{Holding, AreCompatible, conflict}
 use Rattle.lock_needs.specs.Keeping.{below, needed_on}
-use Rattle.lock_needs.specs.Wants.{mode_for, has_granted, opened_at, sleeps_at, kept_at, IsOnWay}
-use Rattle.lock_needs.specs.Waits.{upper_of, converts_at, asked_before, holds_against, wants_against, wants_against_open, waits_for}
+use Rattle.lock_needs.specs.Wants.{mode_for, has_granted, opened_at, sleeps_at, IsOnWay}
+use Rattle.lock_needs.specs.Waits.{upper_of, converts_at, asked_before, holds_against, wants_against, wants_against_open}
 use Rattle.lock_needs.proofs.ModeTables.{at_most-shares}
 use Rattle.lock_needs.proofs.NodeLaws.{same_node-true, IsOn}
-use Rattle.lock_tree.specs.LockTable.{granted_in, sought_in, granted_at, sought_at, HasIntents}
+use Rattle.lock_tree.specs.LockTable.{granted_at, sought_at, HasIntents}
 use Rattle.lock_tree.specs.Parties.{IsKeptBut, nowhere, was_asked}
-use Rattle.lock_tree.specs.Order.{stands_before, IsOrdered, IsInOrder, AreKept, waits_with, waits_by_needs}
+use Rattle.lock_tree.specs.Order.{stands_before, IsInOrder, AreKept, waits_with, waits_by_needs}
 use Rattle.lock_tree.proofs.QueueModes.{mode-absent}
 use Rattle.lock_tree.proofs.HeldModes.{nothing-shares, shares-in}
 use Rattle.lock_tree.proofs.OwnLocks.{asked-at_here}
-use Rattle.lock_tree.proofs.Blockers.{StandsInWay, stands-in_way}
+use Rattle.lock_tree.proofs.Blockers.{stands-in_way}
 use Rattle.lock_tree.proofs.Meeting.{as-on, on-on, Meets, meets, covered-shares, other-part, Proves, some-below, some-on}
 
 other-way : (o u : ℕ) → (o == u) ≡ false → (u == o) ≡ false

@@ -1,16 +1,11 @@
 -- The list of what was asked while wants open and end.
-use Rattle.std.proofs.Common.{◌≡◌, ℕ, ◌++◌, ◌∷◌, [], Bool, true, false, List, refl, ◌∙◌, sym, ap, subst, ◌⊎◌, inl, inr}
-use Rattle.std.specs.Prelude.{◌==◌, not, ◌&&◌, ◌||◌, if◌then◌else◌, Option, Some, None, is_some}
-use Rattle.std.proofs.lemmas.Bool.{false≢true, cases_Bool, eq-eqb, eqb-true, and_parts, and_from, or_cases, or_left, or_right}
+use Rattle.std.proofs.Common.{◌≡◌, ℕ, ◌∷◌, [], Bool, true, false, List, refl, ◌∙◌, sym, ap, subst, ◌⊎◌, inl, inr}
+use Rattle.std.specs.Prelude.{◌==◌, not, if◌then◌else◌, is_some}
+use Rattle.std.proofs.lemmas.Bool.{cases_Bool, eqb-true}
 use Rattle.rdb_types.specs.declared.node.Node.{Node}
-use Rattle.lock_needs.specs.declared.party.OpenWant.{OpenWant}
 use Rattle.lock_needs.specs.declared.party.Asked.{Asked}
 use Rattle.lock_needs.specs.declared.party.Party.{Party}
-use Rattle.lock_needs.specs.Nodes.{same_node}
-use Rattle.lock_needs.specs.Waits.{asked_before}
-use Rattle.lock_needs.proofs.NodeLaws.{same_node-true}
-use Rattle.lock_tree.specs.Parties.{was_asked}
-use Rattle.lock_tree.specs.Order.{KeepsParty, is_listed, asked_last, without_asks, lessened_asks, opened_asks}
+use Rattle.lock_tree.specs.Order.{KeepsParty, asked_last, without_asks, opened_asks}
 
 -- ---- wants of the others stay open
 

@@ -1,5 +1,5 @@
 -- Queues that stand in the order in which owners came stay so while they are considered.
-use Rattle.std.proofs.Common.{◌≡◌, ℕ, zero, suc, ◌++◌, ◌∷◌, [], ◌⊎◌, inl, inr, Bool, true, false, List, refl, ◌∙◌, sym, ap, subst, append_assoc, append-nil}
+use Rattle.std.proofs.Common.{◌≡◌, ℕ, zero, suc, ◌++◌, ◌∷◌, [], inl, inr, Bool, true, false, List, refl, ◌∙◌, sym, ap, subst, append_assoc, append-nil}
 use Rattle.std.specs.Prelude.{◌==◌, not, ◌&&◌, ◌||◌, if◌then◌else◌, Some, None, Option, unwrap_or}
 use Rattle.std.specs.List.{list_all}
 use Rattle.std.proofs.lemmas.Bool.{false≢true, cases_Bool, eq-eqb, eqb-true, and_parts, and_from, or_parts, or_cases, or_left, or_right, not-true}
@@ -14,7 +14,7 @@ use Rattle.vms_queues.proofs.PassEdges.{conversions-absent}
 use Rattle.vms_queues.proofs.Soundness.{has_owner-append, each_once-less, without_one, not_in-push, list_all-agree, list_all-weaken, list_all-less, list_all-push, conversions-has_owner, passed-sound}
 use Rattle.lock_tree.specs.LockTable.{granted_in, sought_in}
 use Rattle.lock_tree.specs.Order.{stands_before, all_used, IsOrdered}
-use Rattle.lock_tree.proofs.QueueModes.{queues, IsServed, conversion-served, request-served, keeps-owners, keeps-strangers, no_conversion-of, mode-absent, mode-with_other, mode-in_middle, mode-past_other, mode-push_other}
+use Rattle.lock_tree.proofs.QueueModes.{queues, conversion-served, request-served, keeps-owners, keeps-strangers, no_conversion-of, mode-with_other, mode-in_middle, mode-past_other, mode-push_other}
 use Rattle.lock_tree.proofs.HeldModes.{option-cases, one-mode, mode-has_owner, no-mode_absent, nothing-shares}
 
 -- ---- lists of entries

@@ -1,18 +1,16 @@
 -- What each request leaves of the order of a node's queues.
-use Rattle.std.proofs.Common.{◌≡◌, ℕ, ◌++◌, ◌∷◌, [], ◌⊎◌, inl, inr, Bool, true, false, List, refl, ◌∙◌, sym, ap, subst}
-use Rattle.std.specs.Prelude.{◌==◌, not, ◌&&◌, ◌||◌, if◌then◌else◌, Some, None, Option, unwrap_or}
-use Rattle.std.specs.List.{list_all}
-use Rattle.std.proofs.lemmas.Bool.{false≢true, cases_Bool, eq-eqb, eqb-true, and_parts, or_parts, or_cases, or_left, or_right, not-true}
+use Rattle.std.proofs.Common.{◌≡◌, ℕ, ◌++◌, ◌∷◌, [], inl, inr, Bool, true, false, List, refl, ◌∙◌, sym, ap, subst}
+use Rattle.std.specs.Prelude.{◌==◌, not, ◌&&◌, ◌||◌, if◌then◌else◌, Some, Option, unwrap_or}
+use Rattle.std.proofs.lemmas.Bool.{false≢true, cases_Bool, eqb-true, and_parts, or_cases, not-true}
 use Rattle.rdb_types.specs.declared.node.Node.{Node}
 use Rattle.vms_queues.specs.declared.lock_mode.Mode.{Mode}
 use Rattle.vms_queues.specs.declared.lock_mode.Mode.TheVariants.{NL}
 use Rattle.vms_queues.specs.declared.held.Held.{Held}
 use Rattle.vms_queues.specs.Modes.{may_share, at_most}
-use Rattle.vms_queues.specs.Queues.{Queues, IsSound, has_owner, mode_in, fits, is_absent, is_queued, is_grantable, covers, with_mode, without, entry, with_lock, with_request, with_conversion, considered, after_weaken, after_release, after_cancel}
+use Rattle.vms_queues.specs.Queues.{Queues, IsSound, has_owner, mode_in, fits, is_absent, is_queued, is_grantable, with_mode, without, entry, with_lock, with_request, with_conversion, considered, after_weaken, after_release, after_cancel}
 use Rattle.vms_queues.proofs.ModeLaws.{may_share-comm}
 use Rattle.vms_queues.proofs.Entries.{has_owner-with_mode, has_owner-push, has_owner-without, has_owner-without_none, fits-from_covers}
-use Rattle.vms_queues.proofs.Settled.{considered-settled}
-use Rattle.vms_queues.proofs.Soundness.{list_all-push, list_all-filter, sound-granted, sound-queued, sound-converting, sound-with_mode, sound-gone, sound-unqueued}
+use Rattle.vms_queues.proofs.Soundness.{list_all-push, list_all-filter, sound-granted, sound-with_mode, sound-gone, sound-unqueued}
 use Rattle.vms_locks.specs.Table.{Table, queues_at, ChangesAt, IsLive}
 use Rattle.vms_locks.proofs.Awake.{changed-here, changed-elsewhere}
 use Rattle.lock_needs.specs.Nodes.{same_node}
@@ -20,10 +18,9 @@ use Rattle.lock_needs.proofs.NodeLaws.{same_node-true}
 use Rattle.lock_needs.proofs.ModeTables.{at_most-shares}
 use Rattle.lock_tree.specs.LockTable.{granted_in, sought_in, granted_at, sought_at}
 use Rattle.lock_tree.specs.Order.{stands_before, all_used, IsOrdered, KeepsOrder}
-use Rattle.lock_tree.proofs.QueueModes.{mode-absent}
-use Rattle.lock_tree.proofs.HeldModes.{option-cases, one-mode, mode-has_owner, nothing-shares, shares-in, covers-less, unqueued}
+use Rattle.lock_tree.proofs.HeldModes.{option-cases, mode-has_owner, nothing-shares, shares-in, covers-less, unqueued}
 use Rattle.lock_tree.proofs.Changes.{Changed, changed-lock, changed-mode, changed-gone, changed-unqueued, changed-request, changed-conversion}
-use Rattle.lock_tree.proofs.Blockers.{sought-converted, sought-waited, ahead-before}
+use Rattle.lock_tree.proofs.Blockers.{sought-converted, sought-waited}
 use Rattle.lock_tree.proofs.Ordered.{used-with_mode, stands-owner, fits-shares, flip, considered-ordered}
 
 module _ (before : ℕ → ℕ → Bool) (converts : ℕ → Bool) where

@@ -1,23 +1,21 @@
 -- A request that is refused would wait by needs, if it were queued, for whom the refusal names.
 use Rattle.std.proofs.Common.{◌≡◌, ℕ, ◌++◌, ◌∷◌, [], Bool, true, false, refl, sym, ◌∙◌, ap, subst, ◌⊎◌, inl, inr, List}
-use Rattle.std.specs.Prelude.{◌&&◌, ◌||◌, ◌==◌, not, if◌then◌else◌, Option, Some, None, unwrap_or, map}
+use Rattle.std.specs.Prelude.{◌&&◌, ◌||◌, ◌==◌, if◌then◌else◌, Option, Some, None, unwrap_or, map}
 use Rattle.std.specs.List.{filter}
-use Rattle.std.proofs.lemmas.Bool.{false≢true, cases_Bool, eq-eqb, eqb-true, and_parts, and_from, or_cases, or_left, or_right}
+use Rattle.std.proofs.lemmas.Bool.{false≢true, cases_Bool, eq-eqb, eqb-true, and_from, or_left, or_right}
 use Rattle.std.proofs.lemmas.Map.Entries.{lookup_head, lookup_tail}
 use Rattle.rdb_types.specs.declared.node.Node.{Node}
 use Rattle.vms_queues.specs.declared.lock_mode.Mode.{Mode}
 use Rattle.vms_queues.specs.declared.lock_mode.Mode.TheVariants.{NL}
 use Rattle.vms_queues.specs.declared.held.Held.{Held}
-use Rattle.vms_queues.specs.Modes.{may_share, at_most, least_above}
+use Rattle.vms_queues.specs.Modes.{at_most, least_above}
 use Rattle.vms_queues.specs.Queues.{Queues, IsSound, no_queues, has_owner, blocks, blockers, first_of, ask_blockers, entry, with_request, with_conversion}
 use Rattle.vms_queues.specs.Waits.{waits, blocked_by, conversion_waits, request_waits}
 use Rattle.vms_queues.proofs.WaitEdges.{conversion_waits-append, request_waits-append}
 use Rattle.vms_queues.proofs.Soundness.{sound-queued, sound-converting}
-use Rattle.vms_locks.specs.Table.{Table, queues_at, queues_with, ChangesAt, IsLive, WaitsIn}
+use Rattle.vms_locks.specs.Table.{Table, queues_at, ChangesAt, IsLive, WaitsIn}
 use Rattle.vms_locks.specs.Walks.{IsWalk, IsCycle}
-use Rattle.vms_locks.specs.Answers.{Request, Answers, asking, converting, WaitsQueued}
-use Rattle.vms_locks.specs.declared.answer.Enq.{Enq}
-use Rattle.vms_locks.specs.declared.answer.Enq.TheVariants.{Granted, Asleep, NotQueued, Deadlock}
+use Rattle.vms_locks.specs.Answers.{asking, converting, WaitsQueued}
 use Rattle.vms_locks.proofs.Awake.{changed-here, changed-elsewhere}
 use Rattle.lock_needs.specs.declared.need.Need.{Need}
 use Rattle.lock_needs.specs.declared.party.OpenWant.{OpenWant}
@@ -26,11 +24,10 @@ use Rattle.lock_needs.specs.declared.party.Party.{Party}
 use Rattle.lock_needs.specs.Nodes.{same_node}
 use Rattle.lock_needs.specs.Wants.{mode_for, kept_at}
 use Rattle.lock_needs.proofs.NodeLaws.{same_node-true, same_node-refl, same_node-sym}
-use Rattle.lock_tree.specs.LockTable.{granted_at, sought_at, HasIntents}
-use Rattle.lock_tree.specs.Parties.{IsKept, KeepsOthers, wanting, unasked, asked_at}
+use Rattle.lock_tree.specs.LockTable.{granted_at, HasIntents}
+use Rattle.lock_tree.specs.Parties.{IsKept, wanting, unasked, asked_at}
 use Rattle.lock_tree.specs.Order.{IsInOrder, AreKept, KeepsParty, asked_last, requesting, waits_by_needs, NoneInExcess}
 use Rattle.lock_tree.proofs.QueueModes.{mode-absent}
-use Rattle.lock_tree.proofs.Changes.{quiet-at}
 use Rattle.lock_tree.proofs.Conditions.{absent-quiet}
 use Rattle.lock_tree.proofs.WantAsked.{AskedAt, queued-asked, want-intents, want-kept, asked-others}
 use Rattle.lock_tree.proofs.AskedInOrder.{queued-law, queued-in_order, unqueued, no-conversion}

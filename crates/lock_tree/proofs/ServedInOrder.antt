@@ -1,30 +1,30 @@
 -- An owner whose lock is served a notice, or given back as its want ends, stands in the way by its needs.
 use Rattle.std.proofs.Common.{◌≡◌, ℕ, Bool, true, false, refl, sym, ◌∙◌, ap, subst, inl, inr, List}
-use Rattle.std.specs.Prelude.{◌&&◌, ◌||◌, ◌==◌, not, if◌then◌else◌, Option, Some, None}
-use Rattle.std.proofs.lemmas.Bool.{false≢true, cases_Bool, and_parts, and_from, or_cases, or_left, or_right, not_from_false}
+use Rattle.std.specs.Prelude.{◌&&◌, ◌==◌, not, if◌then◌else◌, Option, Some, None}
+use Rattle.std.proofs.lemmas.Bool.{false≢true, cases_Bool, and_parts, and_from, or_cases, not_from_false}
 use Rattle.rdb_types.specs.declared.node.Node.{Node}
 use Rattle.vms_queues.specs.declared.lock_mode.Mode.{Mode}
-use Rattle.vms_queues.specs.declared.lock_mode.Mode.TheVariants.{NL, CR, CW, PR, PW, EX}
+use Rattle.vms_queues.specs.declared.lock_mode.Mode.TheVariants.{NL, PR, EX}
 use Rattle.vms_queues.specs.Modes.{may_share, at_most, least_above, intent}
 use Rattle.vms_queues.proofs.ModeLaws.{all_modes-at, implies, from_implies, may_share-comm}
 use Rattle.vms_locks.specs.Table.{Table, queues_at, IsLive}
 use Rattle.lock_needs.specs.declared.need.Need.{Need}
 use Rattle.lock_needs.specs.declared.party.OpenWant.{OpenWant}
 use Rattle.lock_needs.specs.declared.party.Party.{Party}
-use Rattle.lock_needs.specs.Nodes.{same_node, contains, is_on, above_of}
+use Rattle.lock_needs.specs.Nodes.{same_node, contains, above_of}
 use Rattle.lock_needs.specs.Needs.{Holding}
 use Rattle.lock_needs.specs.Keeping.{below, needed_on, needed_uncovered, after_want, is_excess}
 use Rattle.lock_needs.specs.Wants.{mode_for, has_granted, opened_at, kept_at, intents_on}
 use Rattle.lock_needs.proofs.ModeTables.{at_most-refl, at_most-trans, at_most-join, at_most-shares, join-left, join-right}
-use Rattle.lock_needs.proofs.NodeLaws.{same_node-true, same_node-refl}
-use Rattle.lock_needs.proofs.Above.{top-alone, above-next}
+use Rattle.lock_needs.proofs.NodeLaws.{same_node-true}
+use Rattle.lock_needs.proofs.Above.{top-alone}
 use Rattle.lock_needs.proofs.Cover.{by_test}
 use Rattle.lock_needs.proofs.Enough.{uncovered-most}
 use Rattle.lock_needs.proofs.Growing.{join-more, kept-more}
 use Rattle.lock_needs.proofs.Joins.{nothing}
 use Rattle.lock_tree.specs.LockTable.{granted_at, sought_at, HasIntents}
 use Rattle.lock_tree.specs.Lowering.{HasTaken, BroughtDown}
-use Rattle.lock_tree.specs.Parties.{IsKeptBut, IsKept, nowhere, was_asked, is_needed, wanting, resting, unasked, asked_at}
+use Rattle.lock_tree.specs.Parties.{IsKept, was_asked, is_needed, wanting, resting, unasked, asked_at}
 use Rattle.lock_tree.specs.Order.{MakesWay, StandsByNeeds}
 use Rattle.lock_tree.proofs.HeldModes.{nothing-shares}
 use Rattle.lock_tree.proofs.Changes.{shares-live}

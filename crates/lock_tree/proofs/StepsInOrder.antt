@@ -1,13 +1,13 @@
 -- The order of the tree is kept by a notice, by a want that opens, goes down, is got or ends, and by a release.
-use Rattle.std.proofs.Common.{◌≡◌, ℕ, ◌++◌, ◌∷◌, [], Bool, true, false, refl, sym, ◌∙◌, ap, subst, ◌⊎◌, inl, inr, List}
-use Rattle.std.specs.Prelude.{◌&&◌, ◌||◌, ◌==◌, not, if◌then◌else◌, Option, Some, None}
-use Rattle.std.proofs.lemmas.Bool.{false≢true, cases_Bool, eq-eqb, eqb-true, and_parts, and_from, or_parts, or_cases, or_left, or_right}
+use Rattle.std.proofs.Common.{◌≡◌, ℕ, ◌++◌, ◌∷◌, [], Bool, true, false, refl, sym, ◌∙◌, ap, subst, inl, inr, List}
+use Rattle.std.specs.Prelude.{◌&&◌, ◌||◌, ◌==◌, if◌then◌else◌, Option, Some, None}
+use Rattle.std.proofs.lemmas.Bool.{false≢true, cases_Bool, eqb-true, and_parts, and_from, or_parts, or_cases, or_right}
 use Rattle.rdb_types.specs.declared.node.Level.TheVariants.{Area}
 use Rattle.rdb_types.specs.declared.node.Node.{Node}
 use Rattle.vms_queues.specs.declared.lock_mode.Mode.{Mode}
 use Rattle.vms_queues.specs.declared.lock_mode.Mode.TheVariants.{NL}
 use Rattle.vms_queues.specs.Modes.{may_share, at_most, least_above, intent}
-use Rattle.vms_queues.specs.Queues.{Queues, has_owner, is_queued}
+use Rattle.vms_queues.specs.Queues.{has_owner, is_queued}
 use Rattle.vms_locks.specs.Table.{Table, queues_at, IsLive}
 use Rattle.lock_needs.specs.declared.need.Need.{Need}
 use Rattle.lock_needs.specs.declared.party.OpenWant.{OpenWant}
@@ -19,18 +19,18 @@ use Rattle.lock_needs.specs.Keeping.{below, needed_on}
 use Rattle.lock_needs.specs.Wants.{mode_for, has_granted, opened_at, sleeps_at, kept_at}
 use Rattle.lock_needs.specs.Waits.{converts_at, asked_before}
 use Rattle.lock_needs.proofs.ModeTables.{at_most-refl, at_most-trans, at_most-join, join-left, join-right}
-use Rattle.lock_needs.proofs.NodeLaws.{same_node-true, same_node-refl, contains-self, contains-trans}
+use Rattle.lock_needs.proofs.NodeLaws.{same_node-true, contains-trans}
 use Rattle.lock_needs.proofs.Above.{top-alone}
 use Rattle.lock_needs.proofs.Cover.{by_test}
 use Rattle.lock_needs.proofs.Growing.{join-more}
 use Rattle.lock_needs.proofs.Joins.{nothing}
-use Rattle.lock_tree.specs.LockTable.{granted_in, sought_in, granted_at, sought_at, AllShare}
-use Rattle.lock_tree.specs.Parties.{IsKeptBut, IsKept, nowhere, wanting, resting, unasked, asked_at, was_asked}
-use Rattle.lock_tree.specs.Order.{stands_before, IsOrdered, IsInOrder, AreKept, KeepsParty, MakesWay, StandsByNeeds, asked_of_want, is_listed, without_asks, lessened_asks}
+use Rattle.lock_tree.specs.LockTable.{granted_in, sought_in, granted_at, sought_at}
+use Rattle.lock_tree.specs.Parties.{IsKept, wanting, resting, unasked, asked_at, was_asked}
+use Rattle.lock_tree.specs.Order.{IsOrdered, IsInOrder, AreKept, KeepsParty, MakesWay, StandsByNeeds, asked_of_want, is_listed, without_asks, lessened_asks}
 use Rattle.lock_tree.proofs.HeldModes.{nothing-shares}
 use Rattle.lock_tree.proofs.Changes.{shares-live, quiet-at}
 use Rattle.lock_tree.proofs.Ordered.{flip, stands-owner}
-use Rattle.lock_tree.proofs.Leaving.{and-none, opened-unasked, opened-up, up-same, sleeps-elsewhere}
+use Rattle.lock_tree.proofs.Leaving.{and-none, opened-up, up-same, sleeps-elsewhere}
 use Rattle.lock_tree.proofs.Asks.{listed-without, unlisted-without, before-without, before-lessened, before-asked, listed-lessened, listed-own}
 use Rattle.lock_tree.proofs.Arrivals.{holder-came}
 use Rattle.lock_tree.proofs.WayMade.{way-none, way-others, way-own}

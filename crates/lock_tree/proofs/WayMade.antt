@@ -1,15 +1,13 @@
 -- What an owner's making way leaves of the order.
-use Rattle.std.proofs.Common.{◌≡◌, ℕ, Bool, true, false, refl, sym, ◌∙◌, ap, subst, ◌⊎◌, inl, inr, List}
-use Rattle.std.specs.Prelude.{◌&&◌, ◌||◌, ◌==◌, not, if◌then◌else◌, Option, Some, None}
-use Rattle.std.proofs.lemmas.Bool.{false≢true, cases_Bool, eq-eqb, eqb-true, and_parts, and_from, or_parts}
+use Rattle.std.proofs.Common.{◌≡◌, ℕ, Bool, true, false, refl, sym, ◌∙◌, ap, subst, ◌⊎◌, inl, inr}
+use Rattle.std.specs.Prelude.{◌&&◌, ◌==◌, if◌then◌else◌}
+use Rattle.std.proofs.lemmas.Bool.{false≢true, cases_Bool, eqb-true, and_parts, and_from, or_parts}
 use Rattle.rdb_types.specs.declared.node.Node.{Node}
 use Rattle.vms_queues.specs.declared.lock_mode.Mode.{Mode}
 use Rattle.vms_queues.specs.declared.lock_mode.Mode.TheVariants.{NL, CR, CW, PR, PW, EX}
 use Rattle.vms_queues.specs.contracts.lock_mode.ModePartialEq.TheImpl as mode_eq
 use Rattle.vms_queues.specs.Modes.{may_share, at_most, least_above}
-use Rattle.vms_locks.specs.Table.{Table, queues_at, IsLive}
-use Rattle.lock_needs.specs.declared.party.OpenWant.{OpenWant}
-use Rattle.lock_needs.specs.declared.party.Asked.{Asked}
+use Rattle.vms_locks.specs.Table.{Table}
 use Rattle.lock_needs.specs.declared.party.Party.{Party}
 use Rattle.lock_needs.specs.declared.need.Need.{Need}
 use Rattle.lock_needs.specs.Nodes.{same_node}
@@ -21,10 +19,10 @@ use Rattle.lock_needs.proofs.Growing.{kept-more}
 use Rattle.lock_needs.proofs.Joins.{at_most-both, nothing}
 use Rattle.lock_tree.specs.LockTable.{granted_at, sought_at, AllShare, BarsNobody, RaisedAt, LoweredAt}
 use Rattle.lock_tree.specs.Parties.{IsKept}
-use Rattle.lock_tree.specs.Order.{IsInOrder, AreKept, KeepsOrder, MakesWay, StandsByNeeds}
+use Rattle.lock_tree.specs.Order.{KeepsOrder, MakesWay, StandsByNeeds}
 use Rattle.lock_tree.proofs.Ordered.{flip}
 use Rattle.lock_tree.proofs.LeastInWay.{shut-more}
-use Rattle.lock_tree.proofs.NeedsInWay.{IsAsleepAt, asleep-at}
+use Rattle.lock_tree.proofs.NeedsInWay.{asleep-at}
 
 -- the mode that `==` says isn't NL
 pub something-mode : (m : Mode) → (mode_eq.ghosts).eq m NL ≡ false → at_most m NL ≡ false

@@ -1,4 +1,4 @@
-use Rattle.std.proofs.Common.{◌≡◌, sym, ◌∙◌, ap, subst, true, false, Option}
+use Rattle.std.proofs.Common.{◌≡◌, sym, ◌∙◌, subst, true, Option}
 use Rattle.std.specs.Prelude.{unwrap_or}
 use Rattle.vms_queues.specs.declared.lock_mode.Mode.{Mode}
 use Rattle.vms_queues.specs.declared.lock_mode.Mode.TheVariants.{NL}

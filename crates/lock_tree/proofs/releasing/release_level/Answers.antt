@@ -11,9 +11,9 @@ loop-need-preserved c =
     let i = c.loop-need.need-index in
     let items = c.as_slice-need-items.result.now in (
       subst (λ (ws : List Need). AreReleased c.args.owner c.args.level (take (i + 1) ws) c.args.locks.now c.release_at.new.locks) c.as_slice-need-items.ensures
-    (released-next c.args.owner c.args.level items i _ c.loop-need-test.true c.args.locks.now c.loop-need.locks c.release_at.new.locks
-    (subst (λ (ws : List Need). AreReleased c.args.owner c.args.level (take i ws) c.args.locks.now c.loop-need.locks) (sym c.as_slice-need-items.ensures) c.loop-need.invariant.0)
-    c.release_at.ensures.releasing c.release_at.ensures.gone),
+          (released-next c.args.owner c.args.level items i _ c.loop-need-test.true c.args.locks.now c.loop-need.locks c.release_at.new.locks
+          (subst (λ (ws : List Need). AreReleased c.args.owner c.args.level (take i ws) c.args.locks.now c.loop-need.locks) (sym c.as_slice-need-items.ensures) c.loop-need.invariant.0)
+          c.release_at.ensures.releasing c.release_at.ensures.gone),
       way-then c.args.owner c.args.locks.now c.loop-need.locks c.release_at.new.locks c.loop-need.invariant.1 c.release_at.ensures.way,
     )
 
