@@ -67,7 +67,7 @@ reads-below m k h c e p =
     (not_from_false (at_most EX m) e)) p
 
 -- where a lock is no intent, what is kept is what it allows
-at-least-read : (h k : Mode) → (at_most PR h ≡ true → at_most k h ≡ true) → at_most (intent h) k ≡ true → (at_most k h && not (at_most h k)) ≡ false → at_most h k ≡ true
+pub at-least-read : (h k : Mode) → (at_most PR h ≡ true → at_most k h ≡ true) → at_most (intent h) k ≡ true → (at_most k h && not (at_most h k)) ≡ false → at_most h k ≡ true
 at-least-read h k f i x = elim (cases_Bool (at_most PR h)) [
   | inl t ↦ elim (cases_Bool (at_most h k)) [
     | inl y ↦ y
@@ -98,7 +98,7 @@ module _ (held : Holding) (n : Node) (intents : HasIntentsAbove held) (none : Ha
         ]))) ∙ same_node-refl x))
       ]
 
-  below-allowed : (ws : List Need) → all_covered held ws ≡ true → at_most (below ws n) (held n) ≡ true
+  pub below-allowed : (ws : List Need) → all_covered held ws ≡ true → at_most (below ws n) (held n) ≡ true
   below-allowed [] h = nothing (held n)
   below-allowed (w ∷ ws) h =
       let p = and_parts (is_covered held w) (all_covered held ws) h in
@@ -115,7 +115,7 @@ module _ (held : Holding) (n : Node) (intents : HasIntentsAbove held) (none : Ha
         | inr r ↦ reads-below (held c.0) w.mode (held n) r.1 (none c.0 (subst (λ (z : Node). contains c.0 z ≡ true) (sym e) r.0)) reads
       ]
 
-  needed-allowed : (ws : List Need) → all_covered held ws ≡ true → at_most (needed_on ws n) (held n) ≡ true
+  pub needed-allowed : (ws : List Need) → all_covered held ws ≡ true → at_most (needed_on ws n) (held n) ≡ true
   needed-allowed [] h = nothing (held n)
   needed-allowed (w ∷ ws) h =
       let p = and_parts (is_covered held w) (all_covered held ws) h in
@@ -123,7 +123,7 @@ module _ (held : Holding) (n : Node) (intents : HasIntentsAbove held) (none : Ha
       (λ s. on-allowed w p.0 (same_node-true n w.node s)) (needed-allowed ws p.1)
 
 -- intents of needs on the node and below are among what is kept there
-intents-kept : (n : Node) (keep : Mode) (ws : List Need) → at_most (below ws n) keep ≡ true → at_most (needed_on ws n) keep ≡ true → at_most (intents_on ws n) keep ≡ true
+pub intents-kept : (n : Node) (keep : Mode) (ws : List Need) → at_most (below ws n) keep ≡ true → at_most (needed_on ws n) keep ≡ true → at_most (intents_on ws n) keep ≡ true
 intents-kept n keep [] h g = nothing keep
 intents-kept n keep (w ∷ ws) h g =
     let p = if-join (contains n w.node) (intent w.mode) (below ws n) keep h in
