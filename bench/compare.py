@@ -1,4 +1,4 @@
-"""Compares rdb with the sqlite3 shell, and its disk with plain C. Each work is run several times; the best time of each counts."""
+"""Compares rdb with the sqlite3 shell, its disk with plain C, and an index with a map of std. Each work is run several times; the best time of each counts."""
 import os
 import shutil
 import subprocess
@@ -8,6 +8,7 @@ import time
 
 RDB = sys.argv[1]
 FILE_BENCH = os.path.abspath(os.path.join(os.path.dirname(RDB), "..", "..", "file_bench", "out", "file_bench"))
+INDEX_BENCH = os.path.abspath(os.path.join(os.path.dirname(RDB), "..", "..", "index_bench", "out", "index_bench"))
 SESSIONS = 16
 ROUNDS = 5
 SQLITE = shutil.which("sqlite3")
@@ -201,6 +202,36 @@ def growth_of_scan(slots, folder):
     print(f"a scan of a journal of {slots:,} slots: {whole * 1000:.1f} ms; 4 times the work takes {whole / quarter:.1f} times as long")
 
 
+def index_work(job, keys, rounds, folder):
+    """The seconds of a job on an index or a map, and the counts that it prints: those found and the lines looked at."""
+    words = [INDEX_BENCH, job, str(keys)] + ([] if rounds is None else [str(rounds)])
+    took, printed = timed(words, b"", folder)
+    if took is None:
+        return None, 0, 0
+    found, visits = (int(part.split()[0]) for part in printed.decode().split(", "))
+    return took, found, visits
+
+
+def compare_index(keys, rounds, folder):
+    """Finds in an index beside those in a map of std together with the decoding of as many nodes as the finds read."""
+    if not os.path.exists(INDEX_BENCH):
+        print("index: skipped, index_bench isn't built (rt run in crates/index_bench)")
+        return
+    insert, _, _ = index_work("insert", keys, None, folder)
+    find, found, visits = index_work("find", keys, rounds, folder)
+    decode, _, _ = index_work("decode", keys, rounds, folder)
+    few, _, _ = index_work("map", keys, 0, folder)
+    many, _, _ = index_work("map", keys, rounds, folder)
+    quarter, _, _ = index_work("insert", keys // 4, None, folder)
+    if None in (insert, find, decode, few, many, quarter) or found != keys * rounds:
+        print("index: a job failed")
+        return
+    count = keys * rounds
+    ours, theirs = find - insert, (many - few) + (decode - insert)
+    print(f"{keys:,} keys put into an index: {insert * 1000:.1f} ms; 4 times the work takes {insert / quarter:.1f} times as long")
+    print(f"{count:,} finds: {ours / count * 1e6:.2f} us each, {visits / count:.1f} nodes each; a map of std and decoding {theirs / count * 1e6:.2f} us, ratio {ours / theirs:.2f}")
+
+
 with tempfile.TemporaryDirectory() as folder:
     compare("20,000 PRINTs", rdo_prints(20000), sql_prints(20000), folder)
     compare("10,000 STOREs and a FOR", rdo_stores(10000), sql_stores(10000), folder)
@@ -214,3 +245,4 @@ with tempfile.TemporaryDirectory() as folder:
     compare_sessions(500, folder)
     compare_disks(10000, 1000, folder)
     growth_of_scan(262144, folder)
+    compare_index(5000, 20, folder)

@@ -1,6 +1,6 @@
 -- The sessions may cross threads. Expressions and actions are recursive types, whose laws stand with their knots; a search does each
 -- of them anew at every use and comes to its end, so the parts are shown one by one here.
-use denote.Param.Send.{IsSend, sendable, recorded_send, enum_send, struct_send, view_send, fixed_send}
+use denote.Param.Send.{IsSend, sendable, recorded_send, enum_send, struct_send, view_send}
 use denote.Builtin as Builtin
 use denote.Enum.Enum.{Enum}
 use denote.Enum.Declared as E

@@ -36,7 +36,7 @@ pub(crate) fn is_entry(level: u8, entry: &NodeEntry) -> bool
 }
 
 /// The bytes that an entry takes.
-pub(crate) fn entry_size(entry: &NodeEntry) -> usize
+pub fn entry_size(entry: &NodeEntry) -> usize
     requires { size (values_fields entry.now.key) ≤ 120 }
     ensures value { result ≡ size (entry_fields entry.now) }
     ensures within { result ≤ 141 }

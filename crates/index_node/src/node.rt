@@ -50,8 +50,8 @@ pub fn is_allowed_node(node: &IndexNode) -> bool
     entries.iter().all(|entry| is_entry(level, entry)) && is_ascending(entries)
 }
 
-// The bytes that entries take, or None where they are more than the limit.
-fn entries_size(level: u8, entries: &[NodeEntry], limit: usize) -> Option<usize>
+/// The bytes that entries take, or None where they are more than the limit.
+pub fn entries_size(level: u8, entries: &[NodeEntry], limit: usize) -> Option<usize>
     requires { All (IsEntry level) entries.now }
     ensures value { IfSome result (λ bytes. bytes ≡ size (flat_map entry_fields entries.now)) }
     ensures within { IfSome result (λ bytes. bytes ≤ limit) }

@@ -23,19 +23,28 @@ asked_before first second n [] = false
 asked_before first second n (a ∷ rest) =
     if same_node a.node n && (a.owner == first || a.owner == second) then a.owner == first else asked_before first second n rest
 
--- the party has got a need that conflicts with this want
+-- The open want of another owner, which has got these needs, conflicts with this want, and converts at the upper node or was asked there before.
+abbrev pub comes_first : List Asked → (waiter : ℕ) → Need → (other : ℕ) → List Need → Option Need → Bool
+comes_first asks waiter w other got None = false
+comes_first asks waiter w other got (Some v) = conflict w v && (converts_at got (upper_of w v) || asked_before other waiter (upper_of w v) asks)
+
+-- An owner with this want open waits for another, which has got these needs and has this want open: the want conflicts with a need that
+-- is got, or with an open want that comes first.
+abbrev pub is_behind : List Asked → (waiter : ℕ) → Need → (other : ℕ) → List Need → Option Need → Bool
+is_behind asks waiter w other got opened = not (waiter == other) && (list_any (conflict w) got || comes_first asks waiter w other got opened)
+
+-- ---- by parties
+
+abbrev pub wanted : Option OpenWant → Option Need
+wanted None = None
+wanted (Some v) = Some v.need
+
 abbrev pub holds_against : Need → Party → Bool
 holds_against w p = list_any (conflict w) p.needs
 
-abbrev pub wants_against_open : List Asked → ℕ → Need → ℕ → Party → Option OpenWant → Bool
-wants_against_open asks s w t p None = false
-wants_against_open asks s w t p (Some v) = conflict w v.need && (converts_at p.needs (upper_of w v.need) || asked_before t s (upper_of w v.need) asks)
-
--- t's open want conflicts with this one of s, and converts at the upper node or was asked there before
 abbrev pub wants_against : List Asked → ℕ → Need → ℕ → Party → Bool
-wants_against asks s w t p = wants_against_open asks s w t p p.opened
+wants_against asks s w t p = comes_first asks s w t p.needs (wanted p.opened)
 
--- The owner s, of which this want is open, waits for the owner t, of which this is the party: the want conflicts with a need that
--- t has got, or with an open want of t that comes first.
+-- The owner s, of which this want is open, waits for the owner t, of which this is the party.
 abbrev pub waits_for : List Asked → (s : ℕ) → Need → (t : ℕ) → Party → Bool
-waits_for asks s w t p = not (s == t) && (holds_against w p || wants_against asks s w t p)
+waits_for asks s w t p = is_behind asks s w t p.needs (wanted p.opened)

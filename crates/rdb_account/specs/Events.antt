@@ -6,15 +6,11 @@ use Rattle.rdo_ast.specs.declared.reply.Standing.{Standing}
 use Rattle.rdo_ast.specs.Tree.{Uttered}
 use Rattle.rdo_ast.specs.Views.{uttered_of}
 use Rattle.vms_queues.specs.declared.lock_mode.Mode.{Mode}
+use Rattle.lock_needs.specs.declared.need.Need.{Need}
 use Rattle.rdb_types.specs.declared.node.Node.{Node}
 use Rattle.rdb_types.specs.declared.session.Cause.{Cause}
 use Rattle.rdb_account.specs.declared.event.Event.{Event as Declared}
 use Rattle.rdb_account.specs.declared.event.Event.TheVariants as e
-
--- a node and the mode that is needed there
-pub record Need : Type 0 where
-  pub node : Node
-  pub mode : Mode
 
 -- The first number of each is the session's.
 pub data Event : Type 0 where

@@ -1,5 +1,5 @@
 -- Which session waits for which, and when locks, limits and memory may refuse a statement.
-use Rattle.std.specs.Prelude.{◌≡◌, ℕ, zero, suc, Bool, true, false, not, ◌&&◌, ◌||◌, ◌==◌, ◌+◌, ◌-◌, nat_lt, ◌%◌, if◌then◌else◌, List, [], ◌∷◌, length, sum_by, Option, Some, None}
+use Rattle.std.specs.Prelude.{◌≡◌, ℕ, zero, suc, Bool, true, false, not, ◌&&◌, ◌||◌, ◌==◌, ◌+◌, ◌-◌, nat_lt, ◌%◌, if◌then◌else◌, List, [], ◌∷◌, length, map, sum_by, Option, Some, None}
 use Rattle.std.specs.List.{list_any}
 use Rattle.rdb_types.specs.declared.keys.Dbkey.{Dbkey}
 use Rattle.rdo_ast.specs.declared.reply.Reply.{Reply}
@@ -10,9 +10,9 @@ use Rattle.rdo_ast.specs.Tree.{Uttered, said, syntax_fault, invoke, start_read_o
 use Rattle.rdb_meaning.specs.declared.tables.Tables.{Tables}
 use Rattle.rdb_meaning.specs.Checks.{Refusal, is_retrieval}
 use Rattle.rdb_meaning.specs.Meaning.{Meaning, means, meaningless, meaning, needs_closed, needs_open, needs_read_write, act_standing_refusal}
-use Rattle.rdb_types.specs.declared.node.Node.{Node}
-use Rattle.rdb_account.specs.Events.{Need}
-use Rattle.rdb_account.specs.Needs.{same_node, contains, conflict, upper_of}
+use Rattle.lock_needs.specs.declared.need.Need.{Need}
+use Rattle.lock_needs.specs.declared.party.Asked.{Asked}
+use Rattle.lock_needs.specs.Waits.{is_behind}
 use Rattle.rdb_account.specs.Places.{Opening, Transaction, Ask, Place, is_done}
 
 -- ---- waits
@@ -26,28 +26,16 @@ abbrev pub want_in : ℕ → List Ask → Option Need
 want_in s [] = None
 want_in s (a ∷ as') = if a.session == s then Some a.need else want_in s as'
 
--- t holds a need on the node or on one that it contains, so its want there is a conversion
-abbrev pub converts : Place → ℕ → Node → Bool
-converts p t n = list_any (λ g. same_node n g.node || contains n g.node) (got_of (p.transaction t))
-
--- the want of t was asked at the node, and before that of s
-abbrev pub asked_before : ℕ → ℕ → Node → List Ask → Bool
-asked_before t s n [] = false
-asked_before t s n (a ∷ as') =
-    if same_node a.node n && (a.session == t || a.session == s) then a.session == t else asked_before t s n as'
-
-abbrev pub stands_before : Place → ℕ → ℕ → Need → Option Need → Bool
-stands_before p t s want (Some other) =
-    conflict want other && (converts p t (upper_of want other) || asked_before t s (upper_of want other) p.asks)
-stands_before p t s want None = false
+abbrev pub asked_of : Ask → Asked
+asked_of a = record { owner = a.session; node = a.node }
 
 abbrev pub waits_by : Place → ℕ → ℕ → Option Need → Bool
-waits_by p s t (Some want) = list_any (conflict want) (got_of (p.transaction t)) || stands_before p t s want (want_in t p.asks)
+waits_by p s t (Some want) = is_behind (map asked_of p.asks) s want t (got_of (p.transaction t)) (want_in t p.asks)
 waits_by p s t None = false
 
 -- s waits for t: its open want conflicts with a need that t has got, or with an open want of t that comes first
 abbrev pub waits : Place → ℕ → ℕ → Bool
-waits p s t = not (s == t) && waits_by p s t (want_in s p.asks)
+waits p s t = waits_by p s t (want_in s p.asks)
 
 -- ---- refusals of locks
 

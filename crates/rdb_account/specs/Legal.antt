@@ -11,7 +11,7 @@ use Rattle.rdb_meaning.specs.Usual.{is_refusal_of_means}
 use Rattle.rdb_types.specs.declared.session.Cause.{Cause}
 use Rattle.rdb_types.specs.declared.session.Cause.TheVariants as cause
 use Rattle.rdb_account.specs.Events.{Event, Began, Wanted, Got, Demoted, Said, Committed, RolledBack, Died, Recovered}
-use Rattle.rdb_account.specs.Needs.{same_node, contains}
+use Rattle.lock_needs.specs.Nodes.{same_node, contains}
 use Rattle.rdb_account.specs.Places.{Opening, Place, Transaction, Line, Life, living, over, dead, Due, nothing, commit_reply, rollback_reply, rolls_back, start, after, place, next_item, begins, is_done, is_writer, retold, IsTold}
 use Rattle.rdb_account.specs.Lawful.{reply_of, IsExcused, has_cause}
 

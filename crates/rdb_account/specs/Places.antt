@@ -15,8 +15,9 @@ use Rattle.vms_queues.specs.Modes.{may_share}
 use Rattle.rdb_types.specs.declared.node.Level.{Level}
 use Rattle.rdb_types.specs.declared.node.Level.TheVariants as level
 use Rattle.rdb_types.specs.declared.node.Node.{Node}
-use Rattle.rdb_account.specs.Events.{Need, Event, Began, Wanted, Got, Demoted, Said, Committed, RolledBack, Died, Recovered}
-use Rattle.rdb_account.specs.Needs.{same_node}
+use Rattle.lock_needs.specs.declared.need.Need.{Need}
+use Rattle.rdb_account.specs.Events.{Event, Began, Wanted, Got, Demoted, Said, Committed, RolledBack, Died, Recovered}
+use Rattle.lock_needs.specs.Nodes.{same_node}
 
 -- ---- what the account is read beside
 

@@ -1,5 +1,5 @@
 -- A read-write transaction begins: it asks for the lock, and is refused at once where it doesn't wait and another is before it.
-use Rattle.std.proofs.Common.{◌≡◌, ℕ, ◌+◌, ◌++◌, ◌∷◌, [], ◌==◌, ◌||◌, if◌then◌else◌, Bool, true, false, List, refl, ◌∙◌, sym, ap, subst, arith, map, Option, Some, None, inl, inr, ◌⊎◌}
+use Rattle.std.proofs.Common.{◌≡◌, ℕ, ◌+◌, ◌++◌, ◌∷◌, [], ◌==◌, ◌||◌, ◌&&◌, not, if◌then◌else◌, Bool, true, false, List, refl, ◌∙◌, sym, ap, subst, arith, map, Option, Some, None, inl, inr, ◌⊎◌}
 use Rattle.rdo_ast.specs.declared.reply.Reply.TheVariants as r
 use Rattle.rdo_ast.specs.declared.reply.Standing.{Standing}
 use Rattle.rdo_ast.specs.declared.reply.Standing.TheVariants.{Closed, ReadOnly}
@@ -10,10 +10,11 @@ use Rattle.rdb_meaning.specs.declared.tables.Tables.{Tables}
 use Rattle.rdb_meaning.specs.Checks.{is_retrieval}
 use Rattle.std.specs.List.{list_any}
 use Rattle.vms_queues.specs.Queues.{first_of}
-use Rattle.rdb_account.specs.Needs.{conflict}
+use Rattle.lock_needs.specs.Needs.{conflict}
+use Rattle.lock_needs.specs.Waits.{converts_at, asked_before, comes_first}
 use Rattle.rdb_account.specs.Events.{Began, Wanted, Said, RolledBack}
 use Rattle.rdb_account.specs.Places.{Opening, Place, Transaction, Line, Ask, nothing, rolls_back, at, after, begins, begun, wanting, with_line, is_writer, leaves_none, asks_of_others}
-use Rattle.rdb_account.specs.Lawful.{waits, waits_by, want_in, got_of, asked_before, stands_before, converts, never_sleeps, first_refusal, never_waits}
+use Rattle.rdb_account.specs.Lawful.{waits, waits_by, want_in, got_of, asked_of, never_sleeps, first_refusal, never_waits}
 use Rattle.rdb_account.specs.Legal.{May, MaySay}
 use Rattle.session_steps.specs.declared.member.State.TheVariants.{Outside, Asking}
 use Rattle.session_steps.specs.Members.{member}
@@ -158,23 +159,23 @@ or-true a = grind arith
 
 -- the one inside has got the lock
 waits-inside : (p : Place) (s t : ℕ) → HasGot (p.transaction t) → (s == t) ≡ false → want_in s p.asks ≡ Some the_lock → waits p s t ≡ true
-waits-inside p s t has other want = rw other (rw want (rw has refl))
+waits-inside p s t has other want = rw want (rw other (rw has refl))
 
 -- the first in the queue asked before
 first-want : (p : Place) (t : ℕ) (asks : List Ask) → p.asks ≡ ask_of t ∷ asks → want_in t p.asks ≡ Some the_lock
 first-want p t asks first = rw first (rw (same-number t) refl)
 
-first-asked : (p : Place) (s t : ℕ) (asks : List Ask) → p.asks ≡ ask_of t ∷ asks → asked_before t s first_area p.asks ≡ true
+first-asked : (p : Place) (s t : ℕ) (asks : List Ask) → p.asks ≡ ask_of t ∷ asks → asked_before t s first_area (map asked_of p.asks) ≡ true
 first-asked p s t asks first = rw first (rw (same-number t) refl)
 
-first-stands : (p : Place) (s t : ℕ) (asks : List Ask) → p.asks ≡ ask_of t ∷ asks → stands_before p t s the_lock (want_in t p.asks) ≡ true
+first-stands : (p : Place) (s t : ℕ) (asks : List Ask) → p.asks ≡ ask_of t ∷ asks → comes_first (map asked_of p.asks) s the_lock t (got_of (p.transaction t)) (want_in t p.asks) ≡ true
 first-stands p s t asks first =
-    ap (λ w. stands_before p t s the_lock w) (first-want p t asks first)
-    ∙ (ap (λ b. converts p t first_area || b) (first-asked p s t asks first) ∙ or-true (converts p t first_area))
+    ap (λ w. comes_first (map asked_of p.asks) s the_lock t (got_of (p.transaction t)) w) (first-want p t asks first)
+    ∙ (ap (λ b. converts_at (got_of (p.transaction t)) first_area || b) (first-asked p s t asks first) ∙ or-true (converts_at (got_of (p.transaction t)) first_area))
 
 waits-first : (p : Place) (s t : ℕ) (asks : List Ask) → p.asks ≡ ask_of t ∷ asks → (s == t) ≡ false → want_in s p.asks ≡ Some the_lock → waits p s t ≡ true
 waits-first p s t asks first other want =
-    rw other (ap (λ w. waits_by p s t w) want ∙ (ap (λ b. list_any (conflict the_lock) (got_of (p.transaction t)) || b) (first-stands p s t asks first) ∙ or-true _))
+    ap (λ w. waits_by p s t w) want ∙ (ap (λ b. not (s == t) && (list_any (conflict the_lock) (got_of (p.transaction t)) || b)) (first-stands p s t asks first) ∙ rw other (or-true _))
 
 pub waits-for : (p : Place) (lock : Lock) (s t : ℕ) (more : List Ask) → first_of (turns_of lock) ≡ Some t → (s == t) ≡ false →
     p.asks ≡ map ask_of lock.queue ++ more → ((u : ℕ) → lock.inside ≡ Some u → HasGot (p.transaction u)) → want_in s p.asks ≡ Some the_lock → waits p s t ≡ true

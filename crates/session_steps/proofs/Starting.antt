@@ -12,8 +12,9 @@ use Rattle.rdb_meaning.specs.declared.tables.Tables.{Tables}
 use Rattle.rdb_meaning.specs.Meaning.{means, meaning}
 use Rattle.rdb_meaning.specs.Usual.{is_refusal_of_means}
 use Rattle.vms_queues.specs.Queues.{first_of}
-use Rattle.rdb_account.specs.Events.{Need, Got, Said, RolledBack}
-use Rattle.rdb_account.specs.Needs.{conflict}
+use Rattle.lock_needs.specs.declared.need.Need.{Need}
+use Rattle.rdb_account.specs.Events.{Got, Said, RolledBack}
+use Rattle.lock_needs.specs.Needs.{conflict}
 use Rattle.rdb_account.specs.Places.{Opening, Place, Transaction, Line, nothing, rolls_back, at, after, is_done, with_need, with_line, pairs_with, leaves_none, asks_of_others, fresh}
 use Rattle.rdb_account.specs.Legal.{May, MaySay, IsReply}
 use Rattle.session_steps.specs.declared.member.State.TheVariants.{Outside, Asking, Writing}

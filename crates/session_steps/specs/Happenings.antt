@@ -7,7 +7,8 @@ use Rattle.rdo_ast.specs.declared.reply.Reply.TheVariants as r
 use Rattle.rdo_ast.specs.declared.reply.Standing.TheVariants.{ReadOnly}
 use Rattle.rdo_ast.specs.Tree.{Command, said, commit, rollback}
 use Rattle.rdo_ast.specs.Views.{uttered_of}
-use Rattle.rdb_account.specs.Events.{Event, Need, need, Began, Wanted, Got, Said, Committed, RolledBack}
+use Rattle.lock_needs.specs.declared.need.Need.{Need}
+use Rattle.rdb_account.specs.Events.{Event, need, Began, Wanted, Got, Said, Committed, RolledBack}
 use Rattle.session_steps.specs.declared.happening.Answer.{Answer}
 use Rattle.session_steps.specs.declared.happening.Happening.{Happening}
 use Rattle.session_steps.specs.declared.happening.Happening.TheVariants as h

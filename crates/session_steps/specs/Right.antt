@@ -8,7 +8,7 @@ use Rattle.rdo_ast.specs.Views.{uttered_of}
 use Rattle.rdb_meaning.specs.declared.tables.Tables.{Tables}
 use Rattle.rdb_account.specs.declared.event.Event.{Event as Declared}
 use Rattle.rdb_account.specs.Events.{event_of}
-use Rattle.rdb_account.specs.Needs.{conflict}
+use Rattle.lock_needs.specs.Needs.{conflict}
 use Rattle.rdb_account.specs.Places.{Opening, Place, Transaction, Ask, some_reply, retold, is_writer, begins, place}
 use Rattle.rdb_account.specs.Lawful.{got_of}
 use Rattle.rdb_account.specs.Legal.{IsLegal}

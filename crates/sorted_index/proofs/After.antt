@@ -48,15 +48,15 @@ abbrev pub Inner : Lines → ℕ → (level : ℕ) → Tree level → Type 0
 Inner lines area zero tree = Unit {0}
 Inner lines area (suc level) tree = AllByRecursion (StandsBelow lines area level) tree.entries × AreParted level tree.entries
 
-abbrev inner_places : (level : ℕ) → Tree level → List Dbkey
+abbrev pub inner_places : (level : ℕ) → Tree level → List Dbkey
 inner_places zero tree = []
 inner_places (suc level) tree = PlacesOf level tree.entries
 
-stands_whole : (lines : Lines) (area level : ℕ) (tree : Tree level) → (place level tree).area ≡ area → Bears (line_in (place level tree) lines) (node_of level tree) → Inner lines area level tree → Stands lines area level tree
+pub stands_whole : (lines : Lines) (area level : ℕ) (tree : Tree level) → (place level tree).area ≡ area → Bears (line_in (place level tree) lines) (node_of level tree) → Inner lines area level tree → Stands lines area level tree
 stands_whole lines area zero tree a b i = (a, b)
 stands_whole lines area (suc level) tree a b i = (a, b, i.0, i.1)
 
-inner_beside : (lines : Lines) (key : Dbkey) (image : Option (List ℕ)) (area level : ℕ) (tree : Tree level) → IsApart key (inner_places level tree) → Inner lines area level tree → Inner (laid key image lines) area level tree
+pub inner_beside : (lines : Lines) (key : Dbkey) (image : Option (List ℕ)) (area level : ℕ) (tree : Tree level) → IsApart key (inner_places level tree) → Inner lines area level tree → Inner (laid key image lines) area level tree
 inner_beside lines key image area zero tree apart i = tt
 inner_beside lines key image area (suc level) tree apart i = (all_beside lines key image area level (stands_beside lines key image area level) tree.entries apart i.0, i.1)
 
@@ -65,15 +65,15 @@ inner_apart pair zero tree h = tt
 inner_apart pair (suc level) tree h =
     all_replaced (λ k. is_eq (dbkey_order k tree.at) ≡ false) pair level (without pair level) (all_within (λ k. is_eq (dbkey_order k tree.at) ≡ false) pair level) tree.entries (head_apart tree.at (PlacesOf level tree.entries) h)
 
-children_beside : (lines : Lines) (writes : List Write) (area level : ℕ) (children : List (NodeEntry × Tree level)) → WriteOn (λ key. IsApart key (PlacesOf level children)) writes → AllByRecursion (StandsBelow lines area level) children → AllByRecursion (StandsBelow (laid_all writes lines) area level) children
+pub children_beside : (lines : Lines) (writes : List Write) (area level : ℕ) (children : List (NodeEntry × Tree level)) → WriteOn (λ key. IsApart key (PlacesOf level children)) writes → AllByRecursion (StandsBelow lines area level) children → AllByRecursion (StandsBelow (laid_all writes lines) area level) children
 children_beside lines [] area level children apart is = is
 children_beside lines (w ∷ writes) area level children apart is = children_beside (laid w.key w.image lines) writes area level children apart.1 (all_beside lines w.key w.image area level (stands_beside lines w.key w.image area level) children apart.0 is)
 
-area_of : (lines : Lines) (area level : ℕ) (tree : Tree level) → Stands lines area level tree → (place level tree).area ≡ area
+pub area_of : (lines : Lines) (area level : ℕ) (tree : Tree level) → Stands lines area level tree → (place level tree).area ≡ area
 area_of lines area zero tree is = is.0
 area_of lines area (suc level) tree is = is.0
 
-equal_eq : (key : Dbkey) → is_eq (dbkey_order key key) ≡ true
+pub equal_eq : (key : Dbkey) → is_eq (dbkey_order key key) ≡ true
 equal_eq key = ap is_eq (tied_itself dbkey_total key)
 
 -- a node that is written behind what is below it
@@ -131,7 +131,7 @@ all_areas : (lines : Lines) (area level : ℕ) → ((tree : Tree level) → Stan
 all_areas lines area level inner [] h = tt
 all_areas lines area level inner (child ∷ children) h = all_append (λ (k : Dbkey). k.area ≡ area) (places level child.1) (PlacesOf level children) (inner child.1 h.0.1) (all_areas lines area level inner children h.1)
 
-areas : (lines : Lines) (area level : ℕ) (tree : Tree level) → Stands lines area level tree → AllByRecursion (λ (k : Dbkey). k.area ≡ area) (places level tree)
+pub areas : (lines : Lines) (area level : ℕ) (tree : Tree level) → Stands lines area level tree → AllByRecursion (λ (k : Dbkey). k.area ≡ area) (places level tree)
 areas lines area zero tree is = (is.0, tt)
 areas lines area (suc level) tree is = (is.0, all_areas lines area level (areas lines area level) tree.entries is.2)
 

@@ -9,7 +9,7 @@ use Rattle.slot_fields.proofs.Laws.{size_append, whole_ends}
 use Rattle.index_node.specs.declared.entry.NodeEntry.{NodeEntry}
 use Rattle.index_node.specs.declared.node.IndexNode.{IndexNode}
 use Rattle.index_node.specs.Order.{entry_order}
-use Rattle.index_node.specs.Node.{entry_fields, node_fields, IsEntry}
+use Rattle.index_node.specs.Node.{entry_fields, node_fields, IsEntry, IsAscending}
 use Rattle.sorted_index.specs.Changes.{without_pair}
 use Rattle.sorted_index.specs.Steps.{IsKnownAs, IsLaid}
 use Rattle.sorted_index.proofs.Ordered.{Lt, Ascend, ascend}
@@ -83,3 +83,6 @@ laid_fewer level es xs are laid =
       },
       omega (arith, bytes, laid.1),
     )
+
+pub is_ascending : (es : List NodeEntry) → Ascend es → IsAscending es
+is_ascending es h = λ k d inside. ascending_at es k (k + 1) d (omega arith) inside h

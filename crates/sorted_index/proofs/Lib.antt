@@ -16,3 +16,12 @@ pub mod PlacesIn
 pub mod Laid
 pub mod Chosen
 pub mod TakenOut
+pub mod Put
+pub mod Apart
+pub mod Exchange
+pub mod Halves
+pub mod Between
+pub mod Fits
+pub mod Cutting
+pub mod Growing
+pub mod Rooted

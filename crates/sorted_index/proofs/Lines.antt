@@ -44,7 +44,7 @@ apart_none : (ys : List Dbkey) → AreApart [] ys
 apart_none [] = tt
 apart_none (y ∷ ys) = (tt, apart_none ys)
 
-apart_more : (x : Dbkey) (xs ys : List Dbkey) → AllByRecursion (λ y. is_eq (dbkey_order x y) ≡ false) ys → AreApart xs ys → AreApart (x ∷ xs) ys
+pub apart_more : (x : Dbkey) (xs ys : List Dbkey) → AllByRecursion (λ y. is_eq (dbkey_order x y) ≡ false) ys → AreApart xs ys → AreApart (x ∷ xs) ys
 apart_more x xs [] h k = tt
 apart_more x xs (y ∷ ys) h k = ((h.0, k.0), apart_more x xs ys h.1 k.1)
 
@@ -97,7 +97,7 @@ pub tail_distinct : (x : Dbkey) (xs : List Dbkey) → Distinct (x ∷ xs) → Di
 unfolding IsDistinct
 tail_distinct x xs h = h.1
 
-untold : (x : Dbkey) (ys : List Dbkey) → IsApart x ys → AllByRecursion (λ y. is_eq (dbkey_order x y) ≡ false) ys
+pub untold : (x : Dbkey) (ys : List Dbkey) → IsApart x ys → AllByRecursion (λ y. is_eq (dbkey_order x y) ≡ false) ys
 untold x [] h = tt
 untold x (y ∷ ys) h = (other_way x y ∙ h.0, untold x ys h.1)
 
@@ -118,3 +118,7 @@ WriteOn P = AllByRecursion (λ w. P w.key)
 pub stands_beside_all : (lines : Lines) (writes : List Write) (area level : ℕ) (tree : Tree level) → WriteOn (λ key. IsApart key (places level tree)) writes → Stands lines area level tree → Stands (laid_all writes lines) area level tree
 stands_beside_all lines [] area level tree apart is = is
 stands_beside_all lines (w ∷ writes) area level tree apart is = stands_beside_all (laid w.key w.image lines) writes area level tree apart.1 (stands_beside lines w.key w.image area level tree apart.0 is)
+
+pub none_distinct : Distinct []
+unfolding IsDistinct
+none_distinct = tt

@@ -78,7 +78,7 @@ all_above : (pair e : NodeEntry) (es : List NodeEntry) → entry_order e pair �
 all_above pair e [] tie h = tt
 all_above pair e (x ∷ xs) tie h = (greater_other (entry_order x pair) (entry_order pair x) (entries_total.antisymm x pair) (sym (entries_total.congr e pair x tie) ∙ h.0), all_above pair e xs tie h.1)
 
-all_get : (P : NodeEntry → Type 0) (es : List NodeEntry) (i : ℕ) (d : NodeEntry) → i < length es → AllByRecursion P es → P (get_or es i d)
+pub all_get : (P : NodeEntry → Type 0) (es : List NodeEntry) (i : ℕ) (d : NodeEntry) → i < length es → AllByRecursion P es → P (get_or es i d)
 all_get P [] i d inside h = absurd (omega (arith, inside))
 all_get P (x ∷ xs) zero d inside h = h.0
 all_get P (x ∷ xs) (suc i) d inside h = all_get P xs i d (omega (arith, inside)) h.1

@@ -27,7 +27,7 @@ use Rattle.sorted_index.proofs.Chosen.{IsChosen, chosen_child}
 abbrev pub HasTakenOut : Knowledge → NodeEntry → IndexNode → List Write → List Write → Result IndexNode IndexStop → Type 0
 HasTakenOut known pair node old new result = (all : Lines) (area level : ℕ) (tree : Tree level) → Agrees known all → Stands all area level tree → node_of level tree ≡ node → TakesOut known pair level tree old new result
 
-level_is : (node : IndexNode) (level : ℕ) (tree : Tree level) → node_of level tree ≡ node → level ≡ node.level
+pub level_is : (node : IndexNode) (level : ℕ) (tree : Tree level) → node_of level tree ≡ node → level ≡ node.level
 level_is node level tree is = sym (level_of level tree) ∙ ap (λ (n : IndexNode). n.level) is
 
 -- ---- a leaf
@@ -120,7 +120,7 @@ child_misses known pair node at below_level key old e inner down at_is within so
     (subst (λ (k : Dbkey). ReadsNode known k (λ below. below.level ≡ below_level) (Err e)) t.1.named reading))
 
 -- the child is known, and this is its node
-read_as : (known : Knowledge) (all : Lines) (area level : ℕ) (child : Tree level) (key : Dbkey) (below : IndexNode) → Agrees known all → Stands all area level child → key ≡ place level child → IsKnownAs (known.line key) below → (node_of level child ≡ below) × (is_none (known.line (place level child)) ≡ false)
+pub read_as : (known : Knowledge) (all : Lines) (area level : ℕ) (child : Tree level) (key : Dbkey) (below : IndexNode) → Agrees known all → Stands all area level child → key ≡ place level child → IsKnownAs (known.line key) below → (node_of level child ≡ below) × (is_none (known.line (place level child)) ≡ false)
 read_as known all area level child key below agrees stands same known_as_below =
     let here : IsKnownAs (known.line (place level child)) below = subst (λ (k : Dbkey). IsKnownAs (known.line k) below) same known_as_below in
     (one_bears (line_in (place level child) all) (node_of level child) below (bears all area level child stands) (known_in known all (place level child) below agrees here), is_known (known.line (place level child)) below here)

@@ -6,3 +6,4 @@ pub mod Nodes
 pub mod Steps
 pub mod Changes
 pub mod Removal
+pub mod Insertion

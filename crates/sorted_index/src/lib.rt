@@ -2,17 +2,22 @@
 #![tactic(auto)]
 
 mod bounds;
+mod growth;
+mod insertion;
 mod laws;
 mod nodes;
 mod places;
 mod removal;
 mod search;
+mod splitting;
 mod stop;
 #[cfg(test)]
 mod tests;
+mod work;
 mod writes;
 
 pub use bounds::Bounds;
+pub use insertion::insert;
 pub use laws::pairs_are_ordered;
 pub use removal::remove;
 pub use search::{find, range};

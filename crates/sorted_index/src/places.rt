@@ -1,12 +1,13 @@
 // Where a pair stands in a node, or belongs below it.
 ghost use Rattle.std.specs.Prelude.{◌≡◌, ◌<◌, IfSome, IfNone, Some, None, get_or, length, true, false};
-ghost use Rattle.std.specs.List.{AllByRecursion};
+ghost use Rattle.std.specs.List.{list_any};
 ghost use Rattle.std.specs.Ordering.{is_eq};
 ghost use Rattle.index_node.specs.Order.{entry_order as entry_order_of};
 ghost use Rattle.index_node.specs.declared.entry.NodeEntry.{NodeEntry as Entry};
 ghost use Rattle.index_node.specs.Node.{IsAscending};
 ghost use Rattle.sorted_index.specs.Changes.{pair_of, without_pair};
 ghost use Rattle.sorted_index.specs.Steps.{count_up_to as count_up_to_of, child_place as child_place_of};
+ghost use Rattle.sorted_index.specs.Insertion.{count_below as count_below_of};
 
 use index_node::{NodeEntry, key_order};
 use rdb_types::{Dbkey, Items, Value};
@@ -23,6 +24,18 @@ fn count_up_to(entries: &[NodeEntry], key: &[Value], row: Dbkey) -> usize
 {
     for (at, entry) in entries.iter().enumerate() {
         if pair_order(entry, key, row).is_gt() {
+            return at;
+        }
+    }
+    entries.len()
+}
+
+/// How many entries at the front are below a pair.
+pub(crate) fn count_below(entries: &[NodeEntry], key: &[Value], row: Dbkey) -> usize
+    ensures { result ≡ count_below_of (pair_of key.now row) entries.now }
+{
+    for (at, entry) in entries.iter().enumerate() {
+        if !pair_order(entry, key, row).is_lt() {
             return at;
         }
     }
@@ -61,6 +74,15 @@ fn pair_place(entries: &[NodeEntry], key: &[Value], row: Dbkey) -> Option<usize>
         }
     }
     None
+}
+
+/// Whether a pair is among entries.
+pub(crate) fn has_pair(entries: &[NodeEntry], key: &[Value], row: Dbkey) -> bool
+    ensures { result ≡ list_any (λ (p : Entry). is_eq (entry_order_of p (pair_of key.now row))) entries.now }
+{
+    entries
+        .iter()
+        .any(|entry| pair_order(entry, key, row).is_eq())
 }
 
 /// The entries of a leaf without a pair.

@@ -16,7 +16,7 @@ use line_view::View;
 use rdb_types::{Dbkey, Value};
 use std::alloc::Global;
 
-fn write_node(at: Dbkey, node: &IndexNode, writes: &mut Writes) -> Result<(), IndexStop>
+pub(crate) fn write_node(at: Dbkey, node: &IndexNode, writes: &mut Writes) -> Result<(), IndexStop>
     requires { IsLaid node.now }
     ensures ok { OnOk result ((image : List ℕ) × (IsNode image node.now × (writes.new ≡ writes.old ++ record { key = at; image = Some image } ∷ []))) }
     ensures err { IfErr result (λ stop. stop ≡ NoMemory) }

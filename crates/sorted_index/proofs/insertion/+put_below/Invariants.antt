@@ -1,0 +1,4 @@
+use Rattle.sorted_index.proofs.insertion.+put_below.Given as goal
+
+abbrev pub decreases-put_below : goal.decreases-put_below
+decreases-put_below g l = l.node.level

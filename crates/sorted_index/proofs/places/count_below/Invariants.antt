@@ -1,0 +1,7 @@
+use Rattle.std.proofs.Common.{◌≡◌, ◌+◌, drop}
+use Rattle.sorted_index.specs.Changes.{pair_of}
+use Rattle.sorted_index.specs.Insertion.{count_below}
+use Rattle.sorted_index.proofs.places.count_below.Given as goal
+
+abbrev pub invariant-loop-at : goal.invariant-loop-at
+invariant-loop-at l = count_below (pair_of l.key l.row) l.entries ≡ l.at + count_below (pair_of l.key l.row) (drop l.at l.entries)
