@@ -113,7 +113,7 @@ module _ (old : Table) (party : ℕ → Party) (asks : List Asked) (o : ℕ) (ws
 -- ---- a whole need is granted where nothing is queued
 
 module _ (old new : Table) (o : ℕ) (n : Node) (mode : Mode) (live : IsLive (queues_at old)) (calm : (u : ℕ) → sought_at old u n ≡ granted_at old u n) (used : at_most mode NL ≡ false) (ascends : at_most (granted_at old o n) mode ≡ true)
-    (free : (requesting (queues_at old n) o mode).grantable ≡ true) (changes : ChangesAt old new n (requesting (queues_at old n) o mode).granted) where
+    (free : (requesting (queues_at old n) o mode).grantable ≡ true) (changes : ChangesAt old new n (requesting (queues_at old n) o mode).granted) (after : IsLive (queues_at new)) where
   fit : fits o mode (queues_at old n).granted ≡ true
   fit = elim (cases_Bool (has_owner o (queues_at old n).granted)) [
     | inl t ↦ subst (λ (b : Bool). (if b then converting (queues_at old n) o mode else asking (queues_at old n) o mode).grantable ≡ true) t free
@@ -134,6 +134,7 @@ module _ (old new : Table) (o : ℕ) (n : Node) (mode : Mode) (live : IsLive (qu
         let now = subst (λ (b : Bool). ChangesAt old new n (if b then converting (queues_at old n) o mode else asking (queues_at old n) o mode).granted) t changes in
         way-raised o old new n mode
         (raised-order old new o n live mode held.0 held.1 fit used (calm o) (λ a d. bars a (flip o a d)) now)
+        (λ l. after)
         (converted-law old new o n mode live (quiet-at old old o n live (calm o)) held.0 held.1
         (subst (λ (x : Option Mode). at_most (unwrap_or x NL) mode ≡ true) held.1 ascends) fit now)
         bars
@@ -143,6 +144,7 @@ module _ (old new : Table) (o : ℕ) (n : Node) (mode : Mode) (live : IsLive (qu
         let off = quiet-at old old o n live (calm o) in
         way-raised o old new n mode
         (asked-order old new o n live mode (absent-quiet old old o n mode live off (mode-absent o (queues_at old n).granted t)) grantable used now)
+        (λ l. after)
         (asked-law old new o n mode live off (mode-absent o (queues_at old n).granted t) now)
         bars
   ]

@@ -1,12 +1,12 @@
 -- Where no lock above covers the want, a lock at its node that isn't in excess is no stronger than it has to be.
-use Rattle.std.proofs.Common.{◌≡◌, ℕ, Bool, true, false, refl, sym, ◌∙◌, ap, subst, ◌⊎◌, inl, inr, List, [], ◌∷◌}
+use Rattle.std.proofs.Common.{◌≡◌, ℕ, Bool, true, false, refl, sym, ◌∙◌, ap, subst, inl, inr, List, [], ◌∷◌}
 use Rattle.std.specs.Prelude.{◌&&◌, ◌||◌, not, if◌then◌else◌, Option, Some}
 use Rattle.std.proofs.lemmas.Bool.{false≢true, and_parts, and_from, or_left, or_right, or_cases, cases_Bool, not_from_false}
 use Rattle.rdb_types.specs.declared.node.Node.{Node}
 use Rattle.vms_queues.specs.declared.lock_mode.Mode.{Mode}
 use Rattle.vms_queues.specs.declared.lock_mode.Mode.TheVariants.{NL, CR, CW, PR, PW, EX}
 use Rattle.vms_queues.specs.Modes.{at_most, least_above, intent}
-use Rattle.vms_queues.proofs.ModeLaws.{all_modes-at, all_modes_2-at, all_modes_3-at, implies, from_implies}
+use Rattle.vms_queues.proofs.ModeLaws.{all_modes-at, all_modes_3-at, implies, from_implies}
 use Rattle.rdb_types.specs.declared.node.Level.TheVariants.{Area, Range, Page}
 use Rattle.rdb_types.specs.declared.node.Level.{Level}
 use Rattle.lock_needs.specs.declared.need.Need.{Need}
@@ -16,12 +16,12 @@ use Rattle.vms_locks.specs.Table.{Table}
 use Rattle.lock_needs.specs.Nodes.{same_node, contains, is_on, is_above, on_way}
 use Rattle.lock_needs.specs.Needs.{Holding, HasIntentsAbove, covers_below, covers_from, covered_above, is_covered, all_covered}
 use Rattle.lock_needs.specs.Keeping.{below, needed_on, is_excess}
-use Rattle.lock_needs.specs.Wants.{kept_at, opened_at, mode_for, intents_on, earned_at}
+use Rattle.lock_needs.specs.Wants.{kept_at, opened_at, mode_for, intents_on}
 use Rattle.lock_needs.proofs.ModeTables.{at_most-refl, at_most-trans, at_most-join, join-left, join-right, intent-most, intent-own}
-use Rattle.lock_needs.proofs.NodeLaws.{same_node-true, same_node-refl, contains-self, contains-is, contains-above, contains-trans, IsOn, comparable, on-then}
+use Rattle.lock_needs.proofs.NodeLaws.{same_node-true, same_node-refl, contains-self, contains-is, contains-above, IsOn, comparable, on-then}
 use Rattle.lock_needs.proofs.Apart.{IsCover, cover-of}
 use Rattle.lock_needs.proofs.Enough.{if-join, if-join-from, on-within}
-use Rattle.lock_needs.proofs.Joins.{nothing, join-none, at_most-both}
+use Rattle.lock_needs.proofs.Joins.{nothing, join-none}
 use Rattle.lock_tree.specs.LockTable.{granted_at, sought_at, HasIntents}
 use Rattle.lock_tree.specs.Parties.{IsKeptBut, IsKept, nowhere, wanting, unasked}
 use Rattle.lock_tree.proofs.Leaving.{opened-unasked}

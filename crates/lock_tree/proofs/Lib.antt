@@ -40,3 +40,5 @@ pub mod ServedInOrder
 pub mod StepsInOrder
 pub mod AnsweredInOrder
 pub mod OpenAsks
+pub mod AskedByNeeds
+pub mod TakenInOrder

@@ -18,7 +18,7 @@ use Rattle.lock_needs.specs.Nodes.{same_node, contains}
 use Rattle.lock_needs.specs.Needs.{Holding, AreCompatible, conflict}
 use Rattle.lock_needs.specs.Keeping.{below, needed_on}
 use Rattle.lock_needs.specs.Wants.{mode_for, has_granted, opened_at, sleeps_at, IsOnWay}
-use Rattle.lock_needs.specs.Waits.{upper_of, converts_at, asked_before, holds_against, wants_against, wants_against_open}
+use Rattle.lock_needs.specs.Waits.{upper_of, converts_at, asked_before, holds_against, wants_against, comes_first, wanted}
 use Rattle.lock_needs.proofs.ModeTables.{at_most-shares}
 use Rattle.lock_needs.proofs.NodeLaws.{same_node-true, IsOn}
 use Rattle.lock_tree.specs.LockTable.{granted_at, sought_at, HasIntents}
@@ -81,7 +81,7 @@ module _ (t : Table) (party : ℕ → Party) (asks : List Asked) (sound : (n : N
         (may_share-comm (granted_at t a n) x ∙ s)
 
     -- a want of b that came first
-    want-waits : (w : IsAsleepAt (granted_at t a) (sought_at t a) (party a) n) (v : OpenWant) → Meets w.want.need v.need n → ((converts_at (party b).needs n || asked_before b a n asks) ≡ true) → wants_against_open asks a w.want.need b (party b) (Some v) ≡ true
+    want-waits : (w : IsAsleepAt (granted_at t a) (sought_at t a) (party a) n) (v : OpenWant) → Meets w.want.need v.need n → ((converts_at (party b).needs n || asked_before b a n asks) ≡ true) → comes_first asks a w.want.need b (party b).needs (wanted (Some v)) ≡ true
     want-waits w v m first =
         and_from (conflict w.want.need v.need) (converts_at (party b).needs (upper_of w.want.need v.need) || asked_before b a (upper_of w.want.need v.need) asks) m.conflicts
         (subst (λ (z : Node). (converts_at (party b).needs z || asked_before b a z asks) ≡ true) (sym m.upper) first)
@@ -130,7 +130,7 @@ module _ (t : Table) (party : ℕ → Party) (asks : List Asked) (sound : (n : N
           ])
           (on-way (party b) v (kept b).way e)
 
-      by-want : (o : Option OpenWant) → (party b).opened ≡ o → may_share (opened_at (granted_at t b) o n) (sought_at t a n) ≡ false → wants_against_open asks a asleep.want.need b (party b) o ≡ true
+      by-want : (o : Option OpenWant) → (party b).opened ≡ o → may_share (opened_at (granted_at t b) o n) (sought_at t a n) ≡ false → comes_first asks a asleep.want.need b (party b).needs (wanted o) ≡ true
       by-want None e f = absurd (false≢true (sym f ∙ nothing-shares (sought_at t a n)))
       by-want (Some v) e f =
           elim (cases_Bool (has_granted (granted_at t b) v n)) [
@@ -188,7 +188,7 @@ module _ (t : Table) (party : ℕ → Party) (asks : List Asked) (sound : (n : N
           other-part (granted_at t b n) (mode_for v.need n) (sought_at t a n) (subst (λ (y : Mode). may_share y (sought_at t a n) ≡ false) ahead.asks shuts) beside in
           for-want waiter
           (or_right (holds_against waiter.want.need (party b)) (wants_against asks a waiter.want.need b (party b))
-          (subst (λ (o : Option OpenWant). wants_against_open asks a waiter.want.need b (party b) o ≡ true) (sym ahead.opened)
+          (subst (λ (o : Option OpenWant). comes_first asks a waiter.want.need b (party b).needs (wanted o) ≡ true) (sym ahead.opened)
           (want-waits waiter v (meets waiter.want.need v.need n waiter.on ahead.on (apart waiter (mode_for v.need n) (shares-bare (mode_for v.need n)) shut)) came)))
 
   -- who stands in the way by the grant rule is waited for by needs

@@ -7,7 +7,7 @@ use Rattle.vms_queues.specs.declared.lock_mode.Mode.{Mode}
 use Rattle.vms_queues.specs.declared.lock_mode.Mode.TheVariants.{NL, CR, CW, PR, PW, EX}
 use Rattle.vms_queues.specs.contracts.lock_mode.ModePartialEq.TheImpl as mode_eq
 use Rattle.vms_queues.specs.Modes.{may_share, at_most, least_above}
-use Rattle.vms_locks.specs.Table.{Table}
+use Rattle.vms_locks.specs.Table.{Table, queues_at, IsLive}
 use Rattle.lock_needs.specs.declared.party.Party.{Party}
 use Rattle.lock_needs.specs.declared.need.Need.{Need}
 use Rattle.lock_needs.specs.Nodes.{same_node}
@@ -19,7 +19,7 @@ use Rattle.lock_needs.proofs.Growing.{kept-more}
 use Rattle.lock_needs.proofs.Joins.{at_most-both, nothing}
 use Rattle.lock_tree.specs.LockTable.{granted_at, sought_at, AllShare, BarsNobody, RaisedAt, LoweredAt}
 use Rattle.lock_tree.specs.Parties.{IsKept}
-use Rattle.lock_tree.specs.Order.{KeepsOrder, MakesWay, StandsByNeeds}
+use Rattle.lock_tree.specs.Order.{KeepsOrder, StaysLive, MakesWay, StandsByNeeds}
 use Rattle.lock_tree.proofs.Ordered.{flip}
 use Rattle.lock_tree.proofs.LeastInWay.{shut-more}
 use Rattle.lock_tree.proofs.NeedsInWay.{asleep-at}
@@ -45,8 +45,10 @@ taken-used held w h m bare is = elim (cases_Bool (at_most m NL)) [
 
 -- nothing changes
 pub way-none : (owner : ℕ) (t : Table) → MakesWay owner t t
+unfolding StaysLive
 way-none owner t = record {
   order = λ before converts k. k;
+  live = λ l. l;
   bars = λ a n d f. f;
   quiet = λ n e. e;
   asks = λ n. inr refl;
@@ -54,10 +56,16 @@ way-none owner t = record {
   granted = λ u n d. inl refl;
 }
 
+pub stays-live : (owner : ℕ) (old new : Table) → MakesWay owner old new → IsLive (queues_at old) → IsLive (queues_at new)
+unfolding StaysLive
+stays-live owner old new way live = way.live live
+
 -- one step after the other
 pub way-then : (owner : ℕ) (a b c : Table) → MakesWay owner a b → MakesWay owner b c → MakesWay owner a c
+unfolding StaysLive
 way-then owner a b c f g = record {
   order = λ before converts k. g.order before converts (f.order before converts k);
+  live = λ l. g.live (f.live l);
   bars = λ u n d h. f.bars u n d (g.bars u n d h);
   quiet = λ n e. g.quiet n (f.quiet n e);
   asks = λ n. elim (g.asks n) [
@@ -76,14 +84,16 @@ off-first false b e = refl
 off-first true b e = absurd (false≢true (sym e))
 
 -- a lock is taken that bars nobody
-pub way-raised : (owner : ℕ) (old new : Table) (n : Node) (mode : Mode) → KeepsOrder old new → RaisedAt old new owner n mode → BarsNobody old owner n mode → MakesWay owner old new
-way-raised owner old new n mode order law free =
+pub way-raised : (owner : ℕ) (old new : Table) (n : Node) (mode : Mode) → KeepsOrder old new → (IsLive (queues_at old) → IsLive (queues_at new)) → RaisedAt old new owner n mode → BarsNobody old owner n mode → MakesWay owner old new
+unfolding StaysLive
+way-raised owner old new n mode order live law free =
     let held : (u : ℕ) (x : Node) → (u == owner) ≡ false → granted_at new u x ≡ granted_at old u x =
     λ u x d. law.granted u x ∙ ap (λ (b : Bool). if b then mode else granted_at old u x) (off-first (u == owner) (same_node x n) d) in
     let asked : (u : ℕ) (x : Node) → (u == owner) ≡ false → sought_at new u x ≡ sought_at old u x =
     λ u x d. law.sought u x ∙ ap (λ (b : Bool). if b then mode else sought_at old u x) (off-first (u == owner) (same_node x n) d) in
     record {
       order = order;
+      live = live;
       bars = λ a x d h.
           let shut : may_share (granted_at new owner x) (sought_at old a x) ≡ false = subst (λ (y : Mode). may_share (granted_at new owner x) y ≡ false) (asked a x (flip owner a d)) h in
           elim (cases_Bool ((owner == owner) && same_node x n)) [
@@ -107,12 +117,14 @@ way-raised owner old new n mode order law free =
     }
 
 -- a lock comes down, or a request is cancelled beside the lock
-pub way-lowered : (owner : ℕ) (old new : Table) (n : Node) (mode : Mode) → KeepsOrder old new → LoweredAt old new owner n mode → at_most mode (granted_at old owner n) ≡ true → MakesWay owner old new
-way-lowered owner old new n mode order law weaker =
+pub way-lowered : (owner : ℕ) (old new : Table) (n : Node) (mode : Mode) → KeepsOrder old new → (IsLive (queues_at old) → IsLive (queues_at new)) → LoweredAt old new owner n mode → at_most mode (granted_at old owner n) ≡ true → MakesWay owner old new
+unfolding StaysLive
+way-lowered owner old new n mode order live law weaker =
     let asked : (u : ℕ) (x : Node) → (u == owner) ≡ false → sought_at new u x ≡ sought_at old u x =
     λ u x d. law.sought_others u x (off-first (u == owner) (same_node x n) d) in
     record {
       order = order;
+      live = live;
       bars = λ a x d h.
           let shut : may_share (granted_at new owner x) (sought_at old a x) ≡ false = subst (λ (y : Mode). may_share (granted_at new owner x) y ≡ false) (asked a x (flip owner a d)) h in
           elim (cases_Bool (same_node x n)) [

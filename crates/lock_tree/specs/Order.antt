@@ -21,7 +21,7 @@ use Rattle.lock_needs.specs.Keeping.{is_excess}
 use Rattle.lock_needs.specs.Wants.{mode_for, kept_at}
 use Rattle.lock_needs.specs.Waits.{converts_at, asked_before, waits_for}
 use Rattle.lock_tree.specs.LockTable.{granted_in, sought_in, granted_at, sought_at, HasIntents}
-use Rattle.lock_tree.specs.Parties.{IsKept, was_asked, wanting, unasked}
+use Rattle.lock_tree.specs.Parties.{IsKept, KeepsOthers, AsksLess, was_asked, wanting, unasked}
 
 -- of the entries of these two owners the first is one of the first owner
 abbrev pub stands_before : (first second : ℕ) → List Held → Bool
@@ -63,6 +63,10 @@ pub record IsInOrder (t : Table) (party : ℕ → Party) (asks : List Asked) : T
   pub ordered : (n : Node) → IsOrdered (λ u a. asked_before u a n asks) (λ u. converts_at (party u).needs n) (queues_at t n)
   pub listed : (u : ℕ) (n : Node) → is_listed u n asks ≡ asked_of_want (party u).opened n
 
+-- the table is live, and in order
+unfoldable pub StandsInOrder : Table → (ℕ → Party) → List Asked → Type 0
+StandsInOrder t party asks = IsLive (queues_at t) × IsInOrder t party asks
+
 abbrev pub waits_with : List Asked → ℕ → Option OpenWant → ℕ → Party → Bool
 waits_with asks a None b p = false
 waits_with asks a (Some w) b p = waits_for asks a w.need b p
@@ -79,16 +83,29 @@ AreKept t party = (owner : ℕ) → IsKept t owner (party owner)
 abbrev pub KeepsOrder : Table → Table → Type 0
 KeepsOrder old new = (before : Node → ℕ → ℕ → Bool) (converts : Node → ℕ → Bool) → ((n : Node) → IsOrdered (before n) (converts n) (queues_at old n)) → (n : Node) → IsOrdered (before n) (converts n) (queues_at new n)
 
+-- the new table is live if the old one is
+unfoldable pub StaysLive : Table → Table → Type 0
+StaysLive old new = IsLive (queues_at old) → IsLive (queues_at new)
+
 -- The owner's locks came down or were taken where they stand in nobody's way, or a request of it left its queue. Others may have
 -- been granted what they asked.
 pub record MakesWay (owner : ℕ) (old new : Table) : Type 0 where
   pub order : KeepsOrder old new
+  pub live : StaysLive old new
   -- its locks stand in the way of nothing that is asked but what they stood in the way of
   pub bars : (a : ℕ) (n : Node) → (owner == a) ≡ false → may_share (granted_at new owner n) (sought_at new a n) ≡ false → may_share (granted_at old owner n) (sought_at old a n) ≡ false
   pub quiet : (n : Node) → sought_at old owner n ≡ granted_at old owner n → sought_at new owner n ≡ granted_at new owner n
   pub asks : (n : Node) → (sought_at new owner n ≡ granted_at new owner n) ⊎ (sought_at new owner n ≡ sought_at old owner n)
   pub sought : (u : ℕ) (n : Node) → (u == owner) ≡ false → sought_at new u n ≡ sought_at old u n
   pub granted : (u : ℕ) (n : Node) → (u == owner) ≡ false → (granted_at new u n ≡ granted_at old u n) ⊎ (granted_at new u n ≡ sought_at old u n)
+
+-- The owner, of which this is the party, made way, and stands in the way by its needs if it did before.
+pub record ComesDown (owner : ℕ) (p : Party) (old new : Table) : Type 0 where
+  pub way : MakesWay owner old new
+  pub stands : StandsByNeeds old owner p → StandsByNeeds new owner p
+  pub kept : IsKept new owner p
+  pub intents : HasIntents new
+  pub others : KeepsOthers owner old new
 
 -- the owner was asked at the node last of all
 abbrev pub asked_last : List Asked → ℕ → Node → List Asked
@@ -98,13 +115,20 @@ asked_last asks owner n = asks ++ (record { owner = owner; node = n }) ∷ []
 abbrev pub without_asks : ℕ → List Asked → List Asked
 without_asks owner asks = filter (λ a. not (a.owner == owner)) asks
 
--- but for those of the owner where the want wasn't asked
-abbrev pub lessened_asks : ℕ → OpenWant → List Asked → List Asked
-lessened_asks owner w asks = filter (λ a. not (a.owner == owner) || was_asked w a.node) asks
+-- the entries without those of the owner for nodes at which its want wasn't asked
+abbrev pub asks_cut : ℕ → OpenWant → List Asked → List Asked
+asks_cut owner w asks = filter (λ a. not (a.owner == owner) || was_asked w a.node) asks
 
 -- the entries of owners whose wants are open
 abbrev pub opened_asks : (ℕ → Party) → List Asked → List Asked
 opened_asks party trail = filter (λ a. is_some (party a.owner).opened) trail
+
+-- The owner's want wasn't ended whole: this one is open in its place, asked at no more nodes, with nothing queued.
+pub record LeavesOpen (owner : ℕ) (ws : List Need) (want left : OpenWant) (old new : Table) : Type 0 where
+  pub need : left.need ≡ want.need
+  pub less : AsksLess want left
+  pub quiet : sought_at new owner left.here ≡ granted_at new owner left.here
+  pub stands : StandsByNeeds old owner (wanting ws want) → StandsByNeeds new owner (wanting ws left)
 
 -- a request of an owner that has nothing queued: a conversion where it has a lock
 abbrev pub requesting : Queues → ℕ → Mode → Request

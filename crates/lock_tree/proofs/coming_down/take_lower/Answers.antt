@@ -1,10 +1,11 @@
-use Rattle.std.proofs.Common.{◌+◌}
+use Rattle.std.proofs.Common.{◌+◌, refl, inl}
 use Rattle.lock_needs.specs.Needs.{is_covered, is_plain}
 use Rattle.lock_needs.specs.Keeping.{allows}
+use Rattle.lock_needs.proofs.ModeTables.{at_most-refl}
 use Rattle.lock_needs.proofs.Cover.{covered-more, allows-more}
 use Rattle.lock_tree.specs.LockTable.{granted_at}
 use Rattle.lock_tree.proofs.Taking.{each-at, taken-next, taken-some, coming_down-next}
-use Rattle.lock_tree.proofs.WayMade.{way-then}
+use Rattle.lock_tree.proofs.WayMade.{way-none, way-then}
 use Rattle.lock_tree.proofs.coming_down.take_lower.Goals as goal
 
 pub take_one-requires-clause-covered : goal.take_one-requires-clause-covered
@@ -35,3 +36,22 @@ loop-need-preserved c = (
 
 pub returns-in_err-take_one-clause-way : goal.returns-in_err-take_one-clause-way
 returns-in_err-take_one-clause-way c = way-then c.args.owner c.args.locks.now c.loop-need.locks c.take_one.new.locks c.loop-need.invariant.1 c.take_one.ensures.way
+
+pub loop-need-init : goal.loop-need-init
+loop-need-init c = (
+  record {
+    ready = c.requires.ready;
+    taken = record {
+      more = λ x. at_most-refl (granted_at c.args.locks.now c.args.owner x);
+      elsewhere = λ x d. refl;
+      reason = λ x. inl refl;
+      earned = λ x bound h k. h;
+      sought = λ x e. e;
+      sought_elsewhere = λ x d. refl;
+      others = λ o x d. refl;
+      sought_others = λ o x d. refl;
+    };
+    covered = refl;
+  },
+  way-none c.args.owner c.args.locks.now,
+)

@@ -4,6 +4,7 @@ use Rattle.vms_queues.specs.declared.lock_mode.Mode.{Mode}
 use Rattle.vms_queues.specs.declared.lock_mode.Mode.TheVariants.{NL}
 use Rattle.vms_queues.specs.Modes.{at_most}
 use Rattle.vms_locks.specs.Table.{queues_at}
+use Rattle.vms_locks.proofs.Granting.{live-after_deq, live-after_weaken}
 use Rattle.lock_tree.specs.LockTable.{LoweredAt}
 use Rattle.lock_needs.proofs.Joins.{nothing}
 use Rattle.lock_tree.proofs.HeldModes.{covers-less}
@@ -36,6 +37,7 @@ pub returns-in-Some-clause-way : goal.returns-in-Some-clause-way
 returns-in-Some-clause-way c =
     way-lowered c.args.owner c.args.locks.now c.deq.new.self c.args.node NL
     (released-order c.args.locks.now c.deq.new.self c.args.owner c.args.node c.in-Some.ensures.live c.deq.ensures)
+    (λ l. live-after_deq c.args.locks.now c.deq.new.self c.args.node c.args.owner l c.deq.ensures)
     (released-law c.args.locks.now c.deq.new.self c.args.owner c.args.node c.in-Some.ensures.live c.deq.ensures)
     (nothing (granted_at c.args.locks.now c.args.owner c.args.node))
 
@@ -45,6 +47,7 @@ returns-in-Some-2-clause-way c =
     way-lowered c.args.owner c.args.locks.now c.weaken.new.self c.args.node c.args.mode
     (weakened-order c.args.locks.now c.weaken.new.self c.args.owner c.args.node c.in-Some-2.ensures.live c.args.mode c.in-Some-2.field-0 (sym c.in-Some-2.ensures.value)
     weaker (something-mode c.args.mode (sym c.eq.ensures ∙ c.if-eq.false)) c.requires.awake c.weaken.ensures)
+    (λ l. live-after_weaken c.args.locks.now c.weaken.new.self c.args.node c.args.owner c.args.mode (covers-less c.args.owner (queues_at c.args.locks.now c.args.node).granted c.in-Some-2.field-0 c.args.mode (sym c.in-Some-2.ensures.value) weaker) l c.weaken.ensures)
     (weakened-law c.args.locks.now c.weaken.new.self c.args.owner c.args.node c.in-Some-2.ensures.live c.args.mode c.in-Some-2.field-0 (sym c.in-Some-2.ensures.value)
     weaker c.requires.awake c.weaken.ensures)
     c.requires.weaker

@@ -7,6 +7,7 @@ use Rattle.vms_queues.specs.Modes.{at_most}
 use Rattle.vms_queues.specs.Queues.{has_owner}
 use Rattle.vms_locks.specs.Table.{queues_at}
 use Rattle.vms_locks.specs.Answers.{asking, converting}
+use Rattle.vms_locks.proofs.Granting.{live-after_enq, live-after_convert}
 use Rattle.lock_tree.proofs.HeldModes.{mode-has_owner}
 use Rattle.lock_tree.proofs.Changes.{quiet-at}
 use Rattle.lock_tree.proofs.Conditions.{fits-free, grantable-free, no-wait_free, granted-only, absent-quiet, asked-law, converted-law}
@@ -69,6 +70,9 @@ returns-in_ok-_granted-in-Some-clause-way c =
     way-raised c.args.owner t c.convert.new.self c.args.node c.args.mode
     (raised-order t c.convert.new.self c.args.owner c.args.node c.in-Some.ensures.live c.args.mode c.in-Some.field-0 (sym c.in-Some.ensures.value) fit c.requires.used c.requires.awake
     (λ a d. c.requires.bars_nobody a (flip c.args.owner a d)) changes)
+    (λ l. live-after_convert t c.convert.new.self c.args.owner c.args.node c.args.mode _ _ (mode-has_owner c.args.owner (queues_at t c.args.node).granted c.in-Some.field-0 (sym c.in-Some.ensures.value))
+    (or_parts (has_owner c.args.owner (queues_at t c.args.node).converting) (has_owner c.args.owner (queues_at t c.args.node).waiting) (quiet-at t t c.args.owner c.args.node c.in-Some.ensures.live c.requires.awake)).0
+    (inr (fit, no-wait_free t c.args.owner c.args.node c.args.mode c.in-Some.ensures.live c.requires.free c.requires.bars_nobody)) l c.in_ok-_granted-in-Some.ensures.answer)
     (converted-law t c.convert.new.self c.args.owner c.args.node c.args.mode c.in-Some.ensures.live
     (quiet-at t t c.args.owner c.args.node c.in-Some.ensures.live c.requires.awake)
     c.in-Some.field-0 (sym c.in-Some.ensures.value)
@@ -85,5 +89,6 @@ returns-in_ok-_granted-in-None-clause-way c =
     let changes = granted-only t c.enq.new.self c.args.owner c.args.node _ (asking (queues_at t c.args.node) c.args.owner c.args.mode) _ free c.in_ok-_granted-in-None.ensures.answer in
     way-raised c.args.owner t c.enq.new.self c.args.node c.args.mode
     (asked-order t c.enq.new.self c.args.owner c.args.node c.in-None.ensures.live c.args.mode (absent-quiet t t c.args.owner c.args.node c.args.mode c.in-None.ensures.live quiet none) free c.requires.used changes)
+    (λ l. live-after_enq t c.enq.new.self c.args.owner c.args.node c.args.mode _ _ (absent-quiet t t c.args.owner c.args.node c.args.mode c.in-None.ensures.live quiet none) (inr free) l c.in_ok-_granted-in-None.ensures.answer)
     (asked-law t c.enq.new.self c.args.owner c.args.node c.args.mode c.in-None.ensures.live quiet none changes)
     c.requires.bars_nobody

@@ -1,9 +1,10 @@
 use Rattle.std.proofs.Common.{arith, ◌∙◌, sym, ap, subst, List, take, take_all, length, ◌+◌, ◌≤◌, Option}
+use Rattle.std.proofs.lemmas.Bool.{false≢true}
 use Rattle.lock_needs.specs.declared.need.Need.{Need}
 use Rattle.lock_needs.specs.declared.party.OpenWant.{OpenWant}
 use Rattle.lock_tree.specs.Releasing.{is_on_want}
 use Rattle.lock_tree.proofs.Released.{AreReleased, released-next, releasing-then, level-none}
-use Rattle.lock_tree.proofs.WayMade.{way-then}
+use Rattle.lock_tree.proofs.WayMade.{way-none, way-then}
 use Rattle.lock_tree.proofs.releasing.release_level.Goals as goal
 
 pub loop-need-preserved : goal.loop-need-preserved
@@ -31,3 +32,6 @@ returns-in-Some-clause-none c =
 
 pub returns-in-Some-clause-way : goal.returns-in-Some-clause-way
 returns-in-Some-clause-way c = way-then c.args.owner c.args.locks.now c.loop-need.locks c.release_at-in-Some.new.locks c.loop-need.invariant.1 c.release_at-in-Some.ensures.way
+
+pub loop-need-init : goal.loop-need-init
+loop-need-init c = (record { releasing = c.requires.ready; none = λ x s h. absurd (false≢true h) }, way-none c.args.owner c.args.locks.now)
