@@ -1,5 +1,5 @@
 -- What the lock table answers, by the modes that owners hold and ask.
-use Rattle.std.proofs.Common.{◌≡◌, ℕ, Bool, true, false, refl, sym, ◌∙◌, ap, subst, Result, Ok, Err}
+use Rattle.std.proofs.Common.{◌≡◌, ℕ, Bool, true, false, sym, ap, subst, Result, Ok, Err}
 use Rattle.std.specs.Prelude.{if◌then◌else◌, IfOk, OnErr, Some, None}
 use Rattle.std.proofs.lemmas.Bool.{or_parts}
 use Rattle.rdb_types.specs.declared.node.Node.{Node}
@@ -7,7 +7,7 @@ use Rattle.vms_queues.specs.declared.lock_mode.Mode.{Mode}
 use Rattle.vms_queues.specs.Modes.{at_most}
 use Rattle.vms_queues.specs.Queues.{has_owner, mode_in, is_queued}
 use Rattle.vms_locks.specs.Table.{Table, queues_at, IsLive, IsAwake}
-use Rattle.vms_locks.specs.Answers.{Request, Answers, asking, converting}
+use Rattle.vms_locks.specs.Answers.{Answers, asking, converting}
 use Rattle.vms_locks.specs.declared.answer.Enq.{Enq}
 use Rattle.vms_locks.specs.declared.answer.Enq.TheVariants.{Granted, Asleep, NotQueued, Deadlock}
 use Rattle.lock_tree.specs.Releasing.{IsQuiet}
@@ -63,8 +63,8 @@ pub request-asks : (t : Table) (owner : ℕ) (n : Node) (mode : Mode) → has_ow
 request-asks t owner n mode h = ap (λ (b : Bool). if b then converting (queues_at t n) owner mode else asking (queues_at t n) owner mode) h
 
 -- a refusal by its cause
-pub cause-of : (ps : Parties) (owner : ℕ) (w : OpenWant) (wait : Bool) (new : Table) (answer : Enq) → AsksAt ps owner w wait new answer → HasCause new ps owner w answer
-cause-of ps owner w wait new Granted a = tt
-cause-of ps owner w wait new Asleep a = tt
-cause-of ps owner w wait new (NotQueued b) a = subst (λ (t : Table). HasCause t ps owner w (NotQueued b)) (sym a.exact.3) (a.exact.2, a.none_due)
-cause-of ps owner w wait new (Deadlock c) a = subst (λ (t : Table). HasCause t ps owner w (Deadlock c)) (sym a.exact.3) (a.exact.2, a.none_due)
+pub cause-of : (ps : Parties) (owner : ℕ) (w : OpenWant) (wait : Bool) (old new : Table) (answer : Enq) → AsksAt ps owner w wait old new answer → HasCause new ps owner w answer
+cause-of ps owner w wait old new Granted a = tt
+cause-of ps owner w wait old new Asleep a = tt
+cause-of ps owner w wait old new (NotQueued b) a = subst (λ (t : Table). HasCause t ps owner w (NotQueued b)) (sym a.exact.3) (a.exact.2, a.none_due)
+cause-of ps owner w wait old new (Deadlock c) a = subst (λ (t : Table). HasCause t ps owner w (Deadlock c)) (sym a.exact.3) (a.exact.2, a.none_due)

@@ -1,12 +1,12 @@
 -- The way of a want from the topmost node down.
-use Rattle.std.proofs.Common.{◌≡◌, ℕ, Bool, true, false, refl, sym, ◌∙◌, ap, subst, inl, inr}
-use Rattle.std.specs.Prelude.{◌||◌, Option, Some, None}
-use Rattle.std.proofs.lemmas.Bool.{false≢true, or_left, or_right, or_cases}
+use Rattle.std.proofs.Common.{◌≡◌, ℕ, true, false, refl, sym, ◌∙◌, ap, inl, inr}
+use Rattle.std.specs.Prelude.{Some, None}
+use Rattle.std.proofs.lemmas.Bool.{false≢true, or_cases}
 use Rattle.rdb_types.specs.declared.node.Level.{Level}
 use Rattle.rdb_types.specs.declared.node.Level.TheVariants.{Area, Range, Page, Line, Journal}
 use Rattle.rdb_types.specs.declared.node.Node.{Node}
 use Rattle.lock_needs.specs.Nodes.{is_above, next_level, on_way, same_node, contains, is_on, step_towards, above_of}
-use Rattle.lock_needs.proofs.NodeLaws.{make, contains-above, contains-is, step-reaches, way-contains, same_node-refl}
+use Rattle.lock_needs.proofs.NodeLaws.{make, contains-above, contains-is}
 
 step-below-way : (l lv : Level) (ar at ln : ℕ) → is_above l lv ≡ true → above_of (on_way (next_level l) (make lv ar at ln)) ≡ Some (on_way l (make lv ar at ln))
 step-below-way Area Range ar at ln h = refl

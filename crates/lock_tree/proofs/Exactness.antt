@@ -1,12 +1,12 @@
 -- Where no lock above covers the want, a lock at its node that isn't in excess is no stronger than it has to be.
-use Rattle.std.proofs.Common.{◌≡◌, ℕ, Bool, true, false, refl, sym, ◌∙◌, ap, subst, ◌⊎◌, inl, inr, List, [], ◌∷◌}
+use Rattle.std.proofs.Common.{◌≡◌, ℕ, Bool, true, false, refl, sym, ◌∙◌, ap, subst, inl, inr, List, [], ◌∷◌}
 use Rattle.std.specs.Prelude.{◌&&◌, ◌||◌, not, if◌then◌else◌, Option, Some}
 use Rattle.std.proofs.lemmas.Bool.{false≢true, and_parts, and_from, or_left, or_right, or_cases, cases_Bool, not_from_false}
 use Rattle.rdb_types.specs.declared.node.Node.{Node}
 use Rattle.vms_queues.specs.declared.lock_mode.Mode.{Mode}
 use Rattle.vms_queues.specs.declared.lock_mode.Mode.TheVariants.{NL, CR, CW, PR, PW, EX}
 use Rattle.vms_queues.specs.Modes.{at_most, least_above, intent}
-use Rattle.vms_queues.proofs.ModeLaws.{all_modes-at, all_modes_2-at, all_modes_3-at, implies, from_implies}
+use Rattle.vms_queues.proofs.ModeLaws.{all_modes-at, all_modes_3-at, implies, from_implies}
 use Rattle.rdb_types.specs.declared.node.Level.TheVariants.{Area, Range, Page}
 use Rattle.rdb_types.specs.declared.node.Level.{Level}
 use Rattle.lock_needs.specs.declared.need.Need.{Need}
@@ -16,12 +16,12 @@ use Rattle.vms_locks.specs.Table.{Table}
 use Rattle.lock_needs.specs.Nodes.{same_node, contains, is_on, is_above, on_way}
 use Rattle.lock_needs.specs.Needs.{Holding, HasIntentsAbove, covers_below, covers_from, covered_above, is_covered, all_covered}
 use Rattle.lock_needs.specs.Keeping.{below, needed_on, is_excess}
-use Rattle.lock_needs.specs.Wants.{kept_at, opened_at, mode_for, intents_on, earned_at}
+use Rattle.lock_needs.specs.Wants.{kept_at, opened_at, mode_for, intents_on}
 use Rattle.lock_needs.proofs.ModeTables.{at_most-refl, at_most-trans, at_most-join, join-left, join-right, intent-most, intent-own}
-use Rattle.lock_needs.proofs.NodeLaws.{same_node-true, same_node-refl, contains-self, contains-is, contains-above, contains-trans, IsOn, comparable, on-then}
+use Rattle.lock_needs.proofs.NodeLaws.{same_node-true, same_node-refl, contains-self, contains-is, contains-above, IsOn, comparable, on-then}
 use Rattle.lock_needs.proofs.Apart.{IsCover, cover-of}
 use Rattle.lock_needs.proofs.Enough.{if-join, if-join-from, on-within}
-use Rattle.lock_needs.proofs.Joins.{nothing, join-none, at_most-both}
+use Rattle.lock_needs.proofs.Joins.{nothing, join-none}
 use Rattle.lock_tree.specs.LockTable.{granted_at, sought_at, HasIntents}
 use Rattle.lock_tree.specs.Parties.{IsKeptBut, IsKept, nowhere, wanting, unasked}
 use Rattle.lock_tree.proofs.Leaving.{opened-unasked}
@@ -67,7 +67,7 @@ reads-below m k h c e p =
     (not_from_false (at_most EX m) e)) p
 
 -- where a lock is no intent, what is kept is what it allows
-at-least-read : (h k : Mode) → (at_most PR h ≡ true → at_most k h ≡ true) → at_most (intent h) k ≡ true → (at_most k h && not (at_most h k)) ≡ false → at_most h k ≡ true
+pub at-least-read : (h k : Mode) → (at_most PR h ≡ true → at_most k h ≡ true) → at_most (intent h) k ≡ true → (at_most k h && not (at_most h k)) ≡ false → at_most h k ≡ true
 at-least-read h k f i x = elim (cases_Bool (at_most PR h)) [
   | inl t ↦ elim (cases_Bool (at_most h k)) [
     | inl y ↦ y
@@ -98,7 +98,7 @@ module _ (held : Holding) (n : Node) (intents : HasIntentsAbove held) (none : Ha
         ]))) ∙ same_node-refl x))
       ]
 
-  below-allowed : (ws : List Need) → all_covered held ws ≡ true → at_most (below ws n) (held n) ≡ true
+  pub below-allowed : (ws : List Need) → all_covered held ws ≡ true → at_most (below ws n) (held n) ≡ true
   below-allowed [] h = nothing (held n)
   below-allowed (w ∷ ws) h =
       let p = and_parts (is_covered held w) (all_covered held ws) h in
@@ -115,7 +115,7 @@ module _ (held : Holding) (n : Node) (intents : HasIntentsAbove held) (none : Ha
         | inr r ↦ reads-below (held c.0) w.mode (held n) r.1 (none c.0 (subst (λ (z : Node). contains c.0 z ≡ true) (sym e) r.0)) reads
       ]
 
-  needed-allowed : (ws : List Need) → all_covered held ws ≡ true → at_most (needed_on ws n) (held n) ≡ true
+  pub needed-allowed : (ws : List Need) → all_covered held ws ≡ true → at_most (needed_on ws n) (held n) ≡ true
   needed-allowed [] h = nothing (held n)
   needed-allowed (w ∷ ws) h =
       let p = and_parts (is_covered held w) (all_covered held ws) h in
@@ -123,7 +123,7 @@ module _ (held : Holding) (n : Node) (intents : HasIntentsAbove held) (none : Ha
       (λ s. on-allowed w p.0 (same_node-true n w.node s)) (needed-allowed ws p.1)
 
 -- intents of needs on the node and below are among what is kept there
-intents-kept : (n : Node) (keep : Mode) (ws : List Need) → at_most (below ws n) keep ≡ true → at_most (needed_on ws n) keep ≡ true → at_most (intents_on ws n) keep ≡ true
+pub intents-kept : (n : Node) (keep : Mode) (ws : List Need) → at_most (below ws n) keep ≡ true → at_most (needed_on ws n) keep ≡ true → at_most (intents_on ws n) keep ≡ true
 intents-kept n keep [] h g = nothing keep
 intents-kept n keep (w ∷ ws) h g =
     let p = if-join (contains n w.node) (intent w.mode) (below ws n) keep h in

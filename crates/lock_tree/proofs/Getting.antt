@@ -1,8 +1,7 @@
 -- A want is got as soon as a lock covers it, wherever it has come to.
 use Rattle.std.proofs.Common.{◌≡◌, ℕ, ◌++◌, ◌∷◌, [], Bool, true, false, refl, sym, ◌∙◌, ap, subst, ◌⊎◌, inl, inr, List}
-use Rattle.std.specs.Prelude.{◌&&◌, ◌||◌, ◌==◌, if◌then◌else◌, Option, Some, None}
-use Rattle.std.specs.List.{list_all, list_any}
-use Rattle.std.proofs.lemmas.Bool.{false≢true, and_parts, and_from, or_left, or_right, or_cases, cases_Bool, eq-eqb}
+use Rattle.std.specs.Prelude.{◌&&◌, ◌==◌, if◌then◌else◌, Option, Some, None}
+use Rattle.std.proofs.lemmas.Bool.{false≢true, and_parts, and_from, or_right, or_cases, cases_Bool, eq-eqb}
 use Rattle.rdb_types.specs.declared.node.Node.{Node}
 use Rattle.vms_queues.specs.declared.lock_mode.Mode.{Mode}
 use Rattle.vms_queues.specs.declared.lock_mode.Mode.TheVariants.{NL}
@@ -12,20 +11,20 @@ use Rattle.vms_locks.specs.declared.answer.Enq.{Enq}
 use Rattle.vms_locks.specs.declared.answer.Enq.TheVariants.{Granted, Asleep, NotQueued, Deadlock}
 use Rattle.lock_needs.specs.declared.need.Need.{Need}
 use Rattle.lock_needs.specs.declared.party.OpenWant.{OpenWant}
-use Rattle.lock_needs.specs.declared.party.Party.{Party}
 use Rattle.lock_needs.specs.Nodes.{same_node, contains, is_on}
-use Rattle.lock_needs.specs.Needs.{Holding, is_covered, all_covered, covered_above, is_plain}
+use Rattle.lock_needs.specs.Needs.{Holding, is_covered, is_plain}
 use Rattle.lock_needs.specs.Wants.{mode_for, has_granted, opened_at, intents_on, earned_at}
-use Rattle.lock_needs.proofs.ModeTables.{at_most-refl, at_most-trans, at_most-join, join-left, join-right, intent-join, intent-most, intent-twice, intent-own}
+use Rattle.lock_needs.proofs.ModeTables.{at_most-refl, at_most-trans, at_most-join, join-left, join-right, intent-join, intent-twice, intent-own}
 use Rattle.lock_needs.proofs.NodeLaws.{same_node-true, same_node-refl}
-use Rattle.lock_needs.proofs.Cover.{by_test, all_covered-more, covered-by}
+use Rattle.lock_needs.proofs.Cover.{all_covered-more, covered-by}
 use Rattle.lock_needs.proofs.Enough.{on-within}
-use Rattle.lock_needs.proofs.Joins.{nothing, join-none}
+use Rattle.lock_needs.proofs.Joins.{nothing}
 use Rattle.lock_tree.specs.LockTable.{granted_at, sought_at, HasIntents, RaisedAt}
-use Rattle.lock_tree.specs.Parties.{IsKeptBut, IsKept, KeepsOthers, HasReason, is_needed, nowhere, wanting, resting, unasked}
-use Rattle.lock_tree.specs.Asking.{was_granted, AnswersAt}
+use Rattle.lock_tree.specs.Parties.{IsKeptBut, IsKept, KeepsOthers, HasReason, nowhere, wanting, resting, unasked}
+use Rattle.vms_locks.specs.Answers.{Answers}
+use Rattle.lock_tree.specs.Asking.{was_granted, request_at, AnswersAt}
 use Rattle.lock_tree.proofs.Wanting.{list_all-push, list_any-push, list_any-pushed, intents-push, intents-pushed}
-use Rattle.lock_tree.proofs.WantAsked.{asked-intents, asked-others, raised-asked, queued-asked}
+use Rattle.lock_tree.proofs.WantAsked.{asked-intents, asked-others, raised-asked}
 use Rattle.lock_tree.proofs.Leaving.{and-none, opened-unasked}
 
 -- The owner's locks grow on the way to the need of its want, by no more than the need, and one of them covers it.
@@ -196,3 +195,11 @@ module _ (old new : Table) (owner : ℕ) (ws : List Need) (w : OpenWant) (mode :
     whole-refused Asleep r g = absurd (false≢true r.0)
     whole-refused (NotQueued b) r g = r.1
     whole-refused (Deadlock c) r g = r.1
+
+-- what was granted, for the mode that joins the lock and the need
+pub whole-exact : (old new : Table) (owner : ℕ) (w : OpenWant) (mode : Mode) → mode ≡ least_above (granted_at old owner w.here) w.need.mode → (answer : Enq) → Answers old new owner w.here false (request_at old owner w.here mode) answer → was_granted answer ≡ true
+    → Answers old new owner w.here false (request_at old owner w.here (least_above (granted_at old owner w.here) w.need.mode)) Granted
+whole-exact old new owner w mode is Granted h g = subst (λ (m : Mode). Answers old new owner w.here false (request_at old owner w.here m) Granted) is h
+whole-exact old new owner w mode is Asleep h g = absurd (false≢true g)
+whole-exact old new owner w mode is (NotQueued b) h g = absurd (false≢true g)
+whole-exact old new owner w mode is (Deadlock c) h g = absurd (false≢true g)

@@ -1,6 +1,6 @@
 -- Who is found in the way of a mode is another owner, whose lock can't stand beside it and is stronger than it has to be.
 use Rattle.std.proofs.Common.{◌≡◌, ℕ, Bool, true, false, refl, sym, ◌∙◌, ap, subst, inl, inr, List, [], ◌∷◌}
-use Rattle.std.specs.Prelude.{◌&&◌, ◌||◌, ◌==◌, not, if◌then◌else◌, Option, Some, None, unwrap_or, map}
+use Rattle.std.specs.Prelude.{◌&&◌, ◌==◌, not, if◌then◌else◌, Option, Some, None, unwrap_or, map}
 use Rattle.std.specs.List.{filter}
 use Rattle.std.proofs.lemmas.Bool.{false≢true, cases_eq, ne_eqb, eq-eqb, and_parts, or_left, or_right, not-true}
 use Rattle.rdb_types.specs.declared.node.Node.{Node}

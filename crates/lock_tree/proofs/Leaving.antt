@@ -172,7 +172,7 @@ module _ (held : Holding) (w : OpenWant) (up : Node) (e : above_of w.here ≡ So
 
 -- from a node to the one above it
 module _ (held sought : Holding) (ws : List Need) (w : OpenWant) (up : Node) (e : above_of w.here ≡ Some up) (k : IsKeptBut nowhere held sought (wanting ws (unasked w))) where
-  above-granted : at_most (mode_for w.need up) (held up) ≡ true
+  pub above-granted : at_most (mode_for w.need up) (held up) ≡ true
   above-granted =
       subst (λ (b : Bool). at_most (if b || (same_node up w.here && (false && at_most (mode_for w.need up) (held up))) then mode_for w.need up else NL) (held up) ≡ true) (above-contains w.here up e) (k.granted up)
 

@@ -1,9 +1,9 @@
 -- What a look at the want's node tells of the tree.
 use Rattle.std.proofs.Common.{◌≡◌, ℕ, Bool, List, sym, subst}
-use Rattle.std.specs.Prelude.{Some}
 use Rattle.vms_queues.specs.declared.lock_mode.Mode.{Mode}
 use Rattle.vms_locks.specs.Table.{Table}
 use Rattle.vms_locks.specs.declared.answer.Enq.{Enq}
+use Rattle.vms_locks.specs.declared.answer.Enq.TheVariants.{NotQueued, Deadlock}
 use Rattle.lock_needs.specs.declared.need.Need.{Need}
 use Rattle.lock_needs.specs.declared.party.OpenWant.{OpenWant}
 use Rattle.lock_needs.specs.declared.party.Party.{Party}
@@ -11,22 +11,30 @@ use Rattle.lock_tree.specs.declared.looking.Look.{Look}
 use Rattle.lock_tree.specs.declared.looking.Look.TheVariants.{NoticeTo, Asked}
 use Rattle.lock_tree.specs.declared.answer.Step.{Step}
 use Rattle.lock_tree.specs.declared.answer.Step.TheVariants.{Down, Ends}
-use Rattle.lock_tree.specs.Parties.{IsKept, wanting, unasked, asked_at}
-use Rattle.lock_tree.specs.Forest.{State, party_of, opened_of}
+use Rattle.lock_tree.specs.Parties.{wanting, unasked, asked_at}
+use Rattle.lock_tree.specs.Order.{ComesDown}
+use Rattle.lock_tree.specs.Forest.{State, party_of}
 use Rattle.lock_tree.specs.Asking.{TakesAnswer, TakesLook, AsksAt, IsDue}
 use Rattle.lock_tree.specs.Wanted.{needs_of, Steps}
 
-module _ (s : State) (t : Table) (owner : ℕ) (w : OpenWant) (wait : Bool) (look : Look) (p : Party) (is : p ≡ party_of s.parties owner) (h : TakesLook t s.parties owner p.needs w wait look) where
-  taken : TakesLook t s.parties owner (needs_of s owner) w wait look
-  taken = subst (λ (q : Party). TakesLook t s.parties owner q.needs w wait look) is h
+module _ (s : State) (t : Table) (owner : ℕ) (w : OpenWant) (wait : Bool) (look : Look) (p : Party) (is : p ≡ party_of s.parties owner) (h : TakesLook s.table t s.parties owner p.needs w wait look) where
+  taken : TakesLook s.table t s.parties owner (needs_of s owner) w wait look
+  taken = subst (λ (q : Party). TakesLook s.table t s.parties owner q.needs w wait look) is h
 
-  pub look-due : (other : ℕ) (mode : Mode) → look ≡ NoticeTo other mode → IsKept t owner (wanting (needs_of s owner) (unasked w)) × IsDue t s.parties owner (unasked w) other mode
+  pub look-due : (other : ℕ) (mode : Mode) → look ≡ NoticeTo other mode → ComesDown owner (wanting (needs_of s owner) (unasked w)) s.table t × IsDue t s.parties owner (unasked w) other mode
   look-due other mode e =
-      let d : IsKept t owner (wanting (needs_of s owner) (unasked w)) × IsDue t s.parties owner w other mode = subst (TakesLook t s.parties owner (needs_of s owner) w wait) e taken in
+      let d : ComesDown owner (wanting (needs_of s owner) (unasked w)) s.table t × IsDue t s.parties owner w other mode = subst (TakesLook s.table t s.parties owner (needs_of s owner) w wait) e taken in
       (d.0, record { asks = d.1.asks; other = d.1.other; in_way = d.1.in_way; excess = d.1.excess; first = d.1.first })
 
-  pub look-asked : (a b : Enq) → look ≡ Asked a → a ≡ b → TakesAnswer t owner (needs_of s owner) w wait b × AsksAt s.parties owner w wait t b
-  look-asked a b e f = subst (λ (x : Enq). TakesLook t s.parties owner (needs_of s owner) w wait (Asked x)) f (subst (TakesLook t s.parties owner (needs_of s owner) w wait) e taken)
+  pub look-asked : (a b : Enq) → look ≡ Asked a → a ≡ b → TakesAnswer t owner (needs_of s owner) w wait b × AsksAt s.parties owner w wait s.table t b
+  look-asked a b e f = subst (λ (x : Enq). TakesLook s.table t s.parties owner (needs_of s owner) w wait (Asked x)) f (subst (TakesLook s.table t s.parties owner (needs_of s owner) w wait) e taken)
+
+-- a refusal leaves the table as it was when its owner had come down
+pub refused-down : (s : State) (t : Table) (owner : ℕ) (w : OpenWant) (wait : Bool) (b : ℕ) → AsksAt s.parties owner w wait s.table t (NotQueued b) → ComesDown owner (party_of s.parties owner) s.table t
+refused-down s t owner w wait b a = subst (ComesDown owner (party_of s.parties owner) s.table) (sym a.exact.3) a.down
+
+pub deadlock-down : (s : State) (t : Table) (owner : ℕ) (w : OpenWant) (wait : Bool) (cycle : List ℕ) → AsksAt s.parties owner w wait s.table t (Deadlock cycle) → ComesDown owner (party_of s.parties owner) s.table t
+deadlock-down s t owner w wait cycle a = subst (ComesDown owner (party_of s.parties owner) s.table) (sym a.exact.3) a.down
 
 steps-alike : (ws : List Need) (s : State) (owner : ℕ) (w : OpenWant) (wait : Bool) (step : Step) → Steps ws s owner (asked_at w w.here) wait step → Steps ws s owner w wait step
 steps-alike ws s owner w wait (Down v) h = h

@@ -1,14 +1,13 @@
 -- The steps of an open want, by the tree's state.
 use Rattle.std.proofs.Common.{◌≡◌, ℕ, ◌++◌, ◌∷◌, [], ◌<◌, ◌-◌, Bool, true, false, List, refl, sym, ◌∙◌, ap, subst, inl, inr, arith}
-use Rattle.std.specs.Prelude.{◌==◌, not, ◌&&◌, ◌||◌, if◌then◌else◌, Option, Some, None, option_map, unwrap_or}
+use Rattle.std.specs.Prelude.{not, ◌&&◌, ◌||◌, if◌then◌else◌, Option, Some, None, is_some}
 use Rattle.std.specs.List.{list_all}
-use Rattle.std.proofs.lemmas.Bool.{false≢true, cases_Bool, and_parts, and_from, or_left, or_right, or_cases, not-true}
+use Rattle.std.proofs.lemmas.Bool.{false≢true, cases_Bool, and_parts, and_from, or_left}
 use Rattle.rdb_types.specs.declared.node.Level.{Level}
 use Rattle.rdb_types.specs.declared.node.Level.TheVariants.{Area, Range, Page, Line, Journal}
 use Rattle.rdb_types.specs.declared.node.Node.{Node}
-use Rattle.vms_queues.specs.declared.lock_mode.Mode.{Mode}
 use Rattle.vms_queues.specs.Modes.{at_most, intent}
-use Rattle.vms_locks.specs.Table.{Table}
+use Rattle.vms_locks.specs.Table.{Table, queues_at, IsLive}
 use Rattle.lock_needs.specs.declared.need.Need.{Need}
 use Rattle.lock_needs.specs.declared.party.OpenWant.{OpenWant}
 use Rattle.lock_needs.specs.declared.party.Party.{Party}
@@ -19,16 +18,20 @@ use Rattle.lock_needs.specs.Wants.{mode_for, sleeps_at}
 use Rattle.lock_needs.proofs.NodeLaws.{same_node-true, same_node-refl, contains-above}
 use Rattle.lock_needs.proofs.Above.{above-contains, above-level}
 use Rattle.lock_tree.specs.LockTable.{granted_at, sought_at, HasIntents}
-use Rattle.lock_tree.specs.Parties.{IsKeptBut, IsKept, KeepsOthers, nowhere, wanting, resting, unasked, asked_at, was_asked}
+use Rattle.lock_tree.specs.Parties.{IsKept, KeepsOthers, wanting, resting, unasked, asked_at, was_asked}
 use Rattle.lock_tree.specs.Releasing.{IsQuiet}
-use Rattle.lock_tree.specs.Forest.{Parties, State, IsWhole, HasAsks, KeepsAsks, KeepsParties, is_asked_at, party_of, opened_of}
-use Rattle.lock_tree.specs.Wanted.{needs_of, wanted_of, IsOpen, IsOf}
+use Rattle.lock_tree.specs.Forest.{Parties, State, IsWhole, HasAsks, KeepsParties, is_asked_at, open_asks, party_of, opened_of}
+use Rattle.lock_tree.specs.Wanted.{needs_of, IsOpen, IsOf}
 use Rattle.lock_tree.proofs.Depths.{depth}
 use Rattle.lock_tree.proofs.Leaving.{and-none, sleeps-elsewhere, up-same}
 use Rattle.lock_tree.proofs.Wanting.{at_node, descends}
 use Rattle.lock_tree.proofs.Getting.{got-open}
 use Rattle.lock_tree.proofs.Trails.{entry_of, pushed-others, asks-pushed}
-use Rattle.lock_tree.proofs.Whole.{whole-after}
+use Rattle.lock_tree.specs.Order.{IsInOrder, MakesWay, StandsByNeeds, ComesDown, asked_of_want, asked_last}
+use Rattle.lock_tree.proofs.WayMade.{way-none}
+use Rattle.lock_tree.proofs.StepsInOrder.{stands-got, stands-descends}
+use Rattle.lock_tree.proofs.OpenAsks.{opened-still, opened-noted, opened-asked}
+use Rattle.lock_tree.proofs.Whole.{least-of, whole-after, whole-served, whole-ended}
 
 pub as-open : (p : Party) (w : OpenWant) → p.opened ≡ Some w → p ≡ wanting p.needs w
 as-open p w opened = ap (λ (o : Option OpenWant). record p { opened = o }) opened
@@ -38,28 +41,37 @@ as-resting p opened = ap (λ (o : Option OpenWant). record p { opened = o }) ope
 
 -- ---- what stays
 
+-- the owner's locks came down, and nothing else changed
+pub whole-kept : (s r : State) (owner : ℕ) → IsWhole s → ComesDown owner (party_of s.parties owner) s.table r.table
+    → party_of r.parties owner ≡ party_of s.parties owner → KeepsParties owner s.parties r.parties → r.trail ≡ s.trail → IsWhole r
+whole-kept s r owner whole down own same trail =
+    whole-served s r owner (party_of s.parties owner) whole down.intents down.others own down.kept same
+    (subst (λ (a : List Asked). HasAsks a owner (party_of s.parties owner).opened) (sym trail) (whole.asks owner))
+    (λ u n d. ap (λ (a : List Asked). is_asked_at a u n) trail)
+    down.way (down.stands (least-of s owner whole)) (λ n. refl) (λ n. refl)
+    (ap (open_asks r.parties) trail ∙ opened-still (party_of s.parties) (party_of r.parties) owner same (ap (λ (p : Party). is_some p.opened) own) s.trail)
+
 -- nothing changed but the others' shares of the map
 pub whole-same : (s r : State) (owner : ℕ) → IsWhole s → r.table ≡ s.table → party_of r.parties owner ≡ party_of s.parties owner → KeepsParties owner s.parties r.parties → r.trail ≡ s.trail → IsWhole r
 whole-same s r owner whole table own same trail =
-    whole-after s r owner (party_of s.parties owner) whole (subst HasIntents (sym table) whole.intents) (λ u q d k. subst (λ (t : Table). IsKept t u q) (sym table) k)
-    own (subst (λ (t : Table). IsKept t owner (party_of s.parties owner)) (sym table) (whole.kept owner)) same
-    (subst (λ (a : List Asked). HasAsks a owner (party_of s.parties owner).opened) (sym trail) (whole.asks owner))
-    (λ u n d. ap (λ (a : List Asked). is_asked_at a u n) trail)
+    whole-kept s r owner whole
+    (subst (ComesDown owner (party_of s.parties owner) s.table) (sym table) (record {
+      way = way-none owner s.table;
+      stands = λ h. h;
+      kept = whole.kept owner;
+      intents = whole.intents;
+      others = λ u q d k. k;
+    }))
+    own same trail
 
--- the owner's locks changed, and nothing else
-pub whole-kept : (s r : State) (owner : ℕ) → IsWhole s → HasIntents r.table → KeepsOthers owner s.table r.table → IsKept r.table owner (party_of s.parties owner)
-    → party_of r.parties owner ≡ party_of s.parties owner → KeepsParties owner s.parties r.parties → r.trail ≡ s.trail → IsWhole r
-whole-kept s r owner whole intents others kept own same trail =
-    whole-after s r owner (party_of s.parties owner) whole intents others own kept same
-    (subst (λ (a : List Asked). HasAsks a owner (party_of s.parties owner).opened) (sym trail) (whole.asks owner))
-    (λ u n d. ap (λ (a : List Asked). is_asked_at a u n) trail)
-
--- the owner got its need, and was asked for it at the node
+-- the owner has no want open any more, and was asked for it at the node
 pub whole-noted : (s r : State) (owner : ℕ) (n : Node) (ws : List Need) → IsWhole s → HasIntents r.table → KeepsOthers owner s.table r.table → IsKept r.table owner (resting ws)
-    → party_of r.parties owner ≡ resting ws → KeepsParties owner s.parties r.parties → r.trail ≡ s.trail ++ entry_of owner n ∷ [] → IsWhole r
-whole-noted s r owner n ws whole intents others kept own same trail =
-    whole-after s r owner (resting ws) whole intents others own kept same tt
+    → party_of r.parties owner ≡ resting ws → KeepsParties owner s.parties r.parties → r.trail ≡ s.trail ++ entry_of owner n ∷ [] → MakesWay owner s.table r.table → StandsByNeeds r.table owner (resting ws) → IsWhole r
+whole-noted s r owner n ws whole intents others kept own same trail way stands =
+    whole-ended s r owner (resting ws) whole intents others own kept same tt
     (λ u x d. ap (λ (a : List Asked). is_asked_at a u x) trail ∙ pushed-others owner n s.trail u x d)
+    way stands refl
+    (ap (open_asks r.parties) trail ∙ opened-noted (party_of s.parties) (party_of r.parties) owner same (ap (λ (p : Party). is_some p.opened) own) n s.trail)
 
 -- what an owner's open want is told by
 pub kept-open : (s : State) (owner : ℕ) (w : OpenWant) → IsWhole s → opened_of s owner ≡ Some w → IsKept s.table owner (wanting (needs_of s owner) w)
@@ -74,18 +86,23 @@ still-open s r owner w n opened is own = (w, own ∙ as-open (party_of s.parties
 -- the open want was asked at its node
 pub whole-asked : (s r : State) (owner : ℕ) (w : OpenWant) → IsWhole s → opened_of s owner ≡ Some (unasked w) → HasIntents r.table → KeepsOthers owner s.table r.table
     → IsKept r.table owner (wanting (needs_of s owner) (asked_at w w.here)) → party_of r.parties owner ≡ wanting (needs_of s owner) (asked_at w w.here)
-    → KeepsParties owner s.parties r.parties → r.trail ≡ s.trail ++ entry_of owner w.here ∷ [] → IsWhole r
-whole-asked s r owner w whole opened intents others kept own same trail =
+    → KeepsParties owner s.parties r.parties → r.trail ≡ s.trail ++ entry_of owner w.here ∷ []
+    → IsLive (queues_at r.table) → IsInOrder r.table (party_of r.parties) (asked_last (open_asks s.parties s.trail) owner w.here) → IsWhole r
+whole-asked s r owner w whole opened intents others kept own same trail live order =
     whole-after s r owner (wanting (needs_of s owner) (asked_at w w.here)) whole intents others own kept same
     (subst (λ (a : List Asked). HasAsks a owner (Some (asked_at w w.here))) (sym trail) (asks-pushed owner w s.trail (asks-open s owner (unasked w) whole opened)))
     (λ u x d. ap (λ (a : List Asked). is_asked_at a u x) trail ∙ pushed-others owner w.here s.trail u x d)
+    live
+    (subst (IsInOrder r.table (party_of r.parties))
+    (sym (ap (open_asks r.parties) trail
+    ∙ opened-asked (party_of s.parties) (party_of r.parties) owner same (ap (λ (o : Option OpenWant). is_some o) opened) (ap (λ (p : Party). is_some p.opened) own) w.here s.trail))
+    order)
 
 -- the open want looked at its node, and wasn't asked there, or was refused
-pub whole-looked : (s r : State) (owner : ℕ) (w : OpenWant) → IsWhole s → opened_of s owner ≡ Some (unasked w) → HasIntents r.table → KeepsOthers owner s.table r.table
-    → IsKept r.table owner (wanting (needs_of s owner) (unasked w)) → r.parties ≡ s.parties → r.trail ≡ s.trail → IsWhole r
-whole-looked s r owner w whole opened intents others kept parties trail =
-    whole-kept s r owner whole intents others (subst (IsKept r.table owner) (sym (as-open (party_of s.parties owner) (unasked w) opened)) kept)
-    (ap (λ (ps : Parties). party_of ps owner) parties) (λ u d. ap (λ (ps : Parties). party_of ps u) parties) trail
+pub whole-looked : (s r : State) (owner : ℕ) (w : OpenWant) → IsWhole s → opened_of s owner ≡ Some (unasked w) → ComesDown owner (party_of s.parties owner) s.table r.table
+    → r.parties ≡ s.parties → r.trail ≡ s.trail → IsWhole r
+whole-looked s r owner w whole opened down parties trail =
+    whole-kept s r owner whole down (ap (λ (ps : Parties). party_of ps owner) parties) (λ u d. ap (λ (ps : Parties). party_of ps u) parties) trail
 
 -- ---- a want that is covered
 
@@ -94,6 +111,11 @@ covered-got s owner ws n whole open_ covered plain quiet =
     subst (λ (v : Need). IsKept s.table owner (resting (ws ++ v ∷ []))) open_.2
     (got-open (granted_at s.table owner) (sought_at s.table owner) ws open_.0 (subst (IsKept s.table owner) open_.1 (whole.kept owner))
     (subst (λ (v : Need). is_covered (granted_at s.table owner) v ≡ true) (sym open_.2) covered) (subst (λ (v : Need). is_plain v ≡ true) (sym open_.2) plain) quiet)
+
+pub covered-stands : (s : State) (owner : ℕ) (ws : List Need) (n : Need) → IsWhole s → IsOpen s owner ws n → StandsByNeeds s.table owner (resting (ws ++ n ∷ []))
+covered-stands s owner ws n whole open_ =
+    subst (λ (v : Need). StandsByNeeds s.table owner (resting (ws ++ v ∷ []))) open_.2
+    (stands-got s.table s.table owner ws open_.0 (way-none owner s.table) (subst (IsKept s.table owner) open_.1 (whole.kept owner)).way (subst (StandsByNeeds s.table owner) open_.1 (least-of s owner whole)))
 
 -- a need that an owner has got is covered
 pub got-covered_need : (t : Table) (owner : ℕ) (ws : List Need) (n : Need) → IsKept t owner (resting (ws ++ n ∷ [])) → is_covered (granted_at t owner) n ≡ true
@@ -164,6 +186,16 @@ module _ (s : State) (owner : ℕ) (w v : OpenWant) (whole : IsWhole s) (opened 
       ∙ (ap (λ (b : Bool). contains n w.here || b) (and-true (same_node n w.here))
       ∙ (sym (up-same (granted_at s.table owner) v w.here above (subst (λ (m : Need). at_most (mode_for m w.here) (granted_at s.table owner w.here) ≡ true) (sym need) granted) n)
       ∙ sym (subst (λ (u : OpenWant). was_asked u n ≡ contains n v.here) (sym fresh) (ap (λ (b : Bool). contains n v.here || b) (and-none (same_node n v.here)) ∙ or-none (contains n v.here))))))
+
+  pub down-stands : StandsByNeeds s.table owner (wanting (needs_of s owner) v)
+  down-stands =
+      subst (λ (u : OpenWant). StandsByNeeds s.table owner (wanting (needs_of s owner) u)) (sym (next-is w v need fresh))
+      (stands-descends s.table owner (needs_of s owner) (at_node w v.here) w.here above granted
+      (subst (λ (u : OpenWant). StandsByNeeds s.table owner (wanting (needs_of s owner) u)) (ap (λ (b : Bool). record w { is_asked = b }) asked)
+      (subst (StandsByNeeds s.table owner) (as-open (party_of s.parties owner) w opened) (least-of s owner whole))))
+
+  pub down-asked : (n : Node) → asked_of_want (Some v) n ≡ asked_of_want (opened_of s owner) n
+  down-asked n = sym (down-asks n) ∙ (asks-open s owner w whole opened n ∙ sym (ap (λ (o : Option OpenWant). asked_of_want o n) opened))
 
 -- ---- how far it has to go
 

@@ -84,7 +84,7 @@ served-same o q r g k w =
     }
 
 -- one conversion is granted
-conversion-served : (o : ℕ) (g l : List Held) (c : Held) (cs ws : List Held) → each_once (l ++ c ∷ cs) ≡ true → has_owner c.owner g ≡ true → list_all (λ w. not (has_owner w.owner g)) ws ≡ true
+pub conversion-served : (o : ℕ) (g l : List Held) (c : Held) (cs ws : List Held) → each_once (l ++ c ∷ cs) ≡ true → has_owner c.owner g ≡ true → list_all (λ w. not (has_owner w.owner g)) ws ≡ true
     → IsServed o (queues g (l ++ c ∷ cs) ws) (queues (with_mode c.owner c.mode g) (l ++ cs) ws)
 conversion-served o g l c cs ws e has fresh =
     let gone : has_owner c.owner (l ++ cs) ≡ false = without_one l c cs e in
@@ -102,10 +102,10 @@ conversion-served o g l c cs ws e has fresh =
           (mode-with_other o c.owner c.mode g d) (sym (mode-past_other o l c cs d)) refl
     ]
 
-keeps-owners : (q : ℕ) (m : Mode) (g cs : List Held) → list_all (λ c. has_owner c.owner g) cs ≡ true → list_all (λ c. has_owner c.owner (with_mode q m g)) cs ≡ true
+pub keeps-owners : (q : ℕ) (m : Mode) (g cs : List Held) → list_all (λ c. has_owner c.owner g) cs ≡ true → list_all (λ c. has_owner c.owner (with_mode q m g)) cs ≡ true
 keeps-owners q m g cs h = list_all-agree (λ c. has_owner c.owner (with_mode q m g)) (λ c. has_owner c.owner g) (λ c. has_owner-with_mode c.owner q m g) cs ∙ h
 
-keeps-strangers : (q : ℕ) (m : Mode) (g ws : List Held) → list_all (λ w. not (has_owner w.owner g)) ws ≡ true → list_all (λ w. not (has_owner w.owner (with_mode q m g))) ws ≡ true
+pub keeps-strangers : (q : ℕ) (m : Mode) (g ws : List Held) → list_all (λ w. not (has_owner w.owner g)) ws ≡ true → list_all (λ w. not (has_owner w.owner (with_mode q m g))) ws ≡ true
 keeps-strangers q m g ws h = list_all-agree (λ w. not (has_owner w.owner (with_mode q m g))) (λ w. not (has_owner w.owner g)) (λ w. ap not (has_owner-with_mode w.owner q m g)) ws ∙ h
 
 conversions-served : (o : ℕ) (g l cs ws : List Held) → each_once (l ++ cs) ≡ true → list_all (λ c. has_owner c.owner g) cs ≡ true → list_all (λ w. not (has_owner w.owner g)) ws ≡ true
@@ -128,7 +128,7 @@ conversions-served o g l (c ∷ cs) ws e a fresh =
     ]
 
 -- one waiting request is granted
-request-served : (o : ℕ) (g k l : List Held) (w : Held) (ws : List Held) → each_once (l ++ w ∷ ws) ≡ true → has_owner w.owner g ≡ false → has_owner w.owner k ≡ false
+pub request-served : (o : ℕ) (g k l : List Held) (w : Held) (ws : List Held) → each_once (l ++ w ∷ ws) ≡ true → has_owner w.owner g ≡ false → has_owner w.owner k ≡ false
     → IsServed o (queues g k (l ++ w ∷ ws)) (queues (g ++ w ∷ []) k (l ++ ws))
 request-served o g k l w ws e fresh apart =
     let gone : has_owner w.owner (l ++ ws) ≡ false = without_one l w ws e in
@@ -169,7 +169,7 @@ requests-served o k g l (w ∷ ws) e a b =
     ]
 
 -- who isn't granted doesn't convert
-no_conversion-of : (g k : List Held) → list_all (λ c. has_owner c.owner g) k ≡ true → (w : Held) → not (has_owner w.owner g) ≡ true → has_owner w.owner k ≡ false
+pub no_conversion-of : (g k : List Held) → list_all (λ c. has_owner c.owner g) k ≡ true → (w : Held) → not (has_owner w.owner g) ≡ true → has_owner w.owner k ≡ false
 no_conversion-of g k h w n =
     elim (cases_Bool (has_owner w.owner k)) [
       | inr f ↦ f

@@ -1,6 +1,6 @@
 -- What `==` of needs tells, and what an open want's need tells.
 use Rattle.std.proofs.Common.{◌≡◌, true, false, refl, ◌∙◌, ap, sym}
-use Rattle.std.specs.Prelude.{◌&&◌, Option, Some, None, option_map, unwrap_or}
+use Rattle.std.specs.Prelude.{Option, Some, None, option_map, unwrap_or}
 use Rattle.std.proofs.lemmas.Bool.{false≢true, and_parts}
 use Rattle.rdb_types.specs.declared.node.Node.{Node}
 use Rattle.vms_queues.specs.declared.lock_mode.Mode.{Mode}

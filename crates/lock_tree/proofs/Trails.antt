@@ -1,8 +1,8 @@
 -- Entries of the trail: what is cut, and what is added.
 use Rattle.std.proofs.Common.{◌≡◌, ℕ, ◌++◌, ◌∷◌, [], Bool, true, false, List, refl, sym, ◌∙◌, ap, subst, inl, inr}
 use Rattle.std.specs.Prelude.{◌==◌, not, ◌&&◌, ◌||◌, if◌then◌else◌, Option, Some, None, MatchOption}
-use Rattle.std.specs.List.{list_any, filter}
-use Rattle.std.proofs.lemmas.Bool.{false≢true, cases_Bool, eq-eqb, eqb-true, and_from, and_parts, or_left, or_cases}
+use Rattle.std.specs.List.{list_any}
+use Rattle.std.proofs.lemmas.Bool.{false≢true, cases_Bool, eq-eqb, eqb-true, and_parts, or_left, or_cases}
 use Rattle.std.proofs.lemmas.List.Folds.{list_any-append}
 use Rattle.rdb_types.specs.declared.node.Node.{Node}
 use Rattle.lock_needs.specs.declared.party.OpenWant.{OpenWant}
@@ -12,7 +12,7 @@ use Rattle.lock_needs.proofs.NodeLaws.{same_node-true, same_node-sym, contains-t
 use Rattle.lock_needs.proofs.Above.{top-alone, above-contains}
 use Rattle.lock_tree.specs.Parties.{was_asked, unasked, asked_at, AsksLess}
 use Rattle.lock_tree.specs.Forest.{is_asked_at, HasAsks, KeepsAsks}
-use Rattle.lock_tree.specs.Wanted.{asks_cut}
+use Rattle.lock_tree.specs.Order.{asks_cut}
 
 any-kept : (t : Asked → Bool) (p : Bool) (a : Asked) (rest : List Asked) → list_any t (if p then a ∷ rest else rest) ≡ ((p && t a) || list_any t rest)
 any-kept t true a rest = refl
@@ -70,10 +70,12 @@ and-none true = refl
 and-none false = refl
 
 -- a want that opens was asked nowhere
+pub never-asked : (w : OpenWant) → w ≡ unasked w → above_of w.here ≡ None → (n : Node) → was_asked w n ≡ false
+never-asked w fresh top n = subst (λ (v : OpenWant). was_asked v n ≡ false) (sym fresh) (ap (λ (b : Bool). b || (same_node n w.here && false)) (top-alone w.here n top) ∙ and-none (same_node n w.here))
+
 pub asks-opening : (owner : ℕ) (w : OpenWant) (trail cut : List Asked) → w ≡ unasked w → above_of w.here ≡ None → ((n : Node) → is_asked_at cut owner n ≡ (is_asked_at trail owner n && was_asked w n)) → HasAsks cut owner (Some w)
 asks-opening owner w trail cut fresh top own n =
-    let never : was_asked w n ≡ false =
-    subst (λ (v : OpenWant). was_asked v n ≡ false) (sym fresh) (ap (λ (b : Bool). b || (same_node n w.here && false)) (top-alone w.here n top) ∙ and-none (same_node n w.here)) in
+    let never : was_asked w n ≡ false = never-asked w fresh top n in
     own n ∙ (ap (λ (b : Bool). is_asked_at trail owner n && b) never ∙ (and-none (is_asked_at trail owner n) ∙ sym never))
 
 -- ---- what is added

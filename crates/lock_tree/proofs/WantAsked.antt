@@ -1,7 +1,7 @@
 -- A want is asked at its node: it is granted there or queued, and what is true of its owner and of the others stays.
 use Rattle.std.proofs.Common.{◌≡◌, ℕ, Bool, true, false, refl, sym, ◌∙◌, ap, subst, ◌⊎◌, inl, inr, List}
-use Rattle.std.specs.Prelude.{◌&&◌, ◌||◌, ◌==◌, not, if◌then◌else◌, Option, Some, None}
-use Rattle.std.proofs.lemmas.Bool.{false≢true, and_parts, and_from, or_left, or_right, or_cases, cases_Bool, eqb-true, eq-eqb, and_left}
+use Rattle.std.specs.Prelude.{◌&&◌, ◌||◌, ◌==◌, not, if◌then◌else◌, Some}
+use Rattle.std.proofs.lemmas.Bool.{false≢true, and_parts, and_from, or_left, or_cases, cases_Bool, eqb-true, eq-eqb}
 use Rattle.rdb_types.specs.declared.node.Node.{Node}
 use Rattle.vms_queues.specs.declared.lock_mode.Mode.{Mode}
 use Rattle.vms_queues.specs.declared.lock_mode.Mode.TheVariants.{NL}
@@ -9,11 +9,10 @@ use Rattle.vms_queues.specs.Modes.{at_most, least_above, intent}
 use Rattle.vms_locks.specs.Table.{Table}
 use Rattle.lock_needs.specs.declared.need.Need.{Need}
 use Rattle.lock_needs.specs.declared.party.OpenWant.{OpenWant}
-use Rattle.lock_needs.specs.declared.party.Party.{Party}
 use Rattle.lock_needs.specs.Nodes.{same_node, contains}
 use Rattle.lock_needs.specs.Needs.{Holding}
-use Rattle.lock_needs.specs.Keeping.{below, needed_on, must_keep}
-use Rattle.lock_needs.specs.Wants.{mode_for, has_granted, opened_at, sleeps_at, kept_at, intents_on, earned_at}
+use Rattle.lock_needs.specs.Keeping.{below, needed_on}
+use Rattle.lock_needs.specs.Wants.{mode_for, opened_at, kept_at, intents_on, earned_at}
 use Rattle.lock_needs.proofs.ModeTables.{at_most-refl, at_most-trans, at_most-join, join-left, join-right, intent-join, intent-most, intent-twice, intent-own}
 use Rattle.lock_needs.proofs.NodeLaws.{same_node-true, same_node-refl}
 use Rattle.lock_needs.proofs.Cover.{by_test}
@@ -23,7 +22,7 @@ use Rattle.vms_locks.specs.declared.answer.Enq.{Enq}
 use Rattle.vms_locks.specs.declared.answer.Enq.TheVariants.{Granted, Asleep, NotQueued, Deadlock}
 use Rattle.lock_tree.specs.Asking.{AnswersAt, TakesAnswer}
 use Rattle.lock_tree.specs.LockTable.{granted_at, sought_at, HasIntents, RaisedAt, QueuedAt}
-use Rattle.lock_tree.specs.Parties.{IsKeptBut, IsKept, KeepsOthers, HasReason, is_needed, was_asked, nowhere, wanting, unasked, asked_at}
+use Rattle.lock_tree.specs.Parties.{IsKeptBut, IsKept, KeepsOthers, was_asked, nowhere, wanting, unasked, asked_at}
 use Rattle.lock_tree.proofs.Waking.{woken-kept}
 use Rattle.lock_tree.proofs.Brought.{kept-alike}
 use Rattle.lock_tree.proofs.Leaving.{opened-unasked, and-none, the-want}

@@ -1,8 +1,8 @@
 -- The whole tree, from one owner and the others.
-use Rattle.std.proofs.Common.{◌≡◌, ℕ, true, refl, sym, ◌∙◌, subst, inl, inr, List, [], ◌∷◌}
+use Rattle.std.proofs.Common.{◌≡◌, ℕ, true, false, refl, sym, ◌∙◌, ap, subst, inl, inr, List, [], ◌∷◌}
 use Rattle.std.specs.Prelude.{◌==◌, not, Option, Some, None}
 use Rattle.std.specs.List.{list_all}
-use Rattle.std.proofs.lemmas.Bool.{cases_Bool, eqb-true, and_parts, and_from, not_from_false}
+use Rattle.std.proofs.lemmas.Bool.{false≢true, cases_Bool, eqb-true, and_parts, and_from, not_from_false}
 use Rattle.vms_locks.specs.Table.{Table, queues_at, IsLive}
 use Rattle.rdb_types.specs.declared.node.Node.{Node}
 use Rattle.lock_needs.specs.declared.party.Party.{Party}
@@ -10,30 +10,107 @@ use Rattle.lock_needs.specs.declared.party.OpenWant.{OpenWant}
 use Rattle.lock_needs.specs.declared.party.Asked.{Asked}
 use Rattle.lock_needs.specs.declared.need.Need.{Need}
 use Rattle.lock_needs.specs.Needs.{Holding, AreCompatible, HasIntentsAbove, conflict, is_covered, all_covered}
+use Rattle.lock_needs.specs.Waits.{converts_at}
 use Rattle.lock_needs.proofs.Apart.{covered-apart}
-use Rattle.lock_tree.specs.LockTable.{granted_at, HasIntents}
-use Rattle.lock_tree.specs.Parties.{IsKept, KeepsOthers}
+use Rattle.lock_tree.specs.LockTable.{granted_at, sought_at, HasIntents}
+use Rattle.lock_tree.specs.Parties.{IsKept, KeepsOthers, was_asked}
 use Rattle.lock_tree.proofs.HeldModes.{shares-in}
-use Rattle.lock_tree.specs.Forest.{Parties, State, IsWhole, HasAsks, KeepsAsks, KeepsParties, NeedsAreApart, no_conflict, is_asked_at, party_of}
+use Rattle.lock_tree.specs.Forest.{Parties, State, IsWhole, HasAsks, KeepsAsks, KeepsParties, NeedsAreApart, no_conflict, is_asked_at, open_asks, party_of}
+use Rattle.lock_tree.specs.Order.{IsInOrder, StandsInOrder, AreKept, MakesWay, StandsByNeeds, asked_of_want, without_asks, asks_cut}
+use Rattle.vms_locks.proofs.Empty.{live-empty}
+use Rattle.lock_tree.proofs.WayMade.{stays-live}
+use Rattle.lock_tree.proofs.StepsInOrder.{empty-in_order, served-in_order, ended-in_order, lessened-in_order}
 
 -- another trail that names the same nodes for the owner
 pub asks-same : (old new : List Asked) (u : ℕ) (o : Option OpenWant) → ((n : Node) → is_asked_at new u n ≡ is_asked_at old u n) → HasAsks old u o → HasAsks new u o
 asks-same old new u None same asks = tt
 asks-same old new u (Some w) same asks = λ n. same n ∙ asks n
 
-pub whole-after : (s r : State) (owner : ℕ) (p : Party) → IsWhole s → HasIntents r.table → KeepsOthers owner s.table r.table → party_of r.parties owner ≡ p → IsKept r.table owner p
-    → KeepsParties owner s.parties r.parties → HasAsks r.trail owner p.opened → KeepsAsks owner s.trail r.trail → IsWhole r
-whole-after s r owner p whole intents others is own same asks other_asks = record {
-  intents = intents;
-  kept = λ u. elim (cases_Bool (u == owner)) [
+pub live-of : (s : State) → IsWhole s → IsLive (queues_at s.table)
+unfolding StandsInOrder
+live-of s whole = whole.in_order.0
+
+pub order-of : (s : State) → IsWhole s → IsInOrder s.table (party_of s.parties) (open_asks s.parties s.trail)
+unfolding StandsInOrder
+order-of s whole = whole.in_order.1
+
+-- who stands in the way does so by its needs
+pub least-of : (s : State) (owner : ℕ) → IsWhole s → StandsByNeeds s.table owner (party_of s.parties owner)
+least-of s owner whole = (order-of s whole).least owner
+
+-- nobody has or wants anything
+pub whole-empty : (s : State) → s.table ≡ [] → s.parties ≡ [] → s.trail ≡ [] → IsWhole s
+unfolding StandsInOrder
+whole-empty s t p a = subst IsWhole (ap (λ (x : List Asked). record { table = []; parties = []; trail = x }) (sym a) ∙ (ap (λ (x : Parties). record { table = []; parties = x; trail = s.trail }) (sym p) ∙ ap (λ (x : Table). record { table = x; parties = s.parties; trail = s.trail }) (sym t))) nobody
+  where
+    nobody : IsWhole (record { table = []; parties = []; trail = [] })
+    nobody = record {
+      intents = record { ascends = λ o x. refl; granted = λ o a c h. refl; sought = λ o a c h. refl };
+      kept = λ u. record {
+        covered = refl;
+        plain = refl;
+        way = tt;
+        granted = λ n. refl;
+        awake = λ n e. refl;
+        asleep = λ w e. absurd (false≢true (ap (λ (o : Option OpenWant). elim o [ None ↦ false | Some v ↦ true ]) e));
+        exact = λ n w e. absurd (false≢true (ap (λ (o : Option OpenWant). elim o [ None ↦ false | Some v ↦ true ]) e));
+        earned = λ n b. refl;
+        no_stray = λ n b. inl refl;
+      };
+      asks = λ u. tt;
+      in_order = ((live-empty [] refl).0, empty-in_order (party_of []) (λ u. refl));
+    }
+
+module _ (s r : State) (owner : ℕ) (p : Party) (whole : IsWhole s) (intents : HasIntents r.table) (others : KeepsOthers owner s.table r.table) (is : party_of r.parties owner ≡ p) (own : IsKept r.table owner p)
+    (same : KeepsParties owner s.parties r.parties) (asks : HasAsks r.trail owner p.opened) (other_asks : KeepsAsks owner s.trail r.trail) where
+  after-kept : AreKept r.table (party_of r.parties)
+  after-kept u = elim (cases_Bool (u == owner)) [
     | inl e ↦ subst (λ (z : ℕ). IsKept r.table z (party_of r.parties z)) (sym (eqb-true u owner e)) (subst (IsKept r.table owner) (sym is) own)
     | inr d ↦ subst (IsKept r.table u) (sym (same u d)) (others u (party_of s.parties u) d (whole.kept u))
-  ];
-  asks = λ u. elim (cases_Bool (u == owner)) [
-    | inl e ↦ subst (λ (z : ℕ). HasAsks r.trail z (party_of r.parties z).opened) (sym (eqb-true u owner e)) (subst (λ (q : Party). HasAsks r.trail owner q.opened) (sym is) asks)
-    | inr d ↦ subst (λ (q : Party). HasAsks r.trail u q.opened) (sym (same u d)) (asks-same s.trail r.trail u (party_of s.parties u).opened (λ n. other_asks u n d) (whole.asks u))
-  ];
-}
+  ]
+
+  pub whole-after : IsLive (queues_at r.table) → IsInOrder r.table (party_of r.parties) (open_asks r.parties r.trail) → IsWhole r
+  unfolding StandsInOrder
+  whole-after live order = record {
+    intents = intents;
+    kept = after-kept;
+    asks = λ u. elim (cases_Bool (u == owner)) [
+      | inl e ↦ subst (λ (z : ℕ). HasAsks r.trail z (party_of r.parties z).opened) (sym (eqb-true u owner e)) (subst (λ (q : Party). HasAsks r.trail owner q.opened) (sym is) asks)
+      | inr d ↦ subst (λ (q : Party). HasAsks r.trail u q.opened) (sym (same u d)) (asks-same s.trail r.trail u (party_of s.parties u).opened (λ n. other_asks u n d) (whole.asks u))
+    ];
+    in_order = (live, order);
+  }
+
+  -- the owner made way, and stands in the way by its needs
+  module _ (way : MakesWay owner s.table r.table) (stands : StandsByNeeds r.table owner p) where
+    next-stands : StandsByNeeds r.table owner (party_of r.parties owner)
+    next-stands = subst (StandsByNeeds r.table owner) (sym is) stands
+
+    -- its needs are on the same nodes, and its want was asked where it was
+    pub whole-served : ((n : Node) → converts_at p.needs n ≡ converts_at (party_of s.parties owner).needs n) → ((n : Node) → asked_of_want p.opened n ≡ asked_of_want (party_of s.parties owner).opened n)
+        → open_asks r.parties r.trail ≡ open_asks s.parties s.trail → IsWhole r
+    whole-served needs asked trail =
+        whole-after (stays-live owner s.table r.table way (live-of s whole))
+        (subst (IsInOrder r.table (party_of r.parties)) (sym trail)
+        (served-in_order s.table r.table (party_of s.parties) (party_of r.parties) (open_asks s.parties s.trail) owner way (stays-live owner s.table r.table way (live-of s whole)) whole.kept after-kept same next-stands (order-of s whole)
+        (λ n. ap (λ (q : Party). converts_at q.needs n) is ∙ needs n) (λ n. ap (λ (q : Party). asked_of_want q.opened n) is ∙ asked n)))
+
+    -- its want isn't open any more
+    pub whole-ended : p.opened ≡ None → open_asks r.parties r.trail ≡ without_asks owner (open_asks s.parties s.trail) → IsWhole r
+    whole-ended closed trail =
+        whole-after (stays-live owner s.table r.table way (live-of s whole))
+        (subst (IsInOrder r.table (party_of r.parties)) (sym trail)
+        (ended-in_order s.table r.table (party_of s.parties) (party_of r.parties) (open_asks s.parties s.trail) owner way (stays-live owner s.table r.table way (live-of s whole)) whole.kept after-kept same next-stands (order-of s whole)
+        (ap (λ (q : Party). q.opened) is ∙ closed)))
+
+    -- its want is open still, asked at fewer nodes
+    pub whole-lessened : (w : OpenWant) → p.opened ≡ Some w → ((n : Node) → converts_at p.needs n ≡ converts_at (party_of s.parties owner).needs n) → ((n : Node) → was_asked w n ≡ true → asked_of_want (party_of s.parties owner).opened n ≡ true)
+        → sought_at r.table owner w.here ≡ granted_at r.table owner w.here → open_asks r.parties r.trail ≡ asks_cut owner w (open_asks s.parties s.trail) → IsWhole r
+    whole-lessened w opened needs less calm trail =
+        whole-after (stays-live owner s.table r.table way (live-of s whole))
+        (subst (IsInOrder r.table (party_of r.parties)) (sym trail)
+        (lessened-in_order s.table r.table (party_of s.parties) (party_of r.parties) (open_asks s.parties s.trail) owner way (stays-live owner s.table r.table way (live-of s whole)) whole.kept after-kept same next-stands (order-of s whole)
+        w (ap (λ (q : Party). q.opened) is ∙ opened) (λ n. ap (λ (q : Party). converts_at q.needs n) is ∙ needs n) less calm))
 
 -- ---- needs of two owners
 

@@ -3,9 +3,9 @@ use Rattle.std.specs.Prelude.{◌≡◌, ◌==◌, ℕ, Bool, true, false, if◌
 use Rattle.rdb_types.specs.declared.node.Node.{Node}
 use Rattle.vms_queues.specs.declared.lock_mode.Mode.{Mode}
 use Rattle.vms_queues.specs.Modes.{may_share, at_most, least_above}
-use Rattle.vms_queues.specs.Queues.{has_owner, first_of, blockers}
+use Rattle.vms_queues.specs.Queues.{first_of, blockers}
 use Rattle.vms_locks.specs.Table.{Table, queues_at, IsLive}
-use Rattle.vms_locks.specs.Answers.{Request, Answers, asking, converting, WaitsQueued}
+use Rattle.vms_locks.specs.Answers.{Request, Answers, WaitsQueued}
 use Rattle.vms_locks.specs.Walks.{IsCycle}
 use Rattle.vms_locks.specs.declared.answer.Enq.{Enq}
 use Rattle.vms_locks.specs.declared.answer.Enq.TheVariants.{Granted, Asleep, NotQueued, Deadlock}
@@ -17,6 +17,7 @@ use Rattle.lock_tree.specs.declared.looking.Look.{Look}
 use Rattle.lock_tree.specs.declared.looking.Look.TheVariants.{NoticeTo, Asked}
 use Rattle.lock_tree.specs.Forest.{Parties, party_of}
 use Rattle.lock_tree.specs.LockTable.{granted_at, RaisedAt, QueuedAt}
+use Rattle.lock_tree.specs.Order.{ComesDown, requesting}
 use Rattle.lock_tree.specs.Parties.{IsKept, wanting, resting, unasked, asked_at}
 
 abbrev pub was_granted : Enq → Bool
@@ -39,7 +40,7 @@ TakesAnswer new owner ws w wait (Deadlock cycle) = IsKept new owner (wanting ws 
 
 -- the owner's request for the mode at the node: for another mode of its lock, where it holds one there
 abbrev pub request_at : Table → ℕ → Node → Mode → Request
-request_at t owner n mode = if has_owner owner (queues_at t n).granted then converting (queues_at t n) owner mode else asking (queues_at t n) owner mode
+request_at t owner n mode = requesting (queues_at t n) owner mode
 
 -- the owner's lock at the node is stronger than it has to be
 abbrev pub exceeds_at : Table → Parties → Node → ℕ → Bool
@@ -58,13 +59,15 @@ asked_mode t owner w = least_above (granted_at t owner w.here) (mode_for w.need 
 abbrev pub NoneIsDue : Table → Parties → ℕ → OpenWant → Type 0
 NoneIsDue t ps owner w = first_excess t ps w.here (blockers owner (asked_mode t owner w) (queues_at t w.here).granted) ≡ None
 
--- The owner's want asked its mode at its node, over this table, where its own lock was no stronger than it had to be and no notice
--- was due.
-pub record AsksAt (ps : Parties) (owner : ℕ) (w : OpenWant) (wait : Bool) (new : Table) (answer : Enq) : Type 0 where
+-- The owner's want asked its mode at its node, over the table to which the owner had come down, where its own lock was no stronger
+-- than it had to be and no notice was due.
+pub record AsksAt (ps : Parties) (owner : ℕ) (w : OpenWant) (wait : Bool) (old new : Table) (answer : Enq) : Type 0 where
   pub before : Table
+  pub down : ComesDown owner (party_of ps owner) old before
   pub least : at_most (granted_at before owner w.here) (kept_at (granted_at before owner) (party_of ps owner) w.here) ≡ true
   pub none_due : NoneIsDue before ps owner w
   pub exact : Answers before new owner w.here wait (request_at before owner w.here (asked_mode before owner w)) answer
+  pub live : IsLive (queues_at new)
 
 -- Why the owner's want was refused at its node, by the grant rule: this owner is the first in its way; once queued it would be on
 -- this cycle. No notice is due.
@@ -81,6 +84,8 @@ TakesWhole owner w old new = (ws : List Need) → IsKept old owner (wanting ws (
 -- the queues were sound and settled.
 pub record HasTakenWhole (owner : ℕ) (w : OpenWant) (old new : Table) : Type 0 where
   pub live : IsLive (queues_at old)
+  pub live_after : IsLive (queues_at new)
+  pub exact : Answers old new owner w.here false (request_at old owner w.here (least_above (granted_at old owner w.here) w.need.mode)) Granted
   pub raised : RaisedAt old new owner w.here (least_above (granted_at old owner w.here) w.need.mode)
 
 -- The lock of u at the want's node is in the way of the mode that the want asks there, and stronger than it has to be; it is the
@@ -93,6 +98,6 @@ pub record IsDue (t : Table) (ps : Parties) (owner : ℕ) (w : OpenWant) (u : �
   pub first : first_excess t ps w.here (blockers owner mode (queues_at t w.here).granted) ≡ Some u
 
 -- The owner's want has looked at its node: either another who is in the way has a stronger lock than it has to have, or it has asked.
-abbrev pub TakesLook : Table → Parties → ℕ → List Need → OpenWant → Bool → Look → Type 0
-TakesLook t ps owner ws w wait (NoticeTo other mode) = IsKept t owner (wanting ws (unasked w)) × IsDue t ps owner w other mode
-TakesLook t ps owner ws w wait (Asked answer) = TakesAnswer t owner ws w wait answer × AsksAt ps owner w wait t answer
+abbrev pub TakesLook : Table → Table → Parties → ℕ → List Need → OpenWant → Bool → Look → Type 0
+TakesLook old new ps owner ws w wait (NoticeTo other mode) = ComesDown owner (wanting ws (unasked w)) old new × IsDue new ps owner w other mode
+TakesLook old new ps owner ws w wait (Asked answer) = TakesAnswer new owner ws w wait answer × AsksAt ps owner w wait old new answer

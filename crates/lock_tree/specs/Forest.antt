@@ -13,6 +13,7 @@ use Rattle.lock_needs.specs.Nodes.{same_node}
 use Rattle.lock_needs.specs.Needs.{conflict}
 use Rattle.lock_tree.specs.LockTable.{HasIntents}
 use Rattle.lock_tree.specs.Parties.{IsKept, was_asked}
+use Rattle.lock_tree.specs.Order.{StandsInOrder, opened_asks}
 
 abbrev pub Parties : Type 0
 Parties = List (ℕ × Party)
@@ -41,7 +42,7 @@ asks_of trail owner = filter (λ a. a.owner == owner) trail
 
 -- the entries of owners whose wants are open
 abbrev pub open_asks : Parties → List Asked → List Asked
-open_asks ps trail = filter (λ a. is_some (party_of ps a.owner).opened) trail
+open_asks ps trail = opened_asks (party_of ps) trail
 
 -- the owner's last want was asked at the node
 abbrev pub is_asked_at : List Asked → ℕ → Node → Bool
@@ -70,6 +71,8 @@ pub record IsWhole (s : State) : Type 0 where
   pub intents : HasIntents s.table
   pub kept : (owner : ℕ) → IsKept s.table owner (party_of s.parties owner)
   pub asks : (owner : ℕ) → HasAsks s.trail owner (party_of s.parties owner).opened
+  -- the locks are live; who stands in the way of another does so by what it must keep, and those that wait stand in the order of asking
+  pub in_order : StandsInOrder s.table (party_of s.parties) (open_asks s.parties s.trail)
 
 -- no need of the first conflicts with one of the second
 abbrev pub no_conflict : List Need → List Need → Bool

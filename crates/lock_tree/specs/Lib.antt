@@ -7,3 +7,4 @@ pub mod Releasing
 pub mod Asking
 pub mod Wanted
 pub mod States
+pub mod Order

@@ -1,29 +1,25 @@
 -- What a want is answered, and what it leaves.
-use Rattle.std.specs.Prelude.{◌≡◌, ℕ, Bool, true, false, not, ◌&&◌, ◌||◌, ◌==◌, option_map, Option, Some, None, List, [], ◌∷◌, ◌++◌, ◌⊎◌}
-use Rattle.std.specs.List.{list_any, filter}
+use Rattle.std.specs.Prelude.{◌≡◌, ℕ, Bool, true, false, ◌==◌, option_map, Option, Some, None, List, [], ◌∷◌, ◌++◌, ◌⊎◌}
+use Rattle.std.specs.List.{list_any}
 use Rattle.rdb_types.specs.declared.node.Node.{Node}
-use Rattle.vms_queues.specs.declared.lock_mode.Mode.{Mode}
 use Rattle.vms_queues.specs.Queues.{is_queued}
 use Rattle.vms_locks.specs.Table.{Table, queues_at, WaitsIn}
-use Rattle.vms_locks.specs.declared.answer.Enq.TheVariants.{NotQueued, Deadlock as ClosesCycle}
+use Rattle.vms_locks.specs.Walks.{IsCycle}
+use Rattle.vms_locks.specs.declared.answer.Enq.TheVariants.{NotQueued, Deadlock as Closes}
 use Rattle.lock_needs.specs.declared.need.Need.{Need}
 use Rattle.lock_needs.specs.declared.party.OpenWant.{OpenWant}
-use Rattle.lock_needs.specs.declared.party.Asked.{Asked}
 use Rattle.lock_needs.specs.Nodes.{above_of}
 use Rattle.lock_needs.specs.Needs.{is_covered}
 use Rattle.lock_needs.specs.Wants.{sleeps_at}
 use Rattle.lock_tree.specs.LockTable.{granted_at}
-use Rattle.lock_tree.specs.Parties.{wanting, resting, unasked, was_asked}
-use Rattle.lock_tree.specs.Forest.{Parties, State, IsWhole, KeepsParties, party_of}
+use Rattle.lock_tree.specs.Parties.{wanting, resting, unasked}
+use Rattle.lock_tree.specs.Forest.{Parties, State, IsWhole, KeepsParties, open_asks, party_of}
+use Rattle.lock_tree.specs.Order.{asked_last, waits_by_needs}
 use Rattle.lock_tree.specs.Asking.{HasCause, IsDue}
 use Rattle.lock_tree.specs.declared.answer.Want.{Want}
 use Rattle.lock_tree.specs.declared.answer.Want.TheVariants.{Got, NoticeTo, Asleep, Conflict, Deadlock}
 use Rattle.lock_tree.specs.declared.answer.Step.{Step}
 use Rattle.lock_tree.specs.declared.answer.Step.TheVariants.{Down, Ends}
-
--- the entries without those of the owner for nodes at which its want wasn't asked
-abbrev pub asks_cut : ℕ → OpenWant → List Asked → List Asked
-asks_cut owner w trail = filter (λ a. not (a.owner == owner) || was_asked w a.node) trail
 
 -- some entry is of the owner
 abbrev pub is_known : Parties → ℕ → Bool
@@ -57,10 +53,15 @@ abbrev pub IsOf : Need → Option OpenWant → Type 0
 IsOf need None = Unit {0}
 IsOf need (Some w) = w.need ≡ need
 
--- the owner's want is queued, and waits for t
+-- The owner's want is queued, and waits for t by the modes that are held and asked, and by needs.
 pub record SleepsFor (s : State) (owner : ℕ) (w : OpenWant) (t : ℕ) : Type 0 where
   pub sleeps : sleeps_at (granted_at s.table owner) (Some w) w.here ≡ true
   pub waits : WaitsIn (queues_at s.table) owner t
+  pub by_needs : waits_by_needs (party_of s.parties) (open_asks s.parties s.trail) owner t ≡ true
+
+-- a waits for b by needs, with the owner's want asked at its node
+abbrev pub WaitsOnceAsked : State → ℕ → OpenWant → ℕ → ℕ → Type 0
+WaitsOnceAsked s owner w a b = waits_by_needs (party_of s.parties) (asked_last (open_asks s.parties s.trail) owner w.here) a b ≡ true
 
 -- What was true of the owner's open want just before it ended without being got.
 pub record Ended (s : State) (owner : ℕ) (ws : List Need) (need : Need) (cause : State → OpenWant → Type 0) : Type 0 where
@@ -73,9 +74,13 @@ pub record Ended (s : State) (owner : ℕ) (ws : List Need) (need : Need) (cause
   pub why : cause before want
   pub rests : party_of s.parties owner ≡ resting ws
 
--- t is the first in the way of the want, or the want is queued and waits for it
+-- t is the first in the way of the want, which would wait for it by needs, or the want is queued and waits for it
 abbrev pub IsBarredBy : ℕ → ℕ → State → OpenWant → Type 0
-IsBarredBy owner t s w = HasCause s.table s.parties owner w (NotQueued t) ⊎ SleepsFor s owner w t
+IsBarredBy owner t s w = (HasCause s.table s.parties owner w (NotQueued t) × WaitsOnceAsked s owner w owner t) ⊎ SleepsFor s owner w t
+
+-- once queued the want would be on this cycle of waits, which are waits by needs
+abbrev pub ClosesCycle : ℕ → List ℕ → State → OpenWant → Type 0
+ClosesCycle owner cycle s w = HasCause s.table s.parties owner w (Closes cycle) × IsCycle (WaitsOnceAsked s owner w) owner cycle
 
 -- Each answer to an owner with these needs that wants this one, with its cause and what it leaves.
 abbrev pub Answered : List Need → State → ℕ → Need → Bool → Want → Type 0
@@ -83,7 +88,7 @@ Answered ws s owner need wait Got = (party_of s.parties owner ≡ resting (ws ++
 Answered ws s owner need wait (NoticeTo t n mode) = (w : OpenWant) × IsWanting s owner ws w × (w.need ≡ need) × (w ≡ unasked w) × (n ≡ w.here) × IsDue s.table s.parties owner w t mode
 Answered ws s owner need wait (Asleep t) = (wait ≡ true) × ((w : OpenWant) × IsWanting s owner ws w × (w.need ≡ need) × SleepsFor s owner w t)
 Answered ws s owner need wait (Conflict t) = (wait ≡ false) × Ended s owner ws need (IsBarredBy owner t)
-Answered ws s owner need wait (Deadlock cycle) = (wait ≡ true) × Ended s owner ws need (λ r w. HasCause r.table r.parties owner w (ClosesCycle cycle))
+Answered ws s owner need wait (Deadlock cycle) = (wait ≡ true) × Ended s owner ws need (ClosesCycle owner cycle)
 
 -- a step of the open want
 abbrev pub Steps : List Need → State → ℕ → OpenWant → Bool → Step → Type 0

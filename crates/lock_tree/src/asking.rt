@@ -1,5 +1,6 @@
 ghost use Rattle.std.specs.Prelude.{◌≡◌, ◌++◌, ◌∷◌, [], List, true, false, Some, IfOk, OnOk, OnErr};
 ghost use Rattle.vms_queues.specs.Modes.{at_most};
+ghost use Rattle.vms_locks.specs.Table.{queues_at, IsLive};
 ghost use Rattle.vms_locks.specs.Answers.{Answers};
 ghost use Rattle.lock_needs.specs.declared.need.Need.{Need};
 ghost use Rattle.lock_needs.specs.Needs.{covered_above, is_plain};
@@ -7,6 +8,7 @@ ghost use Rattle.lock_needs.specs.Wants.{kept_at};
 ghost use Rattle.lock_tree.specs.LockTable.{granted_at, HasIntents};
 ghost use Rattle.lock_tree.specs.Parties.{IsKept, KeepsOthers, wanting, resting, unasked};
 ghost use Rattle.lock_tree.specs.Releasing.{IsQuiet};
+ghost use Rattle.lock_tree.specs.Order.{ComesDown};
 ghost use Rattle.lock_tree.specs.Asking.{was_granted, request_at, asked_mode, AnswersAt, TakesAnswer, TakesWhole, HasTakenWhole};
 ghost use Rattle.lock_tree.specs.Forest.{party_of, KeepsParties};
 
@@ -41,6 +43,7 @@ pub(crate) fn ask(
 
     ensures answer { IfOk result (AnswersAt locks.old locks.new owner node mode wait) }
     ensures exact { IfOk result (Answers locks.old locks.new owner node wait (request_at locks.old owner node mode)) }
+    ensures live { IsLive (queues_at locks.new) }
     ensures err { OnErr result (locks.new ≡ locks.old) }
 {
     match locks.mode_of(owner, node) {
@@ -63,6 +66,7 @@ pub(crate) fn ask_here(
 
     ensures answer { IfOk result (TakesAnswer locks.new owner needs.now want wait) }
     ensures exact { IfOk result (Answers locks.old locks.new owner want.here wait (request_at locks.old owner want.here (asked_mode locks.old owner want))) }
+    ensures live { IsLive (queues_at locks.new) }
     ensures intents { HasIntents locks.new }
     ensures others { KeepsOthers owner locks.old locks.new }
     ensures err { OnErr result (locks.new ≡ locks.old) }
@@ -90,9 +94,7 @@ pub(crate) fn make_least(
     requires uncovered { covered_above (granted_at locks.old owner) want.need ≡ false }
 
     ensures least { OnOk result (at_most (granted_at locks.new owner want.here) (kept_at (granted_at locks.new owner) party.now want.here) ≡ true) }
-    ensures intents { HasIntents locks.new }
-    ensures kept { IsKept locks.new owner party.now }
-    ensures others { KeepsOthers owner locks.old locks.new }
+    ensures down { ComesDown owner party.now locks.old locks.new }
 {
     let _served = serve_notice(locks, owner, party, want.here)?;
     Ok(())

@@ -3,6 +3,7 @@ ghost use Rattle.rdb_types.specs.declared.node.Node.{Node};
 ghost use Rattle.lock_needs.specs.declared.party.OpenWant.{OpenWant};
 ghost use Rattle.lock_tree.specs.LockTable.{HasIntents};
 ghost use Rattle.lock_tree.specs.Parties.{IsKept, KeepsOthers, wanting, resting, asked_at};
+ghost use Rattle.lock_tree.specs.Order.{MakesWay, StandsByNeeds, LeavesOpen, asks_cut};
 ghost use Rattle.lock_tree.specs.Forest.{party_of, has_party, HasAsks, KeepsAsks, KeepsParties};
 
 use crate::ending::end_want;
@@ -65,7 +66,9 @@ pub(crate) fn end_open(
 
     ensures ended { OnOk result (party_of parties.new.entries owner ≡ resting (party_of parties.old.entries owner).needs) }
     ensures trail { OnOk result (trail.new ≡ trail.old) }
-    ensures stands { OnErr result ((w : OpenWant) × (party_of parties.new.entries owner ≡ wanting (party_of parties.old.entries owner).needs w) × (w.need ≡ want.need)) }
+    ensures rests { OnOk result (StandsByNeeds locks.old owner (party_of parties.old.entries owner) → StandsByNeeds locks.new owner (party_of parties.new.entries owner)) }
+    ensures left { OnErr result ((w : OpenWant) × (party_of parties.new.entries owner ≡ wanting (party_of parties.old.entries owner).needs w) × LeavesOpen owner (party_of parties.old.entries owner).needs want w locks.old locks.new × (trail.new.items ≡ asks_cut owner w trail.old.items)) }
+    ensures way { MakesWay owner locks.old locks.new }
     ensures intents { HasIntents locks.new }
     ensures kept { IsKept locks.new owner (party_of parties.new.entries owner) }
     ensures asks { HasAsks trail.new.items owner (party_of parties.new.entries owner).opened }

@@ -5,6 +5,7 @@ ghost use Rattle.lock_needs.specs.Needs.{covers_from, is_covered, all_covered, s
 ghost use Rattle.lock_needs.specs.Keeping.{allows, is_enough};
 ghost use Rattle.lock_tree.specs.LockTable.{granted_at};
 ghost use Rattle.lock_tree.specs.Lowering.{MayComeDown, HasTaken, BroughtDown};
+ghost use Rattle.lock_tree.specs.Order.{MakesWay};
 
 use crate::holding::{granted_of, lower, raise};
 use lock_needs::{Level, Need, Node, covers_below, is_above, on_way, step_towards};
@@ -61,6 +62,7 @@ fn take_one(
 
     ensures ready { MayComeDown locks.new owner node keep }
     ensures taken { HasTaken owner node (need ∷ []) locks.old locks.new }
+    ensures way { MakesWay owner locks.old locks.new }
     ensures covered { OnOk result (is_covered (supposing node keep (granted_at locks.new owner)) need ≡ true) }
 {
     if covered_supposing(locks, owner, need, node, keep) {
@@ -86,6 +88,7 @@ fn take_lower(
 
     ensures ready { MayComeDown locks.new owner node keep }
     ensures taken { HasTaken owner node needs.now locks.old locks.new }
+    ensures way { MakesWay owner locks.old locks.new }
     ensures covered { OnOk result (all_covered (supposing node keep (granted_at locks.new owner)) needs.now ≡ true) }
 {
     for need in needs {
@@ -111,6 +114,7 @@ pub(crate) fn bring_down(
     ensures down { OnOk result (BroughtDown owner node keep needs.now locks.old locks.new) }
     ensures err { OnErr result (MayComeDown locks.new owner node keep) }
     ensures taken { OnErr result (HasTaken owner node needs.now locks.old locks.new) }
+    ensures way { MakesWay owner locks.old locks.new }
 {
     take_lower(locks, needs, owner, node, keep)?;
     lower(locks, owner, node, keep);

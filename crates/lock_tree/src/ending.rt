@@ -1,8 +1,10 @@
-ghost use Rattle.std.specs.Prelude.{◌≡◌, IfErr, OnOk, OnErr};
+ghost use Rattle.std.specs.Prelude.{◌≡◌, List, IfErr, OnOk, OnErr};
 ghost use Rattle.lock_needs.specs.Needs.{covers_from, covered_above as covered_over, is_covered as is_covered_by};
 ghost use Rattle.lock_needs.specs.Keeping.{needed_uncovered, after_want};
 ghost use Rattle.lock_tree.specs.LockTable.{granted_at, sought_at, HasIntents};
+ghost use Rattle.lock_needs.specs.declared.need.Need.{Need};
 ghost use Rattle.lock_tree.specs.Parties.{IsKept, KeepsOthers, wanting, resting, unasked, AsksLess, StandsStill};
+ghost use Rattle.lock_tree.specs.Order.{MakesWay, StandsByNeeds};
 
 use crate::coming_down::bring_down;
 use crate::holding::granted_of;
@@ -74,6 +76,8 @@ pub(crate) fn stop_asking(locks: &mut Locks, owner: u32, want: OpenWant) -> Open
     ensures kept { StandsStill owner want result locks.old locks.new }
     ensures intents { HasIntents locks.new }
     ensures others { KeepsOthers owner locks.old locks.new }
+    ensures way { MakesWay owner locks.old locks.new }
+    ensures stands_still { (ws : List Need) → StandsByNeeds locks.old owner (wanting ws want) → StandsByNeeds locks.new owner (wanting ws result) }
 {
     let held = granted_of(locks, owner, want.here);
     if is_at_most(mode_for(want.need, want.here), held) {
@@ -97,6 +101,9 @@ fn leave_node(locks: &mut Locks, owner: u32, needs: &[Need], want: OpenWant) -> 
     ensures stands { OnErr result (IsKept locks.new owner (wanting needs.now want)) }
     ensures intents { HasIntents locks.new }
     ensures others { KeepsOthers owner locks.old locks.new }
+    ensures way { MakesWay owner locks.old locks.new }
+    ensures leaves { OnOk result (StandsByNeeds locks.old owner (wanting needs.now want) → StandsByNeeds locks.new owner (wanting needs.now (unasked want))) }
+    ensures stays { OnErr result (StandsByNeeds locks.old owner (wanting needs.now want) → StandsByNeeds locks.new owner (wanting needs.now want)) }
 {
     let keep = left_mode(locks, owner, needs, want.here);
     if is_at_most(keep, granted_of(locks, owner, want.here)) {
@@ -122,6 +129,10 @@ pub(crate) fn end_want(
     ensures less { IfErr result (λ w. AsksLess want w) }
     ensures intents { HasIntents locks.new }
     ensures others { KeepsOthers owner locks.old locks.new }
+    ensures way { MakesWay owner locks.old locks.new }
+    ensures rests { OnOk result (StandsByNeeds locks.old owner (wanting needs.now want) → StandsByNeeds locks.new owner (resting needs.now)) }
+    ensures quiet { IfErr result (λ w. sought_at locks.new owner w.here ≡ granted_at locks.new owner w.here) }
+    ensures stays { IfErr result (λ w. StandsByNeeds locks.old owner (wanting needs.now want) → StandsByNeeds locks.new owner (wanting needs.now w)) }
 {
     let mut left = stop_asking(locks, owner, want);
     loop {

@@ -1,7 +1,9 @@
-ghost use Rattle.std.specs.Prelude.{◌≡◌, true, OnOk, OnErr};
+ghost use Rattle.std.specs.Prelude.{◌≡◌, true, false, OnOk, OnErr};
+ghost use Rattle.vms_queues.specs.declared.lock_mode.Mode.TheVariants.{NL};
 ghost use Rattle.vms_queues.specs.Modes.{at_most};
 ghost use Rattle.vms_locks.specs.Table.{queues_at, IsLive};
 ghost use Rattle.lock_tree.specs.LockTable.{granted_at, sought_at, IsFree, BarsNobody, RaisedAt, LoweredAt};
+ghost use Rattle.lock_tree.specs.Order.{MakesWay};
 
 use lock_needs::Node;
 use rdb_types::NoMemory;
@@ -25,8 +27,10 @@ pub(crate) fn raise(locks: &mut Locks, owner: u32, node: Node, mode: Mode) -> Re
     requires ascends { at_most (granted_at locks.old owner node) mode ≡ true }
     requires free { IsFree locks.old owner node mode }
     requires bars_nobody { BarsNobody locks.old owner node mode }
+    requires used { at_most mode NL ≡ false }
 
     ensures raised { OnOk result (RaisedAt locks.old locks.new owner node mode) }
+    ensures way { OnOk result (MakesWay owner locks.old locks.new) }
     ensures err { OnErr result (locks.new ≡ locks.old) }
 {
     match locks.mode_of(owner, node) {
@@ -45,7 +49,8 @@ pub(crate) fn lower(locks: &mut Locks, owner: u32, node: Node, mode: Mode)
     requires awake { sought_at locks.old owner node ≡ granted_at locks.old owner node }
     requires weaker { at_most mode (granted_at locks.old owner node) ≡ true }
 
-    ensures { LoweredAt locks.old locks.new owner node mode }
+    ensures lowered { LoweredAt locks.old locks.new owner node mode }
+    ensures way { MakesWay owner locks.old locks.new }
 {
     match locks.mode_of(owner, node) {
         None => {}

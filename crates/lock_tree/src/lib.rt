@@ -7,6 +7,7 @@ mod closing;
 mod coming_down;
 mod ending;
 mod holding;
+mod laws;
 mod looking;
 mod notice;
 mod parties;
@@ -20,6 +21,7 @@ mod wants;
 mod way;
 
 pub use answer::Want;
+pub use laws::{answers_are_by_needs, making_way_keeps_the_order, waits_are_by_needs};
 pub use lock_needs::{Level, Need, Node};
 pub use notice::Demotion;
 pub use tree::Tree;

@@ -5,6 +5,7 @@ ghost use Rattle.lock_needs.specs.Needs.{covered_above};
 ghost use Rattle.lock_tree.specs.LockTable.{granted_at, HasIntents};
 ghost use Rattle.lock_tree.specs.Parties.{IsKept, KeepsOthers, unasked};
 ghost use Rattle.lock_tree.specs.Forest.{party_of};
+ghost use Rattle.lock_tree.specs.Order.{ComesDown};
 ghost use Rattle.lock_tree.specs.Asking.{exceeds_at, first_excess, asked_mode, TakesLook};
 
 use crate::asking::{ask_here, make_least};
@@ -83,8 +84,8 @@ pub(crate) fn look_here(
     requires uncovered { covered_above (granted_at locks.old owner) want.need ≡ false }
     requires party { party.now ≡ party_of parties.now.entries owner }
 
-    ensures look { IfOk result (TakesLook locks.new parties.now.entries owner party.now.needs want wait) }
-    ensures stands { OnErr result (IsKept locks.new owner party.now) }
+    ensures look { IfOk result (TakesLook locks.old locks.new parties.now.entries owner party.now.needs want wait) }
+    ensures down { OnErr result (ComesDown owner party.now locks.old locks.new) }
     ensures intents { HasIntents locks.new }
     ensures others { KeepsOthers owner locks.old locks.new }
 {

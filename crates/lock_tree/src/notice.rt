@@ -4,6 +4,7 @@ ghost use Rattle.lock_needs.specs.Wants.{opened_at, kept_at};
 ghost use Rattle.lock_tree.specs.LockTable.{granted_at, HasIntents};
 ghost use Rattle.lock_tree.specs.Parties.{IsKept, KeepsOthers};
 ghost use Rattle.lock_tree.specs.Notices.{notice_answer};
+ghost use Rattle.lock_tree.specs.Order.{MakesWay, StandsByNeeds};
 
 use crate::coming_down::bring_down;
 use crate::holding::granted_of;
@@ -63,6 +64,8 @@ pub(crate) fn serve_notice(
     ensures intents { HasIntents locks.new }
     ensures kept { IsKept locks.new owner party.now }
     ensures others { KeepsOthers owner locks.old locks.new }
+    ensures way { MakesWay owner locks.old locks.new }
+    ensures stands { StandsByNeeds locks.old owner party.now → StandsByNeeds locks.new owner party.now }
 {
     let held = granted_of(locks, owner, node);
     let keep = kept_mode(locks, owner, party, node);

@@ -2,7 +2,7 @@
 
 ghost use Rattle.std.specs.Prelude.{◌≡◌, ◌++◌, ◌∷◌, [], ℕ, Bool, true, false, Some, IfOk, OnOk, OnErr};
 ghost use Rattle.vms_queues.specs.Modes.{at_most};
-ghost use Rattle.lock_needs.specs.Needs.{is_covered, covered_above, is_plain};
+ghost use Rattle.lock_needs.specs.Needs.{is_covered, is_plain};
 ghost use Rattle.lock_needs.specs.Wants.{mode_for};
 ghost use Rattle.lock_tree.specs.LockTable.{granted_at};
 ghost use Rattle.lock_tree.specs.Asking.{HasTakenWhole};
@@ -48,6 +48,7 @@ impl Parts {
     fn get_whole(&mut self, owner: u32, want: OpenWant) -> Result<bool, NoMemory>
         requires whole { IsWhole (state_of self.old) }
         requires opened { opened_of (state_of self.old) owner ≡ Some (unasked want) }
+        requires uncovered { is_covered (granted_at self.old.locks owner) want.need ≡ false }
         requires plain { is_plain want.need ≡ true }
 
         ensures got { IfOk result (λ got. got ≡ true → party_of self.new.parties.entries owner ≡ resting (needs_of (state_of self.old) owner ++ want.need ∷ [])) }
@@ -165,7 +166,7 @@ impl Parts {
     fn ask_node(&mut self, owner: u32, want: OpenWant, wait: bool) -> Result<Step, NoMemory>
         requires whole { IsWhole (state_of self.old) }
         requires opened { opened_of (state_of self.old) owner ≡ Some (unasked want) }
-        requires uncovered { covered_above (granted_at self.old.locks owner) want.need ≡ false }
+        requires uncovered { is_covered (granted_at self.old.locks owner) want.need ≡ false }
         requires plain { is_plain want.need ≡ true }
 
         ensures step { IfOk result (Steps (needs_of (state_of self.old) owner) (state_of self.new) owner want wait) }

@@ -1,6 +1,6 @@
 use Rattle.std.proofs.Common.{refl, sym, ◌∙◌}
 use Rattle.lock_tree.proofs.WantAsked.{asked-mode}
-use Rattle.lock_tree.proofs.Getting.{whole-quiet, whole-ascends, whole-intents, whole-others, whole-answered, whole-refused, whole-raised}
+use Rattle.lock_tree.proofs.Getting.{whole-quiet, whole-intents, whole-others, whole-answered, whole-refused, whole-raised, whole-exact}
 use Rattle.lock_tree.proofs.asking.ask_whole.Goals as goal
 
 pub ask-requires-clause-quiet : goal.ask-requires-clause-quiet
@@ -15,6 +15,8 @@ returns-clause-got c = λ g ws k.
 pub returns-clause-taken : goal.returns-clause-taken
 returns-clause-taken c = λ g. record {
   live = c.granted_of-held.ensures.live;
+  live_after = c.ask.ensures.live;
+  exact = whole-exact c.args.locks.now c.ask.new.locks c.args.owner c.args.want c.join-mode.result (asked-mode _ _ _ _ c.join-mode.result c.granted_of-held.ensures.value refl c.join-mode.ensures.table) _ c.in_ok-answer.ensures.exact (sym c.is_granted.ensures ∙ g);
   raised = whole-raised c.args.locks.now c.ask.new.locks c.args.owner c.requires.kept.0 c.args.want c.join-mode.result (asked-mode _ _ _ _ c.join-mode.result c.granted_of-held.ensures.value refl c.join-mode.ensures.table) c.requires.kept.1
       _ c.in_ok-answer.ensures.answer (sym c.is_granted.ensures ∙ g);
 }

@@ -1,4 +1,4 @@
-use Rattle.std.proofs.Common.{sym, subst, List, None}
+use Rattle.std.proofs.Common.{sym, subst, List}
 use Rattle.lock_needs.specs.declared.need.Need.{Need}
 use Rattle.lock_tree.specs.Parties.{IsKept, resting, unasked}
 use Rattle.lock_tree.proofs.Opened.{as-open}

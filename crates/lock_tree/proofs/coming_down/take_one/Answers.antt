@@ -6,6 +6,8 @@ use Rattle.lock_tree.specs.Lowering.{MayComeDown, HasTaken}
 use Rattle.lock_tree.proofs.Changes.{shares-live}
 use Rattle.lock_tree.proofs.Outcomes.{by_outcome, on_ok-more}
 use Rattle.lock_tree.proofs.Taking.{taking, taking-awake, taking-free, taking-bars, taken-ready, taken-one, taken-covered, taken-none}
+use Rattle.lock_tree.specs.Order.{MakesWay}
+use Rattle.lock_tree.proofs.WayMade.{way-none, taken-used}
 use Rattle.lock_tree.proofs.coming_down.take_one.Goals as goal
 
 pub raise-requires-clause-awake : goal.raise-requires-clause-awake
@@ -57,3 +59,17 @@ returns-clause-covered c =
     (shares-live c.args.locks.now c.args.locks.now c.args.owner c.args.node c.granted_of.ensures.live) c.requires.ready
     (taking c.args.locks.now c.args.owner c.args.node c.args.keep c.args.need c.step_towards-under.result c.granted_of.result c.join-mode.result
     (sym c.if-covered_supposing.ensures) c.step_towards-under.ensures c.granted_of.ensures.value c.join-mode.ensures.table c.requires.covered c.requires.allowed) c.raise.new.locks raised c.requires.plain)
+
+pub raise-requires-clause-used : goal.raise-requires-clause-used
+raise-requires-clause-used c =
+    taken-used (supposing c.args.node c.args.keep (granted_at c.args.locks.now c.args.owner)) c.args.need c.granted_of.result c.join-mode.result (sym c.if-covered_supposing.ensures) c.join-mode.ensures.table
+
+pub returns-then-covered_supposing-clause-way : goal.returns-then-covered_supposing-clause-way
+returns-then-covered_supposing-clause-way c = way-none c.args.owner c.args.locks.now
+
+pub returns-clause-way : goal.returns-clause-way
+returns-clause-way c =
+    by_outcome (MakesWay c.args.owner c.args.locks.now c.raise.new.locks) (c.raise.new.locks ≡ c.args.locks.now)
+    (MakesWay c.args.owner c.args.locks.now c.raise.new.locks) c.raise.result c.raise.ensures.way c.raise.ensures.err
+    (λ w. w)
+    (λ same. subst (λ (t : Table). MakesWay c.args.owner c.args.locks.now t) (sym same) (way-none c.args.owner c.args.locks.now))

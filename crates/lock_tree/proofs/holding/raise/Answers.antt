@@ -7,9 +7,13 @@ use Rattle.vms_queues.specs.Modes.{at_most}
 use Rattle.vms_queues.specs.Queues.{has_owner}
 use Rattle.vms_locks.specs.Table.{queues_at}
 use Rattle.vms_locks.specs.Answers.{asking, converting}
+use Rattle.vms_locks.proofs.Granting.{live-after_enq, live-after_convert}
 use Rattle.lock_tree.proofs.HeldModes.{mode-has_owner}
 use Rattle.lock_tree.proofs.Changes.{quiet-at}
 use Rattle.lock_tree.proofs.Conditions.{fits-free, grantable-free, no-wait_free, granted-only, absent-quiet, asked-law, converted-law}
+use Rattle.lock_tree.proofs.Ordered.{flip}
+use Rattle.lock_tree.proofs.OrderedRequests.{asked-order, raised-order}
+use Rattle.lock_tree.proofs.WayMade.{way-raised}
 use Rattle.lock_tree.proofs.holding.raise.Goals as goal
 
 pub convert-requires-clause-granted : goal.convert-requires-clause-granted
@@ -57,3 +61,34 @@ returns-in_ok-_granted-in-None-clause-raised c =
     (granted-only t c.enq.new.self c.args.owner c.args.node _ (asking (queues_at t c.args.node) c.args.owner c.args.mode) _
     (grantable-free t c.args.owner c.args.node c.args.mode c.in-None.ensures.live c.requires.free c.requires.bars_nobody (ap (λ (x : Option Mode). unwrap_or x NL) none))
     c.in_ok-_granted-in-None.ensures.answer)
+
+pub returns-in_ok-_granted-in-Some-clause-way : goal.returns-in_ok-_granted-in-Some-clause-way
+returns-in_ok-_granted-in-Some-clause-way c =
+    let t = c.args.locks.now in
+    let fit = fits-free t c.args.owner c.args.node c.args.mode c.in-Some.ensures.live c.requires.free c.requires.bars_nobody in
+    let changes = granted-only t c.convert.new.self c.args.owner c.args.node _ (converting (queues_at t c.args.node) c.args.owner c.args.mode) _ fit c.in_ok-_granted-in-Some.ensures.answer in
+    way-raised c.args.owner t c.convert.new.self c.args.node c.args.mode
+    (raised-order t c.convert.new.self c.args.owner c.args.node c.in-Some.ensures.live c.args.mode c.in-Some.field-0 (sym c.in-Some.ensures.value) fit c.requires.used c.requires.awake
+    (λ a d. c.requires.bars_nobody a (flip c.args.owner a d)) changes)
+    (λ l. live-after_convert t c.convert.new.self c.args.owner c.args.node c.args.mode _ _ (mode-has_owner c.args.owner (queues_at t c.args.node).granted c.in-Some.field-0 (sym c.in-Some.ensures.value))
+    (or_parts (has_owner c.args.owner (queues_at t c.args.node).converting) (has_owner c.args.owner (queues_at t c.args.node).waiting) (quiet-at t t c.args.owner c.args.node c.in-Some.ensures.live c.requires.awake)).0
+    (inr (fit, no-wait_free t c.args.owner c.args.node c.args.mode c.in-Some.ensures.live c.requires.free c.requires.bars_nobody)) l c.in_ok-_granted-in-Some.ensures.answer)
+    (converted-law t c.convert.new.self c.args.owner c.args.node c.args.mode c.in-Some.ensures.live
+    (quiet-at t t c.args.owner c.args.node c.in-Some.ensures.live c.requires.awake)
+    c.in-Some.field-0 (sym c.in-Some.ensures.value)
+    (subst (λ (x : Option Mode). at_most (unwrap_or x NL) c.args.mode ≡ true) (sym c.in-Some.ensures.value) c.requires.ascends)
+    fit changes)
+    c.requires.bars_nobody
+
+pub returns-in_ok-_granted-in-None-clause-way : goal.returns-in_ok-_granted-in-None-clause-way
+returns-in_ok-_granted-in-None-clause-way c =
+    let t = c.args.locks.now in
+    let none = sym c.in-None.ensures.value in
+    let free = grantable-free t c.args.owner c.args.node c.args.mode c.in-None.ensures.live c.requires.free c.requires.bars_nobody (ap (λ (x : Option Mode). unwrap_or x NL) none) in
+    let quiet = quiet-at t t c.args.owner c.args.node c.in-None.ensures.live c.requires.awake in
+    let changes = granted-only t c.enq.new.self c.args.owner c.args.node _ (asking (queues_at t c.args.node) c.args.owner c.args.mode) _ free c.in_ok-_granted-in-None.ensures.answer in
+    way-raised c.args.owner t c.enq.new.self c.args.node c.args.mode
+    (asked-order t c.enq.new.self c.args.owner c.args.node c.in-None.ensures.live c.args.mode (absent-quiet t t c.args.owner c.args.node c.args.mode c.in-None.ensures.live quiet none) free c.requires.used changes)
+    (λ l. live-after_enq t c.enq.new.self c.args.owner c.args.node c.args.mode _ _ (absent-quiet t t c.args.owner c.args.node c.args.mode c.in-None.ensures.live quiet none) (inr free) l c.in_ok-_granted-in-None.ensures.answer)
+    (asked-law t c.enq.new.self c.args.owner c.args.node c.args.mode c.in-None.ensures.live quiet none changes)
+    c.requires.bars_nobody

@@ -1,4 +1,4 @@
-use Rattle.std.proofs.Common.{rules, ◌≡◌, ◌∙◌, ap, List}
+use Rattle.std.proofs.Common.{rules, ◌∙◌, ap, List}
 use Rattle.std.specs.Prelude.{◌==◌, not, ◌||◌}
 use Rattle.std.proofs.lemmas.Fn.{filter_same}
 use Rattle.lock_needs.specs.declared.party.Asked.{Asked}

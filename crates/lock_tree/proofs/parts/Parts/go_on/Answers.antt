@@ -1,11 +1,16 @@
-use Rattle.std.proofs.Common.{refl}
+use Rattle.std.proofs.Common.{refl, ap, sym, ◌∙◌}
+use Rattle.std.specs.Prelude.{Option, is_some}
+use Rattle.lock_needs.specs.declared.party.OpenWant.{OpenWant}
+use Rattle.lock_needs.specs.declared.party.Party.{Party}
 use Rattle.lock_tree.specs.LockTable.{granted_at}
 use Rattle.lock_tree.specs.Parties.{wanting}
-use Rattle.lock_tree.specs.Forest.{State}
+use Rattle.lock_tree.specs.Forest.{State, party_of}
 use Rattle.lock_tree.specs.States.{state_of}
 use Rattle.lock_tree.specs.Wanted.{needs_of}
-use Rattle.lock_tree.proofs.Whole.{whole-after}
-use Rattle.lock_tree.proofs.Opened.{still-open, granted-quiet_all, covered-there, down-kept, down-asks}
+use Rattle.lock_tree.proofs.Whole.{whole-served}
+use Rattle.lock_tree.proofs.Opened.{still-open, granted-quiet_all, covered-there, down-kept, down-asks, down-stands, down-asked}
+use Rattle.lock_tree.proofs.WayMade.{way-none}
+use Rattle.lock_tree.proofs.OpenAsks.{opened-still}
 use Rattle.lock_tree.proofs.parts.Parts.go_on.Goals as goal
 
 pub get_need-requires-clause-open : goal.get_need-requires-clause-open
@@ -21,8 +26,12 @@ pub returns-clause-whole : goal.returns-clause-whole
 returns-clause-whole c =
     let s : State = state_of c.args.self.now in
     let r : State = record { table = c.args.self.now.locks; parties = c.set_opened.new.parties.entries; trail = c.args.self.now.trail.items } in
-    whole-after s r c.args.owner (wanting (needs_of s c.args.owner) c.in-Some.next) c.requires.whole c.requires.whole.intents (λ u q d k. k) c.set_opened.ensures.own
+    whole-served s r c.args.owner (wanting (needs_of s c.args.owner) c.in-Some.next) c.requires.whole c.requires.whole.intents (λ u q d k. k) c.set_opened.ensures.own
     (down-kept s c.args.owner c.args.want c.in-Some.next c.requires.whole c.requires.opened c.requires.asked c.requires.granted c.in-Some.ensures.need c.in-Some.ensures.unasked c.in-Some.ensures.above c.in-Some.ensures.way)
     c.set_opened.ensures.others
     (down-asks s c.args.owner c.args.want c.in-Some.next c.requires.whole c.requires.opened c.requires.asked c.requires.granted c.in-Some.ensures.need c.in-Some.ensures.unasked c.in-Some.ensures.above c.in-Some.ensures.way)
-    (λ u n d. refl)
+    (λ u n d. refl) (way-none c.args.owner c.args.self.now.locks)
+    (down-stands s c.args.owner c.args.want c.in-Some.next c.requires.whole c.requires.opened c.requires.asked c.requires.granted c.in-Some.ensures.need c.in-Some.ensures.unasked c.in-Some.ensures.above c.in-Some.ensures.way)
+    (λ n. refl)
+    (down-asked s c.args.owner c.args.want c.in-Some.next c.requires.whole c.requires.opened c.requires.asked c.requires.granted c.in-Some.ensures.need c.in-Some.ensures.unasked c.in-Some.ensures.above c.in-Some.ensures.way)
+    (opened-still (party_of s.parties) (party_of r.parties) c.args.owner c.set_opened.ensures.others (ap (λ (p : Party). is_some p.opened) c.set_opened.ensures.own ∙ sym (ap (λ (o : Option OpenWant). is_some o) c.requires.opened)) s.trail)

@@ -1,8 +1,6 @@
 use Rattle.std.proofs.Common.{◌≡◌, refl, sym, ◌∙◌, subst, false}
-use Rattle.std.proofs.lemmas.Bool.{or_parts}
-use Rattle.vms_queues.specs.Modes.{at_most}
 use Rattle.vms_locks.specs.Table.{Table}
-use Rattle.lock_needs.specs.Needs.{covered_above}
+use Rattle.lock_needs.specs.Needs.{is_covered}
 use Rattle.lock_tree.specs.LockTable.{granted_at}
 use Rattle.lock_tree.specs.Parties.{IsKept, unasked}
 use Rattle.lock_tree.specs.States.{state_of}
@@ -33,9 +31,10 @@ returns-then-branch-clause-step c =
           (subst (IsKept c.get_whole.new.self.locks c.args.owner) got (c.get_whole.ensures.whole.kept c.args.owner)),
     )
 
+pub get_whole-requires-clause-uncovered : goal.get_whole-requires-clause-uncovered
+get_whole-requires-clause-uncovered c = sym c.is_covered.ensures ∙ c.if-is_covered.false
+
 pub ask_node-requires-clause-uncovered : goal.ask_node-requires-clause-uncovered
 ask_node-requires-clause-uncovered c =
     let left = c.in_ok-get_whole.ensures.left c.if-branch.false in
-    subst (λ (t : Table). covered_above (granted_at t c.args.owner) c.args.want.need ≡ false) (sym left.1)
-    (or_parts (at_most c.args.want.need.mode (granted_at c.args.self.now.locks c.args.owner c.args.want.need.node)) (covered_above (granted_at c.args.self.now.locks c.args.owner) c.args.want.need)
-    (sym c.is_covered.ensures ∙ c.if-is_covered.false)).1
+    subst (λ (t : Table). is_covered (granted_at t c.args.owner) c.args.want.need ≡ false) (sym left.1) (sym c.is_covered.ensures ∙ c.if-is_covered.false)

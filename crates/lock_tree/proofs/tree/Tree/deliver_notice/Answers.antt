@@ -1,10 +1,12 @@
-use Rattle.std.proofs.Common.{◌≡◌, ◌∙◌, ap, sym, subst, true, false}
+use Rattle.std.proofs.Common.{◌≡◌, refl, ◌∙◌, ap, sym, subst, true, false}
 use Rattle.std.specs.Prelude.{OnOk, unwrap_or}
 use Rattle.lock_needs.specs.declared.party.Party.{Party}
 use Rattle.lock_needs.specs.Keeping.{is_excess}
 use Rattle.lock_needs.specs.Wants.{kept_at}
 use Rattle.lock_tree.specs.LockTable.{granted_at}
 use Rattle.lock_tree.specs.Forest.{State, idle, party_of}
+use Rattle.lock_tree.specs.Order.{ComesDown}
+use Rattle.lock_tree.proofs.Opened.{whole-kept}
 use Rattle.lock_tree.proofs.Outcomes.{on_ok-more}
 use Rattle.lock_tree.proofs.tree.Tree.deliver_notice.Goals as goal
 
@@ -24,3 +26,17 @@ returns-in-Some-clause-unchanged c =
     (f (subst (λ (p : Party). is_excess (granted_at c.self.inside.parts.locks c.args.to c.args.node) (kept_at (granted_at c.self.inside.parts.locks c.args.to) p c.args.node) ≡ false) (sym (ap (λ x. unwrap_or x idle) c.in-Some.ensures.value))
     (subst (λ (s : State). is_excess (granted_at s.table c.args.to c.args.node) (kept_at (granted_at s.table c.args.to) (party_of s.parties c.args.to) c.args.node) ≡ false) (sym c.self.view_is) e)))
     ∙ c.self.view_is)
+
+pub invariant_of-self : goal.invariant_of-self
+invariant_of-self c =
+    let s : State = record { table = c.self.inside.parts.locks; parties = c.self.inside.parts.parties.entries; trail = c.self.inside.parts.trail.items } in
+    let r : State = record { table = c.serve_notice.new.locks; parties = c.self.inside.parts.parties.entries; trail = c.self.inside.parts.trail.items } in
+    whole-kept s r c.args.to c.self.invariant
+    (subst (λ (p : Party). ComesDown c.args.to p s.table r.table) (ap (λ x. unwrap_or x idle) c.in-Some.ensures.value) (record {
+      way = c.serve_notice.ensures.way;
+      stands = c.serve_notice.ensures.stands;
+      kept = c.serve_notice.ensures.kept;
+      intents = c.serve_notice.ensures.intents;
+      others = c.serve_notice.ensures.others;
+    }))
+    refl (λ u d. refl) refl

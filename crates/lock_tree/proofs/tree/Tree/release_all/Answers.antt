@@ -1,10 +1,23 @@
-use Rattle.std.proofs.Common.{refl}
-use Rattle.lock_tree.specs.Forest.{idle}
-use Rattle.lock_tree.proofs.Whole.{whole-after}
+use Rattle.std.proofs.Common.{refl, sym, ◌∙◌, ap}
+use Rattle.std.proofs.lemmas.Bool.{false≢true}
+use Rattle.std.specs.Prelude.{is_some}
+use Rattle.vms_queues.specs.declared.lock_mode.Mode.{Mode}
+use Rattle.vms_queues.specs.Modes.{may_share}
+use Rattle.lock_needs.specs.declared.party.Party.{Party}
+use Rattle.lock_tree.specs.LockTable.{sought_at}
+use Rattle.lock_tree.specs.Forest.{State, idle, party_of}
+use Rattle.lock_tree.proofs.HeldModes.{nothing-shares}
+use Rattle.lock_tree.proofs.OpenAsks.{opened-ended}
+use Rattle.lock_tree.proofs.Whole.{whole-ended}
 use Rattle.lock_tree.proofs.tree.Tree.release_all.Goals as goal
 
 pub invariant_of-self : goal.invariant_of-self
 invariant_of-self c =
-    whole-after (record { table = c.self.inside.parts.locks; parties = c.self.inside.parts.parties.entries; trail = c.self.inside.parts.trail.items })
-    (record { table = c.release_owner.new.locks; parties = c.forget.new.parties.entries; trail = c.self.inside.parts.trail.items }) c.args.owner idle
+    let s : State = record { table = c.self.inside.parts.locks; parties = c.self.inside.parts.parties.entries; trail = c.self.inside.parts.trail.items } in
+    let r : State = record { table = c.release_owner.new.locks; parties = c.forget.new.parties.entries; trail = c.self.inside.parts.trail.items } in
+    whole-ended s r c.args.owner idle
     c.self.invariant c.release_owner.ensures.intents c.release_owner.ensures.others c.forget.ensures.own c.release_owner.ensures.kept c.forget.ensures.others tt (λ u n d. refl)
+    c.release_owner.ensures.way
+    (λ a n d f. absurd (false≢true (sym f ∙ (ap (λ (m : Mode). may_share m (sought_at r.table a n)) (c.release_owner.ensures.none n) ∙ nothing-shares (sought_at r.table a n)))))
+    refl
+    (opened-ended (party_of s.parties) (party_of r.parties) c.args.owner c.forget.ensures.others (ap (λ (p : Party). is_some p.opened) c.forget.ensures.own) s.trail)
