@@ -20,11 +20,11 @@ use Rattle.rdb_evaluation.specs.Sorting.{first_value, further_values, directed_o
 
 -- ---- lists of values
 
-turned_total : (d : Bool) → IsTotalOrder (λ a b. turned d (rank_of a b))
+pub turned_total : (d : Bool) → IsTotalOrder (λ a b. turned d (rank_of a b))
 turned_total true = subst IsTotalOrder (λ i a b. rank_total.antisymm b a i) (back_total rank_total)
 turned_total false = rank_total
 
-equal_total : IsTotalOrder (λ (a b : List Value). Equal)
+pub equal_total : {A : Type 0} → IsTotalOrder (λ (a b : A). Equal)
 equal_total = record { antisymm = λ a b. refl; trans = λ a b c p q. p; congr = λ a b c p. refl }
 
 directed_total : (ds : List Bool) → IsTotalOrder (directed_order ds)
@@ -60,12 +60,12 @@ directed_step ds a b i e h =
     ∙ (λ j. ordering_then (turned (get_or ds i e) (rank_of (first_is a i j) (first_is b i j))) (directed_order (drop (i + 1) ds) (further_is a i j) (further_is b i j)))
     ∙ ap (λ n. ordering_then (turned (get_or ds i e) (rank_of (get_or a i Missing) (get_or b i Missing))) (directed_order (drop (i + 1) ds) (drop n a) (drop n b))) (sym (add-one i))
 
-then_ne : (o p : Ordering) → is_ne o ≡ true → ordering_then o p ≡ o
+pub then_ne : (o p : Ordering) → is_ne o ≡ true → ordering_then o p ≡ o
 then_ne Less p e = refl
 then_ne Equal p e = cc
 then_ne Greater p e = refl
 
-then_not_ne : (o p : Ordering) → is_ne o ≡ false → ordering_then o p ≡ p
+pub then_not_ne : (o p : Ordering) → is_ne o ≡ false → ordering_then o p ≡ p
 then_not_ne Less p e = cc
 then_not_ne Equal p e = refl
 then_not_ne Greater p e = cc

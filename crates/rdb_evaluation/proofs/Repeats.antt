@@ -40,35 +40,35 @@ alike a b = is_eq (row_rank a b)
 laws : IsEquivalence alike
 laws = eq_by_cmp_equiv row_total
 
-module _ (row : Tuple → List Value) where
+module _ {X : Type 0} (row : X → List Value) where
   -- whether one of the kept tuples has an equal row
-  abbrev pub seen_in : List Tuple → List Value → Bool
+  abbrev pub seen_in : List X → List Value → Bool
   seen_in kept v = list_any (λ k. alike v (row k)) kept
 
-  abbrev pub same_row : Tuple → Tuple → Bool
+  abbrev pub same_row : X → X → Bool
   same_row k l = alike (row k) (row l)
 
-  abbrev unseen : List Tuple → Tuple → Bool
+  abbrev unseen : List X → X → Bool
   unseen kept k = not (seen_in kept (row k))
 
   -- those kept so far, and what is left of the rest
-  abbrev pub kept_then : List Tuple → List Tuple → List Tuple
+  abbrev pub kept_then : List X → List X → List X
   kept_then kept ks = kept ++ filter (unseen kept) (without_repeats same_row ks)
 
-  seen_alike : (kept : List Tuple) (v w : List Value) → alike v w ≡ true → seen_in kept v ≡ seen_in kept w
+  seen_alike : (kept : List X) (v w : List Value) → alike v w ≡ true → seen_in kept v ≡ seen_in kept w
   seen_alike [] v w e = refl
   seen_alike (k ∷ kept) v w e = (λ i. laws.congr v w (row k) e i || seen_alike kept v w e i)
 
-  seen_push : (kept : List Tuple) (x : Tuple) (v : List Value) → seen_in (kept ++ x ∷ []) v ≡ (seen_in kept v || (alike v (row x) || false))
+  seen_push : (kept : List X) (x : X) (v : List Value) → seen_in (kept ++ x ∷ []) v ≡ (seen_in kept v || (alike v (row x) || false))
   seen_push kept x v = list_any-append (λ k. alike v (row k)) kept (x ∷ [])
 
   -- ---- a tuple whose row was seen
 
-  old_case : (kept : List Tuple) (x y : Tuple) (b : Bool) → alike (row x) (row y) ≡ b → seen_in kept (row x) ≡ true → unseen kept y ≡ cond (not b) (unseen kept y) false
+  old_case : (kept : List X) (x y : X) (b : Bool) → alike (row x) (row y) ≡ b → seen_in kept (row x) ≡ true → unseen kept y ≡ cond (not b) (unseen kept y) false
   old_case kept x y true e s = ap not (sym (seen_alike kept (row x) (row y) e) ∙ s)
   old_case kept x y false e s = refl
 
-  old_left : (kept : List Tuple) (x : Tuple) (ks : List Tuple) → seen_in kept (row x) ≡ true → filter (unseen kept) (filter (λ y. not (same_row x y)) ks) ≡ filter (unseen kept) ks
+  old_left : (kept : List X) (x : X) (ks : List X) → seen_in kept (row x) ≡ true → filter (unseen kept) (filter (λ y. not (same_row x y)) ks) ≡ filter (unseen kept) ks
   old_left kept x ks s = filter_both (unseen kept) (λ y. not (same_row x y)) (unseen kept) (λ y. old_case kept x y (same_row x y) refl s) ks
 
   -- ---- a tuple whose row was not seen
@@ -79,37 +79,37 @@ module _ (row : Tuple → List Value) where
   new_case false true = refl
   new_case false false = refl
 
-  new_left : (kept : List Tuple) (x : Tuple) (ks : List Tuple) → filter (unseen kept) (filter (λ y. not (same_row x y)) ks) ≡ filter (unseen (kept ++ x ∷ [])) ks
+  new_left : (kept : List X) (x : X) (ks : List X) → filter (unseen kept) (filter (λ y. not (same_row x y)) ks) ≡ filter (unseen (kept ++ x ∷ [])) ks
   new_left kept x ks =
       filter_both (unseen kept) (λ y. not (same_row x y)) (unseen (kept ++ x ∷ []))
       (λ y. ap not (seen_push kept x (row y)) ∙ new_case (seen_in kept (row y)) (alike (row y) (row x)) ∙ ap (λ e. cond (not e) (unseen kept y) false) (laws.symm (row y) (row x))) ks
 
   -- ---- one tuple more
 
-  kept_case : (kept later : List Tuple) (x : Tuple) (ks : List Tuple) (b : Bool) → seen_in kept (row x) ≡ b → later ≡ kept_if (not b) kept x → kept ++ cond (not b) (x ∷ filter (unseen kept) (filter (λ y. not (same_row x y)) (without_repeats same_row ks))) (filter (unseen kept) (filter (λ y. not (same_row x y)) (without_repeats same_row ks))) ≡ kept_then later ks
+  kept_case : (kept later : List X) (x : X) (ks : List X) (b : Bool) → seen_in kept (row x) ≡ b → later ≡ kept_if (not b) kept x → kept ++ cond (not b) (x ∷ filter (unseen kept) (filter (λ y. not (same_row x y)) (without_repeats same_row ks))) (filter (unseen kept) (filter (λ y. not (same_row x y)) (without_repeats same_row ks))) ≡ kept_then later ks
   kept_case kept later x ks true s e = ap (λ ls. kept ++ ls) (old_left kept x (without_repeats same_row ks) s) ∙ ap (λ ls. kept_then ls ks) (sym e)
   kept_case kept later x ks false s e =
       ap (λ ls. kept ++ x ∷ ls) (new_left kept x (without_repeats same_row ks)) ∙ sym (append_assoc kept (x ∷ []) (filter (unseen (kept ++ x ∷ [])) (without_repeats same_row ks)))
       ∙ ap (λ ls. kept_then ls ks) (sym e)
 
-  pub kept_more : (tuples : List Tuple) (i : ℕ) (x : Tuple) (total kept later : List Tuple) (b : Bool) → i < length tuples → x ≡ get_or tuples i x → total ≡ kept_then kept (drop i tuples) → b ≡ not (seen_in kept (row x)) → later ≡ kept_if b kept x → total ≡ kept_then later (drop (i + 1) tuples)
+  pub kept_more : (tuples : List X) (i : ℕ) (x : X) (total kept later : List X) (b : Bool) → i < length tuples → x ≡ get_or tuples i x → total ≡ kept_then kept (drop i tuples) → b ≡ not (seen_in kept (row x)) → later ≡ kept_if b kept x → total ≡ kept_then later (drop (i + 1) tuples)
   kept_more tuples i x total kept later b h e inv f g =
       inv ∙ at_drop_more (kept_then kept) tuples i x h ∙ ap (λ y. kept_then kept (y ∷ drop (i + 1) tuples)) (sym e)
       ∙ kept_case kept later x (drop (i + 1) tuples) (seen_in kept (row x)) refl (g ∙ ap (λ b. kept_if b kept x) f)
 
-  pub kept_none : (total : List Tuple) (kept tuples : List Tuple) → kept ≡ [] → total ≡ without_repeats same_row tuples → total ≡ kept_then kept tuples
+  pub kept_none : (total : List X) (kept tuples : List X) → kept ≡ [] → total ≡ without_repeats same_row tuples → total ≡ kept_then kept tuples
   kept_none total kept tuples e f = f ∙ sym (all_unseen (without_repeats same_row tuples)) ∙ ap (λ ls. kept_then ls tuples) (sym e)
     where
-      all_unseen : (ks : List Tuple) → filter (λ (k : Tuple). true) ks ≡ ks
+      all_unseen : (ks : List X) → filter (λ (k : X). true) ks ≡ ks
       all_unseen [] = refl
       all_unseen (k ∷ ks) = ap (λ ls. k ∷ ls) (all_unseen ks)
 
-  pub kept_all : (tuples : List Tuple) (i : ℕ) (total kept : List Tuple) → length tuples ≤ i → total ≡ kept_then kept (drop i tuples) → kept ≡ total
+  pub kept_all : (tuples : List X) (i : ℕ) (total kept : List X) → length tuples ≤ i → total ≡ kept_then kept (drop i tuples) → kept ≡ total
   kept_all tuples i total kept h inv = sym (inv ∙ at_drop_all (kept_then kept) tuples i h ∙ append-nil kept)
 
   -- ---- the set of the rows seen
 
-  set_case : (kept later : List Tuple) (x : Tuple) (v : List Value) (b c : Bool) → seen_in kept (row x) ≡ b → alike (row x) v ≡ c → later ≡ kept_if (not b) kept x → cond c true (seen_in kept v) ≡ seen_in later v
+  set_case : (kept later : List X) (x : X) (v : List Value) (b c : Bool) → seen_in kept (row x) ≡ b → alike (row x) v ≡ c → later ≡ kept_if (not b) kept x → cond c true (seen_in kept v) ≡ seen_in later v
   set_case kept later x v true true s e f = sym (ap (λ ls. seen_in ls v) f ∙ sym (seen_alike kept (row x) v e) ∙ s)
   set_case kept later x v true false s e f = ap (λ ls. seen_in ls v) (sym f)
   set_case kept later x v false c s e f =
@@ -121,7 +121,7 @@ module _ (row : Tuple → List Value) where
       new_seen false true = refl
       new_seen false false = refl
 
-  pub set_more : (kept later : List Tuple) (x : Tuple) (v : List Value) (b now : Bool) → b ≡ not (seen_in kept (row x)) → later ≡ kept_if b kept x → now ≡ cond (alike (row x) v) true (seen_in kept v) → now ≡ seen_in later v
+  pub set_more : (kept later : List X) (x : X) (v : List Value) (b now : Bool) → b ≡ not (seen_in kept (row x)) → later ≡ kept_if b kept x → now ≡ cond (alike (row x) v) true (seen_in kept v) → now ≡ seen_in later v
   set_more kept later x v b now f g h = h ∙ set_case kept later x v (seen_in kept (row x)) (alike (row x) v) refl refl (g ∙ ap (λ b. kept_if b kept x) f)
 
 -- ---- rows are equal where the fields agree

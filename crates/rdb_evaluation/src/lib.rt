@@ -14,5 +14,6 @@ mod tuples;
 
 pub use evaluate::{chooses, value_of};
 pub use reading::{read, scaled};
+pub use reducing::ReducedValues;
 pub use select::selection;
 pub use tuples::Tuples;

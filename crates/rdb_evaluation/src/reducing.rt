@@ -38,7 +38,7 @@ fn row_order(a: &[Value], b: &[Value]) -> Ordering
 
 /// The values of the fields that tuples are reduced to. They are ordered as rows are.
 #[derive(Drop)]
-pub(crate) struct ReducedValues {
+pub struct ReducedValues {
     pub values: Row,
 }
 

@@ -3,3 +3,6 @@ pub mod RowsAtHand
 pub mod SameTuples
 pub mod Ranges
 pub mod Read
+pub mod Orders
+pub mod Through
+pub mod Selections

@@ -1,4 +1,5 @@
 pub mod Stops
 pub mod Chosen
 pub mod Crossed
+pub mod Ordered
 pub mod Sources

@@ -4,6 +4,9 @@
 mod any;
 mod crossing;
 mod judging;
+mod reducing;
+mod selection;
+mod sorting;
 mod sources;
 mod stop;
 #[cfg(test)]
@@ -12,5 +15,6 @@ mod tuples;
 
 pub use any::any_selected;
 pub use crossing::{Found, FoundTuples};
+pub use selection::select;
 pub use stop::SelectStop;
 pub use tuples::{matching, selected};

@@ -2,15 +2,15 @@ ghost use Rattle.std.specs.Prelude.{IfOk};
 ghost use Rattle.rdo_values.specs.Views.{ranging_of};
 ghost use Rattle.rdo_select.specs.Chosen.{condition_in, IsSettledWith};
 
-use crate::{FoundTuples, SelectStop, any_selected, matching, selected};
+use crate::{FoundTuples, SelectStop, any_selected, matching, select, selected};
 use line_view::{Known, Need, PresentLine};
 use rdb_types::{
     Boxed, Chars, DataType, Dbkey, Field, FieldType, Fields, Image, Items, NoMemory, Row,
 };
 use rdo_ast::syntax::{Comparison, Range, Reference};
 use rdo_values::{
-    BoundCondition, BoundConjunction, BoundExpression, BoundInner, BoundRange, BoundReference,
-    BoundTest, KnownTruth,
+    BoundClause, BoundCondition, BoundConjunction, BoundExpression, BoundInner, BoundRange,
+    BoundReference, BoundSelection, BoundSortKey, BoundTest, KnownTruth,
 };
 use relation_rows::StoredRelation;
 use std::alloc::Global;
@@ -69,22 +69,25 @@ fn range(alloc: Global, variable: &[u8]) -> Result<BoundRange, NoMemory> {
     })
 }
 
-// The first tuple of X IN JOBS CROSS Y IN JOBS WITH X.NUMBER compares so with this number.
-fn crossed(alloc: Global, op: Comparison, number: i64) -> Result<BoundInner, NoMemory>
-    ensures { IfOk result (λ inner. IsSettledWith (condition_in (ranging_of inner))) }
-{
-    let field = BoundReference {
+fn number_of_x(alloc: Global) -> Result<BoundReference, NoMemory> {
+    Ok(BoundReference {
         reference: Reference {
             variable: Chars::from_slice(alloc, b"X")?,
             field: Chars::from_slice(alloc, b"NUMBER")?,
         },
         place: 0,
         kind: NUMBER,
-    };
+    })
+}
+
+// The first tuple of X IN JOBS CROSS Y IN JOBS WITH X.NUMBER compares so with this number.
+fn crossed(alloc: Global, op: Comparison, number: i64) -> Result<BoundInner, NoMemory>
+    ensures { IfOk result (λ inner. IsSettledWith (condition_in (ranging_of inner))) }
+{
     let mut tests = Items::new(alloc);
     tests.push(BoundTest::Compare(
         op,
-        BoundExpression::Field(field),
+        BoundExpression::Field(number_of_x(alloc)?),
         BoundExpression::Number(number, 0),
     ))?;
     let mut conjunctions = Items::new(alloc);
@@ -99,15 +102,40 @@ fn crossed(alloc: Global, op: Comparison, number: i64) -> Result<BoundInner, NoM
     })
 }
 
-fn are_pairs(found: &Result<FoundTuples, SelectStop>, first: u32, pages: &[u32]) -> bool {
+// X IN JOBS CROSS Y IN JOBS SORTED BY X.NUMBER REDUCED TO X.NUMBER.
+fn ordered(alloc: Global, first: Option<u64>, descending: bool) -> Result<BoundSelection, NoMemory>
+    ensures { IfOk result (λ s. IsSettledWith (condition_in (ranging_of s.inner))) }
+{
+    let mut keys = Items::new(alloc);
+    keys.push(BoundSortKey {
+        descending,
+        reference: number_of_x(alloc)?,
+    })?;
+    let mut references = Items::new(alloc);
+    references.push(number_of_x(alloc)?)?;
+    let mut clauses = Items::new(alloc);
+    clauses.push(BoundClause::Sorted(keys))?;
+    clauses.push(BoundClause::Reduced(references))?;
+    let mut ranges = Items::new(alloc);
+    ranges.push(range(alloc, b"X")?)?;
+    ranges.push(range(alloc, b"Y")?)?;
+    let inner = BoundInner {
+        first,
+        ranges,
+        condition: None,
+    };
+    Ok(BoundSelection { inner, clauses })
+}
+
+fn are_pairs(found: &Result<FoundTuples, SelectStop>, pages: &[(u32, u32)]) -> bool {
     let Ok(found) = found else {
         return false;
     };
     if found.len() != pages.len() {
         return false;
     }
-    for (tuple, page) in found.as_slice().iter().zip(pages) {
-        if tuple.tuple.as_slice() != [at_page(first), at_page(*page)].as_slice() {
+    for (tuple, (x, y)) in found.as_slice().iter().zip(pages) {
+        if tuple.tuple.as_slice() != [at_page(*x), at_page(*y)].as_slice() {
             return false;
         }
     }
@@ -128,9 +156,30 @@ fn pairs_are_in_the_order_of_their_keys(rt: HostRuntime) -> Result<(), Fail> {
     let inner = crossed(alloc, Comparison::Greater, 5)?;
     let relations = [relation, relation];
     let all = matching(alloc, &known, &relations, &inner, &outer);
-    assert!(rt; are_pairs(&all, 2, &[2, 3]));
+    assert!(rt; are_pairs(&all, &[(2, 2), (2, 3)]));
     let first = selected(alloc, &known, &relations, &inner, &outer);
-    assert!(rt; are_pairs(&first, 2, &[2]));
+    assert!(rt; are_pairs(&first, &[(2, 2)]));
+    Ok(())
+}
+
+#[test]
+fn tuples_are_sorted_and_reduced(rt: HostRuntime) -> Result<(), Fail> {
+    let alloc = rt.alloc();
+    let fields = fields(alloc)?;
+    let relation = StoredRelation {
+        area: 16,
+        version: 1,
+        fields: fields.as_slice(),
+    };
+    let known = known(alloc)?;
+    let outer = Row::new(alloc);
+    let relations = [relation, relation];
+    let all = ordered(alloc, None, false)?;
+    let all = select(alloc, &known, &relations, &all, &outer);
+    assert!(rt; are_pairs(&all, &[(3, 2), (2, 2)]));
+    let first = ordered(alloc, Some(1), true)?;
+    let first = select(alloc, &known, &relations, &first, &outer);
+    assert!(rt; are_pairs(&first, &[(2, 2)]));
     Ok(())
 }
 

@@ -1,0 +1,14 @@
+use Rattle.std.proofs.Common.{◌≡◌, drop}
+use Rattle.std.specs.BTreeSet.{contains}
+use Rattle.rdb_meaning.specs.Comparison.{row_rank}
+use Rattle.rdb_meaning.specs.Selecting.{without_repeats}
+use Rattle.rdb_evaluation.specs.declared.reducing.ReducedValues.{ReducedValues}
+use Rattle.rdb_evaluation.proofs.Repeats.{seen_in, kept_then}
+use Rattle.rdo_select.specs.Ordered.{reduced_values, found_alike}
+use Rattle.rdo_select.proofs.reducing.without_repeats.Given as goal
+
+abbrev pub invariant-loop-tuple : goal.invariant-loop-tuple
+invariant-loop-tuple l = record {
+  seen : (q : ReducedValues) → contains (λ (a b : ReducedValues). row_rank a.values b.values) l.seen q ≡ seen_in (reduced_values l.clauses) l.kept q.values;
+  whole : without_repeats (found_alike l.clauses) l.found ≡ kept_then (reduced_values l.clauses) l.kept (drop l.tuple-index l.found);
+}
