@@ -60,7 +60,9 @@ impl Tree {
     /// need's, and goes down: at each node the whole need is asked where nothing is queued there and it can be granted at once; else
     /// the owner's own lock comes down to what must be kept, and the want's mode is asked, unless a notice is due before. A want that
     /// is open goes on from where it stands; after a notice was delivered it looks again. Where it isn't to wait, what can't be
-    /// granted is refused. For want of memory nothing is got, and a want that was open is open still.
+    /// granted is refused. Who sleeps or is refused waits by needs, or would wait so, for whom the answer names: by the needs that
+    /// others have got, the wants that are open, and the order in which these were asked. For want of memory nothing is got, and a
+    /// want that was open is open still.
     pub fn want(&mut self, owner: u32, need: Need, wait: bool) -> Result<Want, NoMemory>
         requires plain { is_plain need ≡ true }
         requires same { IsOf need (party_of self.old.parties owner).opened }
