@@ -7,3 +7,4 @@ pub mod Clamped
 pub mod Inside
 pub mod Served
 pub mod Reaching
+pub mod Rooted

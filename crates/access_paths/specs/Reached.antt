@@ -1,5 +1,6 @@
 -- Which rows are come by.
 use Rattle.std.specs.Prelude.{◌≡◌, true, List}
+use Rattle.rdb_types.specs.declared.keys.Dbkey.{Dbkey}
 use Rattle.rdb_types.specs.declared.values.Value.{Value}
 use Rattle.rdb_types.specs.declared.values.Value.TheVariants.{Missing, Number, Text}
 use Rattle.rdb_meaning.specs.Numbers.{fits_bits}
@@ -21,3 +22,9 @@ abbrev pub Reaches : List IndexPath → Row → Access → Type 0
 Reaches indexes row Scan = Unit {0}
 Reaches indexes row (Find root key) = AnyByRecursion (λ x. (x.root ≡ root) × (key_of x.fields row ≡ key)) indexes
 Reaches indexes row (Range root bounds) = AnyByRecursion (λ x. (x.root ≡ root) × (is_within (between bounds) (key_of x.fields row) ≡ true)) indexes
+
+-- the access is a scan, or by the index of this root
+abbrev pub IsOfRoot : Dbkey → Access → Type 0
+IsOfRoot root Scan = Unit {0}
+IsOfRoot root (Find own key) = root ≡ own
+IsOfRoot root (Range own bounds) = root ≡ own

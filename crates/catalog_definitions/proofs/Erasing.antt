@@ -10,10 +10,10 @@ use Rattle.ordered_entries.specs.Order.{dbkey_order}
 use Rattle.ordered_entries.proofs.Laws.{same_dbkey, dbkey_total}
 use Rattle.line_view.specs.Knowledge.{Lines, line_in, lines_in, keys_of, laid}
 use Rattle.line_view.proofs.FullMap.{laid_found}
+use Rattle.line_view.specs.Writes.{laid_all}
 use Rattle.catalog_lines.specs.declared.line.CatalogLine.{CatalogLine}
 use Rattle.catalog_lines.specs.Lines.{IsCatalogLine}
 use Rattle.catalog_lines.proofs.Lines.{one_line}
-use Rattle.sorted_index.specs.Changes.{laid_all}
 use Rattle.catalog.specs.declared.directory.PlacedLine.{PlacedLine}
 use Rattle.catalog.specs.Deletions.{keys_where}
 use Rattle.catalog.specs.Reading.{catalog_area, line_keys, IsPresent, AreCatalogLines}

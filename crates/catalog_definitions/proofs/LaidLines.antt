@@ -13,9 +13,9 @@ use Rattle.std.specs.List.{AllByRecursion}
 use Rattle.std.proofs.lemmas.List.{take_more, drop_more, length-take-le, take-append-drop}
 use Rattle.line_view.specs.declared.need.Need.TheVariants.{Room as RoomOf}
 use Rattle.line_view.specs.Knowledge.{Knowledge}
+use Rattle.line_view.specs.declared.writes.Write.{Write}
 use Rattle.catalog_lines.specs.declared.line.CatalogLine.{CatalogLine}
 use Rattle.catalog_lines.specs.Lines.{IsAllowedLine}
-use Rattle.sorted_index.specs.declared.writes.Write.{Write}
 use Rattle.catalog_definitions.specs.declared.stop.DefineStop.{DefineStop}
 use Rattle.catalog_definitions.specs.declared.stop.DefineStop.TheVariants.{Missing, Refused, NoMemory}
 use Rattle.catalog_definitions.specs.Causes.{catalog_room, rooms_from, first_unknown_room, IsStopOf, Lacks, Stops}

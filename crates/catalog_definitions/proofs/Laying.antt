@@ -13,10 +13,10 @@ use Rattle.ordered_entries.proofs.Laws.{same_dbkey, dbkey_total}
 use Rattle.line_view.specs.declared.need.Room.{Room}
 use Rattle.line_view.specs.Knowledge.{Knowledge, Lines, IsInOrder, line_in, lines_in, keys_of, laid, Agrees}
 use Rattle.line_view.proofs.FullMap.{laid_found, key_put}
+use Rattle.line_view.specs.declared.writes.Write.{Write}
+use Rattle.line_view.specs.Writes.{laid_all}
 use Rattle.catalog_lines.specs.declared.line.CatalogLine.{CatalogLine}
 use Rattle.catalog_lines.specs.Lines.{IsCatalogLine}
-use Rattle.sorted_index.specs.declared.writes.Write.{Write}
-use Rattle.sorted_index.specs.Changes.{laid_all}
 use Rattle.catalog.specs.declared.directory.PlacedLine.{PlacedLine}
 use Rattle.catalog.specs.Reading.{catalog_area, line_keys, IsPresent, AreCatalogLines}
 use Rattle.catalog_definitions.specs.Causes.{catalog_room}

@@ -17,12 +17,12 @@ use Rattle.rdb_definitions.specs.NewIndex.{new_index}
 use Rattle.ordered_entries.proofs.Laws.{chars_total, find-put_same}
 use Rattle.std.proofs.lemmas.Option.{same_Some}
 use Rattle.line_view.specs.Knowledge.{Knowledge, Lines}
+use Rattle.line_view.specs.declared.writes.Write.{Write}
+use Rattle.line_view.specs.Writes.{laid_all}
 use Rattle.catalog_lines.specs.declared.line.IndexLine.{IndexLine}
 use Rattle.catalog_lines.specs.declared.line.CatalogLine.TheVariants.{Index}
 use Rattle.catalog_lines.specs.Lines.{IsAllowedLine, IsIndexArea, IsRelationArea}
 use Rattle.catalog_lines.specs.Parts.{IsName}
-use Rattle.sorted_index.specs.declared.writes.Write.{Write}
-use Rattle.sorted_index.specs.Changes.{laid_all}
 use Rattle.catalog.specs.declared.directory.PlacedLine.{PlacedLine}
 use Rattle.catalog.specs.declared.reading.Catalog.{Catalog}
 use Rattle.catalog.specs.Directory.{area_order, numbered, directory, no_directory}

@@ -22,13 +22,13 @@ use Rattle.rdb_meaning.specs.Contents.{name_order, same_name, no_tables, relatio
 use Rattle.rdb_meaning.specs.Checks.{or_else, needs_some, needs_none}
 use Rattle.rdb_meaning.specs.Defining.{is_among, type_names, fields_names, relation_names, copied_type, type_of, new_field, with_relation}
 use Rattle.line_view.specs.Knowledge.{Knowledge, Lines}
+use Rattle.line_view.specs.declared.writes.Write.{Write}
+use Rattle.line_view.specs.Writes.{laid_all}
 use Rattle.catalog_lines.specs.declared.line.RelationLine.{RelationLine}
 use Rattle.catalog_lines.specs.declared.line.CatalogLine.{CatalogLine}
 use Rattle.catalog_lines.specs.declared.line.CatalogLine.TheVariants.{Relation, Global, Field as FieldOf, Index}
 use Rattle.catalog_lines.specs.Lines.{IsAllowedLine, IsRelationArea, IsClass}
 use Rattle.catalog_lines.specs.Parts.{IsType}
-use Rattle.sorted_index.specs.declared.writes.Write.{Write}
-use Rattle.sorted_index.specs.Changes.{laid_all}
 use Rattle.catalog.specs.declared.directory.PlacedLine.{PlacedLine}
 use Rattle.catalog.specs.declared.directory.Directory.{Directory}
 use Rattle.catalog.specs.declared.reading.Catalog.{Catalog}

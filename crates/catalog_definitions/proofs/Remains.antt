@@ -7,9 +7,9 @@ use Rattle.ordered_entries.specs.Order.{dbkey_order}
 use Rattle.rdb_meaning.specs.declared.tables.Tables.{Tables}
 use Rattle.rdb_meaning.specs.Contents.{no_tables}
 use Rattle.line_view.specs.Knowledge.{Lines, IsInOrder}
+use Rattle.line_view.specs.Writes.{laid_all}
 use Rattle.catalog_lines.specs.declared.line.CatalogLine.{CatalogLine}
 use Rattle.catalog_lines.specs.Lines.{IsAllowedLine}
-use Rattle.sorted_index.specs.Changes.{laid_all}
 use Rattle.catalog.specs.declared.directory.PlacedLine.{PlacedLine}
 use Rattle.catalog.specs.declared.directory.Directory.{Directory}
 use Rattle.catalog.specs.declared.reading.Catalog.{Catalog}

@@ -11,6 +11,7 @@ use Rattle.rdo_ast.specs.declared.syntax.IndexDefinition.{IndexDefinition}
 use Rattle.rdo_ast.specs.declared.syntax.DefinedType.{DefinedType}
 use Rattle.rdo_ast.specs.declared.syntax.DefinedType.TheVariants.{Own, BasedOn}
 use Rattle.line_view.specs.declared.need.Room.{Room}
+use Rattle.line_view.specs.declared.writes.Write.{Write}
 use Rattle.rdb_meaning.specs.declared.tables.Index.{Index as IndexOf}
 use Rattle.rdb_meaning.specs.declared.tables.Tables.{Tables}
 use Rattle.rdb_meaning.specs.Contents.{class_of, new_relation_area}
@@ -19,7 +20,6 @@ use Rattle.catalog_lines.specs.Parts.{IsName, IsType}
 use Rattle.catalog_lines.specs.declared.line.CatalogLine.{CatalogLine}
 use Rattle.catalog_lines.specs.declared.line.CatalogLine.TheVariants.{Relation, Global, Field as FieldOf, Index}
 use Rattle.catalog_lines.specs.Lines.{IsCatalogLine}
-use Rattle.sorted_index.specs.declared.writes.Write.{Write}
 use Rattle.catalog_definitions.specs.Causes.{catalog_room}
 
 -- the line is written on this line of the database

@@ -10,9 +10,8 @@ use crate::stop::DefineStop;
 use crate::writing::write_lines;
 use catalog::Catalog;
 use catalog_lines::{CatalogLine, GlobalLine};
-use line_view::View;
+use line_view::{View, Writes};
 use rdb_types::{Chars, Copied, FieldType};
-use sorted_index::Writes;
 use std::alloc::Global;
 
 /// DEFINE FIELD in the catalog: the line of a global field of this type. It is refused where the name is that of a global field.

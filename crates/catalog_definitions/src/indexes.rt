@@ -16,12 +16,11 @@ use crate::stop::DefineStop;
 use crate::writing::{room_key, write_lines};
 use catalog::Catalog;
 use catalog_lines::{CatalogLine, IndexLine};
-use line_view::{Room, View};
+use line_view::{Room, View, Writes};
 use rdb_definitions::check_index_names;
 use rdb_meaning::{Index, Tables};
 use rdb_types::{Chars, Copied, Dbkey, NoMemory};
 use rdo_ast::syntax::IndexDefinition;
-use sorted_index::Writes;
 use std::alloc::Global;
 
 /// The class of the lines of an index.

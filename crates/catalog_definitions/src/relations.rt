@@ -1,5 +1,5 @@
-ghost use Rattle.std.specs.Prelude.{◌≡◌, ◌≤◌, ◌+◌, ◌++◌, nat_le, sum_by, length, Some, None, IsSome, IfOk, IfErr, OnOk};
-ghost use Rattle.rdb_meaning.specs.Contents.{relation_named, longest_value, class_of};
+ghost use Rattle.std.specs.Prelude.{◌≡◌, ◌≤◌, ◌++◌, length, Some, None, IsSome, IfOk, IfErr, OnOk};
+ghost use Rattle.rdb_meaning.specs.Contents.{relation_named};
 ghost use Rattle.rdb_meaning.specs.Defining.{relation_names, with_relation};
 ghost use Rattle.catalog.specs.Reading.{IsWhole};
 ghost use Rattle.catalog_definitions.specs.Causes.{rooms_from, Stops};
@@ -10,35 +10,12 @@ use crate::stop::DefineStop;
 use crate::writing::write_lines;
 use catalog::Catalog;
 use catalog_lines::{CatalogLine, FieldLine, RelationLine};
-use line_view::View;
+use line_view::{View, Writes};
 use rdb_meaning::{Relation, Tables};
-use rdb_types::{Chars, Copied, DataType, Field, FieldType, Items, NoMemory};
+use rdb_types::{Chars, Copied, Field, Items, NoMemory};
 use rdo_ast::syntax::FieldDefinition;
-use sorted_index::Writes;
+use row_sizes::class_of;
 use std::alloc::Global;
-
-fn longest_value(kind: FieldType) -> u32
-    ensures { result ≡ longest_value kind }
-{
-    match kind.kind {
-        DataType::Text => 3 + u32::from(kind.size),
-        DataType::Word | DataType::Longword | DataType::Quadword => 9,
-    }
-}
-
-/// The class of a relation's lines: the lesser one, where the longest possible image of a row has at most 104 bytes, of which 3 stand before its values.
-fn class_of(fields: &[Field]) -> u16
-    ensures { result ≡ class_of fields.now }
-{
-    let mut room = 101u32;
-    for field in fields {
-        let Some(left) = room.checked_sub(longest_value(field.kind)) else {
-            return 440;
-        };
-        room = left;
-    }
-    208
-}
 
 fn add_field_lines(
     alloc: Global,

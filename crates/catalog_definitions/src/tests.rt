@@ -6,11 +6,10 @@ use crate::{
 };
 use catalog::{Catalog, read_catalog};
 use catalog_lines::{is_name, is_type};
-use line_view::{Known, Need, Room, Seen, View};
+use line_view::{Known, Need, Room, Seen, View, Writes};
 use rdb_types::{Chars, DataType, Dbkey, FieldType, Image, Items, NoMemory};
 use rdo_ast::reply::Reply;
 use rdo_ast::syntax::{DefinedType, FieldDefinition, IndexDefinition};
-use sorted_index::Writes;
 use std::alloc::Global;
 use std::collections::BTreeSet;
 use std::test::Fail;

@@ -7,9 +7,8 @@ ghost use Rattle.catalog_definitions.specs.Written.{IsWritten, AreWritten};
 
 use crate::stop::DefineStop;
 use catalog_lines::{CatalogLine, put_catalog_line};
-use line_view::{Need, Room, View};
+use line_view::{Need, Room, View, Write, Writes};
 use rdb_types::Dbkey;
-use sorted_index::{Write, Writes};
 use std::alloc::Global;
 
 /// The logical area of the catalog.

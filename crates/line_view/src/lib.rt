@@ -4,10 +4,12 @@
 mod known;
 mod need;
 mod view;
+mod writes;
 
 pub use known::{Known, PresentLine};
 pub use need::{Need, Room, Stop};
 pub use view::{Seen, View};
+pub use writes::{Write, Writes};
 
 #[cfg(test)]
 mod tests;

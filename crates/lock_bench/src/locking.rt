@@ -1,9 +1,10 @@
 // Owners that lock lines of one logical area.
 ghost use Rattle.std.specs.Prelude.{◌≡◌, true};
+ghost use Rattle.vms_queues.specs.Owners.{is_owner as is_number_of_owner};
 ghost use Rattle.lock_needs.specs.Needs.{is_plain};
 
 use lock_needs::{Level, Need, Node};
-use lock_tree::{Tree, Want};
+use lock_tree::{MAX_OWNERS, Tree, Want, is_owner};
 use rdb_types::NoMemory;
 use vms_queues::Mode;
 
@@ -50,7 +51,8 @@ fn line_of(n: u32) -> Need
 
 // Gets a need, with notices to those in its way.
 fn get(tree: &mut Tree, owner: u32, need: Need, calls: &mut Calls) -> Result<(), Stop>
-    requires { is_plain need ≡ true }
+    requires owner { is_number_of_owner owner ≡ true }
+    requires plain { is_plain need ≡ true }
 {
     for _ in 0..MAX_NOTICES {
         if tree.wanted(owner).is_some_and(|wanted| wanted != need) {
@@ -76,14 +78,18 @@ pub fn lock_lines(tree: &mut Tree, owners: u32, locks: u32) -> Result<Calls, Sto
         notices: 0,
     };
     for n in 0..locks {
-        get(tree, n % owners.max(1) + 1, line_of(n), &mut calls)?;
+        let owner = n % owners.max(1) + 1;
+        if !is_owner(owner) {
+            return Err(Stop::Refused);
+        }
+        get(tree, owner, line_of(n), &mut calls)?;
     }
     Ok(calls)
 }
 
 /// Each owner gives all back.
 pub fn release_owners(tree: &mut Tree, owners: u32) {
-    for owner in 0..owners.min(16) {
+    for owner in 0..owners.min(MAX_OWNERS) {
         tree.release_all(owner + 1);
     }
 }

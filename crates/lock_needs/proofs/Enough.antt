@@ -8,7 +8,7 @@ use Rattle.vms_queues.specs.declared.lock_mode.Mode.TheVariants.{NL}
 use Rattle.vms_queues.specs.Modes.{at_most, least_above, intent}
 use Rattle.lock_needs.specs.declared.need.Need.{Need}
 use Rattle.lock_needs.specs.declared.party.OpenWant.{OpenWant}
-use Rattle.lock_needs.specs.declared.party.Party.{Party}
+use Rattle.lock_needs.specs.Party.{Party}
 use Rattle.lock_needs.specs.Nodes.{same_node, contains, is_on}
 use Rattle.lock_needs.specs.Needs.{Holding, covered_above}
 use Rattle.lock_needs.specs.Keeping.{below, needed_on, needed_uncovered, must_keep, after_want, allows, is_enough}

@@ -6,3 +6,4 @@ pub mod Enough
 pub mod Growing
 pub mod Apart
 pub mod Above
+pub mod Indexing

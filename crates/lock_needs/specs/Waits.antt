@@ -5,7 +5,7 @@ use Rattle.rdb_types.specs.declared.node.Node.{Node}
 use Rattle.lock_needs.specs.declared.need.Need.{Need}
 use Rattle.lock_needs.specs.declared.party.OpenWant.{OpenWant}
 use Rattle.lock_needs.specs.declared.party.Asked.{Asked}
-use Rattle.lock_needs.specs.declared.party.Party.{Party}
+use Rattle.lock_needs.specs.Party.{Party}
 use Rattle.lock_needs.specs.Nodes.{same_node, contains, is_on}
 use Rattle.lock_needs.specs.Needs.{conflict}
 

@@ -2,13 +2,14 @@
 //! an owner's needs and its open want, and who waits for whom by needs.
 #![tactic(auto)]
 
+mod index;
 mod keeping;
 mod need;
 mod node;
 mod party;
 mod waiting;
 
-pub use keeping::{intents_below, is_excess, must_keep, needed_on};
+pub use keeping::is_excess;
 pub use need::{Need, conflict, covers_below};
 pub use node::{contains, is_above, is_on, level_under, node_above, on_way, step_towards};
 pub use party::{Asked, OpenWant, Party, mode_for};

@@ -1,8 +1,7 @@
 use crate::{
-    Asked, Level, Need, Node, OpenWant, Party, conflict, contains, covers_below, intents_below,
-    is_excess, is_on, must_keep, needed_on, node_above, on_way, step_towards, waits_for,
+    Asked, Level, Need, Node, OpenWant, Party, conflict, contains, covers_below, is_excess, is_on,
+    node_above, on_way, step_towards, waits_for,
 };
-use rdb_types::Items;
 use std::test::Fail;
 use vms_queues::Mode;
 
@@ -65,11 +64,15 @@ fn what_a_lock_keeps(rt: HostRuntime) -> Result<(), Fail> {
     };
     assert!(rt; conflict(whole, write) && !conflict(whole, read) && !conflict(read, write));
     assert!(rt; covers_below(Mode::PW, Mode::PR) && !covers_below(Mode::PW, Mode::EX));
-    let needs = [read, write, whole];
-    assert_eq!(rt; intents_below(&needs, AREA), Mode::CW);
-    assert_eq!(rt; needed_on(&needs, AREA), Mode::PR);
-    assert_eq!(rt; must_keep(&needs, Mode::NL, AREA), Mode::PW);
-    assert_eq!(rt; must_keep(&needs, Mode::CR, PAGE), Mode::CW);
+    let mut party = Party::new(rt.alloc());
+    party.add(read)?;
+    party.add(write)?;
+    party.add(whole)?;
+    assert_eq!(rt; party.needs(), [read, write, whole].as_slice());
+    assert_eq!(rt; party.intents_below(AREA), Mode::CW);
+    assert_eq!(rt; party.needed_on(AREA), Mode::PR);
+    assert_eq!(rt; party.must_keep(Mode::NL, AREA), Mode::PW);
+    assert_eq!(rt; party.must_keep(Mode::CR, PAGE), Mode::CW);
     assert!(rt; is_excess(Mode::EX, Mode::PW) && !is_excess(Mode::CW, Mode::PR));
     Ok(())
 }
@@ -84,22 +87,17 @@ fn a_want_waits_for_needs_and_for_wants_before_it(rt: HostRuntime) -> Result<(),
         node: AREA,
         mode: Mode::PR,
     };
-    let mut reader = Party {
-        needs: Items::new(rt.alloc()),
-        opened: None,
-    };
+    let mut reader = Party::new(rt.alloc());
     assert!(rt; !waits_for(&[], 1, write, 2, &reader));
-    reader.needs.push(read)?;
+    reader.add(read)?;
     assert!(rt; waits_for(&[], 1, write, 2, &reader));
     assert!(rt; !waits_for(&[], 2, write, 2, &reader));
-    let asker = Party {
-        needs: Items::new(rt.alloc()),
-        opened: Some(OpenWant {
-            need: read,
-            here: AREA,
-            is_asked: true,
-        }),
-    };
+    let mut asker = Party::new(rt.alloc());
+    asker.open_want(OpenWant {
+        need: read,
+        here: AREA,
+        is_asked: true,
+    })?;
     let second = Asked {
         owner: 2,
         node: AREA,

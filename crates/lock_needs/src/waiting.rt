@@ -40,24 +40,19 @@ fn asked_before(asks: &[Asked], first: u32, second: u32, node: Node) -> bool
 fn holds_in_way(want: Need, party: &Party) -> bool
     ensures { result ≡ holds_against want party.now }
 {
-    party
-        .needs
-        .as_slice()
-        .iter()
-        .any(|need| conflict(want, *need))
+    party.needs().iter().any(|need| conflict(want, *need))
 }
 
 // Whether the open want of `other` conflicts with this one of `waiter`, and comes first.
 fn wants_in_way(asks: &[Asked], waiter: u32, want: Need, blocker: u32, other: &Party) -> bool
     ensures { result ≡ wants_against asks.now waiter want blocker other.now }
 {
-    let Some(open) = other.opened else {
+    let Some(open) = other.opened() else {
         return false;
     };
     let upper = upper_of(want, open.need);
     conflict(want, open.need)
-        && (has_lock_for(other.needs.as_slice(), upper)
-            || asked_before(asks, blocker, waiter, upper))
+        && (has_lock_for(other.needs(), upper) || asked_before(asks, blocker, waiter, upper))
 }
 
 /// Whether the open want `want` of the owner `waiter` waits by needs for the owner `blocker`: it conflicts with a need that this

@@ -1,6 +1,6 @@
 -- What the lock table answers, by the modes that owners hold and ask.
-use Rattle.std.proofs.Common.{◌≡◌, ℕ, Bool, true, false, sym, ap, subst, Result, Ok, Err}
-use Rattle.std.specs.Prelude.{if◌then◌else◌, IfOk, OnErr, Some, None}
+use Rattle.std.proofs.Common.{◌≡◌, ℕ, Bool, true, false, sym, ap, subst}
+use Rattle.std.specs.Prelude.{if◌then◌else◌, Some, None}
 use Rattle.std.proofs.lemmas.Bool.{or_parts}
 use Rattle.rdb_types.specs.declared.node.Node.{Node}
 use Rattle.vms_queues.specs.declared.lock_mode.Mode.{Mode}
@@ -16,15 +16,6 @@ use Rattle.lock_tree.specs.Forest.{Parties}
 use Rattle.lock_tree.specs.Asking.{AnswersAt, AsksAt, request_at, HasCause}
 use Rattle.lock_tree.proofs.Changes.{quiet-at, queued-at, changed-request, changed-conversion}
 use Rattle.lock_tree.proofs.Conditions.{absent-quiet, asked-law, converted-law}
-
-pub if_ok-more : {A E : Type 0} (P Q : A → Type 0) (r : Result A E) → IfOk r P → ((a : A) → P a → Q a) → IfOk r Q
-if_ok-more P Q (Ok a) h f = f a h
-if_ok-more P Q (Err e) h f = h
-
--- what follows from each answer and from the error
-pub by_answer : {A E : Type 0} (P : A → Type 0) (Q R : Type 0) (r : Result A E) → IfOk r P → OnErr r Q → ((a : A) → P a → R) → (Q → R) → R
-by_answer P Q R (Ok a) h e f g = f a h
-by_answer P Q R (Err x) h e f g = g e
 
 -- who asks nowhere more than it holds is awake
 pub quiet-awake : (t : Table) (owner : ℕ) → IsLive (queues_at t) → IsQuiet t owner → IsAwake (queues_at t) owner

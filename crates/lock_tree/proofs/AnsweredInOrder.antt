@@ -17,7 +17,7 @@ use Rattle.vms_locks.specs.declared.answer.Enq.TheVariants.{Granted, Asleep, Not
 use Rattle.lock_needs.specs.declared.need.Need.{Need}
 use Rattle.lock_needs.specs.declared.party.OpenWant.{OpenWant}
 use Rattle.lock_needs.specs.declared.party.Asked.{Asked}
-use Rattle.lock_needs.specs.declared.party.Party.{Party}
+use Rattle.lock_needs.specs.Party.{Party}
 use Rattle.lock_needs.specs.Wants.{mode_for}
 use Rattle.lock_needs.proofs.ModeTables.{join-left}
 use Rattle.lock_tree.specs.LockTable.{granted_at, sought_at, BarsNobody, RaisedAt}

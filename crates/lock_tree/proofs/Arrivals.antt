@@ -11,7 +11,7 @@ use Rattle.vms_queues.specs.Queues.{Queues, IsSound, has_owner, mode_in}
 use Rattle.vms_queues.proofs.PassEdges.{not_named_in}
 use Rattle.vms_locks.specs.Table.{Table, queues_at}
 use Rattle.lock_needs.specs.declared.party.OpenWant.{OpenWant}
-use Rattle.lock_needs.specs.declared.party.Party.{Party}
+use Rattle.lock_needs.specs.Party.{Party}
 use Rattle.lock_needs.specs.Nodes.{same_node, contains}
 use Rattle.lock_needs.specs.Needs.{Holding}
 use Rattle.lock_needs.specs.Wants.{mode_for, has_granted, opened_at}

@@ -11,7 +11,7 @@ use Rattle.vms_locks.specs.declared.answer.Enq.TheVariants.{NotQueued, Deadlock}
 use Rattle.lock_needs.specs.declared.need.Need.{Need}
 use Rattle.lock_needs.specs.declared.party.OpenWant.{OpenWant}
 use Rattle.lock_needs.specs.declared.party.Asked.{Asked}
-use Rattle.lock_needs.specs.declared.party.Party.{Party}
+use Rattle.lock_needs.specs.Party.{Party}
 use Rattle.lock_needs.specs.Needs.{Holding, is_covered, covered_above}
 use Rattle.lock_needs.specs.Wants.{kept_at}
 use Rattle.lock_needs.specs.Waits.{is_behind, wanted}

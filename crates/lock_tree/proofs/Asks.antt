@@ -2,16 +2,13 @@
 use Rattle.std.proofs.Common.{◌≡◌, ℕ, ◌++◌, ◌∷◌, [], Bool, true, false, List, refl, ◌∙◌, sym, ap, subst, inl, inr}
 use Rattle.std.specs.Prelude.{◌==◌, not, ◌&&◌, ◌||◌, if◌then◌else◌}
 use Rattle.std.specs.List.{filter}
-use Rattle.std.proofs.lemmas.Bool.{false≢true, cases_Bool, eqb-true, and_parts, and_from, or_parts, or_cases, or_left, or_right, not_from_false}
+use Rattle.std.proofs.lemmas.Bool.{false≢true, cases_Bool, eqb-true, and_parts, and_from, or_parts, or_cases, or_left, not_from_false}
 use Rattle.std.proofs.lemmas.List.Folds.{list_any-append}
 use Rattle.rdb_types.specs.declared.node.Node.{Node}
-use Rattle.lock_needs.specs.declared.party.OpenWant.{OpenWant}
 use Rattle.lock_needs.specs.declared.party.Asked.{Asked}
 use Rattle.lock_needs.specs.Nodes.{same_node}
 use Rattle.lock_needs.specs.Waits.{asked_before}
-use Rattle.lock_needs.proofs.NodeLaws.{same_node-true}
-use Rattle.lock_tree.specs.Parties.{was_asked}
-use Rattle.lock_tree.specs.Order.{is_listed, asked_last, without_asks, asks_cut}
+use Rattle.lock_tree.specs.Order.{is_listed, asked_last, without_asks}
 
 pub before-push : (u a : ℕ) (n : Node) (asks : List Asked) (e : Asked) → asked_before u a n asks ≡ true → asked_before u a n (asks ++ e ∷ []) ≡ true
 before-push u a n [] e h = absurd (false≢true h)
@@ -112,34 +109,3 @@ pub before-without : (u a o : ℕ) (n : Node) (asks : List Asked) → (u == o) �
 before-without u a o n asks d e =
     before-filter (λ a. not (a.owner == o)) u a n asks
     (λ x t. elim (or_cases (x.owner == u) (x.owner == a) (and_parts (same_node x.node n) (x.owner == u || x.owner == a) t).1) [ inl y ↦ another x u o d y | inr y ↦ another x a o e y ])
-
--- ---- a want was asked at fewer nodes
-
-pub before-lessened : (u a o : ℕ) (w : OpenWant) (n : Node) (asks : List Asked) → (u == o) ≡ false → (a == o) ≡ false → asked_before u a n (asks_cut o w asks) ≡ asked_before u a n asks
-before-lessened u a o w n asks d e =
-    before-filter (λ a. not (a.owner == o) || was_asked w a.node) u a n asks
-    (λ x t. or_left (not (x.owner == o)) (was_asked w x.node)
-    (elim (or_cases (x.owner == u) (x.owner == a) (and_parts (same_node x.node n) (x.owner == u || x.owner == a) t).1) [ inl y ↦ another x u o d y | inr y ↦ another x a o e y ]))
-
-pub before-asked : (u a o : ℕ) (w : OpenWant) (n : Node) (asks : List Asked) → was_asked w n ≡ true → asked_before u a n (asks_cut o w asks) ≡ asked_before u a n asks
-before-asked u a o w n asks h =
-    before-filter (λ a. not (a.owner == o) || was_asked w a.node) u a n asks
-    (λ x t. or_right (not (x.owner == o)) (was_asked w x.node) (subst (λ (z : Node). was_asked w z ≡ true) (sym (same_node-true x.node n (and_parts (same_node x.node n) (x.owner == u || x.owner == a) t).0)) h))
-
-pub listed-lessened : (u o : ℕ) (w : OpenWant) (n : Node) (asks : List Asked) → (u == o) ≡ false → is_listed u n (asks_cut o w asks) ≡ is_listed u n asks
-listed-lessened u o w n asks d =
-    listed-filter (λ a. not (a.owner == o) || was_asked w a.node) u n asks
-    (λ x t. or_left (not (x.owner == o)) (was_asked w x.node) (another x u o d (and_parts (same_node x.node n) (x.owner == u) t).1))
-
--- where the want was asked at fewer nodes than the list says, the list now says so too
-pub listed-own : (o : ℕ) (w : OpenWant) (n : Node) (asks : List Asked) → (was_asked w n ≡ true → is_listed o n asks ≡ true) → is_listed o n (asks_cut o w asks) ≡ was_asked w n
-listed-own o w n asks f = elim (cases_Bool (was_asked w n)) [
-  | inl t ↦ listed-filter (λ a. not (a.owner == o) || was_asked w a.node) o n asks
-      (λ x h. or_right (not (x.owner == o)) (was_asked w x.node) (subst (λ (z : Node). was_asked w z ≡ true) (sym (same_node-true x.node n (and_parts (same_node x.node n) (x.owner == o) h).0)) t))
-      ∙ (f t ∙ sym t)
-  | inr d ↦ listed-none (λ a. not (a.owner == o) || was_asked w a.node) o n asks
-      (λ x h.
-      let p = and_parts (same_node x.node n) (x.owner == o) h in
-      ap (λ (b : Bool). not b || was_asked w x.node) p.1 ∙ subst (λ (z : Node). was_asked w z ≡ false) (sym (same_node-true x.node n p.0)) d)
-      ∙ sym d
-]

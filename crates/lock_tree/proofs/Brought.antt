@@ -9,7 +9,7 @@ use Rattle.vms_queues.specs.Modes.{at_most, least_above, intent}
 use Rattle.vms_locks.specs.Table.{Table}
 use Rattle.lock_needs.specs.declared.need.Need.{Need}
 use Rattle.lock_needs.specs.declared.party.OpenWant.{OpenWant}
-use Rattle.lock_needs.specs.declared.party.Party.{Party}
+use Rattle.lock_needs.specs.Party.{Party}
 use Rattle.lock_needs.specs.Nodes.{same_node, contains, is_on}
 use Rattle.lock_needs.specs.Needs.{Holding}
 use Rattle.lock_needs.specs.Keeping.{below, needed_on, is_excess, is_enough}
@@ -240,9 +240,6 @@ module _ (old new : Table) (owner : ℕ) (p : Party) (n : Node) (keep : Mode) (n
 
   unasked : (w : OpenWant) → p.opened ≡ Some w → was_asked w n ≡ false
   unasked = excess-unasked (granted_at old owner) (sought_at old owner) p n k x
-
-  pub served-some : HasTaken owner n needs old new → IsKept new owner p
-  served-some f = taken-kept old new owner n p unasked nowhere (subst (λ (ws : List Need). HasTaken owner n ws old new) all f) k
 
   pub served-down : BroughtDown owner n keep needs old new → IsKept new owner p
   served-down b =

@@ -11,7 +11,7 @@ use Rattle.rdb_types.specs.declared.node.Level.TheVariants.{Area, Range, Page}
 use Rattle.rdb_types.specs.declared.node.Level.{Level}
 use Rattle.lock_needs.specs.declared.need.Need.{Need}
 use Rattle.lock_needs.specs.declared.party.OpenWant.{OpenWant}
-use Rattle.lock_needs.specs.declared.party.Party.{Party}
+use Rattle.lock_needs.specs.Party.{Party}
 use Rattle.vms_locks.specs.Table.{Table}
 use Rattle.lock_needs.specs.Nodes.{same_node, contains, is_on, is_above, on_way}
 use Rattle.lock_needs.specs.Needs.{Holding, HasIntentsAbove, covers_below, covers_from, covered_above, is_covered, all_covered}

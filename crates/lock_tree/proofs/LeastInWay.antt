@@ -8,7 +8,7 @@ use Rattle.vms_queues.specs.declared.lock_mode.Mode.TheVariants.{NL, CR, CW, PR,
 use Rattle.vms_queues.specs.Modes.{may_share, at_most, least_above, intent}
 use Rattle.vms_queues.proofs.ModeLaws.{all_modes_2-at, implies, from_implies}
 use Rattle.lock_needs.specs.declared.need.Need.{Need}
-use Rattle.lock_needs.specs.declared.party.Party.{Party}
+use Rattle.lock_needs.specs.Party.{Party}
 use Rattle.lock_needs.specs.Nodes.{same_node}
 use Rattle.lock_needs.specs.Needs.{Holding, HasIntentsAbove}
 use Rattle.lock_needs.specs.Keeping.{below, needed_on, is_excess}

@@ -10,7 +10,7 @@ use Rattle.vms_queues.proofs.ModeLaws.{all_modes-at, all_modes_3-at, implies, fr
 use Rattle.vms_locks.specs.Table.{Table}
 use Rattle.lock_needs.specs.declared.need.Need.{Need}
 use Rattle.lock_needs.specs.declared.party.OpenWant.{OpenWant}
-use Rattle.lock_needs.specs.declared.party.Party.{Party}
+use Rattle.lock_needs.specs.Party.{Party}
 use Rattle.lock_needs.specs.Nodes.{same_node, contains, is_on, above_of}
 use Rattle.lock_needs.specs.Needs.{Holding, all_covered, is_covered, covered_above}
 use Rattle.lock_needs.specs.Keeping.{below, needed_on, needed_uncovered, must_keep, after_want, is_enough}
@@ -23,8 +23,7 @@ use Rattle.lock_needs.proofs.Enough.{intents-below, uncovered-most, if-join, if-
 use Rattle.lock_needs.proofs.Joins.{nothing, join-none}
 use Rattle.lock_tree.specs.LockTable.{granted_at, sought_at, HasIntents, LoweredAt}
 use Rattle.lock_tree.specs.Parties.{IsKeptBut, IsKept, HasReason, was_asked, is_needed, nowhere, wanting, resting, unasked, asked_at}
-use Rattle.lock_tree.specs.Lowering.{MayComeDown, HasTaken, BroughtDown}
-use Rattle.lock_tree.proofs.OwnLocks.{own-taken}
+use Rattle.lock_tree.specs.Lowering.{MayComeDown, BroughtDown}
 use Rattle.lock_tree.proofs.Brought.{kept-alike, brought-kept, may-come-down, below-owed, needed-owed, unneeded}
 
 -- ---- another open want of the same owner, which isn't queued anywhere
@@ -266,7 +265,7 @@ module _ (held : Holding) (ws : List Need) (n : Node) where
       ])
       (uncovered-held vs p.1)
 
-  below-intent : (vs : List Need) → at_most (below vs n) CW ≡ true
+  pub below-intent : (vs : List Need) → at_most (below vs n) CW ≡ true
   below-intent [] = refl
   below-intent (w ∷ vs) = if-join-from (contains n w.node) (intent w.mode) (below vs n) CW (λ c. all_modes-at (λ m. at_most (intent m) CW) refl w.mode) (below-intent vs)
 
@@ -352,25 +351,14 @@ module _ (old new : Table) (owner : ℕ) (ws : List Need) (w : OpenWant) (intent
       (inr (inr f.1))
       (forgotten (granted_at old owner) (sought_at old owner) ws w k quiet)
 
-  -- at want of memory all is true still
-  pub leaving-some : HasTaken owner w.here ws old new → IsKept new owner (wanting ws w)
-  leaving-some f =
-      own-taken nowhere (granted_at old owner) (granted_at new owner) (sought_at old owner) (sought_at new owner) (wanting ws w) f.more
-      (λ v x e asked. f.elsewhere x (outside v x e asked)) (λ v x e asked. f.sought_elsewhere x (outside v x e asked))
-      f.sought f.reason f.earned k
-    where
-      outside : (v : OpenWant) (x : Node) → Some w ≡ Some v → was_asked v x ≡ true → contains w.here x ≡ false
-      outside v x e asked =
-          elim (cases_Bool (contains w.here x)) [
-            | inr d ↦ d
-            | inl t ↦ absurd (false≢true (sym (loop (subst (λ (u : OpenWant). was_asked u x ≡ true) (the-want w v e) asked) t) ∙ same_node-refl w.here))
-          ]
-        where
-          loop : was_asked w x ≡ true → contains w.here x ≡ true → same_node w.here w.here ≡ false
-          loop a t = elim (or_cases (contains x w.here) (same_node x w.here && w.is_asked) a) [
-            | inl c ↦ contains-self w.here w.here (contains-trans w.here x w.here t c)
-            | inr s ↦ contains-self w.here w.here (subst (λ (z : Node). contains w.here z ≡ true) (same_node-true x w.here (and_parts (same_node x w.here) w.is_asked s).0) t)
-          ]
+  -- where the owner holds nothing there is nothing to leave
+  pub leaving-none : at_most (granted_at old owner w.here) NL ≡ true → IsKept old owner (wanting ws (unasked w))
+  leaving-none h =
+      let none : granted_at old owner w.here ≡ NL = none-most (granted_at old owner w.here) h in
+      filled (granted_at old owner) (sought_at old owner) (wanting ws (unasked w)) w.here
+      (subst (λ (m : Mode). at_most (intent m) (earned_at (granted_at old owner) (wanting ws (unasked w)) w.here) ≡ true) (sym none) (nothing (earned_at (granted_at old owner) (wanting ws (unasked w)) w.here)))
+      (inl none)
+      (forgotten (granted_at old owner) (sought_at old owner) ws w k quiet)
 
 -- the queued request of a sleeping want is cancelled
 pub woken-up : (old new : Table) (owner : ℕ) (ws : List Need) (w : OpenWant) → IsKept old owner (wanting ws w) → at_most (mode_for w.need w.here) (granted_at old owner w.here) ≡ false
@@ -463,5 +451,9 @@ module _ (old new : Table) (owner : ℕ) (ws : List Need) (w : OpenWant) (keep :
   pub left-stays : at_most keep (granted_at old owner w.here) ≡ false → IsKept old owner (wanting ws (unasked w))
   left-stays h = leaving-stays old new owner ws w intents k quiet (subst (λ (m : Mode). at_most m (granted_at old owner w.here) ≡ false) is h)
 
-  pub left-some : HasTaken owner w.here ws old new → IsKept new owner (wanting ws w)
-  left-some f = leaving-some old new owner ws w intents k quiet f
+pub left-none : (old new : Table) (owner : ℕ) (ws : List Need) (w : OpenWant) → HasIntents old → IsKept old owner (wanting ws w) → sought_at old owner w.here ≡ granted_at old owner w.here → at_most (granted_at old owner w.here) NL ≡ true → IsKept old owner (wanting ws (unasked w))
+left-none old new owner ws w intents k quiet h = leaving-none old new owner ws w intents k quiet h
+
+-- a want that wasn't asked at its node
+pub never-asked_here : (w : OpenWant) → w.is_asked ≡ false → w ≡ unasked w
+never-asked_here w e = ap (λ (b : Bool). record w { is_asked = b }) e

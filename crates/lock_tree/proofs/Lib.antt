@@ -42,3 +42,13 @@ pub mod AnsweredInOrder
 pub mod OpenAsks
 pub mod AskedByNeeds
 pub mod TakenInOrder
+pub mod RoomKept
+pub mod Owned
+pub mod Respared
+pub mod Spared
+pub mod Falling
+pub mod Measured
+pub mod MeasureFalls
+pub mod ServedAt
+pub mod OthersLeft
+pub mod NoEndlessFall

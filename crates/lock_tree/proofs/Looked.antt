@@ -6,7 +6,7 @@ use Rattle.vms_locks.specs.declared.answer.Enq.{Enq}
 use Rattle.vms_locks.specs.declared.answer.Enq.TheVariants.{NotQueued, Deadlock}
 use Rattle.lock_needs.specs.declared.need.Need.{Need}
 use Rattle.lock_needs.specs.declared.party.OpenWant.{OpenWant}
-use Rattle.lock_needs.specs.declared.party.Party.{Party}
+use Rattle.lock_needs.specs.Party.{Party}
 use Rattle.lock_tree.specs.declared.looking.Look.{Look}
 use Rattle.lock_tree.specs.declared.looking.Look.TheVariants.{NoticeTo, Asked}
 use Rattle.lock_tree.specs.declared.answer.Step.{Step}

@@ -13,7 +13,7 @@ use Rattle.vms_queues.proofs.PassEdges.{not_named_in}
 use Rattle.vms_locks.specs.Table.{Table, queues_at, WaitsIn}
 use Rattle.lock_needs.specs.declared.party.OpenWant.{OpenWant}
 use Rattle.lock_needs.specs.declared.party.Asked.{Asked}
-use Rattle.lock_needs.specs.declared.party.Party.{Party}
+use Rattle.lock_needs.specs.Party.{Party}
 use Rattle.lock_needs.specs.Nodes.{same_node, contains}
 use Rattle.lock_needs.specs.Needs.{Holding, AreCompatible, conflict}
 use Rattle.lock_needs.specs.Keeping.{below, needed_on}

@@ -1,26 +1,13 @@
 -- The list of what was asked while wants open and end.
 use Rattle.std.proofs.Common.{◌≡◌, ℕ, ◌∷◌, [], Bool, true, false, List, refl, ◌∙◌, sym, ap, subst, ◌⊎◌, inl, inr}
 use Rattle.std.specs.Prelude.{◌==◌, ◌||◌, not, if◌then◌else◌, is_some}
-use Rattle.std.specs.List.{filter}
 use Rattle.std.proofs.lemmas.Bool.{cases_Bool, eqb-true}
 use Rattle.rdb_types.specs.declared.node.Node.{Node}
 use Rattle.lock_needs.specs.declared.party.OpenWant.{OpenWant}
 use Rattle.lock_needs.specs.declared.party.Asked.{Asked}
-use Rattle.lock_needs.specs.declared.party.Party.{Party}
+use Rattle.lock_needs.specs.Party.{Party}
 use Rattle.lock_tree.specs.Parties.{was_asked}
 use Rattle.lock_tree.specs.Order.{KeepsParty, asked_last, asks_cut, without_asks, opened_asks}
-
-filter-swap : (p q : Asked → Bool) (xs : List Asked) → filter p (filter q xs) ≡ filter q (filter p xs)
-filter-swap p q [] = refl
-filter-swap p q (x ∷ xs) = step (filter-swap p q xs) (p x) (q x) refl refl
-  where
-    step : filter p (filter q xs) ≡ filter q (filter p xs) → (a b : Bool) → p x ≡ a → q x ≡ b → filter p (if b then x ∷ filter q xs else filter q xs) ≡ filter q (if a then x ∷ filter p xs else filter p xs)
-    step h true true e f =
-        ap (λ (c : Bool). if c then x ∷ filter p (filter q xs) else filter p (filter q xs)) e
-        ∙ (ap (λ (ys : List Asked). x ∷ ys) h ∙ sym (ap (λ (c : Bool). if c then x ∷ filter q (filter p xs) else filter q (filter p xs)) f))
-    step h true false e f = h ∙ sym (ap (λ (c : Bool). if c then x ∷ filter q (filter p xs) else filter q (filter p xs)) f)
-    step h false true e f = ap (λ (c : Bool). if c then x ∷ filter p (filter q xs) else filter p (filter q xs)) e ∙ h
-    step h false false e f = h
 
 -- ---- wants of the others stay open
 
@@ -95,14 +82,6 @@ module _ (party next : ℕ → Party) (o : ℕ) (others : KeepsParty o party nex
       dropped : (xs : List Asked) → opened_asks next (asked_last xs o n) ≡ opened_asks next xs
       dropped [] = ap (λ (b : Bool). if b then (record { owner = o; node = n }) ∷ [] else []) shut
       dropped (x ∷ xs) = ap (λ (ys : List Asked). if is_some (next x.owner).opened then x ∷ ys else ys) (dropped xs)
-
-  -- a need is got while no want is open
-  pub opened-rests : is_some (party o).opened ≡ false → is_some (next o).opened ≡ false → (trail : List Asked) → opened_asks next (without_asks o trail) ≡ without_asks o (opened_asks party trail)
-  opened-rests was is trail = opened-opens was trail ∙ (sym (opened-still (is ∙ sym was) trail) ∙ opened-ended is trail)
-
-  -- the owner's want is asked at fewer nodes
-  pub opened-cut : is_some (next o).opened ≡ is_some (party o).opened → (w : OpenWant) (trail : List Asked) → opened_asks next (asks_cut o w trail) ≡ asks_cut o w (opened_asks party trail)
-  opened-cut e w trail = opened-still e (asks_cut o w trail) ∙ filter-swap (λ a. is_some (party a.owner).opened) (λ a. not (a.owner == o) || was_asked w a.node) trail
 
 -- a want that was asked nowhere
 pub cut-fresh : (o : ℕ) (w : OpenWant) → ((n : Node) → was_asked w n ≡ false) → (trail : List Asked) → asks_cut o w trail ≡ without_asks o trail

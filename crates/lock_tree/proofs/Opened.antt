@@ -10,7 +10,7 @@ use Rattle.vms_queues.specs.Modes.{at_most, intent}
 use Rattle.vms_locks.specs.Table.{Table, queues_at, IsLive}
 use Rattle.lock_needs.specs.declared.need.Need.{Need}
 use Rattle.lock_needs.specs.declared.party.OpenWant.{OpenWant}
-use Rattle.lock_needs.specs.declared.party.Party.{Party}
+use Rattle.lock_needs.specs.Party.{Party}
 use Rattle.lock_needs.specs.declared.party.Asked.{Asked}
 use Rattle.lock_needs.specs.Nodes.{is_above, level_over, same_node, contains, is_on, above_of}
 use Rattle.lock_needs.specs.Needs.{Holding, is_covered, covered_above, is_plain}
@@ -21,7 +21,7 @@ use Rattle.lock_tree.specs.LockTable.{granted_at, sought_at, HasIntents}
 use Rattle.lock_tree.specs.Parties.{IsKept, KeepsOthers, wanting, resting, unasked, asked_at, was_asked}
 use Rattle.lock_tree.specs.Releasing.{IsQuiet}
 use Rattle.lock_tree.specs.Forest.{Parties, State, IsWhole, HasAsks, KeepsParties, is_asked_at, open_asks, party_of, opened_of}
-use Rattle.lock_tree.specs.Wanted.{needs_of, IsOpen, IsOf}
+use Rattle.lock_tree.specs.Wanted.{needs_of, IsOpen}
 use Rattle.lock_tree.proofs.Depths.{depth}
 use Rattle.lock_tree.proofs.Leaving.{and-none, sleeps-elsewhere, up-same}
 use Rattle.lock_tree.proofs.Wanting.{at_node, descends}
@@ -213,8 +213,7 @@ deeper n up e =
 
 -- ---- a want that is of a need
 
-pub open-need : (s r : State) (owner : ℕ) (ws : List Need) (n : Need) → IsOpen r owner ws n → needs_of r owner ≡ ws
-open-need s r owner ws n o = ap (λ (p : Party). p.needs) o.1
-
-pub open-of : (r : State) (owner : ℕ) (ws : List Need) (n : Need) → IsOpen r owner ws n → IsOf n (opened_of r owner)
-open-of r owner ws n o = subst (λ (p : Party). IsOf n p.opened) (sym o.1) o.2
+-- the need of the open want is got
+pub open-got : (s : State) (owner : ℕ) (need : Need) (p : Party) → IsOpen s owner (needs_of s owner) need → ((w : OpenWant) → opened_of s owner ≡ Some w → p ≡ resting (needs_of s owner ++ w.need ∷ [])) → p ≡ resting (needs_of s owner ++ need ∷ [])
+open-got s owner need p is own =
+    own is.0 (ap (λ (q : Party). q.opened) is.1) ∙ ap (λ (n : Need). resting (needs_of s owner ++ n ∷ [])) is.2

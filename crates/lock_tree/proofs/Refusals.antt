@@ -20,7 +20,7 @@ use Rattle.vms_locks.proofs.Awake.{changed-here, changed-elsewhere}
 use Rattle.lock_needs.specs.declared.need.Need.{Need}
 use Rattle.lock_needs.specs.declared.party.OpenWant.{OpenWant}
 use Rattle.lock_needs.specs.declared.party.Asked.{Asked}
-use Rattle.lock_needs.specs.declared.party.Party.{Party}
+use Rattle.lock_needs.specs.Party.{Party}
 use Rattle.lock_needs.specs.Nodes.{same_node}
 use Rattle.lock_needs.specs.Wants.{mode_for, kept_at}
 use Rattle.lock_needs.proofs.NodeLaws.{same_node-true, same_node-refl, same_node-sym}
@@ -88,7 +88,7 @@ first-waits q o m b e = elim (cases_Bool (has_owner o q.granted)) [
 -- ---- the table as it would be
 
 abbrev with_queues : Table → Node → Queues → Table
-with_queues t n q = (n, q) ∷ t
+with_queues t n q = record { entries = (n, q) ∷ t.entries; spare = t.spare }
 
 turned : (x n : Node) → same_node x n ≡ false → same_node n x ≡ false
 turned x n f = elim (cases_Bool (same_node n x)) [ inr g ↦ g | inl s ↦ absurd (false≢true (sym f ∙ same_node-sym n x s)) ]
@@ -96,8 +96,8 @@ turned x n f = elim (cases_Bool (same_node n x)) [ inr g ↦ g | inl s ↦ absur
 with-changes : (t : Table) (n : Node) (q : Queues) → ChangesAt t (with_queues t n q) n q
 with-changes t n q x =
     elim (cases_Bool (same_node x n)) [
-      | inl s ↦ ap (λ (o : Option Queues). unwrap_or o no_queues) (lookup_head (same_node x) (n, q) t s) ∙ sym (ap (λ (b : Bool). if b then q else queues_at t x) (same_node-sym x n s))
-      | inr f ↦ ap (λ (o : Option Queues). unwrap_or o no_queues) (lookup_tail (same_node x) (n, q) t f) ∙ sym (ap (λ (b : Bool). if b then q else queues_at t x) (turned x n f))
+      | inl s ↦ ap (λ (o : Option Queues). unwrap_or o no_queues) (lookup_head (same_node x) (n, q) t.entries s) ∙ sym (ap (λ (b : Bool). if b then q else queues_at t x) (same_node-sym x n s))
+      | inr f ↦ ap (λ (o : Option Queues). unwrap_or o no_queues) (lookup_tail (same_node x) (n, q) t.entries f) ∙ sym (ap (λ (b : Bool). if b then q else queues_at t x) (turned x n f))
     ]
 
 walk-more : (P Q : ℕ → ℕ → Type 0) → ((a b : ℕ) → P a b → Q a b) → (x : ℕ) (over : List ℕ) (y : ℕ) → IsWalk P x over y → IsWalk Q x over y

@@ -14,7 +14,7 @@ use Rattle.vms_queues.specs.Modes.{at_most, intent}
 use Rattle.vms_locks.specs.Table.{Table}
 use Rattle.lock_needs.specs.declared.need.Need.{Need}
 use Rattle.lock_needs.specs.declared.party.OpenWant.{OpenWant}
-use Rattle.lock_needs.specs.declared.party.Party.{Party}
+use Rattle.lock_needs.specs.Party.{Party}
 use Rattle.lock_needs.specs.Nodes.{same_node, contains, is_on, is_above, on_way}
 use Rattle.lock_needs.specs.Wants.{opened_at, has_granted, mode_for}
 use Rattle.lock_needs.proofs.NodeLaws.{make, same_node-true, contains-above, contains-is}

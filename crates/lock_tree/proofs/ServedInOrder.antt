@@ -10,7 +10,7 @@ use Rattle.vms_queues.proofs.ModeLaws.{all_modes-at, implies, from_implies, may_
 use Rattle.vms_locks.specs.Table.{Table, queues_at, IsLive}
 use Rattle.lock_needs.specs.declared.need.Need.{Need}
 use Rattle.lock_needs.specs.declared.party.OpenWant.{OpenWant}
-use Rattle.lock_needs.specs.declared.party.Party.{Party}
+use Rattle.lock_needs.specs.Party.{Party}
 use Rattle.lock_needs.specs.Nodes.{same_node, contains, above_of}
 use Rattle.lock_needs.specs.Needs.{Holding}
 use Rattle.lock_needs.specs.Keeping.{below, needed_on, needed_uncovered, after_want, is_excess}
@@ -20,10 +20,10 @@ use Rattle.lock_needs.proofs.NodeLaws.{same_node-true}
 use Rattle.lock_needs.proofs.Above.{top-alone}
 use Rattle.lock_needs.proofs.Cover.{by_test}
 use Rattle.lock_needs.proofs.Enough.{uncovered-most}
-use Rattle.lock_needs.proofs.Growing.{join-more, kept-more}
+use Rattle.lock_needs.proofs.Growing.{join-more}
 use Rattle.lock_needs.proofs.Joins.{nothing}
 use Rattle.lock_tree.specs.LockTable.{granted_at, sought_at, HasIntents}
-use Rattle.lock_tree.specs.Lowering.{HasTaken, BroughtDown}
+use Rattle.lock_tree.specs.Lowering.{BroughtDown}
 use Rattle.lock_tree.specs.Parties.{IsKept, was_asked, is_needed, wanting, resting, unasked, asked_at}
 use Rattle.lock_tree.specs.Order.{MakesWay, StandsByNeeds}
 use Rattle.lock_tree.proofs.HeldModes.{nothing-shares}
@@ -41,10 +41,6 @@ kept-opened : (held more : Holding) (ws : List Need) (o q : Option OpenWant) (x 
 kept-opened held more ws o q x h = join-more (opened_at held o x) (opened_at more q x) _ h
 
 -- ---- a notice
-
--- only locks below the node were taken
-pub stands-taken : (old new : Table) (owner : ℕ) (n : Node) (p : Party) (needs : List Need) → MakesWay owner old new → HasTaken owner n needs old new → StandsByNeeds old owner p → StandsByNeeds new owner p
-stands-taken old new owner n p needs way f = way-own owner old new way p p (λ x. kept-more (granted_at old owner) (granted_at new owner) p x (f.more x))
 
 -- the lock came down to what must be kept
 pub stands-served : (old new : Table) (owner : ℕ) (n : Node) (keep : Mode) (p : Party) (needs : List Need) → IsKept old owner p → is_excess (granted_at old owner n) (kept_at (granted_at old owner) p n) ≡ true
@@ -185,6 +181,12 @@ pub stands-skipped : (t : Table) (owner : ℕ) (ws : List Need) (w : OpenWant) �
 stands-skipped t owner ws w live intents k keep is weak =
     stands-here t t owner ws w (way-none owner t)
     (skipped-here t owner ws w live intents k (subst (λ (y : Mode). at_most y (granted_at t owner w.here) ≡ false) is weak))
+
+-- the owner holds nothing there
+pub stands-none : (t : Table) (owner : ℕ) (ws : List Need) (w : OpenWant) → at_most (granted_at t owner w.here) NL ≡ true → StandsByNeeds t owner (wanting ws w) → StandsByNeeds t owner (wanting ws (unasked w))
+stands-none t owner ws w h =
+    stands-here t t owner ws w (way-none owner t)
+    (λ a d f. at_most-trans (granted_at t owner w.here) NL (kept_at (granted_at t owner) (wanting ws (unasked w)) w.here) h (nothing (kept_at (granted_at t owner) (wanting ws (unasked w)) w.here)))
 
 -- the node above it
 pub stands-climbed : (t : Table) (owner : ℕ) (ws : List Need) (w : OpenWant) (up : Node) → above_of w.here ≡ Some up → IsKept t owner (wanting ws (unasked w)) → StandsByNeeds t owner (wanting ws (unasked w)) → StandsByNeeds t owner (wanting ws (asked_at w up))

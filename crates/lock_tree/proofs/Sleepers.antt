@@ -14,7 +14,7 @@ use Rattle.vms_queues.specs.Queues.{Queues, IsSound, has_owner, mode_in, blocks,
 use Rattle.vms_queues.specs.Waits.{waits, blocked_by, conversion_waits, request_waits}
 use Rattle.vms_locks.specs.Table.{Table, queues_at, IsLive, WaitsIn}
 use Rattle.lock_needs.specs.declared.party.OpenWant.{OpenWant}
-use Rattle.lock_needs.specs.declared.party.Party.{Party}
+use Rattle.lock_needs.specs.Party.{Party}
 use Rattle.lock_needs.specs.Nodes.{same_node}
 use Rattle.lock_needs.specs.Wants.{mode_for, sleeps_at}
 use Rattle.lock_needs.proofs.ModeTables.{join-right}

@@ -12,7 +12,7 @@ use Rattle.vms_locks.specs.Table.{Table, queues_at, IsLive}
 use Rattle.lock_needs.specs.declared.need.Need.{Need}
 use Rattle.lock_needs.specs.declared.party.OpenWant.{OpenWant}
 use Rattle.lock_needs.specs.declared.party.Asked.{Asked}
-use Rattle.lock_needs.specs.declared.party.Party.{Party}
+use Rattle.lock_needs.specs.Party.{Party}
 use Rattle.lock_needs.specs.Nodes.{same_node, contains, is_on, above_of}
 use Rattle.lock_needs.specs.Needs.{Holding}
 use Rattle.lock_needs.specs.Keeping.{below, needed_on}
@@ -25,13 +25,13 @@ use Rattle.lock_needs.proofs.Cover.{by_test}
 use Rattle.lock_needs.proofs.Growing.{join-more}
 use Rattle.lock_needs.proofs.Joins.{nothing}
 use Rattle.lock_tree.specs.LockTable.{granted_in, sought_in, granted_at, sought_at}
-use Rattle.lock_tree.specs.Parties.{IsKept, wanting, resting, unasked, asked_at, was_asked}
-use Rattle.lock_tree.specs.Order.{IsOrdered, IsInOrder, AreKept, KeepsParty, MakesWay, StandsByNeeds, asked_of_want, is_listed, without_asks, asks_cut}
+use Rattle.lock_tree.specs.Parties.{IsKept, wanting, resting, unasked, asked_at}
+use Rattle.lock_tree.specs.Order.{IsOrdered, IsInOrder, AreKept, KeepsParty, MakesWay, StandsByNeeds, asked_of_want, is_listed, without_asks}
 use Rattle.lock_tree.proofs.HeldModes.{nothing-shares}
 use Rattle.lock_tree.proofs.Changes.{shares-live, quiet-at}
 use Rattle.lock_tree.proofs.Ordered.{flip, stands-owner}
-use Rattle.lock_tree.proofs.Leaving.{and-none, opened-up, up-same, sleeps-elsewhere}
-use Rattle.lock_tree.proofs.Asks.{listed-without, unlisted-without, before-without, before-lessened, before-asked, listed-lessened, listed-own}
+use Rattle.lock_tree.proofs.Leaving.{and-none, opened-up, up-same}
+use Rattle.lock_tree.proofs.Asks.{listed-without, unlisted-without, before-without}
 use Rattle.lock_tree.proofs.Arrivals.{holder-came}
 use Rattle.lock_tree.proofs.WayMade.{way-none, way-others, way-own}
 use Rattle.lock_tree.proofs.AskedInOrder.{ordered-more}
@@ -41,9 +41,9 @@ any-node : Node
 any-node = record { level = Area; area = 0; at = 0; line = 0 }
 
 -- where nobody holds, asks or wants anything
-pub empty-in_order : (party : ℕ → Party) → ((u : ℕ) → (party u).opened ≡ None) → IsInOrder [] party []
-empty-in_order party none = record {
-  least = λ u a n d f. absurd (false≢true (sym f ∙ nothing-shares (sought_at [] a n)));
+pub empty-in_order : (spare : ℕ) (party : ℕ → Party) → ((u : ℕ) → (party u).opened ≡ None) → IsInOrder (record { entries = []; spare = spare }) party []
+empty-in_order spare party none = record {
+  least = λ u a n d f. absurd (false≢true (sym f ∙ nothing-shares (sought_at (record { entries = []; spare = spare }) a n)));
   ordered = λ n. record {
     granted_used = refl;
     converting_used = refl;
@@ -157,30 +157,6 @@ module _ (old new : Table) (party next : ℕ → Party) (asks : List Asked) (o :
         | inr d ↦ listed-without u o n asks d ∙ (order.listed u n ∙ sym (ap (λ (p : Party). asked_of_want p.opened n) (others u d)))
         | inl e ↦ subst (λ (z : ℕ). is_listed z n (without_asks o asks) ≡ asked_of_want (next z).opened n) (sym (eqb-true u o e))
             (unlisted-without o n asks ∙ sym (ap (λ (q : Option OpenWant). asked_of_want q n) closed))
-      ];
-    }
-
-  -- the owner's want is open still, and was asked at fewer nodes: for want of memory it wasn't ended whole
-  module _ (w : OpenWant) (opened : (next o).opened ≡ Some w) (needs : (n : Node) → converts_at (next o).needs n ≡ converts_at (party o).needs n) (less : (n : Node) → was_asked w n ≡ true → asked_of_want (party o).opened n ≡ true) (calm : sought_at new o w.here ≡ granted_at new o w.here) where
-    still : (n : Node) → sought_at new o n ≡ granted_at new o n
-    still n = elim (cases_Bool (same_node n w.here)) [
-      | inl s ↦ subst (λ (z : Node). sought_at new o z ≡ granted_at new o z) (sym (same_node-true n w.here s)) calm
-      | inr d ↦ (after o).awake n (ap (λ (q : Option OpenWant). sleeps_at (granted_at new o) q n) opened ∙ sleeps-elsewhere (granted_at new o) w n d)
-    ]
-
-    pub lessened-in_order : IsInOrder new next (asks_cut o w asks)
-    lessened-in_order = record {
-      least = step-least;
-      ordered = order-with still (asks_cut o w asks)
-          (λ u a n d e. before-lessened u a o w n asks d e)
-          (λ a n d h f s.
-          before-asked o a o w n asks
-          (ap (λ (q : Option OpenWant). asked_of_want q n) (sym opened) ∙ holder-came new o (next o) n (after o) (step-order n).granted_used h f)
-          ∙ (step-order n).granted o a d h (sym (needs n) ∙ f) s);
-      listed = λ u n. elim (cases_Bool (u == o)) [
-        | inr d ↦ listed-lessened u o w n asks d ∙ (order.listed u n ∙ sym (ap (λ (p : Party). asked_of_want p.opened n) (others u d)))
-        | inl e ↦ subst (λ (z : ℕ). is_listed z n (asks_cut o w asks) ≡ asked_of_want (next z).opened n) (sym (eqb-true u o e))
-            (listed-own o w n asks (λ t. order.listed o n ∙ less n t) ∙ sym (ap (λ (q : Option OpenWant). asked_of_want q n) opened))
       ];
     }
 
@@ -298,25 +274,6 @@ kept-got held ws w x way =
     (at_most-trans (needed_on ws x) (needed_on (ws ++ w.need ∷ []) x) more (needed-push ws w.need x) (join-right (below (ws ++ w.need ∷ []) x) (needed_on (ws ++ w.need ∷ []) x))))
     up)
 
--- a need is got beside those that the owner has
-pub kept-push : (held : Holding) (ws : List Need) (w : Need) (x : Node) → at_most (kept_at held (resting ws) x) (kept_at held (resting (ws ++ w ∷ [])) x) ≡ true
-kept-push held ws w x =
-    let needed : Mode = least_above (below ws x) (needed_on ws x) in
-    let more : Mode = least_above (below (ws ++ w ∷ []) x) (needed_on (ws ++ w ∷ []) x) in
-    let kept : Mode = kept_at held (resting (ws ++ w ∷ [])) x in
-    at_most-join NL needed kept
-    ∙ and_from (at_most NL kept) (at_most needed kept) (nothing kept)
-    (at_most-trans needed more kept
-    (at_most-join (below ws x) (needed_on ws x) more
-    ∙ and_from (at_most (below ws x) more) (at_most (needed_on ws x) more)
-    (at_most-trans (below ws x) (below (ws ++ w ∷ []) x) more (below-push ws w x) (join-left (below (ws ++ w ∷ []) x) (needed_on (ws ++ w ∷ []) x)))
-    (at_most-trans (needed_on ws x) (needed_on (ws ++ w ∷ []) x) more (needed-push ws w x) (join-right (below (ws ++ w ∷ []) x) (needed_on (ws ++ w ∷ []) x))))
-    (join-right NL more))
-
 -- the owner got the need of its want
 pub stands-got : (old new : Table) (o : ℕ) (ws : List Need) (w : OpenWant) → MakesWay o old new → is_on w.here w.need.node ≡ true → StandsByNeeds old o (wanting ws w) → StandsByNeeds new o (resting (ws ++ w.need ∷ []))
 stands-got old new o ws w way on = way-own o old new way (wanting ws w) (resting (ws ++ w.need ∷ [])) (λ x. kept-got (granted_at old o) ws w x on)
-
--- the owner got a need that its locks cover
-pub stands-push : (t : Table) (o : ℕ) (ws : List Need) (w : Need) → StandsByNeeds t o (resting ws) → StandsByNeeds t o (resting (ws ++ w ∷ []))
-stands-push t o ws w = way-own o t t (way-none o t) (resting ws) (resting (ws ++ w ∷ [])) (λ x. kept-push (granted_at t o) ws w x)

@@ -1,7 +1,7 @@
 -- A need that is taken one level lower.
 use Rattle.std.proofs.Common.{◌≡◌, ℕ, zero, suc, ◌+◌, ◌<◌, length, take, Bool, true, false, refl, sym, ◌∙◌, ap, subst, inl, inr, List, [], ◌∷◌}
 use Rattle.std.specs.Prelude.{◌||◌, not, if◌then◌else◌, slice_index_or}
-use Rattle.std.specs.List.{list_all, list_any}
+use Rattle.std.specs.List.{list_all}
 use Rattle.std.proofs.lemmas.List.Folds.{list_all_at, list_all_more, list_any_more}
 use Rattle.std.proofs.lemmas.Bool.{false≢true, and_parts, and_from, or_left, or_right, or_cases, cases_Bool}
 use Rattle.vms_queues.specs.declared.lock_mode.Mode.{Mode}
@@ -57,18 +57,6 @@ took-covered t new owner n keep w shares ready plain u raised =
     covered-by (supposing n keep (granted_at new owner)) w c plain (step-reaches n w.node u.within)
     (subst (λ (b : Bool). at_most w.mode (if b then keep else granted_at new owner c) ≡ true) (sym apart)
     (raised-covers t owner n w.node keep w.mode shares ready u.within u.covers new raised))
-
-pub taken-none : (owner : ℕ) (n : Node) (ws : List Need) (t : Table) → HasTaken owner n ws t t
-taken-none owner n ws t = record {
-  more = λ x. at_most-refl (granted_at t owner x);
-  elsewhere = λ x out. refl;
-  reason = λ x. inl refl;
-  earned = λ x bound old owed. old;
-  sought = λ x same. same;
-  sought_elsewhere = λ x out. refl;
-  others = λ o x d. refl;
-  sought_others = λ o x d. refl;
-}
 
 pub taken-then : (owner : ℕ) (n : Node) (vs ws us : List Need) (a b c : Table) → ((x : Node) → is_needed vs x ≡ true → is_needed us x ≡ true) → ((x : Node) → is_needed ws x ≡ true → is_needed us x ≡ true)
     → ((x : Node) (bound : Mode) → list_all (earns x bound) us ≡ true → (list_all (earns x bound) vs ≡ true) × (list_all (earns x bound) ws ≡ true)) → HasTaken owner n vs a b → HasTaken owner n ws b c → HasTaken owner n us a c
@@ -179,20 +167,3 @@ no_needs = []
 take-nil : (i : ℕ) → take i no_needs ≡ no_needs
 take-nil zero = refl
 take-nil (suc i) = refl
-
--- the first needs of a list are among its needs
-pub taken-some : (owner : ℕ) (n : Node) (ws : List Need) (i : ℕ) (old new : Table) → HasTaken owner n (take i ws) old new → HasTaken owner n ws old new
-taken-some owner n ws i old new f =
-    taken-then owner n (take i ws) [] ws old new new
-    (λ x h. list_any_take (λ w. is_on x w.node) ws i h) (λ x h. absurd (false≢true h))
-    (λ x bound h. (list_all_take (earns x bound) ws i h, refl)) f (taken-none owner n [] new)
-  where
-    list_any_take : (p : Need → Bool) (xs : List Need) (i : ℕ) → list_any p (take i xs) ≡ true → list_any p xs ≡ true
-    list_any_take p [] i h = subst (λ ys. list_any p ys ≡ true) (take-nil i) h
-    list_any_take p (x ∷ xs) zero h = absurd (false≢true h)
-    list_any_take p (x ∷ xs) (suc i) h = elim (or_cases (p x) (list_any p (take i xs)) h) [ inl y ↦ or_left (p x) (list_any p xs) y | inr y ↦ or_right (p x) (list_any p xs) (list_any_take p xs i y) ]
-
-    list_all_take : (p : Need → Bool) (xs : List Need) (i : ℕ) → list_all p xs ≡ true → list_all p (take i xs) ≡ true
-    list_all_take p [] i h = subst (λ ys. list_all p ys ≡ true) (sym (take-nil i)) h
-    list_all_take p (x ∷ xs) zero h = refl
-    list_all_take p (x ∷ xs) (suc i) h = let q = and_parts (p x) (list_all p xs) h in and_from (p x) (list_all p (take i xs)) q.0 (list_all_take p xs i q.1)

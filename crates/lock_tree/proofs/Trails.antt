@@ -1,16 +1,16 @@
 -- Entries of the trail: what is cut, and what is added.
 use Rattle.std.proofs.Common.{◌≡◌, ℕ, ◌++◌, ◌∷◌, [], Bool, true, false, List, refl, sym, ◌∙◌, ap, subst, inl, inr}
-use Rattle.std.specs.Prelude.{◌==◌, not, ◌&&◌, ◌||◌, if◌then◌else◌, Option, Some, None, MatchOption}
+use Rattle.std.specs.Prelude.{◌==◌, not, ◌&&◌, ◌||◌, if◌then◌else◌, Some, None}
 use Rattle.std.specs.List.{list_any}
-use Rattle.std.proofs.lemmas.Bool.{false≢true, cases_Bool, eq-eqb, eqb-true, and_parts, or_left, or_cases}
+use Rattle.std.proofs.lemmas.Bool.{false≢true, cases_Bool, eq-eqb, eqb-true}
 use Rattle.std.proofs.lemmas.List.Folds.{list_any-append}
 use Rattle.rdb_types.specs.declared.node.Node.{Node}
 use Rattle.lock_needs.specs.declared.party.OpenWant.{OpenWant}
 use Rattle.lock_needs.specs.declared.party.Asked.{Asked}
 use Rattle.lock_needs.specs.Nodes.{same_node, contains, above_of}
-use Rattle.lock_needs.proofs.NodeLaws.{same_node-true, same_node-sym, contains-trans}
-use Rattle.lock_needs.proofs.Above.{top-alone, above-contains}
-use Rattle.lock_tree.specs.Parties.{was_asked, unasked, asked_at, AsksLess}
+use Rattle.lock_needs.proofs.NodeLaws.{same_node-true, same_node-sym}
+use Rattle.lock_needs.proofs.Above.{top-alone}
+use Rattle.lock_tree.specs.Parties.{was_asked, unasked, asked_at}
 use Rattle.lock_tree.specs.Forest.{is_asked_at, HasAsks, KeepsAsks}
 use Rattle.lock_tree.specs.Order.{asks_cut}
 
@@ -54,16 +54,6 @@ cut-others owner w (a ∷ trail) u n d =
     ∙ (ap (λ (b : Bool). ((not (a.owner == owner) || was_asked w a.node) && t a) || b) (cut-others owner w trail u n d)
     ∙ bool-other (a.owner == owner) (a.owner == u) (same_node a.node n) (was_asked w a.node) (is_asked_at trail u n)
     (λ s. subst (λ (z : ℕ). (z == owner) ≡ false) (sym (eqb-true a.owner u s)) d))
-
-bool-less : (x v : Bool) → (v ≡ true → x ≡ true) → (x && v) ≡ v
-bool-less true v h = refl
-bool-less false true h = absurd (false≢true (h refl))
-bool-less false false h = refl
-
--- the want that is left was asked at no other nodes than the one before
-pub asks-left : (owner : ℕ) (w v : OpenWant) (trail cut : List Asked) → ((n : Node) → is_asked_at cut owner n ≡ (is_asked_at trail owner n && was_asked v n)) → HasAsks trail owner (Some w) → AsksLess w v → HasAsks cut owner (Some v)
-asks-left owner w v trail cut own asks less n =
-    own n ∙ (ap (λ (b : Bool). b && was_asked v n) (asks n) ∙ bool-less (was_asked w n) (was_asked v n) (less n))
 
 and-none : (s : Bool) → (s && false) ≡ false
 and-none true = refl
@@ -125,35 +115,3 @@ asks-pushed owner w trail asks n =
     ∙ (ap (λ (b : Bool). (contains n w.here || (same_node n w.here && false)) || b) (same_node-comm w.here n) ∙ bool-here (contains n w.here) (same_node n w.here)))
 
 -- ---- a want asked at fewer nodes
-
-pub unasked-less : (w : OpenWant) → AsksLess w (unasked w)
-unasked-less w n h = elim (or_cases (contains n w.here) (same_node n w.here && false) h) [
-  | inl c ↦ or_left (contains n w.here) (same_node n w.here && w.is_asked) c
-  | inr s ↦ absurd (false≢true (sym (and-none (same_node n w.here)) ∙ s))
-]
-
--- a want that leaves a node was asked at the node above it
-pub climbs-less : (w v : OpenWant) (up : Node) → above_of v.here ≡ Some up → AsksLess w v → AsksLess w (asked_at v up)
-climbs-less w v up e less n h = less n (or_left (contains n v.here) (same_node n v.here && v.is_asked) (elim (or_cases (contains n up) (same_node n up && true) h) [
-  | inl c ↦ contains-trans n up v.here c (above-contains v.here up e)
-  | inr s ↦ subst (λ (z : Node). contains z v.here ≡ true) (sym (same_node-true n up (and_parts (same_node n up) true s).0)) (above-contains v.here up e)
-]))
-
--- ---- what was added last is taken back
-
-pushed-some : {A : Type 0} (xs : List A) (x : A) → xs ++ x ∷ [] ≡ [] → ⊥
-pushed-some [] x e = cc
-pushed-some (y ∷ xs) x e = cc
-
-pushed-same : {A : Type 0} (xs ys : List A) (x y : A) → xs ++ x ∷ [] ≡ ys ++ y ∷ [] → xs ≡ ys
-pushed-same [] [] x y e = refl
-pushed-same [] (b ∷ ys) x y e = let f : ys ++ y ∷ [] ≡ [] = cc in absurd (pushed-some ys y f)
-pushed-same (a ∷ xs) [] x y e = let f : xs ++ x ∷ [] ≡ [] = cc in absurd (pushed-some xs x f)
-pushed-same (a ∷ xs) (b ∷ ys) x y e =
-    let f : xs ++ x ∷ [] ≡ ys ++ y ∷ [] = cc in
-    let g : xs ≡ ys = pushed-same xs ys x y f in
-    let h : a ≡ b = cc in cc
-
-pub taken-back : {A : Type 0} (o : Option A) (old new ws : List A) (w : A) → old ≡ ws ++ w ∷ [] → MatchOption o ((old ≡ []) × (new ≡ [])) (λ last. old ≡ new ++ last ∷ []) → new ≡ ws
-taken-back None old new ws w e h = absurd (pushed-some ws w (sym e ∙ h.0))
-taken-back (Some last) old new ws w e h = pushed-same new ws last w (sym h ∙ e)

@@ -17,7 +17,7 @@ use Rattle.lock_needs.proofs.ModeTables.{at_most-trans, at_most-join, join-left,
 use Rattle.lock_needs.proofs.NodeLaws.{same_node-refl}
 use Rattle.lock_needs.proofs.Above.{top-alone}
 use Rattle.lock_needs.proofs.Enough.{if-join-from}
-use Rattle.lock_needs.proofs.Joins.{nothing, join-none}
+use Rattle.lock_needs.proofs.Joins.{nothing}
 use Rattle.lock_tree.specs.Parties.{IsKeptBut, was_asked, nowhere, wanting, resting, unasked, asked_at}
 use Rattle.lock_tree.proofs.Leaving.{reopened, opened-unasked, and-none, unasked-sleeps, the-want, opened-up, up-same}
 
@@ -56,26 +56,6 @@ intents-pushed (v ∷ ws) w x on = grows (is_on x v.node) (intent v.mode) (inten
     grows : (b : Bool) (i r m : Mode) → at_most m r ≡ true → at_most m (if b then least_above i r else r) ≡ true
     grows true i r m h = at_most-trans m r (least_above i r) h (join-right i r)
     grows false i r m h = h
-
--- a need that is covered is got without a lock more
-pub got-covered : (held sought : Holding) (ws : List Need) (w : Need) → IsKeptBut nowhere held sought (resting ws) → is_covered held w ≡ true → is_plain w ≡ true → IsKeptBut nowhere held sought (resting (ws ++ w ∷ []))
-got-covered held sought ws w k covered plain = record {
-  covered = list_all-push (is_covered held) ws w k.covered covered;
-  plain = list_all-push is_plain ws w k.plain plain;
-  way = tt;
-  granted = k.granted;
-  awake = k.awake;
-  asleep = k.asleep;
-  exact = λ x v e. absurd (false≢true (ap (λ (o : Option OpenWant). elim o [ None ↦ false | Some u ↦ true ]) e));
-  earned = λ x b. at_most-trans (intent (held x)) (least_above NL (intents_on ws x)) (least_above NL (intents_on (ws ++ w ∷ []) x)) (k.earned x refl)
-      (at_most-trans (least_above NL (intents_on ws x)) (intents_on (ws ++ w ∷ []) x) (least_above NL (intents_on (ws ++ w ∷ []) x))
-      (subst (λ (y : Mode). at_most y (intents_on (ws ++ w ∷ []) x) ≡ true) (sym (join-none (intents_on ws x))) (intents-push ws w x))
-      (join-right NL (intents_on (ws ++ w ∷ []) x)));
-  no_stray = λ x b. elim (k.no_stray x refl) [
-    | inl e ↦ inl e
-    | inr r ↦ elim r [ inl f ↦ inr (inl f) | inr y ↦ inr (inr (list_any-push (λ v. is_on x v.node) ws w y)) ]
-  ];
-}
 
 -- a want opens at the topmost node of its way, with nothing asked
 pub opens : (held sought : Holding) (ws : List Need) (w : OpenWant) → above_of w.here ≡ None → is_on w.here w.need.node ≡ true → IsKeptBut nowhere held sought (resting ws) → IsKeptBut nowhere held sought (wanting ws (unasked w))

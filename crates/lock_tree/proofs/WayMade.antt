@@ -8,7 +8,7 @@ use Rattle.vms_queues.specs.declared.lock_mode.Mode.TheVariants.{NL, CR, CW, PR,
 use Rattle.vms_queues.specs.contracts.lock_mode.ModePartialEq.TheImpl as mode_eq
 use Rattle.vms_queues.specs.Modes.{may_share, at_most, least_above}
 use Rattle.vms_locks.specs.Table.{Table, queues_at, IsLive}
-use Rattle.lock_needs.specs.declared.party.Party.{Party}
+use Rattle.lock_needs.specs.Party.{Party}
 use Rattle.lock_needs.specs.declared.need.Need.{Need}
 use Rattle.lock_needs.specs.Nodes.{same_node}
 use Rattle.lock_needs.specs.Needs.{Holding, is_covered, covered_above}

@@ -3,23 +3,24 @@ use Rattle.std.proofs.Common.{◌≡◌, ℕ, true, false, refl, sym, ◌∙◌,
 use Rattle.std.specs.Prelude.{◌==◌, not, Option, Some, None}
 use Rattle.std.specs.List.{list_all}
 use Rattle.std.proofs.lemmas.Bool.{false≢true, cases_Bool, eqb-true, and_parts, and_from, not_from_false}
+use Rattle.vms_queues.specs.Queues.{Queues}
 use Rattle.vms_locks.specs.Table.{Table, queues_at, IsLive}
 use Rattle.rdb_types.specs.declared.node.Node.{Node}
-use Rattle.lock_needs.specs.declared.party.Party.{Party}
+use Rattle.lock_needs.specs.Party.{Party}
 use Rattle.lock_needs.specs.declared.party.OpenWant.{OpenWant}
 use Rattle.lock_needs.specs.declared.party.Asked.{Asked}
 use Rattle.lock_needs.specs.declared.need.Need.{Need}
 use Rattle.lock_needs.specs.Needs.{Holding, AreCompatible, HasIntentsAbove, conflict, is_covered, all_covered}
 use Rattle.lock_needs.specs.Waits.{converts_at}
 use Rattle.lock_needs.proofs.Apart.{covered-apart}
-use Rattle.lock_tree.specs.LockTable.{granted_at, sought_at, HasIntents}
-use Rattle.lock_tree.specs.Parties.{IsKept, KeepsOthers, was_asked}
+use Rattle.lock_tree.specs.LockTable.{granted_at, HasIntents}
+use Rattle.lock_tree.specs.Parties.{IsKept, KeepsOthers}
 use Rattle.lock_tree.proofs.HeldModes.{shares-in}
 use Rattle.lock_tree.specs.Forest.{Parties, State, IsWhole, HasAsks, KeepsAsks, KeepsParties, NeedsAreApart, no_conflict, is_asked_at, open_asks, party_of}
-use Rattle.lock_tree.specs.Order.{IsInOrder, StandsInOrder, AreKept, MakesWay, StandsByNeeds, asked_of_want, without_asks, asks_cut}
+use Rattle.lock_tree.specs.Order.{IsInOrder, StandsInOrder, AreKept, MakesWay, StandsByNeeds, asked_of_want, without_asks}
 use Rattle.vms_locks.proofs.Empty.{live-empty}
 use Rattle.lock_tree.proofs.WayMade.{stays-live}
-use Rattle.lock_tree.proofs.StepsInOrder.{empty-in_order, served-in_order, ended-in_order, lessened-in_order}
+use Rattle.lock_tree.proofs.StepsInOrder.{empty-in_order, served-in_order, ended-in_order}
 
 -- another trail that names the same nodes for the owner
 pub asks-same : (old new : List Asked) (u : ℕ) (o : Option OpenWant) → ((n : Node) → is_asked_at new u n ≡ is_asked_at old u n) → HasAsks old u o → HasAsks new u o
@@ -38,28 +39,34 @@ order-of s whole = whole.in_order.1
 pub least-of : (s : State) (owner : ℕ) → IsWhole s → StandsByNeeds s.table owner (party_of s.parties owner)
 least-of s owner whole = (order-of s whole).least owner
 
--- nobody has or wants anything
-pub whole-empty : (s : State) → s.table ≡ [] → s.parties ≡ [] → s.trail ≡ [] → IsWhole s
+abbrev bare : ℕ → Table
+bare spare = record { entries = []; spare = spare }
+
+nobody : (spare : ℕ) → IsWhole (record { table = bare spare; parties = []; trail = [] })
 unfolding StandsInOrder
-whole-empty s t p a = subst IsWhole (ap (λ (x : List Asked). record { table = []; parties = []; trail = x }) (sym a) ∙ (ap (λ (x : Parties). record { table = []; parties = x; trail = s.trail }) (sym p) ∙ ap (λ (x : Table). record { table = x; parties = s.parties; trail = s.trail }) (sym t))) nobody
-  where
-    nobody : IsWhole (record { table = []; parties = []; trail = [] })
-    nobody = record {
-      intents = record { ascends = λ o x. refl; granted = λ o a c h. refl; sought = λ o a c h. refl };
-      kept = λ u. record {
-        covered = refl;
-        plain = refl;
-        way = tt;
-        granted = λ n. refl;
-        awake = λ n e. refl;
-        asleep = λ w e. absurd (false≢true (ap (λ (o : Option OpenWant). elim o [ None ↦ false | Some v ↦ true ]) e));
-        exact = λ n w e. absurd (false≢true (ap (λ (o : Option OpenWant). elim o [ None ↦ false | Some v ↦ true ]) e));
-        earned = λ n b. refl;
-        no_stray = λ n b. inl refl;
-      };
-      asks = λ u. tt;
-      in_order = ((live-empty [] refl).0, empty-in_order (party_of []) (λ u. refl));
-    }
+nobody spare = record {
+  intents = record { ascends = λ o x. refl; granted = λ o a c h. refl; sought = λ o a c h. refl };
+  kept = λ u. record {
+    covered = refl;
+    plain = refl;
+    way = tt;
+    granted = λ n. refl;
+    awake = λ n e. refl;
+    asleep = λ w e. absurd (false≢true (ap (λ (o : Option OpenWant). elim o [ None ↦ false | Some v ↦ true ]) e));
+    exact = λ n w e. absurd (false≢true (ap (λ (o : Option OpenWant). elim o [ None ↦ false | Some v ↦ true ]) e));
+    earned = λ n b. refl;
+    no_stray = λ n b. inl refl;
+  };
+  asks = λ u. tt;
+  in_order = ((live-empty (bare spare) refl).0, empty-in_order spare (party_of []) (λ u. refl));
+}
+
+-- nobody has or wants anything
+pub whole-empty : (s : State) → s.table.entries ≡ [] → s.parties ≡ [] → s.trail ≡ [] → IsWhole s
+whole-empty s t p a =
+    subst (λ (es : List (Node × Queues)). IsWhole (record { table = record { entries = es; spare = s.table.spare }; parties = s.parties; trail = s.trail })) (sym t)
+    (subst (λ (ps : Parties). IsWhole (record { table = bare s.table.spare; parties = ps; trail = s.trail })) (sym p)
+    (subst (λ (asks : List Asked). IsWhole (record { table = bare s.table.spare; parties = []; trail = asks })) (sym a) (nobody s.table.spare)))
 
 module _ (s r : State) (owner : ℕ) (p : Party) (whole : IsWhole s) (intents : HasIntents r.table) (others : KeepsOthers owner s.table r.table) (is : party_of r.parties owner ≡ p) (own : IsKept r.table owner p)
     (same : KeepsParties owner s.parties r.parties) (asks : HasAsks r.trail owner p.opened) (other_asks : KeepsAsks owner s.trail r.trail) where
@@ -102,15 +109,6 @@ module _ (s r : State) (owner : ℕ) (p : Party) (whole : IsWhole s) (intents : 
         (subst (IsInOrder r.table (party_of r.parties)) (sym trail)
         (ended-in_order s.table r.table (party_of s.parties) (party_of r.parties) (open_asks s.parties s.trail) owner way (stays-live owner s.table r.table way (live-of s whole)) whole.kept after-kept same next-stands (order-of s whole)
         (ap (λ (q : Party). q.opened) is ∙ closed)))
-
-    -- its want is open still, asked at fewer nodes
-    pub whole-lessened : (w : OpenWant) → p.opened ≡ Some w → ((n : Node) → converts_at p.needs n ≡ converts_at (party_of s.parties owner).needs n) → ((n : Node) → was_asked w n ≡ true → asked_of_want (party_of s.parties owner).opened n ≡ true)
-        → sought_at r.table owner w.here ≡ granted_at r.table owner w.here → open_asks r.parties r.trail ≡ asks_cut owner w (open_asks s.parties s.trail) → IsWhole r
-    whole-lessened w opened needs less calm trail =
-        whole-after (stays-live owner s.table r.table way (live-of s whole))
-        (subst (IsInOrder r.table (party_of r.parties)) (sym trail)
-        (lessened-in_order s.table r.table (party_of s.parties) (party_of r.parties) (open_asks s.parties s.trail) owner way (stays-live owner s.table r.table way (live-of s whole)) whole.kept after-kept same next-stands (order-of s whole)
-        w (ap (λ (q : Party). q.opened) is ∙ opened) (λ n. ap (λ (q : Party). converts_at q.needs n) is ∙ needs n) less calm))
 
 -- ---- needs of two owners
 

@@ -8,3 +8,5 @@ pub mod Asking
 pub mod Wanted
 pub mod States
 pub mod Order
+pub mod Room
+pub mod Progress

@@ -15,13 +15,13 @@ use Rattle.vms_locks.specs.Walks.{IsCycle}
 use Rattle.lock_needs.specs.declared.need.Need.{Need}
 use Rattle.lock_needs.specs.declared.party.OpenWant.{OpenWant}
 use Rattle.lock_needs.specs.declared.party.Asked.{Asked}
-use Rattle.lock_needs.specs.declared.party.Party.{Party}
+use Rattle.lock_needs.specs.Party.{Party}
 use Rattle.lock_needs.specs.Nodes.{same_node}
 use Rattle.lock_needs.specs.Keeping.{is_excess}
 use Rattle.lock_needs.specs.Wants.{mode_for, kept_at}
 use Rattle.lock_needs.specs.Waits.{converts_at, asked_before, waits_for}
 use Rattle.lock_tree.specs.LockTable.{granted_in, sought_in, granted_at, sought_at, HasIntents}
-use Rattle.lock_tree.specs.Parties.{IsKept, KeepsOthers, AsksLess, was_asked, wanting, unasked}
+use Rattle.lock_tree.specs.Parties.{IsKept, KeepsOthers, was_asked, wanting, unasked}
 
 -- of the entries of these two owners the first is one of the first owner
 abbrev pub stands_before : (first second : ℕ) → List Held → Bool
@@ -122,13 +122,6 @@ asks_cut owner w asks = filter (λ a. not (a.owner == owner) || was_asked w a.no
 -- the entries of owners whose wants are open
 abbrev pub opened_asks : (ℕ → Party) → List Asked → List Asked
 opened_asks party trail = filter (λ a. is_some (party a.owner).opened) trail
-
--- The owner's want wasn't ended whole: this one is open in its place, asked at no more nodes, with nothing queued.
-pub record LeavesOpen (owner : ℕ) (ws : List Need) (want left : OpenWant) (old new : Table) : Type 0 where
-  pub need : left.need ≡ want.need
-  pub less : AsksLess want left
-  pub quiet : sought_at new owner left.here ≡ granted_at new owner left.here
-  pub stands : StandsByNeeds old owner (wanting ws want) → StandsByNeeds new owner (wanting ws left)
 
 -- a request of an owner that has nothing queued: a conversion where it has a lock
 abbrev pub requesting : Queues → ℕ → Mode → Request

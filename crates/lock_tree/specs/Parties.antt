@@ -8,7 +8,7 @@ use Rattle.vms_queues.specs.Modes.{at_most, least_above, intent}
 use Rattle.vms_locks.specs.Table.{Table}
 use Rattle.lock_needs.specs.declared.need.Need.{Need}
 use Rattle.lock_needs.specs.declared.party.OpenWant.{OpenWant}
-use Rattle.lock_needs.specs.declared.party.Party.{Party}
+use Rattle.lock_needs.specs.Party.{Party}
 use Rattle.lock_needs.specs.Nodes.{same_node, contains, is_on}
 use Rattle.lock_needs.specs.Needs.{Holding, all_covered, is_plain}
 use Rattle.lock_needs.specs.Wants.{mode_for, opened_at, sleeps_at, kept_at, earned_at, IsOnWay}
@@ -17,10 +17,6 @@ use Rattle.lock_tree.specs.LockTable.{granted_at, sought_at}
 -- the want was asked at the node
 abbrev pub was_asked : OpenWant → Node → Bool
 was_asked w n = contains n w.here || (same_node n w.here && w.is_asked)
-
--- the second want was asked nowhere but where the first was
-abbrev pub AsksLess : OpenWant → OpenWant → Type 0
-AsksLess w v = (n : Node) → was_asked v n ≡ true → was_asked w n ≡ true
 
 -- some need is on the node or below it
 abbrev pub is_needed : List Need → Node → Bool

@@ -6,7 +6,7 @@ use Rattle.rdb_types.specs.contracts.node.LevelPartialEq.TheImpl as level_eq
 use Rattle.vms_queues.specs.declared.lock_mode.Mode.TheVariants.{NL}
 use Rattle.vms_locks.specs.Table.{Table}
 use Rattle.lock_needs.specs.declared.party.OpenWant.{OpenWant}
-use Rattle.lock_needs.specs.declared.party.Party.{Party}
+use Rattle.lock_needs.specs.Party.{Party}
 use Rattle.lock_needs.specs.Nodes.{is_above, is_on}
 use Rattle.lock_tree.specs.LockTable.{granted_at, sought_at, HasIntents}
 use Rattle.lock_tree.specs.Parties.{is_needed, KeepsOthers}

@@ -1,5 +1,6 @@
-ghost use Rattle.std.specs.Prelude.{◌≡◌, ◌++◌, ◌∷◌, [], List, true, false, Some, IfOk, OnOk, OnErr};
+ghost use Rattle.std.specs.Prelude.{◌≡◌, ◌++◌, ◌∷◌, [], List, true, false, Some, length};
 ghost use Rattle.vms_queues.specs.Modes.{at_most};
+ghost use Rattle.vms_queues.specs.Owners.{is_owner};
 ghost use Rattle.vms_locks.specs.Table.{queues_at, IsLive};
 ghost use Rattle.vms_locks.specs.Answers.{Answers};
 ghost use Rattle.lock_needs.specs.declared.need.Need.{Need};
@@ -9,6 +10,8 @@ ghost use Rattle.lock_tree.specs.LockTable.{granted_at, HasIntents};
 ghost use Rattle.lock_tree.specs.Parties.{IsKept, KeepsOthers, wanting, resting, unasked};
 ghost use Rattle.lock_tree.specs.Releasing.{IsQuiet};
 ghost use Rattle.lock_tree.specs.Order.{ComesDown};
+ghost use Rattle.lock_tree.specs.Progress.{IsServedAt, LeavesLocks};
+ghost use Rattle.lock_tree.specs.Room.{HasSpare, UsesSpare};
 ghost use Rattle.lock_tree.specs.Asking.{was_granted, request_at, asked_mode, AnswersAt, TakesAnswer, TakesWhole, HasTakenWhole};
 ghost use Rattle.lock_tree.specs.Forest.{party_of, KeepsParties};
 
@@ -16,7 +19,6 @@ use crate::holding::granted_of;
 use crate::notice::serve_notice;
 use indexmap::IndexMap;
 use lock_needs::{Need, Node, OpenWant, Party, mode_for};
-use rdb_types::{Items, NoMemory};
 use vms_locks::{Enq, Locks};
 use vms_queues::{Mode, join};
 
@@ -31,20 +33,16 @@ fn is_granted(answer: &Enq) -> bool
 }
 
 // Asks a mode at the node for an owner that has nothing queued.
-pub(crate) fn ask(
-    locks: &mut Locks,
-    owner: u32,
-    node: Node,
-    mode: Mode,
-    wait: bool,
-) -> Result<Enq, NoMemory>
+pub(crate) fn ask(locks: &mut Locks, owner: u32, node: Node, mode: Mode, wait: bool) -> Enq
+    requires owner { is_owner owner ≡ true }
+    requires room { HasSpare 1 locks.old }
     requires quiet { IsQuiet locks.old owner }
     requires ascends { at_most (granted_at locks.old owner node) mode ≡ true }
 
-    ensures answer { IfOk result (AnswersAt locks.old locks.new owner node mode wait) }
-    ensures exact { IfOk result (Answers locks.old locks.new owner node wait (request_at locks.old owner node mode)) }
+    ensures answer { AnswersAt locks.old locks.new owner node mode wait result }
+    ensures exact { Answers locks.old locks.new owner node wait (request_at locks.old owner node mode) result }
     ensures live { IsLive (queues_at locks.new) }
-    ensures err { OnErr result (locks.new ≡ locks.old) }
+    ensures spare { UsesSpare 1 locks.old locks.new }
 {
     match locks.mode_of(owner, node) {
         Some(_) => locks.convert(owner, node, mode, wait),
@@ -59,17 +57,20 @@ pub(crate) fn ask_here(
     needs: &[Need],
     want: OpenWant,
     wait: bool,
-) -> Result<Enq, NoMemory>
+) -> Enq
+    requires owner { is_owner owner ≡ true }
+    requires room { HasSpare 1 locks.old }
     requires intents { HasIntents locks.old }
     requires kept { IsKept locks.old owner (wanting needs.now (unasked want)) }
     requires least { at_most (granted_at locks.old owner want.here) (kept_at (granted_at locks.old owner) (wanting needs.now (unasked want)) want.here) ≡ true }
 
-    ensures answer { IfOk result (TakesAnswer locks.new owner needs.now want wait) }
-    ensures exact { IfOk result (Answers locks.old locks.new owner want.here wait (request_at locks.old owner want.here (asked_mode locks.old owner want))) }
+    ensures answer { TakesAnswer locks.new owner needs.now want wait result }
+    ensures exact { Answers locks.old locks.new owner want.here wait (request_at locks.old owner want.here (asked_mode locks.old owner want)) result }
     ensures live { IsLive (queues_at locks.new) }
     ensures intents { HasIntents locks.new }
     ensures others { KeepsOthers owner locks.old locks.new }
-    ensures err { OnErr result (locks.new ≡ locks.old) }
+    ensures locks { LeavesLocks owner locks.old locks.new }
+    ensures spare { UsesSpare 1 locks.old locks.new }
 {
     let held = granted_of(locks, owner, want.here);
     ask(
@@ -82,87 +83,63 @@ pub(crate) fn ask_here(
 }
 
 // Brings the owner's lock at the node of its want, which no lock above covers, down to what must be kept there.
-pub(crate) fn make_least(
-    locks: &mut Locks,
-    owner: u32,
-    party: &Party,
-    want: OpenWant,
-) -> Result<(), NoMemory>
+pub(crate) fn make_least(locks: &mut Locks, owner: u32, party: &Party, want: OpenWant)
+    requires room { HasSpare (length party.now.needs) locks.old }
     requires intents { HasIntents locks.old }
     requires kept { IsKept locks.old owner party.now }
     requires opened { party.now.opened ≡ Some (unasked want) }
     requires uncovered { covered_above (granted_at locks.old owner) want.need ≡ false }
 
-    ensures least { OnOk result (at_most (granted_at locks.new owner want.here) (kept_at (granted_at locks.new owner) party.now want.here) ≡ true) }
+    ensures least { at_most (granted_at locks.new owner want.here) (kept_at (granted_at locks.new owner) party.now want.here) ≡ true }
+    ensures served { IsServedAt owner party.now want.here locks.old locks.new }
     ensures down { ComesDown owner party.now locks.old locks.new }
+    ensures spare { UsesSpare (length party.now.needs) locks.old locks.new }
 {
-    let _served = serve_notice(locks, owner, party, want.here)?;
-    Ok(())
+    let _served = serve_notice(locks, owner, party, want.here);
 }
 
 // Asks the whole need of an owner's open want at the node that this has come to. It doesn't wait there: where the need isn't
 // granted at once, nothing changes.
-pub(crate) fn ask_whole(locks: &mut Locks, owner: u32, want: OpenWant) -> Result<bool, NoMemory>
+pub(crate) fn ask_whole(locks: &mut Locks, owner: u32, want: OpenWant) -> bool
+    requires owner { is_owner owner ≡ true }
+    requires room { HasSpare 1 locks.old }
     requires intents { HasIntents locks.old }
     requires kept { (ws : List Need) × IsKept locks.old owner (wanting ws (unasked want)) }
     requires plain { is_plain want.need ≡ true }
 
-    ensures got { IfOk result (λ got. got ≡ true → TakesWhole owner want locks.old locks.new) }
-    ensures taken { IfOk result (λ got. got ≡ true → HasTakenWhole owner want locks.old locks.new) }
-    ensures left { IfOk result (λ got. got ≡ false → locks.new ≡ locks.old) }
-    ensures err { OnErr result (locks.new ≡ locks.old) }
+    ensures got { result ≡ true → TakesWhole owner want locks.old locks.new }
+    ensures taken { result ≡ true → HasTakenWhole owner want locks.old locks.new }
+    ensures left { result ≡ false → locks.new ≡ locks.old }
     ensures intents { HasIntents locks.new }
     ensures others { KeepsOthers owner locks.old locks.new }
 {
     let held = granted_of(locks, owner, want.here);
     let mode = join(held, want.need.mode);
-    let answer = ask(locks, owner, want.here, mode, false)?;
-    Ok(is_granted(&answer))
+    let answer = ask(locks, owner, want.here, mode, false);
+    is_granted(&answer)
 }
 
-// Takes back the need that was added last.
-fn take_back(needs: &mut Items<Need>)
-    ensures { (ws : List Need) (w : Need) → needs.old ≡ ws ++ w ∷ [] → needs.new ≡ ws }
-{
-    let _last = needs.pop();
-}
-
-// Asks the whole need of the party's open want, as `ask_whole` does. Where it is granted, the party has got it. Its room is made
-// before, so that no memory is wanted once the lock is granted.
-fn take_for(
-    locks: &mut Locks,
-    owner: u32,
-    party: &mut Party,
-    want: OpenWant,
-) -> Result<bool, NoMemory>
+// Asks the whole need of the party's open want, as `ask_whole` does. Where it is granted, the party has got it.
+fn take_for(locks: &mut Locks, owner: u32, party: &mut Party, want: OpenWant) -> bool
+    requires owner { is_owner owner ≡ true }
+    requires room { HasSpare 1 locks.old }
     requires intents { HasIntents locks.old }
     requires kept { IsKept locks.old owner party.old }
     requires opened { party.old.opened ≡ Some (unasked want) }
     requires plain { is_plain want.need ≡ true }
 
-    ensures got { IfOk result (λ got. got ≡ true → party.new ≡ resting (party.old.needs ++ want.need ∷ [])) }
-    ensures taken { IfOk result (λ got. got ≡ true → HasTakenWhole owner want locks.old locks.new) }
-    ensures left { IfOk result (λ got. got ≡ false → (party.new ≡ party.old) × (locks.new ≡ locks.old)) }
-    ensures err { OnErr result ((party.new ≡ party.old) × (locks.new ≡ locks.old)) }
+    ensures got { result ≡ true → party.new ≡ resting (party.old.needs ++ want.need ∷ []) }
+    ensures taken { result ≡ true → HasTakenWhole owner want locks.old locks.new }
+    ensures left { result ≡ false → (party.new ≡ party.old) × (locks.new ≡ locks.old) }
     ensures intents { HasIntents locks.new }
     ensures kept { IsKept locks.new owner party.new }
     ensures others { KeepsOthers owner locks.old locks.new }
 {
-    party.needs.push(want.need)?;
-    match ask_whole(locks, owner, want) {
-        Ok(true) => {
-            party.opened = None;
-            Ok(true)
-        }
-        Ok(false) => {
-            take_back(&mut party.needs);
-            Ok(false)
-        }
-        Err(error) => {
-            take_back(&mut party.needs);
-            Err(error)
-        }
+    let granted = ask_whole(locks, owner, want);
+    if granted {
+        party.get();
     }
+    granted
 }
 
 // Asks the whole need of the owner's open want at the node that this has come to, as `ask_whole` does. Where it is granted, the
@@ -172,16 +149,17 @@ pub(crate) fn take_whole(
     parties: &mut IndexMap<u32, Party>,
     owner: u32,
     want: OpenWant,
-) -> Result<bool, NoMemory>
+) -> bool
+    requires owner { is_owner owner ≡ true }
+    requires room { HasSpare 1 locks.old }
     requires intents { HasIntents locks.old }
     requires kept { IsKept locks.old owner (party_of parties.old.entries owner) }
     requires opened { (party_of parties.old.entries owner).opened ≡ Some (unasked want) }
     requires plain { is_plain want.need ≡ true }
 
-    ensures got { IfOk result (λ got. got ≡ true → party_of parties.new.entries owner ≡ resting ((party_of parties.old.entries owner).needs ++ want.need ∷ [])) }
-    ensures taken { IfOk result (λ got. got ≡ true → HasTakenWhole owner want locks.old locks.new) }
-    ensures left { IfOk result (λ got. got ≡ false → (party_of parties.new.entries owner ≡ party_of parties.old.entries owner) × (locks.new ≡ locks.old)) }
-    ensures err { OnErr result ((party_of parties.new.entries owner ≡ party_of parties.old.entries owner) × (locks.new ≡ locks.old)) }
+    ensures got { result ≡ true → party_of parties.new.entries owner ≡ resting ((party_of parties.old.entries owner).needs ++ want.need ∷ []) }
+    ensures taken { result ≡ true → HasTakenWhole owner want locks.old locks.new }
+    ensures left { result ≡ false → (party_of parties.new.entries owner ≡ party_of parties.old.entries owner) × (locks.new ≡ locks.old) }
     ensures intents { HasIntents locks.new }
     ensures kept { IsKept locks.new owner (party_of parties.new.entries owner) }
     ensures others { KeepsOthers owner locks.old locks.new }
@@ -189,6 +167,6 @@ pub(crate) fn take_whole(
 {
     match parties.get_mut(&owner) {
         Some(party) => take_for(locks, owner, party, want),
-        None => Ok(false),
+        None => false,
     }
 }

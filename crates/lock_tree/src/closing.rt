@@ -1,24 +1,23 @@
-ghost use Rattle.std.specs.Prelude.{◌≡◌, ◌++◌, ◌∷◌, [], ◌<◌, ◌&&◌, ℕ, true, Some, OnOk, OnErr, vec_len, vec_capacity};
-ghost use Rattle.rdb_types.specs.declared.node.Node.{Node};
-ghost use Rattle.lock_needs.specs.declared.party.OpenWant.{OpenWant};
-ghost use Rattle.lock_tree.specs.LockTable.{HasIntents};
-ghost use Rattle.lock_tree.specs.Parties.{IsKept, KeepsOthers, wanting, resting, asked_at};
-ghost use Rattle.lock_tree.specs.Order.{MakesWay, StandsByNeeds, LeavesOpen, asks_cut};
-ghost use Rattle.lock_tree.specs.Forest.{party_of, has_party, HasAsks, KeepsAsks, KeepsParties};
+ghost use Rattle.std.specs.Prelude.{◌≡◌, ◌++◌, ◌∷◌, [], ◌<◌, ◌≤◌, ◌+◌, true, Some, is_some, length, vec_len, vec_capacity};
+ghost use Rattle.lock_tree.specs.LockTable.{granted_at, HasIntents};
+ghost use Rattle.lock_tree.specs.Parties.{IsKept, KeepsOthers, resting, asked_at};
+ghost use Rattle.lock_tree.specs.Order.{MakesWay, StandsByNeeds};
+ghost use Rattle.lock_tree.specs.Forest.{party_of, KeepsParties};
+ghost use Rattle.lock_tree.specs.Room.{HasSpare, has_whole};
 
 use crate::ending::end_want;
-use crate::parties::set_opened;
-use crate::trail::cut_asks;
+use crate::parties::{close_for, go_to};
 use indexmap::IndexMap;
 use lock_needs::{Asked, Node, OpenWant, Party};
-use rdb_types::NoMemory;
 use vms_locks::Locks;
 
 // Adds the entry that the owner was asked for at the node, for which there is room.
 pub(crate) fn note_ask(trail: &mut Vec<Asked>, owner: u32, node: Node)
     requires room { vec_len trail.old < vec_capacity trail.old }
 
-    ensures { trail.new.items ≡ trail.old.items ++ (record { owner = owner; node = node }) ∷ [] }
+    ensures trail { trail.new.items ≡ trail.old.items ++ (record { owner = owner; node = node }) ∷ [] }
+    ensures length { vec_len trail.new ≡ vec_len trail.old + 1 }
+    ensures capacity { vec_capacity trail.old ≤ vec_capacity trail.new }
 {
     let Ok(()) = trail.push(Asked { owner, node }) else {
         unreachable!();
@@ -32,13 +31,15 @@ pub(crate) fn mark_asked(
     owner: u32,
     want: OpenWant,
 ) -> OpenWant
-    requires known { has_party parties.old.entries owner ≡ true }
+    requires opened { is_some (party_of parties.old.entries owner).opened ≡ true }
     requires room { vec_len trail.old < vec_capacity trail.old }
 
     ensures want { result ≡ asked_at want want.here }
     ensures own { party_of parties.new.entries owner ≡ record (party_of parties.old.entries owner) { opened = Some (asked_at want want.here) } }
     ensures others { KeepsParties owner parties.old.entries parties.new.entries }
     ensures trail { trail.new.items ≡ trail.old.items ++ (record { owner = owner; node = want.here }) ∷ [] }
+    ensures length { vec_len trail.new ≡ vec_len trail.old + 1 }
+    ensures capacity { vec_capacity trail.old ≤ vec_capacity trail.new }
 {
     let asked = OpenWant {
         need: want.need,
@@ -46,48 +47,33 @@ pub(crate) fn mark_asked(
         is_asked: true,
     };
     note_ask(trail, owner, want.here);
-    set_opened(parties, owner, Some(asked));
+    go_to(parties, owner, asked);
     asked
 }
 
-// Ends the owner's open want, as `end_want` does. At want of memory it is open still, at the node that it has come to then, and the
-// trail names the nodes at which it is asked still.
+// Ends the owner's open want, as `end_want` does.
 pub(crate) fn end_open(
     locks: &mut Locks,
     parties: &mut IndexMap<u32, Party>,
-    trail: &mut Vec<Asked>,
     owner: u32,
     want: OpenWant,
-) -> Result<(), NoMemory>
+)
     requires intents { HasIntents locks.old }
     requires kept { IsKept locks.old owner (party_of parties.old.entries owner) }
-    requires asks { HasAsks trail.old.items owner (Some want) }
     requires opened { (party_of parties.old.entries owner).opened ≡ Some want }
+    requires room { has_whole (granted_at locks.old owner) want ≡ true → HasSpare (length (party_of parties.old.entries owner).needs) locks.old }
 
-    ensures ended { OnOk result (party_of parties.new.entries owner ≡ resting (party_of parties.old.entries owner).needs) }
-    ensures trail { OnOk result (trail.new ≡ trail.old) }
-    ensures rests { OnOk result (StandsByNeeds locks.old owner (party_of parties.old.entries owner) → StandsByNeeds locks.new owner (party_of parties.new.entries owner)) }
-    ensures left { OnErr result ((w : OpenWant) × (party_of parties.new.entries owner ≡ wanting (party_of parties.old.entries owner).needs w) × LeavesOpen owner (party_of parties.old.entries owner).needs want w locks.old locks.new × (trail.new.items ≡ asks_cut owner w trail.old.items)) }
+    ensures ended { party_of parties.new.entries owner ≡ resting (party_of parties.old.entries owner).needs }
+    ensures rests { StandsByNeeds locks.old owner (party_of parties.old.entries owner) → StandsByNeeds locks.new owner (party_of parties.new.entries owner) }
     ensures way { MakesWay owner locks.old locks.new }
     ensures intents { HasIntents locks.new }
     ensures kept { IsKept locks.new owner (party_of parties.new.entries owner) }
-    ensures asks { HasAsks trail.new.items owner (party_of parties.new.entries owner).opened }
     ensures others { KeepsOthers owner locks.old locks.new }
     ensures parties { KeepsParties owner parties.old.entries parties.new.entries }
-    ensures other_asks { KeepsAsks owner trail.old.items trail.new.items }
 {
     let Some(party) = parties.get(&owner) else {
         unreachable!();
     };
-    match end_want(locks, owner, party.needs.as_slice(), want) {
-        Ok(()) => {
-            set_opened(parties, owner, None);
-            Ok(())
-        }
-        Err(left) => {
-            set_opened(parties, owner, Some(left));
-            cut_asks(trail, owner, left);
-            Err(NoMemory {})
-        }
-    }
+    end_want(locks, owner, party, want);
+    close_for(parties, owner);
 }

@@ -1,15 +1,15 @@
-ghost use Rattle.std.specs.Prelude.{◌≡◌, ◌∷◌, [], true, IfOk, OnOk, OnErr};
+ghost use Rattle.std.specs.Prelude.{◌≡◌, ◌∷◌, [], true, false, length};
 ghost use Rattle.std.specs.List.{list_all};
-ghost use Rattle.vms_locks.specs.Table.{queues_at, IsLive};
+ghost use Rattle.vms_queues.specs.Owners.{is_owner};
 ghost use Rattle.lock_needs.specs.Needs.{covers_from, is_covered, all_covered, supposing, is_plain};
 ghost use Rattle.lock_needs.specs.Keeping.{allows, is_enough};
 ghost use Rattle.lock_tree.specs.LockTable.{granted_at};
 ghost use Rattle.lock_tree.specs.Lowering.{MayComeDown, HasTaken, BroughtDown};
 ghost use Rattle.lock_tree.specs.Order.{MakesWay};
+ghost use Rattle.lock_tree.specs.Room.{HasSpare, UsesSpare};
 
 use crate::holding::{granted_of, lower, raise};
-use lock_needs::{Level, Need, Node, covers_below, is_above, on_way, step_towards};
-use rdb_types::NoMemory;
+use lock_needs::{Level, Need, Node, contains, covers_below, is_above, on_way, step_towards};
 use vms_locks::Locks;
 use vms_queues::{Mode, is_at_most, join};
 
@@ -47,14 +47,11 @@ fn covered_supposing(locks: &Locks, owner: u32, need: Need, node: Node, keep: Mo
         || covers_at(locks, owner, need, Level::Page, node, keep)
 }
 
-// Takes a need one level under the node where it would not be covered otherwise.
-fn take_one(
-    locks: &mut Locks,
-    owner: u32,
-    node: Node,
-    keep: Mode,
-    need: Need,
-) -> Result<(), NoMemory>
+// Takes a need one level under the node where it would not be covered otherwise. What isn't below the node is, so most needs are
+// passed over with no look at the locks.
+fn take_one(locks: &mut Locks, owner: u32, node: Node, keep: Mode, need: Need)
+    requires owner { is_owner owner ≡ true }
+    requires room { is_covered (supposing node keep (granted_at locks.old owner)) need ≡ false → HasSpare 1 locks.old }
     requires ready { MayComeDown locks.old owner node keep }
     requires covered { is_covered (granted_at locks.old owner) need ≡ true }
     requires allowed { allows (granted_at locks.old owner) node keep need ≡ true }
@@ -63,24 +60,24 @@ fn take_one(
     ensures ready { MayComeDown locks.new owner node keep }
     ensures taken { HasTaken owner node (need ∷ []) locks.old locks.new }
     ensures way { MakesWay owner locks.old locks.new }
-    ensures covered { OnOk result (is_covered (supposing node keep (granted_at locks.new owner)) need ≡ true) }
+    ensures covered { is_covered (supposing node keep (granted_at locks.new owner)) need ≡ true }
+    ensures spare { UsesSpare 1 locks.old locks.new }
 {
+    if !contains(node, need.node) {
+        return;
+    }
     if covered_supposing(locks, owner, need, node, keep) {
-        return Ok(());
+        return;
     }
     let under = step_towards(node, need.node);
     let mode = join(granted_of(locks, owner, under), need.mode);
-    raise(locks, owner, under, mode)
+    raise(locks, owner, under, mode);
 }
 
 // Takes one level under the node what would not be covered otherwise.
-fn take_lower(
-    locks: &mut Locks,
-    needs: &[Need],
-    owner: u32,
-    node: Node,
-    keep: Mode,
-) -> Result<(), NoMemory>
+fn take_lower(locks: &mut Locks, needs: &[Need], owner: u32, node: Node, keep: Mode)
+    requires owner { is_owner owner ≡ true }
+    requires room { all_covered (supposing node keep (granted_at locks.old owner)) needs.now ≡ false → HasSpare (length needs.now) locks.old }
     requires ready { MayComeDown locks.old owner node keep }
     requires covered { all_covered (granted_at locks.old owner) needs.now ≡ true }
     requires enough { is_enough (granted_at locks.old owner) needs.now node keep ≡ true }
@@ -89,34 +86,28 @@ fn take_lower(
     ensures ready { MayComeDown locks.new owner node keep }
     ensures taken { HasTaken owner node needs.now locks.old locks.new }
     ensures way { MakesWay owner locks.old locks.new }
-    ensures covered { OnOk result (all_covered (supposing node keep (granted_at locks.new owner)) needs.now ≡ true) }
+    ensures covered { all_covered (supposing node keep (granted_at locks.new owner)) needs.now ≡ true }
+    ensures spare { UsesSpare (length needs.now) locks.old locks.new }
 {
     for need in needs {
-        take_one(locks, owner, node, keep, *need)?;
+        take_one(locks, owner, node, keep, *need);
     }
-    Ok(())
 }
 
-// Brings the owner's lock at the node down to the mode: first it takes one level lower what would not be covered. At want of
-// memory the lock stays, and what was taken lower until then stays too.
-pub(crate) fn bring_down(
-    locks: &mut Locks,
-    needs: &[Need],
-    owner: u32,
-    node: Node,
-    keep: Mode,
-) -> Result<(), NoMemory>
+// Brings the owner's lock at the node down to the mode: first it takes one level lower what would not be covered. Where all would
+// be, it takes no place in the table.
+pub(crate) fn bring_down(locks: &mut Locks, needs: &[Need], owner: u32, node: Node, keep: Mode)
+    requires owner { is_owner owner ≡ true }
+    requires room { all_covered (supposing node keep (granted_at locks.old owner)) needs.now ≡ false → HasSpare (length needs.now) locks.old }
     requires ready { MayComeDown locks.old owner node keep }
     requires covered { all_covered (granted_at locks.old owner) needs.now ≡ true }
     requires enough { is_enough (granted_at locks.old owner) needs.now node keep ≡ true }
     requires plain { list_all is_plain needs.now ≡ true }
 
-    ensures down { OnOk result (BroughtDown owner node keep needs.now locks.old locks.new) }
-    ensures err { OnErr result (MayComeDown locks.new owner node keep) }
-    ensures taken { OnErr result (HasTaken owner node needs.now locks.old locks.new) }
+    ensures down { BroughtDown owner node keep needs.now locks.old locks.new }
     ensures way { MakesWay owner locks.old locks.new }
+    ensures spare { UsesSpare (length needs.now) locks.old locks.new }
 {
-    take_lower(locks, needs, owner, node, keep)?;
+    take_lower(locks, needs, owner, node, keep);
     lower(locks, owner, node, keep);
-    Ok(())
 }

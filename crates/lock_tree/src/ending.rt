@@ -1,18 +1,19 @@
-ghost use Rattle.std.specs.Prelude.{◌≡◌, List, IfErr, OnOk, OnErr};
+ghost use Rattle.std.specs.Prelude.{◌≡◌, List, true, length};
+ghost use Rattle.vms_queues.specs.Modes.{at_most};
 ghost use Rattle.lock_needs.specs.Needs.{covers_from, covered_above as covered_over, is_covered as is_covered_by};
 ghost use Rattle.lock_needs.specs.Keeping.{needed_uncovered, after_want};
 ghost use Rattle.lock_tree.specs.LockTable.{granted_at, sought_at, HasIntents};
 ghost use Rattle.lock_needs.specs.declared.need.Need.{Need};
-ghost use Rattle.lock_tree.specs.Parties.{IsKept, KeepsOthers, wanting, resting, unasked, AsksLess, StandsStill};
+ghost use Rattle.lock_tree.specs.Parties.{IsKept, KeepsOthers, wanting, resting, unasked, StandsStill};
 ghost use Rattle.lock_tree.specs.Order.{MakesWay, StandsByNeeds};
+ghost use Rattle.lock_tree.specs.Room.{HasSpare, is_over_others, has_whole};
+ghost use Rattle.lock_needs.specs.Wants.{mode_for as mode_on_way};
 
 use crate::coming_down::bring_down;
 use crate::holding::granted_of;
 use lock_needs::{
-    Level, Need, Node, OpenWant, covers_below, intents_below, is_above, mode_for, node_above,
-    on_way,
+    Level, Need, Node, OpenWant, Party, covers_below, is_above, mode_for, node_above, on_way,
 };
-use rdb_types::NoMemory;
 use vms_locks::Locks;
 use vms_queues::{Mode, is_at_most, join};
 
@@ -57,12 +58,12 @@ fn uncovered_on(locks: &Locks, owner: u32, needs: &[Need], node: Node) -> Mode
 }
 
 // What the needs require at the node.
-fn left_mode(locks: &Locks, owner: u32, needs: &[Need], node: Node) -> Mode
-    ensures { result ≡ after_want (granted_at locks.now owner) needs.now node }
+fn left_mode(locks: &Locks, owner: u32, party: &Party, node: Node) -> Mode
+    ensures { result ≡ after_want (granted_at locks.now owner) party.now.needs node }
 {
     join(
-        intents_below(needs, node),
-        uncovered_on(locks, owner, needs, node),
+        party.intents_below(node),
+        uncovered_on(locks, owner, party.needs(), node),
     )
 }
 
@@ -72,7 +73,7 @@ pub(crate) fn stop_asking(locks: &mut Locks, owner: u32, want: OpenWant) -> Open
 
     ensures here { result.here ≡ want.here }
     ensures need { result.need ≡ want.need }
-    ensures less { AsksLess want result }
+    ensures asked { result.is_asked ≡ true → (result ≡ want) × (locks.new ≡ locks.old) × (at_most (mode_on_way want.need want.here) (granted_at locks.old owner want.here) ≡ true) }
     ensures kept { StandsStill owner want result locks.old locks.new }
     ensures intents { HasIntents locks.new }
     ensures others { KeepsOthers owner locks.old locks.new }
@@ -91,56 +92,51 @@ pub(crate) fn stop_asking(locks: &mut Locks, owner: u32, want: OpenWant) -> Open
     }
 }
 
-// Lowers the owner's lock at the want's node to what its needs require.
-fn leave_node(locks: &mut Locks, owner: u32, needs: &[Need], want: OpenWant) -> Result<(), NoMemory>
+// Lowers the owner's lock at the want's node, where that was asked, to what its needs require. Above the node of its need all that
+// the lock covers is covered still: the lock is as strong as the needs on its node, but for intents.
+fn leave_node(locks: &mut Locks, owner: u32, party: &Party, want: OpenWant)
     requires intents { HasIntents locks.old }
-    requires kept { IsKept locks.old owner (wanting needs.now want) }
+    requires kept { IsKept locks.old owner (wanting party.now.needs want) }
     requires quiet { sought_at locks.old owner want.here ≡ granted_at locks.old owner want.here }
+    requires room { want.is_asked ≡ true → is_over_others want ≡ true → HasSpare (length party.now.needs) locks.old }
 
-    ensures left { OnOk result (IsKept locks.new owner (wanting needs.now (unasked want))) }
-    ensures stands { OnErr result (IsKept locks.new owner (wanting needs.now want)) }
+    ensures left { IsKept locks.new owner (wanting party.now.needs (unasked want)) }
     ensures intents { HasIntents locks.new }
     ensures others { KeepsOthers owner locks.old locks.new }
     ensures way { MakesWay owner locks.old locks.new }
-    ensures leaves { OnOk result (StandsByNeeds locks.old owner (wanting needs.now want) → StandsByNeeds locks.new owner (wanting needs.now (unasked want))) }
-    ensures stays { OnErr result (StandsByNeeds locks.old owner (wanting needs.now want) → StandsByNeeds locks.new owner (wanting needs.now want)) }
+    ensures leaves { StandsByNeeds locks.old owner (wanting party.now.needs want) → StandsByNeeds locks.new owner (wanting party.now.needs (unasked want)) }
 {
-    let keep = left_mode(locks, owner, needs, want.here);
-    if is_at_most(keep, granted_of(locks, owner, want.here)) {
-        bring_down(locks, needs, owner, want.here, keep)?;
+    if !want.is_asked {
+        return;
     }
-    Ok(())
+    let held = granted_of(locks, owner, want.here);
+    if is_at_most(held, Mode::NL) {
+        return;
+    }
+    let keep = left_mode(locks, owner, party, want.here);
+    if is_at_most(keep, held) {
+        bring_down(locks, party.needs(), owner, want.here, keep);
+    }
 }
 
 // Ends the owner's open want: its queued request is cancelled, and from the lowest node where it was asked up, the lock comes down to
-// what the needs require. At want of memory the want is open still, as the error says.
-pub(crate) fn end_want(
-    locks: &mut Locks,
-    owner: u32,
-    needs: &[Need],
-    want: OpenWant,
-) -> Result<(), OpenWant>
+// what the needs require.
+pub(crate) fn end_want(locks: &mut Locks, owner: u32, party: &Party, want: OpenWant)
     requires intents { HasIntents locks.old }
-    requires kept { IsKept locks.old owner (wanting needs.now want) }
+    requires kept { IsKept locks.old owner (wanting party.now.needs want) }
+    requires room { has_whole (granted_at locks.old owner) want ≡ true → HasSpare (length party.now.needs) locks.old }
 
-    ensures ended { OnOk result (IsKept locks.new owner (resting needs.now)) }
-    ensures stands { IfErr result (λ w. IsKept locks.new owner (wanting needs.now w)) }
-    ensures need { IfErr result (λ w. w.need ≡ want.need) }
-    ensures less { IfErr result (λ w. AsksLess want w) }
+    ensures ended { IsKept locks.new owner (resting party.now.needs) }
     ensures intents { HasIntents locks.new }
     ensures others { KeepsOthers owner locks.old locks.new }
     ensures way { MakesWay owner locks.old locks.new }
-    ensures rests { OnOk result (StandsByNeeds locks.old owner (wanting needs.now want) → StandsByNeeds locks.new owner (resting needs.now)) }
-    ensures quiet { IfErr result (λ w. sought_at locks.new owner w.here ≡ granted_at locks.new owner w.here) }
-    ensures stays { IfErr result (λ w. StandsByNeeds locks.old owner (wanting needs.now want) → StandsByNeeds locks.new owner (wanting needs.now w)) }
+    ensures rests { StandsByNeeds locks.old owner (wanting party.now.needs want) → StandsByNeeds locks.new owner (resting party.now.needs) }
 {
     let mut left = stop_asking(locks, owner, want);
     loop {
-        let Ok(()) = leave_node(locks, owner, needs, left) else {
-            return Err(left);
-        };
+        leave_node(locks, owner, party, left);
         let Some(up) = node_above(left.here) else {
-            return Ok(());
+            return;
         };
         left = OpenWant {
             need: left.need,

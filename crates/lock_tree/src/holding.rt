@@ -1,12 +1,13 @@
-ghost use Rattle.std.specs.Prelude.{◌≡◌, true, false, OnOk, OnErr};
+ghost use Rattle.std.specs.Prelude.{◌≡◌, true, false};
 ghost use Rattle.vms_queues.specs.declared.lock_mode.Mode.TheVariants.{NL};
 ghost use Rattle.vms_queues.specs.Modes.{at_most};
+ghost use Rattle.vms_queues.specs.Owners.{is_owner};
 ghost use Rattle.vms_locks.specs.Table.{queues_at, IsLive};
 ghost use Rattle.lock_tree.specs.LockTable.{granted_at, sought_at, IsFree, BarsNobody, RaisedAt, LoweredAt};
 ghost use Rattle.lock_tree.specs.Order.{MakesWay};
+ghost use Rattle.lock_tree.specs.Room.{HasSpare, UsesSpare};
 
 use lock_needs::Node;
-use rdb_types::NoMemory;
 use vms_locks::Locks;
 use vms_queues::Mode;
 
@@ -14,6 +15,7 @@ use vms_queues::Mode;
 pub(crate) fn granted_of(locks: &Locks, owner: u32, node: Node) -> Mode
     ensures value { result ≡ granted_at locks.now owner node }
     ensures live { IsLive (queues_at locks.now) }
+    ensures owner { at_most result NL ≡ false → is_owner owner ≡ true }
 {
     match locks.mode_of(owner, node) {
         Some(mode) => mode,
@@ -22,26 +24,27 @@ pub(crate) fn granted_of(locks: &Locks, owner: u32, node: Node) -> Mode
 }
 
 // Gives the owner a stronger mode at the node, which is free there and bars nobody, so that it is granted at once.
-pub(crate) fn raise(locks: &mut Locks, owner: u32, node: Node, mode: Mode) -> Result<(), NoMemory>
+pub(crate) fn raise(locks: &mut Locks, owner: u32, node: Node, mode: Mode)
+    requires owner { is_owner owner ≡ true }
+    requires room { HasSpare 1 locks.old }
     requires awake { sought_at locks.old owner node ≡ granted_at locks.old owner node }
     requires ascends { at_most (granted_at locks.old owner node) mode ≡ true }
     requires free { IsFree locks.old owner node mode }
     requires bars_nobody { BarsNobody locks.old owner node mode }
     requires used { at_most mode NL ≡ false }
 
-    ensures raised { OnOk result (RaisedAt locks.old locks.new owner node mode) }
-    ensures way { OnOk result (MakesWay owner locks.old locks.new) }
-    ensures err { OnErr result (locks.new ≡ locks.old) }
+    ensures raised { RaisedAt locks.old locks.new owner node mode }
+    ensures way { MakesWay owner locks.old locks.new }
+    ensures spare { UsesSpare 1 locks.old locks.new }
 {
     match locks.mode_of(owner, node) {
         Some(_) => {
-            let _granted = locks.convert(owner, node, mode, false)?;
+            let _granted = locks.convert(owner, node, mode, false);
         }
         None => {
-            let _granted = locks.enq(owner, node, mode, false)?;
+            let _granted = locks.enq(owner, node, mode, false);
         }
     }
-    Ok(())
 }
 
 // Weakens the owner's lock at the node to the mode; to NL it is released. Takes no memory.
@@ -51,6 +54,7 @@ pub(crate) fn lower(locks: &mut Locks, owner: u32, node: Node, mode: Mode)
 
     ensures lowered { LoweredAt locks.old locks.new owner node mode }
     ensures way { MakesWay owner locks.old locks.new }
+    ensures spare { UsesSpare 0 locks.old locks.new }
 {
     match locks.mode_of(owner, node) {
         None => {}

@@ -9,7 +9,7 @@ ghost use Rattle.lock_needs.specs.declared.need.Need.{Need};
 ghost use Rattle.lock_needs.specs.declared.party.OpenWant.{OpenWant};
 ghost use Rattle.lock_needs.specs.Wants.{mode_for};
 ghost use Rattle.lock_needs.specs.declared.party.Asked.{Asked};
-ghost use Rattle.lock_needs.specs.declared.party.Party.{Party};
+ghost use Rattle.lock_needs.specs.Party.{Party};
 ghost use Rattle.lock_tree.specs.LockTable.{granted_at, HasIntents};
 ghost use Rattle.lock_tree.specs.Parties.{wanting, asked_at};
 ghost use Rattle.lock_tree.specs.Order.{AreKept, IsInOrder, KeepsParty, MakesWay, StandsByNeeds, MayAsk, AnswersByNeeds, asked_last, without_asks, requesting, waits_by_needs};
@@ -28,7 +28,7 @@ pub fn answers_are_by_needs()
 /// The order stays where an owner makes way and stands in the way by its needs: while its needs and its open want stay, and where
 /// its want has ended, got or not, and its entries go. Where nobody wants anything there is nothing to order.
 pub fn making_way_keeps_the_order()
-    ensures start { (party : ℕ → Party) → ((u : ℕ) → (party u).opened ≡ None) → IsInOrder [] party [] }
+    ensures start { (t : Table) (party : ℕ → Party) → t.entries ≡ [] → ((u : ℕ) → (party u).opened ≡ None) → IsInOrder t party [] }
     ensures served { (old new : Table) (party : ℕ → Party) (asks : List Asked) (owner : ℕ) → MakesWay owner old new → IsLive (queues_at new) → AreKept old party → AreKept new party → StandsByNeeds new owner (party owner) → IsInOrder old party asks → IsInOrder new party asks }
     ensures ended { (old new : Table) (party next : ℕ → Party) (asks : List Asked) (owner : ℕ) → MakesWay owner old new → IsLive (queues_at new) → AreKept old party → AreKept new next → KeepsParty owner party next → StandsByNeeds new owner (next owner) → IsInOrder old party asks → (next owner).opened ≡ None → IsInOrder new next (without_asks owner asks) }
 {}

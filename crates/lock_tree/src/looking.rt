@@ -1,19 +1,20 @@
-ghost use Rattle.std.specs.Prelude.{◌≡◌, false, Some, IfOk, OnErr};
+ghost use Rattle.std.specs.Prelude.{◌≡◌, ◌+◌, true, false, Some, length};
 ghost use Rattle.vms_queues.specs.Queues.{blockers};
+ghost use Rattle.vms_queues.specs.Owners.{is_owner};
 ghost use Rattle.vms_locks.specs.Table.{queues_at, IsLive};
 ghost use Rattle.lock_needs.specs.Needs.{covered_above};
 ghost use Rattle.lock_tree.specs.LockTable.{granted_at, HasIntents};
 ghost use Rattle.lock_tree.specs.Parties.{IsKept, KeepsOthers, unasked};
 ghost use Rattle.lock_tree.specs.Forest.{party_of};
-ghost use Rattle.lock_tree.specs.Order.{ComesDown};
+ghost use Rattle.lock_tree.specs.Room.{HasSpare, UsesSpare};
 ghost use Rattle.lock_tree.specs.Asking.{exceeds_at, first_excess, asked_mode, TakesLook};
+ghost use Rattle.lock_tree.specs.Progress.{LooksOn};
 
 use crate::asking::{ask_here, make_least};
 use crate::holding::granted_of;
 use crate::notice::kept_mode;
 use indexmap::IndexMap;
 use lock_needs::{Node, OpenWant, Party, is_excess, mode_for};
-use rdb_types::NoMemory;
 use vms_locks::{Enq, Locks};
 use vms_queues::{Mode, join};
 
@@ -45,16 +46,16 @@ pub(crate) fn find_excess(
     owner: u32,
     node: Node,
     mode: Mode,
-) -> Result<Option<u32>, NoMemory>
-    ensures { IfOk result (λ o. o ≡ first_excess locks.now parties.now.entries node (blockers owner mode (queues_at locks.now node).granted)) }
+) -> Option<u32>
+    ensures { result ≡ first_excess locks.now parties.now.entries node (blockers owner mode (queues_at locks.now node).granted) }
 {
-    let in_way = locks.notices_due(owner, node, mode)?;
+    let in_way = locks.notices_due(owner, node, mode);
     for other in in_way.as_slice() {
         if exceeds(locks, parties, *other, node) {
-            return Ok(Some(*other));
+            return Some(*other);
         }
     }
-    Ok(None)
+    None
 }
 
 // The mode that the want asks at its node.
@@ -69,7 +70,7 @@ fn mode_of_want(locks: &Locks, owner: u32, want: OpenWant) -> Mode
 }
 
 // The open want looks at its node: the owner's own lock comes down to what must be kept, then the want asks, if nobody is in the way
-// whose lock may come down first. At want of memory the want stands as it did.
+// whose lock may come down first.
 pub(crate) fn look_here(
     locks: &mut Locks,
     parties: &IndexMap<u32, Party>,
@@ -77,23 +78,26 @@ pub(crate) fn look_here(
     party: &Party,
     want: OpenWant,
     wait: bool,
-) -> Result<Look, NoMemory>
+) -> Look
+    requires owner { is_owner owner ≡ true }
+    requires room { HasSpare (length party.now.needs + 1) locks.old }
     requires intents { HasIntents locks.old }
     requires kept { IsKept locks.old owner party.now }
     requires opened { party.now.opened ≡ Some (unasked want) }
     requires uncovered { covered_above (granted_at locks.old owner) want.need ≡ false }
     requires party { party.now ≡ party_of parties.now.entries owner }
 
-    ensures look { IfOk result (TakesLook locks.old locks.new parties.now.entries owner party.now.needs want wait) }
-    ensures down { OnErr result (ComesDown owner party.now locks.old locks.new) }
+    ensures look { TakesLook locks.old locks.new parties.now.entries owner party.now.needs want wait result }
+    ensures progress { LooksOn owner party.now want locks.old locks.new result }
     ensures intents { HasIntents locks.new }
     ensures others { KeepsOthers owner locks.old locks.new }
+    ensures spare { UsesSpare (length party.now.needs + 1) locks.old locks.new }
 {
-    make_least(locks, owner, party, want)?;
+    make_least(locks, owner, party, want);
     let mode = mode_of_want(locks, owner, want);
-    if let Some(other) = find_excess(locks, parties, owner, want.here, mode)? {
-        return Ok(Look::NoticeTo(other, mode));
+    if let Some(other) = find_excess(locks, parties, owner, want.here, mode) {
+        return Look::NoticeTo(other, mode);
     }
-    let answer = ask_here(locks, owner, party.needs.as_slice(), want, wait)?;
-    Ok(Look::Asked(answer))
+    let answer = ask_here(locks, owner, party.needs(), want, wait);
+    Look::Asked(answer)
 }

@@ -1,14 +1,16 @@
-ghost use Rattle.std.specs.Prelude.{◌≡◌, ◌==◌, ℕ, true, false, IfOk, OnOk};
+ghost use Rattle.std.specs.Prelude.{◌≡◌, ◌==◌, ℕ, true, false, length, IfOk, OnOk, OnErr};
 ghost use Rattle.lock_needs.specs.Keeping.{is_excess as exceeds};
 ghost use Rattle.lock_needs.specs.Wants.{opened_at, kept_at};
 ghost use Rattle.lock_tree.specs.LockTable.{granted_at, HasIntents};
 ghost use Rattle.lock_tree.specs.Parties.{IsKept, KeepsOthers};
 ghost use Rattle.lock_tree.specs.Notices.{notice_answer};
 ghost use Rattle.lock_tree.specs.Order.{MakesWay, StandsByNeeds};
+ghost use Rattle.lock_tree.specs.Progress.{IsServedAt};
+ghost use Rattle.lock_tree.specs.Room.{HasSpare, UsesSpare};
 
 use crate::coming_down::bring_down;
 use crate::holding::granted_of;
-use lock_needs::{Node, OpenWant, Party, contains, is_excess, mode_for, must_keep};
+use lock_needs::{Node, OpenWant, Party, contains, is_excess, mode_for};
 use rdb_types::NoMemory;
 use vms_locks::Locks;
 use vms_queues::{Mode, is_at_most};
@@ -43,13 +45,65 @@ pub(crate) fn opened_mode(locks: &Locks, owner: u32, opened: Option<OpenWant>, n
 pub(crate) fn kept_mode(locks: &Locks, owner: u32, party: &Party, node: Node) -> Mode
     ensures { result ≡ kept_at (granted_at locks.now owner) party.now node }
 {
-    let opened = opened_mode(locks, owner, party.opened, node);
-    must_keep(party.needs.as_slice(), opened, node)
+    let opened = opened_mode(locks, owner, party.opened(), node);
+    party.must_keep(opened, node)
 }
 
 // Serves a notice: where the owner's lock at the node is stronger than it has to be, it comes down to the least mode that must be
-// kept. At want of memory it stays.
+// kept.
 pub(crate) fn serve_notice(
+    locks: &mut Locks,
+    owner: u32,
+    party: &Party,
+    node: Node,
+) -> Option<Demotion>
+    requires intents { HasIntents locks.old }
+    requires kept { IsKept locks.old owner party.now }
+    requires room { exceeds (granted_at locks.old owner node) (kept_at (granted_at locks.old owner) party.now node) ≡ true → HasSpare (length party.now.needs) locks.old }
+
+    ensures answer { result ≡ notice_answer (granted_at locks.old owner node) (kept_at (granted_at locks.old owner) party.now node) }
+    ensures least { exceeds (granted_at locks.old owner node) (kept_at (granted_at locks.old owner) party.now node) ≡ true → granted_at locks.new owner node ≡ kept_at (granted_at locks.old owner) party.now node }
+    ensures unchanged { exceeds (granted_at locks.old owner node) (kept_at (granted_at locks.old owner) party.now node) ≡ false → locks.new ≡ locks.old }
+    ensures served { IsServedAt owner party.now node locks.old locks.new }
+    ensures intents { HasIntents locks.new }
+    ensures kept { IsKept locks.new owner party.now }
+    ensures others { KeepsOthers owner locks.old locks.new }
+    ensures way { MakesWay owner locks.old locks.new }
+    ensures stands { StandsByNeeds locks.old owner party.now → StandsByNeeds locks.new owner party.now }
+    ensures spare { UsesSpare (length party.now.needs) locks.old locks.new }
+{
+    let held = granted_of(locks, owner, node);
+    let keep = kept_mode(locks, owner, party, node);
+    if !is_excess(held, keep) {
+        return None;
+    }
+    bring_down(locks, party.needs(), owner, node, keep);
+    Some(Demotion {
+        from: held,
+        to: keep,
+    })
+}
+
+// Makes room for all that the owner's needs may take lower, where a notice to it is due at the node.
+fn make_room_for_notice(
+    locks: &mut Locks,
+    owner: u32,
+    party: &Party,
+    node: Node,
+) -> Result<(), NoMemory>
+    ensures entries { locks.new.entries ≡ locks.old.entries }
+    ensures ok { OnOk result (exceeds (granted_at locks.old owner node) (kept_at (granted_at locks.old owner) party.now node) ≡ true → HasSpare (length party.now.needs) locks.new) }
+    ensures unchanged { OnOk result (exceeds (granted_at locks.old owner node) (kept_at (granted_at locks.old owner) party.now node) ≡ false → locks.new ≡ locks.old) }
+{
+    let held = granted_of(locks, owner, node);
+    if !is_excess(held, kept_mode(locks, owner, party, node)) {
+        return Ok(());
+    }
+    locks.reserve(party.needs().len())
+}
+
+// Answers a notice, as `serve_notice` does. All memory is taken before anything changes.
+pub(crate) fn answer_notice(
     locks: &mut Locks,
     owner: u32,
     party: &Party,
@@ -61,20 +115,14 @@ pub(crate) fn serve_notice(
     ensures answer { IfOk result (λ d. d ≡ notice_answer (granted_at locks.old owner node) (kept_at (granted_at locks.old owner) party.now node)) }
     ensures least { OnOk result (exceeds (granted_at locks.old owner node) (kept_at (granted_at locks.old owner) party.now node) ≡ true → granted_at locks.new owner node ≡ kept_at (granted_at locks.old owner) party.now node) }
     ensures unchanged { OnOk result (exceeds (granted_at locks.old owner node) (kept_at (granted_at locks.old owner) party.now node) ≡ false → locks.new ≡ locks.old) }
+    ensures served { OnOk result (IsServedAt owner party.now node locks.old locks.new) }
+    ensures err { OnErr result (locks.new.entries ≡ locks.old.entries) }
     ensures intents { HasIntents locks.new }
     ensures kept { IsKept locks.new owner party.now }
     ensures others { KeepsOthers owner locks.old locks.new }
     ensures way { MakesWay owner locks.old locks.new }
     ensures stands { StandsByNeeds locks.old owner party.now → StandsByNeeds locks.new owner party.now }
 {
-    let held = granted_of(locks, owner, node);
-    let keep = kept_mode(locks, owner, party, node);
-    if !is_excess(held, keep) {
-        return Ok(None);
-    }
-    bring_down(locks, party.needs.as_slice(), owner, node, keep)?;
-    Ok(Some(Demotion {
-        from: held,
-        to: keep,
-    }))
+    make_room_for_notice(locks, owner, party, node)?;
+    Ok(serve_notice(locks, owner, party, node))
 }

@@ -37,10 +37,10 @@ fn release_level(locks: &mut Locks, owner: u32, party: &Party, level: Level)
     ensures none { HasNoneAt locks.new owner level }
     ensures way { MakesWay owner locks.old locks.new }
 {
-    for need in party.needs.as_slice() {
+    for need in party.needs() {
         release_at(locks, owner, level, need.node);
     }
-    if let Some(want) = party.opened {
+    if let Some(want) = party.opened() {
         release_at(locks, owner, level, want.here);
     }
 }
@@ -56,7 +56,7 @@ fn stop_sleeping(locks: &mut Locks, owner: u32, party: &Party)
     ensures others { KeepsOthers owner locks.old locks.new }
     ensures way { MakesWay owner locks.old locks.new }
 {
-    if let Some(want) = party.opened {
+    if let Some(want) = party.opened() {
         let _stopped = stop_asking(locks, owner, want);
     }
 }

@@ -1,9 +1,10 @@
 ghost use Rattle.std.specs.Prelude.{◌≡◌, true, IfSome};
+ghost use Rattle.vms_queues.specs.Owners.{is_owner as is_number_of_owner};
 ghost use Rattle.lock_needs.specs.Needs.{is_plain};
 ghost use Rattle.lock_tree.specs.Forest.{party_of};
 ghost use Rattle.lock_tree.specs.Wanted.{IsOf};
 
-use crate::{Level, Need, Node, Tree, Want};
+use crate::{Level, Need, Node, Tree, Want, is_owner};
 use rdb_types::NoMemory;
 use std::test::Fail;
 use vms_queues::Mode;
@@ -117,7 +118,8 @@ fn is_answered(
     notices: u32,
     told: Told,
 ) -> Result<bool, NoMemory>
-    requires { is_plain need ≡ true }
+    requires owner { is_number_of_owner owner ≡ true }
+    requires plain { is_plain need ≡ true }
 {
     for delivered in 0..16 {
         if !may_want(tree, owner, need) {
@@ -140,6 +142,9 @@ fn plays(tree: &mut Tree, wait: bool, turns: &[Turn]) -> Result<bool, NoMemory> 
             tree.release_all(turn.owner);
             continue;
         };
+        if !is_owner(turn.owner) {
+            return Ok(false);
+        }
         if !is_answered(tree, turn.owner, need, wait, turn.notices, turn.told)? {
             return Ok(false);
         }

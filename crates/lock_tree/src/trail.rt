@@ -1,4 +1,4 @@
-ghost use Rattle.std.specs.Prelude.{◌≡◌, ◌&&◌, ℕ, option_map, slice_get};
+ghost use Rattle.std.specs.Prelude.{◌≡◌, ◌≤◌, ◌&&◌, ℕ, option_map, slice_get, vec_len, vec_capacity};
 ghost use Rattle.rdb_types.specs.declared.node.Node.{Node};
 ghost use Rattle.lock_tree.specs.Parties.{was_asked as was_asked_at};
 ghost use Rattle.lock_tree.specs.Forest.{asks_of, is_asked_at, KeepsAsks};
@@ -18,6 +18,8 @@ pub(crate) fn cut_asks(trail: &mut Vec<Asked>, owner: u32, want: OpenWant)
     ensures cut { trail.new.items ≡ asks_cut owner want trail.old.items }
     ensures own { (n : Node) → is_asked_at trail.new.items owner n ≡ (is_asked_at trail.old.items owner n && was_asked_at want n) }
     ensures others { KeepsAsks owner trail.old.items trail.new.items }
+    ensures bound { vec_len trail.new ≤ vec_len trail.old }
+    ensures capacity { vec_capacity trail.new ≡ vec_capacity trail.old }
 {
     trail.retain(|asked| asked.owner != owner || was_asked(want, asked.node));
 }

@@ -1,17 +1,20 @@
-ghost use Rattle.std.specs.Prelude.{◌≡◌, [], true, false, None, Some, is_some, option_map, slice_get, IfOk, OnOk, OnErr};
+ghost use Rattle.std.specs.Prelude.{◌≡◌, [], true, false, None, Some, is_some, option_map, slice_get, IfOk, IfSome, OnOk, OnErr};
 ghost use Rattle.rdb_types.specs.declared.node.Node.{Node};
 ghost use Rattle.vms_queues.specs.declared.lock_mode.Mode.TheVariants.{NL};
+ghost use Rattle.vms_queues.specs.Owners.{is_owner};
 ghost use Rattle.lock_needs.specs.Needs.{is_plain};
 ghost use Rattle.lock_needs.specs.Keeping.{is_excess};
 ghost use Rattle.lock_needs.specs.Wants.{kept_at};
 ghost use Rattle.lock_tree.specs.LockTable.{granted_at, AllShare};
 ghost use Rattle.lock_tree.specs.Forest.{IsWhole, KeepsParties, NeedsAreApart, idle, party_of, has_need, asks_of};
 ghost use Rattle.lock_tree.specs.Notices.{notice_answer};
+ghost use Rattle.lock_tree.specs.Progress.{is_spare, Falls, MovesOn};
 ghost use Rattle.lock_tree.specs.Wanted.{needs_of, wanted_of, IsOf, Answered};
+ghost use Rattle.lock_tree.specs.Room.{IsAsBefore, has_whole};
 
 use crate::answer::Want;
 use crate::holding::granted_of;
-use crate::notice::{Demotion, serve_notice};
+use crate::notice::{Demotion, answer_notice};
 use crate::parties::forget;
 use crate::parts::Parts;
 use crate::releasing::release_owner;
@@ -45,7 +48,9 @@ impl Model for Tree {
 impl Tree {
     /// Nobody has or wants anything.
     pub fn new(alloc: Global) -> Tree
-        ensures { result ≡ record { table = []; parties = []; trail = [] } }
+        ensures table { result.table.entries ≡ [] }
+        ensures parties { result.parties ≡ [] }
+        ensures trail { result.trail ≡ [] }
     {
         Tree {
             parts: Parts {
@@ -61,17 +66,18 @@ impl Tree {
     /// the owner's own lock comes down to what must be kept, and the want's mode is asked, unless a notice is due before. A want that
     /// is open goes on from where it stands; after a notice was delivered it looks again. Where it isn't to wait, what can't be
     /// granted is refused. Who sleeps or is refused waits by needs, or would wait so, for whom the answer names: by the needs that
-    /// others have got, the wants that are open, and the order in which these were asked. For want of memory nothing is got, and a
-    /// want that was open is open still.
+    /// others have got, the wants that are open, and the order in which these were asked. All memory is taken before the first
+    /// change: after want of memory all is as before. A want that is open never raises the measure that each notice lowers, and where
+    /// it ends, the measure falls: so no lock goes to and fro.
     pub fn want(&mut self, owner: u32, need: Need, wait: bool) -> Result<Want, NoMemory>
+        requires owner { is_owner owner ≡ true }
         requires plain { is_plain need ≡ true }
         requires same { IsOf need (party_of self.old.parties owner).opened }
 
         ensures answer { IfOk result (Answered (needs_of self.old owner) self.new owner need wait) }
+        ensures progress { is_some (party_of self.old.parties owner).opened ≡ true → IfOk result (MovesOn owner self.old self.new) }
         ensures others { KeepsParties owner self.old.parties self.new.parties }
-        ensures err { OnErr result (needs_of self.new owner ≡ needs_of self.old owner) }
-        ensures err_open { OnErr result (IsOf need (party_of self.new.parties owner).opened) }
-        ensures err_stands { OnErr result (is_some (party_of self.old.parties owner).opened ≡ true → is_some (party_of self.new.parties owner).opened ≡ true) }
+        ensures err { OnErr result (IsAsBefore self.old self.new) }
     {
         self.parts.want(owner, need, wait)
     }
@@ -94,7 +100,8 @@ impl Tree {
 
     /// Serves a notice at the node: where the owner's lock there is stronger than it has to be, it comes down to the least mode that
     /// its needs and its open want require. What a stronger lock covered alone is taken one level lower first. The mode that was
-    /// asked there needn't be looked at.
+    /// asked there needn't be looked at. The memory for that is taken before: after want of memory all is as before. Each
+    /// notice that finds something to do lowers a measure.
     pub fn deliver_notice(
         &mut self,
         to: u32,
@@ -104,27 +111,31 @@ impl Tree {
         ensures answer { IfOk result (λ d. d ≡ notice_answer (granted_at self.old.table to node) (kept_at (granted_at self.old.table to) (party_of self.old.parties to) node)) }
         ensures least { OnOk result (is_excess (granted_at self.old.table to node) (kept_at (granted_at self.old.table to) (party_of self.old.parties to) node) ≡ true → granted_at self.new.table to node ≡ kept_at (granted_at self.old.table to) (party_of self.old.parties to) node) }
         ensures unchanged { OnOk result (is_excess (granted_at self.old.table to node) (kept_at (granted_at self.old.table to) (party_of self.old.parties to) node) ≡ false → self.new ≡ self.old) }
+        ensures falls { OnOk result (is_spare (granted_at self.old.table to) (party_of self.old.parties to) node ≡ true → Falls to self.old self.new) }
         ensures parties { self.new.parties ≡ self.old.parties }
         ensures trail { self.new.trail ≡ self.old.trail }
+        ensures err { OnErr result (IsAsBefore self.old self.new) }
     {
         match self.parts.parties.get(&to) {
-            Some(party) => serve_notice(&mut self.parts.locks, to, party, node),
+            Some(party) => answer_notice(&mut self.parts.locks, to, party, node),
             None => Ok(None),
         }
     }
 
     /// Ends the owner's open want, its queued request with it: the locks that it was granted come down to what the owner's needs
-    /// require. Where there is none, nothing changes. Memory is wanted where a need has to be covered one level lower; for want of
-    /// it the want is open still, at the node that it had come to then.
+    /// require. Where there is none, nothing changes. Takes no memory, unless the want of a node that contains others has been
+    /// granted its whole need since it was asked last: what that lock alone covers has then to be taken one level lower, and after
+    /// want of memory all is as before.
     pub fn give_up(&mut self, owner: u32) -> Result<(), NoMemory>
         ensures ended { OnOk result ((party_of self.new.parties owner).opened ≡ None) }
         ensures needs { (party_of self.new.parties owner).needs ≡ (party_of self.old.parties owner).needs }
         ensures others { KeepsParties owner self.old.parties self.new.parties }
         ensures unchanged { (party_of self.old.parties owner).opened ≡ None → self.new ≡ self.old }
-        ensures err { OnErr result (wanted_of self.new owner ≡ wanted_of self.old owner) }
+        ensures memory { OnErr result (IfSome (party_of self.old.parties owner).opened (λ w. has_whole (granted_at self.old.table owner) w ≡ true)) }
+        ensures err { OnErr result (IsAsBefore self.old self.new) }
     {
         match self.parts.opened_of(owner) {
-            Some(want) => self.parts.close_want(owner, want),
+            Some(want) => self.parts.give_up(owner, want),
             None => Ok(()),
         }
     }
@@ -144,7 +155,7 @@ impl Tree {
         ensures whole { IsWhole self.now }
     {
         match self.parts.parties.get(&owner) {
-            Some(party) => party.needs.as_slice().iter().any(|held| *held == need),
+            Some(party) => party.needs().iter().any(|held| *held == need),
             None => false,
         }
     }

@@ -1,86 +1,175 @@
 //! Wants, from their opening on.
 
-ghost use Rattle.std.specs.Prelude.{◌≡◌, true, None, Some, is_some, IfOk, OnErr};
+ghost use Rattle.std.specs.Prelude.{◌≡◌, ◌+◌, ◌*◌, true, None, Some, is_some, length, IfOk, IfSome, OnOk, OnErr};
+ghost use Rattle.vms_queues.specs.Owners.{is_owner};
 ghost use Rattle.lock_needs.specs.Needs.{is_plain};
-ghost use Rattle.lock_tree.specs.Forest.{IsWhole, KeepsParties, opened_of as open_want_of};
+ghost use Rattle.lock_tree.specs.Forest.{IsWhole, KeepsParties, party_of, opened_of as open_want_of};
+ghost use Rattle.lock_tree.specs.Progress.{MovesOn};
 ghost use Rattle.lock_tree.specs.States.{state_of};
-ghost use Rattle.lock_tree.specs.Wanted.{needs_of, IsOf, IsOpen, Answered};
+ghost use Rattle.lock_tree.specs.Wanted.{needs_of, IsOf, Answered};
+ghost use Rattle.lock_tree.specs.LockTable.{granted_at};
+ghost use Rattle.lock_tree.specs.Parties.{resting};
+ghost use Rattle.lock_tree.specs.Room.{HasRoomFor, HasSpare, IsAsBefore, has_whole};
 
 use crate::answer::{Step, Want};
-use crate::ending::is_covered;
-use crate::parties::{add_need, admit, set_opened};
+use crate::parties::{admit, open_for};
 use crate::parts::Parts;
+use crate::sleeping::is_granted;
 use crate::trail::cut_asks;
 use crate::way::opening;
-use lock_needs::{Need, OpenWant};
+use indexmap::IndexMap;
+use lock_needs::{Need, OpenWant, Party};
 use rdb_types::NoMemory;
+
+/// How many nodes are on the way of a need, its own with them.
+const WAY_NODES: usize = 4;
+
+// How many needs the owner has got.
+fn count_needs(parties: &IndexMap<u32, Party>, owner: u32) -> usize
+    ensures { result ≡ length (party_of parties.now.entries owner).needs }
+{
+    match parties.get(&owner) {
+        Some(party) => party.needs().len(),
+        None => 0,
+    }
+}
+
+// How many places a want may take in the lock table: at each node on its way one for its lock, and one for each need of its owner
+// that is to be taken lower.
+fn places_for(parties: &IndexMap<u32, Party>, owner: u32) -> Option<usize>
+    ensures { IfSome result (λ n. n ≡ 4 * (length (party_of parties.now.entries owner).needs + 1)) }
+{
+    let needs = count_needs(parties, owner);
+    needs.checked_add(1)?.checked_mul(WAY_NODES)
+}
 
 impl Parts {
     // The owner's open want.
     pub(crate) fn opened_of(&self, owner: u32) -> Option<OpenWant>
         ensures { result ≡ open_want_of (state_of self.now) owner }
     {
-        self.parties.get(&owner)?.opened
+        self.parties.get(&owner)?.opened()
     }
 
-    // Opens a want of the need for an owner that has none open, unless a lock covers the need already.
+    // Takes the memory that the owner's want may need.
+    fn make_room(&mut self, owner: u32) -> Result<(), NoMemory>
+        ensures same { IsAsBefore (state_of self.old) (state_of self.new) }
+        ensures parties { self.new.parties ≡ self.old.parties }
+        ensures ok { OnOk result (HasRoomFor 4 owner self.new) }
+    {
+        let Some(places) = places_for(&self.parties, owner) else {
+            return Err(NoMemory {});
+        };
+        self.trail.reserve(WAY_NODES)?;
+        self.locks.reserve(places)?;
+        Ok(())
+    }
+
+    // Opens a want of the need for an owner that has none open.
     fn open_want(&mut self, owner: u32, need: Need, wait: bool) -> Result<Want, NoMemory>
+        requires owner { is_owner owner ≡ true }
+        requires room { HasRoomFor 4 owner self.old }
         requires whole { IsWhole (state_of self.old) }
         requires resting { open_want_of (state_of self.old) owner ≡ None }
         requires plain { is_plain need ≡ true }
 
         ensures answer { IfOk result (Answered (needs_of (state_of self.old) owner) (state_of self.new) owner need wait) }
-        ensures err { OnErr result (needs_of (state_of self.new) owner ≡ needs_of (state_of self.old) owner) }
-        ensures same { OnErr result (IsOf need (open_want_of (state_of self.new) owner)) }
+        ensures err { OnErr result (IsAsBefore (state_of self.old) (state_of self.new)) }
         ensures whole { IsWhole (state_of self.new) }
         ensures others { KeepsParties owner self.old.parties.entries self.new.parties.entries }
     {
         admit(&mut self.parties, owner)?;
         let want = opening(need);
+        open_for(&mut self.parties, owner, want)?;
         cut_asks(&mut self.trail, owner, want);
-        if is_covered(&self.locks, owner, need) {
-            add_need(&mut self.parties, owner, need)?;
-            return Ok(Want::Got);
-        }
-        set_opened(&mut self.parties, owner, Some(want));
-        self.go_down(owner, want, wait)
+        Ok(self.go_down(owner, want, wait))
     }
 
     // Goes on with an open want that was asked at the node that it has come to.
-    fn look_again(&mut self, owner: u32, want: OpenWant, wait: bool) -> Result<Want, NoMemory>
+    fn look_again(&mut self, owner: u32, want: OpenWant, wait: bool) -> Want
+        requires owner { is_owner owner ≡ true }
+        requires room { HasRoomFor 4 owner self.old }
         requires whole { IsWhole (state_of self.old) }
         requires opened { open_want_of (state_of self.old) owner ≡ Some want }
         requires asked { want.is_asked ≡ true }
         requires plain { is_plain want.need ≡ true }
 
-        ensures answer { IfOk result (Answered (needs_of (state_of self.old) owner) (state_of self.new) owner want.need wait) }
-        ensures err { OnErr result (IsOpen (state_of self.new) owner (needs_of (state_of self.old) owner) want.need) }
+        ensures answer { Answered (needs_of (state_of self.old) owner) (state_of self.new) owner want.need wait result }
+        ensures progress { MovesOn owner (state_of self.old) (state_of self.new) result }
         ensures whole { IsWhole (state_of self.new) }
         ensures others { KeepsParties owner self.old.parties.entries self.new.parties.entries }
     {
-        match self.stand(owner, want, wait)? {
+        match self.stand(owner, want, wait) {
             Step::Down(next) => self.go_down(owner, next, wait),
-            Step::Ends(answer) => Ok(answer),
+            Step::Ends(answer) => answer,
         }
     }
 
-    // Asks for the need: opens a want of it, or goes on with the want that is open.
-    pub(crate) fn want(&mut self, owner: u32, need: Need, wait: bool) -> Result<Want, NoMemory>
+    // Opens a want of the need, or goes on with the want that is open.
+    fn want_in_room(&mut self, owner: u32, need: Need, wait: bool) -> Result<Want, NoMemory>
+        requires owner { is_owner owner ≡ true }
+        requires room { HasRoomFor 4 owner self.old }
         requires whole { IsWhole (state_of self.old) }
         requires plain { is_plain need ≡ true }
         requires same { IsOf need (open_want_of (state_of self.old) owner) }
 
         ensures answer { IfOk result (Answered (needs_of (state_of self.old) owner) (state_of self.new) owner need wait) }
-        ensures err { OnErr result (needs_of (state_of self.new) owner ≡ needs_of (state_of self.old) owner) }
-        ensures err_open { OnErr result (IsOf need (open_want_of (state_of self.new) owner)) }
-        ensures err_stands { OnErr result (is_some (open_want_of (state_of self.old) owner) ≡ true → is_some (open_want_of (state_of self.new) owner) ≡ true) }
+        ensures progress { is_some (open_want_of (state_of self.old) owner) ≡ true → IfOk result (MovesOn owner (state_of self.old) (state_of self.new)) }
+        ensures err { OnErr result (IsAsBefore (state_of self.old) (state_of self.new)) }
         ensures whole { IsWhole (state_of self.new) }
         ensures others { KeepsParties owner self.old.parties.entries self.new.parties.entries }
     {
         match self.opened_of(owner) {
-            Some(want) if want.is_asked => self.look_again(owner, want, wait),
-            Some(want) => self.go_down(owner, want, wait),
+            Some(want) if want.is_asked => Ok(self.look_again(owner, want, wait)),
+            Some(want) => Ok(self.go_down(owner, want, wait)),
             None => self.open_want(owner, need, wait),
         }
+    }
+
+    // Asks for the need: opens a want of it, or goes on with the want that is open. All memory is taken before anything changes.
+    pub(crate) fn want(&mut self, owner: u32, need: Need, wait: bool) -> Result<Want, NoMemory>
+        requires owner { is_owner owner ≡ true }
+        requires whole { IsWhole (state_of self.old) }
+        requires plain { is_plain need ≡ true }
+        requires same { IsOf need (open_want_of (state_of self.old) owner) }
+
+        ensures answer { IfOk result (Answered (needs_of (state_of self.old) owner) (state_of self.new) owner need wait) }
+        ensures progress { is_some (open_want_of (state_of self.old) owner) ≡ true → IfOk result (MovesOn owner (state_of self.old) (state_of self.new)) }
+        ensures err { OnErr result (IsAsBefore (state_of self.old) (state_of self.new)) }
+        ensures whole { IsWhole (state_of self.new) }
+        ensures others { KeepsParties owner self.old.parties.entries self.new.parties.entries }
+    {
+        self.make_room(owner)?;
+        self.want_in_room(owner, need, wait)
+    }
+
+    // Makes room for all that the owner's needs may take lower as its open want ends: only where it has been granted its whole need.
+    fn make_room_to_end(&mut self, owner: u32, want: OpenWant) -> Result<(), NoMemory>
+        ensures same { IsAsBefore (state_of self.old) (state_of self.new) }
+        ensures parties { self.new.parties ≡ self.old.parties }
+        ensures ok { OnOk result (has_whole (granted_at self.old.locks owner) want ≡ true → HasSpare (length (needs_of (state_of self.old) owner)) self.new.locks) }
+        ensures memory { OnErr result (has_whole (granted_at self.old.locks owner) want ≡ true) }
+    {
+        if !is_granted(&self.locks, owner, want) {
+            return Ok(());
+        }
+        let needs = count_needs(&self.parties, owner);
+        self.locks.reserve(needs)
+    }
+
+    // Ends the owner's open want. All memory is taken before anything changes.
+    pub(crate) fn give_up(&mut self, owner: u32, want: OpenWant) -> Result<(), NoMemory>
+        requires whole { IsWhole (state_of self.old) }
+        requires opened { open_want_of (state_of self.old) owner ≡ Some want }
+
+        ensures ended { OnOk result (party_of self.new.parties.entries owner ≡ resting (needs_of (state_of self.old) owner)) }
+        ensures memory { OnErr result (has_whole (granted_at self.old.locks owner) want ≡ true) }
+        ensures err { OnErr result (IsAsBefore (state_of self.old) (state_of self.new)) }
+        ensures whole { IsWhole (state_of self.new) }
+        ensures others { KeepsParties owner self.old.parties.entries self.new.parties.entries }
+    {
+        self.make_room_to_end(owner, want)?;
+        self.close_want(owner, want);
+        Ok(())
     }
 }

@@ -1,21 +1,13 @@
 ghost use Rattle.std.specs.Prelude.{◌≡◌, nat_lt, slice_index_or, IfOk};
 ghost use Rattle.std.specs.Ordering.{is_eq};
 ghost use Rattle.rdb_meaning.specs.Comparison.{rank_of, row_rank};
-ghost use Rattle.rdb_meaning.specs.Contents.{key_of, has_key, longest_value};
+ghost use Rattle.rdb_meaning.specs.Contents.{key_of, has_key};
 ghost use Rattle.rdb_meaning.specs.Defining.{positions_of, longest_at, longest_key, keys_repeat};
 
 use rdb_meaning::{FieldAt, field_of, same_name};
-use rdb_types::{Chars, DataType, Dbkey, Field, FieldType, Items, NoMemory, Positions, Row, Value};
+use rdb_types::{Chars, Dbkey, Field, Items, NoMemory, Positions, Row, Value};
+use row_sizes::longest_value;
 use std::alloc::Global;
-
-fn longest_value(kind: &FieldType) -> u32
-    ensures { result ≡ longest_value kind.now }
-{
-    match kind.kind {
-        DataType::Text => 3 + u32::from(kind.size),
-        DataType::Word | DataType::Longword | DataType::Quadword => 9,
-    }
-}
 
 fn longest_at(fields: &[Field], name: &Chars) -> u32
     ensures { result ≡ longest_at fields.now name.now }

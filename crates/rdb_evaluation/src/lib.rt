@@ -9,11 +9,13 @@ mod reducing;
 mod scale;
 mod select;
 mod sorting;
-mod statistic;
+mod statistics;
 mod tuples;
 
 pub use evaluate::{chooses, value_of};
 pub use reading::{read, scaled};
 pub use reducing::ReducedValues;
+pub use scale::{capped, operated_scale};
 pub use select::selection;
+pub use statistics::statistic;
 pub use tuples::Tuples;

@@ -11,7 +11,7 @@ use rdo_ast::syntax::{Arithmetic, Expression, Operation, Range, Reference};
 use std::alloc::Global;
 
 /// The scale, or 19 for any past the greatest: no result has one.
-fn capped(scale: u8) -> u8
+pub fn capped(scale: u8) -> u8
     ensures { result ≡ min scale 19 }
 {
     if scale > GREATEST_SCALE {
@@ -36,7 +36,8 @@ fn field_scale(tables: &Tables, scope: &[Binding], reference: &Reference) -> u8
     }
 }
 
-fn operated_scale(op: Arithmetic, s: u8, t: u8) -> u8
+/// The scale of an operation's result by the scales of its operands, or 19 for any past the greatest.
+pub fn operated_scale(op: Arithmetic, s: u8, t: u8) -> u8
     requires left { s ≤ 19 }
     requires right { t ≤ 19 }
     ensures { result ≡ min (scale_by op s t) 19 }

@@ -1,17 +1,9 @@
 //! The length of a row's image.
 ghost use Rattle.std.specs.Prelude.{◌≡◌, ◌+◌, IfOk};
-ghost use Rattle.rdb_meaning.specs.Contents.{longest_value as longest_of, value_length as length_of, is_too_long as too_long};
+ghost use Rattle.rdb_meaning.specs.Contents.{value_length as length_of, is_too_long as too_long};
 
-use rdb_types::{DataType, Field, FieldType, NoMemory, Value};
-
-fn longest_value(kind: FieldType) -> usize
-    ensures { result ≡ longest_of kind }
-{
-    match kind.kind {
-        DataType::Text => 3 + kind.size as usize,
-        DataType::Word | DataType::Longword | DataType::Quadword => 9,
-    }
-}
+use rdb_types::{Field, NoMemory, Value};
+use row_sizes::class_of;
 
 fn value_length(value: &Value) -> Result<usize, NoMemory>
     ensures { IfOk result (λ n. n ≡ length_of value.now) }
@@ -34,14 +26,9 @@ fn sum(a: usize, b: usize) -> Result<usize, NoMemory>
 pub fn is_too_long(fields: &[Field], row: &[Value]) -> Result<bool, NoMemory>
     ensures { IfOk result (λ answer. answer ≡ too_long fields.now row.now) }
 {
-    let mut longest = 3;
-    for field in fields {
-        longest = sum(longest, longest_value(field.kind))?;
-    }
-    let class = if longest <= 104 { 208 } else { 440 };
     let mut length = 3;
     for value in row {
         length = sum(length, value_length(value)?)?;
     }
-    Ok(class < length)
+    Ok(usize::from(class_of(fields)) < length)
 }

@@ -1,3 +1,13 @@
+pub mod Unasked
+pub mod Normal
+pub mod Answering
+pub mod Puts
+pub mod PutLists
+pub mod Arms
+pub mod Given
+pub mod Matchings
+pub mod Asks
+pub mod Gathering
 pub mod Keeping
 pub mod RowsAtHand
 pub mod SameTuples

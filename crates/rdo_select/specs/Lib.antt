@@ -1,5 +1,8 @@
-pub mod Stops
+pub mod Sources
+pub mod Asking
 pub mod Chosen
 pub mod Crossed
 pub mod Ordered
-pub mod Sources
+pub mod Stops
+pub mod Reasons
+pub mod Put

@@ -2,11 +2,15 @@
 #![tactic(auto)]
 
 mod any;
+mod asking;
 mod crossing;
 mod judging;
+mod putting;
 mod reducing;
 mod selection;
+mod settling;
 mod sorting;
+mod source;
 mod sources;
 mod stop;
 #[cfg(test)]
@@ -16,5 +20,6 @@ mod tuples;
 pub use any::any_selected;
 pub use crossing::{Found, FoundTuples};
 pub use selection::select;
+pub use settling::{holds_in, matching, selected, value_in};
+pub use source::{Source, Sources};
 pub use stop::SelectStop;
-pub use tuples::{matching, selected};

@@ -60,7 +60,8 @@ fn values_of(alloc: Global, clauses: &[BoundClause], row: &[Value]) -> Result<Ro
     Ok(values)
 }
 
-fn push_if(
+/// Keeps a tuple that is wanted.
+pub(crate) fn push_if(
     first: bool,
     kept: &mut FoundTuples,
     alloc: Global,

@@ -4,6 +4,7 @@ ghost use Rattle.rdo_select.specs.Stops.{stop_of_view, stop_of_value};
 use line_view::{Need, Stop};
 use rdb_types::{Dbkey, NoMemory};
 use rdo_values::Stop as ValueStop;
+use std::alloc::AllocError;
 
 /// Why a selection over a view stops.
 #[derive(Clone, Copy, Debug, PartialEq, Eq)]
@@ -42,6 +43,16 @@ impl From<NoMemory> for SelectStop {
     ghost from_gives = { λ _ e. e ≡ stops.NoMemory };
 
     fn from(_: NoMemory) -> Self {
+        SelectStop::NoMemory
+    }
+}
+
+impl From<AllocError> for SelectStop {
+    ghost use Rattle.rdo_select.specs.declared.stop.SelectStop.TheVariants as stops;
+
+    ghost from_gives = { λ _ e. e ≡ stops.NoMemory };
+
+    fn from(_: AllocError) -> Self {
         SelectStop::NoMemory
     }
 }

@@ -26,13 +26,13 @@ literal_gives kind (Some (Number n)) = refl
 literal_gives kind (Some (Text s)) = refl
 literal_gives kind None = refl
 
-known_gives : (v : KnownValue) → computed (known_literal v) no_tables [] ≡ value_known v
+pub known_gives : (v : KnownValue) → computed (known_literal v) no_tables [] ≡ value_known v
 known_gives known_value.Missing = refl
 known_gives (known_value.Number n scale) = refl
 known_gives (known_value.Text s) = refl
 known_gives known_value.Overflow = refl
 
-known_says : (v : KnownTruth) → tested (known_test v) no_tables [] ≡ truth_known v
+pub known_says : (v : KnownTruth) → tested (known_test v) no_tables [] ≡ truth_known v
 known_says known_truth.True = refl
 known_says known_truth.False = refl
 known_says known_truth.Overflow = refl

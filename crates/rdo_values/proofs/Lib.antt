@@ -3,3 +3,5 @@ pub mod Reading
 pub mod Filling
 pub mod Tuples
 pub mod Examples
+pub mod ScaleChains
+pub mod ScaleNames

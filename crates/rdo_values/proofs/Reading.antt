@@ -11,7 +11,7 @@ use Rattle.rdb_meaning.specs.Evaluation.{Scope, bound_as, row_now, scaled_if, re
 use Rattle.rdo_values.specs.Rows.{values_of, row_or_none, row_of, variables_of}
 use Rattle.rdo_values.specs.Places.{Place, place_of_field, behind, located}
 
-some_same : {A : Type 0} (a b : A) → Some a ≡ Some b → a ≡ b
+pub some_same : {A : Type 0} (a b : A) → Some a ≡ Some b → a ≡ b
 some_same a b e = cc
 
 -- ---- a field of the first variable

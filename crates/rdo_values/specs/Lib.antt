@@ -6,3 +6,4 @@ pub mod Places
 pub mod Known
 pub mod Filled
 pub mod Selections
+pub mod Scales

@@ -4,6 +4,7 @@
 mod bound;
 mod condition;
 mod expression;
+mod scales;
 #[cfg(test)]
 mod tests;
 
@@ -15,3 +16,4 @@ pub use bound::{
 pub use condition::holds;
 pub use expression::value;
 pub use rdo_arithmetic::{Misfit, Stop, fit};
+pub use scales::scale;

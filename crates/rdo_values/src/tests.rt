@@ -4,7 +4,7 @@ ghost use Rattle.rdo_values.specs.Known.{IsSettled, IsSettledCondition};
 
 use crate::{
     BoundCondition, BoundConjunction, BoundExpression, BoundOperation, BoundReference, BoundTest,
-    KnownTruth, KnownValue, Stop, holds, value,
+    KnownTruth, KnownValue, Stop, holds, scale, value,
 };
 use rdb_types::{Boxed, Chars, DataType, FieldType, Items, NoMemory, Row, Scaled, Value};
 use rdo_ast::syntax::{Arithmetic, Comparison, Reference};
@@ -152,5 +152,23 @@ fn a_false_part_decides_whatever_overflows(rt: HostRuntime) -> Result<(), Fail> 
         let condition = condition(alloc, case.less, case.any)?;
         assert_eq!(rt; holds(alloc, &condition, row.as_slice()), case.chosen);
     }
+    Ok(())
+}
+
+/// A number with two digits after the point, times a number of this scale.
+fn product(alloc: Global, factor: u8) -> Result<BoundExpression, NoMemory> {
+    let mut operations = Items::new(alloc);
+    operations.push(BoundOperation {
+        operator: Arithmetic::Times,
+        operand: BoundExpression::Number(1, factor),
+    })?;
+    Ok(BoundExpression::Chain(Boxed::new(alloc, field(alloc, 0)?)?, operations))
+}
+
+#[test]
+fn scales_are_those_of_the_types(rt: HostRuntime) -> Result<(), Fail> {
+    let alloc = rt.alloc();
+    assert_eq!(rt; scale(&product(alloc, 3)?), 5);
+    assert_eq!(rt; scale(&product(alloc, 200)?), 19);
     Ok(())
 }

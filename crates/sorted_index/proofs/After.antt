@@ -2,21 +2,23 @@
 use Rattle.std.proofs.Common.{◌≡◌, ℕ, zero, suc, true, false, cond, List, [], ◌∷◌, ◌++◌, Option, Some, None, refl, sym, ap, subst, ◌∙◌}
 use Rattle.std.specs.Ordering.{is_eq}
 use Rattle.std.specs.List.{AllByRecursion}
-use Rattle.std.proofs.lemmas.Cmp.{tied_itself}
 use Rattle.rdb_types.specs.declared.keys.Dbkey.{Dbkey}
 use Rattle.ordered_entries.specs.Order.{dbkey_order}
-use Rattle.ordered_entries.proofs.Laws.{dbkey_total}
 use Rattle.index_node.specs.declared.entry.NodeEntry.{NodeEntry}
 use Rattle.line_view.specs.Knowledge.{Lines, line_in, laid}
 use Rattle.line_view.proofs.FullMap.{laid_found}
-use Rattle.sorted_index.specs.declared.writes.Write.{Write}
-use Rattle.sorted_index.specs.Tree.{Tree, place, node_of, pairs, places, Bears, AreParted, Stands, IsIndex}
-use Rattle.sorted_index.specs.Changes.{goes_on, without_pair, laid_all, Leaves}
+use Rattle.line_view.specs.declared.writes.Write.{Write}
+use Rattle.line_view.specs.Writes.{laid_all}
+use Rattle.line_view.proofs.Written.{WriteOn, written_last}
+use Rattle.sorted_index.specs.Tree.{Tree, place, node_of, pairs, places, Bears, AreParted, Stands, IsIndex, has_nothing}
+use Rattle.sorted_index.specs.Changes.{goes_on, without_pair, Leaves, ErasesOthers}
 use Rattle.sorted_index.proofs.Frame.{IsApart, all_beside, stands_beside}
-use Rattle.sorted_index.proofs.Lines.{Distinct, all_front, all_rest, parts, flipped, head_apart, tail_distinct, laid_in_turn, WriteOn, stands_beside_all}
+use Rattle.sorted_index.proofs.Lines.{equal_eq, Distinct, all_front, all_rest, parts, flipped, head_apart, tail_distinct, stands_beside_all}
 use Rattle.sorted_index.proofs.Ordered.{all_append, StandsBelow}
-use Rattle.sorted_index.specs.Removal.{has_nothing, keep, replaced, without, Choose, IsLeft, WroteIn, Wrote}
+use Rattle.sorted_index.specs.Removal.{keep, replaced, without, Choose, IsLeft, WroteIn, Wrote}
 use Rattle.sorted_index.proofs.Without.{same_place, Entries}
+use Rattle.sorted_index.proofs.Filled.{still_filled}
+use Rattle.sorted_index.proofs.Erased.{others_erased}
 use Rattle.sorted_index.proofs.Removed.{PlacesOf, all_replaced, all_within, still_distinct, pairs_left, still_parted}
 
 -- ---- what is written
@@ -73,9 +75,6 @@ pub area_of : (lines : Lines) (area level : ℕ) (tree : Tree level) → Stands 
 area_of lines area zero tree is = is.0
 area_of lines area (suc level) tree is = is.0
 
-pub equal_eq : (key : Dbkey) → is_eq (dbkey_order key key) ≡ true
-equal_eq key = ap is_eq (tied_itself dbkey_total key)
-
 -- a node that is written behind what is below it
 pub rewritten : (lines : Lines) (area : ℕ) (pair : NodeEntry) (level : ℕ) (tree : Tree level) (before : List Write) (image : Option (List ℕ)) → Stands lines area level tree → Distinct (places level tree) → Inner (laid_all before lines) area level (without pair level tree) → Bears image (node_of level (without pair level tree))
     → Stands (laid (place level tree) image (laid_all before lines)) area level (without pair level tree)
@@ -87,9 +86,6 @@ rewritten lines area pair level tree before image is distinct inner bears =
     stands_whole (laid at image under) area level (without pair level tree) (ap (λ (k : Dbkey). k.area) (same_place pair level tree) ∙ area_of lines area level tree is)
     (subst (λ what. Bears what (node_of level (without pair level tree))) (sym found) bears)
     (inner_beside under at image area level (without pair level tree) (inner_apart pair level tree distinct) inner)
-
-written_last : (writes before : List Write) (key : Dbkey) (image : Option (List ℕ)) (lines : Lines) → writes ≡ before ++ record { key = key; image = image } ∷ [] → laid_all writes lines ≡ laid key image (laid_all before lines)
-written_last writes before key image lines is = ap (λ ws. laid_all ws lines) is ∙ laid_in_turn before (record { key = key; image = image } ∷ []) lines
 
 after_children : (lines : Lines) (area : ℕ) (pair : NodeEntry) (level : ℕ) → ((tree : Tree level) (writes : List Write) → Stands lines area level tree → Distinct (places level tree) → Wrote pair level tree writes → Inner (laid_all writes lines) area level (without pair level tree))
     → (children : List (NodeEntry × Tree level)) (writes : List Write) → AllByRecursion (StandsBelow lines area level) children → Distinct (PlacesOf level children) → WroteIn pair level (Wrote pair level) children writes → AllByRecursion (StandsBelow (laid_all writes lines) area level) (replaced level pair (without pair level) children)
@@ -136,19 +132,21 @@ areas lines area zero tree is = (is.0, tt)
 areas lines area (suc level) tree is = (is.0, all_areas lines area level (areas lines area level) tree.entries is.2)
 
 pub index_left : (lines : Lines) (root : Dbkey) (pair : NodeEntry) (level : ℕ) (tree : Tree level) (writes before : List Write) (image : Option (List ℕ)) → IsIndex lines root level tree → Wrote pair level tree before → Bears image (node_of level (without pair level tree)) → writes ≡ before ++ record { key = root; image = image } ∷ []
-    → Leaves lines root writes (without_pair pair (pairs level tree))
+    → (left : Leaves lines root level tree writes (without_pair pair (pairs level tree))) × ErasesOthers level tree left.level left.tree writes
 index_left lines root pair level tree writes before image is wrote bears written =
     let after = rewritten lines root.area pair level tree before image is.stands is.once (stands_after lines root.area pair level tree before is.stands is.once wrote) bears in (
-      level,
-      without pair level tree,
-      (
-        record {
+      record {
+        level = level;
+        tree = without pair level tree;
+        index = record {
           rooted = same_place pair level tree ∙ is.rooted;
           stands = subst (λ ls. Stands ls root.area level (without pair level tree)) (sym (written_last writes before root image lines written))
               (subst (λ (k : Dbkey). Stands (laid k image (laid_all before lines)) root.area level (without pair level tree)) is.rooted after);
           once = still_distinct pair level tree is.once;
-        },
-        pairs_left lines root.area pair level tree is.stands,
-        with_own (λ (k : Dbkey). k.area ≡ root.area) writes before root image written (keys_within (λ (k : Dbkey). k.area ≡ root.area) pair level tree before (areas lines root.area level tree is.stands) wrote) refl,
-      ),
+        };
+        pairs_are = pairs_left lines root.area pair level tree is.stands;
+        in_area = with_own (λ (k : Dbkey). k.area ≡ root.area) writes before root image written (keys_within (λ (k : Dbkey). k.area ≡ root.area) pair level tree before (areas lines root.area level tree is.stands) wrote) refl;
+        filled = still_filled pair level tree;
+      },
+      others_erased pair level tree writes before root image wrote written,
     )

@@ -11,11 +11,12 @@ use Rattle.ordered_entries.proofs.Laws.{same_dbkey}
 use Rattle.index_node.specs.declared.entry.NodeEntry.{NodeEntry}
 use Rattle.index_node.specs.declared.node.IndexNode.{IndexNode}
 use Rattle.line_view.specs.Knowledge.{Lines, Knowledge, Agrees, line_in}
-use Rattle.sorted_index.specs.declared.writes.Write.{Write}
+use Rattle.line_view.specs.declared.writes.Write.{Write}
+use Rattle.line_view.proofs.Written.{WriteOn}
 use Rattle.sorted_index.specs.Tree.{Tree, node_of, places, Bears, Stands}
 use Rattle.sorted_index.specs.Insertion.{room_at, Among}
 use Rattle.sorted_index.proofs.Frame.{IsApart}
-use Rattle.sorted_index.proofs.Lines.{AreApart, WriteOn, map_all, flipped}
+use Rattle.sorted_index.proofs.Lines.{AreApart, map_all, flipped}
 use Rattle.sorted_index.proofs.Ordered.{StandsBelow, all_append}
 use Rattle.sorted_index.proofs.Removed.{PlacesOf}
 

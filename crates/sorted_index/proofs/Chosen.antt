@@ -5,10 +5,10 @@ use Rattle.std.specs.List.{AllByRecursion, remove}
 use Rattle.index_node.specs.declared.entry.NodeEntry.{NodeEntry}
 use Rattle.index_node.specs.Order.{entry_order}
 use Rattle.line_view.specs.Knowledge.{Lines}
-use Rattle.sorted_index.specs.declared.writes.Write.{Write}
-use Rattle.sorted_index.specs.Tree.{Tree, place}
+use Rattle.line_view.specs.declared.writes.Write.{Write}
+use Rattle.sorted_index.specs.Tree.{Tree, place, has_nothing}
 use Rattle.sorted_index.specs.Changes.{goes_on, chosen}
-use Rattle.sorted_index.specs.Removal.{has_nothing, keep, replaced, without, Choose, IsLeft, WroteIn, Wrote}
+use Rattle.sorted_index.specs.Removal.{keep, replaced, without, Choose, IsLeft, WroteIn, Wrote}
 use Rattle.sorted_index.specs.Steps.{count_up_to, child_place}
 use Rattle.sorted_index.proofs.Ordered.{StandsBelow}
 use Rattle.sorted_index.proofs.Without.{Entries}

@@ -16,9 +16,9 @@ use Rattle.index_node.specs.declared.node.IndexNode.{IndexNode}
 use Rattle.index_node.specs.Order.{entry_order}
 use Rattle.index_node.specs.Node.{entry_fields, IsEntry}
 use Rattle.line_view.specs.Knowledge.{Knowledge}
+use Rattle.line_view.specs.declared.writes.Write.{Write}
 use Rattle.sorted_index.specs.declared.stop.IndexStop.{IndexStop}
 use Rattle.sorted_index.specs.declared.stop.IndexStop.TheVariants.{NoMemory}
-use Rattle.sorted_index.specs.declared.writes.Write.{Write}
 use Rattle.sorted_index.specs.Changes.{with_pair, pair_of}
 use Rattle.sorted_index.specs.Steps.{IsLaid}
 use Rattle.sorted_index.specs.Insertion.{IsGrown, IsHalved, count_below, bound, unbound, WritesTwo, WritesChild, WritesTop, WritesRoot}

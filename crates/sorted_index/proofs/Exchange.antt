@@ -10,15 +10,17 @@ use Rattle.rdb_types.specs.declared.keys.Dbkey.{Dbkey}
 use Rattle.index_node.specs.declared.entry.NodeEntry.{NodeEntry}
 use Rattle.index_node.specs.Order.{entry_order}
 use Rattle.line_view.specs.Knowledge.{Lines, Knowledge}
-use Rattle.sorted_index.specs.declared.writes.Write.{Write}
-use Rattle.sorted_index.specs.Tree.{Tree, pairs, places, AreParted}
-use Rattle.sorted_index.specs.Changes.{goes_on, chosen, with_pair, laid_all}
+use Rattle.line_view.specs.declared.writes.Write.{Write}
+use Rattle.line_view.specs.Writes.{laid_all}
+use Rattle.sorted_index.specs.Tree.{Tree, pairs, places, AreParted, IsFilled}
+use Rattle.sorted_index.specs.Changes.{goes_on, chosen, with_pair}
 use Rattle.sorted_index.specs.Steps.{count_up_to, child_place}
 use Rattle.sorted_index.specs.Insertion.{Among}
 use Rattle.sorted_index.proofs.Lines.{Distinct, all_front, all_rest, parts, joined, flipped}
 use Rattle.sorted_index.proofs.Ordered.{Lt, UpTo, Ascend, StandsBelow, all_append, less_all, less_upto, itself, begin, all_from}
 use Rattle.sorted_index.proofs.Without.{AllPairs, Entries}
 use Rattle.sorted_index.proofs.Removed.{PlacesOf}
+use Rattle.sorted_index.proofs.Filled.{IsFilledChild, AreFilled}
 use Rattle.sorted_index.proofs.After.{children_beside}
 use Rattle.sorted_index.proofs.Put.{less_turn, all_lt, all_below, all_put, put_past, put_before}
 use Rattle.sorted_index.proofs.Apart.{AreOther, among_apart, of_map}
@@ -120,6 +122,7 @@ pub record IsExchange (known : Knowledge) (all : Lines) (area from to : ℕ) (pa
   pub written : Among known area from to (places level child.1) (map (λ w. w.key) writes)
   pub with_it : AllPairs level (first ∷ more) ≡ with_pair pair (pairs level child.1)
   pub head : Unless before (first.0 ≡ child.0)
+  pub filled : IsFilled level child.1 → AreFilled level (first ∷ more)
 
 pub record HasChildren (known : Knowledge) (all : Lines) (area from to : ℕ) (pair : NodeEntry) (level : ℕ) (old new : List (NodeEntry × Tree level)) (writes : List Write) : Type 0 where
   pub stand : AllByRecursion (StandsBelow (laid_all writes all) area level) new
@@ -128,6 +131,7 @@ pub record HasChildren (known : Knowledge) (all : Lines) (area from to : ℕ) (p
   pub among : Among known area from to (PlacesOf level old) (PlacesOf level new)
   pub written : Among known area from to (PlacesOf level old) (map (λ w. w.key) writes)
   pub with_it : AllPairs level new ≡ with_pair pair (AllPairs level old)
+  pub filled : AreFilled level old → AreFilled level new
 
 abbrev pairs_of : (level : ℕ) → NodeEntry × Tree level → List NodeEntry
 pairs_of level child = pairs level child.1
@@ -229,4 +233,5 @@ exchanged known all area from to pair level before child first behind more write
       among = subst (λ ks. Among known area from to ks (PlacesOf level (before ++ (mid ++ behind)))) (sym old) (subst (λ ks. Among known area from to (pb ++ (pc ++ pd)) ks) (sym new) (among_mid known area from to pb pc (PlacesOf level mid) pd x.among));
       written = subst (λ ks. Among known area from to ks keys) (sym old) (among_in known area from to pb pc keys pd x.written);
       with_it = new_pairs pair level before child behind mid (before_pair pair level before child goes (pairs_before level before child behind parted ascend)) (pairs_behind pair level child behind stays tail ups.1) x.with_it;
+      filled = λ h. let rest = all_rest (IsFilledChild level) before (child ∷ behind) h in all_append (IsFilledChild level) before (mid ++ behind) (all_front (IsFilledChild level) before (child ∷ behind) h) (all_append (IsFilledChild level) mid behind (x.filled rest.0.1) rest.1);
     }

@@ -1,12 +1,12 @@
 -- Trees under writes on other lines.
-use Rattle.std.proofs.Common.{◌≡◌, ℕ, zero, suc, false, cond, List, [], ◌∷◌, ◌++◌, Option, Some, sym, ap, subst, ◌∙◌}
+use Rattle.std.proofs.Common.{◌≡◌, ℕ, zero, suc, false, List, [], ◌∷◌, ◌++◌, Option, Some, sym, ap, subst}
 use Rattle.std.specs.Ordering.{is_eq}
 use Rattle.std.specs.List.{AllByRecursion, flat_map}
 use Rattle.rdb_types.specs.declared.keys.Dbkey.{Dbkey}
 use Rattle.ordered_entries.specs.Order.{dbkey_order}
 use Rattle.index_node.specs.declared.entry.NodeEntry.{NodeEntry}
-use Rattle.line_view.specs.Knowledge.{Lines, line_in, laid}
-use Rattle.line_view.proofs.FullMap.{laid_found}
+use Rattle.line_view.specs.Knowledge.{Lines, laid}
+use Rattle.line_view.proofs.Written.{same_line}
 use Rattle.sorted_index.specs.Tree.{Tree, place, node_of, places, Bears, Stands}
 
 -- the line isn't one of these
@@ -20,9 +20,6 @@ apart_front key (x ∷ xs) ys h = (h.0, apart_front key xs ys h.1)
 pub apart_behind : (key : Dbkey) (xs ys : List Dbkey) → IsApart key (xs ++ ys) → IsApart key ys
 apart_behind key [] ys h = h
 apart_behind key (x ∷ xs) ys h = apart_behind key xs ys h.1
-
-pub same_line : (lines : Lines) (key at : Dbkey) (image : Option (List ℕ)) → is_eq (dbkey_order at key) ≡ false → line_in at (laid key image lines) ≡ line_in at lines
-same_line lines key at image apart = laid_found at key image lines ∙ ap (λ b. cond b image (line_in at lines)) apart
 
 abbrev pub StandsBelow : Lines → ℕ → (level : ℕ) → NodeEntry × Tree level → Type 0
 StandsBelow lines area level child = ((child.0).child ≡ Some (place level child.1)) × Stands lines area level child.1

@@ -11,29 +11,32 @@ use Rattle.rdb_types.specs.declared.keys.Dbkey.{Dbkey}
 use Rattle.index_node.specs.declared.entry.NodeEntry.{NodeEntry}
 use Rattle.index_node.specs.declared.node.IndexNode.{IndexNode}
 use Rattle.index_node.specs.Order.{entry_order}
-use Rattle.index_node.specs.Node.{IsNode, node_fields}
+use Rattle.index_node.specs.Node.{node_fields}
 use Rattle.line_view.specs.declared.need.Need.TheVariants.{Line, Area, Room}
 use Rattle.line_view.specs.Knowledge.{Lines, Knowledge, Agrees}
+use Rattle.line_view.specs.declared.writes.Write.{Write}
+use Rattle.line_view.specs.Writes.{laid_all}
+use Rattle.line_view.proofs.Written.{laid_in_turn}
 use Rattle.sorted_index.specs.declared.stop.IndexStop.{IndexStop}
 use Rattle.sorted_index.specs.declared.stop.IndexStop.TheVariants.{Missing, Duplicate, Bad, NoMemory}
-use Rattle.sorted_index.specs.declared.writes.Write.{Write}
-use Rattle.sorted_index.specs.Tree.{Tree, place, node_of, pairs, places, Bears, AreParted, Stands}
+use Rattle.sorted_index.specs.Tree.{Tree, place, node_of, pairs, places, Bears, AreParted, Stands, IsFilled}
 use Rattle.sorted_index.specs.Search.{first_unknown}
-use Rattle.sorted_index.specs.Changes.{goes_on, chosen, with_pair, path_below, laid_all}
+use Rattle.sorted_index.specs.Changes.{goes_on, chosen, with_pair, path_below}
 use Rattle.sorted_index.specs.Steps.{IsKnownAs, ReadsNode, child_place}
 use Rattle.sorted_index.specs.Insertion.{IsNew, IsFull, IsHalved, IsKept, room_at, bound, unbound, lowered, is_up_to_own, with_new, Among, AreTaken, StandBelow, places_below, Grows, PutsIn, WritesOne, WritesTwo, WritesChild}
 use Rattle.sorted_index.specs.Insertion.IsKept.{whole, lower, upper}
 use Rattle.sorted_index.proofs.Walk.{known_as, level_of, bears}
 use Rattle.sorted_index.proofs.Below.{past_known}
 use Rattle.sorted_index.proofs.Frame.{IsApart}
-use Rattle.sorted_index.proofs.Lines.{Distinct, none_distinct, all_front, all_rest, parts, laid_in_turn, head_apart, tail_distinct, distinct_more}
+use Rattle.sorted_index.proofs.Lines.{Distinct, none_distinct, all_front, all_rest, parts, head_apart, tail_distinct, distinct_more}
 use Rattle.sorted_index.proofs.Ordered.{Lt, UpTo, Ascend, StandsBelow, all_append}
 use Rattle.sorted_index.proofs.Without.{AllPairs, Entries}
 use Rattle.sorted_index.proofs.Removed.{PlacesOf}
+use Rattle.sorted_index.proofs.Filled.{put_some}
 use Rattle.sorted_index.proofs.After.{area_of}
 use Rattle.sorted_index.proofs.TakenOut.{level_is, read_as}
 use Rattle.sorted_index.proofs.Put.{with_new_is, all_put}
-use Rattle.sorted_index.proofs.Apart.{among_one, IsPresent, stands_present, children_present, rooms_other, room_other, room_behind, free_apart}
+use Rattle.sorted_index.proofs.Apart.{among_one, IsPresent, stands_present, children_present, rooms_other, room_behind, free_apart}
 use Rattle.sorted_index.proofs.Exchange.{Unless, IsWay, way, IsExchange, HasChildren, exchanged, parted_rest, below_next, pair_below_next, own_upto, le_upto}
 use Rattle.sorted_index.proofs.Between.{first_of, two_entries}
 use Rattle.sorted_index.proofs.Halves.{HasHalves, halves, nothing_between, places_are, stand_written, stand_both, places_both}
@@ -63,6 +66,7 @@ leaf_put known area pair node entries from old leaf same all zero tree agrees st
         places = λ q h rooms. tt;
         written = λ q h rooms. tt;
         full = λ long. subst (λ (n : IndexNode). 430 < size (node_fields n)) (sym node_is) long;
+        filled = λ h. tt;
       },
       refl,
       none_taken known area from,
@@ -80,9 +84,10 @@ pub record Stays (known : Knowledge) (all : Lines) (area from to : ℕ) (pair : 
   pub below : StandBelow (laid_all writes all) area level tree
   pub once : Distinct (places_below level tree)
   pub places : Among known area from to (places_below level child) (places_below level tree)
+  pub filled : IsFilled level child → IsFilled level tree
 
 pub stays_whole : (known : Knowledge) (all : Lines) (area from to : ℕ) (pair : NodeEntry) (level : ℕ) (child : Tree level) (old new : List Write) (grown left : IndexNode) → (g : Grows known all area pair level child from to old new grown) → left ≡ grown → Stays known all area from to pair level child g.writes left
-stays_whole known all area from to pair level child old new grown left g is = record { tree = g.after; node_is = g.node ∙ sym is; same = g.same; with_it = g.with_it; below = g.below; once = g.once; places = g.places }
+stays_whole known all area from to pair level child old new grown left g is = record { tree = g.after; node_is = g.node ∙ sym is; same = g.same; with_it = g.with_it; below = g.below; once = g.once; places = g.places; filled = g.filled }
 
 -- its halves
 pub halves_of : (known : Knowledge) (all : Lines) (area from to : ℕ) (pair : NodeEntry) (level : ℕ) (child : Tree level) (old new : List Write) (grown low_node high_node : IndexNode) (low high : NodeEntry) (at room : Dbkey) → (g : Grows known all area pair level child from to old new grown) → IsHalved grown low_node high_node low high → Ascend grown.entries
@@ -112,6 +117,7 @@ stays_lower known all area from to pair level child old new grown left other low
       below = x.lower_below;
       once = (parts l u (subst Distinct x.all_places g.once)).front;
       places = λ q k rooms. all_front (λ y. q y ≡ true) l u (subst (AllByRecursion (λ y. q y ≡ true)) x.all_places (g.places q k rooms));
+      filled = λ h. (x.filled (g.filled h)).0.1;
     }
 
 pub stays_upper : (known : Knowledge) (all : Lines) (area from to : ℕ) (pair : NodeEntry) (level : ℕ) (child : Tree level) (old new : List Write) (grown left other : IndexNode) (low high own : NodeEntry) → (g : Grows known all area pair level child from to old new grown) → IsHalved grown other left low high → Ascend grown.entries
@@ -130,6 +136,7 @@ stays_upper known all area from to pair level child old new grown left other low
       below = x.upper_below;
       once = (parts l u (subst Distinct x.all_places g.once)).rest;
       places = λ q k rooms. all_rest (λ y. q y ≡ true) l u (subst (AllByRecursion (λ y. q y ≡ true)) x.all_places (g.places q k rooms));
+      filled = λ h. (x.filled (g.filled h)).1.1;
     }
 
 -- ---- the children behind a change
@@ -142,7 +149,7 @@ pub own_first : (Q : Dbkey → Type 0) (level : ℕ) (tree : Tree level) → All
 own_first Q zero tree h = (h.0, tt)
 own_first Q (suc level) tree h = (h.0, h.1)
 
-own_then : (Q : Dbkey → Type 0) (level : ℕ) (tree : Tree level) → Q (place level tree) → AllByRecursion Q (places_below level tree) → AllByRecursion Q (places level tree)
+pub own_then : (Q : Dbkey → Type 0) (level : ℕ) (tree : Tree level) → Q (place level tree) → AllByRecursion Q (places_below level tree) → AllByRecursion Q (places level tree)
 own_then Q zero tree h k = (h, tt)
 own_then Q (suc level) tree h k = (h, k)
 
@@ -178,6 +185,7 @@ one_exchange known all area from to pair level before child writes node image s 
       written = λ q h rooms. let own = own_first (λ k. q k ≡ true) level child.1 h in keys_more (λ k. q k ≡ true) writes (record { key = at; image = image } ∷ []) (written q own.1 rooms) (own.0, tt);
       with_it = append-nil (pairs level s.tree) ∙ s.with_it;
       head = unless_any before (child.0 ≡ child.0) refl;
+      filled = λ h. ((put_some pair level s.tree (pairs level child.1) s.with_it, s.filled h), tt);
     }
 
 two_exchange : (known : Knowledge) (all : Lines) (area from to : ℕ) (pair : NodeEntry) (level : ℕ) (before : List (NodeEntry × Tree level)) (child : NodeEntry × Tree level) (own : NodeEntry) (old new : List Write) (grown low_node high_node : IndexNode) (low high : NodeEntry) (room : Dbkey) (image other : Option (List ℕ)) → (g : Grows known all area pair level child.1 from to old new grown)
@@ -202,6 +210,7 @@ two_exchange known all area from to pair level before child own old new grown lo
           keys_more (λ k. q k ≡ true) g.writes more (g.written q o.1 (λ n k a b c. rooms n k a (omega (arith, b)) c)) (o.0, (rooms to room g.counted (omega arith) is_room, tt));
       with_it = both.pairs ∙ g.with_it;
       head = head;
+      filled = λ h. let halves_filled = x.filled (g.filled h) in (halves_filled.0, (halves_filled.1, tt));
     }
 
 -- ---- the child on the way
@@ -358,7 +367,7 @@ child_unwritten known area pair node at key below grown from mid to old between 
 
 -- ---- the node behind it
 
-grows_up : (known : Knowledge) (all : Lines) (area : ℕ) (pair : NodeEntry) (level : ℕ) (tree : Tree (suc level)) (from to : ℕ) (old new writes : List Write) (children : List (NodeEntry × Tree level)) (entries : List NodeEntry) (node_level : ℕ) → HasChildren known all area from to pair level tree.entries children writes → Entries level children ≡ entries → suc level ≡ node_level → from ≤ to → new ≡ old ++ writes
+pub grows_up : (known : Knowledge) (all : Lines) (area : ℕ) (pair : NodeEntry) (level : ℕ) (tree : Tree (suc level)) (from to : ℕ) (old new writes : List Write) (children : List (NodeEntry × Tree level)) (entries : List NodeEntry) (node_level : ℕ) → HasChildren known all area from to pair level tree.entries children writes → Entries level children ≡ entries → suc level ≡ node_level → from ≤ to → new ≡ old ++ writes
     → (430 < size (node_fields (record { level = node_level; entries = entries })) → IsFull pair (suc level) tree) → Grows known all area pair (suc level) tree from to old new (record { level = node_level; entries = entries })
 grows_up known all area pair level tree from to old new writes children entries node_level h same up counted behind full = record {
   after = record { at = tree.at; entries = children };
@@ -373,6 +382,7 @@ grows_up known all area pair level tree from to old new writes children entries 
   places = h.among;
   written = h.written;
   full = full;
+  filled = h.filled;
 }
 
 -- the children with an exchange for the one on the way
@@ -498,100 +508,3 @@ child_written known area pair node at key below grown from mid to old between ne
       | inl w ↦ (wrote_one known all area pair node level tree at key grown from mid to old between new after agrees stand once is ascend small grown_ascend t p.2 p.0.0 w, path, subst (AreTaken known area from) (sym w.rooms) p.0.2)
       | inr w ↦ (wrote_two known all area pair node level tree at key grown from mid to old between new after agrees stand once is ascend grown_ascend t p.2 p.0.0 w, path, subst (AreTaken known area from) (sym w.rooms) (taken_one known area from mid w.room w.is_room p.0.2))
     ]
-
--- ---- the first child of a node
-
-taken_first : (known : Knowledge) (area from to : ℕ) (room : Dbkey) → known.room (room_at area from) ≡ Some room → AreTaken known area (from + 1) to → AreTaken known area from to
-taken_first known area from to room is taken n low high none = elim (cases_lt from n) [
-  | inl up ↦ taken n (omega (arith, up)) high none
-  | inr down ↦ let same : n ≡ from = omega (arith, low, down) in let bad : Some room ≡ None = sym is ∙ (ap (λ (k : ℕ). known.room (room_at area k)) (sym same) ∙ none) in cc
-]
-
-abbrev pub empty : (level : ℕ) → Dbkey → Tree level
-empty zero at = record { at = at; entries = [] }
-empty (suc level) at = record { at = at; entries = [] }
-
--- what is so of a tree without entries
-record IsEmpty (all : Lines) (area : ℕ) (pair : NodeEntry) (level : ℕ) (at : Dbkey) : Type 0 where
-  pub node : node_of level (empty level at) ≡ record { level = level; entries = [] }
-  pub place_is : place level (empty level at) ≡ at
-  pub stand : StandBelow all area level (empty level at)
-  pub places : places_below level (empty level at) ≡ []
-  pub pairs : pairs level (empty level at) ≡ []
-  pub path : path_below pair level (empty level at) ≡ []
-
-is_empty : (all : Lines) (area : ℕ) (pair : NodeEntry) (level : ℕ) (at : Dbkey) → IsEmpty all area pair level at
-is_empty all area pair zero at = record { node = refl; place_is = refl; stand = tt; places = refl; pairs = refl; path = refl }
-is_empty all area pair (suc level) at = record { node = refl; place_is = refl; stand = (tt, tt); places = refl; pairs = refl; path = refl }
-
--- what is put in below the new child
-first_below : (known : Knowledge) (all : Lines) (area : ℕ) (pair : NodeEntry) (node_level below_level level : ℕ) (child : Dbkey) (from to : ℕ) (old new : List Write) (result : Result IndexNode IndexStop) → Agrees known all → suc level ≡ node_level → below_level ≡ node_level - 1 → HasPut known area pair (record { level = below_level; entries = [] }) from to old new result → PutsIn known all area pair level (empty level child) from to old new result
-first_below known all area pair node_level below_level level child from to old new result agrees up down put =
-    let e = is_empty all area pair level child in
-    let same : level ≡ below_level = omega (arith, up, down) in
-    put all level (empty level child) agrees e.stand (subst Distinct (sym e.places) none_distinct) (e.node ∙ (λ i. record { level = same i; entries = [] })) (subst (IsNew pair) (sym e.pairs) tt)
-
-no_children : (level : ℕ) (children : List (NodeEntry × Tree level)) → Entries level children ≡ [] → children ≡ []
-no_children level [] h = refl
-no_children level (c ∷ children) h = absurd (cc)
-
-first_children : (known : Knowledge) (all : Lines) (area : ℕ) (pair : NodeEntry) (level : ℕ) (child : Dbkey) (from to : ℕ) (old between : List Write) (below : IndexNode) (image : List ℕ) → Agrees known all → known.room (room_at area from) ≡ Some child → (g : Grows known all area pair level (empty level child) (from + 1) to old between below) → IsNode image below
-    → HasChildren known all area from to pair level [] ((bound pair child, g.after) ∷ []) (g.writes ++ record { key = child; image = Some image } ∷ [])
-first_children known all area pair level child from to old between below image agrees is_room g is_image =
-    let e = is_empty all area pair level child in
-    let here = g.same ∙ e.place_is in
-    let own : List Write = record { key = child; image = Some image } ∷ [] in
-    let apart = among_one known area (from + 1) to (places_below level (empty level child)) (places_below level g.after) child g.places (subst (IsApart child) (sym e.places) tt) (room_other known all area from (from + 1) to child agrees is_room (omega arith)) in
-    let stands = stand_written (laid_all g.writes all) child (Some image) area level g.after here (agrees.within (room_at area from) child is_room) (subst (IsNode image) (sym g.node) is_image) apart g.below in
-    let distinct : Distinct (places level g.after) = subst Distinct (sym (places_are level g.after)) (distinct_more (place level g.after) (places_below level g.after) (subst (λ (k : Dbkey). IsApart k (places_below level g.after)) (sym here) apart) g.once) in
-    record {
-      stand = ((ap Some (sym here), subst (λ ls. Stands ls area level g.after) (sym (laid_in_turn g.writes own all)) stands), tt);
-      parted = (tt, tt);
-      once = subst Distinct (sym (append-nil (places level g.after))) distinct;
-      among = λ q h rooms. all_append (λ k. q k ≡ true) (places level g.after) []
-          (own_then (λ k. q k ≡ true) level g.after (subst (λ (k : Dbkey). q k ≡ true) (sym here) (rooms from child (omega arith) (let c = g.counted in omega (arith, c)) is_room)) (g.places q (subst (AllByRecursion (λ k. q k ≡ true)) (sym e.places) tt) (λ n k a b c. rooms n k (omega (arith, a)) b c))) tt;
-      written = λ q h rooms. keys_more (λ k. q k ≡ true) g.writes own (g.written q (subst (AllByRecursion (λ k. q k ≡ true)) (sym e.places) tt) (λ n k a b c. rooms n k (omega (arith, a)) b c)) (rooms from child (omega arith) (let c = g.counted in omega (arith, c)) is_room, tt);
-      with_it = append-nil (pairs level g.after) ∙ (g.with_it ∙ ap (with_pair pair) e.pairs);
-    }
-
-pub first_put : (known : Knowledge) (area : ℕ) (pair : NodeEntry) (node : IndexNode) (below_level : ℕ) (child : Dbkey) (from to : ℕ) (old between new : List Write) (below : IndexNode) (image : List ℕ) (entries : List NodeEntry) → node.level ≢ 0 → below_level ≡ node.level - 1 → node.entries ≡ [] → known.room (room_at area from) ≡ Some child → HasPut known area pair (record { level = below_level; entries = [] }) (from + 1) to old between (Ok below)
-    → IsNode image below → new ≡ between ++ record { key = child; image = Some image } ∷ [] → entries ≡ bound pair child ∷ [] → HasPut known area pair node from to old new (Ok (record { level = node.level; entries = entries }))
-first_put known area pair node below_level child from to old between new below image entries inner down none is_room put is_image last same all zero tree agrees stand once is is_new = absurd (inner (sym (level_is node zero tree is)))
-first_put known area pair node below_level child from to old between new below image entries inner down none is_room put is_image last same all (suc level) tree agrees stand once is is_new =
-    let up = level_is node (suc level) tree is in
-    let p = first_below known all area pair node.level below_level level child (from + 1) to old between (Ok below) agrees up down put in
-    let g = p.0 in
-    let empty_here : tree.entries ≡ [] = no_children level tree.entries (ap (λ (n : IndexNode). n.entries) is ∙ none) in
-    let h = subst (λ (cs : List (NodeEntry × Tree level)). HasChildren known all area from to pair level cs ((bound pair child, g.after) ∷ []) (g.writes ++ record { key = child; image = Some image } ∷ [])) (sym empty_here) (first_children known all area pair level child from to old between below image agrees is_room g is_image) in (
-      grows_up known all area pair level tree from to old new (g.writes ++ record { key = child; image = Some image } ∷ []) ((bound pair child, g.after) ∷ []) entries node.level h (sym same) up (let c = g.counted in omega (arith, c)) (behind_all old between new g.writes (record { key = child; image = Some image } ∷ []) g.behind last)
-          (λ long. subst (λ (cs : List (NodeEntry × Tree level)). AllByRecursion (IsFull pair level) (chosen pair cs)) (sym empty_here) tt),
-      ap (λ (cs : List (NodeEntry × Tree level)). first_unknown known (flat_map (λ (c : Tree level). place level c ∷ path_below pair level c) (chosen pair cs))) empty_here,
-      taken_first known area from to child is_room p.2,
-    )
-
-first_lacks : (known : Knowledge) (all : Lines) (area : ℕ) (pair : NodeEntry) (level : ℕ) (tree : Tree (suc level)) (child : Dbkey) (from to : ℕ) (old new : List Write) (e : IndexStop) → known.room (room_at area from) ≡ Some child → tree.entries ≡ [] → PutsIn known all area pair level (empty level child) (from + 1) to old new (Err e) → PutsIn known all area pair (suc level) tree from to old new (Err e)
-first_lacks known all area pair level tree child from to old new (Missing (Line key)) is_room none h = let e = is_empty all area pair level child in absurd (let bad : None ≡ Some key = ap (first_unknown known) (sym e.path) ∙ h in cc)
-first_lacks known all area pair level tree child from to old new (Missing (Area a)) is_room none h = h
-first_lacks known all area pair level tree child from to old new (Missing (Room room)) is_room none h = (
-  (h.0.0, omega (arith, h.0.1), h.0.2, h.0.3, taken_first known area from h.0.0 child is_room h.0.4),
-  ap (λ (cs : List (NodeEntry × Tree level)). first_unknown known (flat_map (λ (c : Tree level). place level c ∷ path_below pair level c) (chosen pair cs))) none,
-  subst (λ (cs : List (NodeEntry × Tree level)). AllByRecursion (IsFull pair level) (chosen pair cs)) (sym none) tt,
-)
-first_lacks known all area pair level tree child from to old new Duplicate is_room none h = h
-first_lacks known all area pair level tree child from to old new (Bad key) is_room none h = h
-first_lacks known all area pair level tree child from to old new NoMemory is_room none h = tt
-
-pub first_stopped : (known : Knowledge) (area : ℕ) (pair : NodeEntry) (node : IndexNode) (below_level : ℕ) (child : Dbkey) (from to : ℕ) (old new : List Write) (e : IndexStop) → node.level ≢ 0 → below_level ≡ node.level - 1 → node.entries ≡ [] → known.room (room_at area from) ≡ Some child → HasPut known area pair (record { level = below_level; entries = [] }) (from + 1) to old new (Err e) → HasPut known area pair node from to old new (Err e)
-first_stopped known area pair node below_level child from to old new e inner down none is_room put all zero tree agrees stand once is is_new = absurd (inner (sym (level_is node zero tree is)))
-first_stopped known area pair node below_level child from to old new e inner down none is_room put all (suc level) tree agrees stand once is is_new =
-    let up = level_is node (suc level) tree is in
-    first_lacks known all area pair level tree child from to old new e is_room (no_children level tree.entries (ap (λ (n : IndexNode). n.entries) is ∙ none)) (first_below known all area pair node.level below_level level child (from + 1) to old new (Err e) agrees up down put)
-
-pub first_unroomed : (known : Knowledge) (area : ℕ) (pair : NodeEntry) (node : IndexNode) (from : ℕ) (old : List Write) → node.level ≢ 0 → node.entries ≡ [] → known.room (room_at area from) ≡ None → HasPut known area pair node from from old old (Err (Missing (Room (room_at area from))))
-first_unroomed known area pair node from old inner none lacks all zero tree agrees stand once is is_new = absurd (inner (sym (level_is node zero tree is)))
-first_unroomed known area pair node from old inner none lacks all (suc level) tree agrees stand once is is_new =
-    let empty_here : tree.entries ≡ [] = no_children level tree.entries (ap (λ (n : IndexNode). n.entries) is ∙ none) in (
-      (from, omega arith, refl, lacks, none_taken known area from),
-      ap (λ (cs : List (NodeEntry × Tree level)). first_unknown known (flat_map (λ (c : Tree level). place level c ∷ path_below pair level c) (chosen pair cs))) empty_here,
-      subst (λ (cs : List (NodeEntry × Tree level)). AllByRecursion (IsFull pair level) (chosen pair cs)) (sym empty_here) tt,
-    )

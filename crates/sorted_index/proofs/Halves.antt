@@ -12,14 +12,15 @@ use Rattle.index_node.specs.Order.{entry_order}
 use Rattle.index_node.specs.OrderLaws.{entries_total}
 use Rattle.line_view.specs.Knowledge.{Lines, line_in, laid}
 use Rattle.line_view.proofs.FullMap.{laid_found}
-use Rattle.sorted_index.specs.Tree.{Tree, place, node_of, pairs, places, Bears, AreParted, Stands}
+use Rattle.sorted_index.specs.Tree.{Tree, place, node_of, pairs, places, Bears, AreParted, Stands, is_empty, IsFilled}
 use Rattle.sorted_index.specs.Insertion.{StandBelow, places_below, bound}
 use Rattle.sorted_index.proofs.Frame.{IsApart, stands_beside}
-use Rattle.sorted_index.proofs.Lines.{Distinct, all_front, all_rest, parts, joined, other_way, apart_more, untold, distinct_more}
+use Rattle.sorted_index.proofs.Lines.{equal_eq, Distinct, all_front, all_rest, parts, joined, other_way, apart_more, untold, distinct_more}
 use Rattle.sorted_index.proofs.Ordered.{Lt, UpTo, Ascend, StandsBelow, lt_upto, less_all, itself, all_append}
 use Rattle.sorted_index.proofs.Without.{AllPairs, Entries}
 use Rattle.sorted_index.proofs.Removed.{PlacesOf}
-use Rattle.sorted_index.proofs.After.{stands_whole, inner_beside, equal_eq}
+use Rattle.sorted_index.proofs.After.{stands_whole, inner_beside}
+use Rattle.sorted_index.proofs.Filled.{HasSome, IsFilledChild, AreFilled}
 use Rattle.sorted_index.proofs.Exchange.{pairs_before, pairs_from, parted_rest, ascend_rest}
 
 -- ---- lists
@@ -78,6 +79,7 @@ pub record HasHalves (lines : Lines) (area level : ℕ) (tree : Tree level) (fro
   pub all_pairs : pairs level tree ≡ pairs level lower ++ pairs level upper
   pub lows : AllByRecursion (λ p. Lt p high) (pairs level lower)
   pub highs : AllByRecursion (UpTo high) (pairs level upper)
+  pub filled : IsFilled level tree → HasSome level lower × HasSome level upper
 
 lows_of : (level : ℕ) (front rest : List (NodeEntry × Tree level)) (high : NodeEntry) (more : List NodeEntry) → Entries level rest ≡ high ∷ more → AreParted level (front ++ rest) → Ascend (Entries level (front ++ rest)) → AllByRecursion (λ p. Lt p high) (AllPairs level front)
 lows_of level front [] high more is parted ascend = absurd (cc)
@@ -87,6 +89,10 @@ highs_of : (level : ℕ) (front rest : List (NodeEntry × Tree level)) (low high
 highs_of level [] rest low high less more some is parted ascend = absurd (cc)
 highs_of level (a ∷ front) [] low high less more some is parted ascend = absurd (cc)
 highs_of level (a ∷ front) (c ∷ rest) low high less more some is parted ascend = subst (λ (e : NodeEntry). AllByRecursion (UpTo e) (AllPairs level (c ∷ rest))) (head_is c.0 high (Entries level rest) more is) (pairs_past level a front c rest parted ascend)
+
+some_in : (level : ℕ) (children : List (NodeEntry × Tree level)) (entry : NodeEntry) (more : List NodeEntry) → Entries level children ≡ entry ∷ more → is_empty children ≡ false
+some_in level [] entry more is = absurd (cc)
+some_in level (child ∷ children) entry more is = refl
 
 pub halves : (lines : Lines) (area level : ℕ) (tree : Tree level) (front rest : List NodeEntry) (low high : NodeEntry) (less more : List NodeEntry) (at room : Dbkey) → (node_of level tree).entries ≡ front ++ rest → front ≡ low ∷ less → rest ≡ high ∷ more → Ascend (front ++ rest) → StandBelow lines area level tree → HasHalves lines area level tree front rest high at room
 halves lines area zero tree front rest low high less more at room is lows highs ascend stand =
@@ -104,6 +110,7 @@ halves lines area zero tree front rest low high less more at room is lows highs 
       all_pairs = is;
       lows = ascend_before front more high (subst (λ (es : List NodeEntry). Ascend (front ++ es)) highs ascend);
       highs = subst (AllByRecursion (UpTo high)) (sym highs) (itself high, less_all high more behind.0);
+      filled = λ h. ((ap is_empty lows, tt), (ap is_empty highs, tt));
     }
 halves lines area (suc level) tree front rest low high less more at room is lows highs ascend stand =
     let c = cut level tree.entries front rest is in
@@ -111,6 +118,7 @@ halves lines area (suc level) tree front rest low high less more at room is lows
     let stands = subst (AllByRecursion (StandsBelow lines area level)) c.is stand.0 in
     let ups : Ascend (Entries level (c.front ++ c.rest)) = subst Ascend (sym is ∙ ap (Entries level) c.is) ascend in
     let ups_rest : Ascend (Entries level c.rest) = subst Ascend (sym c.rests) (ascend_rest front rest ascend) in
+    let filled : AreFilled level tree.entries → AreFilled level (c.front ++ c.rest) = subst (AreFilled level) c.is in
     record {
       lower = record { at = at; entries = c.front };
       upper = record { at = room; entries = c.rest };
@@ -124,6 +132,10 @@ halves lines area (suc level) tree front rest low high less more at room is lows
       all_pairs = ap (AllPairs level) c.is ∙ flat_map-append (λ (child : NodeEntry × Tree level). pairs level child.1) c.front c.rest;
       lows = lows_of level c.front c.rest high more (c.rests ∙ highs) parted ups;
       highs = highs_of level c.front c.rest low high less more (c.fronts ∙ lows) (c.rests ∙ highs) parted ups_rest;
+      filled = λ h. (
+        (some_in level c.front low less (c.fronts ∙ lows), all_front (IsFilledChild level) c.front c.rest (filled h)),
+        (some_in level c.rest high more (c.rests ∙ highs), all_rest (IsFilledChild level) c.front c.rest (filled h)),
+      );
     }
 
 -- no pair is at or above a bound and below one that isn't above it

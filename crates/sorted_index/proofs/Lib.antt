@@ -10,7 +10,9 @@ pub mod Frame
 mod Examples
 pub mod Lines
 pub mod Without
+pub mod Filled
 pub mod Removed
+pub mod Erased
 pub mod After
 pub mod PlacesIn
 pub mod Laid
@@ -24,4 +26,5 @@ pub mod Between
 pub mod Fits
 pub mod Cutting
 pub mod Growing
+pub mod FirstChild
 pub mod Rooted

@@ -1,20 +1,25 @@
 -- Lists of lines, none twice, and the lines that are written one after another.
-use Rattle.std.proofs.Common.{◌≡◌, ℕ, false, List, [], ◌∷◌, ◌++◌, refl, ap, ◌∙◌}
+use Rattle.std.proofs.Common.{◌≡◌, ℕ, true, false, List, [], ◌∷◌, ◌++◌, refl, ap, ◌∙◌}
 use Rattle.std.specs.declared.cmp.Ordering.{Ordering}
 use Rattle.std.specs.declared.cmp.Ordering.TheVariants.{Less, Equal, Greater}
 use Rattle.std.specs.Ordering.{is_eq, ordering_reverse}
 use Rattle.std.specs.List.{AllByRecursion, IsDistinct}
+use Rattle.std.proofs.lemmas.Cmp.{tied_itself}
 use Rattle.rdb_types.specs.declared.keys.Dbkey.{Dbkey}
 use Rattle.ordered_entries.specs.Order.{dbkey_order}
 use Rattle.ordered_entries.proofs.Laws.{dbkey_total}
 use Rattle.line_view.specs.Knowledge.{Lines, laid}
-use Rattle.sorted_index.specs.declared.writes.Write.{Write}
+use Rattle.line_view.specs.declared.writes.Write.{Write}
+use Rattle.line_view.specs.Writes.{laid_all}
+use Rattle.line_view.proofs.Written.{WriteOn}
 use Rattle.sorted_index.specs.Tree.{Tree, places, Stands}
-use Rattle.sorted_index.specs.Changes.{laid_all}
 use Rattle.sorted_index.proofs.Frame.{IsApart, stands_beside}
 
 abbrev pub Distinct : List Dbkey → Type 0
 Distinct = IsDistinct (λ a b. is_eq (dbkey_order a b))
+
+pub equal_eq : (key : Dbkey) → is_eq (dbkey_order key key) ≡ true
+equal_eq key = ap is_eq (tied_itself dbkey_total key)
 
 reversed : (o : Ordering) → is_eq (ordering_reverse o) ≡ is_eq o
 reversed Less = refl
@@ -106,14 +111,6 @@ unfolding IsDistinct
 distinct_more x xs h k = (untold x xs h, k)
 
 -- ---- writes
-
-pub laid_in_turn : (xs ys : List Write) (lines : Lines) → laid_all (xs ++ ys) lines ≡ laid_all ys (laid_all xs lines)
-laid_in_turn [] ys lines = refl
-laid_in_turn (x ∷ xs) ys lines = laid_in_turn xs ys (laid x.key x.image lines)
-
--- each write is on a line of this kind
-abbrev pub WriteOn : (Dbkey → Type 0) → List Write → Type 0
-WriteOn P = AllByRecursion (λ w. P w.key)
 
 pub stands_beside_all : (lines : Lines) (writes : List Write) (area level : ℕ) (tree : Tree level) → WriteOn (λ key. IsApart key (places level tree)) writes → Stands lines area level tree → Stands (laid_all writes lines) area level tree
 stands_beside_all lines [] area level tree apart is = is

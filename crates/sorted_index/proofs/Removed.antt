@@ -8,12 +8,12 @@ use Rattle.ordered_entries.specs.Order.{dbkey_order}
 use Rattle.index_node.specs.declared.entry.NodeEntry.{NodeEntry}
 use Rattle.index_node.specs.Order.{entry_order}
 use Rattle.line_view.specs.Knowledge.{Lines, line_in}
-use Rattle.sorted_index.specs.Tree.{Tree, node_of, pairs, places, IsPartedFrom, AreParted, Stands}
+use Rattle.sorted_index.specs.Tree.{Tree, node_of, pairs, places, IsPartedFrom, AreParted, Stands, has_nothing}
 use Rattle.sorted_index.specs.Changes.{goes_on, without_pair}
 use Rattle.sorted_index.proofs.Frame.{IsApart}
 use Rattle.sorted_index.proofs.Lines.{Distinct, map_all, all_front, all_rest, parts, joined, head_apart, tail_distinct, distinct_more}
 use Rattle.sorted_index.proofs.Ordered.{Lt, Ascend, lt_upto, less_upto, all_append, node_ascends, StandsBelow}
-use Rattle.sorted_index.specs.Removal.{has_nothing, keep, replaced, without}
+use Rattle.sorted_index.specs.Removal.{keep, replaced, without}
 use Rattle.sorted_index.proofs.Without.{all_of_kept, replaced_pairs, Entries, Drops}
 
 -- ---- its children are parted

@@ -17,19 +17,21 @@ use Rattle.index_node.specs.Order.{key_order}
 use Rattle.index_node.specs.Node.{IsNode}
 use Rattle.line_view.specs.declared.need.Need.TheVariants.{Line, Area, Room}
 use Rattle.line_view.specs.Knowledge.{Lines, Knowledge, Agrees, line_in, laid}
+use Rattle.line_view.specs.declared.writes.Write.{Write}
+use Rattle.line_view.specs.Writes.{laid_all}
+use Rattle.line_view.proofs.Written.{WriteOn, laid_in_turn}
 use Rattle.sorted_index.specs.declared.stop.IndexStop.{IndexStop}
 use Rattle.sorted_index.specs.declared.stop.IndexStop.TheVariants.{Missing, Duplicate, Bad, NoMemory}
-use Rattle.sorted_index.specs.declared.writes.Write.{Write}
 use Rattle.sorted_index.specs.Keys.{only, is_within}
 use Rattle.sorted_index.specs.Tree.{Tree, place, node_of, pairs, Bears, Stands, IsIndex}
 use Rattle.sorted_index.specs.Search.{first_unknown, rows_within, reads, Answers}
-use Rattle.sorted_index.specs.Changes.{with_pair, has_key, path_below, path, laid_all, Leaves}
+use Rattle.sorted_index.specs.Changes.{with_pair, has_key, path_below, path, Leaves}
 use Rattle.sorted_index.specs.Steps.{IsKnownAs, ReadsNode}
 use Rattle.sorted_index.specs.Insertion.{IsNew, room_at, bound, unbound, looked_at, Looks, lines_read, Among, AreTaken, places_below, Grows, PutsIn, WritesTop, WritesRoot, Inserts}
 use Rattle.sorted_index.proofs.Walk.{known_as, bears}
 use Rattle.sorted_index.proofs.Below.{past_known}
 use Rattle.sorted_index.proofs.Frame.{IsApart}
-use Rattle.sorted_index.proofs.Lines.{Distinct, WriteOn, laid_in_turn, distinct_more, map_all, other_way}
+use Rattle.sorted_index.proofs.Lines.{Distinct, distinct_more, map_all, other_way}
 use Rattle.sorted_index.proofs.Ordered.{Ascend, all_append}
 use Rattle.sorted_index.proofs.After.{areas}
 use Rattle.sorted_index.proofs.TakenOut.{read_as}
@@ -84,30 +86,30 @@ areas_below all root level tree is = (own_first (λ (k : Dbkey). k.area ≡ root
 root_apart : (known : Knowledge) (all : Lines) (root : Dbkey) (to level : ℕ) (tree : Tree level) (after : List Dbkey) → Agrees known all → IsIndex all root level tree → Among known root.area 0 to (places_below level tree) after → IsApart root after
 root_apart known all root to level tree after agrees is among = subst (λ (k : Dbkey). IsApart k after) is.rooted (own_apart known all root.area 0 to level tree after agrees is.stands is.once among)
 
-root_one : (known : Knowledge) (all : Lines) (root : Dbkey) (pair : NodeEntry) (level : ℕ) (tree : Tree level) (to : ℕ) (between new : List Write) (grown : IndexNode) (image : List ℕ) → Agrees known all → IsIndex all root level tree → Grows known all root.area pair level tree 0 to [] between grown → IsNode image grown → new ≡ between ++ record { key = root; image = Some image } ∷ [] → Leaves all root new (with_pair pair (pairs level tree))
+root_one : (known : Knowledge) (all : Lines) (root : Dbkey) (pair : NodeEntry) (level : ℕ) (tree : Tree level) (to : ℕ) (between new : List Write) (grown : IndexNode) (image : List ℕ) → Agrees known all → IsIndex all root level tree → Grows known all root.area pair level tree 0 to [] between grown → IsNode image grown → new ≡ between ++ record { key = root; image = Some image } ∷ [] → Leaves all root level tree new (with_pair pair (pairs level tree))
 root_one known all root pair level tree to between new grown image agrees is g is_image last =
     let own : List Write = record { key = root; image = Some image } ∷ [] in
     let here = g.same ∙ is.rooted in
     let apart = root_apart known all root to level tree (places_below level g.after) agrees is g.places in
     let stands = stand_written (laid_all g.writes all) root (Some image) root.area level g.after here refl (subst (IsNode image) (sym g.node) is_image) apart g.below in
     let whole : new ≡ g.writes ++ own = behind_all [] between new g.writes own g.behind last in
-    let map_is : laid_all new all ≡ laid root (Some image) (laid_all g.writes all) = ap (λ ws. laid_all ws all) whole ∙ laid_in_turn g.writes own all in (
-      level,
-      g.after,
-      (
-        record {
-          rooted = here;
-          stands = subst (λ ls. Stands ls root.area level g.after) (sym map_is) stands;
-          once = subst Distinct (sym (places_are level g.after)) (distinct_more (place level g.after) (places_below level g.after) (subst (λ (k : Dbkey). IsApart k (places_below level g.after)) (sym here) apart) g.once);
-        },
-        g.with_it,
-        subst (WriteOn (λ k. k.area ≡ root.area)) (sym whole) (all_append (λ (w : Write). w.key.area ≡ root.area) g.writes own (areas_of known all root.area 0 to (places_below level tree) g.writes agrees g.written (areas_below all root level tree is)) (refl, tt)),
-      ),
-    )
+    let map_is : laid_all new all ≡ laid root (Some image) (laid_all g.writes all) = ap (λ ws. laid_all ws all) whole ∙ laid_in_turn g.writes own all in
+    record {
+      level = level;
+      tree = g.after;
+      index = record {
+        rooted = here;
+        stands = subst (λ ls. Stands ls root.area level g.after) (sym map_is) stands;
+        once = subst Distinct (sym (places_are level g.after)) (distinct_more (place level g.after) (places_below level g.after) (subst (λ (k : Dbkey). IsApart k (places_below level g.after)) (sym here) apart) g.once);
+      };
+      pairs_are = g.with_it;
+      in_area = subst (WriteOn (λ k. k.area ≡ root.area)) (sym whole) (all_append (λ (w : Write). w.key.area ≡ root.area) g.writes own (areas_of known all root.area 0 to (places_below level tree) g.writes agrees g.written (areas_below all root level tree is)) (refl, tt));
+      filled = g.filled;
+    }
 
 -- ---- the root above its halves
 
-root_two : (known : Knowledge) (all : Lines) (root : Dbkey) (pair : NodeEntry) (level : ℕ) (tree : Tree level) (to : ℕ) (between new : List Write) (grown : IndexNode) → Agrees known all → IsIndex all root level tree → Ascend grown.entries → Grows known all root.area pair level tree 0 to [] between grown → WritesTop known root.area root grown to between new → Leaves all root new (with_pair pair (pairs level tree))
+root_two : (known : Knowledge) (all : Lines) (root : Dbkey) (pair : NodeEntry) (level : ℕ) (tree : Tree level) (to : ℕ) (between new : List Write) (grown : IndexNode) → Agrees known all → IsIndex all root level tree → Ascend grown.entries → Grows known all root.area pair level tree 0 to [] between grown → WritesTop known root.area root grown to between new → Leaves all root level tree new (with_pair pair (pairs level tree))
 root_two known all root pair level tree to between new grown agrees is ascend g w =
     let area = root.area in
     let under = laid_all g.writes all in
@@ -130,20 +132,20 @@ root_two known all root pair level tree to between new grown agrees is ascend g 
     let up : grown.level + 1 ≡ suc level = omega (arith, level_here) in
     let stands = stand_written beside root (Some w.image) area (suc level) top refl refl (subst (λ (n : ℕ). IsNode w.image (record { level = n; entries = unbound w.low w.lower_at ∷ bound w.high w.upper_at ∷ [] })) up w.bears) top_apart (both.stand, both.parted) in
     let whole : new ≡ g.writes ++ more = behind_all [] between new g.writes more g.behind w.writes in
-    let map_is : laid_all new all ≡ laid root (Some w.image) beside = ap (λ ws. laid_all ws all) whole ∙ laid_in_turn g.writes more all in (
-      suc level,
-      top,
-      (
-        record {
-          rooted = refl;
-          stands = subst (λ ls. Stands ls area (suc level) top) (sym map_is) stands;
-          once = distinct_more root (places_below (suc level) top) top_apart both.once;
-        },
-        both.pairs ∙ g.with_it,
-        subst (WriteOn (λ k. k.area ≡ area)) (sym whole) (all_append (λ (v : Write). v.key.area ≡ area) g.writes more (areas_of known all area 0 to (places_below level tree) g.writes agrees g.written (areas_below all root level tree is))
-            (agrees.within (room_at area to) w.lower_at w.is_lower, (agrees.within (room_at area (to + 1)) w.upper_at w.is_upper, (refl, tt)))),
-      ),
-    )
+    let map_is : laid_all new all ≡ laid root (Some w.image) beside = ap (λ ws. laid_all ws all) whole ∙ laid_in_turn g.writes more all in
+    record {
+      level = suc level;
+      tree = top;
+      index = record {
+        rooted = refl;
+        stands = subst (λ ls. Stands ls area (suc level) top) (sym map_is) stands;
+        once = distinct_more root (places_below (suc level) top) top_apart both.once;
+      };
+      pairs_are = both.pairs ∙ g.with_it;
+      in_area = subst (WriteOn (λ k. k.area ≡ area)) (sym whole) (all_append (λ (v : Write). v.key.area ≡ area) g.writes more (areas_of known all area 0 to (places_below level tree) g.writes agrees g.written (areas_below all root level tree is))
+          (agrees.within (room_at area to) w.lower_at w.is_lower, (agrees.within (room_at area (to + 1)) w.upper_at w.is_upper, (refl, tt))));
+      filled = λ h. let halves_filled = x.filled (g.filled h) in (halves_filled.0, (halves_filled.1, tt));
+    }
 
 -- ---- the whole insertion
 

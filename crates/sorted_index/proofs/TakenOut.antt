@@ -1,5 +1,5 @@
 -- The steps of taking a pair out, each as the code takes it.
-use Rattle.std.proofs.Common.{◌≡◌, ◌≢◌, ℕ, zero, suc, ◌-◌, ◌<◌, Bool, true, false, List, [], ◌∷◌, ◌++◌, length, map, get_or, Option, Some, None, refl, sym, ap, subst, ◌∙◌, arith, append_assoc, rules}
+use Rattle.std.proofs.Common.{◌≡◌, ◌≢◌, ℕ, zero, suc, ◌-◌, ◌<◌, Bool, true, false, List, [], ◌∷◌, ◌++◌, length, get_or, Option, Some, None, refl, sym, ap, subst, ◌∙◌, arith, append_assoc, rules}
 use Rattle.std.specs.Prelude.{is_none, option_map, Result, Ok, Err, IsTrue, ◌↔◌, ⊤}
 use Rattle.std.specs.List.{AllByRecursion, flat_map, remove}
 use Rattle.std.proofs.lemmas.List.{append-nil}
@@ -9,18 +9,19 @@ use Rattle.index_node.specs.declared.node.IndexNode.{IndexNode}
 use Rattle.index_node.specs.Node.{IsNode}
 use Rattle.line_view.specs.declared.need.Need.TheVariants.{Line}
 use Rattle.line_view.specs.Knowledge.{Lines, Knowledge, Agrees, line_in}
+use Rattle.line_view.specs.declared.writes.Write.{Write}
 use Rattle.sorted_index.specs.declared.stop.IndexStop.{IndexStop}
 use Rattle.sorted_index.specs.declared.stop.IndexStop.TheVariants.{Missing, Duplicate, Bad, NoMemory}
-use Rattle.sorted_index.specs.declared.writes.Write.{Write}
-use Rattle.sorted_index.specs.Tree.{Tree, place, node_of, pairs, Bears, Stands, IsIndex}
+use Rattle.sorted_index.specs.Tree.{Tree, place, node_of, pairs, Bears, Stands, IsIndex, is_empty, has_nothing}
 use Rattle.sorted_index.specs.Search.{first_unknown}
 use Rattle.sorted_index.specs.Changes.{without_pair, chosen, path_below, path, Changes}
-use Rattle.sorted_index.specs.Removal.{is_empty, has_nothing, replaced, without, Choose, IsLeft, Wrote, TakesOut}
+use Rattle.sorted_index.specs.Removal.{replaced, without, Choose, IsLeft, Wrote, TakesOut}
 use Rattle.sorted_index.specs.Steps.{IsKnownAs, ReadsNode, child_place, Adds}
 use Rattle.sorted_index.proofs.Walk.{known_in, one_bears, is_known, level_of, bears}
 use Rattle.sorted_index.proofs.Below.{past_known, unknown_first, misses, stops}
 use Rattle.sorted_index.proofs.After.{index_left}
 use Rattle.sorted_index.proofs.Ordered.{StandsBelow}
+use Rattle.sorted_index.proofs.Filled.{nothing_is}
 use Rattle.sorted_index.proofs.Without.{Entries}
 use Rattle.sorted_index.proofs.Chosen.{IsChosen, chosen_child}
 
@@ -138,14 +139,6 @@ child_stops known pair node at key below old new e inner at_is within some known
 
 -- ---- the node behind it
 
-nothing_is : (level : ℕ) (tree : Tree level) (left : IndexNode) → node_of level tree ≡ left → has_nothing level tree ≡ is_empty left.entries
-nothing_is zero tree left is = ap (λ (n : IndexNode). is_empty n.entries) is
-nothing_is (suc level) tree left is = mapped tree.entries ∙ ap (λ (n : IndexNode). is_empty n.entries) is
-  where
-    mapped : (cs : List (NodeEntry × Tree level)) → is_empty cs ≡ is_empty (map (λ c. c.0) cs)
-    mapped [] = refl
-    mapped (c ∷ cs) = refl
-
 -- what the child leaves: no line where it has no entries, or that of its node, and the entries of the node above it
 abbrev pub LeavesEntries : IndexNode → List NodeEntry → ℕ → Option (List ℕ) → List NodeEntry → Bool → Type 0
 LeavesEntries left entries at image after true = (image ≡ None) × (after ≡ remove entries at)
@@ -197,25 +190,25 @@ empty_false (x ∷ xs) r iff is = refl
 
 -- ---- from the root on
 
-as_changed : (known : Knowledge) (all : Lines) (root : Dbkey) (read : List Dbkey) (left : List NodeEntry) (e : IndexStop) → Adds known read [] [] [] (Err e) → Changes known all root read left (Err e)
-as_changed known all root read left (Missing need) h = h
-as_changed known all root read left Duplicate h = h
-as_changed known all root read left (Bad key) h = h
-as_changed known all root read left NoMemory h = tt
+as_changed : (known : Knowledge) (all : Lines) (root : Dbkey) (level : ℕ) (tree : Tree level) (read : List Dbkey) (left : List NodeEntry) (e : IndexStop) → Adds known read [] [] [] (Err e) → Changes known all root level tree read left (Err e)
+as_changed known all root level tree read left (Missing need) h = h
+as_changed known all root level tree read left Duplicate h = h
+as_changed known all root level tree read left (Bad key) h = h
+as_changed known all root level tree read left NoMemory h = tt
 
 abbrev pub HasChanged : Knowledge → NodeEntry → Dbkey → Result (List Write) IndexStop → Type 0
-HasChanged known pair root result = (all : Lines) (level : ℕ) (tree : Tree level) → Agrees known all → IsIndex all root level tree → Changes known all root (path pair level tree) (without_pair pair (pairs level tree)) result
+HasChanged known pair root result = (all : Lines) (level : ℕ) (tree : Tree level) → Agrees known all → IsIndex all root level tree → Changes known all root level tree (path pair level tree) (without_pair pair (pairs level tree)) result
 
 pub root_misses : (known : Knowledge) (pair : NodeEntry) (root : Dbkey) (e : IndexStop) → ReadsNode known root (λ node. ⊤) (Err e) → HasChanged known pair root (Err e)
 root_misses known pair root e reading all level tree agrees is =
-    as_changed known all root (path pair level tree) (without_pair pair (pairs level tree)) e
+    as_changed known all root level tree (path pair level tree) (without_pair pair (pairs level tree)) e
     (stops known (path pair level tree) (place level tree ∷ []) [] [] [] [] [] e (λ key. unknown_first known (place level tree) (path_below pair level tree) key)
     (misses known all root.area level tree (λ node. ⊤) [] [] [] e agrees is.stands tt (subst (λ (k : Dbkey). ReadsNode known k (λ node. ⊤) (Err e)) (sym is.rooted) reading)))
 
 pub root_stops : (known : Knowledge) (pair : NodeEntry) (root : Dbkey) (node : IndexNode) (old new : List Write) (e : IndexStop) → IsKnownAs (known.line root) node → HasTakenOut known pair node old new (Err e) → HasChanged known pair root (Err e)
 root_stops known pair root node old new e known_as_node takes all level tree agrees is =
     let r = read_as known all root.area level tree root node agrees is.stands (sym is.rooted) known_as_node in
-    as_changed known all root (path pair level tree) (without_pair pair (pairs level tree)) e
+    as_changed known all root level tree (path pair level tree) (without_pair pair (pairs level tree)) e
     (stops known (path pair level tree) (path_below pair level tree) [] [] [] [] [] e (λ key lack. past_known known (place level tree) (path_below pair level tree) r.1 ∙ lack)
     (as_added known pair level tree old new e (takes all root.area level tree agrees is.stands r.0)))
 

@@ -8,9 +8,9 @@ use Rattle.std.proofs.lemmas.List.Elements.{filter-append}
 use Rattle.index_node.specs.declared.entry.NodeEntry.{NodeEntry}
 use Rattle.index_node.specs.Order.{entry_order}
 use Rattle.index_node.specs.OrderLaws.{entries_total}
-use Rattle.sorted_index.specs.Tree.{Tree, place, pairs, IsPartedFrom, AreParted}
+use Rattle.sorted_index.specs.Tree.{Tree, place, pairs, IsPartedFrom, AreParted, is_empty, has_nothing}
 use Rattle.sorted_index.specs.Changes.{goes_on, without_pair}
-use Rattle.sorted_index.specs.Removal.{is_empty, has_nothing, keep, replaced, without}
+use Rattle.sorted_index.specs.Removal.{keep, replaced, without}
 use Rattle.sorted_index.proofs.Ordered.{Lt, UpTo, Ascend, lt_upto, itself, less_all, begin, all_from}
 
 -- ---- the tree

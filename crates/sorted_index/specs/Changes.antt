@@ -1,17 +1,19 @@
 -- What a change of an index leaves.
-use Rattle.std.specs.Prelude.{◌≡◌, ℕ, zero, suc, Bool, false, not, List, [], ◌∷◌, map, Some, None, option_map, Result, Ok, Err, if◌then◌else◌}
+use Rattle.std.specs.Prelude.{◌≡◌, ℕ, zero, suc, Bool, false, true, not, ◌&&◌, ◌||◌, is_none, List, [], ◌∷◌, map, Some, None, option_map, Result, Ok, Err, if◌then◌else◌}
 use Rattle.std.specs.Ordering.{is_lt, is_le, is_eq}
 use Rattle.std.specs.List.{AllByRecursion, filter, flat_map, list_any}
 use Rattle.rdb_types.specs.declared.keys.Dbkey.{Dbkey}
 use Rattle.rdb_types.specs.declared.values.Value.{Value}
+use Rattle.ordered_entries.specs.Order.{dbkey_order}
 use Rattle.index_node.specs.declared.entry.NodeEntry.{NodeEntry}
 use Rattle.index_node.specs.Order.{key_order, entry_order}
 use Rattle.line_view.specs.declared.need.Need.TheVariants.{Line}
-use Rattle.line_view.specs.Knowledge.{Knowledge, Lines, laid}
+use Rattle.line_view.specs.Knowledge.{Knowledge, Lines}
+use Rattle.line_view.specs.declared.writes.Write.{Write}
+use Rattle.line_view.specs.Writes.{laid_all}
 use Rattle.sorted_index.specs.declared.stop.IndexStop.{IndexStop}
 use Rattle.sorted_index.specs.declared.stop.IndexStop.TheVariants.{Missing, Duplicate, Bad, NoMemory}
-use Rattle.sorted_index.specs.declared.writes.Write.{Write}
-use Rattle.sorted_index.specs.Tree.{Tree, place, pairs, IsIndex}
+use Rattle.sorted_index.specs.Tree.{Tree, place, pairs, places, IsIndex, IsFilled}
 use Rattle.sorted_index.specs.Search.{first_unknown}
 
 -- ---- pairs
@@ -51,20 +53,29 @@ path pair level tree = place level tree ∷ path_below pair level tree
 
 -- ---- lines
 
--- lines written one after another
-abbrev pub laid_all : List Write → Lines → Lines
-laid_all [] lines = lines
-laid_all (write ∷ writes) lines = laid_all writes (laid write.key write.image lines)
+-- What writes leave of the index of this root, which had this tree: it is in order, with these pairs. The writes are on lines of its logical area alone. If each node but the root had an entry, so it is behind them.
+pub record Leaves (lines : Lines) (root : Dbkey) (level_before : ℕ) (before : Tree level_before) (writes : List Write) (pairs_left : List NodeEntry) : Type 0 where
+  pub level : ℕ
+  pub tree : Tree level
+  pub index : IsIndex (laid_all writes lines) root level tree
+  pub pairs_are : pairs level tree ≡ pairs_left
+  pub in_area : AllByRecursion (λ write. (write.key).area ≡ root.area) writes
+  pub filled : IsFilled level_before before → IsFilled level tree
 
--- The writes leave the index of this root in order, with these pairs, and are on lines of its logical area alone.
-abbrev pub Leaves : Lines → Dbkey → List Write → List NodeEntry → Type 0
-Leaves lines root writes pairs_left = (level : ℕ) × (tree : Tree level)
-    × (IsIndex (laid_all writes lines) root level tree × (pairs level tree ≡ pairs_left) × AllByRecursion (λ write. (write.key).area ≡ root.area) writes)
+abbrev pub has_line : List Dbkey → Dbkey → Bool
+has_line keys key = list_any (λ k. is_eq (dbkey_order k key)) keys
 
--- A change that reads these lines: it leaves the index with these pairs where it knows all that it reads, and else names the first that it lacks.
-abbrev pub Changes : Knowledge → Lines → Dbkey → List Dbkey → List NodeEntry → Result (List Write) IndexStop → Type 0
-Changes known lines root read pairs_left (Ok writes) = Leaves lines root writes pairs_left × (first_unknown known read ≡ None)
-Changes known lines root read pairs_left (Err (Missing need)) = option_map Line (first_unknown known read) ≡ Some need
-Changes known lines root read pairs_left (Err Duplicate) = ⊥
-Changes known lines root read pairs_left (Err (Bad key)) = ⊥
-Changes known lines root read pairs_left (Err NoMemory) = Unit {0}
+abbrev pub is_erased : List Write → Dbkey → Bool
+is_erased writes key = list_any (λ write. is_eq (dbkey_order write.key key) && is_none write.image) writes
+
+-- each line of a node of the tree before is one of the tree behind, or is erased
+abbrev pub ErasesOthers : (level_before : ℕ) → Tree level_before → (level : ℕ) → Tree level → List Write → Type 0
+ErasesOthers level_before before level after writes = AllByRecursion (λ key. (has_line (places level after) key || is_erased writes key) ≡ true) (places level_before before)
+
+-- A change that reads these lines: it leaves the index with these pairs, and no line of a node that is left out, where it knows all that it reads, and else names the first that it lacks.
+abbrev pub Changes : Knowledge → Lines → Dbkey → (level : ℕ) → Tree level → List Dbkey → List NodeEntry → Result (List Write) IndexStop → Type 0
+Changes known lines root level tree read pairs_left (Ok writes) = ((left : Leaves lines root level tree writes pairs_left) × ErasesOthers level tree left.level left.tree writes) × (first_unknown known read ≡ None)
+Changes known lines root level tree read pairs_left (Err (Missing need)) = option_map Line (first_unknown known read) ≡ Some need
+Changes known lines root level tree read pairs_left (Err Duplicate) = ⊥
+Changes known lines root level tree read pairs_left (Err (Bad key)) = ⊥
+Changes known lines root level tree read pairs_left (Err NoMemory) = Unit {0}

@@ -14,13 +14,14 @@ use Rattle.index_node.specs.Node.{IsNode, IsAllowedNode, node_fields}
 use Rattle.line_view.specs.declared.need.Need.TheVariants.{Line, Area, Room}
 use Rattle.line_view.specs.declared.need.Room.{Room as Place}
 use Rattle.line_view.specs.Knowledge.{Knowledge, Lines}
+use Rattle.line_view.specs.declared.writes.Write.{Write}
+use Rattle.line_view.specs.Writes.{laid_all}
 use Rattle.sorted_index.specs.declared.stop.IndexStop.{IndexStop}
 use Rattle.sorted_index.specs.declared.stop.IndexStop.TheVariants.{Missing, Duplicate, Bad, NoMemory}
-use Rattle.sorted_index.specs.declared.writes.Write.{Write}
 use Rattle.sorted_index.specs.Keys.{only}
-use Rattle.sorted_index.specs.Tree.{Tree, place, node_of, pairs, places, AreParted, Stands}
+use Rattle.sorted_index.specs.Tree.{Tree, place, node_of, pairs, places, AreParted, Stands, IsFilled}
 use Rattle.sorted_index.specs.Search.{first_unknown, reads}
-use Rattle.sorted_index.specs.Changes.{with_pair, has_key, goes_on, chosen, path_below, path, laid_all, Leaves}
+use Rattle.sorted_index.specs.Changes.{with_pair, has_key, goes_on, chosen, path_below, path, Leaves}
 
 -- ---- what is asked for
 
@@ -73,7 +74,7 @@ Looks known unique key level tree (Err NoMemory) = Unit {0}
 
 -- A pair that isn't in the index is put into it. The index is left with it; Duplicate comes where the index is unique and has its key; a line or a room that is lacked is the next that is read or taken, and a room is taken only where the leaf is full; Bad comes where a root of level 255 would have to be split.
 abbrev pub Inserts : Knowledge → Lines → Dbkey → NodeEntry → Bool → (level : ℕ) → Tree level → Result (List Write) IndexStop → Type 0
-Inserts known lines root pair unique level tree (Ok writes) = Leaves lines root writes (with_pair pair (pairs level tree)) × (first_unknown known (lines_read unique pair level tree) ≡ None) × ((unique && has_key pair.key (pairs level tree)) ≡ false)
+Inserts known lines root pair unique level tree (Ok writes) = Leaves lines root level tree writes (with_pair pair (pairs level tree)) × (first_unknown known (lines_read unique pair level tree) ≡ None) × ((unique && has_key pair.key (pairs level tree)) ≡ false)
 Inserts known lines root pair unique level tree (Err (Missing (Line key))) = first_unknown known (lines_read unique pair level tree) ≡ Some key
 Inserts known lines root pair unique level tree (Err (Missing (Area area))) = ⊥
 Inserts known lines root pair unique level tree (Err (Missing (Room room))) = LacksRoom known root.area 0 room × (first_unknown known (lines_read unique pair level tree) ≡ None) × ((unique && has_key pair.key (pairs level tree)) ≡ false) × IsFull pair level tree
@@ -158,6 +159,7 @@ pub record Grows (known : Knowledge) (all : Lines) (area : ℕ) (pair : NodeEntr
   pub places : Among known area from to (places_below level tree) (places_below level after)
   pub written : Among known area from to (places_below level tree) (map (λ write. write.key) writes)
   pub full : 430 < size (node_fields grown) → IsFull pair level tree
+  pub filled : IsFilled level tree → IsFilled level after
 
 -- Putting a pair in below a node, where rooms from this number on may be taken.
 abbrev pub PutsIn : Knowledge → Lines → ℕ → NodeEntry → (level : ℕ) → Tree level → ℕ → ℕ → List Write → List Write → Result IndexNode IndexStop → Type 0

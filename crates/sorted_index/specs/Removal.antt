@@ -4,20 +4,12 @@ use Rattle.index_node.specs.declared.entry.NodeEntry.{NodeEntry}
 use Rattle.index_node.specs.declared.node.IndexNode.{IndexNode}
 use Rattle.line_view.specs.declared.need.Need.TheVariants.{Line}
 use Rattle.line_view.specs.Knowledge.{Knowledge}
+use Rattle.line_view.specs.declared.writes.Write.{Write}
 use Rattle.sorted_index.specs.declared.stop.IndexStop.{IndexStop}
 use Rattle.sorted_index.specs.declared.stop.IndexStop.TheVariants.{Missing, Duplicate, Bad, NoMemory}
-use Rattle.sorted_index.specs.declared.writes.Write.{Write}
-use Rattle.sorted_index.specs.Tree.{Tree, place, node_of, Bears}
+use Rattle.sorted_index.specs.Tree.{Tree, place, node_of, Bears, has_nothing}
 use Rattle.sorted_index.specs.Search.{first_unknown}
 use Rattle.sorted_index.specs.Changes.{goes_on, without_pair, path_below}
-
-abbrev pub is_empty : {X : Type 0} → List X → Bool
-is_empty [] = true
-is_empty (x ∷ xs) = false
-
-abbrev pub has_nothing : (level : ℕ) → Tree level → Bool
-has_nothing zero tree = is_empty tree.entries
-has_nothing (suc level) tree = is_empty tree.entries
 
 -- what is left below an entry, before the children behind it: a node without entries is left out
 abbrev pub keep : (level : ℕ) → NodeEntry → Tree level → List (NodeEntry × Tree level) → List (NodeEntry × Tree level)

@@ -1,5 +1,5 @@
 -- The tree of a sorted index in a full map of lines, and the pairs that it holds.
-use Rattle.std.specs.Prelude.{◌≡◌, ◌≢◌, ℕ, zero, suc, List, [], ◌∷◌, map, Option, Some, None}
+use Rattle.std.specs.Prelude.{◌≡◌, ◌≢◌, ℕ, zero, suc, Bool, true, false, List, [], ◌∷◌, map, Option, Some, None}
 use Rattle.std.specs.declared.cmp.Ordering.TheVariants.{Less, Greater}
 use Rattle.std.specs.Ordering.{is_eq}
 use Rattle.std.specs.List.{AllByRecursion, flat_map, IsDistinct}
@@ -64,3 +64,18 @@ pub record IsIndex (lines : Lines) (root : Dbkey) (level : ℕ) (tree : Tree lev
   pub rooted : place level tree ≡ root
   pub stands : Stands lines root.area level tree
   pub once : IsDistinct (λ a b. is_eq (dbkey_order a b)) (places level tree)
+
+-- ---- nodes without entries
+
+abbrev pub is_empty : {X : Type 0} → List X → Bool
+is_empty [] = true
+is_empty (x ∷ xs) = false
+
+abbrev pub has_nothing : (level : ℕ) → Tree level → Bool
+has_nothing zero tree = is_empty tree.entries
+has_nothing (suc level) tree = is_empty tree.entries
+
+-- each node below this one has an entry
+abbrev pub IsFilled : (level : ℕ) → Tree level → Type 0
+IsFilled zero tree = Unit {0}
+IsFilled (suc level) tree = AllByRecursion (λ child. (has_nothing level child.1 ≡ false) × IsFilled level child.1) tree.entries

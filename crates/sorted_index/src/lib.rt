@@ -14,12 +14,11 @@ mod stop;
 #[cfg(test)]
 mod tests;
 mod work;
-mod writes;
 
 pub use bounds::Bounds;
 pub use insertion::insert;
 pub use laws::pairs_are_ordered;
+pub use line_view::Writes;
 pub use removal::remove;
 pub use search::{find, range};
 pub use stop::IndexStop;
-pub use writes::{Write, Writes};

@@ -8,11 +8,11 @@ ghost use Rattle.sorted_index.specs.Changes.{pair_of, without_pair, path, Change
 ghost use Rattle.sorted_index.specs.Steps.{IsLaid};
 ghost use Rattle.sorted_index.specs.Removal.{TakesOut};
 
+use crate::IndexStop;
 use crate::nodes::{child_at, node_at};
 use crate::places::{child_of, child_place, take_pair};
-use crate::{IndexStop, Write, Writes};
 use index_node::{IndexNode, put_node};
-use line_view::View;
+use line_view::{View, Write, Writes};
 use rdb_types::{Dbkey, Value};
 use std::alloc::Global;
 
@@ -79,7 +79,7 @@ pub fn remove<V: View>(
 ) -> Result<Writes, IndexStop>
     ensures answers { (all : Lines) (level : ℕ) (tree : Tree level) → Agrees (V.knows view.now) all
         → IsIndex all root level tree
-        → Changes (V.knows view.now) all root (path (pair_of key.now at) level tree)
+        → Changes (V.knows view.now) all root level tree (path (pair_of key.now at) level tree)
         (without_pair (pair_of key.now at) (pairs level tree)) result }
 {
     let node = node_at(alloc, view, root)?;

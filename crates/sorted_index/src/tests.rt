@@ -1,9 +1,9 @@
 ghost use Rattle.std.specs.Prelude.{slice_get};
 ghost use Rattle.line_view.specs.Held.{knows as knows_of};
 
-use crate::{Bounds, IndexStop, Writes, find, insert, range, remove};
+use crate::{Bounds, IndexStop, find, insert, range, remove};
 use index_node::{IndexNode, NodeEntry, is_allowed_node, put_node};
-use line_view::{Known, Need, Room, Seen, View};
+use line_view::{Known, Need, Room, Seen, View, Writes};
 use rdb_types::{Chars, Dbkey, Image, Items, Keys, NoMemory, Row, Value};
 use record_format::{are_storable, values_size};
 use std::alloc::Global;

@@ -4,8 +4,8 @@ ghost use Rattle.line_view.specs.declared.need.Need.TheVariants.{Room as RoomNee
 ghost use Rattle.sorted_index.specs.declared.stop.IndexStop.TheVariants.{Missing};
 ghost use Rattle.sorted_index.specs.Insertion.{room_at};
 
-use crate::{IndexStop, Writes};
-use line_view::{Need, Room, View};
+use crate::IndexStop;
+use line_view::{Need, Room, View, Writes};
 use rdb_types::Dbkey;
 
 /// The logical area of an index, the lines of it that an insertion writes, and how many rooms it has taken for new nodes.

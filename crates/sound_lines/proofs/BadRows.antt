@@ -13,7 +13,8 @@ use Rattle.catalog.proofs.Agreements.{one_catalog, no_catalog}
 use Rattle.relation_rows.specs.declared.stored.StoredRelation.{StoredRelation}
 use Rattle.relation_rows.specs.declared.stored.StoredRow.{StoredRow}
 use Rattle.relation_rows.specs.Stored.{IsRowOf, AreRowsOf}
-use Rattle.sound_lines.specs.Contents.{versions_in, version_of, stored, stored_row, HaveRows, AreTablesOf}
+use Rattle.relation_rows.specs.Relations.{stored_row}
+use Rattle.sound_lines.specs.Contents.{versions_in, version_of, stored, HaveRows, AreTablesOf}
 use Rattle.sound_lines.specs.Reading.{IsBadRow, StopsTables}
 use Rattle.sound_lines.specs.Reading.StopsTables.{in_catalog, in_rows}
 use Rattle.sound_lines.proofs.OneTables.{with_catalog}

@@ -15,7 +15,7 @@ use Rattle.line_view.specs.Knowledge.{Lines, IsInOrder, line_in, lines_in, laid}
 use Rattle.line_view.proofs.FullMap.{other_area}
 use Rattle.relation_rows.specs.declared.stored.StoredRelation.{StoredRelation}
 use Rattle.relation_rows.specs.Stored.{IsRowOf, AreRowsOf}
-use Rattle.sound_lines.specs.Contents.{stored_row}
+use Rattle.relation_rows.specs.Relations.{stored_row}
 
 -- ---- the lines of the area
 

@@ -1,8 +1,6 @@
 -- A map has one list of tables.
-use Rattle.std.proofs.Common.{◌≡◌, ℕ, List, [], ◌∷◌, map, refl, sym, ap, subst, ◌∙◌}
-use Rattle.rdb_types.specs.declared.values.Value.{Value}
+use Rattle.std.proofs.Common.{◌≡◌, ℕ, List, [], ◌∷◌, map, refl, sym, subst, ◌∙◌}
 use Rattle.rdb_types.specs.declared.keys.Dbkey.{Dbkey}
-use Rattle.record_format.proofs.Rows.{one_row}
 use Rattle.rdo_ast.specs.Tree.{Name}
 use Rattle.rdb_meaning.specs.declared.tables.Relation.{Relation}
 use Rattle.rdb_meaning.specs.declared.tables.Tables.{Tables}
@@ -11,13 +9,10 @@ use Rattle.line_view.specs.Knowledge.{Lines, lines_in}
 use Rattle.catalog.specs.declared.reading.Catalog.{Catalog}
 use Rattle.catalog.proofs.Agreements.{one_catalog}
 use Rattle.relation_rows.specs.declared.stored.StoredRelation.{StoredRelation}
-use Rattle.relation_rows.specs.Stored.{IsRowOf, AreRowsOf, completed}
-use Rattle.sound_lines.specs.Contents.{versions_in, version_of, stored, stored_row, HasRows, HaveRows, AreTablesWith, AreTablesOf}
-
-same_row : (r : StoredRelation) (image : List ℕ) (a b : List Value) → IsRowOf r image a → IsRowOf r image b → a ≡ b
-same_row r image a b x y =
-    let values : x.values ≡ y.values = one_row image x.version y.version x.values y.values x.stands y.stands in
-    x.whole ∙ (ap (completed r.fields.now) values ∙ sym y.whole)
+use Rattle.relation_rows.specs.Stored.{AreRowsOf}
+use Rattle.relation_rows.specs.Relations.{stored_row, HasRows}
+use Rattle.index_rows.proofs.Standing.{same_row}
+use Rattle.sound_lines.specs.Contents.{versions_in, version_of, stored, HaveRows, AreTablesWith, AreTablesOf}
 
 pub same_rows : (r : StoredRelation) (lines : Lines) (a b : List (Dbkey × Row)) → AreRowsOf r lines (map stored_row a) → AreRowsOf r lines (map stored_row b) → a ≡ b
 same_rows r [] [] [] x y = refl
@@ -31,10 +26,10 @@ same_rows r (l ∷ ls) (e ∷ es) (f ∷ fs) x y =
     let rest : es ≡ fs = same_rows r ls es fs x.2 y.2 in
     λ i. (key i, row i) ∷ rest i
 
-same_relation : (all : Lines) (version : ℕ) (bare a b : Relation) → HasRows all version bare a → HasRows all version bare b → a ≡ b
+same_relation : (all : Lines) (version : ℕ) (bare a b : Relation) → HasRows all (stored version bare) a → HasRows all (stored version bare) b → a ≡ b
 same_relation all version bare a b x y =
-    let area : a.area ≡ b.area = x.area ∙ sym y.area in
-    let fields : a.fields ≡ b.fields = x.fields ∙ sym y.fields in
+    let area : a.area ≡ b.area = sym x.area ∙ y.area in
+    let fields : a.fields ≡ b.fields = sym x.fields ∙ y.fields in
     let rows : a.rows ≡ b.rows = same_rows (stored version bare) (lines_in bare.area all) a.rows b.rows x.rows y.rows in
     λ i. record { area = area i; fields = fields i; rows = rows i }
 

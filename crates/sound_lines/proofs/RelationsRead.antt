@@ -10,8 +10,9 @@ use Rattle.ordered_entries.proofs.Laws.{chars_total}
 use Rattle.line_view.specs.declared.need.Stop.{Stop}
 use Rattle.line_view.specs.declared.need.Stop.TheVariants.{Missing, Bad, NoMemory}
 use Rattle.line_view.specs.Knowledge.{Knowledge, Lines, IsInOrder, Agrees}
+use Rattle.relation_rows.specs.Relations.{HasRows}
 use Rattle.sound_lines.specs.Gathered.{put_all}
-use Rattle.sound_lines.specs.Contents.{version_of, stored, HasRows, HaveRows}
+use Rattle.sound_lines.specs.Contents.{version_of, stored, HaveRows}
 use Rattle.sound_lines.specs.Reading.{IsAreaKnown, StopsRows, StopsAt, StopsRelations}
 use Rattle.sound_lines.proofs.Gathering.{keys, gathered, put_all_more, same_sorted}
 
@@ -44,14 +45,14 @@ one_read : (known : Knowledge) (done : List (Name × Relation)) (b : Name × Rel
 one_read known [] b all is = (is, tt)
 one_read known (d ∷ ds) b all is = (all.0, one_read known ds b all.1 is)
 
-one_whole : (all : Lines) (versions : List (Name × ℕ)) (done whole : List (Name × Relation)) (b w : Name × Relation) → HaveRows all versions done whole → w.0 ≡ b.0 → HasRows all (version_of b.0 versions) b.1 w.1 → HaveRows all versions (done ++ b ∷ []) (whole ++ w ∷ [])
+one_whole : (all : Lines) (versions : List (Name × ℕ)) (done whole : List (Name × Relation)) (b w : Name × Relation) → HaveRows all versions done whole → w.0 ≡ b.0 → HasRows all (stored (version_of b.0 versions) b.1) w.1 → HaveRows all versions (done ++ b ∷ []) (whole ++ w ∷ [])
 one_whole all versions [] [] b w have name has = (name, has, tt)
 one_whole all versions [] (x ∷ xs) b w have name has = absurd have
 one_whole all versions (d ∷ ds) [] b w have name has = absurd have
 one_whole all versions (d ∷ ds) (x ∷ xs) b w have name has = (have.0, have.1, one_whole all versions ds xs b w have.2 name has)
 
 pub one_more_found : (known : Knowledge) (versions : List (Name × ℕ)) (relations left found new : List (Name × Relation)) (b : Name × Relation) (whole : Relation) →
-    AreFound known versions relations (b ∷ left) found → ((all : Lines) → IsInOrder all → Agrees known all → HasRows all (version_of b.0 versions) b.1 whole) → IsAreaKnown known b.1.area →
+    AreFound known versions relations (b ∷ left) found → ((all : Lines) → IsInOrder all → Agrees known all → HasRows all (stored (version_of b.0 versions) b.1) whole) → IsAreaKnown known b.1.area →
     new ≡ put name_order b.0 whole found → AreFound known versions relations left new
 one_more_found known versions relations left found new b whole are rows read made = record {
   done = are.done ++ b ∷ [];

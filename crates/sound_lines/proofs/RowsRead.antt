@@ -19,7 +19,7 @@ use Rattle.relation_rows.specs.declared.stored.StoredRow.{StoredRow}
 use Rattle.relation_rows.specs.Stored.{IsRowOf, AreRowsOf, IsRowAt, IsBadAt, IsLineKnown, IsNextNeed, count_in, are_values_of, completed}
 use Rattle.relation_rows.proofs.Progress.{AreRead, none_read, row_read, absent_read, all_read, next_line}
 use Rattle.sound_lines.specs.Gathered.{put_all}
-use Rattle.sound_lines.specs.Contents.{stored_row}
+use Rattle.relation_rows.specs.Relations.{stored_row}
 use Rattle.sound_lines.specs.Reading.{IsAreaKnown, IsBadRow, StopsRows}
 use Rattle.sound_lines.proofs.Gathering.{keys as keys_in, true_from_T, gathered, put_all_more, same_sorted}
 

@@ -174,7 +174,7 @@ unfolding IsDistinct
 in_order = record { rooted = refl; stands = (refl, root_is); once = (tt, tt) }
 
 index_is_sound : IsSoundIndex worked_lines (record { area = 17; relation = 16; unique = true; root = at_page 17 2; fields = 0 ∷ []; name = 88 ∷ [] }) (Some (record { area = 16; fields = worked_field ∷ []; rows = (at_page 16 2, Number (pos 7) ∷ []) ∷ (at_page 16 3, Number (pos 9) ∷ []) ∷ [] }))
-index_is_sound = record { short = omega arith; level = 0; tree = its_tree; is = in_order; holds = refl; unique = λ _. refl }
+index_is_sound = record { short = omega arith; is = record { level = 0; tree = its_tree; is = in_order; holds = refl }; unique = λ _. refl }
 
 relation_is_sound : IsSoundRelation (record { area = 16; class = 208; version = 1; name = 84 ∷ [] }) (worked_field ∷ [])
 relation_is_sound = record { class = refl; versions = refl; version = omega arith }

@@ -1,21 +1,19 @@
 -- The tables of a full map of lines: those of its catalog, with the rows that stand on the lines of each relation's logical area.
-use Rattle.std.specs.Prelude.{◌≡◌, ℕ, List, [], ◌∷◌, map}
+use Rattle.std.specs.Prelude.{◌≡◌, ℕ, List, [], ◌∷◌}
 use Rattle.std.specs.Option.{unwrap_or}
 use Rattle.std.specs.FinMap.Entries.{find, put}
-use Rattle.rdb_types.specs.declared.keys.Dbkey.{Dbkey}
 use Rattle.rdo_ast.specs.Tree.{Name}
 use Rattle.rdb_meaning.specs.declared.tables.Relation.{Relation as Rows}
 use Rattle.rdb_meaning.specs.declared.tables.Tables.{Tables}
-use Rattle.rdb_meaning.specs.Contents.{Row, name_order}
-use Rattle.line_view.specs.Knowledge.{Lines, lines_in}
+use Rattle.rdb_meaning.specs.Contents.{name_order}
+use Rattle.line_view.specs.Knowledge.{Lines}
 use Rattle.catalog_lines.specs.declared.line.CatalogLine.{CatalogLine}
 use Rattle.catalog_lines.specs.declared.line.CatalogLine.TheVariants.{Relation, Global, Field, Index}
 use Rattle.catalog.specs.declared.directory.PlacedLine.{PlacedLine}
 use Rattle.catalog.specs.declared.reading.Catalog.{Catalog}
 use Rattle.catalog.specs.Reading.{IsCatalogOf}
 use Rattle.relation_rows.specs.declared.stored.StoredRelation.{StoredRelation}
-use Rattle.relation_rows.specs.declared.stored.StoredRow.{StoredRow}
-use Rattle.relation_rows.specs.Stored.{AreRowsOf}
+use Rattle.relation_rows.specs.Relations.{HasRows}
 
 -- ---- the version of each relation
 
@@ -42,21 +40,12 @@ version_of name versions = unwrap_or (find name_order name versions) 0
 abbrev pub stored : ℕ → Rows → StoredRelation
 stored version r = record { area = r.area; version = version; fields = record { ref_ptr = (0, 0); now = r.fields } }
 
-abbrev pub stored_row : Dbkey × Row → StoredRow
-stored_row e = record { key = e.0; row = e.1 }
-
--- The second relation is the first, with the rows that the lines of its logical area are.
-pub record HasRows (all : Lines) (version : ℕ) (bare whole : Rows) : Type 0 where
-  pub area : whole.area ≡ bare.area
-  pub fields : whole.fields ≡ bare.fields
-  pub rows : AreRowsOf (stored version bare) (lines_in bare.area all) (map stored_row whole.rows)
-
--- these relations are those, each with its rows
+-- these relations are those, each with the rows that the lines of its logical area are
 abbrev pub HaveRows : Lines → List (Name × ℕ) → List (Name × Rows) → List (Name × Rows) → Type 0
 HaveRows all versions [] [] = Unit {0}
 HaveRows all versions [] (w ∷ ws) = ⊥
 HaveRows all versions (b ∷ bs) [] = ⊥
-HaveRows all versions (b ∷ bs) (w ∷ ws) = (w.0 ≡ b.0) × HasRows all (version_of b.0 versions) b.1 w.1 × HaveRows all versions bs ws
+HaveRows all versions (b ∷ bs) (w ∷ ws) = (w.0 ≡ b.0) × HasRows all (stored (version_of b.0 versions) b.1) w.1 × HaveRows all versions bs ws
 
 -- ---- the tables
 

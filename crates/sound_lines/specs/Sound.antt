@@ -6,7 +6,7 @@ use Rattle.rdb_types.specs.declared.values.Field.{Field}
 use Rattle.rdo_ast.specs.Tree.{Name}
 use Rattle.rdb_meaning.specs.declared.tables.Relation.{Relation as Rows}
 use Rattle.rdb_meaning.specs.declared.tables.Tables.{Tables}
-use Rattle.rdb_meaning.specs.Contents.{Row, rows_of, fields_of, longest_value, class_of, key_of}
+use Rattle.rdb_meaning.specs.Contents.{rows_of, fields_of, longest_value, class_of}
 use Rattle.rdb_meaning.specs.Defining.{keys_repeat}
 use Rattle.line_view.specs.Knowledge.{Lines}
 use Rattle.catalog_lines.specs.declared.line.RelationLine.{RelationLine}
@@ -15,9 +15,7 @@ use Rattle.catalog_lines.specs.declared.line.CatalogLine.{CatalogLine}
 use Rattle.catalog_lines.specs.declared.line.CatalogLine.TheVariants.{Relation, Global, Field as FieldOf, Index}
 use Rattle.catalog.specs.declared.reading.Catalog.{Catalog}
 use Rattle.catalog.specs.Reading.{IsCatalogOf}
-use Rattle.index_node.specs.declared.entry.NodeEntry.{NodeEntry}
-use Rattle.sorted_index.specs.Tree.{Tree, pairs, IsIndex}
-use Rattle.sorted_index.specs.Changes.{pair_of, with_pair}
+use Rattle.index_rows.specs.Indexed.{IsIndexOf}
 use Rattle.sound_lines.specs.Contents.{AreTablesWith}
 
 -- the relation of a logical area
@@ -48,18 +46,10 @@ longest_in None = 0
 abbrev pub longest_key : List ℕ → List Field → ℕ
 longest_key positions fields = sum_by (λ p. longest_in (slice_get fields p)) positions
 
--- a pair for each row, of its key and its Dbkey, in the order of the pairs
-abbrev pub pairs_of : List ℕ → List (Dbkey × Row) → List NodeEntry
-pairs_of positions [] = []
-pairs_of positions (e ∷ es) = with_pair (pair_of (key_of positions e.1) e.0) (pairs_of positions es)
-
--- The longest key has at most 120 bytes, the index is in order and holds one pair for each row of its relation and no more, and where it is unique no two rows have one key.
+-- The longest key has at most 120 bytes, it is an index of the rows of its relation, and where it is unique no two rows have one key.
 pub record IsSoundIndex (all : Lines) (x : IndexLine) (r : Option Rows) : Type 0 where
   pub short : longest_key x.fields (fields_of r) ≤ 120
-  pub level : ℕ
-  pub tree : Tree level
-  pub is : IsIndex all x.root level tree
-  pub holds : pairs level tree ≡ pairs_of x.fields (rows_of r)
+  pub is : IsIndexOf all x.root x.fields (rows_of r)
   pub unique : x.unique ≡ true → keys_repeat x.fields (rows_of r) ≡ false
 
 -- ---- the map

@@ -14,5 +14,5 @@ pub use laws::{
     bad_is_no_tables, empty_is_sound, key_of_names, one_tables, rows_follow_lines,
     sound_has_tables, worked_is_sound,
 };
-pub use sizes::{class_of, longest_key};
+pub use sizes::longest_key;
 pub use tables::read_tables;

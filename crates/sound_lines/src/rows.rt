@@ -2,7 +2,8 @@
 ghost use Rattle.std.specs.Prelude.{◌≡◌, map, IfOk, IfErr};
 ghost use Rattle.line_view.specs.Knowledge.{Lines, IsInOrder, Agrees, lines_in};
 ghost use Rattle.relation_rows.specs.Stored.{AreRowsOf};
-ghost use Rattle.sound_lines.specs.Contents.{stored, stored_row, HasRows};
+ghost use Rattle.relation_rows.specs.Relations.{stored_row, HasRows};
+ghost use Rattle.sound_lines.specs.Contents.{stored};
 ghost use Rattle.sound_lines.specs.Reading.{IsAreaKnown, StopsRows};
 
 use line_view::{Need, Stop, View};
@@ -43,7 +44,7 @@ pub(crate) fn read_relation<V: View>(
     relation: &Relation,
 ) -> Result<Relation, Stop>
     ensures rows { IfOk result (λ whole. (all : Lines) → IsInOrder all → Agrees (V.knows view.now) all
-        → HasRows all version relation.now whole) }
+        → HasRows all (stored version relation.now) whole) }
     ensures known { IfOk result (λ _. IsAreaKnown (V.knows view.now) relation.now.area) }
     ensures stop { IfErr result (StopsRows (V.knows view.now) (stored version relation.now)) }
 {

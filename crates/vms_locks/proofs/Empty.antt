@@ -1,22 +1,26 @@
 -- An empty table.
-use Rattle.std.proofs.Common.{◌≡◌, ℕ, ◌∷◌, [], List, None, Some, refl, sym, subst}
+use Rattle.std.proofs.Common.{◌≡◌, ℕ, ◌∷◌, [], List, None, Some, refl, sym, subst, ap}
 use Rattle.std.proofs.lemmas.Bool.{false≢true}
-use Rattle.vms_queues.specs.Queues.{Queues, no_queues}
+use Rattle.rdb_types.specs.declared.node.Node.{Node}
+use Rattle.vms_queues.specs.Queues.{Queues, no_queues, is_queued}
 use Rattle.vms_locks.specs.Walks.{IsWalk}
-use Rattle.vms_locks.specs.Table.{Table, queues_at, WaitsIn, IsLive, HasNoEmpty}
+use Rattle.vms_locks.specs.Table.{Table, queues_at, WaitsIn, IsAwake, IsLive, HasNoEmpty}
 
 none-some : (q : Queues) → None ≡ Some q → ⊥
 none-some q h = (cc)
 
-no_walk : (x : ℕ) (over : List ℕ) (y : ℕ) → IsWalk (WaitsIn (queues_at [])) x over y → ⊥
-no_walk x [] y h = false≢true h.1
-no_walk x (z ∷ zs) y h = false≢true h.0.1
+abbrev bare : ℕ → List (Node × Queues) → Table
+bare spare entries = record { entries = entries; spare = spare }
 
-pub live-empty : (t : Table) → t ≡ [] → IsLive (queues_at t) × HasNoEmpty t
+no_walk : (spare : ℕ) (x : ℕ) (over : List ℕ) (y : ℕ) → IsWalk (WaitsIn (queues_at (bare spare []))) x over y → ⊥
+no_walk spare x [] y h = false≢true h.1
+no_walk spare x (z ∷ zs) y h = false≢true h.0.1
+
+pub live-empty : (t : Table) → t.entries ≡ [] → IsLive (queues_at t) × HasNoEmpty t
 live-empty t e =
-    subst (λ (u : Table). IsLive (queues_at u) × HasNoEmpty u) (sym e) (
+    subst (λ (es : List (Node × Queues)). IsLive (queues_at (bare t.spare es)) × HasNoEmpty (bare t.spare es)) (sym e) (
       record {
-        acyclic = λ x over h. no_walk x over x h;
+        acyclic = λ x over h. no_walk t.spare x over x h;
         once = λ o m n h k. absurd (false≢true h);
         sound =
             λ n. record {
@@ -31,3 +35,10 @@ live-empty t e =
       },
       λ n h. none-some no_queues h,
     )
+
+pub queues-empty : (t : Table) → t.entries ≡ [] → (n : Node) → queues_at t n ≡ no_queues
+queues-empty t e n =
+    ap (λ (es : List (Node × Queues)). queues_at (bare t.spare es) n) e
+
+pub awake-empty : (t : Table) (owner : ℕ) → t.entries ≡ [] → IsAwake (queues_at t) owner
+awake-empty t owner e n = ap (λ (q : Queues). is_queued owner q) (queues-empty t e n)

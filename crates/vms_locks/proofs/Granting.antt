@@ -1,12 +1,11 @@
 -- The table stays live with each request.
-use Rattle.std.proofs.Common.{◌≡◌, ℕ, ◌++◌, ◌∷◌, [], ◌⊎◌, inl, inr, Bool, true, false, ◌∙◌, sym, subst, List}
+use Rattle.std.proofs.Common.{◌≡◌, ℕ, ◌⊎◌, inl, inr, Bool, true, false, ◌∙◌, sym, subst}
 use Rattle.std.specs.Prelude.{not, ◌==◌, if◌then◌else◌}
-use Rattle.std.proofs.lemmas.Bool.{false≢true, or_cases, or_left, or_right, or_from, eqb-true}
+use Rattle.std.proofs.lemmas.Bool.{false≢true, or_from}
 use Rattle.rdb_types.specs.declared.node.Node.{Node}
 use Rattle.vms_queues.specs.declared.lock_mode.Mode.{Mode}
-use Rattle.vms_queues.specs.declared.held.Held.{Held}
-use Rattle.vms_queues.specs.Queues.{Queues, is_queued, has_owner, is_absent, is_grantable, fits, covers, entry, with_mode, without, considered, with_lock, with_request, with_conversion, after_weaken, after_release, after_cancel}
-use Rattle.vms_queues.proofs.Entries.{has_owner-push, fits-from_covers}
+use Rattle.vms_queues.specs.Queues.{Queues, is_queued, has_owner, is_absent, is_grantable, fits, covers, with_mode, without, considered, with_lock, with_request, with_conversion, after_weaken, after_release, after_cancel}
+use Rattle.vms_queues.proofs.Entries.{fits-from_covers}
 use Rattle.vms_queues.proofs.Settled.{settled-lock, settled-request, settled-conversion}
 use Rattle.vms_queues.proofs.Soundness.{sound-granted, sound-queued, sound-with_mode, sound-converting, sound-unqueued, sound-gone}
 use Rattle.vms_queues.proofs.RequestEdges.{granted-edges, queued-edges, strengthened-edges, converting-edges, weakened-edges, gone-edges, unqueued-edges}
@@ -15,34 +14,8 @@ use Rattle.vms_locks.specs.Table.{Table, queues_at, queues_with, WaitsIn, IsAwak
 use Rattle.vms_locks.specs.Answers.{Answers, asking, converting}
 use Rattle.vms_locks.specs.declared.answer.Enq.{Enq}
 use Rattle.vms_locks.specs.declared.answer.Enq.TheVariants.{Granted, Asleep, NotQueued, Deadlock}
-use Rattle.vms_locks.proofs.Places.{live-agree, live-less, live-queued, live-considered}
-use Rattle.vms_locks.proofs.Queued.{queued-without}
-
--- one entry more in a queue
-
-push-cases : (o : ℕ) (hs : List Held) (h : Held) → has_owner o (hs ++ h ∷ []) ≡ true → (has_owner o hs ≡ true) ⊎ (h.owner ≡ o)
-push-cases o hs h e =
-    elim (or_cases (has_owner o hs) (h.owner == o) (sym (has_owner-push o hs h) ∙ e)) [ inl y ↦ inl y | inr k ↦ inr (eqb-true h.owner o k) ]
-
-request-cases : (q : Queues) (owner : ℕ) (mode : Mode) (o : ℕ) → is_queued o (with_request q owner mode) ≡ true → (is_queued o q ≡ true) ⊎ (o ≡ owner)
-request-cases q owner mode o h =
-    elim (or_cases (has_owner o q.converting) (has_owner o (q.waiting ++ entry owner mode ∷ [])) h) [
-      | inl k ↦ inl (or_left (has_owner o q.converting) (has_owner o q.waiting) k)
-      | inr k ↦ elim (push-cases o q.waiting (entry owner mode) k) [
-        | inl y ↦ inl (or_right (has_owner o q.converting) (has_owner o q.waiting) y)
-        | inr e ↦ inr (sym e)
-      ]
-    ]
-
-conversion-cases : (q : Queues) (owner : ℕ) (mode : Mode) (o : ℕ) → is_queued o (with_conversion q owner mode) ≡ true → (is_queued o q ≡ true) ⊎ (o ≡ owner)
-conversion-cases q owner mode o h =
-    elim (or_cases (has_owner o (q.converting ++ entry owner mode ∷ [])) (has_owner o q.waiting) h) [
-      | inl k ↦ elim (push-cases o q.converting (entry owner mode) k) [
-        | inl y ↦ inl (or_left (has_owner o q.converting) (has_owner o q.waiting) y)
-        | inr e ↦ inr (sym e)
-      ]
-      | inr k ↦ inl (or_right (has_owner o q.converting) (has_owner o q.waiting) k)
-    ]
+use Rattle.vms_locks.proofs.Changes.{live-agree, live-less, live-queued, live-considered}
+use Rattle.vms_locks.proofs.Queued.{queued-without, request-cases, conversion-cases}
 
 module _ (at : Node → Queues) (node : Node) (owner : ℕ) (mode : Mode) (live : IsLive at) where
   live-lock : is_absent owner (at node) ≡ true → is_grantable (at node) owner mode ≡ true → IsLive (queues_with at node (with_lock (at node) owner mode))

@@ -2,10 +2,14 @@ pub mod Nodes
 pub mod Walks
 pub mod Traces
 pub mod Queued
-pub mod Places
+pub mod Changes
+pub mod Waiting
+pub mod Known
+pub mod Owned
+pub mod Listed
 pub mod Awake
 pub mod Granting
-pub mod Listing
 pub mod Used
 pub mod Requested
 pub mod Empty
+pub mod Rings

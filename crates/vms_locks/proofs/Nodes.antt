@@ -42,3 +42,6 @@ node-cases a b = elim (cases_Bool (same_node a b)) [ inl e ↦ inl (same_node-tr
 
 pub not-same : (a b : Node) → same_node a b ≡ false → a ≡ b → ⊥
 not-same a b n e = false≢true (sym n ∙ subst (λ (k : Node). same_node a k ≡ true) e (same_node-refl a))
+
+pub same_node-apart : (a b : Node) → same_node a b ≡ false → same_node b a ≡ false
+same_node-apart a b n = elim (node-cases b a) [ inl e ↦ absurd (not-same a b n (sym e)) | inr m ↦ m ]

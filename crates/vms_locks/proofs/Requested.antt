@@ -1,7 +1,7 @@
 -- A request in its queue, and a table whatever was answered.
-use Rattle.std.proofs.Common.{◌≡◌, ℕ, Bool, true, false, ap, Result, Ok, Err}
-use Rattle.std.specs.Prelude.{not, ◌&&◌, if◌then◌else◌, IfOk, OnErr}
-use Rattle.std.proofs.lemmas.Bool.{and_parts, not-true}
+use Rattle.std.proofs.Common.{◌≡◌, ℕ, ◌⊎◌, inl, inr, Bool, true, false, ◌∙◌, sym, ap}
+use Rattle.std.specs.Prelude.{not, ◌&&◌, if◌then◌else◌}
+use Rattle.std.proofs.lemmas.Bool.{false≢true, and_parts, not-true}
 use Rattle.vms_queues.specs.declared.lock_mode.Mode.{Mode}
 use Rattle.vms_queues.specs.Queues.{Queues, has_owner, is_absent, is_grantable, fits, with_lock, with_request, with_conversion, after_ask, after_weaken, after_convert}
 use Rattle.vms_locks.specs.Table.{requested}
@@ -27,7 +27,17 @@ pub convert-busy : (q : Queues) (owner : ℕ) (mode : Mode) → fits owner mode 
 convert-busy q owner mode busy =
     ap (λ (free : Bool). if free then after_weaken q owner mode else with_conversion q owner mode) busy
 
--- what follows from an answer and from none
-pub by_result : {A E : Type 0} (R : Type 0) (P : A → Type 0) (Q : Type 0) (r : Result A E) → IfOk r P → OnErr r Q → ((a : A) → P a → R) → (Q → R) → R
-by_result R P Q (Ok a) ok err f g = f a ok
-by_result R P Q (Err e) ok err f g = g err
+-- what can be granted at once is granted
+
+pub ask-free : (q : Queues) (owner : ℕ) (mode : Mode) → is_grantable q owner mode ≡ true → after_ask q owner mode ≡ with_lock q owner mode
+ask-free q owner mode free =
+    ap (λ (b : Bool). if b then with_lock q owner mode else with_request q owner mode) free
+
+pub convert-free : (q : Queues) (owner : ℕ) (mode : Mode) → fits owner mode q.granted ≡ true → after_convert q owner mode ≡ after_weaken q owner mode
+convert-free q owner mode free =
+    ap (λ (b : Bool). if b then after_weaken q owner mode else with_conversion q owner mode) free
+
+-- who asks what isn't granted at once is awake
+pub awake-busy : {A B : Type 0} (free : Bool) → A ⊎ ((free ≡ true) × B) → free ≡ false → A
+awake-busy free (inl a) busy = a
+awake-busy free (inr f) busy = absurd (false≢true (sym busy ∙ f.0))

@@ -1,16 +1,15 @@
 -- The search for a cycle: its trace, and why it misses none.
-use Rattle.std.proofs.Common.{◌≡◌, ℕ, ◌+◌, ◌<◌, ◌++◌, ◌∷◌, [], ◌⊎◌, inl, inr, Bool, true, false, List, length, get_or, refl, ◌∙◌, sym, ap, subst, arith, zero, suc}
-use Rattle.std.specs.Prelude.{◌==◌, ◌&&◌, ◌||◌}
+use Rattle.std.proofs.Common.{◌≡◌, ℕ, ◌+◌, ◌<◌, ◌≤◌, ◌++◌, ◌∷◌, [], ◌⊎◌, inl, inr, Bool, true, false, List, length, get_or, refl, ◌∙◌, sym, subst, arith, zero, suc}
+use Rattle.std.specs.Prelude.{◌==◌, ◌||◌}
 use Rattle.std.specs.List.{list_any, remove}
-use Rattle.std.proofs.lemmas.Bool.{false≢true, cases_eq, or_cases, and_parts, and_from, or_left, or_right, eqb-true, eq-eqb}
+use Rattle.std.proofs.lemmas.Bool.{false≢true, cases_eq, or_cases, or_left, or_right, eqb-true, eq-eqb}
 use Rattle.std.proofs.lemmas.List.{get_or_default}
 use Rattle.std.proofs.lemmas.List.Folds.{list_any-append, list_any_at}
 use Rattle.std.proofs.lemmas.Grind.{common_steps}
-use Rattle.vms_queues.specs.declared.wait.Wait.{Wait}
-use Rattle.vms_queues.specs.WaitLists.{has_wait}
-use Rattle.vms_locks.specs.declared.cycles.Reached.{Reached}
+use Rattle.vms_locks.specs.declared.search.Reached.{Reached}
 use Rattle.vms_locks.specs.Walks.{IsWalk}
-use Rattle.vms_locks.specs.Search.{Lists, LeadsBack, IsWayBack, is_reached}
+use Rattle.vms_queues.specs.Owners.{is_owner}
+use Rattle.vms_locks.specs.Search.{LeadsBack, IsWayBack, is_left, is_reached}
 
 -- The first of those reached is the owner, and each other waits for the next on its way.
 pub record IsTrace (waits : ℕ → ℕ → Type 0) (owner : ℕ) (rs : List Reached) : Type 0 where
@@ -45,7 +44,7 @@ get_or-push_left xs x k d h = grind (arith, common_steps)
 get_or-push_last : {X : Type 0} (xs : List X) (x : X) (k : ℕ) (d : X) → k ≡ length xs → get_or (xs ++ x ∷ []) k d ≡ x
 get_or-push_last xs x k d h = grind (arith, common_steps)
 
-length-push : {X : Type 0} (xs : List X) (x : X) → length (xs ++ x ∷ []) ≡ length xs + 1
+pub length-push : {X : Type 0} (xs : List X) (x : X) → length (xs ++ x ∷ []) ≡ length xs + 1
 length-push xs x = grind (arith, common_steps)
 
 pub trace-one : (w : ℕ → ℕ → Type 0) (owner : ℕ) (x : Reached) → x.owner ≡ owner → IsTrace w owner (x ∷ [])
@@ -103,49 +102,70 @@ any-from_remove p (x ∷ xs) (suc i) h =
       | inr b ↦ or_right (p x) (list_any p xs) (any-from_remove p xs i b)
     ]
 
--- each wait is left, or its waiter is reached and isn't the owner
-abbrev pub CoversWaits : (ℕ → ℕ → Type 0) → ℕ → List Wait → List Reached → Type 0
-CoversWaits w owner left rs = (a b : ℕ) → w a b → (has_wait left a b ≡ true) ⊎ ((is_reached rs a ≡ true) × (a ≡ owner → ⊥))
+-- each owner is left, or is reached and isn't the one who asks
+abbrev pub CoversOwners : ℕ → List ℕ → List Reached → Type 0
+CoversOwners owner left rs = (a : ℕ) → is_owner a ≡ true → (is_left left a ≡ true) ⊎ ((is_reached rs a ≡ true) × (a ≡ owner → ⊥))
 
--- no wait that is left leads to one reached: all who come to one reached are reached, and none of them is the owner
-reached-back : (w : ℕ → ℕ → Type 0) (owner : ℕ) (left : List Wait) (rs : List Reached) → CoversWaits w owner left rs → ((a b : ℕ) → has_wait left a b ≡ true → is_reached rs b ≡ false) → (x : ℕ) (zs : List ℕ) (y : ℕ) → is_reached rs y ≡ true → IsWalk w x zs y → (is_reached rs x ≡ true) × (x ≡ owner → ⊥)
-reached-back w owner left rs cover none x [] y r h =
-    elim (cover x y h) [ inl l ↦ absurd (false≢true (sym (none x y l) ∙ r)) | inr k ↦ k ]
-reached-back w owner left rs cover none x (z ∷ zs) y r h =
-    let next = reached-back w owner left rs cover none z zs y r h.1 in
-    elim (cover x z h.0) [ inl l ↦ absurd (false≢true (sym (none x z l) ∙ next.0)) | inr k ↦ k ]
+-- nobody who is left waits for one of those before the place
+abbrev pub PassedBy : (ℕ → ℕ → Type 0) → List ℕ → List Reached → ℕ → Type 0
+PassedBy w left rs place = (k : ℕ) → k < place → (a : ℕ) → is_left left a ≡ true → w a (get_or rs k blank).owner → ⊥
+
+reached-place : (rs : List Reached) (a : ℕ) → is_reached rs a ≡ true → (k : ℕ) × (k < length rs) × ((get_or rs k blank).owner ≡ a)
+reached-place [] a h = absurd (false≢true h)
+reached-place (r ∷ rs) a h =
+    elim (or_cases (r.owner == a) (is_reached rs a) h) [
+      | inl e ↦ (0, omega arith, eqb-true r.owner a e)
+      | inr k ↦ let p = reached-place rs a k in (suc p.0, omega (arith, p.1), p.2)
+    ]
 
 owner-reached : (w : ℕ → ℕ → Type 0) (owner : ℕ) (rs : List Reached) → IsTrace w owner rs → is_reached rs owner ≡ true
 owner-reached w owner [] t = absurd (omega (arith, t.some))
 owner-reached w owner (r ∷ rs) t = or_left (r.owner == owner) (is_reached rs owner) (eq-eqb r.owner owner (t.first blank))
 
--- where no wait that is left leads to one reached, the owner is on no cycle
-pub search-ends : (w : ℕ → ℕ → Type 0) (owner : ℕ) (left : List Wait) (rs : List Reached) → IsTrace w owner rs → CoversWaits w owner left rs → ((a b : ℕ) → has_wait left a b ≡ true → is_reached rs b ≡ false) → (over : List ℕ) → IsWalk w owner over owner → ⊥
-search-ends w owner left rs t cover none over h =
-    (reached-back w owner left rs cover none owner over owner (owner-reached w owner rs t) h).1 refl
+module _ (w : ℕ → ℕ → Type 0) (owner : ℕ) (left : List ℕ) (rs : List Reached) (ranges : (a b : ℕ) → w a b → is_owner a ≡ true) (cover : CoversOwners owner left rs) (place : ℕ) (passed : PassedBy w left rs place) (all : length rs ≤ place) where
+  -- who waits for one reached is reached, and isn't the one who asks
+  reached-step : (x y : ℕ) → is_reached rs y ≡ true → w x y → (is_reached rs x ≡ true) × (x ≡ owner → ⊥)
+  reached-step x y r h =
+      elim (cover x (ranges x y h)) [
+        | inl l ↦
+            let p = reached-place rs y r in
+            absurd (passed p.0 (omega (arith, p.1, all)) x l (subst (λ (o : ℕ). w x o) (sym p.2) h))
+        | inr k ↦ k
+      ]
 
--- one wait more is taken: its waiter is reached, and is not the owner
-pub cover-step : (w : ℕ → ℕ → Type 0) (owner : ℕ) (left : List Wait) (rs : List Reached) (i : ℕ) (e : Wait) (x : Reached) → i < length left → e ≡ get_or left i e → x.owner ≡ e.waiter → (e.waiter ≡ owner → ⊥) → CoversWaits w owner left rs → CoversWaits w owner (remove left i) (rs ++ x ∷ [])
-cover-step w owner left rs i e x l at same other cover a b h =
-    elim (cover a b h) [
-      | inl k ↦ elim (any-remove (λ v. (v.waiter == a) && (v.blocker == b)) left i e l k) [
+  reached-back : (x : ℕ) (zs : List ℕ) (y : ℕ) → is_reached rs y ≡ true → IsWalk w x zs y → (is_reached rs x ≡ true) × (x ≡ owner → ⊥)
+  reached-back x [] y r h = reached-step x y r h
+  reached-back x (z ∷ zs) y r h = reached-step x z (reached-back z zs y r h.1).0 h.0
+
+  -- where nobody who is left waits for one reached, the one who asks is on no cycle
+  pub search-ends : IsTrace w owner rs → (over : List ℕ) → IsWalk w owner over owner → ⊥
+  search-ends t over h = (reached-back owner over owner (owner-reached w owner rs t) h).1 refl
+
+-- one who is left is taken: it is reached, and isn't the one who asks
+pub cover-step : (owner : ℕ) (left : List ℕ) (rs : List Reached) (i e : ℕ) (x : Reached) → i < length left → e ≡ get_or left i e → x.owner ≡ e → (e ≡ owner → ⊥) → CoversOwners owner left rs → CoversOwners owner (remove left i) (rs ++ x ∷ [])
+cover-step owner left rs i e x l at same other cover a ranged =
+    elim (cover a ranged) [
+      | inl k ↦ elim (any-remove (λ o. o == a) left i e l k) [
         | inl m ↦ inl m
         | inr m ↦
-            let m' : ((e.waiter == a) && (e.blocker == b)) ≡ true = subst (λ (v : Wait). ((v.waiter == a) && (v.blocker == b)) ≡ true) (sym at) m in
-            let mine : e.waiter ≡ a = eqb-true e.waiter a (and_parts (e.waiter == a) (e.blocker == b) m').0 in
+            let mine : e ≡ a = eqb-true e a (subst (λ (o : ℕ). (o == a) ≡ true) (sym at) m) in
             inr (is_reached-push rs x a ∙ or_right (is_reached rs a) _ (or_left (x.owner == a) false (eq-eqb x.owner a (same ∙ mine))), λ z. other (mine ∙ z))
       ]
       | inr k ↦ inr (is_reached-push rs x a ∙ or_left (is_reached rs a) _ k.0, k.1)
     ]
 
-pub wait-at_place : (left : List Wait) (i : ℕ) (e : Wait) → i < length left → e ≡ get_or left i e → has_wait left e.waiter e.blocker ≡ true
-wait-at_place left i e l at =
-    let p : Wait → Bool = λ v. (v.waiter == e.waiter) && (v.blocker == e.blocker) in
-    let here : p e ≡ true = and_from (e.waiter == e.waiter) (e.blocker == e.blocker) (eq-eqb e.waiter e.waiter refl) (eq-eqb e.blocker e.blocker refl) in
-    list_any_at p left i e l (subst (λ (v : Wait). p v ≡ true) at here)
+pub passed-step : (w : ℕ → ℕ → Type 0) (left : List ℕ) (rs : List Reached) (i place : ℕ) (x : Reached) → place ≤ length rs → PassedBy w left rs place → PassedBy w (remove left i) (rs ++ x ∷ []) place
+passed-step w left rs i place x l passed k below a h e =
+    let inside : k < length rs = omega arith in
+    passed k below a (any-from_remove (λ o. o == a) left i h) (subst (λ (r : Reached). w a r.owner) (get_or-push_left rs x k blank inside) e)
 
--- the wait at one place leads to the one reached at the other
-pub found-edge : (listed : List Wait) (left : List Wait) (rs : List Reached) (i place : ℕ) (e : Wait) → i < length left → e ≡ get_or left i e → ((a b : ℕ) → has_wait left a b ≡ true → has_wait listed a b ≡ true) → ((d : Wait) (x : Reached) → (get_or left i d).blocker ≡ (get_or rs place x).owner) → (x : Reached) → Lists listed e.waiter (get_or rs place x).owner
-found-edge listed left rs i place e l at sub same x =
-    let blocker : e.blocker ≡ (get_or rs place x).owner = ap (λ (v : Wait). v.blocker) at ∙ same e x in
-    subst (λ (o : ℕ). Lists listed e.waiter o) blocker (sub e.waiter e.blocker (wait-at_place left i e l at))
+pub passed-more : (w : ℕ → ℕ → Type 0) (left : List ℕ) (rs : List Reached) (place : ℕ) → PassedBy w left rs place → ((a : ℕ) → is_left left a ≡ true → w a (get_or rs place blank).owner → ⊥) → PassedBy w left rs (place + 1)
+passed-more w left rs place passed here k below a h e =
+    elim (cases_eq k place) [
+      | inl last ↦ here a h (subst (λ (j : ℕ). w a (get_or rs j blank).owner) last e)
+      | inr n ↦ passed k (omega arith) a h e
+    ]
+
+pub left-at_place : (left : List ℕ) (i e : ℕ) → i < length left → e ≡ get_or left i e → is_left left e ≡ true
+left-at_place left i e l at =
+    list_any_at (λ o. o == e) left i e l (subst (λ (o : ℕ). (o == e) ≡ true) at (eq-eqb e e refl))

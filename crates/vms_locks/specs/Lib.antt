@@ -1,4 +1,5 @@
 pub mod Walks
-pub mod Search
 pub mod Table
+pub mod Places
+pub mod Search
 pub mod Answers

@@ -1,13 +1,19 @@
 -- What the search for a cycle keeps: owners from whom the searched one is reached, each with the place of the next on the way.
-use Rattle.std.specs.Prelude.{◌≡◌, ℕ, ◌<◌, Bool, true, ◌==◌, List, [], ◌∷◌, length, slice_index_or}
+use Rattle.std.specs.Prelude.{◌≡◌, ℕ, ◌<◌, Bool, ◌==◌, List, [], ◌∷◌, length, slice_index_or}
 use Rattle.std.specs.List.{list_any}
-use Rattle.vms_queues.specs.declared.wait.Wait.{Wait}
-use Rattle.vms_queues.specs.WaitLists.{has_wait}
-use Rattle.vms_locks.specs.declared.cycles.Reached.{Reached}
+use Rattle.rdb_types.specs.declared.node.Node.{Node}
+use Rattle.vms_queues.specs.Queues.{Queues}
+use Rattle.vms_locks.specs.declared.search.Reached.{Reached}
+use Rattle.vms_locks.specs.declared.waits.Asked.{Asked}
+use Rattle.vms_locks.specs.Table.{WaitsIf}
 
--- the list has a wait of the first for the second
-abbrev pub Lists : List Wait → ℕ → ℕ → Type 0
-Lists list a b = has_wait list a b ≡ true
+-- a would wait for b if what is asked were queued
+abbrev pub WaitsAsked : (Node → Queues) → Asked → ℕ → ℕ → Type 0
+WaitsAsked at asked = WaitsIf at asked.owner asked.node asked.mode
+
+-- the owner is among these
+abbrev pub is_left : List ℕ → ℕ → Bool
+is_left left owner = list_any (λ o. o == owner) left
 
 -- one of these is the owner's
 abbrev pub is_reached : List Reached → ℕ → Bool

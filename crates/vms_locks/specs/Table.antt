@@ -1,11 +1,12 @@
 -- The lock table: the queues of each node, and who waits for whom over all nodes.
-use Rattle.std.specs.Prelude.{◌≡◌, ℕ, Bool, true, false, unwrap_or, if◌then◌else◌, Some, List}
-use Rattle.std.specs.List.{list_any}
-use Rattle.std.specs.Map.{lookup, values_of}
+use Rattle.std.specs.Prelude.{◌≡◌, ℕ, ◌+◌, Bool, true, false, unwrap_or, is_some, if◌then◌else◌, Some, List, length}
+use Rattle.std.specs.Map.{lookup}
+use Rattle.indexmap.specs.IndexMap.{IndexMap, spare}
 use Rattle.rdb_types.specs.declared.node.Node.{Node}
 use Rattle.rdb_types.specs.contracts.node.NodePartialEq.TheImpl as node_eq
 use Rattle.vms_queues.specs.declared.lock_mode.Mode.{Mode}
 use Rattle.vms_queues.specs.Queues.{Queues, IsSound, is_settled, is_queued, no_queues, has_owner, with_mode, with_request, with_conversion}
+use Rattle.vms_queues.specs.Owners.{HasOwners}
 use Rattle.vms_queues.specs.Waits.{waits}
 use Rattle.vms_locks.specs.Walks.{IsAcyclic}
 
@@ -13,12 +14,25 @@ use Rattle.vms_locks.specs.Walks.{IsAcyclic}
 abbrev pub same_node : Node → Node → Bool
 same_node = (node_eq.ghosts).eq
 
-abbrev pub Table : Type 0
-Table = List (Node × Queues)
+-- the entries of the table, and how many nodes more can be listed without memory
+pub record Table : Type 0 where
+  pub entries : List (Node × Queues)
+  pub spare : ℕ
+
+abbrev pub table_of : {S : Type 0} → IndexMap Node Queues S → Table
+table_of m = record { entries = m.entries; spare = spare m }
+
+-- how many nodes can be listed without memory
+abbrev pub capacity : Table → ℕ
+capacity t = length t.entries + t.spare
+
+-- the table has an entry of the node
+abbrev pub is_listed : Table → Node → Bool
+is_listed t node = is_some (lookup (same_node node) t.entries)
 
 -- the queues of a node: empty where the table has no entry of it
 abbrev pub queues_at : Table → Node → Queues
-queues_at t node = unwrap_or (lookup (same_node node) t) no_queues
+queues_at t node = unwrap_or (lookup (same_node node) t.entries) no_queues
 
 -- these queues at the node, and elsewhere the others
 abbrev pub queues_with : (Node → Queues) → Node → Queues → Node → Queues
@@ -30,7 +44,11 @@ ChangesAt old new node q = (n : Node) → queues_at new n ≡ queues_with (queue
 
 -- each entry of the table is of some use
 abbrev pub HasNoEmpty : Table → Type 0
-HasNoEmpty t = (n : Node) → lookup (same_node n) t ≡ Some no_queues → ⊥
+HasNoEmpty t = (n : Node) → lookup (same_node n) t.entries ≡ Some no_queues → ⊥
+
+-- only owners hold or ask a lock at each node
+abbrev pub OnlyOwners : (Node → Queues) → Type 0
+OnlyOwners at = (n : Node) → HasOwners (at n)
 
 -- a waits for b at some node
 abbrev pub WaitsIn : (Node → Queues) → ℕ → ℕ → Type 0
@@ -62,11 +80,3 @@ AddsNoWait q owner mode = (a b : ℕ) → waits (record q { granted = with_mode 
 -- a would wait for b at some node if the owner's request at the node were queued
 abbrev pub WaitsIf : (Node → Queues) → ℕ → Node → Mode → ℕ → ℕ → Type 0
 WaitsIf at owner node mode = WaitsIn (queues_with at node (requested (at node) owner mode))
-
--- a waits for b in some entry
-abbrev pub any_waits : Table → ℕ → ℕ → Bool
-any_waits t a b = list_any (λ q. waits q a b) (values_of t)
-
--- the same with the owner's request in the queue of the node's entry
-abbrev pub any_waits_if : ℕ → Node → Mode → Table → ℕ → ℕ → Bool
-any_waits_if owner node mode t a b = list_any (λ e. waits (if same_node node e.0 then requested e.1 owner mode else e.1) a b) t

@@ -1,7 +1,37 @@
-use rdb_types::Items;
+ghost use Rattle.std.specs.Prelude.{◌≡◌};
 
-/// Owners each of whom waits for the next. The first is the last.
-pub type Cycle = Items<u32>;
+use smallvec::SmallVec;
+use std::alloc::Global;
+use std::marker::Model;
+
+/// Owners each of whom waits for the next. The first is the last. They take no memory: there are 16 owners at most.
+#[derive(Debug, Drop)]
+pub struct Cycle {
+    owners: SmallVec<u32, 17, Global>,
+}
+
+impl Model for Cycle {
+    ghost use Rattle.std.specs.Prelude.{List, ℕ};
+
+    ghost Value = { List ℕ };
+
+    ghost view = { λ c. c.owners.items };
+}
+
+impl Cycle {
+    pub(crate) fn new(owners: SmallVec<u32, 17, Global>) -> Self
+        ensures { result ≡ owners.items }
+    {
+        Cycle { owners }
+    }
+
+    /// The owners, in the order of the waits.
+    pub fn as_slice(&self) -> &[u32]
+        ensures { result.now ≡ self.now }
+    {
+        self.owners.as_slice()
+    }
+}
 
 /// What a request is answered.
 #[derive(Debug, Drop)]

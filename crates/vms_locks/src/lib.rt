@@ -2,9 +2,11 @@
 #![tactic(auto)]
 
 mod answer;
-mod cycles;
 mod locks;
+mod places;
 mod requests;
+mod review;
+mod search;
 mod table;
 mod waits;
 

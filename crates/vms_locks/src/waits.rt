@@ -1,77 +1,93 @@
-ghost use Rattle.std.specs.Prelude.{◌≡◌, ℕ, OnOk, IfOk, IfSome, IfNone};
-ghost use Rattle.std.specs.List.{IsDistinct};
-ghost use Rattle.std.specs.Map.{keys_of};
+ghost use Rattle.std.specs.Prelude.{◌≡◌, ◌==◌, ◌&&◌, IsTrue, ◌↔◌};
 ghost use Rattle.vms_queues.specs.Waits.{waits};
-ghost use Rattle.vms_queues.specs.WaitLists.{has_wait, AddsWaits};
-ghost use Rattle.vms_locks.specs.Walks.{IsCycle, IsOnNoCycle};
-ghost use Rattle.vms_locks.specs.Table.{same_node, queues_at, requested, any_waits, any_waits_if, WaitsIf};
+ghost use Rattle.vms_locks.specs.Table.{table_of, queues_at, requested, WaitsIn};
+ghost use Rattle.vms_locks.specs.Places.{place_of, KnowsPlaces};
+ghost use Rattle.vms_locks.specs.Search.{WaitsAsked};
 
-use crate::Cycle;
-use crate::cycles::find_cycle;
+use crate::places::Places;
 use indexmap::IndexMap;
-use rdb_types::{NoMemory, Node};
-use std::alloc::AllocError;
-use vms_queues::{Mode, Resource, Wait};
+use rdb_types::Node;
+use vms_queues::{Mode, Resource};
 
-// Whether the first owner waits for the second in some entry.
-pub(crate) fn waits_for(table: &IndexMap<Node, Resource>, waiter: u32, blocker: u32) -> bool
-    ensures value { result ≡ any_waits table.now.entries waiter blocker }
-    ensures unique { IsDistinct same_node (keys_of table.now.entries) }
-{
-    table
-        .as_slice()
-        .values()
-        .any(|resource| resource.waits_for(waiter, blocker))
+// A request that isn't queued yet.
+#[derive(Clone, Copy)]
+pub(crate) struct Asked {
+    pub(crate) owner: u32,
+    pub(crate) node: Node,
+    pub(crate) mode: Mode,
 }
 
-// Adds who would wait for whom at a resource if this request were queued there.
-fn list_waits_with(
-    resource: &Resource,
-    list: &mut Vec<Wait>,
-    owner: u32,
-    mode: Mode,
-) -> Result<(), AllocError>
-    ensures { OnOk result (AddsWaits (waits (requested resource.now owner mode)) list.old.items list.new.items) }
+// Whether the first owner waits for the second at the node.
+fn waits_at(table: &IndexMap<Node, Resource>, node: Node, waiter: u32, blocker: u32) -> bool
+    ensures { result ≡ waits (queues_at (table_of table.now) node) waiter blocker }
 {
-    if resource.mode_of(owner).is_some() {
-        resource.list_waits_converting(list, owner, mode)
+    match table.get(&node) {
+        Some(resource) => resource.waits_for(waiter, blocker),
+        None => false,
+    }
+}
+
+// Whether the first owner waits for the second. It does at most at the node where it has a queued request.
+pub(crate) fn waits_for(
+    table: &IndexMap<Node, Resource>,
+    places: &Places,
+    waiter: u32,
+    blocker: u32,
+) -> bool
+    requires { KnowsPlaces (place_of places.now) (queues_at (table_of table.now)) }
+    ensures { IsTrue result ↔ WaitsIn (queues_at (table_of table.now)) waiter blocker }
+{
+    match places.of(waiter) {
+        Some(node) => waits_at(table, node, waiter, blocker),
+        None => false,
+    }
+}
+
+// Whether the first owner would wait for the second at the resource if what is asked were queued there.
+fn waits_with(resource: &Resource, asked: Asked, waiter: u32, blocker: u32) -> bool
+    ensures { result ≡ waits (requested resource.now asked.owner asked.mode) waiter blocker }
+{
+    if resource.mode_of(asked.owner).is_some() {
+        resource.waits_if_converting(asked.owner, asked.mode, waiter, blocker)
     } else {
-        resource.list_waits_asking(list, owner, mode)
+        resource.waits_if_asking(asked.owner, asked.mode, waiter, blocker)
     }
 }
 
-// Who would wait for whom in the table if this request were queued at the node.
-fn list_waits_if(
-    table: &IndexMap<Node, Resource>,
-    owner: u32,
-    node: Node,
-    mode: Mode,
-) -> Result<Vec<Wait>, AllocError>
-    ensures waits { IfOk result (λ list. (a b : ℕ) → has_wait list.items a b ≡ any_waits_if owner node mode table.now.entries a b) }
-    ensures unique { IsDistinct same_node (keys_of table.now.entries) }
+// Whether the first owner would wait for the second at the node where it is asked.
+#[tactic(auto, using(crate::proofs::Waiting::nobody_waits))]
+fn waits_there(table: &IndexMap<Node, Resource>, asked: Asked, waiter: u32, blocker: u32) -> bool
+    ensures { result ≡ waits (requested (queues_at (table_of table.now) asked.node) asked.owner asked.mode) waiter blocker }
 {
-    let mut list = Vec::new(*table.allocator());
-    for (at, resource) in table.iter() {
-        if node == *at {
-            list_waits_with(resource, &mut list, owner, mode)?;
-        } else {
-            resource.list_waits(&mut list)?;
-        }
+    match table.get(&asked.node) {
+        Some(resource) => waits_with(resource, asked, waiter, blocker),
+        None => false,
     }
-    Ok(list)
 }
 
-// A cycle of waits that this request would close if it were queued at the node; None exactly where it would close none.
-pub(crate) fn cycle_if(
-    table: &IndexMap<Node, Resource>,
-    owner: u32,
-    node: Node,
-    mode: Mode,
-) -> Result<Option<Cycle>, NoMemory>
-    ensures cycle { IfOk result (λ o. IfSome o (IsCycle (WaitsIf (queues_at table.now.entries) owner node mode) owner)) }
-    ensures none { IfOk result (λ o. IfNone o (IsOnNoCycle (WaitsIf (queues_at table.now.entries) owner node mode) owner)) }
+// Whether the first owner asks, and would wait for the second at the node where it does.
+fn asker_waits(table: &IndexMap<Node, Resource>, asked: Asked, waiter: u32, blocker: u32) -> bool
+    ensures { result ≡ (waiter == asked.owner && waits (requested (queues_at (table_of table.now) asked.node) asked.owner asked.mode) waiter blocker) }
 {
-    let waits = list_waits_if(table, owner, node, mode)?;
-    let found = find_cycle(*table.allocator(), &waits, owner)?;
-    Ok(found)
+    waiter == asked.owner && waits_there(table, asked, waiter, blocker)
+}
+
+// Whether the first owner would wait for the second if what is asked were queued.
+pub(crate) fn would_wait(
+    table: &IndexMap<Node, Resource>,
+    places: &Places,
+    asked: Asked,
+    waiter: u32,
+    blocker: u32,
+) -> bool
+    requires { KnowsPlaces (place_of places.now) (queues_at (table_of table.now)) }
+    ensures { IsTrue result ↔ WaitsAsked (queues_at (table_of table.now)) asked waiter blocker }
+{
+    let Some(node) = places.of(waiter) else {
+        return asker_waits(table, asked, waiter, blocker);
+    };
+    if node == asked.node {
+        return waits_there(table, asked, waiter, blocker);
+    }
+    waits_at(table, node, waiter, blocker) || asker_waits(table, asked, waiter, blocker)
 }

@@ -1,11 +1,9 @@
-use Rattle.std.proofs.Common.{sym, subst}
+use Rattle.std.proofs.Common.{subst}
 use Rattle.vms_queues.specs.declared.lock_mode.Mode.{Mode}
 use Rattle.vms_locks.specs.Answers.{Answers}
-use Rattle.lock_tree.specs.LockTable.{HasIntents}
 use Rattle.lock_tree.specs.Asking.{request_at}
-use Rattle.lock_tree.specs.Parties.{IsKept, KeepsOthers}
-use Rattle.lock_tree.proofs.Answered.{if_ok-more, by_answer}
 use Rattle.lock_tree.proofs.WantAsked.{want-quiet, want-answered, answer-intents, answer-others, asked-mode}
+use Rattle.lock_tree.proofs.OthersLeft.{answer-leaves}
 use Rattle.lock_tree.proofs.asking.ask_here.Goals as goal
 
 pub ask-requires-clause-quiet : goal.ask-requires-clause-quiet
@@ -16,25 +14,22 @@ ask-requires-clause-quiet c =
 pub returns-clause-answer : goal.returns-clause-answer
 returns-clause-answer c =
     let mode = c.join.result in
-    if_ok-more _ _ c.ask.result c.ask.ensures.answer
-    (want-answered c.args.locks.now c.ask.new.locks c.args.owner c.args.needs.now c.args.want mode (asked-mode _ _ _ _ mode c.granted_of-held.ensures.value c.mode_for.ensures c.join.ensures.table) c.requires.kept c.requires.least c.requires.intents c.args.wait)
+    want-answered c.args.locks.now c.ask.new.locks c.args.owner c.args.needs.now c.args.want mode (asked-mode _ _ _ _ mode c.granted_of-held.ensures.value c.mode_for.ensures c.join.ensures.table) c.requires.kept c.requires.least c.requires.intents c.args.wait c.ask.result c.ask.ensures.answer
 
 pub returns-clause-intents : goal.returns-clause-intents
 returns-clause-intents c =
     let mode = c.join.result in
-    by_answer _ _ (HasIntents c.ask.new.locks) c.ask.result c.ask.ensures.answer c.ask.ensures.err
-    (answer-intents c.args.locks.now c.ask.new.locks c.args.owner c.args.needs.now c.args.want mode (asked-mode _ _ _ _ mode c.granted_of-held.ensures.value c.mode_for.ensures c.join.ensures.table) c.requires.kept c.requires.least c.requires.intents c.args.wait)
-    (λ e. subst HasIntents (sym e) c.requires.intents)
+    answer-intents c.args.locks.now c.ask.new.locks c.args.owner c.args.needs.now c.args.want mode (asked-mode _ _ _ _ mode c.granted_of-held.ensures.value c.mode_for.ensures c.join.ensures.table) c.requires.kept c.requires.least c.requires.intents c.args.wait c.ask.result c.ask.ensures.answer
 
 pub returns-clause-others : goal.returns-clause-others
 returns-clause-others c =
     let mode = c.join.result in
-    by_answer _ _ (KeepsOthers c.args.owner c.args.locks.now c.ask.new.locks) c.ask.result c.ask.ensures.answer c.ask.ensures.err
-    (answer-others c.args.locks.now c.ask.new.locks c.args.owner c.args.needs.now c.args.want mode (asked-mode _ _ _ _ mode c.granted_of-held.ensures.value c.mode_for.ensures c.join.ensures.table) c.requires.kept c.requires.least c.requires.intents c.args.wait)
-    (λ e u q d h. subst (λ t. IsKept t u q) (sym e) h)
+    answer-others c.args.locks.now c.ask.new.locks c.args.owner c.args.needs.now c.args.want mode (asked-mode _ _ _ _ mode c.granted_of-held.ensures.value c.mode_for.ensures c.join.ensures.table) c.requires.kept c.requires.least c.requires.intents c.args.wait c.ask.result c.ask.ensures.answer
 
 pub returns-clause-exact : goal.returns-clause-exact
 returns-clause-exact c =
-    if_ok-more _ _ c.ask.result c.ask.ensures.exact
-    (λ answer h. subst (λ (m : Mode). Answers c.args.locks.now c.ask.new.locks c.args.owner c.args.want.here c.args.wait (request_at c.args.locks.now c.args.owner c.args.want.here m) answer)
-    (asked-mode _ _ _ _ c.join.result c.granted_of-held.ensures.value c.mode_for.ensures c.join.ensures.table) h)
+    subst (λ (m : Mode). Answers c.args.locks.now c.ask.new.locks c.args.owner c.args.want.here c.args.wait (request_at c.args.locks.now c.args.owner c.args.want.here m) c.ask.result)
+    (asked-mode _ _ _ _ c.join.result c.granted_of-held.ensures.value c.mode_for.ensures c.join.ensures.table) c.ask.ensures.exact
+
+pub returns-clause-locks : goal.returns-clause-locks
+returns-clause-locks c = answer-leaves c.args.locks.now c.ask.new.locks c.args.owner c.args.want.here c.join.result c.args.wait c.ask.result c.ask.ensures.answer

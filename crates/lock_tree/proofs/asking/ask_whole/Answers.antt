@@ -3,35 +3,35 @@ use Rattle.lock_tree.proofs.WantAsked.{asked-mode}
 use Rattle.lock_tree.proofs.Getting.{whole-quiet, whole-intents, whole-others, whole-answered, whole-refused, whole-raised, whole-exact}
 use Rattle.lock_tree.proofs.asking.ask_whole.Goals as goal
 
-pub ask-requires-clause-quiet : goal.ask-requires-clause-quiet
-ask-requires-clause-quiet c =
+pub ask-answer-requires-clause-quiet : goal.ask-answer-requires-clause-quiet
+ask-answer-requires-clause-quiet c =
     whole-quiet c.args.locks.now c.args.locks.now c.args.owner c.requires.kept.0 c.args.want c.join-mode.result (asked-mode _ _ _ _ c.join-mode.result c.granted_of-held.ensures.value refl c.join-mode.ensures.table) c.requires.kept.1
 
 pub returns-clause-got : goal.returns-clause-got
 returns-clause-got c = λ g ws k.
-    whole-answered c.args.locks.now c.ask.new.locks c.args.owner ws c.args.want c.join-mode.result (asked-mode _ _ _ _ c.join-mode.result c.granted_of-held.ensures.value refl c.join-mode.ensures.table) k c.requires.intents
-    c.requires.plain _ c.in_ok-answer.ensures.answer (sym c.is_granted.ensures ∙ g)
+    whole-answered c.args.locks.now c.ask-answer.new.locks c.args.owner ws c.args.want c.join-mode.result (asked-mode _ _ _ _ c.join-mode.result c.granted_of-held.ensures.value refl c.join-mode.ensures.table) k c.requires.intents
+    c.requires.plain _ c.ask-answer.ensures.answer (sym c.is_granted.ensures ∙ g)
 
 pub returns-clause-taken : goal.returns-clause-taken
 returns-clause-taken c = λ g. record {
   live = c.granted_of-held.ensures.live;
-  live_after = c.ask.ensures.live;
-  exact = whole-exact c.args.locks.now c.ask.new.locks c.args.owner c.args.want c.join-mode.result (asked-mode _ _ _ _ c.join-mode.result c.granted_of-held.ensures.value refl c.join-mode.ensures.table) _ c.in_ok-answer.ensures.exact (sym c.is_granted.ensures ∙ g);
-  raised = whole-raised c.args.locks.now c.ask.new.locks c.args.owner c.requires.kept.0 c.args.want c.join-mode.result (asked-mode _ _ _ _ c.join-mode.result c.granted_of-held.ensures.value refl c.join-mode.ensures.table) c.requires.kept.1
-      _ c.in_ok-answer.ensures.answer (sym c.is_granted.ensures ∙ g);
+  live_after = c.ask-answer.ensures.live;
+  exact = whole-exact c.args.locks.now c.ask-answer.new.locks c.args.owner c.args.want c.join-mode.result (asked-mode _ _ _ _ c.join-mode.result c.granted_of-held.ensures.value refl c.join-mode.ensures.table) _ c.ask-answer.ensures.exact (sym c.is_granted.ensures ∙ g);
+  raised = whole-raised c.args.locks.now c.ask-answer.new.locks c.args.owner c.requires.kept.0 c.args.want c.join-mode.result (asked-mode _ _ _ _ c.join-mode.result c.granted_of-held.ensures.value refl c.join-mode.ensures.table) c.requires.kept.1
+      _ c.ask-answer.ensures.answer (sym c.is_granted.ensures ∙ g);
 }
 
 pub returns-clause-left : goal.returns-clause-left
 returns-clause-left c = λ g.
-    whole-refused c.args.locks.now c.ask.new.locks c.args.owner c.requires.kept.0 c.args.want c.join-mode.result (asked-mode _ _ _ _ c.join-mode.result c.granted_of-held.ensures.value refl c.join-mode.ensures.table) c.requires.kept.1 c.requires.intents
-    _ c.in_ok-answer.ensures.answer (sym c.is_granted.ensures ∙ g)
+    whole-refused c.args.locks.now c.ask-answer.new.locks c.args.owner c.requires.kept.0 c.args.want c.join-mode.result (asked-mode _ _ _ _ c.join-mode.result c.granted_of-held.ensures.value refl c.join-mode.ensures.table) c.requires.kept.1 c.requires.intents
+    _ c.ask-answer.ensures.answer (sym c.is_granted.ensures ∙ g)
 
 pub returns-clause-intents : goal.returns-clause-intents
 returns-clause-intents c =
-    whole-intents c.args.locks.now c.ask.new.locks c.args.owner c.requires.kept.0 c.args.want c.join-mode.result (asked-mode _ _ _ _ c.join-mode.result c.granted_of-held.ensures.value refl c.join-mode.ensures.table) c.requires.kept.1 c.requires.intents
-    _ c.in_ok-answer.ensures.answer
+    whole-intents c.args.locks.now c.ask-answer.new.locks c.args.owner c.requires.kept.0 c.args.want c.join-mode.result (asked-mode _ _ _ _ c.join-mode.result c.granted_of-held.ensures.value refl c.join-mode.ensures.table) c.requires.kept.1 c.requires.intents
+    _ c.ask-answer.ensures.answer
 
 pub returns-clause-others : goal.returns-clause-others
 returns-clause-others c =
-    whole-others c.args.locks.now c.ask.new.locks c.args.owner c.requires.kept.0 c.args.want c.join-mode.result (asked-mode _ _ _ _ c.join-mode.result c.granted_of-held.ensures.value refl c.join-mode.ensures.table) c.requires.kept.1 c.requires.intents
-    _ c.in_ok-answer.ensures.answer
+    whole-others c.args.locks.now c.ask-answer.new.locks c.args.owner c.requires.kept.0 c.args.want c.join-mode.result (asked-mode _ _ _ _ c.join-mode.result c.granted_of-held.ensures.value refl c.join-mode.ensures.table) c.requires.kept.1 c.requires.intents
+    _ c.ask-answer.ensures.answer

@@ -1,28 +1,32 @@
-use Rattle.std.proofs.Common.{◌≡◌, ◌∙◌, ap, sym, subst, List}
+use Rattle.std.proofs.Common.{◌≡◌, ap, sym, subst, length, ◌≤◌}
 use Rattle.std.specs.Prelude.{unwrap_or}
-use Rattle.lock_needs.specs.declared.need.Need.{Need}
-use Rattle.lock_needs.specs.declared.party.Party.{Party}
-use Rattle.lock_tree.specs.Forest.{HasAsks, idle, party_of}
-use Rattle.lock_tree.specs.Parties.{wanting}
+use Rattle.lock_needs.specs.Party.{Party}
+use Rattle.lock_tree.specs.Forest.{idle, party_of}
+use Rattle.lock_tree.specs.Parties.{IsKept, wanting, resting}
 use Rattle.lock_tree.specs.Order.{StandsByNeeds}
-use Rattle.lock_tree.proofs.Trails.{asks-left}
+use Rattle.lock_tree.proofs.Opened.{as-open}
 use Rattle.lock_tree.proofs.closing.end_open.Goals as goal
 
-pub returns-in-Err-clause-asks : goal.returns-in-Err-clause-asks
-returns-in-Err-clause-asks c =
-    subst (λ (p : Party). HasAsks c.cut_asks.new.trail.items c.args.owner p.opened) (sym c.set_opened-in-Err.ensures.own)
-    (asks-left c.args.owner c.args.want c.in-Err.left c.args.trail.now.items c.cut_asks.new.trail.items c.cut_asks.ensures.own c.requires.asks c.in-Err.ensures.less)
+pub end_want-requires-clause-kept : goal.end_want-requires-clause-kept
+end_want-requires-clause-kept c =
+    let is : c.in-Some.party.now ≡ party_of c.args.parties.now.entries c.args.owner = ap (λ x. unwrap_or x idle) c.in-Some.ensures.value in
+    subst (λ (p : Party). IsKept c.args.locks.now c.args.owner (wanting p.needs c.args.want)) (sym is)
+    (subst (IsKept c.args.locks.now c.args.owner) (as-open (party_of c.args.parties.now.entries c.args.owner) c.args.want c.requires.opened) c.requires.kept)
 
-pub returns-in-Err-clause-left : goal.returns-in-Err-clause-left
-returns-in-Err-clause-left c =
-    let needs : c.as_slice.result.now ≡ (party_of c.args.parties.now.entries c.args.owner).needs = c.as_slice.ensures ∙ ap (λ (p : Party). p.needs) (ap (λ x. unwrap_or x idle) c.in-Some.ensures.value) in (
-      c.in-Err.left,
-      c.set_opened-in-Err.ensures.own,
-      record {
-        need = c.in-Err.ensures.need;
-        less = c.in-Err.ensures.less;
-        quiet = c.in-Err.ensures.quiet;
-        stands = subst (λ (ws : List Need). StandsByNeeds c.args.locks.now c.args.owner (wanting ws c.args.want) → StandsByNeeds c.end_want.new.locks c.args.owner (wanting ws c.in-Err.left)) needs c.in-Err.ensures.stays;
-      },
-      c.cut_asks.ensures.cut,
-    )
+pub end_want-requires-clause-room : goal.end_want-requires-clause-room
+end_want-requires-clause-room c = λ h.
+    subst (λ (p : Party). length p.needs ≤ c.args.locks.now.spare) (sym (ap (λ x. unwrap_or x idle) c.in-Some.ensures.value)) (c.requires.room h)
+
+pub returns-clause-kept : goal.returns-clause-kept
+returns-clause-kept c =
+    let is : c.in-Some.party.now ≡ party_of c.args.parties.now.entries c.args.owner = ap (λ x. unwrap_or x idle) c.in-Some.ensures.value in
+    subst (IsKept c.end_want.new.locks c.args.owner) (sym c.close_for.ensures.own)
+    (subst (λ (p : Party). IsKept c.end_want.new.locks c.args.owner (resting p.needs)) is c.end_want.ensures.ended)
+
+pub returns-clause-rests : goal.returns-clause-rests
+returns-clause-rests c = λ s.
+    let is : c.in-Some.party.now ≡ party_of c.args.parties.now.entries c.args.owner = ap (λ x. unwrap_or x idle) c.in-Some.ensures.value in
+    subst (StandsByNeeds c.end_want.new.locks c.args.owner) (sym c.close_for.ensures.own)
+    (subst (λ (p : Party). StandsByNeeds c.end_want.new.locks c.args.owner (resting p.needs)) is
+    (c.end_want.ensures.rests (subst (λ (p : Party). StandsByNeeds c.args.locks.now c.args.owner (wanting p.needs c.args.want)) (sym is)
+    (subst (StandsByNeeds c.args.locks.now c.args.owner) (as-open (party_of c.args.parties.now.entries c.args.owner) c.args.want c.requires.opened) s))))

@@ -22,13 +22,13 @@ weaken-requires c =
 pub returns-in-Some-clause-lowered : goal.returns-in-Some-clause-lowered
 returns-in-Some-clause-lowered c =
     subst (λ (m : Mode). LoweredAt c.args.locks.now c.deq.new.self c.args.owner c.args.node m) (sym (nothing-mode c.args.mode (sym c.eq.ensures ∙ c.if-eq.true)))
-    (released-law c.args.locks.now c.deq.new.self c.args.owner c.args.node c.in-Some.ensures.live c.deq.ensures)
+    (released-law c.args.locks.now c.deq.new.self c.args.owner c.args.node c.in-Some.ensures.live c.deq.ensures.after)
 
 pub returns-in-Some-2-clause-lowered : goal.returns-in-Some-2-clause-lowered
 returns-in-Some-2-clause-lowered c =
     weakened-law c.args.locks.now c.weaken.new.self c.args.owner c.args.node c.in-Some-2.ensures.live c.args.mode c.in-Some-2.field-0 (sym c.in-Some-2.ensures.value)
     (subst (λ (x : Option Mode). at_most c.args.mode (unwrap_or x NL) ≡ true) (sym c.in-Some-2.ensures.value) c.requires.weaker)
-    c.requires.awake c.weaken.ensures
+    c.requires.awake c.weaken.ensures.after
 
 pub returns-in-None-clause-way : goal.returns-in-None-clause-way
 returns-in-None-clause-way c = way-none c.args.owner c.args.locks.now
@@ -36,9 +36,9 @@ returns-in-None-clause-way c = way-none c.args.owner c.args.locks.now
 pub returns-in-Some-clause-way : goal.returns-in-Some-clause-way
 returns-in-Some-clause-way c =
     way-lowered c.args.owner c.args.locks.now c.deq.new.self c.args.node NL
-    (released-order c.args.locks.now c.deq.new.self c.args.owner c.args.node c.in-Some.ensures.live c.deq.ensures)
-    (λ l. live-after_deq c.args.locks.now c.deq.new.self c.args.node c.args.owner l c.deq.ensures)
-    (released-law c.args.locks.now c.deq.new.self c.args.owner c.args.node c.in-Some.ensures.live c.deq.ensures)
+    (released-order c.args.locks.now c.deq.new.self c.args.owner c.args.node c.in-Some.ensures.live c.deq.ensures.after)
+    (λ l. live-after_deq c.args.locks.now c.deq.new.self c.args.node c.args.owner l c.deq.ensures.after)
+    (released-law c.args.locks.now c.deq.new.self c.args.owner c.args.node c.in-Some.ensures.live c.deq.ensures.after)
     (nothing (granted_at c.args.locks.now c.args.owner c.args.node))
 
 pub returns-in-Some-2-clause-way : goal.returns-in-Some-2-clause-way
@@ -46,8 +46,8 @@ returns-in-Some-2-clause-way c =
     let weaker = subst (λ (x : Option Mode). at_most c.args.mode (unwrap_or x NL) ≡ true) (sym c.in-Some-2.ensures.value) c.requires.weaker in
     way-lowered c.args.owner c.args.locks.now c.weaken.new.self c.args.node c.args.mode
     (weakened-order c.args.locks.now c.weaken.new.self c.args.owner c.args.node c.in-Some-2.ensures.live c.args.mode c.in-Some-2.field-0 (sym c.in-Some-2.ensures.value)
-    weaker (something-mode c.args.mode (sym c.eq.ensures ∙ c.if-eq.false)) c.requires.awake c.weaken.ensures)
-    (λ l. live-after_weaken c.args.locks.now c.weaken.new.self c.args.node c.args.owner c.args.mode (covers-less c.args.owner (queues_at c.args.locks.now c.args.node).granted c.in-Some-2.field-0 c.args.mode (sym c.in-Some-2.ensures.value) weaker) l c.weaken.ensures)
+    weaker (something-mode c.args.mode (sym c.eq.ensures ∙ c.if-eq.false)) c.requires.awake c.weaken.ensures.after)
+    (λ l. live-after_weaken c.args.locks.now c.weaken.new.self c.args.node c.args.owner c.args.mode (covers-less c.args.owner (queues_at c.args.locks.now c.args.node).granted c.in-Some-2.field-0 c.args.mode (sym c.in-Some-2.ensures.value) weaker) l c.weaken.ensures.after)
     (weakened-law c.args.locks.now c.weaken.new.self c.args.owner c.args.node c.in-Some-2.ensures.live c.args.mode c.in-Some-2.field-0 (sym c.in-Some-2.ensures.value)
-    weaker c.requires.awake c.weaken.ensures)
+    weaker c.requires.awake c.weaken.ensures.after)
     c.requires.weaker

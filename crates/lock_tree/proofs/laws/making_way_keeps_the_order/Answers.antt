@@ -1,9 +1,12 @@
-use Rattle.std.proofs.Common.{refl}
+use Rattle.std.proofs.Common.{refl, sym, subst, List, []}
+use Rattle.rdb_types.specs.declared.node.Node.{Node}
+use Rattle.vms_queues.specs.Queues.{Queues}
+use Rattle.lock_tree.specs.Order.{IsInOrder}
 use Rattle.lock_tree.proofs.StepsInOrder.{empty-in_order, served-in_order, ended-in_order}
 use Rattle.lock_tree.proofs.laws.making_way_keeps_the_order.Goals as goal
 
 pub returns-clause-start : goal.returns-clause-start
-returns-clause-start c = empty-in_order
+returns-clause-start c = λ t party e none. subst (λ (es : List (Node × Queues)). IsInOrder (record { entries = es; spare = t.spare }) party []) (sym e) (empty-in_order t.spare party none)
 
 pub returns-clause-served : goal.returns-clause-served
 returns-clause-served c = λ old new party asks owner way live kept after stands order.

@@ -1,7 +1,7 @@
 use Rattle.std.proofs.Common.{ℕ, List, subst}
 use Rattle.std.specs.Prelude.{Ok, Err}
 use Rattle.std.proofs.lemmas.Result.{err_from_is_err_and}
-use Rattle.sorted_index.specs.declared.writes.Write.{Write}
+use Rattle.line_view.specs.declared.writes.Write.{Write}
 use Rattle.sorted_index.specs.Changes.{pair_of}
 use Rattle.sorted_index.specs.Insertion.{WritesRoot}
 use Rattle.sorted_index.proofs.Laid.{laid_known}

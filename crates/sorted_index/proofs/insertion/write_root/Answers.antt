@@ -1,7 +1,7 @@
 use Rattle.std.proofs.Common.{◌≡◌, ◌+◌, ◌++◌, ◌∷◌, [], ℕ, List, get_or, Some, sym, refl, ap, subst, ◌∙◌}
 use Rattle.index_node.specs.declared.entry.NodeEntry.{NodeEntry}
 use Rattle.index_node.specs.Node.{IsNode}
-use Rattle.sorted_index.specs.declared.writes.Write.{Write}
+use Rattle.line_view.specs.declared.writes.Write.{Write}
 use Rattle.sorted_index.specs.Insertion.{room_at}
 use Rattle.sorted_index.proofs.Cutting.{is_halved, top_laid, two_writes, three_writes, wrote_top}
 use Rattle.sorted_index.proofs.insertion.write_root.Goals as goal

@@ -4,7 +4,8 @@ use Rattle.std.specs.FinMap.Entries.{put, is_sorted}
 use Rattle.rdo_ast.specs.Tree.{Name}
 use Rattle.rdb_meaning.specs.declared.tables.Relation.{Relation}
 use Rattle.rdb_meaning.specs.Contents.{name_order}
-use Rattle.sound_lines.specs.Contents.{HasRows, HaveRows}
+use Rattle.relation_rows.specs.Relations.{HasRows}
+use Rattle.sound_lines.specs.Contents.{stored, HaveRows}
 use Rattle.sound_lines.proofs.RelationsRead.{AreFound, one_more_found, all_found}
 use Rattle.sound_lines.proofs.relations.read_relations.Goals as goal
 
@@ -17,7 +18,7 @@ loop-name-preserved g c =
     let next : drop i items ≡ b ∷ drop (i + 1) items = drop_more items i b c.loop-name-test.true ∙ ap (λ x. x ∷ drop (i + 1) items) (sym c.loop-name-item.is) in
     one_more_found known c.args.versions.now items (drop (i + 1) items) c.loop-name.found c.put.new.self b c.in_ok-relation.relation
     (subst (λ l. AreFound known c.args.versions.now items l c.loop-name.found) next c.loop-name.invariant)
-    (λ all sorted agrees. subst (λ v. HasRows all v b.1 c.in_ok-relation.relation) c.version_of-version.ensures (c.in_ok-relation.ensures.rows all sorted agrees))
+    (λ all sorted agrees. subst (λ v. HasRows all (stored v b.1) c.in_ok-relation.relation) c.version_of-version.ensures (c.in_ok-relation.ensures.rows all sorted agrees))
     c.in_ok-relation.ensures.known
     (c.in_ok-put.ensures.ok ∙ ap (λ k. put name_order k c.in_ok-relation.relation c.loop-name.found) c.in_ok-copied.ensures)
 

@@ -1,68 +1,53 @@
-use Rattle.std.proofs.Common.{◌≡◌, refl, ◌∙◌, ap, subst, sym, inl, ◌++◌, ◌∷◌, [], List, true}
+use Rattle.std.proofs.Common.{◌≡◌, refl, ap, subst, sym, inl, List, true, length, ◌+◌, ◌≤◌, arith}
 use Rattle.std.specs.Prelude.{unwrap_or}
 use Rattle.std.proofs.lemmas.Bool.{or_parts}
 use Rattle.vms_queues.specs.Modes.{at_most}
 use Rattle.lock_needs.specs.Needs.{covered_above}
 use Rattle.vms_locks.specs.declared.answer.Enq.TheVariants.{Granted, Asleep, NotQueued, Deadlock}
-use Rattle.lock_needs.specs.declared.party.Asked.{Asked}
+use Rattle.lock_needs.specs.declared.need.Need.{Need}
 use Rattle.lock_needs.specs.declared.party.OpenWant.{OpenWant}
-use Rattle.lock_needs.specs.declared.party.Party.{Party}
+use Rattle.lock_needs.specs.Party.{Party}
 use Rattle.lock_needs.specs.Wants.{mode_for}
 use Rattle.lock_tree.specs.LockTable.{granted_at}
 use Rattle.lock_tree.specs.Parties.{unasked}
 use Rattle.lock_tree.specs.Order.{ComesDown}
+use Rattle.lock_tree.proofs.RoomKept.{roomy-on, leaves-used}
 use Rattle.lock_tree.specs.Forest.{State, idle, party_of}
 use Rattle.lock_tree.specs.States.{state_of}
-use Rattle.lock_tree.specs.Wanted.{needs_of}
-use Rattle.lock_tree.proofs.Outcomes.{on_err-any}
-use Rattle.lock_tree.proofs.Answered.{if_ok-more, cause-of}
-use Rattle.lock_tree.proofs.Trails.{entry_of}
-use Rattle.lock_tree.proofs.Opened.{as-open, still-open, whole-kept, whole-looked, whole-asked}
+use Rattle.lock_tree.specs.Wanted.{needs_of, Steps}
+use Rattle.lock_tree.proofs.Answered.{cause-of}
+use Rattle.lock_tree.proofs.Opened.{as-open, whole-looked, whole-asked}
 use Rattle.lock_tree.proofs.Looked.{look-due, look-asked, refused-down, deadlock-down, steps-asked}
 use Rattle.lock_tree.proofs.AskedByNeeds.{need-used, asked-by_needs, blocker-needed, cycle-needed}
+use Rattle.lock_tree.specs.Progress.{IsServedAt, LooksOn}
+use Rattle.lock_tree.proofs.OthersLeft.{leaves-then}
+use Rattle.lock_tree.proofs.MeasureFalls.{served-never, asked-never, ended-falls, never-steps}
 use Rattle.lock_tree.proofs.parts.Parts.ask_node.Goals as goal
-
-pub returns-in_err-reserve-clause-err : goal.returns-in_err-reserve-clause-err
-returns-in_err-reserve-clause-err c =
-    let r : State = record { table = c.args.self.now.locks; parties = c.args.self.now.parties.entries; trail = c.reserve.new.self.items } in
-    on_err-any _ c.from_residual.result (still-open (state_of c.args.self.now) r c.args.owner (unasked c.args.want) c.args.want.need c.requires.opened refl refl)
-
-pub returns-in_err-other-clause-err : goal.returns-in_err-other-clause-err
-returns-in_err-other-clause-err c =
-    let r : State = record { table = c.look_here.new.locks; parties = c.args.self.now.parties.entries; trail = c.reserve.new.self.items } in
-    on_err-any _ c.from_residual-in_err-other.result (still-open (state_of c.args.self.now) r c.args.owner (unasked c.args.want) c.args.want.need c.requires.opened refl refl)
-
-pub returns-in_err-other-clause-whole : goal.returns-in_err-other-clause-whole
-returns-in_err-other-clause-whole c =
-    let s : State = state_of c.args.self.now in
-    let is : c.in-Some.party.now ≡ party_of s.parties c.args.owner = ap (λ x. unwrap_or x idle) c.in-Some.ensures.value in
-    let r : State = record { table = c.look_here.new.locks; parties = c.args.self.now.parties.entries; trail = c.reserve.new.self.items } in
-    whole-kept s r c.args.owner c.requires.whole (subst (λ (p : Party). ComesDown c.args.owner p s.table c.look_here.new.locks) is c.in_err-other.ensures.down) refl (λ u d. refl) c.reserve.ensures.items
 
 pub returns-in-NoticeTo-clause-whole : goal.returns-in-NoticeTo-clause-whole
 returns-in-NoticeTo-clause-whole c =
     let s : State = state_of c.args.self.now in
     let is : c.in-Some.party.now ≡ party_of s.parties c.args.owner = ap (λ x. unwrap_or x idle) c.in-Some.ensures.value in
-    let r : State = record { table = c.look_here.new.locks; parties = c.args.self.now.parties.entries; trail = c.reserve.new.self.items } in
+    let r : State = record { table = c.look_here.new.locks; parties = c.args.self.now.parties.entries; trail = c.args.self.now.trail.items } in
     whole-looked s r c.args.owner c.args.want c.requires.whole c.requires.opened
     (subst (λ (p : Party). ComesDown c.args.owner p s.table c.look_here.new.locks) (sym (as-open (party_of s.parties c.args.owner) (unasked c.args.want) c.requires.opened))
-    (look-due s c.look_here.new.locks c.args.owner c.args.want c.args.wait c.in_ok-other.field-0 c.in-Some.party.now is c.in_ok-other.ensures.look c.in-NoticeTo.other c.in-NoticeTo.mode c.in-NoticeTo.is).0) refl c.reserve.ensures.items
+    (look-due s c.look_here.new.locks c.args.owner c.args.want c.args.wait c.look_here.result c.in-Some.party.now is c.look_here.ensures.look c.in-NoticeTo.other c.in-NoticeTo.mode c.in-NoticeTo.is).0) refl refl
 
 pub returns-in-NoticeTo-clause-step : goal.returns-in-NoticeTo-clause-step
 returns-in-NoticeTo-clause-step c =
     let s : State = state_of c.args.self.now in
     let is : c.in-Some.party.now ≡ party_of s.parties c.args.owner = ap (λ x. unwrap_or x idle) c.in-Some.ensures.value in
-    (unasked c.args.want, as-open (party_of s.parties c.args.owner) (unasked c.args.want) c.requires.opened, refl, refl, refl, (look-due s c.look_here.new.locks c.args.owner c.args.want c.args.wait c.in_ok-other.field-0 c.in-Some.party.now is c.in_ok-other.ensures.look c.in-NoticeTo.other c.in-NoticeTo.mode c.in-NoticeTo.is).1)
+    (unasked c.args.want, as-open (party_of s.parties c.args.owner) (unasked c.args.want) c.requires.opened, refl, refl, refl, (look-due s c.look_here.new.locks c.args.owner c.args.want c.args.wait c.look_here.result c.in-Some.party.now is c.look_here.ensures.look c.in-NoticeTo.other c.in-NoticeTo.mode c.in-NoticeTo.is).1)
 
 pub go_on-requires-clause-whole : goal.go_on-requires-clause-whole
 go_on-requires-clause-whole c =
     let s : State = state_of c.args.self.now in
     let is : c.in-Some.party.now ≡ party_of s.parties c.args.owner = ap (λ x. unwrap_or x idle) c.in-Some.ensures.value in
     let r : State = record { table = c.look_here.new.locks; parties = c.mark_asked-asked.new.parties.entries; trail = c.mark_asked-asked.new.trail.items } in
-    let asked = look-asked s c.look_here.new.locks c.args.owner c.args.want c.args.wait c.in_ok-other.field-0 c.in-Some.party.now is c.in_ok-other.ensures.look c.in-Asked-Granted.field-0 Granted c.in-Asked-Granted.is c.in-Asked-Granted.field-0-is in
+    let asked = look-asked s c.look_here.new.locks c.args.owner c.args.want c.args.wait c.look_here.result c.in-Some.party.now is c.look_here.ensures.look c.in-Asked-Granted.field-0 Granted c.in-Asked-Granted.is c.in-Asked-Granted.field-0-is in
     whole-asked s r c.args.owner c.args.want c.requires.whole c.requires.opened c.look_here.ensures.intents c.look_here.ensures.others
     asked.0.0 c.mark_asked-asked.ensures.own c.mark_asked-asked.ensures.others
-    (c.mark_asked-asked.ensures.trail ∙ ap (λ (a : List Asked). a ++ entry_of c.args.owner c.args.want.here ∷ []) c.reserve.ensures.items)
+    (c.mark_asked-asked.ensures.trail)
     asked.1.live
     (asked-by_needs s c.args.owner c.args.want c.requires.whole c.requires.opened (need-used (granted_at s.table c.args.owner) c.args.want.need c.requires.uncovered) c.args.wait c.look_here.new.locks Granted asked.1
     (party_of r.parties) c.mark_asked-asked.ensures.own c.mark_asked-asked.ensures.others)
@@ -72,23 +57,22 @@ go_on-requires-clause-granted c =
     let s : State = state_of c.args.self.now in
     let is : c.in-Some.party.now ≡ party_of s.parties c.args.owner = ap (λ x. unwrap_or x idle) c.in-Some.ensures.value in
     subst (λ (v : OpenWant). at_most (mode_for v.need v.here) (granted_at c.look_here.new.locks c.args.owner v.here) ≡ true) (sym c.mark_asked-asked.ensures.want)
-    (look-asked s c.look_here.new.locks c.args.owner c.args.want c.args.wait c.in_ok-other.field-0 c.in-Some.party.now is c.in_ok-other.ensures.look c.in-Asked-Granted.field-0 Granted c.in-Asked-Granted.is c.in-Asked-Granted.field-0-is).0.1
+    (look-asked s c.look_here.new.locks c.args.owner c.args.want c.args.wait c.look_here.result c.in-Some.party.now is c.look_here.ensures.look c.in-Asked-Granted.field-0 Granted c.in-Asked-Granted.is c.in-Asked-Granted.field-0-is).0.1
 
 pub returns-in-Asked-Granted-clause-step : goal.returns-in-Asked-Granted-clause-step
 returns-in-Asked-Granted-clause-step c =
     let s : State = state_of c.args.self.now in
-    if_ok-more _ _ c.go_on.result (c.go_on.ensures.step c.args.wait)
-    (steps-asked (needs_of s c.args.owner) _ (state_of c.go_on.new.self) c.args.owner c.args.want c.mark_asked-asked.result c.args.wait (ap (λ (p : Party). p.needs) c.mark_asked-asked.ensures.own) c.mark_asked-asked.ensures.want)
+    steps-asked (needs_of s c.args.owner) _ (state_of c.go_on.new.self) c.args.owner c.args.want c.mark_asked-asked.result c.args.wait (ap (λ (p : Party). p.needs) c.mark_asked-asked.ensures.own) c.mark_asked-asked.ensures.want c.go_on.result (c.go_on.ensures.step c.args.wait)
 
 pub stand-requires-clause-whole : goal.stand-requires-clause-whole
 stand-requires-clause-whole c =
     let s : State = state_of c.args.self.now in
     let is : c.in-Some.party.now ≡ party_of s.parties c.args.owner = ap (λ x. unwrap_or x idle) c.in-Some.ensures.value in
     let r : State = record { table = c.look_here.new.locks; parties = c.mark_asked-asked-in-Asked-Asleep.new.parties.entries; trail = c.mark_asked-asked-in-Asked-Asleep.new.trail.items } in
-    let asked = look-asked s c.look_here.new.locks c.args.owner c.args.want c.args.wait c.in_ok-other.field-0 c.in-Some.party.now is c.in_ok-other.ensures.look c.in-Asked-Asleep.field-0 Asleep c.in-Asked-Asleep.is c.in-Asked-Asleep.field-0-is in
+    let asked = look-asked s c.look_here.new.locks c.args.owner c.args.want c.args.wait c.look_here.result c.in-Some.party.now is c.look_here.ensures.look c.in-Asked-Asleep.field-0 Asleep c.in-Asked-Asleep.is c.in-Asked-Asleep.field-0-is in
     whole-asked s r c.args.owner c.args.want c.requires.whole c.requires.opened c.look_here.ensures.intents c.look_here.ensures.others
     asked.0.0 c.mark_asked-asked-in-Asked-Asleep.ensures.own c.mark_asked-asked-in-Asked-Asleep.ensures.others
-    (c.mark_asked-asked-in-Asked-Asleep.ensures.trail ∙ ap (λ (a : List Asked). a ++ entry_of c.args.owner c.args.want.here ∷ []) c.reserve.ensures.items)
+    (c.mark_asked-asked-in-Asked-Asleep.ensures.trail)
     asked.1.live
     (asked-by_needs s c.args.owner c.args.want c.requires.whole c.requires.opened (need-used (granted_at s.table c.args.owner) c.args.want.need c.requires.uncovered) c.args.wait c.look_here.new.locks Asleep asked.1
     (party_of r.parties) c.mark_asked-asked-in-Asked-Asleep.ensures.own c.mark_asked-asked-in-Asked-Asleep.ensures.others).0
@@ -96,37 +80,36 @@ stand-requires-clause-whole c =
 pub returns-in-Asked-Asleep-clause-step : goal.returns-in-Asked-Asleep-clause-step
 returns-in-Asked-Asleep-clause-step c =
     let s : State = state_of c.args.self.now in
-    if_ok-more _ _ c.stand.result c.stand.ensures.step
-    (steps-asked (needs_of s c.args.owner) _ (state_of c.stand.new.self) c.args.owner c.args.want c.mark_asked-asked-in-Asked-Asleep.result c.args.wait (ap (λ (p : Party). p.needs) c.mark_asked-asked-in-Asked-Asleep.ensures.own) c.mark_asked-asked-in-Asked-Asleep.ensures.want)
+    steps-asked (needs_of s c.args.owner) _ (state_of c.stand.new.self) c.args.owner c.args.want c.mark_asked-asked-in-Asked-Asleep.result c.args.wait (ap (λ (p : Party). p.needs) c.mark_asked-asked-in-Asked-Asleep.ensures.own) c.mark_asked-asked-in-Asked-Asleep.ensures.want c.stand.result c.stand.ensures.step
 
 pub refuse-requires-clause-whole : goal.refuse-requires-clause-whole
 refuse-requires-clause-whole c =
     let s : State = state_of c.args.self.now in
     let is : c.in-Some.party.now ≡ party_of s.parties c.args.owner = ap (λ x. unwrap_or x idle) c.in-Some.ensures.value in
-    let r : State = record { table = c.look_here.new.locks; parties = c.args.self.now.parties.entries; trail = c.reserve.new.self.items } in
+    let r : State = record { table = c.look_here.new.locks; parties = c.args.self.now.parties.entries; trail = c.args.self.now.trail.items } in
     whole-looked s r c.args.owner c.args.want c.requires.whole c.requires.opened
     (refused-down s c.look_here.new.locks c.args.owner c.args.want c.args.wait c.in-Asked-NotQueued.other
-    (look-asked s c.look_here.new.locks c.args.owner c.args.want c.args.wait c.in_ok-other.field-0 c.in-Some.party.now is c.in_ok-other.ensures.look c.in-Asked-NotQueued.field-0 (NotQueued c.in-Asked-NotQueued.other) c.in-Asked-NotQueued.is c.in-Asked-NotQueued.field-0-is).1) refl c.reserve.ensures.items
+    (look-asked s c.look_here.new.locks c.args.owner c.args.want c.args.wait c.look_here.result c.in-Some.party.now is c.look_here.ensures.look c.in-Asked-NotQueued.field-0 (NotQueued c.in-Asked-NotQueued.other) c.in-Asked-NotQueued.is c.in-Asked-NotQueued.field-0-is).1) refl refl
 
 pub refuse-requires-in-Asked-Deadlock-clause-whole : goal.refuse-requires-in-Asked-Deadlock-clause-whole
 refuse-requires-in-Asked-Deadlock-clause-whole c =
     let s : State = state_of c.args.self.now in
     let is : c.in-Some.party.now ≡ party_of s.parties c.args.owner = ap (λ x. unwrap_or x idle) c.in-Some.ensures.value in
-    let r : State = record { table = c.look_here.new.locks; parties = c.args.self.now.parties.entries; trail = c.reserve.new.self.items } in
+    let r : State = record { table = c.look_here.new.locks; parties = c.args.self.now.parties.entries; trail = c.args.self.now.trail.items } in
     whole-looked s r c.args.owner c.args.want c.requires.whole c.requires.opened
     (deadlock-down s c.look_here.new.locks c.args.owner c.args.want c.args.wait c.in-Asked-Deadlock.cycle
-    (look-asked s c.look_here.new.locks c.args.owner c.args.want c.args.wait c.in_ok-other.field-0 c.in-Some.party.now is c.in_ok-other.ensures.look c.in-Asked-Deadlock.field-0 (Deadlock c.in-Asked-Deadlock.cycle) c.in-Asked-Deadlock.is c.in-Asked-Deadlock.field-0-is).1) refl c.reserve.ensures.items
+    (look-asked s c.look_here.new.locks c.args.owner c.args.want c.args.wait c.look_here.result c.in-Some.party.now is c.look_here.ensures.look c.in-Asked-Deadlock.field-0 (Deadlock c.in-Asked-Deadlock.cycle) c.in-Asked-Deadlock.is c.in-Asked-Deadlock.field-0-is).1) refl refl
 
-pub returns-in_ok-refuse-in-Asked-NotQueued-clause-step : goal.returns-in_ok-refuse-in-Asked-NotQueued-clause-step
-returns-in_ok-refuse-in-Asked-NotQueued-clause-step c =
+pub returns-in-Asked-NotQueued-clause-step : goal.returns-in-Asked-NotQueued-clause-step
+returns-in-Asked-NotQueued-clause-step c =
     let s : State = state_of c.args.self.now in
     let is : c.in-Some.party.now ≡ party_of s.parties c.args.owner = ap (λ x. unwrap_or x idle) c.in-Some.ensures.value in
-    let r : State = record { table = c.look_here.new.locks; parties = c.args.self.now.parties.entries; trail = c.reserve.new.self.items } in
-    let asked = look-asked s c.look_here.new.locks c.args.owner c.args.want c.args.wait c.in_ok-other.field-0 c.in-Some.party.now is c.in_ok-other.ensures.look c.in-Asked-NotQueued.field-0 (NotQueued c.in-Asked-NotQueued.other) c.in-Asked-NotQueued.is c.in-Asked-NotQueued.field-0-is in (
+    let r : State = record { table = c.look_here.new.locks; parties = c.args.self.now.parties.entries; trail = c.args.self.now.trail.items } in
+    let asked = look-asked s c.look_here.new.locks c.args.owner c.args.want c.args.wait c.look_here.result c.in-Some.party.now is c.look_here.ensures.look c.in-Asked-NotQueued.field-0 (NotQueued c.in-Asked-NotQueued.other) c.in-Asked-NotQueued.is c.in-Asked-NotQueued.field-0-is in (
       asked.0.1,
       record {
         before = r;
-        whole = whole-looked s r c.args.owner c.args.want c.requires.whole c.requires.opened (refused-down s c.look_here.new.locks c.args.owner c.args.want c.args.wait c.in-Asked-NotQueued.other asked.1) refl c.reserve.ensures.items;
+        whole = whole-looked s r c.args.owner c.args.want c.requires.whole c.requires.opened (refused-down s c.look_here.new.locks c.args.owner c.args.want c.args.wait c.in-Asked-NotQueued.other asked.1) refl refl;
         others = c.refuse.ensures.others;
         want = unasked c.args.want;
         stood = as-open (party_of s.parties c.args.owner) (unasked c.args.want) c.requires.opened;
@@ -134,22 +117,22 @@ returns-in_ok-refuse-in-Asked-NotQueued-clause-step c =
         why = inl (
           cause-of s.parties c.args.owner c.args.want c.args.wait s.table c.look_here.new.locks (NotQueued c.in-Asked-NotQueued.other) asked.1,
           blocker-needed s c.args.owner c.args.want c.requires.whole c.requires.opened (need-used (granted_at s.table c.args.owner) c.args.want.need c.requires.uncovered) c.args.wait c.look_here.new.locks
-              c.reserve.new.self.items c.reserve.ensures.items c.in-Asked-NotQueued.other asked.1,
+              c.args.self.now.trail.items refl c.in-Asked-NotQueued.other asked.1,
         );
-        rests = c.in_ok-refuse-in-Asked-NotQueued.ensures.ended;
+        rests = c.refuse.ensures.ended;
       },
     )
 
-pub returns-in_ok-refuse-in-Asked-Deadlock-clause-step : goal.returns-in_ok-refuse-in-Asked-Deadlock-clause-step
-returns-in_ok-refuse-in-Asked-Deadlock-clause-step c =
+pub returns-in-Asked-Deadlock-clause-step : goal.returns-in-Asked-Deadlock-clause-step
+returns-in-Asked-Deadlock-clause-step c =
     let s : State = state_of c.args.self.now in
     let is : c.in-Some.party.now ≡ party_of s.parties c.args.owner = ap (λ x. unwrap_or x idle) c.in-Some.ensures.value in
-    let r : State = record { table = c.look_here.new.locks; parties = c.args.self.now.parties.entries; trail = c.reserve.new.self.items } in
-    let asked = look-asked s c.look_here.new.locks c.args.owner c.args.want c.args.wait c.in_ok-other.field-0 c.in-Some.party.now is c.in_ok-other.ensures.look c.in-Asked-Deadlock.field-0 (Deadlock c.in-Asked-Deadlock.cycle) c.in-Asked-Deadlock.is c.in-Asked-Deadlock.field-0-is in (
+    let r : State = record { table = c.look_here.new.locks; parties = c.args.self.now.parties.entries; trail = c.args.self.now.trail.items } in
+    let asked = look-asked s c.look_here.new.locks c.args.owner c.args.want c.args.wait c.look_here.result c.in-Some.party.now is c.look_here.ensures.look c.in-Asked-Deadlock.field-0 (Deadlock c.in-Asked-Deadlock.cycle) c.in-Asked-Deadlock.is c.in-Asked-Deadlock.field-0-is in (
       asked.0.1,
       record {
         before = r;
-        whole = whole-looked s r c.args.owner c.args.want c.requires.whole c.requires.opened (deadlock-down s c.look_here.new.locks c.args.owner c.args.want c.args.wait c.in-Asked-Deadlock.cycle asked.1) refl c.reserve.ensures.items;
+        whole = whole-looked s r c.args.owner c.args.want c.requires.whole c.requires.opened (deadlock-down s c.look_here.new.locks c.args.owner c.args.want c.args.wait c.in-Asked-Deadlock.cycle asked.1) refl refl;
         others = c.refuse-in-Asked-Deadlock.ensures.others;
         want = unasked c.args.want;
         stood = as-open (party_of s.parties c.args.owner) (unasked c.args.want) c.requires.opened;
@@ -157,12 +140,95 @@ returns-in_ok-refuse-in-Asked-Deadlock-clause-step c =
         why = (
           cause-of s.parties c.args.owner c.args.want c.args.wait s.table c.look_here.new.locks (Deadlock c.in-Asked-Deadlock.cycle) asked.1,
           cycle-needed s c.args.owner c.args.want c.requires.whole c.requires.opened (need-used (granted_at s.table c.args.owner) c.args.want.need c.requires.uncovered) c.args.wait c.look_here.new.locks
-              c.reserve.new.self.items c.reserve.ensures.items c.in-Asked-Deadlock.cycle asked.1,
+              c.args.self.now.trail.items refl c.in-Asked-Deadlock.cycle asked.1,
         );
-        rests = c.in_ok-refuse-in-Asked-Deadlock.ensures.ended;
+        rests = c.refuse-in-Asked-Deadlock.ensures.ended;
       },
     )
 
 pub look_here-requires-clause-uncovered : goal.look_here-requires-clause-uncovered
 look_here-requires-clause-uncovered c =
     (or_parts (at_most c.args.want.need.mode (granted_at c.args.self.now.locks c.args.owner c.args.want.need.node)) (covered_above (granted_at c.args.self.now.locks c.args.owner) c.args.want.need) c.requires.uncovered).1
+
+pub look_here-requires-clause-room : goal.look_here-requires-clause-room
+look_here-requires-clause-room c =
+    subst (λ (p : Party). length p.needs + 1 ≤ c.args.self.now.locks.spare) (sym (ap (λ x. unwrap_or x idle) c.in-Some.ensures.value)) (omega (arith, c.requires.room.table))
+
+pub mark_asked-asked-requires-clause-room : goal.mark_asked-asked-requires-clause-room
+mark_asked-asked-requires-clause-room c = omega (arith, c.requires.room.trail)
+
+pub mark_asked-asked-requires-in-Asked-Asleep-clause-room : goal.mark_asked-asked-requires-in-Asked-Asleep-clause-room
+mark_asked-asked-requires-in-Asked-Asleep-clause-room c = omega (arith, c.requires.room.trail)
+
+pub refuse-requires-clause-room : goal.refuse-requires-clause-room
+refuse-requires-clause-room c = omega (arith, c.requires.room.trail)
+
+pub refuse-requires-in-Asked-Deadlock-clause-room : goal.refuse-requires-in-Asked-Deadlock-clause-room
+refuse-requires-in-Asked-Deadlock-clause-room c = omega (arith, c.requires.room.trail)
+
+pub returns-in-Asked-Granted-clause-room : goal.returns-in-Asked-Granted-clause-room
+returns-in-Asked-Granted-clause-room c =
+    let s : State = state_of c.args.self.now in
+    let is : c.in-Some.party.now ≡ party_of s.parties c.args.owner = ap (λ x. unwrap_or x idle) c.in-Some.ensures.value in
+    leaves-used c.args.owner c.args.self.now (record { locks = c.look_here.new.locks; parties = c.mark_asked-asked.new.parties; trail = c.mark_asked-asked.new.trail }) c.go_on.new.self
+    (ap (λ (p : Party). p.needs) c.mark_asked-asked.ensures.own) (subst (λ (p : Party). c.args.self.now.locks.spare ≤ c.look_here.new.locks.spare + (length p.needs + 1)) is c.look_here.ensures.spare)
+    c.mark_asked-asked.ensures.length c.mark_asked-asked.ensures.capacity c.go_on.result
+    (roomy-on c.args.owner (needs_of s c.args.owner) c.mark_asked-asked.result c.args.wait (record { locks = c.look_here.new.locks; parties = c.mark_asked-asked.new.parties; trail = c.mark_asked-asked.new.trail }) c.go_on.new.self (ap (λ (p : Party). p.needs) c.mark_asked-asked.ensures.own) c.go_on.ensures.table c.go_on.ensures.trail c.go_on.result
+    (subst (λ (ws : List Need). Steps ws (state_of c.go_on.new.self) c.args.owner c.mark_asked-asked.result c.args.wait c.go_on.result) (ap (λ (p : Party). p.needs) c.mark_asked-asked.ensures.own) (c.go_on.ensures.step c.args.wait)))
+
+pub returns-in-Asked-Asleep-clause-room : goal.returns-in-Asked-Asleep-clause-room
+returns-in-Asked-Asleep-clause-room c =
+    let s : State = state_of c.args.self.now in
+    let is : c.in-Some.party.now ≡ party_of s.parties c.args.owner = ap (λ x. unwrap_or x idle) c.in-Some.ensures.value in
+    leaves-used c.args.owner c.args.self.now (record { locks = c.look_here.new.locks; parties = c.mark_asked-asked-in-Asked-Asleep.new.parties; trail = c.mark_asked-asked-in-Asked-Asleep.new.trail }) c.stand.new.self
+    (ap (λ (p : Party). p.needs) c.mark_asked-asked-in-Asked-Asleep.ensures.own) (subst (λ (p : Party). c.args.self.now.locks.spare ≤ c.look_here.new.locks.spare + (length p.needs + 1)) is c.look_here.ensures.spare)
+    c.mark_asked-asked-in-Asked-Asleep.ensures.length c.mark_asked-asked-in-Asked-Asleep.ensures.capacity c.stand.result
+    c.stand.ensures.room
+
+pub returns-in-NoticeTo-clause-progress : goal.returns-in-NoticeTo-clause-progress
+returns-in-NoticeTo-clause-progress c =
+    let s : State = state_of c.args.self.now in
+    let is : c.in-Some.party.now ≡ party_of s.parties c.args.owner = ap (λ x. unwrap_or x idle) c.in-Some.ensures.value in
+    let r : State = record { table = c.look_here.new.locks; parties = c.args.self.now.parties.entries; trail = c.args.self.now.trail.items } in
+    let after = whole-looked s r c.args.owner c.args.want c.requires.whole c.requires.opened
+    (subst (λ (p : Party). ComesDown c.args.owner p s.table c.look_here.new.locks) (sym (as-open (party_of s.parties c.args.owner) (unasked c.args.want) c.requires.opened))
+    (look-due s c.look_here.new.locks c.args.owner c.args.want c.args.wait c.look_here.result c.in-Some.party.now is c.look_here.ensures.look c.in-NoticeTo.other c.in-NoticeTo.mode c.in-NoticeTo.is).0) refl refl in
+    served-never s r c.args.owner c.args.want.here c.requires.whole after (λ u. refl)
+    (subst (λ (p : Party). IsServedAt c.args.owner p c.args.want.here s.table r.table) is
+    (subst (LooksOn c.args.owner c.in-Some.party.now c.args.want s.table r.table) c.in-NoticeTo.is c.look_here.ensures.progress))
+
+pub returns-in-Asked-Granted-clause-progress : goal.returns-in-Asked-Granted-clause-progress
+returns-in-Asked-Granted-clause-progress c =
+    let s : State = state_of c.args.self.now in
+    let m : State = record { table = c.look_here.new.locks; parties = c.mark_asked-asked.new.parties.entries; trail = c.mark_asked-asked.new.trail.items } in
+    never-steps s m (state_of c.go_on.new.self) c.args.owner
+    (asked-never s m c.args.owner c.args.want
+    (record { parties = c.mark_asked-asked.ensures.others; locks = subst (LooksOn c.args.owner c.in-Some.party.now c.args.want s.table m.table) c.in-Asked-Granted.is c.look_here.ensures.progress })
+    c.requires.opened (ap (λ (p : Party). p.opened) c.mark_asked-asked.ensures.own))
+    c.go_on.result c.go_on.ensures.progress
+
+pub returns-in-Asked-Asleep-clause-progress : goal.returns-in-Asked-Asleep-clause-progress
+returns-in-Asked-Asleep-clause-progress c =
+    let s : State = state_of c.args.self.now in
+    let m : State = record { table = c.look_here.new.locks; parties = c.mark_asked-asked-in-Asked-Asleep.new.parties.entries; trail = c.mark_asked-asked-in-Asked-Asleep.new.trail.items } in
+    never-steps s m (state_of c.stand.new.self) c.args.owner
+    (asked-never s m c.args.owner c.args.want
+    (record { parties = c.mark_asked-asked-in-Asked-Asleep.ensures.others; locks = subst (LooksOn c.args.owner c.in-Some.party.now c.args.want s.table m.table) c.in-Asked-Asleep.is c.look_here.ensures.progress })
+    c.requires.opened (ap (λ (p : Party). p.opened) c.mark_asked-asked-in-Asked-Asleep.ensures.own))
+    c.stand.result c.stand.ensures.progress
+
+pub returns-in-Asked-NotQueued-clause-progress : goal.returns-in-Asked-NotQueued-clause-progress
+returns-in-Asked-NotQueued-clause-progress c =
+    let s : State = state_of c.args.self.now in
+    ended-falls s (state_of c.refuse.new.self) c.args.owner (unasked c.args.want) c.refuse.ensures.others
+    (leaves-then s.table c.look_here.new.locks c.refuse.new.self.locks c.args.owner
+    (subst (LooksOn c.args.owner c.in-Some.party.now c.args.want s.table c.look_here.new.locks) c.in-Asked-NotQueued.is c.look_here.ensures.progress) c.refuse.ensures.locks)
+    c.requires.opened (ap (λ (p : Party). p.opened) c.refuse.ensures.ended)
+
+pub returns-in-Asked-Deadlock-clause-progress : goal.returns-in-Asked-Deadlock-clause-progress
+returns-in-Asked-Deadlock-clause-progress c =
+    let s : State = state_of c.args.self.now in
+    ended-falls s (state_of c.refuse-in-Asked-Deadlock.new.self) c.args.owner (unasked c.args.want) c.refuse-in-Asked-Deadlock.ensures.others
+    (leaves-then s.table c.look_here.new.locks c.refuse-in-Asked-Deadlock.new.self.locks c.args.owner
+    (subst (LooksOn c.args.owner c.in-Some.party.now c.args.want s.table c.look_here.new.locks) c.in-Asked-Deadlock.is c.look_here.ensures.progress) c.refuse-in-Asked-Deadlock.ensures.locks)
+    c.requires.opened (ap (λ (p : Party). p.opened) c.refuse-in-Asked-Deadlock.ensures.ended)

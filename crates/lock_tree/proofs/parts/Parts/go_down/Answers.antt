@@ -1,12 +1,25 @@
-use Rattle.std.proofs.Common.{subst, List}
-use Rattle.lock_needs.specs.declared.need.Need.{Need}
+use Rattle.std.proofs.Common.{◌∙◌, ap}
+use Rattle.lock_needs.specs.Party.{Party}
+use Rattle.lock_tree.proofs.RoomKept.{room-one, room-lower}
 use Rattle.lock_tree.specs.States.{state_of}
-use Rattle.lock_tree.specs.Wanted.{needs_of, IsOpen}
-use Rattle.lock_tree.proofs.Outcomes.{on_err-any}
+use Rattle.lock_tree.proofs.MeasureFalls.{never-then, never-moves}
 use Rattle.lock_tree.proofs.parts.Parts.go_down.Goals as goal
 
-pub returns-in_err-next-clause-err : goal.returns-in_err-next-clause-err
-returns-in_err-next-clause-err c =
-    on_err-any _ c.from_residual.result
-    (subst (λ (n : Need). IsOpen (state_of c.step.new.self) c.args.owner (needs_of (state_of c.args.self.now) c.args.owner) n) c.loop-next.invariant.2
-    (subst (λ (ws : List Need). IsOpen (state_of c.step.new.self) c.args.owner ws c.loop-next.want.need) c.loop-next.invariant.3 c.in_err-next.ensures.err))
+pub step-requires-clause-room : goal.step-requires-clause-room
+step-requires-clause-room c = room-one c.args.owner c.loop-next.self c.loop-next.want.here.level c.loop-next.invariant.5
+
+pub loop-next-preserved : goal.loop-next-preserved
+loop-next-preserved c =
+    let step = c.in-Down.ensures.step in (
+      c.step.ensures.whole,
+      ap (λ (p : Party). p.opened) step.0,
+      step.2 ∙ c.loop-next.invariant.2,
+      ap (λ (p : Party). p.needs) step.0 ∙ c.loop-next.invariant.3,
+      λ u d. c.step.ensures.others u d ∙ c.loop-next.invariant.4 u d,
+      room-lower c.args.owner c.loop-next.self c.step.new.self c.in-Down.next.here c.loop-next.want.here step.3 c.in-Down.ensures.room c.loop-next.invariant.5,
+      never-then (state_of c.args.self.now) (state_of c.loop-next.self) (state_of c.step.new.self) c.args.owner c.loop-next.invariant.6 c.in-Down.ensures.progress,
+    )
+
+pub returns-in-Ends-clause-progress : goal.returns-in-Ends-clause-progress
+returns-in-Ends-clause-progress c =
+    never-moves (state_of c.args.self.now) (state_of c.loop-next.self) (state_of c.step.new.self) c.args.owner c.loop-next.invariant.6 c.in-Ends.answer c.in-Ends.ensures.progress

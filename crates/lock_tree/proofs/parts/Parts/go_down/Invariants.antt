@@ -1,8 +1,10 @@
 use Rattle.std.proofs.Common.{◌≡◌, ◌-◌, Some}
 use Rattle.lock_tree.specs.Parties.{unasked}
 use Rattle.lock_tree.specs.Forest.{IsWhole, KeepsParties, opened_of}
+use Rattle.lock_tree.specs.Progress.{NeverRises}
 use Rattle.lock_tree.specs.States.{state_of}
 use Rattle.lock_tree.specs.Wanted.{needs_of}
+use Rattle.lock_tree.specs.Room.{HasRoomFor}
 use Rattle.lock_tree.proofs.Depths.{depth}
 use Rattle.lock_tree.proofs.parts.Parts.go_down.Given as goal
 
@@ -10,6 +12,7 @@ abbrev pub invariant-loop-next : goal.invariant-loop-next
 invariant-loop-next l =
     IsWhole (state_of l.self) × (opened_of (state_of l.self) l.owner ≡ Some (unasked l.want)) × (l.want.need ≡ l.fn.want.need)
     × (needs_of (state_of l.self) l.owner ≡ needs_of (state_of l.fn.self) l.owner) × KeepsParties l.owner l.fn.self.parties.entries l.self.parties.entries
+    × HasRoomFor (4 - depth l.want.here.level) l.owner l.self × NeverRises l.owner (state_of l.fn.self) (state_of l.self)
 
 abbrev pub decreases-loop-next : goal.decreases-loop-next
 decreases-loop-next l = 3 - depth l.want.here.level

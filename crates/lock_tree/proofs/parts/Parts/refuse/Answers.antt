@@ -1,24 +1,22 @@
 use Rattle.std.proofs.Common.{refl, subst}
-use Rattle.lock_tree.specs.Parties.{IsKept, unasked}
+use Rattle.std.proofs.lemmas.Bool.{false≢true}
+use Rattle.lock_tree.specs.Parties.{IsKept}
 use Rattle.lock_tree.specs.Forest.{State}
 use Rattle.lock_tree.specs.States.{state_of}
 use Rattle.lock_tree.specs.Wanted.{needs_of}
 use Rattle.lock_tree.specs.Order.{StandsByNeeds}
 use Rattle.lock_tree.proofs.WayMade.{way-none}
-use Rattle.lock_tree.proofs.Outcomes.{on_err-any}
 use Rattle.lock_tree.proofs.Whole.{least-of}
-use Rattle.lock_tree.proofs.Opened.{still-open, whole-noted}
+use Rattle.lock_tree.proofs.Opened.{whole-noted}
 use Rattle.lock_tree.proofs.parts.Parts.refuse.Goals as goal
-
-pub returns-in_err-reserve-clause-err : goal.returns-in_err-reserve-clause-err
-returns-in_err-reserve-clause-err c =
-    let r : State = record { table = c.args.self.now.locks; parties = c.args.self.now.parties.entries; trail = c.reserve.new.self.items } in
-    on_err-any _ c.from_residual.result (still-open (state_of c.args.self.now) r c.args.owner (unasked c.args.want) c.args.want.need c.requires.opened refl refl)
 
 pub returns-clause-whole : goal.returns-clause-whole
 returns-clause-whole c =
     let s : State = state_of c.close_want.new.self in
     let r : State = record { table = c.close_want.new.self.locks; parties = c.close_want.new.self.parties.entries; trail = c.note_ask.new.trail.items } in
     whole-noted s r c.args.owner c.args.want.here (needs_of (state_of c.args.self.now) c.args.owner) c.close_want.ensures.whole c.close_want.ensures.whole.intents (λ u q d k. k)
-    (subst (IsKept c.close_want.new.self.locks c.args.owner) c.in_ok-close_want.ensures.ended (c.close_want.ensures.whole.kept c.args.owner)) c.in_ok-close_want.ensures.ended (λ u d. refl) c.note_ask.ensures
-    (way-none c.args.owner c.close_want.new.self.locks) (subst (StandsByNeeds c.close_want.new.self.locks c.args.owner) c.in_ok-close_want.ensures.ended (least-of s c.args.owner c.close_want.ensures.whole))
+    (subst (IsKept c.close_want.new.self.locks c.args.owner) c.close_want.ensures.ended (c.close_want.ensures.whole.kept c.args.owner)) c.close_want.ensures.ended (λ u d. refl) c.note_ask.ensures.trail
+    (way-none c.args.owner c.close_want.new.self.locks) (subst (StandsByNeeds c.close_want.new.self.locks c.args.owner) c.close_want.ensures.ended (least-of s c.args.owner c.close_want.ensures.whole))
+
+pub close_want-requires-clause-room : goal.close_want-requires-clause-room
+close_want-requires-clause-room c = λ h. absurd (false≢true h)

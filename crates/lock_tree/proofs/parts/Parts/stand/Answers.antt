@@ -1,10 +1,14 @@
-use Rattle.std.proofs.Common.{refl, sym, ◌∙◌, inr}
+use Rattle.std.proofs.Common.{refl, ap, sym, ◌∙◌, inr}
 use Rattle.lock_tree.specs.Forest.{State, party_of}
 use Rattle.lock_tree.specs.States.{state_of}
+use Rattle.lock_tree.specs.Wanted.{needs_of}
 use Rattle.lock_tree.specs.LockTable.{granted_at}
+use Rattle.lock_tree.proofs.RoomKept.{roomy-on, asleep-partly}
 use Rattle.lock_tree.proofs.Sleepers.{queued-blocker, sleeping-queued}
 use Rattle.lock_tree.proofs.Opened.{as-open, awake-granted}
 use Rattle.lock_tree.proofs.AskedByNeeds.{waiter-needed}
+use Rattle.lock_needs.specs.Party.{Party}
+use Rattle.lock_tree.proofs.MeasureFalls.{stays-never, ended-falls}
 use Rattle.lock_tree.proofs.parts.Parts.stand.Goals as goal
 
 pub go_on-requires-clause-granted : goal.go_on-requires-clause-granted
@@ -51,6 +55,21 @@ returns-clause-step c =
           waits = c.in-Some.ensures.waits;
           by_needs = waiter-needed s c.requires.whole c.args.owner c.in-Some.other c.in-Some.ensures.waits;
         });
-        rests = c.in_ok-close_want.ensures.ended;
+        rests = c.close_want.ensures.ended;
       },
     )
+
+pub returns-then-not-is_asleep-clause-room : goal.returns-then-not-is_asleep-clause-room
+returns-then-not-is_asleep-clause-room c =
+    roomy-on c.args.owner (needs_of (state_of c.args.self.now) c.args.owner) c.args.want c.args.wait c.args.self.now c.go_on.new.self refl c.go_on.ensures.table c.go_on.ensures.trail c.go_on.result (c.go_on.ensures.step c.args.wait)
+
+pub close_want-requires-clause-room : goal.close_want-requires-clause-room
+close_want-requires-clause-room c = λ h. absurd (asleep-partly (granted_at c.args.self.now.locks c.args.owner) c.args.want (sym c.is_asleep.ensures.value ∙ c.if-not-is_asleep.false) h)
+
+pub returns-then-wait-clause-progress : goal.returns-then-wait-clause-progress
+returns-then-wait-clause-progress c = stays-never (state_of c.args.self.now) c.args.owner
+
+pub returns-clause-progress : goal.returns-clause-progress
+returns-clause-progress c =
+    ended-falls (state_of c.args.self.now) (state_of c.close_want.new.self) c.args.owner c.args.want c.close_want.ensures.others c.close_want.ensures.locks
+    c.requires.opened (ap (λ (p : Party). p.opened) c.close_want.ensures.ended)

@@ -1,12 +1,16 @@
-use Rattle.std.proofs.Common.{◌≡◌, refl, sym, ◌∙◌, subst, false}
+use Rattle.std.proofs.Common.{◌≡◌, refl, sym, ◌∙◌, ap, subst, false}
 use Rattle.vms_locks.specs.Table.{Table}
 use Rattle.lock_needs.specs.Needs.{is_covered}
 use Rattle.lock_tree.specs.LockTable.{granted_at}
 use Rattle.lock_tree.specs.Parties.{IsKept, unasked}
 use Rattle.lock_tree.specs.States.{state_of}
 use Rattle.lock_tree.specs.Wanted.{needs_of}
-use Rattle.lock_tree.proofs.Outcomes.{on_err-any}
+use Rattle.lock_needs.specs.Party.{Party}
+use Rattle.lock_tree.proofs.RoomKept.{room-same, leaves-after}
 use Rattle.lock_tree.proofs.Opened.{still-open, unasked-quiet, got-covered_need}
+use Rattle.vms_locks.specs.declared.answer.Enq.TheVariants.{Granted}
+use Rattle.lock_tree.proofs.OthersLeft.{same-leaves, answer-leaves}
+use Rattle.lock_tree.proofs.MeasureFalls.{left-never, never-steps, ended-falls}
 use Rattle.lock_tree.proofs.parts.Parts.step.Goals as goal
 
 pub get_need-requires-clause-open : goal.get_need-requires-clause-open
@@ -15,17 +19,9 @@ get_need-requires-clause-open c = still-open (state_of c.args.self.now) (state_o
 pub get_need-requires-clause-quiet : goal.get_need-requires-clause-quiet
 get_need-requires-clause-quiet c = unasked-quiet (state_of c.args.self.now) c.args.owner c.args.want c.requires.whole c.requires.opened
 
-pub returns-in_err-get_need-clause-err : goal.returns-in_err-get_need-clause-err
-returns-in_err-get_need-clause-err c =
-    on_err-any _ c.from_residual.result (still-open (state_of c.args.self.now) (state_of c.get_need.new.self) c.args.owner (unasked c.args.want) c.args.want.need c.requires.opened refl c.in_err-get_need.ensures.err)
-
-pub returns-in_err-get_whole-clause-err : goal.returns-in_err-get_whole-clause-err
-returns-in_err-get_whole-clause-err c =
-    on_err-any _ c.from_residual-in_err-get_whole.result (still-open (state_of c.args.self.now) (state_of c.get_whole.new.self) c.args.owner (unasked c.args.want) c.args.want.need c.requires.opened refl c.in_err-get_whole.ensures.err)
-
-pub returns-then-branch-clause-step : goal.returns-then-branch-clause-step
-returns-then-branch-clause-step c =
-    let got = c.in_ok-get_whole.ensures.got c.if-branch.true in (
+pub returns-then-get_whole-clause-step : goal.returns-then-get_whole-clause-step
+returns-then-get_whole-clause-step c =
+    let got = c.get_whole.ensures.got c.if-get_whole.true in (
       got,
       got-covered_need c.get_whole.new.self.locks c.args.owner (needs_of (state_of c.args.self.now) c.args.owner) c.args.want.need
           (subst (IsKept c.get_whole.new.self.locks c.args.owner) got (c.get_whole.ensures.whole.kept c.args.owner)),
@@ -36,5 +32,34 @@ get_whole-requires-clause-uncovered c = sym c.is_covered.ensures ∙ c.if-is_cov
 
 pub ask_node-requires-clause-uncovered : goal.ask_node-requires-clause-uncovered
 ask_node-requires-clause-uncovered c =
-    let left = c.in_ok-get_whole.ensures.left c.if-branch.false in
+    let left = c.get_whole.ensures.left c.if-get_whole.false in
     subst (λ (t : Table). is_covered (granted_at t c.args.owner) c.args.want.need ≡ false) (sym left.1) (sym c.is_covered.ensures ∙ c.if-is_covered.false)
+
+pub ask_node-requires-clause-room : goal.ask_node-requires-clause-room
+ask_node-requires-clause-room c =
+    let left = c.get_whole.ensures.left c.if-get_whole.false in
+    room-same c.args.owner c.args.self.now c.get_whole.new.self (ap (λ (p : Party). p.needs) left.0) left.1 left.2 1 c.requires.room
+
+pub returns-clause-room : goal.returns-clause-room
+returns-clause-room c =
+    let left = c.get_whole.ensures.left c.if-get_whole.false in
+    leaves-after c.args.owner c.args.self.now c.get_whole.new.self c.ask_node.new.self (ap (λ (p : Party). p.needs) left.0) left.1 left.2 c.ask_node.result c.ask_node.ensures.room
+
+pub returns-then-is_covered-clause-progress : goal.returns-then-is_covered-clause-progress
+returns-then-is_covered-clause-progress c =
+    ended-falls (state_of c.args.self.now) (state_of c.get_need.new.self) c.args.owner (unasked c.args.want) c.get_need.ensures.others
+    (same-leaves c.args.self.now.locks c.get_need.new.self.locks c.args.owner c.get_need.ensures.table) c.requires.opened (ap (λ (p : Party). p.opened) c.get_need.ensures.got)
+
+pub returns-then-get_whole-clause-progress : goal.returns-then-get_whole-clause-progress
+returns-then-get_whole-clause-progress c =
+    let taken = c.get_whole.ensures.taken c.if-get_whole.true in
+    ended-falls (state_of c.args.self.now) (state_of c.get_whole.new.self) c.args.owner (unasked c.args.want) c.get_whole.ensures.others
+    (answer-leaves c.args.self.now.locks c.get_whole.new.self.locks c.args.owner c.args.want.here _ false Granted taken.raised) c.requires.opened
+    (ap (λ (p : Party). p.opened) (c.get_whole.ensures.got c.if-get_whole.true))
+
+pub returns-clause-progress : goal.returns-clause-progress
+returns-clause-progress c =
+    let left = c.get_whole.ensures.left c.if-get_whole.false in
+    never-steps (state_of c.args.self.now) (state_of c.get_whole.new.self) (state_of c.ask_node.new.self) c.args.owner
+    (left-never (state_of c.args.self.now) (state_of c.get_whole.new.self) c.args.owner left.1 left.0 c.get_whole.ensures.others)
+    c.ask_node.result c.ask_node.ensures.progress

@@ -1,27 +1,30 @@
 use Rattle.std.proofs.Common.{◌≡◌, refl, ◌∙◌, ap, sym, subst, true, false}
-use Rattle.std.specs.Prelude.{OnOk, unwrap_or}
-use Rattle.lock_needs.specs.declared.party.Party.{Party}
+use Rattle.std.specs.Prelude.{OnOk, OnErr, unwrap_or}
+use Rattle.lock_needs.specs.Party.{Party}
 use Rattle.lock_needs.specs.Keeping.{is_excess}
 use Rattle.lock_needs.specs.Wants.{kept_at}
 use Rattle.lock_tree.specs.LockTable.{granted_at}
-use Rattle.lock_tree.specs.Forest.{State, idle, party_of}
+use Rattle.lock_tree.specs.Forest.{State, IsWhole, idle, party_of}
 use Rattle.lock_tree.specs.Order.{ComesDown}
+use Rattle.lock_tree.specs.Room.{IsAsBefore}
+use Rattle.lock_tree.specs.Progress.{is_spare, Falls, IsServedAt}
+use Rattle.lock_tree.proofs.MeasureFalls.{served-falls}
 use Rattle.lock_tree.proofs.Opened.{whole-kept}
-use Rattle.lock_tree.proofs.Outcomes.{on_ok-more}
+use Rattle.lock_tree.proofs.Outcomes.{on_ok-more, on_err-more}
 use Rattle.lock_tree.proofs.tree.Tree.deliver_notice.Goals as goal
 
 pub returns-in-Some-clause-least : goal.returns-in-Some-clause-least
 returns-in-Some-clause-least c =
-    subst (λ (s : State). OnOk c.serve_notice.result (is_excess (granted_at s.table c.args.to c.args.node) (kept_at (granted_at s.table c.args.to) (party_of s.parties c.args.to) c.args.node) ≡ true
-    → granted_at c.serve_notice.new.locks c.args.to c.args.node ≡ kept_at (granted_at s.table c.args.to) (party_of s.parties c.args.to) c.args.node)) c.self.view_is
-    (subst (λ (p : Party). OnOk c.serve_notice.result (is_excess (granted_at c.self.inside.parts.locks c.args.to c.args.node) (kept_at (granted_at c.self.inside.parts.locks c.args.to) p c.args.node) ≡ true
-    → granted_at c.serve_notice.new.locks c.args.to c.args.node ≡ kept_at (granted_at c.self.inside.parts.locks c.args.to) p c.args.node)) (ap (λ x. unwrap_or x idle) c.in-Some.ensures.value)
-    c.serve_notice.ensures.least)
+    subst (λ (s : State). OnOk c.answer_notice.result (is_excess (granted_at s.table c.args.to c.args.node) (kept_at (granted_at s.table c.args.to) (party_of s.parties c.args.to) c.args.node) ≡ true
+    → granted_at c.answer_notice.new.locks c.args.to c.args.node ≡ kept_at (granted_at s.table c.args.to) (party_of s.parties c.args.to) c.args.node)) c.self.view_is
+    (subst (λ (p : Party). OnOk c.answer_notice.result (is_excess (granted_at c.self.inside.parts.locks c.args.to c.args.node) (kept_at (granted_at c.self.inside.parts.locks c.args.to) p c.args.node) ≡ true
+    → granted_at c.answer_notice.new.locks c.args.to c.args.node ≡ kept_at (granted_at c.self.inside.parts.locks c.args.to) p c.args.node)) (ap (λ x. unwrap_or x idle) c.in-Some.ensures.value)
+    c.answer_notice.ensures.least)
 
 pub returns-in-Some-clause-unchanged : goal.returns-in-Some-clause-unchanged
 returns-in-Some-clause-unchanged c =
-    on_ok-more (is_excess (granted_at c.self.inside.parts.locks c.args.to c.args.node) (kept_at (granted_at c.self.inside.parts.locks c.args.to) c.in-Some.party.now c.args.node) ≡ false → c.serve_notice.new.locks ≡ c.self.inside.parts.locks)
-    _ c.serve_notice.result c.serve_notice.ensures.unchanged
+    on_ok-more (is_excess (granted_at c.self.inside.parts.locks c.args.to c.args.node) (kept_at (granted_at c.self.inside.parts.locks c.args.to) c.in-Some.party.now c.args.node) ≡ false → c.answer_notice.new.locks ≡ c.self.inside.parts.locks)
+    _ c.answer_notice.result c.answer_notice.ensures.unchanged
     (λ f e. ap (λ t. record { table = t; parties = c.self.inside.parts.parties.entries; trail = c.self.inside.parts.trail.items })
     (f (subst (λ (p : Party). is_excess (granted_at c.self.inside.parts.locks c.args.to c.args.node) (kept_at (granted_at c.self.inside.parts.locks c.args.to) p c.args.node) ≡ false) (sym (ap (λ x. unwrap_or x idle) c.in-Some.ensures.value))
     (subst (λ (s : State). is_excess (granted_at s.table c.args.to c.args.node) (kept_at (granted_at s.table c.args.to) (party_of s.parties c.args.to) c.args.node) ≡ false) (sym c.self.view_is) e)))
@@ -30,13 +33,36 @@ returns-in-Some-clause-unchanged c =
 pub invariant_of-self : goal.invariant_of-self
 invariant_of-self c =
     let s : State = record { table = c.self.inside.parts.locks; parties = c.self.inside.parts.parties.entries; trail = c.self.inside.parts.trail.items } in
-    let r : State = record { table = c.serve_notice.new.locks; parties = c.self.inside.parts.parties.entries; trail = c.self.inside.parts.trail.items } in
+    let r : State = record { table = c.answer_notice.new.locks; parties = c.self.inside.parts.parties.entries; trail = c.self.inside.parts.trail.items } in
     whole-kept s r c.args.to c.self.invariant
     (subst (λ (p : Party). ComesDown c.args.to p s.table r.table) (ap (λ x. unwrap_or x idle) c.in-Some.ensures.value) (record {
-      way = c.serve_notice.ensures.way;
-      stands = c.serve_notice.ensures.stands;
-      kept = c.serve_notice.ensures.kept;
-      intents = c.serve_notice.ensures.intents;
-      others = c.serve_notice.ensures.others;
+      way = c.answer_notice.ensures.way;
+      stands = c.answer_notice.ensures.stands;
+      kept = c.answer_notice.ensures.kept;
+      intents = c.answer_notice.ensures.intents;
+      others = c.answer_notice.ensures.others;
     }))
     refl (λ u d. refl) refl
+
+pub returns-in-Some-clause-err : goal.returns-in-Some-clause-err
+returns-in-Some-clause-err c =
+    subst (λ (s : State). OnErr c.answer_notice.result (IsAsBefore s (record { table = c.answer_notice.new.locks; parties = c.self.inside.parts.parties.entries; trail = c.self.inside.parts.trail.items }))) c.self.view_is
+    (on_err-more _ _ c.answer_notice.result c.answer_notice.ensures.err (λ e. record { table = e; parties = λ u. refl; trail = refl }))
+
+pub returns-in-Some-clause-falls : goal.returns-in-Some-clause-falls
+returns-in-Some-clause-falls c =
+    let s : State = record { table = c.self.inside.parts.locks; parties = c.self.inside.parts.parties.entries; trail = c.self.inside.parts.trail.items } in
+    let r : State = record { table = c.answer_notice.new.locks; parties = c.self.inside.parts.parties.entries; trail = c.self.inside.parts.trail.items } in
+    let is : c.in-Some.party.now ≡ party_of s.parties c.args.to = ap (λ x. unwrap_or x idle) c.in-Some.ensures.value in
+    let after : IsWhole r = whole-kept s r c.args.to c.self.invariant
+    (subst (λ (p : Party). ComesDown c.args.to p s.table r.table) is (record {
+      way = c.answer_notice.ensures.way;
+      stands = c.answer_notice.ensures.stands;
+      kept = c.answer_notice.ensures.kept;
+      intents = c.answer_notice.ensures.intents;
+      others = c.answer_notice.ensures.others;
+    }))
+    refl (λ u d. refl) refl in
+    subst (λ (z : State). OnOk c.answer_notice.result (is_spare (granted_at z.table c.args.to) (party_of z.parties c.args.to) c.args.node ≡ true → Falls c.args.to z r)) c.self.view_is
+    (on_ok-more (IsServedAt c.args.to c.in-Some.party.now c.args.node s.table r.table) _ c.answer_notice.result c.answer_notice.ensures.served
+    (λ f x. served-falls s r c.args.to c.args.node c.self.invariant after (λ u. refl) (subst (λ (p : Party). IsServedAt c.args.to p c.args.node s.table r.table) is f) x))

@@ -3,7 +3,7 @@ use Rattle.std.proofs.lemmas.Bool.{false≢true}
 use Rattle.std.specs.Prelude.{is_some}
 use Rattle.vms_queues.specs.declared.lock_mode.Mode.{Mode}
 use Rattle.vms_queues.specs.Modes.{may_share}
-use Rattle.lock_needs.specs.declared.party.Party.{Party}
+use Rattle.lock_needs.specs.Party.{Party}
 use Rattle.lock_tree.specs.LockTable.{sought_at}
 use Rattle.lock_tree.specs.Forest.{State, idle, party_of}
 use Rattle.lock_tree.proofs.HeldModes.{nothing-shares}

@@ -1,0 +1,6 @@
+pub mod Keyed
+pub mod Standing
+pub mod InTurn
+pub mod Giving
+pub mod Wide
+pub mod Losing

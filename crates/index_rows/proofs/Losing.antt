@@ -1,0 +1,145 @@
+-- The access that is chosen leaves out only rows that the tests pass over.
+use Rattle.std.proofs.Common.{◌≡◌, ◌≢◌, ℕ, Bool, true, false, not, ◌&&◌, List, [], ◌∷◌, ◌++◌, Option, Some, None, option_map, unwrap_or, inl, inr, refl, ap, subst, ◌∙◌}
+use Rattle.std.specs.Ordering.{is_lt, is_gt}
+use Rattle.std.specs.Option.{option_or}
+use Rattle.std.specs.List.{AllByRecursion}
+use Rattle.std.specs.Cmp.{tied_itself}
+use Rattle.rdb_types.specs.declared.keys.Dbkey.{Dbkey}
+use Rattle.rdb_meaning.specs.Comparison.{Verdict, chosen, passed_over, undecided}
+use Rattle.rdb_meaning.specs.Contents.{Row, key_of}
+use Rattle.rdo_values.specs.Tree.{Conjunction}
+use Rattle.rdo_values.specs.Filled.{parts_at}
+use Rattle.index_node.specs.Order.{key_order}
+use Rattle.index_node.specs.OrderLaws.{keys_total}
+use Rattle.line_view.specs.Knowledge.{Lines}
+use Rattle.sorted_index.specs.Nodes.{AnyByRecursion}
+use Rattle.access_paths.specs.declared.choice.IndexPath.{IndexPath}
+use Rattle.access_paths.specs.declared.choice.Access.{Access}
+use Rattle.access_paths.specs.declared.choice.Access.TheVariants.{Scan, Find, Range}
+use Rattle.access_paths.specs.Equated.{key_at}
+use Rattle.access_paths.specs.Choice.{access_by_key, first_by_key, access_by_limits, first_limits, first_by_limits, choice}
+use Rattle.access_paths.specs.Reached.{IsWide, Reaches, IsOfRoot}
+use Rattle.access_paths.proofs.Reaching as access
+use Rattle.access_paths.proofs.Rooted.{rooted}
+use Rattle.index_rows.specs.Indexed.{IsIndexOf, AreIndexesOf}
+use Rattle.index_rows.specs.Given.{reached, Serves, LosesNone}
+
+-- ---- the choice for several indexes is that for one of them
+
+-- which of two options
+abbrev either : Option Access → Option Access → Access
+either a b = unwrap_or (option_or a b) Scan
+
+module _ (before : Row) (tests : Conjunction) where
+  abbrev by_key : IndexPath → Option Access
+  by_key x = option_map (access_by_key x.root) (key_at before tests x.fields)
+
+  abbrev by_limits : IndexPath → Option Access
+  by_limits x = access_by_limits x.root (first_limits before tests x.fields)
+
+  key_found : (xs : List IndexPath) (a : Access) → first_by_key before tests xs ≡ Some a → AnyByRecursion (λ x. by_key x ≡ Some a) xs
+  key_found [] a e = absurd (cc)
+  key_found (x ∷ xs) a e =
+      elim (by_key x) as (λ o. by_key x ≡ o → option_or o (first_by_key before tests xs) ≡ Some a → AnyByRecursion (λ x. by_key x ≡ Some a) (x ∷ xs)) [
+        | Some b ↦ λ p f. inl (p ∙ f)
+        | None ↦ λ p f. inr (key_found xs a f)
+      ] refl e
+
+  key_none : (xs : List IndexPath) → first_by_key before tests xs ≡ None → AllByRecursion (λ x. by_key x ≡ None) xs
+  key_none [] e = tt
+  key_none (x ∷ xs) e =
+      elim (by_key x) as (λ o. by_key x ≡ o → option_or o (first_by_key before tests xs) ≡ None → AllByRecursion (λ x. by_key x ≡ None) (x ∷ xs)) [
+        | Some b ↦ λ p f. absurd (cc)
+        | None ↦ λ p f. (p, key_none xs f)
+      ] refl e
+
+  limits_found : (xs : List IndexPath) (a : Access) → first_by_limits before tests xs ≡ Some a → AllByRecursion (λ x. by_key x ≡ None) xs → AnyByRecursion (λ x. (by_key x ≡ None) × (by_limits x ≡ Some a)) xs
+  limits_found [] a e none = absurd (cc)
+  limits_found (x ∷ xs) a e none =
+      elim (by_limits x) as (λ o. by_limits x ≡ o → option_or o (first_by_limits before tests xs) ≡ Some a → AnyByRecursion (λ x. (by_key x ≡ None) × (by_limits x ≡ Some a)) (x ∷ xs)) [
+        | Some b ↦ λ p f. inl (none.0, p ∙ f)
+        | None ↦ λ p f. inr (limits_found xs a f none.1)
+      ] refl e
+
+  module _ (all : Lines) (rows : List (Dbkey × Row)) where
+    serves_by : (root : Dbkey) (positions : List ℕ) (a : Access) → IsOfRoot root a → IsIndexOf all root positions rows → Serves all positions rows a
+    serves_by root positions Scan is index = tt
+    serves_by root positions (Find own key) is index = subst (λ root. IsIndexOf all root positions rows) is index
+    serves_by root positions (Range own bounds) is index = subst (λ root. IsIndexOf all root positions rows) is index
+
+    -- ---- a row that is left out
+
+    within_own : (k wanted : Row) → k ≡ wanted → (not (is_lt (key_order k wanted)) && not (is_gt (key_order k wanted))) ≡ true
+    within_own k wanted same = ap (λ o. not (is_lt o) && not (is_gt o)) (ap (λ k. key_order k wanted) same ∙ tied_itself keys_total wanted)
+
+    reached_one : (x : IndexPath) (e : Dbkey × Row) (a : Access) → Reaches (x ∷ []) e.1 a → reached x.fields a e ≡ true
+    reached_one x e Scan h = refl
+    reached_one x e (Find root wanted) h = elim h as (λ h. reached x.fields (Find root wanted) e ≡ true) [
+      | inl own ↦ within_own (key_of x.fields e.1) wanted own.1
+      | inr none ↦ absurd none
+    ]
+    reached_one x e (Range root bounds) h = elim h as (λ h. reached x.fields (Range root bounds) e ≡ true) [
+      | inl own ↦ own.1
+      | inr none ↦ absurd none
+    ]
+
+    true_false : (b : Bool) → b ≡ true → b ≡ false → ⊥
+    true_false b h k = cc
+
+    passed : (v : Verdict) → (v ≢ passed_over → ⊥) → v ≡ passed_over
+    passed chosen h = absurd (h (λ e. cc))
+    passed passed_over h = refl
+    passed undecided h = absurd (h (λ e. cc))
+
+    left_out : (x : IndexPath) (es : List (Dbkey × Row)) → AllByRecursion (λ e. AllByRecursion IsWide e.1) es → AllByRecursion (λ e. reached x.fields (choice (x ∷ []) before tests) e ≡ false → parts_at (before ++ e.1) tests ≡ passed_over) es
+    left_out x [] wide = tt
+    left_out x (e ∷ es) wide = (
+      λ out. passed (parts_at (before ++ e.1) tests) (λ kept. true_false _ (reached_one x e (choice (x ∷ []) before tests) (access.reached (x ∷ []) tests before e.1 wide.0 kept)) out),
+      left_out x es wide.1,
+    )
+
+    loses_none_by : (x : IndexPath) → IsOfRoot x.root (choice (x ∷ []) before tests) → IsIndexOf all x.root x.fields rows → AllByRecursion (λ e. AllByRecursion IsWide e.1) rows → LosesNone all rows (choice (x ∷ []) before tests) before tests
+    loses_none_by x rooted index wide = record {
+      positions = x.fields;
+      serves = serves_by x.root x.fields (choice (x ∷ []) before tests) rooted index;
+      left_out = left_out x rows wide;
+    }
+
+    all_scanned : (es : List (Dbkey × Row)) → AllByRecursion (λ e. reached [] Scan e ≡ false → parts_at (before ++ e.1) tests ≡ passed_over) es
+    all_scanned [] = tt
+    all_scanned (e ∷ es) = ((λ out. absurd (true_false true refl out)), all_scanned es)
+
+    scan_loses_none : LosesNone all rows Scan before tests
+    scan_loses_none = record { positions = []; serves = tt; left_out = all_scanned rows }
+
+    loses_none_by_some : (xs : List IndexPath) (a : Access) → AreIndexesOf all xs rows → AllByRecursion (λ e. AllByRecursion IsWide e.1) rows → AnyByRecursion (λ x. choice (x ∷ []) before tests ≡ a) xs → LosesNone all rows a before tests
+    loses_none_by_some [] a indexes wide some = absurd some
+    loses_none_by_some (x ∷ xs) a indexes wide some = elim some as (λ s. LosesNone all rows a before tests) [
+      | inl own ↦ subst (λ a. LosesNone all rows a before tests) own (loses_none_by x (rooted before tests x) indexes.0 wide)
+      | inr later ↦ loses_none_by_some xs a indexes.1 wide later
+    ]
+
+    any_mapped : (P Q : IndexPath → Type 0) → ((x : IndexPath) → P x → Q x) → (xs : List IndexPath) → AnyByRecursion P xs → AnyByRecursion Q xs
+    any_mapped P Q f [] h = h
+    any_mapped P Q f (x ∷ xs) h = elim h as (λ h. AnyByRecursion Q (x ∷ xs)) [
+      | inl own ↦ inl (f x own)
+      | inr later ↦ inr (any_mapped P Q f xs later)
+    ]
+
+    key_alone : (a : Access) (x : IndexPath) → by_key x ≡ Some a → choice (x ∷ []) before tests ≡ a
+    key_alone a x e = ap (λ o. either (option_or o None) (option_or (by_limits x) None)) e
+
+    limits_alone : (a : Access) (x : IndexPath) → (by_key x ≡ None) × (by_limits x ≡ Some a) → choice (x ∷ []) before tests ≡ a
+    limits_alone a x e = λ i. either (option_or (e.0 i) None) (option_or (e.1 i) None)
+
+    by_limits_else : (xs : List IndexPath) (l : Option Access) → AreIndexesOf all xs rows → AllByRecursion (λ e. AllByRecursion IsWide e.1) rows → first_by_key before tests xs ≡ None → first_by_limits before tests xs ≡ l → LosesNone all rows (either None l) before tests
+    by_limits_else xs None indexes wide none e = scan_loses_none
+    by_limits_else xs (Some a) indexes wide none e =
+        loses_none_by_some xs a indexes wide (any_mapped (λ x. (by_key x ≡ None) × (by_limits x ≡ Some a)) (λ x. choice (x ∷ []) before tests ≡ a) (limits_alone a) xs (limits_found xs a e (key_none xs none)))
+
+    by_either : (xs : List IndexPath) (k l : Option Access) → AreIndexesOf all xs rows → AllByRecursion (λ e. AllByRecursion IsWide e.1) rows → first_by_key before tests xs ≡ k → first_by_limits before tests xs ≡ l → LosesNone all rows (either k l) before tests
+    by_either xs None l indexes wide e f = by_limits_else xs l indexes wide e f
+    by_either xs (Some a) l indexes wide e f = loses_none_by_some xs a indexes wide (any_mapped (λ x. by_key x ≡ Some a) (λ x. choice (x ∷ []) before tests ≡ a) (key_alone a) xs (key_found xs a e))
+
+pub loses_none : (all : Lines) (rows : List (Dbkey × Row)) (indexes : List IndexPath) (before : Row) (tests : Conjunction) → AreIndexesOf all indexes rows → AllByRecursion (λ e. AllByRecursion IsWide e.1) rows → LosesNone all rows (choice indexes before tests) before tests
+loses_none all rows indexes before tests are wide = by_either before tests all rows indexes (first_by_key before tests indexes) (first_by_limits before tests indexes) are wide refl refl

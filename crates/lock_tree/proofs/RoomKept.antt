@@ -1,0 +1,139 @@
+-- Room that was taken at the start of a call lasts to its end.
+use Rattle.std.proofs.Common.{◌≡◌, ℕ, ◌+◌, ◌*◌, ◌-◌, ◌≤◌, Bool, true, refl, sym, ◌∙◌, ap, subst, inl, inr, List, length, vec_len, vec_capacity, arith}
+use Rattle.std.specs.Prelude.{◌&&◌, ◌==◌, not, if◌then◌else◌, Some}
+use Rattle.std.proofs.lemmas.Bool.{false≢true, and_parts, cases_Bool, eqb-true}
+use Rattle.std.proofs.lemmas.Nat.{mul-le}
+use Rattle.std.proofs.Math.Nat.{le_trans}
+use Rattle.rdb_types.specs.declared.node.Level.{Level}
+use Rattle.rdb_types.specs.declared.node.Level.TheVariants.{Area, Range, Page, Line, Journal}
+use Rattle.rdb_types.specs.declared.node.Node.{Node}
+use Rattle.vms_queues.specs.Modes.{at_most, intent}
+use Rattle.vms_locks.specs.Table.{Table}
+use Rattle.lock_needs.specs.declared.need.Need.{Need}
+use Rattle.lock_needs.specs.declared.party.OpenWant.{OpenWant}
+use Rattle.lock_needs.specs.Party.{Party}
+use Rattle.lock_needs.specs.Nodes.{same_node, is_above, level_over, above_of}
+use Rattle.lock_needs.specs.Needs.{Holding}
+use Rattle.lock_needs.specs.Wants.{mode_for, sleeps_at}
+use Rattle.lock_needs.proofs.Above.{above-contains, above-level}
+use Rattle.lock_needs.proofs.NodeLaws.{contains-above}
+use Rattle.lock_tree.specs.declared.parts.Parts.{Parts}
+use Rattle.lock_tree.specs.declared.answer.Step.{Step}
+use Rattle.lock_tree.specs.declared.answer.Step.TheVariants.{Down, Ends}
+use Rattle.lock_tree.specs.Forest.{State, Parties, KeepsParties, party_of}
+use Rattle.lock_tree.specs.States.{state_of}
+use Rattle.lock_tree.specs.Wanted.{needs_of, Steps}
+use Rattle.lock_tree.specs.Room.{HasRoomFor, LeavesRoom, StaysRoomy, IsAsBefore, is_over_others, has_whole, depth}
+
+-- as many places more or fewer
+times-more : (n k : ℕ) → (n + 1) * k ≡ n * k + k
+times-more n k = grind (arith)
+
+-- ---- from one state to another
+
+module _ (owner : ℕ) (old new : Parts) (needs : needs_of (state_of new) owner ≡ needs_of (state_of old) owner) where
+  -- the same table and trail
+  pub room-same : new.locks ≡ old.locks → new.trail ≡ old.trail → (nodes : ℕ) → HasRoomFor nodes owner old → HasRoomFor nodes owner new
+  room-same locks trail nodes r =
+      record {
+        table = subst (λ (ws : List Need). nodes * (length ws + 1) ≤ new.locks.spare) (sym needs) (subst (λ (t : Table). nodes * (length (needs_of (state_of old) owner) + 1) ≤ t.spare) (sym locks) r.table);
+        trail = subst (λ t. vec_len t + nodes ≤ vec_capacity t) (sym trail) r.trail;
+      }
+
+  -- a trail that was cut
+  pub room-cut : new.locks ≡ old.locks → vec_len new.trail ≤ vec_len old.trail → vec_capacity new.trail ≡ vec_capacity old.trail → (nodes : ℕ) → HasRoomFor nodes owner old → HasRoomFor nodes owner new
+  room-cut locks long capacity nodes r =
+      record {
+        table = subst (λ (ws : List Need). nodes * (length ws + 1) ≤ new.locks.spare) (sym needs) (subst (λ (t : Table). nodes * (length (needs_of (state_of old) owner) + 1) ≤ t.spare) (sym locks) r.table);
+        trail = omega (arith, r.trail, long, capacity);
+      }
+
+  -- room for one node was used
+  pub room-used : old.locks.spare ≤ new.locks.spare + (length (needs_of (state_of old) owner) + 1) → vec_len new.trail ≡ vec_len old.trail + 1 → vec_capacity old.trail ≤ vec_capacity new.trail → (nodes : ℕ) → HasRoomFor (nodes + 1) owner old → HasRoomFor nodes owner new
+  room-used spare long capacity nodes r =
+      let places : ℕ = length (needs_of (state_of old) owner) + 1 in
+      record {
+        table = subst (λ (ws : List Need). nodes * (length ws + 1) ≤ new.locks.spare) (sym needs) (omega (arith, r.table, spare, times-more nodes places));
+        trail = omega (arith, r.trail, long, capacity);
+      }
+
+-- ---- steps
+
+-- what a step down leaves of the needs
+down-needs : (ws : List Need) (s : State) (owner : ℕ) (w v : OpenWant) (wait : Bool) → Steps ws s owner w wait (Down v) → needs_of s owner ≡ ws
+down-needs ws s owner w v wait h = ap (λ (p : Party). p.needs) h.0
+
+module _ (owner : ℕ) (ws : List Need) (w : OpenWant) (wait : Bool) (old new : Parts) (is : needs_of (state_of old) owner ≡ ws) where
+  -- a step that changes neither the table nor the trail
+  pub roomy-on : new.locks ≡ old.locks → new.trail ≡ old.trail → (step : Step) → Steps ws (state_of new) owner w wait step → StaysRoomy owner old new step
+  roomy-on locks trail (Down v) h = room-same owner old new (down-needs ws (state_of new) owner w v wait h ∙ sym is) locks trail
+  roomy-on locks trail (Ends answer) h = tt
+
+-- a step after the table and the trail have stayed
+pub leaves-after : (owner : ℕ) (old mid new : Parts) → needs_of (state_of mid) owner ≡ needs_of (state_of old) owner → mid.locks ≡ old.locks → mid.trail ≡ old.trail → (step : Step) → LeavesRoom owner mid new step → LeavesRoom owner old new step
+leaves-after owner old mid new needs locks trail (Down v) h = λ nodes r. h nodes (room-same owner old mid needs locks trail (nodes + 1) r)
+leaves-after owner old mid new needs locks trail (Ends answer) h = tt
+
+-- a step after room for one node was used
+pub leaves-used : (owner : ℕ) (old mid new : Parts) → needs_of (state_of mid) owner ≡ needs_of (state_of old) owner → old.locks.spare ≤ mid.locks.spare + (length (needs_of (state_of old) owner) + 1) → vec_len mid.trail ≡ vec_len old.trail + 1 → vec_capacity old.trail ≤ vec_capacity mid.trail
+    → (step : Step) → StaysRoomy owner mid new step → LeavesRoom owner old new step
+leaves-used owner old mid new needs spare long capacity (Down v) h = λ nodes r. h nodes (room-used owner old mid needs spare long capacity nodes r)
+leaves-used owner old mid new needs spare long capacity (Ends answer) h = tt
+
+-- ---- nodes on the way
+
+-- there is room for fewer nodes
+pub room-fewer : (owner : ℕ) (p : Parts) (few many : ℕ) → few ≤ many → HasRoomFor many owner p → HasRoomFor few owner p
+room-fewer owner p few many h r =
+    let places : ℕ = length (needs_of (state_of p) owner) + 1 in
+    record { table = le_trans (mul-le few places many places h (omega arith)) r.table; trail = omega (arith, h, r.trail) }
+
+shallow : (l : Level) → depth l ≤ 3
+shallow Area = omega arith
+shallow Range = omega arith
+shallow Page = omega arith
+shallow Line = omega arith
+shallow Journal = omega arith
+
+pub room-one : (owner : ℕ) (p : Parts) (l : Level) → HasRoomFor (4 - depth l) owner p → HasRoomFor 1 owner p
+room-one owner p l r = room-fewer owner p 1 (4 - depth l) (omega (arith, shallow l)) r
+
+pub room-start : (owner : ℕ) (p : Parts) (l : Level) → HasRoomFor 4 owner p → HasRoomFor (4 - depth l) owner p
+room-start owner p l r = room-fewer owner p (4 - depth l) 4 (omega arith) r
+
+lower-level : (l : Level) → is_above (level_over l) l ≡ true → (4 - depth l) + 1 ≡ 4 - depth (level_over l)
+lower-level Range h = refl
+lower-level Page h = refl
+lower-level Line h = refl
+lower-level l h = absurd (false≢true h)
+
+-- one node further down
+lower-left : (n up : Node) → above_of n ≡ Some up → (4 - depth n.level) + 1 ≡ 4 - depth up.level
+lower-left n up e =
+    subst (λ (l : Level). (4 - depth n.level) + 1 ≡ 4 - depth l) (sym (above-level n up e))
+    (lower-level n.level (subst (λ (l : Level). is_above l n.level ≡ true) (above-level n up e) (contains-above up n (above-contains n up e))))
+
+pub room-lower : (owner : ℕ) (old new : Parts) (n up : Node) → above_of n ≡ Some up → ((nodes : ℕ) → HasRoomFor (nodes + 1) owner old → HasRoomFor nodes owner new) → HasRoomFor (4 - depth up.level) owner old → HasRoomFor (4 - depth n.level) owner new
+room-lower owner old new n up e leaves r = leaves (4 - depth n.level) (subst (λ (k : ℕ). HasRoomFor k owner old) (sym (lower-left n up e)) r)
+
+-- a want that sleeps wasn't granted its whole need
+pub asleep-partly : (held : Holding) (w : OpenWant) → sleeps_at held (Some w) w.here ≡ true → has_whole held w ≡ true → ⊥
+asleep-partly held w s h =
+    let p = and_parts (same_node w.here w.here) (w.is_asked && not (at_most (mode_for w.need w.here) (held w.here))) s in
+    let q = and_parts w.is_asked (not (at_most (mode_for w.need w.here) (held w.here))) p.1 in
+    let r = and_parts w.is_asked (is_over_others w && at_most w.need.mode (held w.here)) h in
+    let t = and_parts (is_over_others w) (at_most w.need.mode (held w.here)) r.1 in
+    let here : same_node w.here w.need.node ≡ true = (and_parts (is_above w.here.level Line) (same_node w.here w.need.node) t.0).1 in
+    false≢true (ap not (sym (subst (λ (b : Bool). at_most (if b then w.need.mode else intent w.need.mode) (held w.here) ≡ true) (sym here) t.1)) ∙ q.1)
+
+-- ---- nothing that shows
+
+pub each-as-before : (owner : ℕ) (old new : Parties) → party_of new owner ≡ party_of old owner → KeepsParties owner old new → (u : ℕ) → party_of new u ≡ party_of old u
+each-as-before owner old new own others u =
+    elim (cases_Bool (u == owner)) [
+      | inl e ↦ subst (λ (k : ℕ). party_of new k ≡ party_of old k) (sym (eqb-true u owner e)) own
+      | inr d ↦ others u d
+    ]
+
+pub before-then : (a b c : State) → IsAsBefore a b → IsAsBefore b c → IsAsBefore a c
+before-then a b c h k = record { table = k.table ∙ h.table; parties = λ u. k.parties u ∙ h.parties u; trail = k.trail ∙ h.trail }
