@@ -1,10 +1,11 @@
 -- The access that is chosen leaves out only rows that the tests pass over.
-use Rattle.std.proofs.Common.{◌≡◌, ◌≢◌, ℕ, Bool, true, false, not, ◌&&◌, List, [], ◌∷◌, ◌++◌, Option, Some, None, option_map, unwrap_or, inl, inr, refl, ap, subst, ◌∙◌}
+use Rattle.std.proofs.Common.{◌≡◌, ◌≢◌, ℕ, zero, suc, ◌<◌, Bool, true, false, not, ◌&&◌, List, [], ◌∷◌, ◌++◌, length, slice_index_or, Option, Some, None, option_map, unwrap_or, inl, inr, refl, ap, sym, subst, ◌∙◌, arith}
 use Rattle.std.specs.Ordering.{is_lt, is_gt}
 use Rattle.std.specs.Option.{option_or}
 use Rattle.std.specs.List.{AllByRecursion}
 use Rattle.std.specs.Cmp.{tied_itself}
 use Rattle.rdb_types.specs.declared.keys.Dbkey.{Dbkey}
+use Rattle.rdb_types.specs.declared.values.Value.TheVariants.{Missing}
 use Rattle.rdb_meaning.specs.Comparison.{Verdict, chosen, passed_over, undecided}
 use Rattle.rdb_meaning.specs.Contents.{Row, key_of}
 use Rattle.rdo_values.specs.Tree.{Conjunction}
@@ -12,6 +13,7 @@ use Rattle.rdo_values.specs.Filled.{parts_at}
 use Rattle.index_node.specs.Order.{key_order}
 use Rattle.index_node.specs.OrderLaws.{keys_total}
 use Rattle.line_view.specs.Knowledge.{Lines}
+use Rattle.sorted_index.specs.Keys.{is_within, between}
 use Rattle.sorted_index.specs.Nodes.{AnyByRecursion}
 use Rattle.access_paths.specs.declared.choice.IndexPath.{IndexPath}
 use Rattle.access_paths.specs.declared.choice.Access.{Access}
@@ -21,7 +23,7 @@ use Rattle.access_paths.specs.Choice.{access_by_key, first_by_key, access_by_lim
 use Rattle.access_paths.specs.Reached.{IsWide, Reaches, IsOfRoot}
 use Rattle.access_paths.proofs.Reaching as access
 use Rattle.access_paths.proofs.Rooted.{rooted}
-use Rattle.index_rows.specs.Indexed.{IsIndexOf, AreIndexesOf}
+use Rattle.index_rows.specs.Indexed.{IsIndexOf, HasPositions, AreIndexesOf}
 use Rattle.index_rows.specs.Given.{reached, Serves, LosesNone}
 
 -- ---- the choice for several indexes is that for one of them
@@ -72,14 +74,23 @@ module _ (before : Row) (tests : Conjunction) where
     within_own : (k wanted : Row) → k ≡ wanted → (not (is_lt (key_order k wanted)) && not (is_gt (key_order k wanted))) ≡ true
     within_own k wanted same = ap (λ o. not (is_lt o) && not (is_gt o)) (ap (λ k. key_order k wanted) same ∙ tied_itself keys_total wanted)
 
-    reached_one : (x : IndexPath) (e : Dbkey × Row) (a : Access) → Reaches (x ∷ []) e.1 a → reached x.fields a e ≡ true
-    reached_one x e Scan h = refl
-    reached_one x e (Find root wanted) h = elim h as (λ h. reached x.fields (Find root wanted) e ≡ true) [
-      | inl own ↦ within_own (key_of x.fields e.1) wanted own.1
+    value_there : (row behind : Row) (p : ℕ) → p < length row → slice_index_or (row ++ behind) p Missing ≡ slice_index_or row p Missing
+    value_there [] behind p h = absurd (omega arith)
+    value_there (v ∷ row) behind zero h = refl
+    value_there (v ∷ row) behind (suc p) h = value_there row behind p (omega arith)
+
+    key_there : (positions : List ℕ) (row behind : Row) → HasPositions positions row → key_of positions (row ++ behind) ≡ key_of positions row
+    key_there [] row behind h = refl
+    key_there (p ∷ ps) row behind h = λ i. value_there row behind p h.0 i ∷ key_there ps row behind h.1 i
+
+    reached_one : (x : IndexPath) (e : Dbkey × Row) (behind : Row) (a : Access) → HasPositions x.fields e.1 → Reaches (x ∷ []) (e.1 ++ behind) a → reached x.fields a e ≡ true
+    reached_one x e behind Scan has h = refl
+    reached_one x e behind (Find root wanted) has h = elim h as (λ h. reached x.fields (Find root wanted) e ≡ true) [
+      | inl own ↦ within_own (key_of x.fields e.1) wanted (sym (key_there x.fields e.1 behind has) ∙ own.1)
       | inr none ↦ absurd none
     ]
-    reached_one x e (Range root bounds) h = elim h as (λ h. reached x.fields (Range root bounds) e ≡ true) [
-      | inl own ↦ own.1
+    reached_one x e behind (Range root bounds) has h = elim h as (λ h. reached x.fields (Range root bounds) e ≡ true) [
+      | inl own ↦ ap (is_within (between bounds)) (sym (key_there x.fields e.1 behind has)) ∙ own.1
       | inr none ↦ absurd none
     ]
 
@@ -91,21 +102,30 @@ module _ (before : Row) (tests : Conjunction) where
     passed passed_over h = refl
     passed undecided h = absurd (h (λ e. cc))
 
-    left_out : (x : IndexPath) (es : List (Dbkey × Row)) → AllByRecursion (λ e. AllByRecursion IsWide e.1) es → AllByRecursion (λ e. reached x.fields (choice (x ∷ []) before tests) e ≡ false → parts_at (before ++ e.1) tests ≡ passed_over) es
-    left_out x [] wide = tt
-    left_out x (e ∷ es) wide = (
-      λ out. passed (parts_at (before ++ e.1) tests) (λ kept. true_false _ (reached_one x e (choice (x ∷ []) before tests) (access.reached (x ∷ []) tests before e.1 wide.0 kept)) out),
-      left_out x es wide.1,
+    both_wide : (a b : Row) → AllByRecursion IsWide a → AllByRecursion IsWide b → AllByRecursion IsWide (a ++ b)
+    both_wide [] b h k = k
+    both_wide (v ∷ vs) b h k = (h.0, both_wide vs b h.1 k)
+
+    abbrev IsLeftOut : List ℕ → Access → Dbkey × Row → Type 0
+    IsLeftOut positions a e = reached positions a e ≡ false → (behind : Row) → AllByRecursion IsWide behind → parts_at (before ++ (e.1 ++ behind)) tests ≡ passed_over
+
+    left_out : (x : IndexPath) (es : List (Dbkey × Row)) → AllByRecursion (λ e. HasPositions x.fields e.1) es → AllByRecursion (λ e. AllByRecursion IsWide e.1) es → AllByRecursion (IsLeftOut x.fields (choice (x ∷ []) before tests)) es
+    left_out x [] has wide = tt
+    left_out x (e ∷ es) has wide = (
+      λ out behind more.
+      passed (parts_at (before ++ (e.1 ++ behind)) tests)
+      (λ kept. true_false _ (reached_one x e behind (choice (x ∷ []) before tests) has.0 (access.reached (x ∷ []) tests before (e.1 ++ behind) (both_wide e.1 behind wide.0 more) kept)) out),
+      left_out x es has.1 wide.1,
     )
 
-    loses_none_by : (x : IndexPath) → IsOfRoot x.root (choice (x ∷ []) before tests) → IsIndexOf all x.root x.fields rows → AllByRecursion (λ e. AllByRecursion IsWide e.1) rows → LosesNone all rows (choice (x ∷ []) before tests) before tests
-    loses_none_by x rooted index wide = record {
+    loses_none_by : (x : IndexPath) → IsOfRoot x.root (choice (x ∷ []) before tests) → IsIndexOf all x.root x.fields rows → AllByRecursion (λ e. HasPositions x.fields e.1) rows → AllByRecursion (λ e. AllByRecursion IsWide e.1) rows → LosesNone all rows (choice (x ∷ []) before tests) before tests
+    loses_none_by x rooted index has wide = record {
       positions = x.fields;
       serves = serves_by x.root x.fields (choice (x ∷ []) before tests) rooted index;
-      left_out = left_out x rows wide;
+      left_out = left_out x rows has wide;
     }
 
-    all_scanned : (es : List (Dbkey × Row)) → AllByRecursion (λ e. reached [] Scan e ≡ false → parts_at (before ++ e.1) tests ≡ passed_over) es
+    all_scanned : (es : List (Dbkey × Row)) → AllByRecursion (IsLeftOut [] Scan) es
     all_scanned [] = tt
     all_scanned (e ∷ es) = ((λ out. absurd (true_false true refl out)), all_scanned es)
 
@@ -115,7 +135,7 @@ module _ (before : Row) (tests : Conjunction) where
     loses_none_by_some : (xs : List IndexPath) (a : Access) → AreIndexesOf all xs rows → AllByRecursion (λ e. AllByRecursion IsWide e.1) rows → AnyByRecursion (λ x. choice (x ∷ []) before tests ≡ a) xs → LosesNone all rows a before tests
     loses_none_by_some [] a indexes wide some = absurd some
     loses_none_by_some (x ∷ xs) a indexes wide some = elim some as (λ s. LosesNone all rows a before tests) [
-      | inl own ↦ subst (λ a. LosesNone all rows a before tests) own (loses_none_by x (rooted before tests x) indexes.0 wide)
+      | inl own ↦ subst (λ a. LosesNone all rows a before tests) own (loses_none_by x (rooted before tests x) indexes.0.0 indexes.0.1 wide)
       | inr later ↦ loses_none_by_some xs a indexes.1 wide later
     ]
 

@@ -11,6 +11,7 @@ use Rattle.line_view.specs.declared.need.Need.TheVariants.{Line}
 use Rattle.line_view.specs.declared.need.Stop.{Stop}
 use Rattle.line_view.specs.declared.need.Stop.TheVariants.{Missing, Bad, NoMemory}
 use Rattle.line_view.specs.Knowledge.{Knowledge, Lines}
+use Rattle.access_paths.specs.Reached.{IsWide}
 use Rattle.relation_rows.specs.declared.stored.StoredRow.{StoredRow}
 use Rattle.relation_rows.specs.Stored.{IsNextNeed}
 use Rattle.relation_rows.specs.Relations.{stored_row}
@@ -65,8 +66,9 @@ Gives known area all positions rows access served (Err NoMemory) = Unit {0}
 
 -- ---- what is left out
 
--- The access serves these rows, and leaves out only rows that the tests pass over, where the values before the row are these.
+-- The access serves these rows, and leaves out only rows that the tests pass over, where the values before the row are these, whatever
+-- values stand behind it.
 pub record LosesNone (all : Lines) (rows : List (Dbkey × Row)) (access : Access) (before : Row) (tests : Conjunction) : Type 0 where
   pub positions : List ℕ
   pub serves : Serves all positions rows access
-  pub left_out : AllByRecursion (λ e. reached positions access e ≡ false → parts_at (before ++ e.1) tests ≡ passed_over) rows
+  pub left_out : AllByRecursion (λ e. reached positions access e ≡ false → (behind : Row) → AllByRecursion IsWide behind → parts_at (before ++ (e.1 ++ behind)) tests ≡ passed_over) rows

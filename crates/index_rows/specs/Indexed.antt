@@ -1,5 +1,5 @@
 -- An index of a relation's rows.
-use Rattle.std.specs.Prelude.{◌≡◌, ℕ, List, [], ◌∷◌}
+use Rattle.std.specs.Prelude.{◌≡◌, ℕ, ◌<◌, List, [], ◌∷◌, length}
 use Rattle.std.specs.List.{AllByRecursion}
 use Rattle.rdb_types.specs.declared.keys.Dbkey.{Dbkey}
 use Rattle.rdb_meaning.specs.Contents.{Row, key_of}
@@ -21,6 +21,10 @@ pub record IsIndexOf (all : Lines) (root : Dbkey) (positions : List ℕ) (rows :
   pub is : IsIndex all root level tree
   pub holds : pairs level tree ≡ pairs_of positions rows
 
--- each of these is an index of the rows
+-- the row has a value at each of these positions
+abbrev pub HasPositions : List ℕ → Row → Type 0
+HasPositions positions row = AllByRecursion (λ p. p < length row) positions
+
+-- each of these is an index of the rows, which have values at its positions
 abbrev pub AreIndexesOf : Lines → List IndexPath → List (Dbkey × Row) → Type 0
-AreIndexesOf all indexes rows = AllByRecursion (λ (x : IndexPath). IsIndexOf all x.root x.fields rows) indexes
+AreIndexesOf all indexes rows = AllByRecursion (λ (x : IndexPath). IsIndexOf all x.root x.fields rows × AllByRecursion (λ e. HasPositions x.fields e.1) rows) indexes

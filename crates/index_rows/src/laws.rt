@@ -14,7 +14,7 @@ ghost use Rattle.access_paths.specs.Reached.{IsWide};
 ghost use Rattle.index_rows.specs.Indexed.{AreIndexesOf};
 ghost use Rattle.index_rows.specs.Given.{LosesNone};
 
-/// The access that is chosen for tests serves, and leaves out only rows that the tests pass over.
+/// The access that is chosen for tests serves, and leaves out only rows that the tests pass over, whatever values stand behind them.
 pub fn access_loses_no_row()
     ensures { (all : Lines) (rows : List (Place × Values)) (indexes : List Path) (before : Values) (tests : Conjunction)
         → AreIndexesOf all indexes rows → AllByRecursion (λ e. AllByRecursion IsWide e.1) rows
