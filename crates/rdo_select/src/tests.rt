@@ -374,23 +374,37 @@ fn overflowing(alloc: Global) -> Result<BoundTest, NoMemory> {
     Ok(BoundTest::Compare(Comparison::Greater, total, none))
 }
 
-#[test]
-fn a_false_part_decides_whatever_a_total_is(rt: HostRuntime) -> Result<(), Fail> {
-    let alloc = rt.alloc();
+// What comes of one range under one test or two.
+fn matched(
+    alloc: Global,
+    test: BoundTest,
+    second: Option<BoundTest>,
+) -> Result<Result<FoundTuples, SelectStop>, NoMemory> {
     let fields = fields(alloc)?;
     let sources = sources(alloc, fields.as_slice())?;
     let known = known(alloc)?;
     let outer = Row::new(alloc);
+    let inner = ranging(alloc, None, test, second)?;
+    Ok(matching(alloc, &known, &sources, &inner, &outer))
+}
+
+#[test]
+fn a_false_part_decides_whatever_a_total_is(rt: HostRuntime) -> Result<(), Fail> {
+    let alloc = rt.alloc();
     let never = BoundTest::Compare(
         Comparison::Less,
         field(alloc, 0)?,
         BoundExpression::Number(0, 0),
     );
-    let inner = ranging(alloc, None, never, Some(overflowing(alloc)?))?;
-    let found = matching(alloc, &known, &sources, &inner, &outer);
+    let found = matched(alloc, never, Some(overflowing(alloc)?))?;
     assert!(rt; are_tuples(&found, &[]));
-    let inner = ranging(alloc, None, overflowing(alloc)?, None)?;
-    let found = matching(alloc, &known, &sources, &inner, &outer).err();
+    Ok(())
+}
+
+#[test]
+fn a_total_of_more_than_64_bits_decides_nothing(rt: HostRuntime) -> Result<(), Fail> {
+    let alloc = rt.alloc();
+    let found = matched(alloc, overflowing(alloc)?, None)?.err();
     assert_eq!(rt; found, Some(SelectStop::Overflow));
     Ok(())
 }
