@@ -11,6 +11,10 @@ pub mod Gathering
 pub mod Keeping
 pub mod RowsAtHand
 pub mod SameTuples
+pub mod Alone
+pub mod Accesses
+pub mod Thinned
+pub mod RangesCrossed
 pub mod Ranges
 pub mod Read
 pub mod Orders

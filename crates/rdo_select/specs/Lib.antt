@@ -1,4 +1,5 @@
 pub mod Sources
+pub mod AtHand
 pub mod Asking
 pub mod Chosen
 pub mod Crossed

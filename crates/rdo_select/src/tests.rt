@@ -2,6 +2,7 @@ use crate::{
     FoundTuples, SelectStop, Source, Sources, any_selected, holds_in, matching, select, selected,
     value_in,
 };
+use access_paths::IndexPath;
 use line_view::{Known, Need, PresentLine, Stop};
 use rdb_types::{
     Boxed, Chars, DataType, Dbkey, Field, FieldType, Fields, Image, Items, NoMemory, Row, Scaled,
@@ -33,17 +34,25 @@ fn fields(alloc: Global) -> Result<Fields, NoMemory> {
     Ok(fields)
 }
 
-fn sources(alloc: Global, fields: &[Field]) -> Result<Sources<'_>, NoMemory> {
+fn indexed<'a>(
+    alloc: Global,
+    fields: &'a [Field],
+    indexes: &'a [IndexPath],
+) -> Result<Sources<'a>, NoMemory> {
     let mut sources = Sources::new(alloc);
     let relation = StoredRelation {
         area: 16,
         version: 1,
         fields,
     };
-    let Ok(_) = sources.insert(16, Source { relation }) else {
+    let Ok(_) = sources.insert(16, Source { relation, indexes }) else {
         return Err(NoMemory {});
     };
     Ok(sources)
+}
+
+fn sources(alloc: Global, fields: &[Field]) -> Result<Sources<'_>, NoMemory> {
+    indexed(alloc, fields, &[])
 }
 
 fn at_page(page: u32) -> Dbkey {
@@ -440,5 +449,58 @@ fn a_condition_holds_at_a_row(rt: HostRuntime) -> Result<(), Fail> {
         None => Ok(false),
     };
     assert_eq!(rt; holds, Ok(true));
+    Ok(())
+}
+
+// The root of the index on the number, which is one node: the row on page 4 has none, that on page 3 has 3, and that on page 2 has 7.
+const ROOT: &[u8] =
+    b"\x00\x03\x00\x00\x01\x00\x10\0\0\0\x04\0\0\0\0\0\x09\x01\x03\0\0\0\0\0\0\0\x10\0\0\0\x03\0\0\0\0\0\x09\x01\x07\0\0\0\0\0\0\0\x10\0\0\0\x02\0\0\0\0\0";
+
+fn root() -> Dbkey {
+    Dbkey {
+        area: 17,
+        page: 2,
+        line: 0,
+    }
+}
+
+// An index on the number.
+fn indexes(alloc: Global) -> Result<Items<IndexPath>, NoMemory> {
+    let mut positions = Items::new(alloc);
+    positions.push(0)?;
+    let mut indexes = Items::new(alloc);
+    indexes.push(IndexPath {
+        root: root(),
+        fields: positions,
+    })?;
+    Ok(indexes)
+}
+
+// What comes of the rows with the number 7, which an index finds.
+fn with_seven(alloc: Global, known: &Known) -> Result<Result<FoundTuples, SelectStop>, NoMemory> {
+    let fields = fields(alloc)?;
+    let indexes = indexes(alloc)?;
+    let sources = indexed(alloc, fields.as_slice(), indexes.as_slice())?;
+    let outer = Row::new(alloc);
+    let seven = BoundTest::Compare(
+        Comparison::Equal,
+        field(alloc, 0)?,
+        BoundExpression::Number(7, 0),
+    );
+    let inner = ranging(alloc, None, seven, None)?;
+    Ok(matching(alloc, known, &sources, &inner, &outer))
+}
+
+#[test]
+fn an_index_finds_a_row_of_an_area_that_is_not_known(rt: HostRuntime) -> Result<(), Fail> {
+    let alloc = rt.alloc();
+    let mut known = Known::new(alloc);
+    known.learn_line(root(), Some(Image::from_bytes(ROOT)))?;
+    let found = with_seven(alloc, &known)?.err();
+    assert_eq!(rt; found, Some(SelectStop::Missing(Need::Line(at_page(2)))));
+    let row = Image::from_bytes(b"\x01\x00\x01\x01\x07\0\0\0\0\0\0\0");
+    known.learn_line(at_page(2), Some(row))?;
+    let found = with_seven(alloc, &known)?;
+    assert!(rt; are_tuples(&found, &[&[2]]));
     Ok(())
 }
