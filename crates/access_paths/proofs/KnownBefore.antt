@@ -24,7 +24,7 @@ mutual
       (before_settled start e both.0, before_all_settled start os both.1)
   before_settled start (count r) h = absurd (cc)
   before_settled start (statistic s e r) h = absurd (cc)
-  before_settled start (known e v) h = tt
+  before_settled start (known e v) h = absurd (cc)
 
   pub before_all_settled : (start : ℕ) (os : Operations) → are_before start os ≡ true → AreSettled os
   before_all_settled start no_operation h = tt

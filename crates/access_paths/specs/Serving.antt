@@ -5,7 +5,7 @@ use Rattle.rdo_ast.specs.declared.syntax.Comparison.{Comparison}
 use Rattle.rdo_ast.specs.declared.syntax.Comparison.TheVariants as by
 use Rattle.rdo_values.specs.Tree.{Expression, number, text, field, negative, chain, count, statistic, known, Operations, no_operation, operation, Testing, compare, between, containing, starting_with, missing, any, negated, group, decided, Conjunction, no_test, test}
 
--- each place that the expression reads is before this one, and no statistic is left in it
+-- each place that the expression reads is before this one, and it asks no other selection
 abbrev mutual
   pub is_before : ℕ → Expression → Bool
   is_before start (number n scale) = true
@@ -15,7 +15,7 @@ abbrev mutual
   is_before start (chain e os) = is_before start e && are_before start os
   is_before start (count r) = false
   is_before start (statistic s e r) = false
-  is_before start (known e v) = true
+  is_before start (known e v) = false
 
   pub are_before : ℕ → Operations → Bool
   are_before start no_operation = true

@@ -7,21 +7,21 @@ use rdb_types::FieldType;
 use rdo_ast::syntax::Comparison;
 use rdo_values::{BoundExpression, BoundOperation};
 
-/// Whether each place that an expression reads is before this one, and no statistic is left in it.
+/// Whether each place that an expression reads is before this one, and it asks no other selection.
 #[cycle(before)]
 pub(crate) fn is_before(expr: &BoundExpression, start: usize) -> bool
     ensures { result ≡ is_before_of start (expression_of expr.now) }
 {
     match expr {
-        BoundExpression::Number(_, _) | BoundExpression::Text(_) | BoundExpression::Known(_, _) => {
-            true
-        }
+        BoundExpression::Number(_, _) | BoundExpression::Text(_) => true,
         BoundExpression::Field(reference) => reference.place < start,
         BoundExpression::Negative(operand) => is_before(operand.get(), start),
         BoundExpression::Chain(first, operations) => {
             is_before(first.get(), start) && are_before(operations.as_slice(), start)
         }
-        BoundExpression::Count(_) | BoundExpression::Statistic(_, _, _) => false,
+        BoundExpression::Count(_)
+        | BoundExpression::Statistic(_, _, _)
+        | BoundExpression::Known(_, _) => false,
     }
 }
 
