@@ -123,7 +123,7 @@ impl Tree {
     }
 
     /// Ends the owner's open want, its queued request with it: the locks that it was granted come down to what the owner's needs
-    /// require. Where there is none, nothing changes. Takes no memory, unless the want of a node that contains others has been
+    /// require. Where there is none, nothing changes. As it ends, the measure falls. Takes no memory, unless the want of a node that contains others has been
     /// granted its whole need since it was asked last: what that lock alone covers has then to be taken one level lower, and after
     /// want of memory all is as before.
     pub fn give_up(&mut self, owner: u32) -> Result<(), NoMemory>
@@ -132,6 +132,7 @@ impl Tree {
         ensures others { KeepsParties owner self.old.parties self.new.parties }
         ensures unchanged { (party_of self.old.parties owner).opened ≡ None → self.new ≡ self.old }
         ensures memory { OnErr result (IfSome (party_of self.old.parties owner).opened (λ w. has_whole (granted_at self.old.table owner) w ≡ true)) }
+        ensures falls { is_some (party_of self.old.parties owner).opened ≡ true → OnOk result (Falls owner self.old self.new) }
         ensures err { OnErr result (IsAsBefore self.old self.new) }
     {
         match self.parts.opened_of(owner) {
@@ -160,11 +161,13 @@ impl Tree {
         }
     }
 
-    /// Releases all that the owner holds and asks, and forgets its needs and its open want. Takes no memory.
+    /// Releases all that the owner holds and asks, and forgets its needs and its open want. Where one was open, the measure falls.
+    /// Takes no memory.
     pub fn release_all(&mut self, owner: u32)
         ensures idle { party_of self.new.parties owner ≡ idle }
         ensures none { (n : Node) → granted_at self.new.table owner n ≡ NL }
         ensures others { KeepsParties owner self.old.parties self.new.parties }
+        ensures falls { is_some (party_of self.old.parties owner).opened ≡ true → Falls owner self.old self.new }
     {
         if let Some(party) = self.parts.parties.get(&owner) {
             release_owner(&mut self.parts.locks, owner, party);

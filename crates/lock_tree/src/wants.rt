@@ -4,7 +4,7 @@ ghost use Rattle.std.specs.Prelude.{◌≡◌, ◌+◌, ◌*◌, true, None, Som
 ghost use Rattle.vms_queues.specs.Owners.{is_owner};
 ghost use Rattle.lock_needs.specs.Needs.{is_plain};
 ghost use Rattle.lock_tree.specs.Forest.{IsWhole, KeepsParties, party_of, opened_of as open_want_of};
-ghost use Rattle.lock_tree.specs.Progress.{MovesOn};
+ghost use Rattle.lock_tree.specs.Progress.{Falls, MovesOn};
 ghost use Rattle.lock_tree.specs.States.{state_of};
 ghost use Rattle.lock_tree.specs.Wanted.{needs_of, IsOf, Answered};
 ghost use Rattle.lock_tree.specs.LockTable.{granted_at};
@@ -164,6 +164,7 @@ impl Parts {
 
         ensures ended { OnOk result (party_of self.new.parties.entries owner ≡ resting (needs_of (state_of self.old) owner)) }
         ensures memory { OnErr result (has_whole (granted_at self.old.locks owner) want ≡ true) }
+        ensures falls { OnOk result (Falls owner (state_of self.old) (state_of self.new)) }
         ensures err { OnErr result (IsAsBefore (state_of self.old) (state_of self.new)) }
         ensures whole { IsWhole (state_of self.new) }
         ensures others { KeepsParties owner self.old.parties.entries self.new.parties.entries }
