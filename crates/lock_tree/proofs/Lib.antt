@@ -52,3 +52,4 @@ pub mod MeasureFalls
 pub mod ServedAt
 pub mod OthersLeft
 pub mod NoEndlessFall
+pub mod AtOnce

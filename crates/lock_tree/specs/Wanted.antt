@@ -1,5 +1,5 @@
 -- What a want is answered, and what it leaves.
-use Rattle.std.specs.Prelude.{◌≡◌, ℕ, Bool, true, false, ◌==◌, option_map, Option, Some, None, List, [], ◌∷◌, ◌++◌, ◌⊎◌}
+use Rattle.std.specs.Prelude.{◌≡◌, ℕ, Bool, true, false, ◌==◌, if◌then◌else◌, is_some, option_map, Option, Some, None, List, [], ◌∷◌, ◌++◌, ◌⊎◌}
 use Rattle.std.specs.List.{list_any}
 use Rattle.rdb_types.specs.declared.node.Node.{Node}
 use Rattle.vms_queues.specs.Queues.{is_queued}
@@ -8,13 +8,14 @@ use Rattle.vms_locks.specs.Walks.{IsCycle}
 use Rattle.vms_locks.specs.declared.answer.Enq.TheVariants.{NotQueued, Deadlock as Closes}
 use Rattle.lock_needs.specs.declared.need.Need.{Need}
 use Rattle.lock_needs.specs.declared.party.OpenWant.{OpenWant}
+use Rattle.lock_needs.specs.declared.party.Asked.{Asked}
 use Rattle.lock_needs.specs.Nodes.{above_of}
 use Rattle.lock_needs.specs.Needs.{is_covered}
 use Rattle.lock_needs.specs.Wants.{sleeps_at}
 use Rattle.lock_tree.specs.LockTable.{granted_at}
 use Rattle.lock_tree.specs.Parties.{wanting, resting, unasked}
-use Rattle.lock_tree.specs.Forest.{Parties, State, IsWhole, KeepsParties, open_asks, party_of}
-use Rattle.lock_tree.specs.Order.{asked_last, waits_by_needs}
+use Rattle.lock_tree.specs.Forest.{Parties, State, IsWhole, KeepsParties, open_asks, opened_of, party_of}
+use Rattle.lock_tree.specs.Order.{asked_last, without_asks, waits_by_needs}
 use Rattle.lock_tree.specs.Asking.{HasCause, IsDue}
 use Rattle.lock_tree.specs.declared.answer.Want.{Want}
 use Rattle.lock_tree.specs.declared.answer.Want.TheVariants.{Got, NoticeTo, Asleep, Conflict, Deadlock}
@@ -52,6 +53,21 @@ IsOpen s owner ws need = (w : OpenWant) × IsWanting s owner ws w × (w.need ≡
 abbrev pub IsOf : Need → Option OpenWant → Type 0
 IsOf need None = Unit {0}
 IsOf need (Some w) = w.need ≡ need
+
+-- no want is open, or one that wasn't asked yet at the node that it has come to
+abbrev pub IsLooking : Option OpenWant → Type 0
+IsLooking None = Unit {0}
+IsLooking (Some w) = w.is_asked ≡ false
+
+-- the trail once the owner's want is open: one that opens was asked nowhere yet
+abbrev pub trail_of_want : State → ℕ → List Asked
+trail_of_want s owner = if is_some (opened_of s owner) then s.trail else without_asks owner s.trail
+
+-- The owner's want was got with nothing asked for it: no lock changed, and no request.
+pub record GotAtOnce (owner : ℕ) (s r : State) (answer : Want) : Type 0 where
+  pub got : answer ≡ Got
+  pub table : r.table.entries ≡ s.table.entries
+  pub asks : r.trail ≡ trail_of_want s owner
 
 -- The owner's want is queued, and waits for t by the modes that are held and asked, and by needs.
 pub record SleepsFor (s : State) (owner : ℕ) (w : OpenWant) (t : ℕ) : Type 0 where

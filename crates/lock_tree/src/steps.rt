@@ -12,6 +12,8 @@ ghost use Rattle.lock_tree.specs.Room.{HasSpare, HasRoomFor, LeavesRoom, StaysRo
 ghost use Rattle.lock_tree.specs.Parties.{resting, unasked};
 ghost use Rattle.lock_tree.specs.Forest.{IsWhole, KeepsParties, opened_of, party_of};
 ghost use Rattle.lock_tree.specs.Progress.{LeavesLocks, MovesOn, StepsOn};
+ghost use Rattle.lock_tree.specs.declared.answer.Step.TheVariants.{Ends};
+ghost use Rattle.lock_tree.specs.declared.answer.Want.TheVariants.{Got};
 ghost use Rattle.lock_tree.specs.States.{state_of};
 ghost use Rattle.lock_tree.specs.Wanted.{IsClear, needs_of, IsOpen, Steps, Answered};
 
@@ -211,6 +213,7 @@ impl Parts {
         ensures step { Steps (needs_of (state_of self.old) owner) (state_of self.new) owner want wait result }
         ensures progress { StepsOn owner (state_of self.old) (state_of self.new) result }
         ensures room { LeavesRoom owner self.old self.new result }
+        ensures covered { is_covered (granted_at self.old.locks owner) want.need ≡ true → (result ≡ Ends Got) × (self.new.locks ≡ self.old.locks) × (self.new.trail ≡ self.old.trail) }
         ensures whole { IsWhole (state_of self.new) }
         ensures others { KeepsParties owner self.old.parties.entries self.new.parties.entries }
     {
@@ -234,6 +237,7 @@ impl Parts {
 
         ensures answer { Answered (needs_of (state_of self.old) owner) (state_of self.new) owner want.need wait result }
         ensures progress { MovesOn owner (state_of self.old) (state_of self.new) result }
+        ensures covered { is_covered (granted_at self.old.locks owner) want.need ≡ true → (result ≡ Got) × (self.new.locks ≡ self.old.locks) × (self.new.trail ≡ self.old.trail) }
         ensures whole { IsWhole (state_of self.new) }
         ensures others { KeepsParties owner self.old.parties.entries self.new.parties.entries }
     {

@@ -2,14 +2,14 @@ ghost use Rattle.std.specs.Prelude.{◌≡◌, [], true, false, None, Some, is_s
 ghost use Rattle.rdb_types.specs.declared.node.Node.{Node};
 ghost use Rattle.vms_queues.specs.declared.lock_mode.Mode.TheVariants.{NL};
 ghost use Rattle.vms_queues.specs.Owners.{is_owner};
-ghost use Rattle.lock_needs.specs.Needs.{is_plain};
+ghost use Rattle.lock_needs.specs.Needs.{is_covered, is_plain};
 ghost use Rattle.lock_needs.specs.Keeping.{is_excess};
 ghost use Rattle.lock_needs.specs.Wants.{kept_at};
 ghost use Rattle.lock_tree.specs.LockTable.{granted_at, AllShare};
 ghost use Rattle.lock_tree.specs.Forest.{IsWhole, KeepsParties, NeedsAreApart, idle, party_of, has_need, asks_of};
 ghost use Rattle.lock_tree.specs.Notices.{notice_answer};
 ghost use Rattle.lock_tree.specs.Progress.{is_spare, Falls, MovesOn};
-ghost use Rattle.lock_tree.specs.Wanted.{needs_of, wanted_of, IsOf, Answered};
+ghost use Rattle.lock_tree.specs.Wanted.{needs_of, wanted_of, IsOf, IsLooking, Answered, GotAtOnce};
 ghost use Rattle.lock_tree.specs.Room.{IsAsBefore, has_whole};
 
 use crate::answer::Want;
@@ -61,7 +61,7 @@ impl Tree {
         }
     }
 
-    /// Asks for the need. Where a lock of the owner covers it, it is got. Else a want opens at the topmost node on the way to the
+    /// Asks for the need. Where a lock of the owner covers it, it is got at once, and nothing is asked. Else a want opens at the topmost node on the way to the
     /// need's, and goes down: at each node the whole need is asked where nothing is queued there and it can be granted at once; else
     /// the owner's own lock comes down to what must be kept, and the want's mode is asked, unless a notice is due before. A want that
     /// is open goes on from where it stands; after a notice was delivered it looks again. Where it isn't to wait, what can't be
@@ -76,6 +76,7 @@ impl Tree {
 
         ensures answer { IfOk result (Answered (needs_of self.old owner) self.new owner need wait) }
         ensures progress { is_some (party_of self.old.parties owner).opened ≡ true → IfOk result (MovesOn owner self.old self.new) }
+        ensures covered { is_covered (granted_at self.old.table owner) need ≡ true → IsLooking (party_of self.old.parties owner).opened → IfOk result (GotAtOnce owner self.old self.new) }
         ensures others { KeepsParties owner self.old.parties self.new.parties }
         ensures err { OnErr result (IsAsBefore self.old self.new) }
     {

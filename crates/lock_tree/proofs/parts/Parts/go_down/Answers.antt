@@ -1,5 +1,10 @@
-use Rattle.std.proofs.Common.{◌∙◌, ap}
+use Rattle.std.proofs.Common.{◌≡◌, ◌∙◌, ap, true}
+use Rattle.lock_needs.specs.Needs.{is_covered}
 use Rattle.lock_needs.specs.Party.{Party}
+use Rattle.lock_tree.specs.LockTable.{granted_at}
+use Rattle.lock_tree.specs.declared.parts.Parts.{Parts}
+use Rattle.lock_tree.specs.declared.answer.Want.TheVariants.{Got}
+use Rattle.lock_tree.proofs.AtOnce.{down-ends, same-answer, still}
 use Rattle.lock_tree.proofs.RoomKept.{room-one, room-lower}
 use Rattle.lock_tree.specs.States.{state_of}
 use Rattle.lock_tree.proofs.MeasureFalls.{never-then, never-moves}
@@ -18,8 +23,19 @@ loop-next-preserved c =
       λ u d. c.step.ensures.others u d ∙ c.loop-next.invariant.4 u d,
       room-lower c.args.owner c.loop-next.self c.step.new.self c.in-Down.next.here c.loop-next.want.here step.3 c.in-Down.ensures.room c.loop-next.invariant.5,
       never-then (state_of c.args.self.now) (state_of c.loop-next.self) (state_of c.step.new.self) c.args.owner c.loop-next.invariant.6 c.in-Down.ensures.progress,
+      λ h. absurd (down-ends c.in-Down.next Got (c.in-Down.ensures.covered
+          (still (λ p w. is_covered (granted_at p.locks c.args.owner) w.need ≡ true) c.args.self.now c.loop-next.self c.args.want c.loop-next.want (c.loop-next.invariant.7 h) h)).0),
     )
 
 pub returns-in-Ends-clause-progress : goal.returns-in-Ends-clause-progress
 returns-in-Ends-clause-progress c =
     never-moves (state_of c.args.self.now) (state_of c.loop-next.self) (state_of c.step.new.self) c.args.owner c.loop-next.invariant.6 c.in-Ends.answer c.in-Ends.ensures.progress
+
+pub returns-in-Ends-clause-covered : goal.returns-in-Ends-clause-covered
+returns-in-Ends-clause-covered c = λ h.
+    let e = c.loop-next.invariant.7 h in
+    let got = c.in-Ends.ensures.covered (still (λ p w. is_covered (granted_at p.locks c.args.owner) w.need ≡ true) c.args.self.now c.loop-next.self c.args.want c.loop-next.want e h) in
+    (same-answer c.in-Ends.answer Got got.0, got.1 ∙ ap (λ (p : Parts). p.locks) e.0, got.2 ∙ ap (λ (p : Parts). p.trail) e.0)
+
+pub returns-in-Ends-clause-others : goal.returns-in-Ends-clause-others
+returns-in-Ends-clause-others c = λ u d. c.step.ensures.others u d ∙ c.loop-next.invariant.4 u d

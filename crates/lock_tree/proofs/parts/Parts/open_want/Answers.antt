@@ -4,6 +4,7 @@ use Rattle.lock_needs.specs.declared.need.Need.{Need}
 use Rattle.lock_needs.specs.declared.party.OpenWant.{OpenWant}
 use Rattle.lock_needs.specs.Party.{Party}
 use Rattle.lock_needs.specs.Nodes.{is_on}
+use Rattle.lock_needs.specs.Needs.{is_covered}
 use Rattle.lock_tree.specs.LockTable.{granted_at, sought_at}
 use Rattle.lock_tree.specs.Parties.{IsKept, wanting, unasked}
 use Rattle.lock_tree.specs.Order.{StandsByNeeds, asked_of_want}
@@ -19,6 +20,7 @@ use Rattle.lock_tree.proofs.StepsInOrder.{stands-opens}
 use Rattle.lock_tree.proofs.OpenAsks.{opened-opens, cut-fresh}
 use Rattle.lock_tree.proofs.Opened.{as-resting, whole-same}
 use Rattle.lock_tree.proofs.RoomKept.{room-cut, room-start, each-as-before}
+use Rattle.lock_tree.proofs.AtOnce.{opened-trail}
 use Rattle.lock_tree.proofs.parts.Parts.open_want.Goals as goal
 
 pub returns-in_err-open_for-clause-whole : goal.returns-in_err-open_for-clause-whole
@@ -66,3 +68,13 @@ go_down-requires-clause-whole c =
 
 pub returns-clause-others : goal.returns-clause-others
 returns-clause-others c = λ u d. c.go_down.ensures.others u d ∙ (c.open_for.ensures.others u d ∙ c.admit.ensures.same u)
+
+pub returns-clause-covered : goal.returns-clause-covered
+returns-clause-covered c = λ h.
+    let w : OpenWant = c.opening-want.result in
+    let got = c.go_down.ensures.covered (subst (λ (n : Need). is_covered (granted_at c.args.self.now.locks c.args.owner) n ≡ true) (sym c.opening-want.ensures.need) h) in
+    record {
+      got = got.0;
+      table = ap (λ t. t.entries) got.1;
+      asks = ap (λ v. v.items) got.2 ∙ opened-trail (state_of c.args.self.now) c.args.owner w c.cut_asks.new.trail.items c.requires.resting c.cut_asks.ensures.cut (never-asked w c.opening-want.ensures.unasked c.opening-want.ensures.top);
+    }
