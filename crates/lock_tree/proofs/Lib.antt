@@ -53,3 +53,4 @@ pub mod ServedAt
 pub mod OthersLeft
 pub mod NoEndlessFall
 pub mod AtOnce
+pub mod TakingWhole

@@ -9,7 +9,7 @@ ghost use Rattle.lock_tree.specs.LockTable.{granted_at, AllShare};
 ghost use Rattle.lock_tree.specs.Forest.{IsWhole, KeepsParties, NeedsAreApart, idle, party_of, has_need, asks_of};
 ghost use Rattle.lock_tree.specs.Notices.{notice_answer};
 ghost use Rattle.lock_tree.specs.Progress.{is_spare, Falls, MovesOn};
-ghost use Rattle.lock_tree.specs.Wanted.{needs_of, wanted_of, IsOf, IsLooking, Answered, GotAtOnce};
+ghost use Rattle.lock_tree.specs.Wanted.{MayTakeWhole, needs_of, wanted_of, IsOf, IsLooking, Answered, GotAtOnce, GotWhole, want_of};
 ghost use Rattle.lock_tree.specs.Room.{IsAsBefore, has_whole};
 
 use crate::answer::Want;
@@ -62,7 +62,7 @@ impl Tree {
     }
 
     /// Asks for the need. Where a lock of the owner covers it, it is got at once, and nothing is asked. Else a want opens at the topmost node on the way to the
-    /// need's, and goes down: at each node the whole need is asked where nothing is queued there and it can be granted at once; else
+    /// need's, and goes down: at each node the whole need is taken where nothing is queued there and it can be granted at once; else
     /// the owner's own lock comes down to what must be kept, and the want's mode is asked, unless a notice is due before. A want that
     /// is open goes on from where it stands; after a notice was delivered it looks again. Where it isn't to wait, what can't be
     /// granted is refused. Who sleeps or is refused waits by needs, or would wait so, for whom the answer names: by the needs that
@@ -77,6 +77,7 @@ impl Tree {
         ensures answer { IfOk result (Answered (needs_of self.old owner) self.new owner need wait) }
         ensures progress { is_some (party_of self.old.parties owner).opened ≡ true → IfOk result (MovesOn owner self.old self.new) }
         ensures covered { is_covered (granted_at self.old.table owner) need ≡ true → IsLooking (party_of self.old.parties owner).opened → IfOk result (GotAtOnce owner self.old self.new) }
+        ensures strong { let w = want_of (party_of self.old.parties owner).opened need in is_covered (granted_at self.old.table owner) need ≡ false → IsLooking (party_of self.old.parties owner).opened → MayTakeWhole self.old.table owner w → IfOk result (GotWhole owner w self.old self.new) }
         ensures others { KeepsParties owner self.old.parties self.new.parties }
         ensures err { OnErr result (IsAsBefore self.old self.new) }
     {

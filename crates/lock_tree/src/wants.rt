@@ -1,12 +1,12 @@
 //! Wants, from their opening on.
 
-ghost use Rattle.std.specs.Prelude.{◌≡◌, ◌+◌, ◌*◌, true, None, Some, is_some, length, IfOk, IfSome, OnOk, OnErr};
+ghost use Rattle.std.specs.Prelude.{◌≡◌, ◌+◌, ◌*◌, true, false, None, Some, is_some, length, IfOk, IfSome, OnOk, OnErr};
 ghost use Rattle.vms_queues.specs.Owners.{is_owner};
 ghost use Rattle.lock_needs.specs.Needs.{is_covered, is_plain};
 ghost use Rattle.lock_tree.specs.Forest.{IsWhole, KeepsParties, party_of, opened_of as open_want_of};
 ghost use Rattle.lock_tree.specs.Progress.{Falls, MovesOn};
 ghost use Rattle.lock_tree.specs.States.{state_of};
-ghost use Rattle.lock_tree.specs.Wanted.{needs_of, IsOf, IsLooking, Answered, GotAtOnce};
+ghost use Rattle.lock_tree.specs.Wanted.{MayTakeWhole, needs_of, IsOf, IsLooking, Answered, GotAtOnce, GotWhole, opening_of, want_of};
 ghost use Rattle.lock_tree.specs.LockTable.{granted_at};
 ghost use Rattle.lock_tree.specs.Parties.{resting};
 ghost use Rattle.lock_tree.specs.Room.{HasRoomFor, HasSpare, IsAsBefore, has_whole};
@@ -75,6 +75,7 @@ impl Parts {
 
         ensures answer { IfOk result (Answered (needs_of (state_of self.old) owner) (state_of self.new) owner need wait) }
         ensures covered { is_covered (granted_at self.old.locks owner) need ≡ true → IfOk result (GotAtOnce owner (state_of self.old) (state_of self.new)) }
+        ensures strong { is_covered (granted_at self.old.locks owner) need ≡ false → MayTakeWhole self.old.locks owner (opening_of need) → IfOk result (GotWhole owner (opening_of need) (state_of self.old) (state_of self.new)) }
         ensures err { OnErr result (IsAsBefore (state_of self.old) (state_of self.new)) }
         ensures whole { IsWhole (state_of self.new) }
         ensures others { KeepsParties owner self.old.parties.entries self.new.parties.entries }
@@ -117,6 +118,7 @@ impl Parts {
         ensures answer { IfOk result (Answered (needs_of (state_of self.old) owner) (state_of self.new) owner need wait) }
         ensures progress { is_some (open_want_of (state_of self.old) owner) ≡ true → IfOk result (MovesOn owner (state_of self.old) (state_of self.new)) }
         ensures covered { is_covered (granted_at self.old.locks owner) need ≡ true → IsLooking (open_want_of (state_of self.old) owner) → IfOk result (GotAtOnce owner (state_of self.old) (state_of self.new)) }
+        ensures strong { let w = want_of (open_want_of (state_of self.old) owner) need in is_covered (granted_at self.old.locks owner) need ≡ false → IsLooking (open_want_of (state_of self.old) owner) → MayTakeWhole self.old.locks owner w → IfOk result (GotWhole owner w (state_of self.old) (state_of self.new)) }
         ensures err { OnErr result (IsAsBefore (state_of self.old) (state_of self.new)) }
         ensures whole { IsWhole (state_of self.new) }
         ensures others { KeepsParties owner self.old.parties.entries self.new.parties.entries }
@@ -138,6 +140,7 @@ impl Parts {
         ensures answer { IfOk result (Answered (needs_of (state_of self.old) owner) (state_of self.new) owner need wait) }
         ensures progress { is_some (open_want_of (state_of self.old) owner) ≡ true → IfOk result (MovesOn owner (state_of self.old) (state_of self.new)) }
         ensures covered { is_covered (granted_at self.old.locks owner) need ≡ true → IsLooking (open_want_of (state_of self.old) owner) → IfOk result (GotAtOnce owner (state_of self.old) (state_of self.new)) }
+        ensures strong { let w = want_of (open_want_of (state_of self.old) owner) need in is_covered (granted_at self.old.locks owner) need ≡ false → IsLooking (open_want_of (state_of self.old) owner) → MayTakeWhole self.old.locks owner w → IfOk result (GotWhole owner w (state_of self.old) (state_of self.new)) }
         ensures err { OnErr result (IsAsBefore (state_of self.old) (state_of self.new)) }
         ensures whole { IsWhole (state_of self.new) }
         ensures others { KeepsParties owner self.old.parties.entries self.new.parties.entries }

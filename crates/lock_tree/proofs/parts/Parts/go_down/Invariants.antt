@@ -1,12 +1,11 @@
-use Rattle.std.proofs.Common.{◌≡◌, ◌-◌, true, Some}
-use Rattle.lock_needs.specs.Needs.{is_covered}
-use Rattle.lock_tree.specs.LockTable.{granted_at}
+use Rattle.std.proofs.Common.{◌≡◌, ◌-◌, Some}
 use Rattle.lock_tree.specs.Parties.{unasked}
 use Rattle.lock_tree.specs.Forest.{IsWhole, KeepsParties, opened_of}
 use Rattle.lock_tree.specs.Progress.{NeverRises}
 use Rattle.lock_tree.specs.States.{state_of}
 use Rattle.lock_tree.specs.Wanted.{needs_of}
 use Rattle.lock_tree.specs.Room.{HasRoomFor}
+use Rattle.lock_tree.proofs.AtOnce.{EndsHere}
 use Rattle.lock_tree.proofs.Depths.{depth}
 use Rattle.lock_tree.proofs.parts.Parts.go_down.Given as goal
 
@@ -15,8 +14,8 @@ invariant-loop-next l =
     IsWhole (state_of l.self) × (opened_of (state_of l.self) l.owner ≡ Some (unasked l.want)) × (l.want.need ≡ l.fn.want.need)
     × (needs_of (state_of l.self) l.owner ≡ needs_of (state_of l.fn.self) l.owner) × KeepsParties l.owner l.fn.self.parties.entries l.self.parties.entries
     × HasRoomFor (4 - depth l.want.here.level) l.owner l.self × NeverRises l.owner (state_of l.fn.self) (state_of l.self)
-    -- a need that is covered is got by the first step
-    × (is_covered (granted_at l.fn.self.locks l.owner) l.fn.want.need ≡ true → (l.self ≡ l.fn.self) × (l.want ≡ l.fn.want))
+    -- where the want can end at once, this is the first step
+    × (EndsHere l.owner l.fn.self l.fn.want → (l.self ≡ l.fn.self) × (l.want ≡ l.fn.want))
 
 abbrev pub decreases-loop-next : goal.decreases-loop-next
 decreases-loop-next l = 3 - depth l.want.here.level

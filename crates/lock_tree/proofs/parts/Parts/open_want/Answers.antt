@@ -7,10 +7,10 @@ use Rattle.lock_needs.specs.Nodes.{is_on}
 use Rattle.lock_needs.specs.Needs.{is_covered}
 use Rattle.lock_tree.specs.LockTable.{granted_at, sought_at}
 use Rattle.lock_tree.specs.Parties.{IsKept, wanting, unasked}
-use Rattle.lock_tree.specs.Order.{StandsByNeeds, asked_of_want}
+use Rattle.lock_tree.specs.Order.{StandsByNeeds, asked_of_want, asked_last}
 use Rattle.lock_tree.specs.Forest.{State, open_asks, party_of}
 use Rattle.lock_tree.specs.States.{state_of}
-use Rattle.lock_tree.specs.Wanted.{needs_of}
+use Rattle.lock_tree.specs.Wanted.{MayTakeWhole, GotWhole, needs_of}
 use Rattle.lock_tree.proofs.Outcomes.{on_err-any}
 use Rattle.lock_tree.proofs.Trails.{asks-opening, never-asked}
 use Rattle.lock_tree.proofs.Wanting.{opens}
@@ -78,3 +78,15 @@ returns-clause-covered c = λ h.
       table = ap (λ t. t.entries) got.1;
       asks = ap (λ v. v.items) got.2 ∙ opened-trail (state_of c.args.self.now) c.args.owner w c.cut_asks.new.trail.items c.requires.resting c.cut_asks.ensures.cut (never-asked w c.opening-want.ensures.unasked c.opening-want.ensures.top);
     }
+
+pub returns-clause-strong : goal.returns-clause-strong
+returns-clause-strong c = λ bare may.
+    let s : State = state_of c.args.self.now in
+    let o = c.args.owner in
+    let w : OpenWant = c.opening-want.result in
+    let got = c.go_down.ensures.strong (subst (λ (n : Need). is_covered (granted_at s.table o) n ≡ false) (sym c.opening-want.ensures.need) bare) (subst (MayTakeWhole s.table o) (sym c.opening-want.ensures.value) may) in
+    subst (λ (v : OpenWant). GotWhole o v s (state_of c.go_down.new.self) c.go_down.result) c.opening-want.ensures.value (record {
+      got = got.0;
+      raised = got.1;
+      asks = got.2 ∙ ap (λ trail. asked_last trail o w.here) (opened-trail s o w c.cut_asks.new.trail.items c.requires.resting c.cut_asks.ensures.cut (never-asked w c.opening-want.ensures.unasked c.opening-want.ensures.top));
+    })
