@@ -61,14 +61,14 @@ impl Tree {
         }
     }
 
-    /// Asks for the need. Where a lock of the owner covers it, it is got at once, and nothing is asked. Else a want opens at the topmost node on the way to the
-    /// need's, and goes down: at each node the whole need is taken where nothing is queued there and it can be granted at once; else
-    /// the owner's own lock comes down to what must be kept, and the want's mode is asked, unless a notice is due before. A want that
-    /// is open goes on from where it stands; after a notice was delivered it looks again. Where it isn't to wait, what can't be
-    /// granted is refused. Who sleeps or is refused waits by needs, or would wait so, for whom the answer names: by the needs that
-    /// others have got, the wants that are open, and the order in which these were asked. All memory is taken before the first
-    /// change: after want of memory all is as before. A want that is open never raises the measure that each notice lowers, and where
-    /// it ends, the measure falls: so no lock goes to and fro.
+    /// Asks for the need. Where a lock of the owner covers it, it is got at once, and nothing is asked. Else a want opens at the
+    /// topmost node on the way to the need's, and goes down: at each node the whole need is taken where nothing is queued there and
+    /// it can be granted at once; else the owner's own lock comes down to what must be kept, and the want's mode is asked, unless a
+    /// notice is due before. A want that is open goes on from where it stands; after a notice was delivered it looks again. Where it
+    /// isn't to wait, what can't be granted is refused. Who sleeps or is refused waits by needs, or would wait so, for whom the
+    /// answer names: by the needs that others have got, the wants that are open, and the order in which these were asked. All memory
+    /// is taken before the first change: after want of memory all is as before. A want that is open never raises the measure that
+    /// each notice lowers, and where it ends, the measure falls: so no lock goes to and fro.
     pub fn want(&mut self, owner: u32, need: Need, wait: bool) -> Result<Want, NoMemory>
         requires owner { is_owner owner ≡ true }
         requires plain { is_plain need ≡ true }
@@ -125,9 +125,9 @@ impl Tree {
     }
 
     /// Ends the owner's open want, its queued request with it: the locks that it was granted come down to what the owner's needs
-    /// require. Where there is none, nothing changes. As it ends, the measure falls. Takes no memory, unless the want of a node that contains others has been
-    /// granted its whole need since it was asked last: what that lock alone covers has then to be taken one level lower, and after
-    /// want of memory all is as before.
+    /// require. Where there is none, nothing changes. As it ends, the measure falls. Takes no memory, unless the want of a node that
+    /// contains others has been granted its whole need since it was asked last: what that lock alone covers has then to be taken one
+    /// level lower, and after want of memory all is as before.
     pub fn give_up(&mut self, owner: u32) -> Result<(), NoMemory>
         ensures ended { OnOk result ((party_of self.new.parties owner).opened ≡ None) }
         ensures needs { (party_of self.new.parties owner).needs ≡ (party_of self.old.parties owner).needs }
