@@ -1,5 +1,5 @@
 -- A mode that is free and bars nobody is granted at once and adds no wait.
-use Rattle.std.proofs.Common.{◌≡◌, ℕ, inl, inr, [], Bool, true, false, ◌∙◌, sym, ap, subst}
+use Rattle.std.proofs.Common.{◌≡◌, ℕ, inl, inr, [], Bool, true, false, refl, ◌∙◌, sym, ap, subst}
 use Rattle.std.specs.Prelude.{◌==◌, not, ◌&&◌, if◌then◌else◌, Some, None, Option, unwrap_or}
 use Rattle.std.proofs.lemmas.Bool.{false≢true, ne_eqb, and_from, or_parts, or_cases, or_left, or_right, not_from_false}
 use Rattle.rdb_types.specs.declared.node.Node.{Node}
@@ -16,6 +16,7 @@ use Rattle.vms_locks.specs.Answers.{Request, Answers, asking}
 use Rattle.vms_locks.specs.declared.answer.Enq.{Enq}
 use Rattle.vms_locks.specs.declared.answer.Enq.TheVariants.{Granted, Asleep, NotQueued, Deadlock}
 use Rattle.lock_tree.specs.LockTable.{granted_in, sought_in, granted_at, IsFree, BarsNobody, RaisedAt}
+use Rattle.lock_tree.specs.Asking.{was_granted}
 use Rattle.lock_tree.proofs.QueueModes.{mode-absent}
 use Rattle.lock_tree.proofs.HeldModes.{nothing-shares, fits-modes, each-held, BlocksNoMoreOf, blocked-kept, conversion_waits-kept, request_waits-kept, mode-has_owner, no-mode_absent, raises-mode}
 use Rattle.lock_tree.proofs.Changes.{changed-lock, changed-mode, raised-at}
@@ -73,6 +74,12 @@ granted-only old new owner n wait request Granted g h = h.1
 granted-only old new owner n wait request Asleep g h = absurd (false≢true (sym h.0 ∙ g))
 granted-only old new owner n wait request (NotQueued b) g h = absurd (false≢true (sym h.0 ∙ g))
 granted-only old new owner n wait request (Deadlock c) g h = absurd (false≢true (sym h.0 ∙ g))
+
+pub grantable-granted : (old new : Table) (owner : ℕ) (n : Node) (wait : Bool) (request : Request) (answer : Enq) → request.grantable ≡ true → Answers old new owner n wait request answer → was_granted answer ≡ true
+grantable-granted old new owner n wait request Granted g h = refl
+grantable-granted old new owner n wait request Asleep g h = absurd (false≢true (sym h.0 ∙ g))
+grantable-granted old new owner n wait request (NotQueued b) g h = absurd (false≢true (sym h.0 ∙ g))
+grantable-granted old new owner n wait request (Deadlock c) g h = absurd (false≢true (sym h.0 ∙ g))
 
 module _ (old new : Table) (owner : ℕ) (n : Node) (mode : Mode) (live : IsLive (queues_at old)) (quiet : is_queued owner (queues_at old n) ≡ false) where
   pub absent-quiet : mode_in owner (queues_at old n).granted ≡ None → is_absent owner (queues_at old n) ≡ true

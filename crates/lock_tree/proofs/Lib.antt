@@ -52,3 +52,5 @@ pub mod MeasureFalls
 pub mod ServedAt
 pub mod OthersLeft
 pub mod NoEndlessFall
+pub mod AtOnce
+pub mod TakingWhole

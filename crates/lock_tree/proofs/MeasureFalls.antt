@@ -1,9 +1,9 @@
 -- The measure falls where a stronger lock than needed comes down, and where an open want comes further or ends.
 use Rattle.std.proofs.Common.{◌≡◌, ℕ, ◌+◌, ◌*◌, ◌-◌, ◌<◌, ◌≤◌, Bool, true, false, sym, ap, subst, inl, inr, refl, List, [], ◌∷◌, ◌∙◌, arith, Result, Ok, Err}
-use Rattle.std.specs.Prelude.{IfOk, ◌==◌, if◌then◌else◌, Option, Some, None}
+use Rattle.std.specs.Prelude.{IfOk, is_some, ◌==◌, if◌then◌else◌, Option, Some, None}
 use Rattle.std.specs.List.{sum_by, count_by}
 use Rattle.std.proofs.Math.Nat.{le_of_eq, le_of_lt}
-use Rattle.std.proofs.lemmas.Bool.{cases_Bool, eqb-true}
+use Rattle.std.proofs.lemmas.Bool.{false≢true, cases_Bool, eqb-true}
 use Rattle.std.proofs.lemmas.List.Sums.{sum_by-le-sum_by}
 use Rattle.rdb_types.specs.declared.node.Level.{Level}
 use Rattle.rdb_types.specs.declared.node.Level.TheVariants.{Area, Range, Page, Line, Journal}
@@ -131,7 +131,7 @@ never-then s m r owner f g us has = most-trans (measure us r) (measure us m) (me
 pub falls-never : (s r : State) (owner : ℕ) → Falls owner s r → NeverRises owner s r
 falls-never s r owner f us has = inr (f us has)
 
-never-falls : (s m r : State) (owner : ℕ) → NeverRises owner s m → Falls owner m r → Falls owner s r
+pub never-falls : (s m r : State) (owner : ℕ) → NeverRises owner s m → Falls owner m r → Falls owner s r
 never-falls s m r owner f g us has = less-most (measure us r) (measure us m) (measure us s) (g us has) (f us has)
 
 pub never-moves : (s m r : State) (owner : ℕ) → NeverRises owner s m → (answer : Want) → MovesOn owner m r answer → MovesOn owner s r answer
@@ -206,6 +206,16 @@ ended-fewer s r owner w o q =
 -- the want has ended, and no lock of another is weaker
 pub ended-falls : (s r : State) (owner : ℕ) (w : OpenWant) → KeepsParties owner s.parties r.parties → LeavesLocks owner s.table r.table → opened_of s owner ≡ Some w → opened_of r owner ≡ None → Falls owner s r
 ended-falls s r owner w same locks o q = fewer-falls s r owner (record { parties = same; locks = locks }) (ended-fewer s r owner w o q)
+
+-- the owner had a want open and has none, and no lock of another is weaker
+pub closed-falls : (s r : State) (owner : ℕ) → LeavesOthers owner s r → is_some (opened_of s owner) ≡ true → opened_of r owner ≡ None → Falls owner s r
+closed-falls s r owner l open_ q =
+    let o = some-want (opened_of s owner) open_ in
+    fewer-falls s r owner l (ended-fewer s r owner o.0 o.1 q)
+  where
+    some-want : (o : Option OpenWant) → is_some o ≡ true → (w : OpenWant) × (o ≡ Some w)
+    some-want (Some w) h = (w, refl)
+    some-want None h = absurd (false≢true h)
 
 -- the want was asked at its node, and was granted there or is queued
 pub asked-never : (s r : State) (owner : ℕ) (w : OpenWant) → LeavesOthers owner s r → opened_of s owner ≡ Some (unasked w) → opened_of r owner ≡ Some (asked_at w w.here) → NeverRises owner s r

@@ -80,13 +80,17 @@ HasCause t ps owner w answer = Unit {0}
 abbrev pub TakesWhole : ℕ → OpenWant → Table → Table → Type 0
 TakesWhole owner w old new = (ws : List Need) → IsKept old owner (wanting ws (unasked w)) → IsKept new owner (resting (ws ++ w.need ∷ []))
 
+-- the least mode that joins the owner's lock at the node of its want and the whole need
+abbrev pub whole_mode : Table → ℕ → OpenWant → Mode
+whole_mode t owner w = least_above (granted_at t owner w.here) w.need.mode
+
 -- The owner's lock at the node of its want was raised to the least mode that joins it and the want's whole need, at a moment when
 -- the queues were sound and settled.
 pub record HasTakenWhole (owner : ℕ) (w : OpenWant) (old new : Table) : Type 0 where
   pub live : IsLive (queues_at old)
   pub live_after : IsLive (queues_at new)
-  pub exact : Answers old new owner w.here false (request_at old owner w.here (least_above (granted_at old owner w.here) w.need.mode)) Granted
-  pub raised : RaisedAt old new owner w.here (least_above (granted_at old owner w.here) w.need.mode)
+  pub exact : Answers old new owner w.here false (request_at old owner w.here (whole_mode old owner w)) Granted
+  pub raised : RaisedAt old new owner w.here (whole_mode old owner w)
 
 -- The lock of u at the want's node is in the way of the mode that the want asks there, and stronger than it has to be; it is the
 -- first of those.

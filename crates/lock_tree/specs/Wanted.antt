@@ -1,6 +1,8 @@
 -- What a want is answered, and what it leaves.
-use Rattle.std.specs.Prelude.{◌≡◌, ℕ, Bool, true, false, ◌==◌, option_map, Option, Some, None, List, [], ◌∷◌, ◌++◌, ◌⊎◌}
+use Rattle.std.specs.Prelude.{◌≡◌, ℕ, Bool, true, false, ◌==◌, if◌then◌else◌, is_some, option_map, Option, Some, None, List, [], ◌∷◌, ◌++◌, ◌⊎◌}
 use Rattle.std.specs.List.{list_any}
+use Rattle.rdb_types.specs.declared.node.Level.{Level}
+use Rattle.rdb_types.specs.declared.node.Level.TheVariants.{Area, Journal}
 use Rattle.rdb_types.specs.declared.node.Node.{Node}
 use Rattle.vms_queues.specs.Queues.{is_queued}
 use Rattle.vms_locks.specs.Table.{Table, queues_at, WaitsIn}
@@ -8,14 +10,15 @@ use Rattle.vms_locks.specs.Walks.{IsCycle}
 use Rattle.vms_locks.specs.declared.answer.Enq.TheVariants.{NotQueued, Deadlock as Closes}
 use Rattle.lock_needs.specs.declared.need.Need.{Need}
 use Rattle.lock_needs.specs.declared.party.OpenWant.{OpenWant}
-use Rattle.lock_needs.specs.Nodes.{above_of}
+use Rattle.lock_needs.specs.declared.party.Asked.{Asked}
+use Rattle.lock_needs.specs.Nodes.{on_way, above_of}
 use Rattle.lock_needs.specs.Needs.{is_covered}
 use Rattle.lock_needs.specs.Wants.{sleeps_at}
-use Rattle.lock_tree.specs.LockTable.{granted_at}
+use Rattle.lock_tree.specs.LockTable.{granted_at, IsFree, RaisedAt}
 use Rattle.lock_tree.specs.Parties.{wanting, resting, unasked}
-use Rattle.lock_tree.specs.Forest.{Parties, State, IsWhole, KeepsParties, open_asks, party_of}
-use Rattle.lock_tree.specs.Order.{asked_last, waits_by_needs}
-use Rattle.lock_tree.specs.Asking.{HasCause, IsDue}
+use Rattle.lock_tree.specs.Forest.{Parties, State, IsWhole, KeepsParties, open_asks, opened_of, party_of}
+use Rattle.lock_tree.specs.Order.{asked_last, without_asks, waits_by_needs}
+use Rattle.lock_tree.specs.Asking.{HasCause, IsDue, whole_mode}
 use Rattle.lock_tree.specs.declared.answer.Want.{Want}
 use Rattle.lock_tree.specs.declared.answer.Want.TheVariants.{Got, NoticeTo, Asleep, Conflict, Deadlock}
 use Rattle.lock_tree.specs.declared.answer.Step.{Step}
@@ -32,6 +35,12 @@ someone_sleeps t n ps = list_any (λ e. sleeps_at (granted_at t e.0) e.1.opened 
 -- nothing is queued at the node
 abbrev pub IsClear : Table → Node → Type 0
 IsClear t n = (u : ℕ) → is_queued u (queues_at t n) ≡ false
+
+-- Nothing is queued at the node of the owner's want, and what would join its lock there and the whole need shares with all that
+-- others hold there: so the need can be granted there at once.
+pub record MayTakeWhole (t : Table) (owner : ℕ) (w : OpenWant) : Type 0 where
+  pub clear : IsClear t w.here
+  pub free : IsFree t owner w.here (whole_mode t owner w)
 
 abbrev pub needs_of : State → ℕ → List Need
 needs_of s owner = (party_of s.parties owner).needs
@@ -52,6 +61,42 @@ IsOpen s owner ws need = (w : OpenWant) × IsWanting s owner ws w × (w.need ≡
 abbrev pub IsOf : Need → Option OpenWant → Type 0
 IsOf need None = Unit {0}
 IsOf need (Some w) = w.need ≡ need
+
+-- no want is open, or one that wasn't asked yet at the node that it has come to
+abbrev pub IsLooking : Option OpenWant → Type 0
+IsLooking None = Unit {0}
+IsLooking (Some w) = w.is_asked ≡ false
+
+-- the trail once the owner's want is open: one that opens was asked nowhere yet
+abbrev pub trail_of_want : State → ℕ → List Asked
+trail_of_want s owner = if is_some (opened_of s owner) then s.trail else without_asks owner s.trail
+
+-- The owner's want was got with nothing asked for it: no lock changed, and no request.
+pub record GotAtOnce (owner : ℕ) (s r : State) (answer : Want) : Type 0 where
+  pub got : answer ≡ Got
+  pub table : r.table.entries ≡ s.table.entries
+  pub asks : r.trail ≡ trail_of_want s owner
+
+-- the topmost node on the way to one of this level: its area, or the journal
+abbrev pub top_from : Level → Node → Node
+top_from Journal n = n
+top_from level n = on_way Area n
+
+-- a want of the need as it opens, at the topmost node on the way
+abbrev pub opening_of : Need → OpenWant
+opening_of need = record { need = need; here = top_from need.node.level need.node; is_asked = false }
+
+-- the want that is open, or one that opens
+abbrev pub want_of : Option OpenWant → Need → OpenWant
+want_of None need = opening_of need
+want_of (Some w) need = w
+
+-- The owner's want took its whole need at its node: the lock there became the least that joins what it was and the need, and no
+-- other lock changed, nor what anybody asks. The want was asked there last of all.
+pub record GotWhole (owner : ℕ) (w : OpenWant) (s r : State) (answer : Want) : Type 0 where
+  pub got : answer ≡ Got
+  pub raised : RaisedAt s.table r.table owner w.here (whole_mode s.table owner w)
+  pub asks : r.trail ≡ asked_last (trail_of_want s owner) owner w.here
 
 -- The owner's want is queued, and waits for t by the modes that are held and asked, and by needs.
 pub record SleepsFor (s : State) (owner : ℕ) (w : OpenWant) (t : ℕ) : Type 0 where

@@ -14,6 +14,7 @@ ghost use Rattle.lock_tree.specs.Progress.{IsServedAt, LeavesLocks};
 ghost use Rattle.lock_tree.specs.Room.{HasSpare, UsesSpare};
 ghost use Rattle.lock_tree.specs.Asking.{was_granted, request_at, asked_mode, AnswersAt, TakesAnswer, TakesWhole, HasTakenWhole};
 ghost use Rattle.lock_tree.specs.Forest.{party_of, KeepsParties};
+ghost use Rattle.lock_tree.specs.Wanted.{MayTakeWhole};
 
 use crate::holding::granted_of;
 use crate::notice::serve_notice;
@@ -109,6 +110,7 @@ pub(crate) fn ask_whole(locks: &mut Locks, owner: u32, want: OpenWant) -> bool
 
     ensures got { result ≡ true → TakesWhole owner want locks.old locks.new }
     ensures taken { result ≡ true → HasTakenWhole owner want locks.old locks.new }
+    ensures strong { MayTakeWhole locks.old owner want → result ≡ true }
     ensures left { result ≡ false → locks.new ≡ locks.old }
     ensures intents { HasIntents locks.new }
     ensures others { KeepsOthers owner locks.old locks.new }
@@ -130,6 +132,7 @@ fn take_for(locks: &mut Locks, owner: u32, party: &mut Party, want: OpenWant) ->
 
     ensures got { result ≡ true → party.new ≡ resting (party.old.needs ++ want.need ∷ []) }
     ensures taken { result ≡ true → HasTakenWhole owner want locks.old locks.new }
+    ensures strong { MayTakeWhole locks.old owner want → result ≡ true }
     ensures left { result ≡ false → (party.new ≡ party.old) × (locks.new ≡ locks.old) }
     ensures intents { HasIntents locks.new }
     ensures kept { IsKept locks.new owner party.new }
@@ -159,6 +162,7 @@ pub(crate) fn take_whole(
 
     ensures got { result ≡ true → party_of parties.new.entries owner ≡ resting ((party_of parties.old.entries owner).needs ++ want.need ∷ []) }
     ensures taken { result ≡ true → HasTakenWhole owner want locks.old locks.new }
+    ensures strong { MayTakeWhole locks.old owner want → result ≡ true }
     ensures left { result ≡ false → (party_of parties.new.entries owner ≡ party_of parties.old.entries owner) × (locks.new ≡ locks.old) }
     ensures intents { HasIntents locks.new }
     ensures kept { IsKept locks.new owner (party_of parties.new.entries owner) }

@@ -1,4 +1,5 @@
-ghost use Rattle.std.specs.Prelude.{◌≡◌, ℕ, true, IfSome, IfNone};
+ghost use Rattle.std.specs.Prelude.{◌≡◌, ℕ, true, nat_eq, IfSome, IfNone};
+ghost use Rattle.indexmap.specs.IndexMap.{IsUnique};
 ghost use Rattle.vms_locks.specs.Table.{queues_at, IsLive, WaitsIn};
 ghost use Rattle.lock_needs.specs.Wants.{sleeps_at};
 ghost use Rattle.lock_tree.specs.LockTable.{granted_at};
@@ -36,7 +37,8 @@ pub(crate) fn is_granted(locks: &Locks, owner: u32, want: OpenWant) -> bool
 
 // Whether somebody's open want is queued at the node.
 pub(crate) fn is_crowded(locks: &Locks, parties: &IndexMap<u32, Party>, node: Node) -> bool
-    ensures { result ≡ someone_sleeps locks.now node parties.now.entries }
+    ensures value { result ≡ someone_sleeps locks.now node parties.now.entries }
+    ensures unique { IsUnique nat_eq parties.now }
 {
     parties.as_slice().iter().any(|(owner, party)| is_asleep(locks, *owner, party.opened(), node))
 }

@@ -5,15 +5,18 @@ ghost use Rattle.vms_queues.specs.Modes.{at_most};
 ghost use Rattle.vms_queues.specs.Owners.{is_owner};
 ghost use Rattle.lock_needs.specs.Needs.{is_covered, is_plain};
 ghost use Rattle.lock_needs.specs.Wants.{mode_for};
-ghost use Rattle.lock_tree.specs.LockTable.{granted_at};
-ghost use Rattle.lock_tree.specs.Asking.{HasTakenWhole};
+ghost use Rattle.lock_tree.specs.LockTable.{granted_at, RaisedAt};
+ghost use Rattle.lock_tree.specs.Asking.{HasTakenWhole, whole_mode};
 ghost use Rattle.lock_tree.specs.Releasing.{IsQuiet};
 ghost use Rattle.lock_tree.specs.Room.{HasSpare, HasRoomFor, LeavesRoom, StaysRoomy, has_whole, depth};
 ghost use Rattle.lock_tree.specs.Parties.{resting, unasked};
 ghost use Rattle.lock_tree.specs.Forest.{IsWhole, KeepsParties, opened_of, party_of};
+ghost use Rattle.lock_tree.specs.Order.{asked_last};
 ghost use Rattle.lock_tree.specs.Progress.{LeavesLocks, MovesOn, StepsOn};
+ghost use Rattle.lock_tree.specs.declared.answer.Step.TheVariants.{Ends};
+ghost use Rattle.lock_tree.specs.declared.answer.Want.TheVariants.{Got};
 ghost use Rattle.lock_tree.specs.States.{state_of};
-ghost use Rattle.lock_tree.specs.Wanted.{IsClear, needs_of, IsOpen, Steps, Answered};
+ghost use Rattle.lock_tree.specs.Wanted.{IsClear, MayTakeWhole, needs_of, IsOpen, Steps, Answered};
 
 use crate::answer::{Step, Want};
 use crate::asking::take_whole;
@@ -58,6 +61,7 @@ impl Parts {
         ensures got { result ≡ true → party_of self.new.parties.entries owner ≡ resting (needs_of (state_of self.old) owner ++ want.need ∷ []) }
         ensures clear { result ≡ true → IsClear self.old.locks want.here }
         ensures taken { result ≡ true → HasTakenWhole owner want self.old.locks self.new.locks }
+        ensures strong { MayTakeWhole self.old.locks owner want → result ≡ true }
         ensures asked { result ≡ true → self.new.trail.items ≡ self.old.trail.items ++ (record { owner = owner; node = want.here }) ∷ [] }
         ensures left { result ≡ false → (party_of self.new.parties.entries owner ≡ party_of self.old.parties.entries owner) × (self.new.locks ≡ self.old.locks) × (self.new.trail ≡ self.old.trail) }
         ensures whole { IsWhole (state_of self.new) }
@@ -211,6 +215,8 @@ impl Parts {
         ensures step { Steps (needs_of (state_of self.old) owner) (state_of self.new) owner want wait result }
         ensures progress { StepsOn owner (state_of self.old) (state_of self.new) result }
         ensures room { LeavesRoom owner self.old self.new result }
+        ensures covered { is_covered (granted_at self.old.locks owner) want.need ≡ true → (result ≡ Ends Got) × (self.new.locks ≡ self.old.locks) × (self.new.trail ≡ self.old.trail) }
+        ensures strong { is_covered (granted_at self.old.locks owner) want.need ≡ false → MayTakeWhole self.old.locks owner want → (result ≡ Ends Got) × RaisedAt self.old.locks self.new.locks owner want.here (whole_mode self.old.locks owner want) × (self.new.trail.items ≡ asked_last self.old.trail.items owner want.here) }
         ensures whole { IsWhole (state_of self.new) }
         ensures others { KeepsParties owner self.old.parties.entries self.new.parties.entries }
     {
@@ -234,6 +240,8 @@ impl Parts {
 
         ensures answer { Answered (needs_of (state_of self.old) owner) (state_of self.new) owner want.need wait result }
         ensures progress { MovesOn owner (state_of self.old) (state_of self.new) result }
+        ensures covered { is_covered (granted_at self.old.locks owner) want.need ≡ true → (result ≡ Got) × (self.new.locks ≡ self.old.locks) × (self.new.trail ≡ self.old.trail) }
+        ensures strong { is_covered (granted_at self.old.locks owner) want.need ≡ false → MayTakeWhole self.old.locks owner want → (result ≡ Got) × RaisedAt self.old.locks self.new.locks owner want.here (whole_mode self.old.locks owner want) × (self.new.trail.items ≡ asked_last self.old.trail.items owner want.here) }
         ensures whole { IsWhole (state_of self.new) }
         ensures others { KeepsParties owner self.old.parties.entries self.new.parties.entries }
     {

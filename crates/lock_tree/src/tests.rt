@@ -37,6 +37,10 @@ enum Act {
     Read(u16),
     // It wants to change this line of page 2.
     Write(u16),
+    // It wants to read line 0 of this page.
+    ReadPage(u32),
+    // It wants to change line 0 of this page.
+    WritePage(u32),
     // It wants the area in this mode.
     Reserve(Mode),
     // It gives everything back.
@@ -62,13 +66,17 @@ struct Turn {
     told: Told,
 }
 
-fn line(number: u16) -> Node {
+fn line_on(page: u32, number: u16) -> Node {
     Node {
         level: Level::Line,
         area: 16,
-        at: 2,
+        at: page,
         line: number,
     }
+}
+
+fn line(number: u16) -> Node {
+    line_on(2, number)
 }
 
 fn need_of(act: Act) -> Option<Need>
@@ -81,6 +89,14 @@ fn need_of(act: Act) -> Option<Need>
         }),
         Act::Write(number) => Some(Need {
             node: line(number),
+            mode: Mode::EX,
+        }),
+        Act::ReadPage(page) => Some(Need {
+            node: line_on(page, 0),
+            mode: Mode::PR,
+        }),
+        Act::WritePage(page) => Some(Need {
+            node: line_on(page, 0),
             mode: Mode::EX,
         }),
         Act::Reserve(mode) => Some(Need { node: AREA, mode }),
@@ -274,5 +290,31 @@ fn rows_of_one_page_are_changed_side_by_side(rt: HostRuntime) -> Result<(), Fail
     assert_eq!(rt; tree.mode_of(1, line(0)), Mode::EX);
     // the last need was covered
     assert_eq!(rt; tree.asked(2, 0), None);
+    Ok(())
+}
+
+// As a lock comes down, only what no lock would cover is taken one level lower. The line of page 2 is covered by a lock on itself:
+// where 4 comes down on the area first, another's lock on the range would bar it there, and later nothing would.
+#[test]
+fn what_a_lower_lock_covers_is_not_taken_again(rt: HostRuntime) -> Result<(), Fail> {
+    let mut tree = Tree::new(rt.alloc());
+    let turns = [
+        at_once(4, Act::Write(0), Told::Got),
+        after(3, 1, Act::Read(0), Told::Asleep(4)),
+        at_once(4, Act::ReadPage(3), Told::Got),
+        at_once(4, Act::WritePage(66), Told::Got),
+    ];
+    assert!(rt; plays(&mut tree, true, &turns)?);
+    assert_eq!(rt; tree.mode_of(1, RANGE), Mode::CR);
+    assert_eq!(rt; tree.mode_of(4, AREA), Mode::CW);
+    assert_eq!(rt; tree.mode_of(4, RANGE), Mode::PW);
+    let later = [
+        at_once(1, Act::Release, Told::Got),
+        at_once(4, Act::ReadPage(130), Told::Got),
+        after(1, 5, Act::WritePage(194), Told::Got),
+    ];
+    assert!(rt; plays(&mut tree, true, &later)?);
+    assert_eq!(rt; tree.mode_of(4, RANGE), Mode::PW);
+    assert_eq!(rt; tree.mode_of(4, line(0)), Mode::EX);
     Ok(())
 }

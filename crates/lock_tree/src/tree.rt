@@ -2,14 +2,14 @@ ghost use Rattle.std.specs.Prelude.{◌≡◌, [], true, false, None, Some, is_s
 ghost use Rattle.rdb_types.specs.declared.node.Node.{Node};
 ghost use Rattle.vms_queues.specs.declared.lock_mode.Mode.TheVariants.{NL};
 ghost use Rattle.vms_queues.specs.Owners.{is_owner};
-ghost use Rattle.lock_needs.specs.Needs.{is_plain};
+ghost use Rattle.lock_needs.specs.Needs.{is_covered, is_plain};
 ghost use Rattle.lock_needs.specs.Keeping.{is_excess};
 ghost use Rattle.lock_needs.specs.Wants.{kept_at};
 ghost use Rattle.lock_tree.specs.LockTable.{granted_at, AllShare};
 ghost use Rattle.lock_tree.specs.Forest.{IsWhole, KeepsParties, NeedsAreApart, idle, party_of, has_need, asks_of};
 ghost use Rattle.lock_tree.specs.Notices.{notice_answer};
 ghost use Rattle.lock_tree.specs.Progress.{is_spare, Falls, MovesOn};
-ghost use Rattle.lock_tree.specs.Wanted.{needs_of, wanted_of, IsOf, Answered};
+ghost use Rattle.lock_tree.specs.Wanted.{MayTakeWhole, needs_of, wanted_of, IsOf, IsLooking, Answered, GotAtOnce, GotWhole, want_of};
 ghost use Rattle.lock_tree.specs.Room.{IsAsBefore, has_whole};
 
 use crate::answer::Want;
@@ -61,14 +61,14 @@ impl Tree {
         }
     }
 
-    /// Asks for the need. Where a lock of the owner covers it, it is got. Else a want opens at the topmost node on the way to the
-    /// need's, and goes down: at each node the whole need is asked where nothing is queued there and it can be granted at once; else
-    /// the owner's own lock comes down to what must be kept, and the want's mode is asked, unless a notice is due before. A want that
-    /// is open goes on from where it stands; after a notice was delivered it looks again. Where it isn't to wait, what can't be
-    /// granted is refused. Who sleeps or is refused waits by needs, or would wait so, for whom the answer names: by the needs that
-    /// others have got, the wants that are open, and the order in which these were asked. All memory is taken before the first
-    /// change: after want of memory all is as before. A want that is open never raises the measure that each notice lowers, and where
-    /// it ends, the measure falls: so no lock goes to and fro.
+    /// Asks for the need. Where a lock of the owner covers it, it is got at once, and nothing is asked. Else a want opens at the
+    /// topmost node on the way to the need's, and goes down: at each node the whole need is taken where nothing is queued there and
+    /// it can be granted at once; else the owner's own lock comes down to what must be kept, and the want's mode is asked, unless a
+    /// notice is due before. A want that is open goes on from where it stands; after a notice was delivered it looks again. Where it
+    /// isn't to wait, what can't be granted is refused. Who sleeps or is refused waits by needs, or would wait so, for whom the
+    /// answer names: by the needs that others have got, the wants that are open, and the order in which these were asked. All memory
+    /// is taken before the first change: after want of memory all is as before. A want that is open never raises the measure that
+    /// each notice lowers, and where it ends, the measure falls: so no lock goes to and fro.
     pub fn want(&mut self, owner: u32, need: Need, wait: bool) -> Result<Want, NoMemory>
         requires owner { is_owner owner ≡ true }
         requires plain { is_plain need ≡ true }
@@ -76,6 +76,8 @@ impl Tree {
 
         ensures answer { IfOk result (Answered (needs_of self.old owner) self.new owner need wait) }
         ensures progress { is_some (party_of self.old.parties owner).opened ≡ true → IfOk result (MovesOn owner self.old self.new) }
+        ensures covered { is_covered (granted_at self.old.table owner) need ≡ true → IsLooking (party_of self.old.parties owner).opened → IfOk result (GotAtOnce owner self.old self.new) }
+        ensures strong { let w = want_of (party_of self.old.parties owner).opened need in is_covered (granted_at self.old.table owner) need ≡ false → IsLooking (party_of self.old.parties owner).opened → MayTakeWhole self.old.table owner w → IfOk result (GotWhole owner w self.old self.new) }
         ensures others { KeepsParties owner self.old.parties self.new.parties }
         ensures err { OnErr result (IsAsBefore self.old self.new) }
     {
@@ -123,15 +125,16 @@ impl Tree {
     }
 
     /// Ends the owner's open want, its queued request with it: the locks that it was granted come down to what the owner's needs
-    /// require. Where there is none, nothing changes. Takes no memory, unless the want of a node that contains others has been
-    /// granted its whole need since it was asked last: what that lock alone covers has then to be taken one level lower, and after
-    /// want of memory all is as before.
+    /// require. Where there is none, nothing changes. As it ends, the measure falls. Takes no memory, unless the want of a node that
+    /// contains others has been granted its whole need since it was asked last: what that lock alone covers has then to be taken one
+    /// level lower, and after want of memory all is as before.
     pub fn give_up(&mut self, owner: u32) -> Result<(), NoMemory>
         ensures ended { OnOk result ((party_of self.new.parties owner).opened ≡ None) }
         ensures needs { (party_of self.new.parties owner).needs ≡ (party_of self.old.parties owner).needs }
         ensures others { KeepsParties owner self.old.parties self.new.parties }
         ensures unchanged { (party_of self.old.parties owner).opened ≡ None → self.new ≡ self.old }
         ensures memory { OnErr result (IfSome (party_of self.old.parties owner).opened (λ w. has_whole (granted_at self.old.table owner) w ≡ true)) }
+        ensures falls { is_some (party_of self.old.parties owner).opened ≡ true → OnOk result (Falls owner self.old self.new) }
         ensures err { OnErr result (IsAsBefore self.old self.new) }
     {
         match self.parts.opened_of(owner) {
@@ -160,11 +163,13 @@ impl Tree {
         }
     }
 
-    /// Releases all that the owner holds and asks, and forgets its needs and its open want. Takes no memory.
+    /// Releases all that the owner holds and asks, and forgets its needs and its open want. Where one was open, the measure falls.
+    /// Takes no memory.
     pub fn release_all(&mut self, owner: u32)
         ensures idle { party_of self.new.parties owner ≡ idle }
         ensures none { (n : Node) → granted_at self.new.table owner n ≡ NL }
         ensures others { KeepsParties owner self.old.parties self.new.parties }
+        ensures falls { is_some (party_of self.old.parties owner).opened ≡ true → Falls owner self.old self.new }
     {
         if let Some(party) = self.parts.parties.get(&owner) {
             release_owner(&mut self.parts.locks, owner, party);

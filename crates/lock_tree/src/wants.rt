@@ -1,12 +1,12 @@
 //! Wants, from their opening on.
 
-ghost use Rattle.std.specs.Prelude.{◌≡◌, ◌+◌, ◌*◌, true, None, Some, is_some, length, IfOk, IfSome, OnOk, OnErr};
+ghost use Rattle.std.specs.Prelude.{◌≡◌, ◌+◌, ◌*◌, true, false, None, Some, is_some, length, IfOk, IfSome, OnOk, OnErr};
 ghost use Rattle.vms_queues.specs.Owners.{is_owner};
-ghost use Rattle.lock_needs.specs.Needs.{is_plain};
+ghost use Rattle.lock_needs.specs.Needs.{is_covered, is_plain};
 ghost use Rattle.lock_tree.specs.Forest.{IsWhole, KeepsParties, party_of, opened_of as open_want_of};
-ghost use Rattle.lock_tree.specs.Progress.{MovesOn};
+ghost use Rattle.lock_tree.specs.Progress.{Falls, MovesOn};
 ghost use Rattle.lock_tree.specs.States.{state_of};
-ghost use Rattle.lock_tree.specs.Wanted.{needs_of, IsOf, Answered};
+ghost use Rattle.lock_tree.specs.Wanted.{MayTakeWhole, needs_of, IsOf, IsLooking, Answered, GotAtOnce, GotWhole, opening_of, want_of};
 ghost use Rattle.lock_tree.specs.LockTable.{granted_at};
 ghost use Rattle.lock_tree.specs.Parties.{resting};
 ghost use Rattle.lock_tree.specs.Room.{HasRoomFor, HasSpare, IsAsBefore, has_whole};
@@ -74,6 +74,8 @@ impl Parts {
         requires plain { is_plain need ≡ true }
 
         ensures answer { IfOk result (Answered (needs_of (state_of self.old) owner) (state_of self.new) owner need wait) }
+        ensures covered { is_covered (granted_at self.old.locks owner) need ≡ true → IfOk result (GotAtOnce owner (state_of self.old) (state_of self.new)) }
+        ensures strong { is_covered (granted_at self.old.locks owner) need ≡ false → MayTakeWhole self.old.locks owner (opening_of need) → IfOk result (GotWhole owner (opening_of need) (state_of self.old) (state_of self.new)) }
         ensures err { OnErr result (IsAsBefore (state_of self.old) (state_of self.new)) }
         ensures whole { IsWhole (state_of self.new) }
         ensures others { KeepsParties owner self.old.parties.entries self.new.parties.entries }
@@ -115,6 +117,8 @@ impl Parts {
 
         ensures answer { IfOk result (Answered (needs_of (state_of self.old) owner) (state_of self.new) owner need wait) }
         ensures progress { is_some (open_want_of (state_of self.old) owner) ≡ true → IfOk result (MovesOn owner (state_of self.old) (state_of self.new)) }
+        ensures covered { is_covered (granted_at self.old.locks owner) need ≡ true → IsLooking (open_want_of (state_of self.old) owner) → IfOk result (GotAtOnce owner (state_of self.old) (state_of self.new)) }
+        ensures strong { let w = want_of (open_want_of (state_of self.old) owner) need in is_covered (granted_at self.old.locks owner) need ≡ false → IsLooking (open_want_of (state_of self.old) owner) → MayTakeWhole self.old.locks owner w → IfOk result (GotWhole owner w (state_of self.old) (state_of self.new)) }
         ensures err { OnErr result (IsAsBefore (state_of self.old) (state_of self.new)) }
         ensures whole { IsWhole (state_of self.new) }
         ensures others { KeepsParties owner self.old.parties.entries self.new.parties.entries }
@@ -135,6 +139,8 @@ impl Parts {
 
         ensures answer { IfOk result (Answered (needs_of (state_of self.old) owner) (state_of self.new) owner need wait) }
         ensures progress { is_some (open_want_of (state_of self.old) owner) ≡ true → IfOk result (MovesOn owner (state_of self.old) (state_of self.new)) }
+        ensures covered { is_covered (granted_at self.old.locks owner) need ≡ true → IsLooking (open_want_of (state_of self.old) owner) → IfOk result (GotAtOnce owner (state_of self.old) (state_of self.new)) }
+        ensures strong { let w = want_of (open_want_of (state_of self.old) owner) need in is_covered (granted_at self.old.locks owner) need ≡ false → IsLooking (open_want_of (state_of self.old) owner) → MayTakeWhole self.old.locks owner w → IfOk result (GotWhole owner w (state_of self.old) (state_of self.new)) }
         ensures err { OnErr result (IsAsBefore (state_of self.old) (state_of self.new)) }
         ensures whole { IsWhole (state_of self.new) }
         ensures others { KeepsParties owner self.old.parties.entries self.new.parties.entries }
@@ -164,6 +170,7 @@ impl Parts {
 
         ensures ended { OnOk result (party_of self.new.parties.entries owner ≡ resting (needs_of (state_of self.old) owner)) }
         ensures memory { OnErr result (has_whole (granted_at self.old.locks owner) want ≡ true) }
+        ensures falls { OnOk result (Falls owner (state_of self.old) (state_of self.new)) }
         ensures err { OnErr result (IsAsBefore (state_of self.old) (state_of self.new)) }
         ensures whole { IsWhole (state_of self.new) }
         ensures others { KeepsParties owner self.old.parties.entries self.new.parties.entries }

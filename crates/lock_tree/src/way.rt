@@ -1,11 +1,13 @@
 ghost use Rattle.std.specs.Prelude.{◌≡◌, true, Some, None, IfSome, IfNone};
 ghost use Rattle.lock_needs.specs.Nodes.{is_on, above_of};
 ghost use Rattle.lock_tree.specs.Parties.{unasked};
+ghost use Rattle.lock_tree.specs.Wanted.{top_from, opening_of};
 
 use lock_needs::{Level, Need, Node, OpenWant, on_way, step_towards};
 
 // The topmost node on the way to the node.
 fn top_of(node: Node) -> Node
+    ensures value { result ≡ top_from node.level node }
     ensures top { above_of result ≡ None }
     ensures way { is_on result node ≡ true }
 {
@@ -17,6 +19,7 @@ fn top_of(node: Node) -> Node
 
 // A want, as it opens: at the topmost node of its way, with nothing asked.
 pub(crate) fn opening(need: Need) -> OpenWant
+    ensures value { result ≡ opening_of need }
     ensures need { result.need ≡ need }
     ensures unasked { result ≡ unasked result }
     ensures top { above_of result.here ≡ None }

@@ -1,6 +1,7 @@
 use Rattle.std.proofs.Common.{refl, sym, ◌∙◌}
 use Rattle.lock_tree.proofs.WantAsked.{asked-mode}
 use Rattle.lock_tree.proofs.Getting.{whole-quiet, whole-intents, whole-others, whole-answered, whole-refused, whole-raised, whole-exact}
+use Rattle.lock_tree.proofs.TakingWhole.{whole-granted}
 use Rattle.lock_tree.proofs.asking.ask_whole.Goals as goal
 
 pub ask-answer-requires-clause-quiet : goal.ask-answer-requires-clause-quiet
@@ -35,3 +36,9 @@ pub returns-clause-others : goal.returns-clause-others
 returns-clause-others c =
     whole-others c.args.locks.now c.ask-answer.new.locks c.args.owner c.requires.kept.0 c.args.want c.join-mode.result (asked-mode _ _ _ _ c.join-mode.result c.granted_of-held.ensures.value refl c.join-mode.ensures.table) c.requires.kept.1 c.requires.intents
     _ c.ask-answer.ensures.answer
+
+pub returns-clause-strong : goal.returns-clause-strong
+returns-clause-strong c = λ may.
+    c.is_granted.ensures
+    ∙ whole-granted c.args.locks.now c.ask-answer.new.locks c.args.owner c.args.want c.join-mode.result (asked-mode _ _ _ _ c.join-mode.result c.granted_of-held.ensures.value refl c.join-mode.ensures.table)
+    c.granted_of-held.ensures.live may _ c.ask-answer.ensures.exact

@@ -1,4 +1,5 @@
 use Rattle.std.proofs.Common.{refl, sym, ◌∙◌, subst, ◌++◌, ◌∷◌, [], arith}
+use Rattle.std.proofs.lemmas.Bool.{false≢true}
 use Rattle.lock_tree.specs.Parties.{IsKept}
 use Rattle.lock_tree.specs.Forest.{State}
 use Rattle.lock_tree.specs.States.{state_of}
@@ -6,6 +7,7 @@ use Rattle.lock_tree.specs.Wanted.{needs_of}
 use Rattle.lock_tree.proofs.Sleepers.{all-clear}
 use Rattle.lock_tree.proofs.Opened.{whole-same, whole-noted}
 use Rattle.lock_tree.proofs.TakenInOrder.{taken-way, taken-stands}
+use Rattle.lock_tree.proofs.TakingWhole.{crowded-queued}
 use Rattle.lock_tree.proofs.parts.Parts.get_whole.Goals as goal
 
 pub returns-then-not-take_whole-clause-whole : goal.returns-then-not-take_whole-clause-whole
@@ -17,7 +19,7 @@ returns-then-not-take_whole-clause-whole c =
 pub returns-clause-clear : goal.returns-clause-clear
 returns-clause-clear c = λ e.
     all-clear c.args.self.now.locks c.args.self.now.parties.entries (c.take_whole.ensures.taken c.if-not-take_whole.false).live c.requires.whole.kept c.args.want.here
-    (sym c.is_crowded.ensures ∙ c.if-is_crowded.false)
+    (sym c.is_crowded.ensures.value ∙ c.if-is_crowded.false)
 
 pub returns-clause-whole : goal.returns-clause-whole
 returns-clause-whole c =
@@ -25,7 +27,7 @@ returns-clause-whole c =
     let r : State = record { table = c.take_whole.new.locks; parties = c.take_whole.new.parties.entries; trail = c.note_ask.new.trail.items } in
     let got = c.take_whole.ensures.got c.if-not-take_whole.false in
     let taken = c.take_whole.ensures.taken c.if-not-take_whole.false in
-    let clear = all-clear c.args.self.now.locks c.args.self.now.parties.entries taken.live c.requires.whole.kept c.args.want.here (sym c.is_crowded.ensures ∙ c.if-is_crowded.false) in
+    let clear = all-clear c.args.self.now.locks c.args.self.now.parties.entries taken.live c.requires.whole.kept c.args.want.here (sym c.is_crowded.ensures.value ∙ c.if-is_crowded.false) in
     whole-noted s r c.args.owner c.args.want.here (needs_of s c.args.owner ++ c.args.want.need ∷ []) c.requires.whole c.take_whole.ensures.intents c.take_whole.ensures.others
     (subst (IsKept c.take_whole.new.locks c.args.owner) got c.take_whole.ensures.kept) got c.take_whole.ensures.parties
     c.note_ask.ensures.trail
@@ -37,3 +39,8 @@ take_whole-requires-clause-room c = omega (arith, c.requires.room.table)
 
 pub note_ask-requires : goal.note_ask-requires
 note_ask-requires c = omega (arith, c.requires.room.trail)
+
+pub returns-then-is_crowded-clause-strong : goal.returns-then-is_crowded-clause-strong
+returns-then-is_crowded-clause-strong c = λ may.
+    let queued = crowded-queued c.args.self.now.locks c.args.self.now.parties.entries c.is_crowded.ensures.unique c.requires.whole.kept c.args.want.here (sym c.is_crowded.ensures.value ∙ c.if-is_crowded.true) in
+    absurd (false≢true (sym (may.clear queued.0) ∙ queued.1))

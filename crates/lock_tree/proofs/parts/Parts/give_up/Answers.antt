@@ -8,6 +8,7 @@ use Rattle.lock_tree.specs.States.{state_of}
 use Rattle.lock_tree.specs.Room.{has_whole}
 use Rattle.lock_tree.proofs.Outcomes.{on_err-any}
 use Rattle.lock_tree.proofs.Respared.{whole-room}
+use Rattle.lock_tree.proofs.MeasureFalls.{same-never, never-falls, ended-falls}
 use Rattle.lock_tree.proofs.parts.Parts.give_up.Goals as goal
 
 pub returns-in_err-make_room_to_end-clause-err : goal.returns-in_err-make_room_to_end-clause-err
@@ -35,3 +36,13 @@ returns-clause-ended c = c.close_want.ensures.ended ∙ ap (λ (p : Party). rest
 
 pub returns-clause-others : goal.returns-clause-others
 returns-clause-others c = λ u d. c.close_want.ensures.others u d ∙ c.make_room_to_end.ensures.same.parties u
+
+pub returns-clause-falls : goal.returns-clause-falls
+returns-clause-falls c =
+    let s = state_of c.args.self.now in
+    let m = state_of c.make_room_to_end.new.self in
+    let r = state_of c.close_want.new.self in
+    let o = c.args.owner in
+    never-falls s m r o (same-never s m o c.make_room_to_end.ensures.same.table c.make_room_to_end.ensures.same.parties)
+    (ended-falls m r o c.args.want c.close_want.ensures.others c.close_want.ensures.locks
+    (ap (λ (p : Party). p.opened) (c.make_room_to_end.ensures.same.parties o) ∙ c.requires.opened) (ap (λ (p : Party). p.opened) c.close_want.ensures.ended))

@@ -5,6 +5,7 @@ use Rattle.lock_tree.specs.Progress.{NeverRises}
 use Rattle.lock_tree.specs.States.{state_of}
 use Rattle.lock_tree.specs.Wanted.{needs_of}
 use Rattle.lock_tree.specs.Room.{HasRoomFor}
+use Rattle.lock_tree.proofs.AtOnce.{EndsHere}
 use Rattle.lock_tree.proofs.Depths.{depth}
 use Rattle.lock_tree.proofs.parts.Parts.go_down.Given as goal
 
@@ -13,6 +14,8 @@ invariant-loop-next l =
     IsWhole (state_of l.self) × (opened_of (state_of l.self) l.owner ≡ Some (unasked l.want)) × (l.want.need ≡ l.fn.want.need)
     × (needs_of (state_of l.self) l.owner ≡ needs_of (state_of l.fn.self) l.owner) × KeepsParties l.owner l.fn.self.parties.entries l.self.parties.entries
     × HasRoomFor (4 - depth l.want.here.level) l.owner l.self × NeverRises l.owner (state_of l.fn.self) (state_of l.self)
+    -- where the want can end at once, this is the first step
+    × (EndsHere l.owner l.fn.self l.fn.want → (l.self ≡ l.fn.self) × (l.want ≡ l.fn.want))
 
 abbrev pub decreases-loop-next : goal.decreases-loop-next
 decreases-loop-next l = 3 - depth l.want.here.level

@@ -4,12 +4,13 @@ use Rattle.lock_needs.specs.declared.need.Need.{Need}
 use Rattle.lock_needs.specs.declared.party.OpenWant.{OpenWant}
 use Rattle.lock_needs.specs.Party.{Party}
 use Rattle.lock_needs.specs.Nodes.{is_on}
+use Rattle.lock_needs.specs.Needs.{is_covered}
 use Rattle.lock_tree.specs.LockTable.{granted_at, sought_at}
 use Rattle.lock_tree.specs.Parties.{IsKept, wanting, unasked}
-use Rattle.lock_tree.specs.Order.{StandsByNeeds, asked_of_want}
+use Rattle.lock_tree.specs.Order.{StandsByNeeds, asked_of_want, asked_last}
 use Rattle.lock_tree.specs.Forest.{State, open_asks, party_of}
 use Rattle.lock_tree.specs.States.{state_of}
-use Rattle.lock_tree.specs.Wanted.{needs_of}
+use Rattle.lock_tree.specs.Wanted.{MayTakeWhole, GotWhole, needs_of}
 use Rattle.lock_tree.proofs.Outcomes.{on_err-any}
 use Rattle.lock_tree.proofs.Trails.{asks-opening, never-asked}
 use Rattle.lock_tree.proofs.Wanting.{opens}
@@ -19,6 +20,7 @@ use Rattle.lock_tree.proofs.StepsInOrder.{stands-opens}
 use Rattle.lock_tree.proofs.OpenAsks.{opened-opens, cut-fresh}
 use Rattle.lock_tree.proofs.Opened.{as-resting, whole-same}
 use Rattle.lock_tree.proofs.RoomKept.{room-cut, room-start, each-as-before}
+use Rattle.lock_tree.proofs.AtOnce.{opened-trail}
 use Rattle.lock_tree.proofs.parts.Parts.open_want.Goals as goal
 
 pub returns-in_err-open_for-clause-whole : goal.returns-in_err-open_for-clause-whole
@@ -66,3 +68,25 @@ go_down-requires-clause-whole c =
 
 pub returns-clause-others : goal.returns-clause-others
 returns-clause-others c = λ u d. c.go_down.ensures.others u d ∙ (c.open_for.ensures.others u d ∙ c.admit.ensures.same u)
+
+pub returns-clause-covered : goal.returns-clause-covered
+returns-clause-covered c = λ h.
+    let w : OpenWant = c.opening-want.result in
+    let got = c.go_down.ensures.covered (subst (λ (n : Need). is_covered (granted_at c.args.self.now.locks c.args.owner) n ≡ true) (sym c.opening-want.ensures.need) h) in
+    record {
+      got = got.0;
+      table = ap (λ t. t.entries) got.1;
+      asks = ap (λ v. v.items) got.2 ∙ opened-trail (state_of c.args.self.now) c.args.owner w c.cut_asks.new.trail.items c.requires.resting c.cut_asks.ensures.cut (never-asked w c.opening-want.ensures.unasked c.opening-want.ensures.top);
+    }
+
+pub returns-clause-strong : goal.returns-clause-strong
+returns-clause-strong c = λ bare may.
+    let s : State = state_of c.args.self.now in
+    let o = c.args.owner in
+    let w : OpenWant = c.opening-want.result in
+    let got = c.go_down.ensures.strong (subst (λ (n : Need). is_covered (granted_at s.table o) n ≡ false) (sym c.opening-want.ensures.need) bare) (subst (MayTakeWhole s.table o) (sym c.opening-want.ensures.value) may) in
+    subst (λ (v : OpenWant). GotWhole o v s (state_of c.go_down.new.self) c.go_down.result) c.opening-want.ensures.value (record {
+      got = got.0;
+      raised = got.1;
+      asks = got.2 ∙ ap (λ trail. asked_last trail o w.here) (opened-trail s o w c.cut_asks.new.trail.items c.requires.resting c.cut_asks.ensures.cut (never-asked w c.opening-want.ensures.unasked c.opening-want.ensures.top));
+    })

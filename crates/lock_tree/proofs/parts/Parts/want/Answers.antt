@@ -1,13 +1,18 @@
-use Rattle.std.proofs.Common.{◌∙◌, ap, sym, subst, List}
+use Rattle.std.proofs.Common.{◌≡◌, ◌∙◌, ap, sym, subst, true, false, List}
 use Rattle.std.specs.Prelude.{IfOk, is_some}
+use Rattle.rdb_types.specs.declared.node.Node.{Node}
+use Rattle.vms_queues.specs.Queues.{Queues}
 use Rattle.lock_needs.specs.declared.need.Need.{Need}
+use Rattle.lock_needs.specs.Needs.{is_covered}
+use Rattle.lock_tree.specs.LockTable.{granted_at}
 use Rattle.lock_needs.specs.Party.{Party}
 use Rattle.lock_tree.specs.States.{state_of}
-use Rattle.lock_tree.specs.Wanted.{IsOf, Answered}
+use Rattle.lock_tree.specs.Wanted.{IsOf, IsLooking, Answered}
 use Rattle.lock_tree.proofs.Outcomes.{on_err-any, on_err-more}
 use Rattle.lock_tree.proofs.Respared.{whole-room}
 use Rattle.lock_tree.proofs.RoomKept.{before-then}
 use Rattle.lock_tree.proofs.MeasureFalls.{same-never, never-calls}
+use Rattle.lock_tree.proofs.AtOnce.{got-roomy, whole-roomy}
 use Rattle.lock_tree.proofs.parts.Parts.want.Goals as goal
 
 pub returns-in_err-make_room-clause-whole : goal.returns-in_err-make_room-clause-whole
@@ -40,3 +45,17 @@ returns-clause-progress c = λ open_.
     never-calls (state_of c.args.self.now) (state_of c.make_room.new.self) (state_of c.want_in_room.new.self) c.args.owner
     (same-never (state_of c.args.self.now) (state_of c.make_room.new.self) c.args.owner c.make_room.ensures.same.table c.make_room.ensures.same.parties)
     c.want_in_room.result (c.want_in_room.ensures.progress (ap (λ (p : Party). is_some p.opened) (c.make_room.ensures.same.parties c.args.owner) ∙ open_))
+
+pub returns-clause-covered : goal.returns-clause-covered
+returns-clause-covered c = λ h looking.
+    got-roomy (state_of c.args.self.now) (state_of c.make_room.new.self) (state_of c.want_in_room.new.self) c.args.owner c.make_room.ensures.same c.want_in_room.result
+    (c.want_in_room.ensures.covered
+    (subst (λ (es : List (Node × Queues)). is_covered (granted_at (record { entries = es; spare = c.make_room.new.self.locks.spare }) c.args.owner) c.args.need ≡ true) (sym c.make_room.ensures.same.table) h)
+    (subst (λ (p : Party). IsLooking p.opened) (sym (c.make_room.ensures.same.parties c.args.owner)) looking))
+
+pub returns-clause-strong : goal.returns-clause-strong
+returns-clause-strong c = λ bare looking.
+    whole-roomy (state_of c.args.self.now) (state_of c.make_room.new.self) (state_of c.want_in_room.new.self) c.args.owner c.args.need c.make_room.ensures.same c.want_in_room.result
+    (c.want_in_room.ensures.strong
+    (subst (λ (es : List (Node × Queues)). is_covered (granted_at (record { entries = es; spare = c.make_room.new.self.locks.spare }) c.args.owner) c.args.need ≡ false) (sym c.make_room.ensures.same.table) bare)
+    (subst (λ (p : Party). IsLooking p.opened) (sym (c.make_room.ensures.same.parties c.args.owner)) looking))

@@ -1,12 +1,14 @@
-use Rattle.std.proofs.Common.{refl, sym, ◌∙◌, ap}
+use Rattle.std.proofs.Common.{◌≡◌, refl, sym, ◌∙◌, ap, subst, true}
 use Rattle.std.proofs.lemmas.Bool.{false≢true}
 use Rattle.std.specs.Prelude.{is_some}
 use Rattle.vms_queues.specs.declared.lock_mode.Mode.{Mode}
 use Rattle.vms_queues.specs.Modes.{may_share}
 use Rattle.lock_needs.specs.Party.{Party}
 use Rattle.lock_tree.specs.LockTable.{sought_at}
-use Rattle.lock_tree.specs.Forest.{State, idle, party_of}
+use Rattle.lock_tree.specs.Forest.{State, idle, opened_of, party_of}
+use Rattle.lock_tree.specs.Progress.{Falls}
 use Rattle.lock_tree.proofs.HeldModes.{nothing-shares}
+use Rattle.lock_tree.proofs.MeasureFalls.{way-leaves, closed-falls}
 use Rattle.lock_tree.proofs.OpenAsks.{opened-ended}
 use Rattle.lock_tree.proofs.Whole.{whole-ended}
 use Rattle.lock_tree.proofs.tree.Tree.release_all.Goals as goal
@@ -21,3 +23,12 @@ invariant_of-self c =
     (λ a n d f. absurd (false≢true (sym f ∙ (ap (λ (m : Mode). may_share m (sought_at r.table a n)) (c.release_owner.ensures.none n) ∙ nothing-shares (sought_at r.table a n)))))
     refl
     (opened-ended (party_of s.parties) (party_of r.parties) c.args.owner c.forget.ensures.others (ap (λ (p : Party). is_some p.opened) c.forget.ensures.own) s.trail)
+
+pub returns-in-Some-clause-falls : goal.returns-in-Some-clause-falls
+returns-in-Some-clause-falls c =
+    let s : State = record { table = c.self.inside.parts.locks; parties = c.self.inside.parts.parties.entries; trail = c.self.inside.parts.trail.items } in
+    let r : State = record { table = c.release_owner.new.locks; parties = c.forget.new.parties.entries; trail = c.self.inside.parts.trail.items } in
+    subst (λ (z : State). is_some (opened_of z c.args.owner) ≡ true → Falls c.args.owner z r) c.self.view_is
+    (λ open_. closed-falls s r c.args.owner
+    (record { parties = c.forget.ensures.others; locks = way-leaves s.table r.table c.args.owner c.self.invariant.intents c.release_owner.ensures.way })
+    open_ (ap (λ (p : Party). p.opened) c.forget.ensures.own))
