@@ -1,4 +1,4 @@
-ghost use Rattle.std.specs.Prelude.{◌≡◌, [], true, false, None, Some, is_some, option_map, slice_get, IfOk, IfSome, OnOk, OnErr};
+ghost use Rattle.std.specs.Prelude.{◌≡◌, [], true, false, None, Some, is_some, option_map, slice_get, IfOk, OnOk, OnErr};
 ghost use Rattle.rdb_types.specs.declared.node.Node.{Node};
 ghost use Rattle.vms_queues.specs.declared.lock_mode.Mode.TheVariants.{NL};
 ghost use Rattle.vms_queues.specs.Owners.{is_owner};
@@ -10,7 +10,7 @@ ghost use Rattle.lock_tree.specs.Forest.{IsWhole, KeepsParties, NeedsAreApart, i
 ghost use Rattle.lock_tree.specs.Notices.{notice_answer};
 ghost use Rattle.lock_tree.specs.Progress.{is_spare, Falls, MovesOn};
 ghost use Rattle.lock_tree.specs.Wanted.{needs_of, wanted_of, IsOf, Answered};
-ghost use Rattle.lock_tree.specs.Room.{IsAsBefore, has_whole};
+ghost use Rattle.lock_tree.specs.Room.{IsAsBefore};
 
 use crate::answer::Want;
 use crate::holding::granted_of;
@@ -117,26 +117,21 @@ impl Tree {
         ensures err { OnErr result (IsAsBefore self.old self.new) }
     {
         match self.parts.parties.get(&to) {
-            Some(party) => answer_notice(&mut self.parts.locks, to, party, node),
+            Some(party) => answer_notice(&mut self.parts.locks, &self.parts.parties, to, party, node),
             None => Ok(None),
         }
     }
 
     /// Ends the owner's open want, its queued request with it: the locks that it was granted come down to what the owner's needs
-    /// require. Where there is none, nothing changes. Takes no memory, unless the want of a node that contains others has been
-    /// granted its whole need since it was asked last: what that lock alone covers has then to be taken one level lower, and after
-    /// want of memory all is as before.
-    pub fn give_up(&mut self, owner: u32) -> Result<(), NoMemory>
-        ensures ended { OnOk result ((party_of self.new.parties owner).opened ≡ None) }
+    /// require. Where there is none, nothing changes. Takes no memory.
+    pub fn give_up(&mut self, owner: u32)
+        ensures ended { (party_of self.new.parties owner).opened ≡ None }
         ensures needs { (party_of self.new.parties owner).needs ≡ (party_of self.old.parties owner).needs }
         ensures others { KeepsParties owner self.old.parties self.new.parties }
         ensures unchanged { (party_of self.old.parties owner).opened ≡ None → self.new ≡ self.old }
-        ensures memory { OnErr result (IfSome (party_of self.old.parties owner).opened (λ w. has_whole (granted_at self.old.table owner) w ≡ true)) }
-        ensures err { OnErr result (IsAsBefore self.old self.new) }
     {
-        match self.parts.opened_of(owner) {
-            Some(want) => self.parts.give_up(owner, want),
-            None => Ok(()),
+        if let Some(want) = self.parts.opened_of(owner) {
+            self.parts.close_want(owner, want);
         }
     }
 
