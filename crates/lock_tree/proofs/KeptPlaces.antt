@@ -88,6 +88,10 @@ module _ (owner : ℕ) (old new : Parties) (others : KeepsParties owner old new)
         | inr d ↦ let same = places-others u d in omega (arith, same)
       ])
 
+  -- it has and wants what it did
+  pub places-same : party_of new owner ≡ party_of old owner → places_kept new ≤ places_kept old
+  places-same e = let own = ap places_of e in places-most (omega (arith, own))
+
   -- its want has ended
   pub places-closed : (party_of new owner).opened ≡ None → places_kept new ≤ places_kept old
   places-closed e = let none = closed-places (party_of new owner) e in places-most (omega (arith, none))
