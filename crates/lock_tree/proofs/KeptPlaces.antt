@@ -1,10 +1,11 @@
 -- The places that are kept for the ends of open wants, as the party of one owner changes.
-use Rattle.std.proofs.Common.{◌≡◌, ℕ, zero, suc, ◌+◌, ◌-◌, ◌<◌, ◌≤◌, Bool, true, false, refl, sym, ◌∙◌, ap, subst, inl, inr, List, [], ◌∷◌, length, arith}
+use Rattle.std.proofs.Common.{◌≡◌, ℕ, zero, suc, ◌+◌, ◌-◌, ◌<◌, ◌≤◌, Bool, true, false, refl, sym, ◌∙◌, ap, subst, inl, inr, List, [], ◌∷◌, length, get_or, arith}
 use Rattle.std.specs.Prelude.{◌==◌, ◌&&◌, nat_le, if◌then◌else◌, Option, Some, None, is_some}
 use Rattle.std.specs.List.{sum_by, range_with_len}
 use Rattle.std.proofs.Math.Nat.{eq-or-lt_of_le}
 use Rattle.std.proofs.lemmas.Bool.{false≢true, cases_Bool, and_parts, eqb-true, eq-eqb, leb-true}
-use Rattle.std.proofs.lemmas.List.Sums.{sum_by-cons, sum_by-le-sum_by}
+use Rattle.std.proofs.lemmas.List.FromFn.{get_or-range_with_len}
+use Rattle.std.proofs.lemmas.List.Sums.{sum_by-cons, sum_by-le-sum_by, get_or-le-sum_by}
 use Rattle.vms_queues.specs.Owners.{is_owner}
 use Rattle.lock_needs.specs.declared.party.OpenWant.{OpenWant}
 use Rattle.lock_needs.specs.Party.{Party}
@@ -75,6 +76,13 @@ open-places p w e = ap (λ (o : Option OpenWant). if is_some o then length p.nee
 most-places : (p : Party) → places_of p ≤ length p.needs
 most-places p = elim (is_some p.opened) as (λ t. (if t then length p.needs else 0) ≤ length p.needs) [ true ↦ omega arith | false ↦ omega arith ]
 
+-- what is kept for an owner is a part of what is kept
+places-own : (ps : Parties) (owner : ℕ) → is_owner owner ≡ true → places_in ps owner ≤ places_kept ps
+places-own ps owner is =
+    let w = within owner is in
+    let at : get_or all_owners (owner - 1) 0 ≡ owner = get_or-range_with_len 1 16 (owner - 1) 0 (omega (arith, w.0, w.1)) ∙ omega (arith, w.0) in
+    subst (λ (u : ℕ). places_in ps u ≤ places_kept ps) at (get_or-le-sum_by (places_in ps) all_owners (owner - 1) 0 (omega (arith, w.0, w.1)))
+
 module _ (owner : ℕ) (old new : Parties) (others : KeepsParties owner old new) where
   places-others : (u : ℕ) → (u == owner) ≡ false → places_in new u ≡ places_in old u
   places-others u d = ap places_of (others u d)
@@ -132,3 +140,10 @@ open-owner s owner w whole opened = elim (cases_Bool (is_owner owner)) [
   | inl t ↦ t
   | inr f ↦ absurd (false≢true (ap (λ (o : Option OpenWant). is_some o) (sym (whole.owners owner f) ∙ opened)))
 ]
+
+-- its end has the room that it may take
+pub room-own : (s : State) (owner : ℕ) (w : OpenWant) → IsWhole s → opened_of s owner ≡ Some w → length (party_of s.parties owner).needs ≤ s.table.spare
+room-own s owner w whole opened =
+    let own = open-places (party_of s.parties owner) w opened in
+    let part = places-own s.parties owner (open-owner s owner w whole opened) in
+    omega (arith, own, part, whole.room)
