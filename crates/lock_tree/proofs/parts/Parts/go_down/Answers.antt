@@ -23,3 +23,6 @@ loop-next-preserved c =
 pub returns-in-Ends-clause-progress : goal.returns-in-Ends-clause-progress
 returns-in-Ends-clause-progress c =
     never-moves (state_of c.args.self.now) (state_of c.loop-next.self) (state_of c.step.new.self) c.args.owner c.loop-next.invariant.6 c.in-Ends.answer c.in-Ends.ensures.progress
+
+pub returns-in-Ends-clause-others : goal.returns-in-Ends-clause-others
+returns-in-Ends-clause-others c = λ u d. c.step.ensures.others u d ∙ c.loop-next.invariant.4 u d

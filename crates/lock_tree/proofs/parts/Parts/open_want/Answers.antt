@@ -1,4 +1,5 @@
-use Rattle.std.proofs.Common.{◌≡◌, sym, ◌∙◌, ap, subst, true, false, refl}
+use Rattle.std.proofs.Common.{◌≡◌, sym, ◌∙◌, ap, subst, true, false, refl, arith}
+use Rattle.std.proofs.lemmas.Bool.{false≢true}
 use Rattle.std.specs.Prelude.{Option, is_some}
 use Rattle.lock_needs.specs.declared.need.Need.{Need}
 use Rattle.lock_needs.specs.declared.party.OpenWant.{OpenWant}
@@ -18,7 +19,8 @@ use Rattle.lock_tree.proofs.WayMade.{way-none}
 use Rattle.lock_tree.proofs.StepsInOrder.{stands-opens}
 use Rattle.lock_tree.proofs.OpenAsks.{opened-opens, cut-fresh}
 use Rattle.lock_tree.proofs.Opened.{as-resting, whole-same}
-use Rattle.lock_tree.proofs.RoomKept.{room-cut, room-start, each-as-before}
+use Rattle.lock_tree.proofs.KeptPlaces.{places-opened}
+use Rattle.lock_tree.proofs.RoomKept.{room-opened, room-start, each-as-before}
 use Rattle.lock_tree.proofs.parts.Parts.open_want.Goals as goal
 
 pub returns-in_err-open_for-clause-whole : goal.returns-in_err-open_for-clause-whole
@@ -37,8 +39,11 @@ returns-in_err-open_for-clause-err c =
 pub go_down-requires-clause-room : goal.go_down-requires-clause-room
 go_down-requires-clause-room c =
     room-start c.args.owner (record { locks = c.args.self.now.locks; parties = c.open_for.new.parties; trail = c.cut_asks.new.trail }) c.opening-want.result.here.level
-    (room-cut c.args.owner c.args.self.now (record { locks = c.args.self.now.locks; parties = c.open_for.new.parties; trail = c.cut_asks.new.trail })
-    (ap (λ (p : Party). p.needs) c.in_ok-open_for.ensures.own ∙ ap (λ (p : Party). p.needs) (c.admit.ensures.same c.args.owner)) refl c.cut_asks.ensures.bound c.cut_asks.ensures.capacity 4 c.requires.room)
+    (room-opened c.args.owner c.args.self.now (record { locks = c.args.self.now.locks; parties = c.open_for.new.parties; trail = c.cut_asks.new.trail })
+    (ap (λ (p : Party). p.needs) c.in_ok-open_for.ensures.own ∙ ap (λ (p : Party). p.needs) (c.admit.ensures.same c.args.owner))
+    (places-opened c.args.owner c.args.self.now.parties.entries c.open_for.new.parties.entries (λ u d. c.open_for.ensures.others u d ∙ c.admit.ensures.same u) c.requires.owner
+    (ap (λ (p : Party). p.needs) c.in_ok-open_for.ensures.own ∙ ap (λ (p : Party). p.needs) (c.admit.ensures.same c.args.owner)))
+    refl c.cut_asks.ensures.bound c.cut_asks.ensures.capacity c.requires.room)
 
 pub go_down-requires-clause-whole : goal.go_down-requires-clause-whole
 go_down-requires-clause-whole c =
@@ -63,6 +68,11 @@ go_down-requires-clause-whole c =
     (λ n. refl) (λ n. never n ∙ sym (ap (λ (o : Option OpenWant). asked_of_want o n) c.requires.resting))
     (ap (open_asks r.parties) (c.cut_asks.ensures.cut ∙ cut-fresh c.args.owner c.opening-want.result never s.trail)
     ∙ opened-opens (party_of s.parties) (party_of r.parties) c.args.owner (λ u d. c.open_for.ensures.others u d ∙ c.admit.ensures.same u) shut s.trail)
+    (λ f. absurd (false≢true (sym f ∙ c.requires.owner)))
+    (omega (arith,
+    places-opened c.args.owner s.parties r.parties (λ u d. c.open_for.ensures.others u d ∙ c.admit.ensures.same u) c.requires.owner
+    (ap (λ (p : Party). p.needs) c.in_ok-open_for.ensures.own ∙ ap (λ (p : Party). p.needs) (c.admit.ensures.same c.args.owner)),
+    c.requires.room.table))
 
 pub returns-clause-others : goal.returns-clause-others
 returns-clause-others c = λ u d. c.go_down.ensures.others u d ∙ (c.open_for.ensures.others u d ∙ c.admit.ensures.same u)

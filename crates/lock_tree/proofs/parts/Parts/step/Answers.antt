@@ -65,3 +65,6 @@ returns-clause-progress c =
     never-steps (state_of c.args.self.now) (state_of c.get_whole.new.self) (state_of c.ask_node.new.self) c.args.owner
     (left-never (state_of c.args.self.now) (state_of c.get_whole.new.self) c.args.owner left.1 left.0 c.get_whole.ensures.others)
     c.ask_node.result c.ask_node.ensures.progress
+
+pub returns-clause-others : goal.returns-clause-others
+returns-clause-others c = λ u d. c.ask_node.ensures.others u d ∙ c.get_whole.ensures.others u d
