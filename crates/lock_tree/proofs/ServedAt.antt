@@ -1,5 +1,5 @@
 -- A notice that was served, by what the table was left.
-use Rattle.std.proofs.Common.{◌≡◌, ℕ, Bool, true, false, sym, ◌∙◌, ap, subst, inl, inr, refl, List}
+use Rattle.std.proofs.Common.{◌≡◌, ℕ, ◌+◌, ◌≤◌, Bool, true, false, sym, ◌∙◌, ap, subst, inl, inr, refl, List, arith}
 use Rattle.std.proofs.lemmas.Bool.{false≢true, cases_Bool, or_parts}
 use Rattle.rdb_types.specs.declared.node.Node.{Node}
 use Rattle.vms_queues.specs.declared.lock_mode.Mode.{Mode}
@@ -14,6 +14,7 @@ use Rattle.lock_tree.specs.LockTable.{granted_at}
 use Rattle.lock_tree.specs.Lowering.{BroughtDown}
 use Rattle.lock_tree.specs.Order.{MakesWay}
 use Rattle.lock_tree.specs.Progress.{is_spare, IsServedAt}
+use Rattle.lock_tree.specs.Room.{UsesSpare}
 use Rattle.vms_queues.specs.Queues.{Queues}
 use Rattle.lock_tree.proofs.Respared.{way-same}
 use Rattle.lock_tree.proofs.WayMade.{way-none}
@@ -59,3 +60,10 @@ served-roomy old mid new owner p n e same h = record {
   unchanged = λ f.
       h.unchanged (subst (λ (es : List (Node × Queues)). is_spare (granted_at (record { entries = es; spare = mid.spare }) owner) p n ≡ false) (sym e) f) ∙ same f;
 }
+
+-- the room beside is there still, whether the notice was due or not
+pub room-served : (old mid new : Table) (needs beside : ℕ) (due : Bool) → (due ≡ true → needs + beside ≤ mid.spare) → old.spare ≤ mid.spare → (due ≡ false → new ≡ mid) → UsesSpare needs mid new → beside ≤ old.spare → beside ≤ new.spare
+room-served old mid new needs beside true room more same used kept = let r = room refl in omega (arith, r, used)
+room-served old mid new needs beside false room more same used kept =
+    let spare : new.spare ≡ mid.spare = ap (λ (t : Table). t.spare) (same refl) in
+    omega (arith, kept, more, spare)

@@ -42,7 +42,7 @@ invariant_of-self c =
       intents = c.answer_notice.ensures.intents;
       others = c.answer_notice.ensures.others;
     }))
-    refl (λ u d. refl) refl
+    refl (λ u d. refl) refl (c.answer_notice.ensures.room c.self.invariant.room)
 
 pub returns-in-Some-clause-err : goal.returns-in-Some-clause-err
 returns-in-Some-clause-err c =
@@ -62,7 +62,7 @@ returns-in-Some-clause-falls c =
       intents = c.answer_notice.ensures.intents;
       others = c.answer_notice.ensures.others;
     }))
-    refl (λ u d. refl) refl in
+    refl (λ u d. refl) refl (c.answer_notice.ensures.room c.self.invariant.room) in
     subst (λ (z : State). OnOk c.answer_notice.result (is_spare (granted_at z.table c.args.to) (party_of z.parties c.args.to) c.args.node ≡ true → Falls c.args.to z r)) c.self.view_is
     (on_ok-more (IsServedAt c.args.to c.in-Some.party.now c.args.node s.table r.table) _ c.answer_notice.result c.answer_notice.ensures.served
     (λ f x. served-falls s r c.args.to c.args.node c.self.invariant after (λ u. refl) (subst (λ (p : Party). IsServedAt c.args.to p c.args.node s.table r.table) is f) x))

@@ -1,4 +1,4 @@
-use Rattle.std.proofs.Common.{refl, sym, ◌∙◌, ap}
+use Rattle.std.proofs.Common.{refl, sym, ◌∙◌, ap, arith}
 use Rattle.std.proofs.lemmas.Bool.{false≢true}
 use Rattle.std.specs.Prelude.{is_some}
 use Rattle.vms_queues.specs.declared.lock_mode.Mode.{Mode}
@@ -7,6 +7,7 @@ use Rattle.lock_needs.specs.Party.{Party}
 use Rattle.lock_tree.specs.LockTable.{sought_at}
 use Rattle.lock_tree.specs.Forest.{State, idle, party_of}
 use Rattle.lock_tree.proofs.HeldModes.{nothing-shares}
+use Rattle.lock_tree.proofs.KeptPlaces.{places-closed}
 use Rattle.lock_tree.proofs.OpenAsks.{opened-ended}
 use Rattle.lock_tree.proofs.Whole.{whole-ended}
 use Rattle.lock_tree.proofs.tree.Tree.release_all.Goals as goal
@@ -21,3 +22,4 @@ invariant_of-self c =
     (λ a n d f. absurd (false≢true (sym f ∙ (ap (λ (m : Mode). may_share m (sought_at r.table a n)) (c.release_owner.ensures.none n) ∙ nothing-shares (sought_at r.table a n)))))
     refl
     (opened-ended (party_of s.parties) (party_of r.parties) c.args.owner c.forget.ensures.others (ap (λ (p : Party). is_some p.opened) c.forget.ensures.own) s.trail)
+    (omega (arith, places-closed c.args.owner s.parties r.parties c.forget.ensures.others (ap (λ (p : Party). p.opened) c.forget.ensures.own), c.self.invariant.room, c.release_owner.ensures.spare))
