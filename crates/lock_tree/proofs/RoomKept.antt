@@ -1,20 +1,16 @@
 -- Room that was taken at the start of a call lasts to its end.
 use Rattle.std.proofs.Common.{◌≡◌, ℕ, ◌+◌, ◌*◌, ◌-◌, ◌≤◌, Bool, true, refl, sym, ◌∙◌, ap, subst, inl, inr, List, length, vec_len, vec_capacity, arith}
 use Rattle.std.specs.Prelude.{◌==◌, Some, is_some}
-use Rattle.std.proofs.lemmas.Bool.{false≢true, and_parts, cases_Bool, eqb-true}
+use Rattle.std.proofs.lemmas.Bool.{false≢true, cases_Bool, eqb-true}
 use Rattle.std.proofs.lemmas.Nat.{mul-le}
-use Rattle.std.proofs.Math.Nat.{le_trans}
 use Rattle.rdb_types.specs.declared.node.Level.{Level}
 use Rattle.rdb_types.specs.declared.node.Level.TheVariants.{Area, Range, Page, Line, Journal}
 use Rattle.rdb_types.specs.declared.node.Node.{Node}
-use Rattle.vms_queues.specs.Modes.{at_most, intent}
 use Rattle.vms_locks.specs.Table.{Table}
 use Rattle.lock_needs.specs.declared.need.Need.{Need}
 use Rattle.lock_needs.specs.declared.party.OpenWant.{OpenWant}
 use Rattle.lock_needs.specs.Party.{Party}
-use Rattle.lock_needs.specs.Nodes.{same_node, is_above, level_over, above_of}
-use Rattle.lock_needs.specs.Needs.{Holding}
-use Rattle.lock_needs.specs.Wants.{mode_for, sleeps_at}
+use Rattle.lock_needs.specs.Nodes.{is_above, level_over, above_of}
 use Rattle.lock_needs.proofs.Above.{above-contains, above-level}
 use Rattle.lock_needs.proofs.NodeLaws.{contains-above}
 use Rattle.lock_tree.specs.declared.parts.Parts.{Parts}

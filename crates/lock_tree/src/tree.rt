@@ -117,7 +117,13 @@ impl Tree {
         ensures err { OnErr result (IsAsBefore self.old self.new) }
     {
         match self.parts.parties.get(&to) {
-            Some(party) => answer_notice(&mut self.parts.locks, &self.parts.parties, to, party, node),
+            Some(party) => answer_notice(
+                &mut self.parts.locks,
+                &self.parts.parties,
+                to,
+                party,
+                node,
+            ),
             None => Ok(None),
         }
     }

@@ -22,9 +22,12 @@ returns-clause-whole c =
     whole-ended s r o (resting (needs_of s o)) c.requires.whole c.end_open.ensures.intents c.end_open.ensures.others ended (subst (IsKept r.table o) ended c.end_open.ensures.kept) c.end_open.ensures.parties tt (λ u n d. refl)
     c.end_open.ensures.way (subst (StandsByNeeds r.table o) ended (c.end_open.ensures.rests (least-of s o c.requires.whole))) refl
     (opened-ended (party_of s.parties) (party_of r.parties) o c.end_open.ensures.parties (ap (λ (p : Party). is_some p.opened) ended) s.trail)
-    (omega (arith,
-    places-freed o s.parties r.parties c.end_open.ensures.parties (open-owner s o c.args.want c.requires.whole c.requires.opened) (ap (λ (x : Option OpenWant). is_some x) c.requires.opened) (ap (λ (p : Party). p.opened) ended),
-    c.requires.whole.room, c.end_open.ensures.spare))
+    (omega (
+      arith,
+      places-freed o s.parties r.parties c.end_open.ensures.parties (open-owner s o c.args.want c.requires.whole c.requires.opened) (ap (λ (x : Option OpenWant). is_some x) c.requires.opened) (ap (λ (p : Party). p.opened) ended),
+      c.requires.whole.room,
+      c.end_open.ensures.spare,
+    ))
 
 pub end_open-requires-clause-room : goal.end_open-requires-clause-room
 end_open-requires-clause-room c = room-own (state_of c.args.self.now) c.args.owner c.args.want c.requires.whole c.requires.opened

@@ -69,10 +69,12 @@ go_down-requires-clause-whole c =
     (ap (open_asks r.parties) (c.cut_asks.ensures.cut ∙ cut-fresh c.args.owner c.opening-want.result never s.trail)
     ∙ opened-opens (party_of s.parties) (party_of r.parties) c.args.owner (λ u d. c.open_for.ensures.others u d ∙ c.admit.ensures.same u) shut s.trail)
     (λ f. absurd (false≢true (sym f ∙ c.requires.owner)))
-    (omega (arith,
-    places-opened c.args.owner s.parties r.parties (λ u d. c.open_for.ensures.others u d ∙ c.admit.ensures.same u) c.requires.owner
-    (ap (λ (p : Party). p.needs) c.in_ok-open_for.ensures.own ∙ ap (λ (p : Party). p.needs) (c.admit.ensures.same c.args.owner)),
-    c.requires.room.table))
+    (omega (
+      arith,
+      places-opened c.args.owner s.parties r.parties (λ u d. c.open_for.ensures.others u d ∙ c.admit.ensures.same u) c.requires.owner
+          (ap (λ (p : Party). p.needs) c.in_ok-open_for.ensures.own ∙ ap (λ (p : Party). p.needs) (c.admit.ensures.same c.args.owner)),
+      c.requires.room.table,
+    ))
 
 pub returns-clause-others : goal.returns-clause-others
 returns-clause-others c = λ u d. c.go_down.ensures.others u d ∙ (c.open_for.ensures.others u d ∙ c.admit.ensures.same u)
