@@ -67,8 +67,8 @@ impl Tree {
     /// is open goes on from where it stands; after a notice was delivered it looks again. Where it isn't to wait, what can't be
     /// granted is refused. Who sleeps or is refused waits by needs, or would wait so, for whom the answer names: by the needs that
     /// others have got, the wants that are open, and the order in which these were asked. All memory is taken before the first
-    /// change: after want of memory all is as before. A want that is open never raises the measure that each notice lowers, and where
-    /// it ends, the measure falls: so no lock goes to and fro.
+    /// change, that for the want's end with it: after want of memory all is as before. A want that is open never raises the measure
+    /// that each notice lowers, and where it ends, the measure falls: so no lock goes to and fro.
     pub fn want(&mut self, owner: u32, need: Need, wait: bool) -> Result<Want, NoMemory>
         requires owner { is_owner owner ≡ true }
         requires plain { is_plain need ≡ true }
