@@ -1,4 +1,8 @@
-use Rattle.std.proofs.Common.{refl, sym, ◌∙◌}
+use Rattle.std.proofs.Common.{◌≡◌, true, refl, sym, ◌∙◌, subst}
+use Rattle.vms_queues.specs.declared.lock_mode.Mode.{Mode}
+use Rattle.vms_queues.specs.Modes.{at_most}
+use Rattle.lock_needs.proofs.ModeTables.{join-left}
+use Rattle.lock_tree.specs.LockTable.{granted_at}
 use Rattle.lock_tree.proofs.WantAsked.{asked-mode}
 use Rattle.lock_tree.proofs.Getting.{whole-quiet, whole-intents, whole-others, whole-answered, whole-refused, whole-raised, whole-exact}
 use Rattle.lock_tree.proofs.asking.ask_whole.Goals as goal
@@ -35,3 +39,8 @@ pub returns-clause-others : goal.returns-clause-others
 returns-clause-others c =
     whole-others c.args.locks.now c.ask-answer.new.locks c.args.owner c.requires.kept.0 c.args.want c.join-mode.result (asked-mode _ _ _ _ c.join-mode.result c.granted_of-held.ensures.value refl c.join-mode.ensures.table) c.requires.kept.1 c.requires.intents
     _ c.ask-answer.ensures.answer
+
+pub ask-answer-requires-clause-ascends : goal.ask-answer-requires-clause-ascends
+ask-answer-requires-clause-ascends c =
+    let held = granted_at c.args.locks.now c.args.owner c.args.want.here in
+    subst (λ (m : Mode). at_most held m ≡ true) (sym (asked-mode _ _ _ _ c.join-mode.result c.granted_of-held.ensures.value refl c.join-mode.ensures.table)) (join-left held c.args.want.need.mode)

@@ -9,7 +9,7 @@ use Rattle.lock_needs.specs.declared.party.OpenWant.{OpenWant}
 use Rattle.lock_needs.specs.Party.{Party}
 use Rattle.lock_needs.specs.Wants.{mode_for}
 use Rattle.lock_tree.specs.LockTable.{granted_at}
-use Rattle.lock_tree.specs.Parties.{unasked}
+use Rattle.lock_tree.specs.Parties.{IsKept, unasked}
 use Rattle.lock_tree.specs.Order.{ComesDown}
 use Rattle.lock_tree.proofs.RoomKept.{roomy-on, leaves-used, kept-looked}
 use Rattle.lock_tree.specs.Forest.{State, idle, party_of}
@@ -246,3 +246,6 @@ returns-in-Asked-Granted-clause-others c = λ u d. c.go_on.ensures.others u d �
 
 pub returns-in-Asked-Asleep-clause-others : goal.returns-in-Asked-Asleep-clause-others
 returns-in-Asked-Asleep-clause-others c = λ u d. c.stand.ensures.others u d ∙ c.mark_asked-asked-in-Asked-Asleep.ensures.others u d
+
+pub look_here-requires-clause-kept : goal.look_here-requires-clause-kept
+look_here-requires-clause-kept c = subst (IsKept c.args.self.now.locks c.args.owner) (sym (ap (λ x. unwrap_or x idle) c.in-Some.ensures.value)) (c.requires.whole.kept c.args.owner)

@@ -34,3 +34,6 @@ end_open-requires-clause-room c = room-own (state_of c.args.self.now) c.args.own
 
 pub returns-clause-locks : goal.returns-clause-locks
 returns-clause-locks c = way-leaves c.args.self.now.locks c.end_open.new.locks c.args.owner c.requires.whole.intents c.end_open.ensures.way
+
+pub end_open-requires-clause-kept : goal.end_open-requires-clause-kept
+end_open-requires-clause-kept c = c.requires.whole.kept c.args.owner

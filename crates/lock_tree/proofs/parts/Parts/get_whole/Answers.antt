@@ -42,3 +42,6 @@ take_whole-requires-clause-room c = omega (arith, c.requires.room.table)
 
 pub note_ask-requires : goal.note_ask-requires
 note_ask-requires c = omega (arith, c.requires.room.trail)
+
+pub take_whole-requires-clause-kept : goal.take_whole-requires-clause-kept
+take_whole-requires-clause-kept c = c.requires.whole.kept c.args.owner

@@ -11,7 +11,7 @@ use Rattle.lock_tree.specs.States.{state_of}
 use Rattle.lock_tree.specs.Wanted.{needs_of}
 use Rattle.lock_tree.proofs.KeptPlaces.{places-still, open-owner}
 use Rattle.lock_tree.proofs.Whole.{whole-served}
-use Rattle.lock_tree.proofs.Opened.{still-open, granted-quiet_all, covered-there, down-kept, down-asks, down-stands, down-asked}
+use Rattle.lock_tree.proofs.Opened.{kept-open, still-open, granted-quiet_all, covered-there, down-kept, down-asks, down-stands, down-asked}
 use Rattle.lock_tree.proofs.WayMade.{way-none}
 use Rattle.lock_tree.proofs.OpenAsks.{opened-still}
 use Rattle.lock_tree.proofs.MeasureFalls.{next-never, ended-falls}
@@ -54,3 +54,6 @@ pub returns-in_default-clause-progress : goal.returns-in_default-clause-progress
 returns-in_default-clause-progress c =
     ended-falls (state_of c.args.self.now) (state_of c.get_need.new.self) c.args.owner c.args.want c.get_need.ensures.others
     (same-leaves c.args.self.now.locks c.get_need.new.self.locks c.args.owner c.get_need.ensures.table) c.requires.opened (ap (λ (p : Party). p.opened) c.get_need.ensures.got)
+
+pub further_down-requires : goal.further_down-requires
+further_down-requires c = record { way = (kept-open (state_of c.args.self.now) c.args.owner c.args.want c.requires.whole c.requires.opened).way }

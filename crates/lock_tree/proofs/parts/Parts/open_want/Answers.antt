@@ -1,4 +1,4 @@
-use Rattle.std.proofs.Common.{◌≡◌, sym, ◌∙◌, ap, subst, true, false, refl, arith}
+use Rattle.std.proofs.Common.{◌≡◌, List, sym, ◌∙◌, ap, subst, true, false, refl, arith}
 use Rattle.std.proofs.lemmas.Bool.{false≢true}
 use Rattle.std.specs.Prelude.{Option, is_some}
 use Rattle.lock_needs.specs.declared.need.Need.{Need}
@@ -10,7 +10,7 @@ use Rattle.lock_tree.specs.Parties.{IsKept, wanting, unasked}
 use Rattle.lock_tree.specs.Order.{StandsByNeeds, asked_of_want}
 use Rattle.lock_tree.specs.Forest.{State, open_asks, party_of}
 use Rattle.lock_tree.specs.States.{state_of}
-use Rattle.lock_tree.specs.Wanted.{needs_of}
+use Rattle.lock_tree.specs.Wanted.{needs_of, Answered}
 use Rattle.lock_tree.proofs.Outcomes.{on_err-any}
 use Rattle.lock_tree.proofs.Trails.{asks-opening, never-asked}
 use Rattle.lock_tree.proofs.Wanting.{opens}
@@ -78,3 +78,10 @@ go_down-requires-clause-whole c =
 
 pub returns-clause-others : goal.returns-clause-others
 returns-clause-others c = λ u d. c.go_down.ensures.others u d ∙ (c.open_for.ensures.others u d ∙ c.admit.ensures.same u)
+
+pub returns-clause-answer : goal.returns-clause-answer
+returns-clause-answer c =
+    let r = state_of c.go_down.new.self in
+    subst (λ (n : Need). Answered (needs_of (state_of c.args.self.now) c.args.owner) r c.args.owner n c.args.wait c.go_down.result) c.opening-want.ensures.need
+    (subst (λ (ws : List Need). Answered ws r c.args.owner c.opening-want.result.need c.args.wait c.go_down.result)
+    (ap (λ (p : Party). p.needs) c.in_ok-open_for.ensures.own ∙ ap (λ (p : Party). p.needs) (c.admit.ensures.same c.args.owner)) c.go_down.ensures.answer)
