@@ -39,7 +39,7 @@ module _ (f g : ℕ → ℕ) (o : ℕ) (others : (u : ℕ) → (u == o) ≡ fals
       let to = sum_by-cons g a (range_with_len (a + 1) n) in
       omega (arith, first, rest, on, to)
 
-  pub sum-but : (a n : ℕ) → a ≤ o → o < a + n → sum_by g (range_with_len a n) + f o ≡ sum_by f (range_with_len a n) + g o
+  sum-but : (a n : ℕ) → a ≤ o → o < a + n → sum_by g (range_with_len a n) + f o ≡ sum_by f (range_with_len a n) + g o
   sum-but a zero h k = absurd (omega arith)
   sum-but a (suc n) h k =
       let on = sum_by-cons f a (range_with_len (a + 1) n) in
@@ -62,7 +62,7 @@ module _ (f g : ℕ → ℕ) (o : ℕ) (others : (u : ℕ) → (u == o) ≡ fals
 abbrev places_in : Parties → ℕ → ℕ
 places_in ps u = places_of (party_of ps u)
 
-pub within : (o : ℕ) → is_owner o ≡ true → (1 ≤ o) × (o ≤ 16)
+within : (o : ℕ) → is_owner o ≡ true → (1 ≤ o) × (o ≤ 16)
 within o h =
     let p = and_parts (nat_le 1 o) (nat_le o 16) h in
     (leb-true 1 o p.0, leb-true o 16 p.1)
@@ -70,7 +70,7 @@ within o h =
 closed-places : (p : Party) → p.opened ≡ None → places_of p ≡ 0
 closed-places p e = ap (λ (o : Option OpenWant). if is_some o then length p.needs else 0) e
 
-pub open-places : (p : Party) (w : OpenWant) → p.opened ≡ Some w → places_of p ≡ length p.needs
+open-places : (p : Party) (w : OpenWant) → p.opened ≡ Some w → places_of p ≡ length p.needs
 open-places p w e = ap (λ (o : Option OpenWant). if is_some o then length p.needs else 0) e
 
 most-places : (p : Party) → places_of p ≤ length p.needs
@@ -88,7 +88,7 @@ module _ (owner : ℕ) (old new : Parties) (others : KeepsParties owner old new)
   places-others u d = ap places_of (others u d)
 
   -- no more than before are kept for the owner
-  pub places-most : places_in new owner ≤ places_in old owner → places_kept new ≤ places_kept old
+  places-most : places_in new owner ≤ places_in old owner → places_kept new ≤ places_kept old
   places-most less =
       sum_by-le-sum_by (places_in new) (places_in old) all_owners
       (λ u. elim (cases_Bool (u == owner)) [

@@ -65,10 +65,6 @@ module _ (owner : ℕ) (old new : Parts) (needs : needs_of (state_of new) owner 
         trail = omega (arith, r.trail, long, capacity);
       }
 
--- a want that is open needs no more than one that may open
-pub room-open : (owner : ℕ) (p : Parts) → HasRoomToOpen owner p → HasRoomFor 4 owner p
-room-open owner p r = record { table = omega (arith, r.table); trail = r.trail }
-
 -- ---- what is kept for the ends of wants stays
 
 module _ (owner : ℕ) (old : Parts) (new : Table) (room : HasRoomFor 1 owner old) where
