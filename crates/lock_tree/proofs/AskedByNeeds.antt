@@ -4,7 +4,7 @@ use Rattle.std.specs.Prelude.{◌==◌, if◌then◌else◌, Option, Some, None}
 use Rattle.std.proofs.lemmas.Bool.{false≢true, cases_Bool, eq-eqb, eqb-true, or_parts}
 use Rattle.vms_queues.specs.declared.lock_mode.Mode.TheVariants.{NL}
 use Rattle.vms_queues.specs.Modes.{at_most}
-use Rattle.vms_locks.specs.Table.{Table, queues_at, WaitsIn}
+use Rattle.vms_locks.specs.Table.{Table, queues_at, IsLive, WaitsIn}
 use Rattle.vms_locks.specs.Walks.{IsCycle}
 use Rattle.vms_locks.specs.declared.answer.Enq.{Enq}
 use Rattle.vms_locks.specs.declared.answer.Enq.TheVariants.{NotQueued, Deadlock}
@@ -22,12 +22,14 @@ use Rattle.lock_tree.specs.Parties.{wanting, unasked, asked_at}
 use Rattle.lock_tree.specs.Forest.{State, IsWhole, open_asks, party_of, opened_of}
 use Rattle.lock_tree.specs.Asking.{AsksAt, asked_mode}
 use Rattle.lock_tree.specs.Wanted.{needs_of}
-use Rattle.lock_tree.specs.Order.{KeepsParty, MayAsk, AnswersByNeeds, asked_last, waits_with, waits_by_needs}
+use Rattle.lock_tree.specs.Order.{AreKept, KeepsParty, MayAsk, AnswersByNeeds, asked_last, waits_with, waits_by_needs}
 use Rattle.lock_tree.proofs.NeedsInWay.{waits-in_needed}
 use Rattle.lock_tree.proofs.Refusals.{cycle-more}
 use Rattle.lock_tree.proofs.AnsweredInOrder.{none-due, answered-by_needs}
-use Rattle.lock_tree.proofs.Whole.{live-of, order-of}
-use Rattle.lock_tree.proofs.Opened.{as-open, whole-kept}
+use Rattle.lock_tree.proofs.WayMade.{stays-live}
+use Rattle.lock_tree.proofs.StepsInOrder.{served-in_order}
+use Rattle.lock_tree.proofs.Whole.{live-of, order-of, least-of, after-kept}
+use Rattle.lock_tree.proofs.Opened.{as-open}
 
 -- a need that isn't covered is for something
 pub need-used : (held : Holding) (w : Need) → is_covered held w ≡ false → at_most w.mode NL ≡ false
@@ -69,15 +71,19 @@ module _ (s : State) (owner : ℕ) (w : OpenWant) (whole : IsWhole s) (opened : 
     abbrev between : State
     between = record { table = a.before; parties = s.parties; trail = s.trail }
 
-    whole-between : IsWhole between
-    whole-between = whole-kept s between owner whole a.down refl (λ u d. refl) refl
+    kept-between : AreKept a.before (party_of s.parties)
+    kept-between = after-kept s between owner (party_of s.parties owner) whole a.down.intents a.down.others refl a.down.kept (λ u d. refl) (whole.asks owner) (λ u n d. refl)
+
+    live-between : IsLive (queues_at a.before)
+    live-between = stays-live owner s.table a.before a.down.way (live-of s whole)
 
     may-ask : MayAsk a.before (party_of s.parties) (open_asks s.parties s.trail) owner (needs_of s owner) w
     may-ask = record {
-      live = live-of between whole-between;
-      intents = whole-between.intents;
-      kept = whole-between.kept;
-      order = order-of between whole-between;
+      live = live-between;
+      intents = a.down.intents;
+      kept = kept-between;
+      order = served-in_order s.table a.before (party_of s.parties) (party_of s.parties) (open_asks s.parties s.trail) owner a.down.way live-between whole.kept kept-between (λ u d. refl)
+          (a.down.stands (least-of s owner whole)) (order-of s whole) (λ n. refl) (λ n. refl);
       own = own;
       real = real;
       least = subst (λ (p : Party). at_most (granted_at a.before owner w.here) (kept_at (granted_at a.before owner) p w.here) ≡ true) own a.least;

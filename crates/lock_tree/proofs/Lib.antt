@@ -21,6 +21,7 @@ pub mod Answered
 pub mod Exactness
 pub mod Getting
 pub mod Opened
+pub mod KeptPlaces
 pub mod Looked
 pub mod SameNeeds
 pub mod Descending

@@ -1,7 +1,8 @@
 -- The steps of an open want, by the tree's state.
-use Rattle.std.proofs.Common.{◌≡◌, ℕ, ◌++◌, ◌∷◌, [], ◌<◌, ◌-◌, Bool, true, false, List, refl, sym, ◌∙◌, ap, subst, inl, inr, arith}
+use Rattle.std.proofs.Common.{◌≡◌, ℕ, ◌++◌, ◌∷◌, [], ◌<◌, ◌≤◌, ◌-◌, Bool, true, false, List, refl, sym, ◌∙◌, ap, subst, inl, inr, arith}
 use Rattle.std.specs.Prelude.{not, ◌&&◌, ◌||◌, if◌then◌else◌, Option, Some, None, is_some}
 use Rattle.std.specs.List.{list_all}
+use Rattle.std.proofs.Math.Nat.{le_trans}
 use Rattle.std.proofs.lemmas.Bool.{false≢true, cases_Bool, and_parts, and_from, or_left}
 use Rattle.rdb_types.specs.declared.node.Level.{Level}
 use Rattle.rdb_types.specs.declared.node.Level.TheVariants.{Area, Range, Page, Line, Journal}
@@ -20,9 +21,10 @@ use Rattle.lock_needs.proofs.Above.{above-contains, above-level}
 use Rattle.lock_tree.specs.LockTable.{granted_at, sought_at, HasIntents}
 use Rattle.lock_tree.specs.Parties.{IsKept, KeepsOthers, wanting, resting, unasked, asked_at, was_asked}
 use Rattle.lock_tree.specs.Releasing.{IsQuiet}
-use Rattle.lock_tree.specs.Forest.{Parties, State, IsWhole, HasAsks, KeepsParties, is_asked_at, open_asks, party_of, opened_of}
+use Rattle.lock_tree.specs.Forest.{Parties, State, IsWhole, HasAsks, KeepsParties, is_asked_at, open_asks, party_of, opened_of, places_kept}
 use Rattle.lock_tree.specs.Wanted.{needs_of, IsOpen}
 use Rattle.lock_tree.proofs.Depths.{depth}
+use Rattle.lock_tree.proofs.KeptPlaces.{places-same, places-still, open-owner}
 use Rattle.lock_tree.proofs.Leaving.{and-none, sleeps-elsewhere, up-same}
 use Rattle.lock_tree.proofs.Wanting.{at_node, descends}
 use Rattle.lock_tree.proofs.Getting.{got-open}
@@ -43,13 +45,14 @@ as-resting p opened = ap (λ (o : Option OpenWant). record p { opened = o }) ope
 
 -- the owner's locks came down, and nothing else changed
 pub whole-kept : (s r : State) (owner : ℕ) → IsWhole s → ComesDown owner (party_of s.parties owner) s.table r.table
-    → party_of r.parties owner ≡ party_of s.parties owner → KeepsParties owner s.parties r.parties → r.trail ≡ s.trail → IsWhole r
-whole-kept s r owner whole down own same trail =
+    → party_of r.parties owner ≡ party_of s.parties owner → KeepsParties owner s.parties r.parties → r.trail ≡ s.trail → places_kept s.parties ≤ r.table.spare → IsWhole r
+whole-kept s r owner whole down own same trail room =
     whole-served s r owner (party_of s.parties owner) whole down.intents down.others own down.kept same
     (subst (λ (a : List Asked). HasAsks a owner (party_of s.parties owner).opened) (sym trail) (whole.asks owner))
     (λ u n d. ap (λ (a : List Asked). is_asked_at a u n) trail)
     down.way (down.stands (least-of s owner whole)) (λ n. refl) (λ n. refl)
     (ap (open_asks r.parties) trail ∙ opened-still (party_of s.parties) (party_of r.parties) owner same (ap (λ (p : Party). is_some p.opened) own) s.trail)
+    (whole.owners owner) (le_trans (places-same owner s.parties r.parties same own) room)
 
 -- nothing changed but the others' shares of the map
 pub whole-same : (s r : State) (owner : ℕ) → IsWhole s → r.table ≡ s.table → party_of r.parties owner ≡ party_of s.parties owner → KeepsParties owner s.parties r.parties → r.trail ≡ s.trail → IsWhole r
@@ -62,16 +65,18 @@ whole-same s r owner whole table own same trail =
       intents = whole.intents;
       others = λ u q d k. k;
     }))
-    own same trail
+    own same trail (subst (λ (t : Table). places_kept s.parties ≤ t.spare) (sym table) whole.room)
 
 -- the owner has no want open any more, and was asked for it at the node
 pub whole-noted : (s r : State) (owner : ℕ) (n : Node) (ws : List Need) → IsWhole s → HasIntents r.table → KeepsOthers owner s.table r.table → IsKept r.table owner (resting ws)
-    → party_of r.parties owner ≡ resting ws → KeepsParties owner s.parties r.parties → r.trail ≡ s.trail ++ entry_of owner n ∷ [] → MakesWay owner s.table r.table → StandsByNeeds r.table owner (resting ws) → IsWhole r
-whole-noted s r owner n ws whole intents others kept own same trail way stands =
+    → party_of r.parties owner ≡ resting ws → KeepsParties owner s.parties r.parties → r.trail ≡ s.trail ++ entry_of owner n ∷ [] → MakesWay owner s.table r.table → StandsByNeeds r.table owner (resting ws)
+    → places_kept r.parties ≤ r.table.spare → IsWhole r
+whole-noted s r owner n ws whole intents others kept own same trail way stands room =
     whole-ended s r owner (resting ws) whole intents others own kept same tt
     (λ u x d. ap (λ (a : List Asked). is_asked_at a u x) trail ∙ pushed-others owner n s.trail u x d)
     way stands refl
     (ap (open_asks r.parties) trail ∙ opened-noted (party_of s.parties) (party_of r.parties) owner same (ap (λ (p : Party). is_some p.opened) own) n s.trail)
+    room
 
 -- what an owner's open want is told by
 pub kept-open : (s : State) (owner : ℕ) (w : OpenWant) → IsWhole s → opened_of s owner ≡ Some w → IsKept s.table owner (wanting (needs_of s owner) w)
@@ -87,11 +92,13 @@ still-open s r owner w n opened is own = (w, own ∙ as-open (party_of s.parties
 pub whole-asked : (s r : State) (owner : ℕ) (w : OpenWant) → IsWhole s → opened_of s owner ≡ Some (unasked w) → HasIntents r.table → KeepsOthers owner s.table r.table
     → IsKept r.table owner (wanting (needs_of s owner) (asked_at w w.here)) → party_of r.parties owner ≡ wanting (needs_of s owner) (asked_at w w.here)
     → KeepsParties owner s.parties r.parties → r.trail ≡ s.trail ++ entry_of owner w.here ∷ []
-    → IsLive (queues_at r.table) → IsInOrder r.table (party_of r.parties) (asked_last (open_asks s.parties s.trail) owner w.here) → IsWhole r
-whole-asked s r owner w whole opened intents others kept own same trail live order =
+    → IsLive (queues_at r.table) → IsInOrder r.table (party_of r.parties) (asked_last (open_asks s.parties s.trail) owner w.here) → places_kept s.parties ≤ r.table.spare → IsWhole r
+whole-asked s r owner w whole opened intents others kept own same trail live order room =
     whole-after s r owner (wanting (needs_of s owner) (asked_at w w.here)) whole intents others own kept same
     (subst (λ (a : List Asked). HasAsks a owner (Some (asked_at w w.here))) (sym trail) (asks-pushed owner w s.trail (asks-open s owner (unasked w) whole opened)))
     (λ u x d. ap (λ (a : List Asked). is_asked_at a u x) trail ∙ pushed-others owner w.here s.trail u x d)
+    (λ f. absurd (false≢true (sym f ∙ open-owner s owner (unasked w) whole opened)))
+    (le_trans (places-still owner s.parties r.parties same (ap (λ (o : Option OpenWant). is_some o) opened) (ap (λ (p : Party). p.needs) own)) room)
     live
     (subst (IsInOrder r.table (party_of r.parties))
     (sym (ap (open_asks r.parties) trail
@@ -100,9 +107,9 @@ whole-asked s r owner w whole opened intents others kept own same trail live ord
 
 -- the open want looked at its node, and wasn't asked there, or was refused
 pub whole-looked : (s r : State) (owner : ℕ) (w : OpenWant) → IsWhole s → opened_of s owner ≡ Some (unasked w) → ComesDown owner (party_of s.parties owner) s.table r.table
-    → r.parties ≡ s.parties → r.trail ≡ s.trail → IsWhole r
-whole-looked s r owner w whole opened down parties trail =
-    whole-kept s r owner whole down (ap (λ (ps : Parties). party_of ps owner) parties) (λ u d. ap (λ (ps : Parties). party_of ps u) parties) trail
+    → r.parties ≡ s.parties → r.trail ≡ s.trail → places_kept s.parties ≤ r.table.spare → IsWhole r
+whole-looked s r owner w whole opened down parties trail room =
+    whole-kept s r owner whole down (ap (λ (ps : Parties). party_of ps owner) parties) (λ u d. ap (λ (ps : Parties). party_of ps u) parties) trail room
 
 -- ---- a want that is covered
 

@@ -1,5 +1,6 @@
 -- What is true of a table whatever places are spare in it.
-use Rattle.std.proofs.Common.{◌≡◌, ℕ, sym, ap, subst, List}
+use Rattle.std.proofs.Common.{◌≡◌, ℕ, ◌≤◌, sym, ap, subst, List}
+use Rattle.std.proofs.Math.Nat.{le_trans}
 use Rattle.rdb_types.specs.declared.node.Node.{Node}
 use Rattle.vms_queues.specs.Queues.{Queues}
 use Rattle.vms_locks.specs.Table.{Table}
@@ -23,12 +24,14 @@ order-spare : (t : Table) (n : ℕ) (party : ℕ → Party) (asks : List Asked) 
 unfolding StandsInOrder
 order-spare t n party asks h = (h.0, record { least = h.1.least; ordered = h.1.ordered; listed = h.1.listed })
 
-whole-spare : (s : State) (n : ℕ) → IsWhole s → IsWhole (record { table = with_spare s.table n; parties = s.parties; trail = s.trail })
-whole-spare s n w = record {
+whole-spare : (s : State) (n : ℕ) → s.table.spare ≤ n → IsWhole s → IsWhole (record { table = with_spare s.table n; parties = s.parties; trail = s.trail })
+whole-spare s n more w = record {
   intents = intents-spare s.table n w.intents;
   kept = w.kept;
   asks = w.asks;
   in_order = order-spare s.table n (party_of s.parties) (open_asks s.parties s.trail) w.in_order;
+  owners = w.owners;
+  room = le_trans w.room more;
 }
 
 way-spare : (owner : ℕ) (old new : Table) (n : ℕ) → MakesWay owner (with_spare old n) new → MakesWay owner old new
@@ -41,11 +44,11 @@ pub intents-same : (old new : Table) → new.entries ≡ old.entries → HasInte
 intents-same old new e h = subst HasIntents (sym (same-entries old new e)) (intents-spare old new.spare h)
 
 -- where memory was taken all is true still
-pub whole-room : (s r : State) → r.table.entries ≡ s.table.entries → r.parties ≡ s.parties → r.trail ≡ s.trail → IsWhole s → IsWhole r
-whole-room s r e parties trail w =
+pub whole-room : (s r : State) → r.table.entries ≡ s.table.entries → s.table.spare ≤ r.table.spare → r.parties ≡ s.parties → r.trail ≡ s.trail → IsWhole s → IsWhole r
+whole-room s r e more parties trail w =
     subst (λ (ps : Parties). IsWhole (record { table = r.table; parties = ps; trail = r.trail })) (sym parties)
     (subst (λ (a : List Asked). IsWhole (record { table = r.table; parties = s.parties; trail = a })) (sym trail)
-    (subst (λ (t : Table). IsWhole (record { table = t; parties = s.parties; trail = s.trail })) (sym (same-entries s.table r.table e)) (whole-spare s r.table.spare w)))
+    (subst (λ (t : Table). IsWhole (record { table = t; parties = s.parties; trail = s.trail })) (sym (same-entries s.table r.table e)) (whole-spare s r.table.spare more w)))
 
 pub way-same : (owner : ℕ) (old mid new : Table) → mid.entries ≡ old.entries → MakesWay owner mid new → MakesWay owner old new
 way-same owner old mid new e w = way-spare owner old new mid.spare (subst (λ (t : Table). MakesWay owner t new) (same-entries old mid e) w)

@@ -1,29 +1,26 @@
 -- Room that was taken at the start of a call lasts to its end.
 use Rattle.std.proofs.Common.{◌≡◌, ℕ, ◌+◌, ◌*◌, ◌-◌, ◌≤◌, Bool, true, refl, sym, ◌∙◌, ap, subst, inl, inr, List, length, vec_len, vec_capacity, arith}
-use Rattle.std.specs.Prelude.{◌&&◌, ◌==◌, not, if◌then◌else◌, Some}
-use Rattle.std.proofs.lemmas.Bool.{false≢true, and_parts, cases_Bool, eqb-true}
+use Rattle.std.specs.Prelude.{◌==◌, Some, is_some}
+use Rattle.std.proofs.lemmas.Bool.{false≢true, cases_Bool, eqb-true}
 use Rattle.std.proofs.lemmas.Nat.{mul-le}
-use Rattle.std.proofs.Math.Nat.{le_trans}
 use Rattle.rdb_types.specs.declared.node.Level.{Level}
 use Rattle.rdb_types.specs.declared.node.Level.TheVariants.{Area, Range, Page, Line, Journal}
 use Rattle.rdb_types.specs.declared.node.Node.{Node}
-use Rattle.vms_queues.specs.Modes.{at_most, intent}
 use Rattle.vms_locks.specs.Table.{Table}
 use Rattle.lock_needs.specs.declared.need.Need.{Need}
 use Rattle.lock_needs.specs.declared.party.OpenWant.{OpenWant}
 use Rattle.lock_needs.specs.Party.{Party}
-use Rattle.lock_needs.specs.Nodes.{same_node, is_above, level_over, above_of}
-use Rattle.lock_needs.specs.Needs.{Holding}
-use Rattle.lock_needs.specs.Wants.{mode_for, sleeps_at}
+use Rattle.lock_needs.specs.Nodes.{is_above, level_over, above_of}
 use Rattle.lock_needs.proofs.Above.{above-contains, above-level}
 use Rattle.lock_needs.proofs.NodeLaws.{contains-above}
 use Rattle.lock_tree.specs.declared.parts.Parts.{Parts}
 use Rattle.lock_tree.specs.declared.answer.Step.{Step}
 use Rattle.lock_tree.specs.declared.answer.Step.TheVariants.{Down, Ends}
-use Rattle.lock_tree.specs.Forest.{State, Parties, KeepsParties, party_of}
+use Rattle.lock_tree.specs.Forest.{State, Parties, KeepsParties, party_of, places_kept}
 use Rattle.lock_tree.specs.States.{state_of}
 use Rattle.lock_tree.specs.Wanted.{needs_of, Steps}
-use Rattle.lock_tree.specs.Room.{HasRoomFor, LeavesRoom, StaysRoomy, IsAsBefore, is_over_others, has_whole, depth}
+use Rattle.lock_tree.specs.Room.{HasRoomFor, HasRoomToOpen, LeavesRoom, StaysRoomy, IsAsBefore, depth}
+use Rattle.lock_tree.proofs.KeptPlaces.{places-same, places-still}
 
 -- as many places more or fewer
 times-more : (n k : ℕ) → (n + 1) * k ≡ n * k + k
@@ -32,30 +29,54 @@ times-more n k = grind (arith)
 -- ---- from one state to another
 
 module _ (owner : ℕ) (old new : Parts) (needs : needs_of (state_of new) owner ≡ needs_of (state_of old) owner) where
-  -- the same table and trail
-  pub room-same : new.locks ≡ old.locks → new.trail ≡ old.trail → (nodes : ℕ) → HasRoomFor nodes owner old → HasRoomFor nodes owner new
-  room-same locks trail nodes r =
-      record {
-        table = subst (λ (ws : List Need). nodes * (length ws + 1) ≤ new.locks.spare) (sym needs) (subst (λ (t : Table). nodes * (length (needs_of (state_of old) owner) + 1) ≤ t.spare) (sym locks) r.table);
-        trail = subst (λ t. vec_len t + nodes ≤ vec_capacity t) (sym trail) r.trail;
-      }
+  abbrev places : ℕ
+  places = length (needs_of (state_of old) owner) + 1
 
-  -- a trail that was cut
-  pub room-cut : new.locks ≡ old.locks → vec_len new.trail ≤ vec_len old.trail → vec_capacity new.trail ≡ vec_capacity old.trail → (nodes : ℕ) → HasRoomFor nodes owner old → HasRoomFor nodes owner new
-  room-cut locks long capacity nodes r =
+  -- so many places are spare, by the needs as they were
+  by-old : (nodes : ℕ) → nodes * places + places_kept new.parties.entries ≤ new.locks.spare → nodes * (length (needs_of (state_of new) owner) + 1) + places_kept new.parties.entries ≤ new.locks.spare
+  by-old nodes h = subst (λ (ws : List Need). nodes * (length ws + 1) + places_kept new.parties.entries ≤ new.locks.spare) (sym needs) h
+
+  -- no more places are kept
+  module _ (kept : places_kept new.parties.entries ≤ places_kept old.parties.entries) where
+    -- the same table and trail
+    pub room-same : new.locks ≡ old.locks → new.trail ≡ old.trail → (nodes : ℕ) → HasRoomFor nodes owner old → HasRoomFor nodes owner new
+    room-same locks trail nodes r =
+        let spare : new.locks.spare ≡ old.locks.spare = ap (λ (t : Table). t.spare) locks in
+        record {
+          table = by-old nodes (omega (arith, r.table, kept, spare));
+          trail = subst (λ t. vec_len t + nodes ≤ vec_capacity t) (sym trail) r.trail;
+        }
+
+    -- room for one node was used
+    pub room-used : old.locks.spare ≤ new.locks.spare + places → vec_len new.trail ≡ vec_len old.trail + 1 → vec_capacity old.trail ≤ vec_capacity new.trail → (nodes : ℕ) → HasRoomFor (nodes + 1) owner old → HasRoomFor nodes owner new
+    room-used spare long capacity nodes r =
+        record {
+          table = by-old nodes (omega (arith, r.table, spare, kept, times-more nodes places));
+          trail = omega (arith, r.trail, long, capacity);
+        }
+
+  -- the want has opened, and the trail was cut
+  pub room-opened : places_kept new.parties.entries ≤ places_kept old.parties.entries + length (needs_of (state_of old) owner) → new.locks ≡ old.locks
+      → vec_len new.trail ≤ vec_len old.trail → vec_capacity new.trail ≡ vec_capacity old.trail → HasRoomToOpen owner old → HasRoomFor 4 owner new
+  room-opened kept locks long capacity r =
+      let spare : new.locks.spare ≡ old.locks.spare = ap (λ (t : Table). t.spare) locks in
       record {
-        table = subst (λ (ws : List Need). nodes * (length ws + 1) ≤ new.locks.spare) (sym needs) (subst (λ (t : Table). nodes * (length (needs_of (state_of old) owner) + 1) ≤ t.spare) (sym locks) r.table);
+        table = by-old 4 (omega (arith, r.table, kept, spare));
         trail = omega (arith, r.trail, long, capacity);
       }
 
-  -- room for one node was used
-  pub room-used : old.locks.spare ≤ new.locks.spare + (length (needs_of (state_of old) owner) + 1) → vec_len new.trail ≡ vec_len old.trail + 1 → vec_capacity old.trail ≤ vec_capacity new.trail → (nodes : ℕ) → HasRoomFor (nodes + 1) owner old → HasRoomFor nodes owner new
-  room-used spare long capacity nodes r =
-      let places : ℕ = length (needs_of (state_of old) owner) + 1 in
-      record {
-        table = subst (λ (ws : List Need). nodes * (length ws + 1) ≤ new.locks.spare) (sym needs) (omega (arith, r.table, spare, times-more nodes places));
-        trail = omega (arith, r.trail, long, capacity);
-      }
+-- ---- what is kept for the ends of wants stays
+
+module _ (owner : ℕ) (old : Parts) (new : Table) (room : HasRoomFor 1 owner old) where
+  -- as the want looks at its node
+  pub kept-looked : (p : Party) → p ≡ party_of old.parties.entries owner → old.locks.spare ≤ new.spare + (length p.needs + 1) → places_kept old.parties.entries ≤ new.spare
+  kept-looked p is spare =
+      let long : length p.needs ≡ length (needs_of (state_of old) owner) = ap (λ (q : Party). length q.needs) is in
+      omega (arith, room.table, spare, long)
+
+  -- as it asks its whole need there
+  pub kept-taken : old.locks.spare ≤ new.spare + 1 → places_kept old.parties.entries ≤ new.spare
+  kept-taken spare = omega (arith, room.table, spare)
 
 -- ---- steps
 
@@ -63,22 +84,29 @@ module _ (owner : ℕ) (old new : Parts) (needs : needs_of (state_of new) owner 
 down-needs : (ws : List Need) (s : State) (owner : ℕ) (w v : OpenWant) (wait : Bool) → Steps ws s owner w wait (Down v) → needs_of s owner ≡ ws
 down-needs ws s owner w v wait h = ap (λ (p : Party). p.needs) h.0
 
-module _ (owner : ℕ) (ws : List Need) (w : OpenWant) (wait : Bool) (old new : Parts) (is : needs_of (state_of old) owner ≡ ws) where
+module _ (owner : ℕ) (ws : List Need) (w : OpenWant) (wait : Bool) (old new : Parts) (is : needs_of (state_of old) owner ≡ ws) (open_ : is_some (party_of old.parties.entries owner).opened ≡ true)
+    (others : KeepsParties owner old.parties.entries new.parties.entries) where
   -- a step that changes neither the table nor the trail
   pub roomy-on : new.locks ≡ old.locks → new.trail ≡ old.trail → (step : Step) → Steps ws (state_of new) owner w wait step → StaysRoomy owner old new step
-  roomy-on locks trail (Down v) h = room-same owner old new (down-needs ws (state_of new) owner w v wait h ∙ sym is) locks trail
+  roomy-on locks trail (Down v) h =
+      let needs : needs_of (state_of new) owner ≡ needs_of (state_of old) owner = down-needs ws (state_of new) owner w v wait h ∙ sym is in
+      room-same owner old new needs (places-still owner old.parties.entries new.parties.entries others open_ needs) locks trail
   roomy-on locks trail (Ends answer) h = tt
 
--- a step after the table and the trail have stayed
-pub leaves-after : (owner : ℕ) (old mid new : Parts) → needs_of (state_of mid) owner ≡ needs_of (state_of old) owner → mid.locks ≡ old.locks → mid.trail ≡ old.trail → (step : Step) → LeavesRoom owner mid new step → LeavesRoom owner old new step
-leaves-after owner old mid new needs locks trail (Down v) h = λ nodes r. h nodes (room-same owner old mid needs locks trail (nodes + 1) r)
-leaves-after owner old mid new needs locks trail (Ends answer) h = tt
+-- a step after the table, the trail and the parties have stayed
+pub leaves-after : (owner : ℕ) (old mid new : Parts) → party_of mid.parties.entries owner ≡ party_of old.parties.entries owner → KeepsParties owner old.parties.entries mid.parties.entries → mid.locks ≡ old.locks → mid.trail ≡ old.trail
+    → (step : Step) → LeavesRoom owner mid new step → LeavesRoom owner old new step
+leaves-after owner old mid new own others locks trail (Down v) h = λ nodes r.
+    h nodes (room-same owner old mid (ap (λ (p : Party). p.needs) own) (places-same owner old.parties.entries mid.parties.entries others own) locks trail (nodes + 1) r)
+leaves-after owner old mid new own others locks trail (Ends answer) h = tt
 
--- a step after room for one node was used
-pub leaves-used : (owner : ℕ) (old mid new : Parts) → needs_of (state_of mid) owner ≡ needs_of (state_of old) owner → old.locks.spare ≤ mid.locks.spare + (length (needs_of (state_of old) owner) + 1) → vec_len mid.trail ≡ vec_len old.trail + 1 → vec_capacity old.trail ≤ vec_capacity mid.trail
+-- a step after room for one node was used, with the want open before and after
+pub leaves-used : (owner : ℕ) (old mid new : Parts) → needs_of (state_of mid) owner ≡ needs_of (state_of old) owner → is_some (party_of old.parties.entries owner).opened ≡ true → KeepsParties owner old.parties.entries mid.parties.entries
+    → old.locks.spare ≤ mid.locks.spare + (length (needs_of (state_of old) owner) + 1) → vec_len mid.trail ≡ vec_len old.trail + 1 → vec_capacity old.trail ≤ vec_capacity mid.trail
     → (step : Step) → StaysRoomy owner mid new step → LeavesRoom owner old new step
-leaves-used owner old mid new needs spare long capacity (Down v) h = λ nodes r. h nodes (room-used owner old mid needs spare long capacity nodes r)
-leaves-used owner old mid new needs spare long capacity (Ends answer) h = tt
+leaves-used owner old mid new needs open_ others spare long capacity (Down v) h = λ nodes r.
+    h nodes (room-used owner old mid needs (places-still owner old.parties.entries mid.parties.entries others open_ needs) spare long capacity nodes r)
+leaves-used owner old mid new needs open_ others spare long capacity (Ends answer) h = tt
 
 -- ---- nodes on the way
 
@@ -86,7 +114,7 @@ leaves-used owner old mid new needs spare long capacity (Ends answer) h = tt
 pub room-fewer : (owner : ℕ) (p : Parts) (few many : ℕ) → few ≤ many → HasRoomFor many owner p → HasRoomFor few owner p
 room-fewer owner p few many h r =
     let places : ℕ = length (needs_of (state_of p) owner) + 1 in
-    record { table = le_trans (mul-le few places many places h (omega arith)) r.table; trail = omega (arith, h, r.trail) }
+    record { table = omega (arith, mul-le few places many places h (omega arith), r.table); trail = omega (arith, h, r.trail) }
 
 shallow : (l : Level) → depth l ≤ 3
 shallow Area = omega arith
@@ -115,16 +143,6 @@ lower-left n up e =
 
 pub room-lower : (owner : ℕ) (old new : Parts) (n up : Node) → above_of n ≡ Some up → ((nodes : ℕ) → HasRoomFor (nodes + 1) owner old → HasRoomFor nodes owner new) → HasRoomFor (4 - depth up.level) owner old → HasRoomFor (4 - depth n.level) owner new
 room-lower owner old new n up e leaves r = leaves (4 - depth n.level) (subst (λ (k : ℕ). HasRoomFor k owner old) (sym (lower-left n up e)) r)
-
--- a want that sleeps wasn't granted its whole need
-pub asleep-partly : (held : Holding) (w : OpenWant) → sleeps_at held (Some w) w.here ≡ true → has_whole held w ≡ true → ⊥
-asleep-partly held w s h =
-    let p = and_parts (same_node w.here w.here) (w.is_asked && not (at_most (mode_for w.need w.here) (held w.here))) s in
-    let q = and_parts w.is_asked (not (at_most (mode_for w.need w.here) (held w.here))) p.1 in
-    let r = and_parts w.is_asked (is_over_others w && at_most w.need.mode (held w.here)) h in
-    let t = and_parts (is_over_others w) (at_most w.need.mode (held w.here)) r.1 in
-    let here : same_node w.here w.need.node ≡ true = (and_parts (is_above w.here.level Line) (same_node w.here w.need.node) t.0).1 in
-    false≢true (ap not (sym (subst (λ (b : Bool). at_most (if b then w.need.mode else intent w.need.mode) (held w.here) ≡ true) (sym here) t.1)) ∙ q.1)
 
 -- ---- nothing that shows
 

@@ -1,5 +1,5 @@
 -- A notice that was served, by what the table was left.
-use Rattle.std.proofs.Common.{◌≡◌, ℕ, Bool, true, false, sym, ◌∙◌, ap, subst, inl, inr, refl, List}
+use Rattle.std.proofs.Common.{◌≡◌, ℕ, ◌+◌, ◌≤◌, Bool, true, false, sym, ◌∙◌, ap, subst, inl, inr, refl, List, arith}
 use Rattle.std.proofs.lemmas.Bool.{false≢true, cases_Bool, or_parts}
 use Rattle.rdb_types.specs.declared.node.Node.{Node}
 use Rattle.vms_queues.specs.declared.lock_mode.Mode.{Mode}
@@ -12,8 +12,11 @@ use Rattle.lock_needs.specs.Wants.{kept_at}
 use Rattle.lock_needs.proofs.NodeLaws.{same_node-sym}
 use Rattle.lock_tree.specs.LockTable.{granted_at}
 use Rattle.lock_tree.specs.Lowering.{BroughtDown}
+use Rattle.lock_tree.specs.Parties.{IsKept}
+use Rattle.lock_tree.specs.Forest.{State, IsWhole, idle, party_of}
 use Rattle.lock_tree.specs.Order.{MakesWay}
 use Rattle.lock_tree.specs.Progress.{is_spare, IsServedAt}
+use Rattle.lock_tree.specs.Room.{UsesSpare}
 use Rattle.vms_queues.specs.Queues.{Queues}
 use Rattle.lock_tree.proofs.Respared.{way-same}
 use Rattle.lock_tree.proofs.WayMade.{way-none}
@@ -59,3 +62,22 @@ served-roomy old mid new owner p n e same h = record {
   unchanged = λ f.
       h.unchanged (subst (λ (es : List (Node × Queues)). is_spare (granted_at (record { entries = es; spare = mid.spare }) owner) p n ≡ false) (sym e) f) ∙ same f;
 }
+
+-- the room beside is there still, whether the notice was due or not
+pub room-served : (old mid new : Table) (needs beside : ℕ) (due : Bool) → (due ≡ true → needs + beside ≤ mid.spare) → old.spare ≤ mid.spare → (due ≡ false → new ≡ mid) → UsesSpare needs mid new → beside ≤ old.spare → beside ≤ new.spare
+room-served old mid new needs beside true room more same used kept = let r = room refl in omega (arith, r, used)
+room-served old mid new needs beside false room more same used kept =
+    let spare : new.spare ≡ mid.spare = ap (λ (t : Table). t.spare) (same refl) in
+    omega (arith, kept, more, spare)
+
+-- who has and wants nothing is due no notice
+pub nothing-due : (s r : State) (owner : ℕ) (n : Node) → s ≡ r → idle ≡ party_of s.parties owner → IsWhole s → is_spare (granted_at r.table owner) (party_of r.parties owner) n ≡ false
+nothing-due s r owner n is e whole =
+    subst (λ (z : State). is_spare (granted_at z.table owner) (party_of z.parties owner) n ≡ false) is
+    (subst (λ (p : Party). is_spare (granted_at s.table owner) p n ≡ false) e (bare (subst (IsKept s.table owner) (sym e) (whole.kept owner))))
+  where
+    bare : IsKept s.table owner idle → is_spare (granted_at s.table owner) idle n ≡ false
+    bare k = elim (k.no_stray n refl) [
+      | inl none ↦ subst (λ (m : Mode). is_excess m (kept_at (granted_at s.table owner) idle n) ≡ false) (sym none) refl
+      | inr r ↦ elim r [ inl f ↦ absurd (false≢true (sym f)) | inr y ↦ absurd (false≢true y) ]
+    ]

@@ -1,5 +1,5 @@
 -- As a want ends, a lock above the node of its need comes down with nothing to be taken lower.
-use Rattle.std.proofs.Common.{◌≡◌, ℕ, Bool, true, false, refl, sym, ◌∙◌, subst, ◌⊎◌, inl, inr, List, [], ◌∷◌, length, ◌≤◌}
+use Rattle.std.proofs.Common.{◌≡◌, ℕ, Bool, true, false, refl, sym, ◌∙◌, subst, ◌⊎◌, inl, inr, List, [], ◌∷◌, length, ◌≤◌, arith}
 use Rattle.std.specs.Prelude.{◌&&◌, ◌||◌, not, if◌then◌else◌, Some}
 use Rattle.std.proofs.lemmas.Bool.{false≢true, and_parts, and_from, or_right, or_cases, cases_Bool, not-true}
 use Rattle.rdb_types.specs.declared.node.Level.{Level}
@@ -23,7 +23,7 @@ use Rattle.lock_needs.proofs.Cover.{by_test, covered-more, covered-by_upper, kep
 use Rattle.lock_needs.proofs.Enough.{enough-after_want}
 use Rattle.lock_tree.specs.LockTable.{granted_at}
 use Rattle.lock_tree.specs.Parties.{IsKept, wanting}
-use Rattle.lock_tree.specs.Room.{is_over_others, has_whole}
+use Rattle.lock_tree.specs.Room.{UsesSpare, is_over_others}
 use Rattle.lock_tree.proofs.Leaving.{below-intent}
 
 -- ---- modes
@@ -170,17 +170,26 @@ pub double-not : (b : Bool) → not b ≡ false → b ≡ true
 double-not true h = refl
 double-not false h = absurd (false≢true (sym h))
 
+-- As it leaves a node that is not its need's own, or contains no others, what the needs of its owner require is covered still.
+pub left-covered : (t : Table) (owner : ℕ) (ws : List Need) (w : OpenWant) (keep : Mode) → keep ≡ after_want (granted_at t owner) ws w.here → IsKept t owner (wanting ws w) → w.is_asked ≡ true
+    → is_over_others w ≡ false → all_covered (supposing w.here keep (granted_at t owner)) ws ≡ true
+left-covered t owner ws w keep is k asked none =
+    elim (cases_Bool (same_node w.here w.need.node)) [
+      | inr f ↦ spared t owner ws w keep is k asked f
+      | inl s ↦ elim (cases_Bool (is_above w.here.level Line)) [
+        | inl over ↦ absurd (false≢true (sym none ∙ and_from (is_above w.here.level Line) (same_node w.here w.need.node) over s))
+        | inr low ↦ subst (λ (m : Mode). all_covered (supposing w.here m (granted_at t owner)) ws ≡ true) (sym is)
+            (low-covered (granted_at t owner) w.here (after_want (granted_at t owner) ws w.here) low ws k.covered (enough-after_want (granted_at t owner) w.here ws))
+      ]
+    ]
+
 -- room is wanted alone at a need's own node that contains others
 pub room-left : (t : Table) (owner : ℕ) (ws : List Need) (w : OpenWant) (keep : Mode) → keep ≡ after_want (granted_at t owner) ws w.here → IsKept t owner (wanting ws w) → w.is_asked ≡ true
-    → (w.is_asked ≡ true → is_over_others w ≡ true → length ws ≤ t.spare) → all_covered (supposing w.here keep (granted_at t owner)) ws ≡ false → length ws ≤ t.spare
+    → (is_over_others w ≡ true → length ws ≤ t.spare) → all_covered (supposing w.here keep (granted_at t owner)) ws ≡ false → length ws ≤ t.spare
 room-left t owner ws w keep is k asked room some =
-    elim (cases_Bool (same_node w.here w.need.node)) [
-      | inr f ↦ absurd (false≢true (sym some ∙ spared t owner ws w keep is k asked f))
-      | inl s ↦ elim (cases_Bool (is_above w.here.level Line)) [
-        | inl over ↦ room asked (and_from (is_above w.here.level Line) (same_node w.here w.need.node) over s)
-        | inr low ↦ absurd (false≢true (sym some ∙ subst (λ (m : Mode). all_covered (supposing w.here m (granted_at t owner)) ws ≡ true) (sym is)
-            (low-covered (granted_at t owner) w.here (after_want (granted_at t owner) ws w.here) low ws k.covered (enough-after_want (granted_at t owner) w.here ws))))
-      ]
+    elim (cases_Bool (is_over_others w)) [
+      | inl over ↦ room over
+      | inr none ↦ absurd (false≢true (sym some ∙ left-covered t owner ws w keep is k asked none))
     ]
 
 -- above a node on the way to its need a want isn't at the need's own node
@@ -191,14 +200,10 @@ up-apart w up e way =
       | inr c ↦ contains-trans up w.here w.need.node (above-contains w.here up e) c
     ])
 
--- the want stands as it did, or isn't asked any more
-pub room-stopped : (old new : Table) (owner : ℕ) (ws : List Need) (w v : OpenWant) → (v.is_asked ≡ true → (v ≡ w) × (new ≡ old) × (at_most (mode_for w.need w.here) (granted_at old owner w.here) ≡ true))
-    → (has_whole (granted_at old owner) w ≡ true → length ws ≤ old.spare) → v.is_asked ≡ true → is_over_others v ≡ true → length ws ≤ new.spare
-room-stopped old new owner ws w v still room asked s =
-    let p = still asked in
-    let over : is_over_others w ≡ true = subst (λ (u : OpenWant). is_over_others u ≡ true) p.0 s in
-    let here : same_node w.here w.need.node ≡ true = (and_parts (is_above w.here.level Line) (same_node w.here w.need.node) over).1 in
-    subst (λ (t : Table). length ws ≤ t.spare) (sym p.1)
-    (room (and_from w.is_asked (is_over_others w && at_most w.need.mode (granted_at old owner w.here)) (subst (λ (u : OpenWant). u.is_asked ≡ true) p.0 asked)
-    (and_from (is_over_others w) (at_most w.need.mode (granted_at old owner w.here)) over
-    (subst (λ (t : Bool). at_most (if t then w.need.mode else intent w.need.mode) (granted_at old owner w.here) ≡ true) here p.2))))
+-- at one node at most the end of a want takes places: at its need's own
+pub spare-left : (old mid new : Table) (ws : List Need) (w : OpenWant) → UsesSpare (length ws) old mid → (is_over_others w ≡ true → UsesSpare 0 old mid)
+    → UsesSpare (length ws) mid new → (is_over_others w ≡ false → UsesSpare 0 mid new) → UsesSpare (length ws) old new
+spare-left old mid new ws w most none more no_more = elim (cases_Bool (is_over_others w)) [
+  | inl over ↦ let before = none over in omega (arith, before, more)
+  | inr low ↦ let after = no_more low in omega (arith, most, after)
+]

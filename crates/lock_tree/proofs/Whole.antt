@@ -1,9 +1,10 @@
 -- The whole tree, from one owner and the others.
-use Rattle.std.proofs.Common.{◌≡◌, ℕ, true, false, refl, sym, ◌∙◌, ap, subst, inl, inr, List, [], ◌∷◌}
+use Rattle.std.proofs.Common.{◌≡◌, ℕ, ◌≤◌, arith, true, false, refl, sym, ◌∙◌, ap, subst, inl, inr, List, [], ◌∷◌}
 use Rattle.std.specs.Prelude.{◌==◌, not, Option, Some, None}
 use Rattle.std.specs.List.{list_all}
 use Rattle.std.proofs.lemmas.Bool.{false≢true, cases_Bool, eqb-true, and_parts, and_from, not_from_false}
 use Rattle.vms_queues.specs.Queues.{Queues}
+use Rattle.vms_queues.specs.Owners.{is_owner}
 use Rattle.vms_locks.specs.Table.{Table, queues_at, IsLive}
 use Rattle.rdb_types.specs.declared.node.Node.{Node}
 use Rattle.lock_needs.specs.Party.{Party}
@@ -16,7 +17,7 @@ use Rattle.lock_needs.proofs.Apart.{covered-apart}
 use Rattle.lock_tree.specs.LockTable.{granted_at, HasIntents}
 use Rattle.lock_tree.specs.Parties.{IsKept, KeepsOthers}
 use Rattle.lock_tree.proofs.HeldModes.{shares-in}
-use Rattle.lock_tree.specs.Forest.{Parties, State, IsWhole, HasAsks, KeepsAsks, KeepsParties, NeedsAreApart, no_conflict, is_asked_at, open_asks, party_of}
+use Rattle.lock_tree.specs.Forest.{Parties, State, IsWhole, HasAsks, KeepsAsks, KeepsParties, NeedsAreApart, no_conflict, is_asked_at, open_asks, party_of, places_kept}
 use Rattle.lock_tree.specs.Order.{IsInOrder, StandsInOrder, AreKept, MakesWay, StandsByNeeds, asked_of_want, without_asks}
 use Rattle.vms_locks.proofs.Empty.{live-empty}
 use Rattle.lock_tree.proofs.WayMade.{stays-live}
@@ -59,6 +60,8 @@ nobody spare = record {
   };
   asks = λ u. tt;
   in_order = ((live-empty (bare spare) refl).0, empty-in_order spare (party_of []) (λ u. refl));
+  owners = λ u e. refl;
+  room = omega arith;
 }
 
 -- nobody has or wants anything
@@ -70,15 +73,16 @@ whole-empty s t p a =
 
 module _ (s r : State) (owner : ℕ) (p : Party) (whole : IsWhole s) (intents : HasIntents r.table) (others : KeepsOthers owner s.table r.table) (is : party_of r.parties owner ≡ p) (own : IsKept r.table owner p)
     (same : KeepsParties owner s.parties r.parties) (asks : HasAsks r.trail owner p.opened) (other_asks : KeepsAsks owner s.trail r.trail) where
-  after-kept : AreKept r.table (party_of r.parties)
+  pub after-kept : AreKept r.table (party_of r.parties)
   after-kept u = elim (cases_Bool (u == owner)) [
     | inl e ↦ subst (λ (z : ℕ). IsKept r.table z (party_of r.parties z)) (sym (eqb-true u owner e)) (subst (IsKept r.table owner) (sym is) own)
     | inr d ↦ subst (IsKept r.table u) (sym (same u d)) (others u (party_of s.parties u) d (whole.kept u))
   ]
 
-  pub whole-after : IsLive (queues_at r.table) → IsInOrder r.table (party_of r.parties) (open_asks r.parties r.trail) → IsWhole r
+  pub whole-after : (is_owner owner ≡ false → p.opened ≡ None) → places_kept r.parties ≤ r.table.spare
+      → IsLive (queues_at r.table) → IsInOrder r.table (party_of r.parties) (open_asks r.parties r.trail) → IsWhole r
   unfolding StandsInOrder
-  whole-after live order = record {
+  whole-after owned room live order = record {
     intents = intents;
     kept = after-kept;
     asks = λ u. elim (cases_Bool (u == owner)) [
@@ -86,6 +90,11 @@ module _ (s r : State) (owner : ℕ) (p : Party) (whole : IsWhole s) (intents : 
       | inr d ↦ subst (λ (q : Party). HasAsks r.trail u q.opened) (sym (same u d)) (asks-same s.trail r.trail u (party_of s.parties u).opened (λ n. other_asks u n d) (whole.asks u))
     ];
     in_order = (live, order);
+    owners = λ u f. elim (cases_Bool (u == owner)) [
+      | inl e ↦ subst (λ (z : ℕ). (party_of r.parties z).opened ≡ None) (sym (eqb-true u owner e)) (ap (λ (q : Party). q.opened) is ∙ owned (subst (λ (z : ℕ). is_owner z ≡ false) (eqb-true u owner e) f))
+      | inr d ↦ ap (λ (q : Party). q.opened) (same u d) ∙ whole.owners u f
+    ];
+    room = room;
   }
 
   -- the owner made way, and stands in the way by its needs
@@ -95,17 +104,17 @@ module _ (s r : State) (owner : ℕ) (p : Party) (whole : IsWhole s) (intents : 
 
     -- its needs are on the same nodes, and its want was asked where it was
     pub whole-served : ((n : Node) → converts_at p.needs n ≡ converts_at (party_of s.parties owner).needs n) → ((n : Node) → asked_of_want p.opened n ≡ asked_of_want (party_of s.parties owner).opened n)
-        → open_asks r.parties r.trail ≡ open_asks s.parties s.trail → IsWhole r
-    whole-served needs asked trail =
-        whole-after (stays-live owner s.table r.table way (live-of s whole))
+        → open_asks r.parties r.trail ≡ open_asks s.parties s.trail → (is_owner owner ≡ false → p.opened ≡ None) → places_kept r.parties ≤ r.table.spare → IsWhole r
+    whole-served needs asked trail owned room =
+        whole-after owned room (stays-live owner s.table r.table way (live-of s whole))
         (subst (IsInOrder r.table (party_of r.parties)) (sym trail)
         (served-in_order s.table r.table (party_of s.parties) (party_of r.parties) (open_asks s.parties s.trail) owner way (stays-live owner s.table r.table way (live-of s whole)) whole.kept after-kept same next-stands (order-of s whole)
         (λ n. ap (λ (q : Party). converts_at q.needs n) is ∙ needs n) (λ n. ap (λ (q : Party). asked_of_want q.opened n) is ∙ asked n)))
 
     -- its want isn't open any more
-    pub whole-ended : p.opened ≡ None → open_asks r.parties r.trail ≡ without_asks owner (open_asks s.parties s.trail) → IsWhole r
-    whole-ended closed trail =
-        whole-after (stays-live owner s.table r.table way (live-of s whole))
+    pub whole-ended : p.opened ≡ None → open_asks r.parties r.trail ≡ without_asks owner (open_asks s.parties s.trail) → places_kept r.parties ≤ r.table.spare → IsWhole r
+    whole-ended closed trail room =
+        whole-after (λ f. closed) room (stays-live owner s.table r.table way (live-of s whole))
         (subst (IsInOrder r.table (party_of r.parties)) (sym trail)
         (ended-in_order s.table r.table (party_of s.parties) (party_of r.parties) (open_asks s.parties s.trail) owner way (stays-live owner s.table r.table way (live-of s whole)) whole.kept after-kept same next-stands (order-of s whole)
         (ap (λ (q : Party). q.opened) is ∙ closed)))

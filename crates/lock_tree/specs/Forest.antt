@@ -1,7 +1,8 @@
 -- The tree's state: the lock table, the owners with their needs and open wants, and where wants were asked.
-use Rattle.std.specs.Prelude.{◌≡◌, ℕ, Bool, true, false, not, ◌&&◌, ◌==◌, nat_eq, is_some, unwrap_or, Option, Some, None, List, []}
-use Rattle.std.specs.List.{list_any, list_all, filter}
+use Rattle.std.specs.Prelude.{◌≡◌, ℕ, ◌≤◌, Bool, true, false, not, ◌&&◌, ◌==◌, nat_eq, if◌then◌else◌, is_some, unwrap_or, Option, Some, None, List, [], length}
+use Rattle.std.specs.List.{list_any, list_all, filter, sum_by, range_with_len}
 use Rattle.std.specs.Map.{lookup}
+use Rattle.vms_queues.specs.Owners.{is_owner}
 use Rattle.vms_locks.specs.Table.{Table}
 use Rattle.rdb_types.specs.declared.node.Node.{Node}
 use Rattle.lock_needs.specs.declared.need.Need.{Need}
@@ -35,6 +36,17 @@ has_party ps owner = is_some (lookup (nat_eq owner) ps)
 -- each other owner has and wants what it did
 abbrev pub KeepsParties : ℕ → Parties → Parties → Type 0
 KeepsParties owner old new = (u : ℕ) → (u == owner) ≡ false → party_of new u ≡ party_of old u
+
+abbrev pub all_owners : List ℕ
+all_owners = range_with_len 1 16
+
+-- how many places in the table the end of the open want may take: one for each need that has to be taken lower
+abbrev pub places_of : Party → ℕ
+places_of p = if is_some p.opened then length p.needs else 0
+
+-- how many the ends of all open wants may take
+abbrev pub places_kept : Parties → ℕ
+places_kept ps = sum_by (λ u. places_of (party_of ps u)) all_owners
 
 -- the entries of the owner
 abbrev pub asks_of : List Asked → ℕ → List Asked
@@ -73,6 +85,10 @@ pub record IsWhole (s : State) : Type 0 where
   pub asks : (owner : ℕ) → HasAsks s.trail owner (party_of s.parties owner).opened
   -- the locks are live; who stands in the way of another does so by what it must keep, and those that wait stand in the order of asking
   pub in_order : StandsInOrder s.table (party_of s.parties) (open_asks s.parties s.trail)
+  -- who has a want open is an owner
+  pub owners : (u : ℕ) → is_owner u ≡ false → (party_of s.parties u).opened ≡ None
+  -- each open want can end with no memory taken
+  pub room : places_kept s.parties ≤ s.table.spare
 
 -- no need of the first conflicts with one of the second
 abbrev pub no_conflict : List Need → List Need → Bool

@@ -3,14 +3,12 @@ use Rattle.std.specs.Prelude.{◌≡◌, ℕ, ◌+◌, ◌*◌, ◌≤◌, Bool,
 use Rattle.vms_locks.specs.Table.{Table}
 use Rattle.rdb_types.specs.declared.node.Level.{Level}
 use Rattle.rdb_types.specs.declared.node.Level.TheVariants.{Area, Range, Page, Line, Journal}
-use Rattle.vms_queues.specs.Modes.{at_most}
 use Rattle.lock_needs.specs.declared.party.OpenWant.{OpenWant}
 use Rattle.lock_needs.specs.Nodes.{same_node, is_above}
-use Rattle.lock_needs.specs.Needs.{Holding}
 use Rattle.lock_tree.specs.declared.parts.Parts.{Parts}
 use Rattle.lock_tree.specs.declared.answer.Step.{Step}
 use Rattle.lock_tree.specs.declared.answer.Step.TheVariants.{Down, Ends}
-use Rattle.lock_tree.specs.Forest.{State, party_of}
+use Rattle.lock_tree.specs.Forest.{State, party_of, places_kept}
 use Rattle.lock_tree.specs.States.{state_of}
 use Rattle.lock_tree.specs.Wanted.{needs_of}
 
@@ -26,10 +24,6 @@ UsesSpare places old new = old.spare ≤ new.spare + places
 abbrev pub is_over_others : OpenWant → Bool
 is_over_others w = is_above w.here.level Line && same_node w.here w.need.node
 
--- the open want has been granted its whole need on a node that contains others, and hasn't looked since
-abbrev pub has_whole : Holding → OpenWant → Bool
-has_whole held w = w.is_asked && (is_over_others w && at_most w.need.mode (held w.here))
-
 -- how deep nodes of the level lie
 abbrev pub depth : Level → ℕ
 depth Area = 0
@@ -38,11 +32,16 @@ depth Page = 2
 depth Line = 3
 depth Journal = 0
 
--- There is room for so many more nodes of the owner's want: in the table for its lock there and for all that its needs may take one
--- level lower, in the trail for its entry.
+-- There is room for so many more nodes of the owner's want, beside what is kept for the ends of open wants: in the table for its
+-- lock there and for all that its needs may take one level lower, in the trail for its entry.
 pub record HasRoomFor (nodes : ℕ) (owner : ℕ) (p : Parts) : Type 0 where
-  pub table : nodes * (length (needs_of (state_of p) owner) + 1) ≤ p.locks.spare
+  pub table : nodes * (length (needs_of (state_of p) owner) + 1) + places_kept p.parties.entries ≤ p.locks.spare
   pub trail : vec_len p.trail + nodes ≤ vec_capacity p.trail
+
+-- there is room for all nodes on the way of a want that the owner may open, and for its end
+pub record HasRoomToOpen (owner : ℕ) (p : Parts) : Type 0 where
+  pub table : 4 * (length (needs_of (state_of p) owner) + 1) + (places_kept p.parties.entries + length (needs_of (state_of p) owner)) ≤ p.locks.spare
+  pub trail : vec_len p.trail + 4 ≤ vec_capacity p.trail
 
 -- after a step down there is room for one node less
 abbrev pub LeavesRoom : ℕ → Parts → Parts → Step → Type 0

@@ -114,6 +114,7 @@ pub(crate) fn ask_whole(locks: &mut Locks, owner: u32, want: OpenWant) -> bool
     ensures left { result ≡ false → locks.new ≡ locks.old }
     ensures intents { HasIntents locks.new }
     ensures others { KeepsOthers owner locks.old locks.new }
+    ensures spare { UsesSpare 1 locks.old locks.new }
 {
     let held = granted_of(locks, owner, want.here);
     let mode = join(held, want.need.mode);
@@ -137,6 +138,7 @@ fn take_for(locks: &mut Locks, owner: u32, party: &mut Party, want: OpenWant) ->
     ensures intents { HasIntents locks.new }
     ensures kept { IsKept locks.new owner party.new }
     ensures others { KeepsOthers owner locks.old locks.new }
+    ensures spare { UsesSpare 1 locks.old locks.new }
 {
     let granted = ask_whole(locks, owner, want);
     if granted {
@@ -168,6 +170,7 @@ pub(crate) fn take_whole(
     ensures kept { IsKept locks.new owner (party_of parties.new.entries owner) }
     ensures others { KeepsOthers owner locks.old locks.new }
     ensures parties { KeepsParties owner parties.old.entries parties.new.entries }
+    ensures spare { UsesSpare 1 locks.old locks.new }
 {
     match parties.get_mut(&owner) {
         Some(party) => take_for(locks, owner, party, want),

@@ -1,9 +1,9 @@
 ghost use Rattle.std.specs.Prelude.{◌≡◌, ◌++◌, ◌∷◌, [], ◌<◌, ◌≤◌, ◌+◌, true, Some, is_some, length, vec_len, vec_capacity};
-ghost use Rattle.lock_tree.specs.LockTable.{granted_at, HasIntents};
+ghost use Rattle.lock_tree.specs.LockTable.{HasIntents};
 ghost use Rattle.lock_tree.specs.Parties.{IsKept, KeepsOthers, resting, asked_at};
 ghost use Rattle.lock_tree.specs.Order.{MakesWay, StandsByNeeds};
 ghost use Rattle.lock_tree.specs.Forest.{party_of, KeepsParties};
-ghost use Rattle.lock_tree.specs.Room.{HasSpare, has_whole};
+ghost use Rattle.lock_tree.specs.Room.{HasSpare, UsesSpare};
 
 use crate::ending::end_want;
 use crate::parties::{close_for, go_to};
@@ -61,7 +61,7 @@ pub(crate) fn end_open(
     requires intents { HasIntents locks.old }
     requires kept { IsKept locks.old owner (party_of parties.old.entries owner) }
     requires opened { (party_of parties.old.entries owner).opened ≡ Some want }
-    requires room { has_whole (granted_at locks.old owner) want ≡ true → HasSpare (length (party_of parties.old.entries owner).needs) locks.old }
+    requires room { HasSpare (length (party_of parties.old.entries owner).needs) locks.old }
 
     ensures ended { party_of parties.new.entries owner ≡ resting (party_of parties.old.entries owner).needs }
     ensures rests { StandsByNeeds locks.old owner (party_of parties.old.entries owner) → StandsByNeeds locks.new owner (party_of parties.new.entries owner) }
@@ -70,6 +70,7 @@ pub(crate) fn end_open(
     ensures kept { IsKept locks.new owner (party_of parties.new.entries owner) }
     ensures others { KeepsOthers owner locks.old locks.new }
     ensures parties { KeepsParties owner parties.old.entries parties.new.entries }
+    ensures spare { UsesSpare (length (party_of parties.old.entries owner).needs) locks.old locks.new }
 {
     let Some(party) = parties.get(&owner) else {
         unreachable!();

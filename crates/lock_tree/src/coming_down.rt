@@ -62,6 +62,7 @@ fn take_one(locks: &mut Locks, owner: u32, node: Node, keep: Mode, need: Need)
     ensures way { MakesWay owner locks.old locks.new }
     ensures covered { is_covered (supposing node keep (granted_at locks.new owner)) need ≡ true }
     ensures spare { UsesSpare 1 locks.old locks.new }
+    ensures none_used { is_covered (supposing node keep (granted_at locks.old owner)) need ≡ true → UsesSpare 0 locks.old locks.new }
 {
     if !contains(node, need.node) {
         return;
@@ -88,6 +89,7 @@ fn take_lower(locks: &mut Locks, needs: &[Need], owner: u32, node: Node, keep: M
     ensures way { MakesWay owner locks.old locks.new }
     ensures covered { all_covered (supposing node keep (granted_at locks.new owner)) needs.now ≡ true }
     ensures spare { UsesSpare (length needs.now) locks.old locks.new }
+    ensures none_used { all_covered (supposing node keep (granted_at locks.old owner)) needs.now ≡ true → UsesSpare 0 locks.old locks.new }
 {
     for need in needs {
         take_one(locks, owner, node, keep, *need);
@@ -107,6 +109,7 @@ pub(crate) fn bring_down(locks: &mut Locks, needs: &[Need], owner: u32, node: No
     ensures down { BroughtDown owner node keep needs.now locks.old locks.new }
     ensures way { MakesWay owner locks.old locks.new }
     ensures spare { UsesSpare (length needs.now) locks.old locks.new }
+    ensures none_used { all_covered (supposing node keep (granted_at locks.old owner)) needs.now ≡ true → UsesSpare 0 locks.old locks.new }
 {
     take_lower(locks, needs, owner, node, keep);
     lower(locks, owner, node, keep);

@@ -1,4 +1,4 @@
-ghost use Rattle.std.specs.Prelude.{◌≡◌, List, true, length};
+ghost use Rattle.std.specs.Prelude.{◌≡◌, List, true, false, length};
 ghost use Rattle.vms_queues.specs.Modes.{at_most};
 ghost use Rattle.lock_needs.specs.Needs.{covers_from, covered_above as covered_over, is_covered as is_covered_by};
 ghost use Rattle.lock_needs.specs.Keeping.{needed_uncovered, after_want};
@@ -6,7 +6,7 @@ ghost use Rattle.lock_tree.specs.LockTable.{granted_at, sought_at, HasIntents};
 ghost use Rattle.lock_needs.specs.declared.need.Need.{Need};
 ghost use Rattle.lock_tree.specs.Parties.{IsKept, KeepsOthers, wanting, resting, unasked, StandsStill};
 ghost use Rattle.lock_tree.specs.Order.{MakesWay, StandsByNeeds};
-ghost use Rattle.lock_tree.specs.Room.{HasSpare, is_over_others, has_whole};
+ghost use Rattle.lock_tree.specs.Room.{HasSpare, UsesSpare, is_over_others};
 ghost use Rattle.lock_needs.specs.Wants.{mode_for as mode_on_way};
 
 use crate::coming_down::bring_down;
@@ -79,6 +79,7 @@ pub(crate) fn stop_asking(locks: &mut Locks, owner: u32, want: OpenWant) -> Open
     ensures others { KeepsOthers owner locks.old locks.new }
     ensures way { MakesWay owner locks.old locks.new }
     ensures stands_still { (ws : List Need) → StandsByNeeds locks.old owner (wanting ws want) → StandsByNeeds locks.new owner (wanting ws result) }
+    ensures spare { UsesSpare 0 locks.old locks.new }
 {
     let held = granted_of(locks, owner, want.here);
     if is_at_most(mode_for(want.need, want.here), held) {
@@ -98,13 +99,15 @@ fn leave_node(locks: &mut Locks, owner: u32, party: &Party, want: OpenWant)
     requires intents { HasIntents locks.old }
     requires kept { IsKept locks.old owner (wanting party.now.needs want) }
     requires quiet { sought_at locks.old owner want.here ≡ granted_at locks.old owner want.here }
-    requires room { want.is_asked ≡ true → is_over_others want ≡ true → HasSpare (length party.now.needs) locks.old }
+    requires room { is_over_others want ≡ true → HasSpare (length party.now.needs) locks.old }
 
     ensures left { IsKept locks.new owner (wanting party.now.needs (unasked want)) }
     ensures intents { HasIntents locks.new }
     ensures others { KeepsOthers owner locks.old locks.new }
     ensures way { MakesWay owner locks.old locks.new }
     ensures leaves { StandsByNeeds locks.old owner (wanting party.now.needs want) → StandsByNeeds locks.new owner (wanting party.now.needs (unasked want)) }
+    ensures spare { UsesSpare (length party.now.needs) locks.old locks.new }
+    ensures none_used { is_over_others want ≡ false → UsesSpare 0 locks.old locks.new }
 {
     if !want.is_asked {
         return;
@@ -124,13 +127,14 @@ fn leave_node(locks: &mut Locks, owner: u32, party: &Party, want: OpenWant)
 pub(crate) fn end_want(locks: &mut Locks, owner: u32, party: &Party, want: OpenWant)
     requires intents { HasIntents locks.old }
     requires kept { IsKept locks.old owner (wanting party.now.needs want) }
-    requires room { has_whole (granted_at locks.old owner) want ≡ true → HasSpare (length party.now.needs) locks.old }
+    requires room { HasSpare (length party.now.needs) locks.old }
 
     ensures ended { IsKept locks.new owner (resting party.now.needs) }
     ensures intents { HasIntents locks.new }
     ensures others { KeepsOthers owner locks.old locks.new }
     ensures way { MakesWay owner locks.old locks.new }
     ensures rests { StandsByNeeds locks.old owner (wanting party.now.needs want) → StandsByNeeds locks.new owner (resting party.now.needs) }
+    ensures spare { UsesSpare (length party.now.needs) locks.old locks.new }
 {
     let mut left = stop_asking(locks, owner, want);
     loop {

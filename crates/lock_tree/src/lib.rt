@@ -13,6 +13,7 @@ mod notice;
 mod owners;
 mod parties;
 mod parts;
+mod places;
 mod progress;
 mod releasing;
 mod sleeping;

@@ -1,8 +1,9 @@
-ghost use Rattle.std.specs.Prelude.{◌≡◌, ◌==◌, ℕ, true, false, length, IfOk, OnOk, OnErr};
+ghost use Rattle.std.specs.Prelude.{◌≡◌, ◌==◌, ◌+◌, ◌≤◌, ℕ, true, false, length, IfSome, IfOk, OnOk, OnErr};
 ghost use Rattle.lock_needs.specs.Keeping.{is_excess as exceeds};
 ghost use Rattle.lock_needs.specs.Wants.{opened_at, kept_at};
 ghost use Rattle.lock_tree.specs.LockTable.{granted_at, HasIntents};
 ghost use Rattle.lock_tree.specs.Parties.{IsKept, KeepsOthers};
+ghost use Rattle.lock_tree.specs.Forest.{places_kept as places_of_all};
 ghost use Rattle.lock_tree.specs.Notices.{notice_answer};
 ghost use Rattle.lock_tree.specs.Order.{MakesWay, StandsByNeeds};
 ghost use Rattle.lock_tree.specs.Progress.{IsServedAt};
@@ -10,6 +11,8 @@ ghost use Rattle.lock_tree.specs.Room.{HasSpare, UsesSpare};
 
 use crate::coming_down::bring_down;
 use crate::holding::granted_of;
+use crate::places::places_kept;
+use indexmap::IndexMap;
 use lock_needs::{Node, OpenWant, Party, contains, is_excess, mode_for};
 use rdb_types::NoMemory;
 use vms_locks::Locks;
@@ -84,27 +87,43 @@ pub(crate) fn serve_notice(
     })
 }
 
-// Makes room for all that the owner's needs may take lower, where a notice to it is due at the node.
+// How many places are to be spare in the lock table where the party is served a notice: one for each of its needs, and those that
+// the ends of open wants may take.
+fn places_for_notice(parties: &IndexMap<u32, Party>, party: &Party) -> Option<usize>
+    ensures { IfSome result (λ n. n ≡ length party.now.needs + places_of_all parties.now.entries) }
+{
+    places_kept(parties)?.checked_add(party.needs().len())
+}
+
+// Makes room for all that the owner's needs may take lower, where a notice to it is due at the node, beside what is kept for the
+// ends of open wants.
 fn make_room_for_notice(
     locks: &mut Locks,
+    parties: &IndexMap<u32, Party>,
     owner: u32,
     party: &Party,
     node: Node,
 ) -> Result<(), NoMemory>
     ensures entries { locks.new.entries ≡ locks.old.entries }
-    ensures ok { OnOk result (exceeds (granted_at locks.old owner node) (kept_at (granted_at locks.old owner) party.now node) ≡ true → HasSpare (length party.now.needs) locks.new) }
+    ensures spare { locks.old.spare ≤ locks.new.spare }
+    ensures ok { OnOk result (exceeds (granted_at locks.old owner node) (kept_at (granted_at locks.old owner) party.now node) ≡ true → HasSpare (length party.now.needs + places_of_all parties.now.entries) locks.new) }
     ensures unchanged { OnOk result (exceeds (granted_at locks.old owner node) (kept_at (granted_at locks.old owner) party.now node) ≡ false → locks.new ≡ locks.old) }
 {
     let held = granted_of(locks, owner, node);
     if !is_excess(held, kept_mode(locks, owner, party, node)) {
         return Ok(());
     }
-    locks.reserve(party.needs().len())
+    let Some(places) = places_for_notice(parties, party) else {
+        return Err(NoMemory {});
+    };
+    locks.reserve(places)
 }
 
-// Answers a notice, as `serve_notice` does. All memory is taken before anything changes.
+// Answers a notice, as `serve_notice` does. All memory is taken before anything changes, and the room for the ends of open wants
+// stays.
 pub(crate) fn answer_notice(
     locks: &mut Locks,
+    parties: &IndexMap<u32, Party>,
     owner: u32,
     party: &Party,
     node: Node,
@@ -122,7 +141,8 @@ pub(crate) fn answer_notice(
     ensures others { KeepsOthers owner locks.old locks.new }
     ensures way { MakesWay owner locks.old locks.new }
     ensures stands { StandsByNeeds locks.old owner party.now → StandsByNeeds locks.new owner party.now }
+    ensures room { HasSpare (places_of_all parties.now.entries) locks.old → HasSpare (places_of_all parties.now.entries) locks.new }
 {
-    make_room_for_notice(locks, owner, party, node)?;
+    make_room_for_notice(locks, parties, owner, party, node)?;
     Ok(serve_notice(locks, owner, party, node))
 }

@@ -6,6 +6,7 @@ ghost use Rattle.lock_tree.specs.LockTable.{granted_at, HasIntents};
 ghost use Rattle.lock_tree.specs.Parties.{IsKept, KeepsOthers};
 ghost use Rattle.lock_tree.specs.Forest.{idle};
 ghost use Rattle.lock_tree.specs.Order.{MakesWay};
+ghost use Rattle.lock_tree.specs.Room.{UsesSpare};
 ghost use Rattle.lock_tree.specs.Releasing.{same_level, IsQuiet, IsClearBelow, HasNoneAt, HasPlaces, IsReleasing};
 
 use crate::ending::stop_asking;
@@ -21,6 +22,7 @@ fn release_at(locks: &mut Locks, owner: u32, level: Level, node: Node)
     ensures releasing { IsReleasing owner level locks.old locks.new }
     ensures gone { (x : Node) → is_on x node ≡ true → same_level x.level level ≡ true → granted_at locks.new owner x ≡ NL }
     ensures way { MakesWay owner locks.old locks.new }
+    ensures spare { UsesSpare 0 locks.old locks.new }
 {
     let at = on_way(level, node);
     if at.level == level {
@@ -36,6 +38,7 @@ fn release_level(locks: &mut Locks, owner: u32, party: &Party, level: Level)
     ensures releasing { IsReleasing owner level locks.old locks.new }
     ensures none { HasNoneAt locks.new owner level }
     ensures way { MakesWay owner locks.old locks.new }
+    ensures spare { UsesSpare 0 locks.old locks.new }
 {
     for need in party.needs() {
         release_at(locks, owner, level, need.node);
@@ -55,6 +58,7 @@ fn stop_sleeping(locks: &mut Locks, owner: u32, party: &Party)
     ensures places { HasPlaces locks.new owner party.now }
     ensures others { KeepsOthers owner locks.old locks.new }
     ensures way { MakesWay owner locks.old locks.new }
+    ensures spare { UsesSpare 0 locks.old locks.new }
 {
     if let Some(want) = party.opened() {
         let _stopped = stop_asking(locks, owner, want);
@@ -72,6 +76,7 @@ fn release_locks(locks: &mut Locks, owner: u32, party: &Party)
     ensures none { (x : Node) → granted_at locks.new owner x ≡ NL }
     ensures others { KeepsOthers owner locks.old locks.new }
     ensures way { MakesWay owner locks.old locks.new }
+    ensures spare { UsesSpare 0 locks.old locks.new }
 {
     release_level(locks, owner, party, Level::Line);
     release_level(locks, owner, party, Level::Page);
@@ -90,6 +95,7 @@ pub(crate) fn release_owner(locks: &mut Locks, owner: u32, party: &Party)
     ensures none { (x : Node) → granted_at locks.new owner x ≡ NL }
     ensures others { KeepsOthers owner locks.old locks.new }
     ensures way { MakesWay owner locks.old locks.new }
+    ensures spare { UsesSpare 0 locks.old locks.new }
 {
     stop_sleeping(locks, owner, party);
     release_locks(locks, owner, party);

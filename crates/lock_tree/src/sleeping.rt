@@ -4,11 +4,10 @@ ghost use Rattle.vms_locks.specs.Table.{queues_at, IsLive, WaitsIn};
 ghost use Rattle.lock_needs.specs.Wants.{sleeps_at};
 ghost use Rattle.lock_tree.specs.LockTable.{granted_at};
 ghost use Rattle.lock_tree.specs.Wanted.{is_known, someone_sleeps};
-ghost use Rattle.lock_tree.specs.Room.{has_whole};
 
 use crate::holding::granted_of;
 use indexmap::IndexMap;
-use lock_needs::{Level, Node, OpenWant, Party, is_above, mode_for};
+use lock_needs::{Node, OpenWant, Party, mode_for};
 use vms_locks::Locks;
 use vms_queues::is_at_most;
 
@@ -23,16 +22,6 @@ pub(crate) fn is_asleep(locks: &Locks, owner: u32, opened: Option<OpenWant>, nod
     node == want.here
         && want.is_asked
         && !is_at_most(mode_for(want.need, node), granted_of(locks, owner, node))
-}
-
-// Whether the open want has been granted its whole need on a node that contains others.
-pub(crate) fn is_granted(locks: &Locks, owner: u32, want: OpenWant) -> bool
-    ensures { result ≡ has_whole (granted_at locks.now owner) want }
-{
-    want.is_asked
-        && is_above(want.here.level, Level::Line)
-        && want.here == want.need.node
-        && is_at_most(want.need.mode, granted_of(locks, owner, want.here))
 }
 
 // Whether somebody's open want is queued at the node.

@@ -8,7 +8,7 @@ ghost use Rattle.lock_needs.specs.Wants.{mode_for};
 ghost use Rattle.lock_tree.specs.LockTable.{granted_at, RaisedAt};
 ghost use Rattle.lock_tree.specs.Asking.{HasTakenWhole, whole_mode};
 ghost use Rattle.lock_tree.specs.Releasing.{IsQuiet};
-ghost use Rattle.lock_tree.specs.Room.{HasSpare, HasRoomFor, LeavesRoom, StaysRoomy, has_whole, depth};
+ghost use Rattle.lock_tree.specs.Room.{UsesSpare, HasRoomFor, LeavesRoom, StaysRoomy, depth};
 ghost use Rattle.lock_tree.specs.Parties.{resting, unasked};
 ghost use Rattle.lock_tree.specs.Forest.{IsWhole, KeepsParties, opened_of, party_of};
 ghost use Rattle.lock_tree.specs.Order.{asked_last};
@@ -100,15 +100,15 @@ impl Parts {
         Step::Down(next)
     }
 
-    // The owner's open want ends without being got.
+    // The owner's open want ends without being got, in the room that is kept for that.
     pub(crate) fn close_want(&mut self, owner: u32, want: OpenWant)
         requires whole { IsWhole (state_of self.old) }
         requires opened { opened_of (state_of self.old) owner ≡ Some want }
-        requires room { has_whole (granted_at self.old.locks owner) want ≡ true → HasSpare (length (needs_of (state_of self.old) owner)) self.old.locks }
 
         ensures ended { party_of self.new.parties.entries owner ≡ resting (needs_of (state_of self.old) owner) }
         ensures trail { self.new.trail ≡ self.old.trail }
         ensures locks { LeavesLocks owner self.old.locks self.new.locks }
+        ensures spare { UsesSpare (length (needs_of (state_of self.old) owner)) self.old.locks self.new.locks }
         ensures whole { IsWhole (state_of self.new) }
         ensures others { KeepsParties owner self.old.parties.entries self.new.parties.entries }
     {

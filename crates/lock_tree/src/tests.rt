@@ -199,7 +199,7 @@ fn an_owner_that_is_not_known_has_nothing(rt: HostRuntime) -> Result<(), Fail> {
     assert_eq!(rt; tree.mode_of(1, AREA), Mode::NL);
     assert_eq!(rt; tree.deliver_notice(1, AREA, Mode::EX)?, None);
     assert_eq!(rt; tree.asked(1, 0), None);
-    tree.give_up(1)?;
+    tree.give_up(1);
     tree.release_all(1);
     assert!(rt; !tree.holds(1, need));
     Ok(())

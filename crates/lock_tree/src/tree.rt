@@ -1,4 +1,4 @@
-ghost use Rattle.std.specs.Prelude.{◌≡◌, [], true, false, None, Some, is_some, option_map, slice_get, IfOk, IfSome, OnOk, OnErr};
+ghost use Rattle.std.specs.Prelude.{◌≡◌, [], true, false, None, Some, is_some, option_map, slice_get, IfOk, OnOk, OnErr};
 ghost use Rattle.rdb_types.specs.declared.node.Node.{Node};
 ghost use Rattle.vms_queues.specs.declared.lock_mode.Mode.TheVariants.{NL};
 ghost use Rattle.vms_queues.specs.Owners.{is_owner};
@@ -10,7 +10,7 @@ ghost use Rattle.lock_tree.specs.Forest.{IsWhole, KeepsParties, NeedsAreApart, i
 ghost use Rattle.lock_tree.specs.Notices.{notice_answer};
 ghost use Rattle.lock_tree.specs.Progress.{is_spare, Falls, MovesOn};
 ghost use Rattle.lock_tree.specs.Wanted.{MayTakeWhole, needs_of, wanted_of, IsOf, IsLooking, Answered, GotAtOnce, GotWhole, want_of};
-ghost use Rattle.lock_tree.specs.Room.{IsAsBefore, has_whole};
+ghost use Rattle.lock_tree.specs.Room.{IsAsBefore};
 
 use crate::answer::Want;
 use crate::holding::granted_of;
@@ -67,8 +67,8 @@ impl Tree {
     /// notice is due before. A want that is open goes on from where it stands; after a notice was delivered it looks again. Where it
     /// isn't to wait, what can't be granted is refused. Who sleeps or is refused waits by needs, or would wait so, for whom the
     /// answer names: by the needs that others have got, the wants that are open, and the order in which these were asked. All memory
-    /// is taken before the first change: after want of memory all is as before. A want that is open never raises the measure that
-    /// each notice lowers, and where it ends, the measure falls: so no lock goes to and fro.
+    /// is taken before the first change, that for the want's end with it: after want of memory all is as before. A want that is open
+    /// never raises the measure that each notice lowers, and where it ends, the measure falls: so no lock goes to and fro.
     pub fn want(&mut self, owner: u32, need: Need, wait: bool) -> Result<Want, NoMemory>
         requires owner { is_owner owner ≡ true }
         requires plain { is_plain need ≡ true }
@@ -119,27 +119,28 @@ impl Tree {
         ensures err { OnErr result (IsAsBefore self.old self.new) }
     {
         match self.parts.parties.get(&to) {
-            Some(party) => answer_notice(&mut self.parts.locks, to, party, node),
+            Some(party) => answer_notice(
+                &mut self.parts.locks,
+                &self.parts.parties,
+                to,
+                party,
+                node,
+            ),
             None => Ok(None),
         }
     }
 
     /// Ends the owner's open want, its queued request with it: the locks that it was granted come down to what the owner's needs
-    /// require. Where there is none, nothing changes. As it ends, the measure falls. Takes no memory, unless the want of a node that
-    /// contains others has been granted its whole need since it was asked last: what that lock alone covers has then to be taken one
-    /// level lower, and after want of memory all is as before.
-    pub fn give_up(&mut self, owner: u32) -> Result<(), NoMemory>
-        ensures ended { OnOk result ((party_of self.new.parties owner).opened ≡ None) }
+    /// require. Where there is none, nothing changes. As it ends, the measure falls. Takes no memory.
+    pub fn give_up(&mut self, owner: u32)
+        ensures ended { (party_of self.new.parties owner).opened ≡ None }
         ensures needs { (party_of self.new.parties owner).needs ≡ (party_of self.old.parties owner).needs }
         ensures others { KeepsParties owner self.old.parties self.new.parties }
         ensures unchanged { (party_of self.old.parties owner).opened ≡ None → self.new ≡ self.old }
-        ensures memory { OnErr result (IfSome (party_of self.old.parties owner).opened (λ w. has_whole (granted_at self.old.table owner) w ≡ true)) }
-        ensures falls { is_some (party_of self.old.parties owner).opened ≡ true → OnOk result (Falls owner self.old self.new) }
-        ensures err { OnErr result (IsAsBefore self.old self.new) }
+        ensures falls { is_some (party_of self.old.parties owner).opened ≡ true → Falls owner self.old self.new }
     {
-        match self.parts.opened_of(owner) {
-            Some(want) => self.parts.give_up(owner, want),
-            None => Ok(()),
+        if let Some(want) = self.parts.opened_of(owner) {
+            self.parts.close_want(owner, want);
         }
     }
 

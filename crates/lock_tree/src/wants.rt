@@ -1,20 +1,19 @@
 //! Wants, from their opening on.
 
-ghost use Rattle.std.specs.Prelude.{◌≡◌, ◌+◌, ◌*◌, true, false, None, Some, is_some, length, IfOk, IfSome, OnOk, OnErr};
+ghost use Rattle.std.specs.Prelude.{◌≡◌, ◌≤◌, ◌+◌, ◌*◌, true, false, None, Some, is_some, length, IfOk, IfSome, OnOk, OnErr};
 ghost use Rattle.vms_queues.specs.Owners.{is_owner};
 ghost use Rattle.lock_needs.specs.Needs.{is_covered, is_plain};
-ghost use Rattle.lock_tree.specs.Forest.{IsWhole, KeepsParties, party_of, opened_of as open_want_of};
-ghost use Rattle.lock_tree.specs.Progress.{Falls, MovesOn};
+ghost use Rattle.lock_tree.specs.Forest.{IsWhole, KeepsParties, party_of, opened_of as open_want_of, places_kept as places_of_all};
+ghost use Rattle.lock_tree.specs.LockTable.{granted_at};
+ghost use Rattle.lock_tree.specs.Progress.{MovesOn};
 ghost use Rattle.lock_tree.specs.States.{state_of};
 ghost use Rattle.lock_tree.specs.Wanted.{MayTakeWhole, needs_of, IsOf, IsLooking, Answered, GotAtOnce, GotWhole, opening_of, want_of};
-ghost use Rattle.lock_tree.specs.LockTable.{granted_at};
-ghost use Rattle.lock_tree.specs.Parties.{resting};
-ghost use Rattle.lock_tree.specs.Room.{HasRoomFor, HasSpare, IsAsBefore, has_whole};
+ghost use Rattle.lock_tree.specs.Room.{HasRoomFor, HasRoomToOpen, IsAsBefore};
 
 use crate::answer::{Step, Want};
 use crate::parties::{admit, open_for};
 use crate::parts::Parts;
-use crate::sleeping::is_granted;
+use crate::places::places_kept;
 use crate::trail::cut_asks;
 use crate::way::opening;
 use indexmap::IndexMap;
@@ -34,13 +33,15 @@ fn count_needs(parties: &IndexMap<u32, Party>, owner: u32) -> usize
     }
 }
 
-// How many places a want may take in the lock table: at each node on its way one for its lock, and one for each need of its owner
-// that is to be taken lower.
+// How many places are to be spare in the lock table as a want goes its way: at each node on it one for its lock, and one for each
+// need of its owner that is to be taken lower; and those that the ends of open wants may take, its own among them.
 fn places_for(parties: &IndexMap<u32, Party>, owner: u32) -> Option<usize>
-    ensures { IfSome result (λ n. n ≡ 4 * (length (party_of parties.now.entries owner).needs + 1)) }
+    ensures { IfSome result (λ n. n ≡ 4 * (length (party_of parties.now.entries owner).needs + 1) + (places_of_all parties.now.entries + length (party_of parties.now.entries owner).needs)) }
 {
     let needs = count_needs(parties, owner);
-    needs.checked_add(1)?.checked_mul(WAY_NODES)
+    let way = needs.checked_add(1)?.checked_mul(WAY_NODES)?;
+    let ends = places_kept(parties)?.checked_add(needs)?;
+    way.checked_add(ends)
 }
 
 impl Parts {
@@ -55,7 +56,8 @@ impl Parts {
     fn make_room(&mut self, owner: u32) -> Result<(), NoMemory>
         ensures same { IsAsBefore (state_of self.old) (state_of self.new) }
         ensures parties { self.new.parties ≡ self.old.parties }
-        ensures ok { OnOk result (HasRoomFor 4 owner self.new) }
+        ensures spare { self.old.locks.spare ≤ self.new.locks.spare }
+        ensures ok { OnOk result (HasRoomToOpen owner self.new) }
     {
         let Some(places) = places_for(&self.parties, owner) else {
             return Err(NoMemory {});
@@ -68,7 +70,7 @@ impl Parts {
     // Opens a want of the need for an owner that has none open.
     fn open_want(&mut self, owner: u32, need: Need, wait: bool) -> Result<Want, NoMemory>
         requires owner { is_owner owner ≡ true }
-        requires room { HasRoomFor 4 owner self.old }
+        requires room { HasRoomToOpen owner self.old }
         requires whole { IsWhole (state_of self.old) }
         requires resting { open_want_of (state_of self.old) owner ≡ None }
         requires plain { is_plain need ≡ true }
@@ -110,7 +112,7 @@ impl Parts {
     // Opens a want of the need, or goes on with the want that is open.
     fn want_in_room(&mut self, owner: u32, need: Need, wait: bool) -> Result<Want, NoMemory>
         requires owner { is_owner owner ≡ true }
-        requires room { HasRoomFor 4 owner self.old }
+        requires room { HasRoomToOpen owner self.old }
         requires whole { IsWhole (state_of self.old) }
         requires plain { is_plain need ≡ true }
         requires same { IsOf need (open_want_of (state_of self.old) owner) }
@@ -147,36 +149,5 @@ impl Parts {
     {
         self.make_room(owner)?;
         self.want_in_room(owner, need, wait)
-    }
-
-    // Makes room for all that the owner's needs may take lower as its open want ends: only where it has been granted its whole need.
-    fn make_room_to_end(&mut self, owner: u32, want: OpenWant) -> Result<(), NoMemory>
-        ensures same { IsAsBefore (state_of self.old) (state_of self.new) }
-        ensures parties { self.new.parties ≡ self.old.parties }
-        ensures ok { OnOk result (has_whole (granted_at self.old.locks owner) want ≡ true → HasSpare (length (needs_of (state_of self.old) owner)) self.new.locks) }
-        ensures memory { OnErr result (has_whole (granted_at self.old.locks owner) want ≡ true) }
-    {
-        if !is_granted(&self.locks, owner, want) {
-            return Ok(());
-        }
-        let needs = count_needs(&self.parties, owner);
-        self.locks.reserve(needs)
-    }
-
-    // Ends the owner's open want. All memory is taken before anything changes.
-    pub(crate) fn give_up(&mut self, owner: u32, want: OpenWant) -> Result<(), NoMemory>
-        requires whole { IsWhole (state_of self.old) }
-        requires opened { open_want_of (state_of self.old) owner ≡ Some want }
-
-        ensures ended { OnOk result (party_of self.new.parties.entries owner ≡ resting (needs_of (state_of self.old) owner)) }
-        ensures memory { OnErr result (has_whole (granted_at self.old.locks owner) want ≡ true) }
-        ensures falls { OnOk result (Falls owner (state_of self.old) (state_of self.new)) }
-        ensures err { OnErr result (IsAsBefore (state_of self.old) (state_of self.new)) }
-        ensures whole { IsWhole (state_of self.new) }
-        ensures others { KeepsParties owner self.old.parties.entries self.new.parties.entries }
-    {
-        self.make_room_to_end(owner, want)?;
-        self.close_want(owner, want);
-        Ok(())
     }
 }

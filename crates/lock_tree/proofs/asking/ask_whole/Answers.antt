@@ -1,4 +1,8 @@
-use Rattle.std.proofs.Common.{refl, sym, ◌∙◌}
+use Rattle.std.proofs.Common.{◌≡◌, true, refl, sym, ◌∙◌, subst}
+use Rattle.vms_queues.specs.declared.lock_mode.Mode.{Mode}
+use Rattle.vms_queues.specs.Modes.{at_most}
+use Rattle.lock_needs.proofs.ModeTables.{join-left}
+use Rattle.lock_tree.specs.LockTable.{granted_at}
 use Rattle.lock_tree.proofs.WantAsked.{asked-mode}
 use Rattle.lock_tree.proofs.Getting.{whole-quiet, whole-intents, whole-others, whole-answered, whole-refused, whole-raised, whole-exact}
 use Rattle.lock_tree.proofs.TakingWhole.{whole-granted}
@@ -42,3 +46,8 @@ returns-clause-strong c = λ may.
     c.is_granted.ensures
     ∙ whole-granted c.args.locks.now c.ask-answer.new.locks c.args.owner c.args.want c.join-mode.result (asked-mode _ _ _ _ c.join-mode.result c.granted_of-held.ensures.value refl c.join-mode.ensures.table)
     c.granted_of-held.ensures.live may _ c.ask-answer.ensures.exact
+
+pub ask-answer-requires-clause-ascends : goal.ask-answer-requires-clause-ascends
+ask-answer-requires-clause-ascends c =
+    let held = granted_at c.args.locks.now c.args.owner c.args.want.here in
+    subst (λ (m : Mode). at_most held m ≡ true) (sym (asked-mode _ _ _ _ c.join-mode.result c.granted_of-held.ensures.value refl c.join-mode.ensures.table)) (join-left held c.args.want.need.mode)

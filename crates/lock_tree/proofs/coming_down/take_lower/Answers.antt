@@ -29,6 +29,11 @@ loop-need-preserved c = (
       c.loop-need.invariant.0 c.take_one.ensures.ready c.take_one.ensures.taken c.take_one.ensures.covered,
   way-then c.args.owner c.args.locks.now c.loop-need.locks c.take_one.new.locks c.loop-need.invariant.1 c.take_one.ensures.way,
   omega (arith, c.loop-need.invariant.2, c.take_one.ensures.spare),
+  λ all.
+      let one = c.take_one.ensures.none_used
+      (supposed-more (granted_at c.args.locks.now c.args.owner) (granted_at c.loop-need.locks c.args.owner) c.loop-need.invariant.0.taken.more c.args.node c.args.keep _
+      (each-at (is_covered (supposing c.args.node c.args.keep (granted_at c.args.locks.now c.args.owner))) c.args.needs.now c.loop-need.need-index _ c.loop-need-test.true all)) in
+      omega (arith, c.loop-need.invariant.3 all, one),
 )
 
 pub loop-need-init : goal.loop-need-init
@@ -49,6 +54,7 @@ loop-need-init c = (
   },
   way-none c.args.owner c.args.locks.now,
   omega arith,
+  λ all. omega arith,
 )
 
 pub take_one-requires-clause-room : goal.take_one-requires-clause-room

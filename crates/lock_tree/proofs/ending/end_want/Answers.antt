@@ -1,10 +1,10 @@
-use Rattle.std.proofs.Common.{sym, ◌∙◌}
+use Rattle.std.proofs.Common.{sym, ◌∙◌, arith}
 use Rattle.std.proofs.lemmas.Bool.{false≢true, and_parts}
 use Rattle.rdb_types.specs.declared.node.Level.TheVariants.{Line}
 use Rattle.lock_needs.specs.Nodes.{is_above}
 use Rattle.lock_tree.proofs.Leaving.{climbed, closed, up-quiet}
 use Rattle.lock_tree.specs.LockTable.{granted_at, sought_at}
-use Rattle.lock_tree.proofs.Spared.{up-apart, room-stopped}
+use Rattle.lock_tree.proofs.Spared.{up-apart, spare-left}
 use Rattle.lock_tree.proofs.WayMade.{way-then}
 use Rattle.lock_tree.proofs.ServedInOrder.{stands-climbed, stands-closed}
 use Rattle.lock_tree.proofs.ending.end_want.Goals as goal
@@ -26,7 +26,8 @@ loop-up-preserved c =
       λ u q d k. c.leave_node.ensures.others u q d (c.loop-up.invariant.3 u q d k),
       way-then c.args.owner c.args.locks.now c.loop-up.locks c.leave_node.new.locks c.loop-up.invariant.4 c.leave_node.ensures.way,
       λ s. stands-climbed c.leave_node.new.locks c.args.owner c.args.party.now.needs c.loop-up.left c.in-Some.up e c.leave_node.ensures.left (c.leave_node.ensures.leaves (c.loop-up.invariant.5 s)),
-      λ asked s. absurd (false≢true (sym (up-apart c.loop-up.left c.in-Some.up e c.leave_node.ensures.left.way) ∙ (and_parts (is_above c.in-Some.up.level Line) _ s).1)),
+      spare-left c.args.locks.now c.loop-up.locks c.leave_node.new.locks c.args.party.now.needs c.loop-up.left c.loop-up.invariant.6 c.loop-up.invariant.7 c.leave_node.ensures.spare c.leave_node.ensures.none_used,
+      λ s. absurd (false≢true (sym (up-apart c.loop-up.left c.in-Some.up e c.leave_node.ensures.left.way) ∙ (and_parts (is_above c.in-Some.up.level Line) _ s).1)),
     )
 
 pub returns-in_default-clause-way : goal.returns-in_default-clause-way
@@ -44,5 +45,13 @@ loop-up-init c = (
   c.stop_asking-left.ensures.others,
   c.stop_asking-left.ensures.way,
   c.stop_asking-left.ensures.stands_still c.args.party.now.needs,
-  room-stopped c.args.locks.now c.stop_asking-left.new.locks c.args.owner c.args.party.now.needs c.args.want c.stop_asking-left.result c.stop_asking-left.ensures.asked c.requires.room,
+  omega (arith, c.stop_asking-left.ensures.spare),
+  λ s. c.stop_asking-left.ensures.spare,
 )
+
+pub leave_node-requires-clause-room : goal.leave_node-requires-clause-room
+leave_node-requires-clause-room c = λ s. omega (arith, c.loop-up.invariant.7 s, c.requires.room)
+
+pub returns-in_default-clause-spare : goal.returns-in_default-clause-spare
+returns-in_default-clause-spare c =
+    spare-left c.args.locks.now c.loop-up.locks c.leave_node.new.locks c.args.party.now.needs c.loop-up.left c.loop-up.invariant.6 c.loop-up.invariant.7 c.leave_node.ensures.spare c.leave_node.ensures.none_used

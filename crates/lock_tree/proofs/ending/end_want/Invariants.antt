@@ -2,7 +2,7 @@ use Rattle.std.proofs.Common.{◌≡◌, true, length}
 use Rattle.lock_tree.specs.LockTable.{granted_at, sought_at, HasIntents}
 use Rattle.lock_tree.specs.Parties.{IsKept, KeepsOthers, wanting}
 use Rattle.lock_tree.specs.Order.{MakesWay, StandsByNeeds}
-use Rattle.lock_tree.specs.Room.{HasSpare, is_over_others}
+use Rattle.lock_tree.specs.Room.{UsesSpare, is_over_others}
 use Rattle.lock_tree.proofs.Depths.{depth}
 use Rattle.lock_tree.proofs.ending.end_want.Given as goal
 
@@ -11,7 +11,7 @@ invariant-loop-up l =
     HasIntents l.locks × IsKept l.locks l.owner (wanting l.party.needs l.left)
     × (sought_at l.locks l.owner l.left.here ≡ granted_at l.locks l.owner l.left.here) × KeepsOthers l.owner l.fn.locks l.locks
     × MakesWay l.owner l.fn.locks l.locks × (StandsByNeeds l.fn.locks l.owner (wanting l.party.needs l.fn.want) → StandsByNeeds l.locks l.owner (wanting l.party.needs l.left))
-    × (l.left.is_asked ≡ true → is_over_others l.left ≡ true → HasSpare (length l.party.needs) l.locks)
+    × UsesSpare (length l.party.needs) l.fn.locks l.locks × (is_over_others l.left ≡ true → UsesSpare 0 l.fn.locks l.locks)
 
 abbrev pub decreases-loop-up : goal.decreases-loop-up
 decreases-loop-up l = depth l.left.here.level

@@ -1,4 +1,4 @@
-use Rattle.std.proofs.Common.{◌≡◌, true, false, subst, sym, ◌∙◌, List, length, ◌≤◌}
+use Rattle.std.proofs.Common.{◌≡◌, true, false, subst, sym, ◌∙◌, List, length, ◌+◌, ◌≤◌}
 use Rattle.std.proofs.lemmas.Bool.{not-true}
 use Rattle.vms_queues.specs.declared.lock_mode.Mode.{Mode}
 use Rattle.vms_queues.specs.declared.lock_mode.Mode.TheVariants.{NL}
@@ -13,7 +13,7 @@ use Rattle.lock_tree.specs.Parties.{IsKept, wanting}
 use Rattle.lock_tree.specs.Order.{StandsByNeeds}
 use Rattle.lock_tree.proofs.Brought.{brought-others, brought-intents}
 use Rattle.lock_tree.proofs.Leaving.{left-ready, left-enough, left-down, left-stays, left-none, never-asked_here, tested-held}
-use Rattle.lock_tree.proofs.Spared.{double-not, room-left}
+use Rattle.lock_tree.proofs.Spared.{double-not, left-covered, room-left}
 use Rattle.lock_tree.proofs.WayMade.{way-none}
 use Rattle.lock_tree.proofs.ServedInOrder.{stands-left, stands-skipped, stands-none}
 use Rattle.lock_tree.proofs.ending.leave_node.Goals as goal
@@ -82,3 +82,12 @@ pub returns-then-is_at_most-clause-leaves : goal.returns-then-is_at_most-clause-
 returns-then-is_at_most-clause-leaves c =
     stands-none c.args.locks.now c.args.owner c.args.party.now.needs c.args.want
     (subst (λ (m : Mode). at_most m NL ≡ true) c.granted_of-held.ensures.value (sym c.is_at_most.ensures.table ∙ c.if-is_at_most.true))
+
+pub returns-then-is_at_most-2-clause-spare : goal.returns-then-is_at_most-2-clause-spare
+returns-then-is_at_most-2-clause-spare c = subst (λ (ws : List Need). c.args.locks.now.spare ≤ c.bring_down.new.locks.spare + length ws) c.needs.ensures c.bring_down.ensures.spare
+
+pub returns-then-is_at_most-2-clause-none_used : goal.returns-then-is_at_most-2-clause-none_used
+returns-then-is_at_most-2-clause-none_used c = λ none.
+    c.bring_down.ensures.none_used
+    (subst (λ (ws : List Need). all_covered (supposing c.args.want.here c.left_mode-keep.result (granted_at c.args.locks.now c.args.owner)) ws ≡ true) (sym c.needs.ensures)
+    (left-covered c.args.locks.now c.args.owner c.args.party.now.needs c.args.want c.left_mode-keep.result c.left_mode-keep.ensures c.requires.kept (double-not c.args.want.is_asked c.if-not-want.false) none))

@@ -1,16 +1,17 @@
-use Rattle.std.proofs.Common.{◌≡◌, ◌≤◌, ◌∙◌, sym, subst, true, false, List, length}
+use Rattle.std.proofs.Common.{◌≡◌, ◌≤◌, ◌∙◌, sym, subst, true, false, List, length, arith}
 use Rattle.rdb_types.specs.declared.node.Node.{Node}
 use Rattle.vms_queues.specs.Queues.{Queues}
 use Rattle.lock_needs.specs.Keeping.{is_excess}
 use Rattle.lock_needs.specs.Wants.{kept_at}
 use Rattle.lock_tree.specs.LockTable.{granted_at}
 use Rattle.lock_tree.specs.Notices.{notice_answer}
+use Rattle.lock_tree.specs.Forest.{places_kept}
 use Rattle.lock_tree.specs.Parties.{IsKept}
 use Rattle.lock_tree.specs.Order.{StandsByNeeds}
 use Rattle.lock_tree.proofs.Outcomes.{on_err-any}
 use Rattle.lock_tree.proofs.Respared.{intents-same, way-same}
 use Rattle.lock_tree.proofs.WayMade.{way-none}
-use Rattle.lock_tree.proofs.ServedAt.{served-roomy}
+use Rattle.lock_tree.proofs.ServedAt.{served-roomy, room-served}
 use Rattle.lock_tree.proofs.notice.answer_notice.Goals as goal
 
 pub returns-in_err-make_room_for_notice-clause-err : goal.returns-in_err-make_room_for_notice-clause-err
@@ -40,7 +41,7 @@ serve_notice-requires-clause-kept c = subst (λ (es : List (Node × Queues)). Is
 pub serve_notice-requires-clause-room : goal.serve_notice-requires-clause-room
 serve_notice-requires-clause-room c =
     subst (λ (es : List (Node × Queues)). is_excess (granted_at (record { entries = es; spare = c.make_room_for_notice.new.locks.spare }) c.args.owner c.args.node) (kept_at (granted_at (record { entries = es; spare = c.make_room_for_notice.new.locks.spare }) c.args.owner) c.args.party.now c.args.node) ≡ true → length c.args.party.now.needs ≤ c.make_room_for_notice.new.locks.spare)
-    (sym c.make_room_for_notice.ensures.entries) c.in_ok-make_room_for_notice.ensures.ok
+    (sym c.make_room_for_notice.ensures.entries) (λ e. let room = c.in_ok-make_room_for_notice.ensures.ok e in omega (arith, room))
 
 pub returns-clause-answer : goal.returns-clause-answer
 returns-clause-answer c =
@@ -70,3 +71,11 @@ pub returns-clause-served : goal.returns-clause-served
 returns-clause-served c =
     served-roomy c.args.locks.now c.make_room_for_notice.new.locks c.serve_notice.new.locks c.args.owner c.args.party.now c.args.node c.make_room_for_notice.ensures.entries
     c.in_ok-make_room_for_notice.ensures.unchanged c.serve_notice.ensures.served
+
+pub returns-clause-room : goal.returns-clause-room
+returns-clause-room c =
+    room-served c.args.locks.now c.make_room_for_notice.new.locks c.serve_notice.new.locks (length c.args.party.now.needs) (places_kept c.args.parties.now.entries)
+    (is_excess (granted_at c.args.locks.now c.args.owner c.args.node) (kept_at (granted_at c.args.locks.now c.args.owner) c.args.party.now c.args.node))
+    c.in_ok-make_room_for_notice.ensures.ok c.make_room_for_notice.ensures.spare
+    (λ f. c.serve_notice.ensures.unchanged (subst (λ (es : List (Node × Queues)). is_excess (granted_at (record { entries = es; spare = c.make_room_for_notice.new.locks.spare }) c.args.owner c.args.node) (kept_at (granted_at (record { entries = es; spare = c.make_room_for_notice.new.locks.spare }) c.args.owner) c.args.party.now c.args.node) ≡ false) (sym c.make_room_for_notice.ensures.entries) f))
+    c.serve_notice.ensures.spare

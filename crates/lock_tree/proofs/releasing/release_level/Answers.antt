@@ -16,6 +16,7 @@ loop-need-preserved c =
           (subst (λ (ws : List Need). AreReleased c.args.owner c.args.level (take i ws) c.args.locks.now c.loop-need.locks) (sym c.needs-need-items.ensures) c.loop-need.invariant.0)
           c.release_at.ensures.releasing c.release_at.ensures.gone),
       way-then c.args.owner c.args.locks.now c.loop-need.locks c.release_at.new.locks c.loop-need.invariant.1 c.release_at.ensures.way,
+      omega (arith, c.loop-need.invariant.2, c.release_at.ensures.spare),
     )
 
 pub returns-in-Some-clause-releasing : goal.returns-in-Some-clause-releasing
@@ -34,4 +35,4 @@ pub returns-in-Some-clause-way : goal.returns-in-Some-clause-way
 returns-in-Some-clause-way c = way-then c.args.owner c.args.locks.now c.loop-need.locks c.release_at-in-Some.new.locks c.loop-need.invariant.1 c.release_at-in-Some.ensures.way
 
 pub loop-need-init : goal.loop-need-init
-loop-need-init c = (record { releasing = c.requires.ready; none = λ x s h. absurd (false≢true h) }, way-none c.args.owner c.args.locks.now)
+loop-need-init c = (record { releasing = c.requires.ready; none = λ x s h. absurd (false≢true h) }, way-none c.args.owner c.args.locks.now, omega arith)

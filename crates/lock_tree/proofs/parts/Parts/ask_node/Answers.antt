@@ -1,5 +1,5 @@
-use Rattle.std.proofs.Common.{◌≡◌, refl, ap, subst, sym, inl, List, true, length, ◌+◌, ◌≤◌, arith}
-use Rattle.std.specs.Prelude.{unwrap_or}
+use Rattle.std.proofs.Common.{◌≡◌, refl, ◌∙◌, ap, subst, sym, inl, List, true, length, ◌+◌, ◌≤◌, arith}
+use Rattle.std.specs.Prelude.{Option, is_some, unwrap_or}
 use Rattle.std.proofs.lemmas.Bool.{or_parts}
 use Rattle.vms_queues.specs.Modes.{at_most}
 use Rattle.lock_needs.specs.Needs.{covered_above}
@@ -9,9 +9,9 @@ use Rattle.lock_needs.specs.declared.party.OpenWant.{OpenWant}
 use Rattle.lock_needs.specs.Party.{Party}
 use Rattle.lock_needs.specs.Wants.{mode_for}
 use Rattle.lock_tree.specs.LockTable.{granted_at}
-use Rattle.lock_tree.specs.Parties.{unasked}
+use Rattle.lock_tree.specs.Parties.{IsKept, unasked}
 use Rattle.lock_tree.specs.Order.{ComesDown}
-use Rattle.lock_tree.proofs.RoomKept.{roomy-on, leaves-used}
+use Rattle.lock_tree.proofs.RoomKept.{roomy-on, leaves-used, kept-looked}
 use Rattle.lock_tree.specs.Forest.{State, idle, party_of}
 use Rattle.lock_tree.specs.States.{state_of}
 use Rattle.lock_tree.specs.Wanted.{needs_of, Steps}
@@ -32,6 +32,7 @@ returns-in-NoticeTo-clause-whole c =
     whole-looked s r c.args.owner c.args.want c.requires.whole c.requires.opened
     (subst (λ (p : Party). ComesDown c.args.owner p s.table c.look_here.new.locks) (sym (as-open (party_of s.parties c.args.owner) (unasked c.args.want) c.requires.opened))
     (look-due s c.look_here.new.locks c.args.owner c.args.want c.args.wait c.look_here.result c.in-Some.party.now is c.look_here.ensures.look c.in-NoticeTo.other c.in-NoticeTo.mode c.in-NoticeTo.is).0) refl refl
+    (kept-looked c.args.owner c.args.self.now c.look_here.new.locks c.requires.room c.in-Some.party.now is c.look_here.ensures.spare)
 
 pub returns-in-NoticeTo-clause-step : goal.returns-in-NoticeTo-clause-step
 returns-in-NoticeTo-clause-step c =
@@ -51,6 +52,7 @@ go_on-requires-clause-whole c =
     asked.1.live
     (asked-by_needs s c.args.owner c.args.want c.requires.whole c.requires.opened (need-used (granted_at s.table c.args.owner) c.args.want.need c.requires.uncovered) c.args.wait c.look_here.new.locks Granted asked.1
     (party_of r.parties) c.mark_asked-asked.ensures.own c.mark_asked-asked.ensures.others)
+    (kept-looked c.args.owner c.args.self.now c.look_here.new.locks c.requires.room c.in-Some.party.now is c.look_here.ensures.spare)
 
 pub go_on-requires-clause-granted : goal.go_on-requires-clause-granted
 go_on-requires-clause-granted c =
@@ -76,6 +78,7 @@ stand-requires-clause-whole c =
     asked.1.live
     (asked-by_needs s c.args.owner c.args.want c.requires.whole c.requires.opened (need-used (granted_at s.table c.args.owner) c.args.want.need c.requires.uncovered) c.args.wait c.look_here.new.locks Asleep asked.1
     (party_of r.parties) c.mark_asked-asked-in-Asked-Asleep.ensures.own c.mark_asked-asked-in-Asked-Asleep.ensures.others).0
+    (kept-looked c.args.owner c.args.self.now c.look_here.new.locks c.requires.room c.in-Some.party.now is c.look_here.ensures.spare)
 
 pub returns-in-Asked-Asleep-clause-step : goal.returns-in-Asked-Asleep-clause-step
 returns-in-Asked-Asleep-clause-step c =
@@ -90,6 +93,7 @@ refuse-requires-clause-whole c =
     whole-looked s r c.args.owner c.args.want c.requires.whole c.requires.opened
     (refused-down s c.look_here.new.locks c.args.owner c.args.want c.args.wait c.in-Asked-NotQueued.other
     (look-asked s c.look_here.new.locks c.args.owner c.args.want c.args.wait c.look_here.result c.in-Some.party.now is c.look_here.ensures.look c.in-Asked-NotQueued.field-0 (NotQueued c.in-Asked-NotQueued.other) c.in-Asked-NotQueued.is c.in-Asked-NotQueued.field-0-is).1) refl refl
+    (kept-looked c.args.owner c.args.self.now c.look_here.new.locks c.requires.room c.in-Some.party.now is c.look_here.ensures.spare)
 
 pub refuse-requires-in-Asked-Deadlock-clause-whole : goal.refuse-requires-in-Asked-Deadlock-clause-whole
 refuse-requires-in-Asked-Deadlock-clause-whole c =
@@ -99,6 +103,7 @@ refuse-requires-in-Asked-Deadlock-clause-whole c =
     whole-looked s r c.args.owner c.args.want c.requires.whole c.requires.opened
     (deadlock-down s c.look_here.new.locks c.args.owner c.args.want c.args.wait c.in-Asked-Deadlock.cycle
     (look-asked s c.look_here.new.locks c.args.owner c.args.want c.args.wait c.look_here.result c.in-Some.party.now is c.look_here.ensures.look c.in-Asked-Deadlock.field-0 (Deadlock c.in-Asked-Deadlock.cycle) c.in-Asked-Deadlock.is c.in-Asked-Deadlock.field-0-is).1) refl refl
+    (kept-looked c.args.owner c.args.self.now c.look_here.new.locks c.requires.room c.in-Some.party.now is c.look_here.ensures.spare)
 
 pub returns-in-Asked-NotQueued-clause-step : goal.returns-in-Asked-NotQueued-clause-step
 returns-in-Asked-NotQueued-clause-step c =
@@ -109,7 +114,8 @@ returns-in-Asked-NotQueued-clause-step c =
       asked.0.1,
       record {
         before = r;
-        whole = whole-looked s r c.args.owner c.args.want c.requires.whole c.requires.opened (refused-down s c.look_here.new.locks c.args.owner c.args.want c.args.wait c.in-Asked-NotQueued.other asked.1) refl refl;
+        whole = whole-looked s r c.args.owner c.args.want c.requires.whole c.requires.opened (refused-down s c.look_here.new.locks c.args.owner c.args.want c.args.wait c.in-Asked-NotQueued.other asked.1) refl refl
+            (kept-looked c.args.owner c.args.self.now c.look_here.new.locks c.requires.room c.in-Some.party.now is c.look_here.ensures.spare);
         others = c.refuse.ensures.others;
         want = unasked c.args.want;
         stood = as-open (party_of s.parties c.args.owner) (unasked c.args.want) c.requires.opened;
@@ -132,7 +138,8 @@ returns-in-Asked-Deadlock-clause-step c =
       asked.0.1,
       record {
         before = r;
-        whole = whole-looked s r c.args.owner c.args.want c.requires.whole c.requires.opened (deadlock-down s c.look_here.new.locks c.args.owner c.args.want c.args.wait c.in-Asked-Deadlock.cycle asked.1) refl refl;
+        whole = whole-looked s r c.args.owner c.args.want c.requires.whole c.requires.opened (deadlock-down s c.look_here.new.locks c.args.owner c.args.want c.args.wait c.in-Asked-Deadlock.cycle asked.1) refl refl
+            (kept-looked c.args.owner c.args.self.now c.look_here.new.locks c.requires.room c.in-Some.party.now is c.look_here.ensures.spare);
         others = c.refuse-in-Asked-Deadlock.ensures.others;
         want = unasked c.args.want;
         stood = as-open (party_of s.parties c.args.owner) (unasked c.args.want) c.requires.opened;
@@ -171,9 +178,9 @@ returns-in-Asked-Granted-clause-room c =
     let s : State = state_of c.args.self.now in
     let is : c.in-Some.party.now ≡ party_of s.parties c.args.owner = ap (λ x. unwrap_or x idle) c.in-Some.ensures.value in
     leaves-used c.args.owner c.args.self.now (record { locks = c.look_here.new.locks; parties = c.mark_asked-asked.new.parties; trail = c.mark_asked-asked.new.trail }) c.go_on.new.self
-    (ap (λ (p : Party). p.needs) c.mark_asked-asked.ensures.own) (subst (λ (p : Party). c.args.self.now.locks.spare ≤ c.look_here.new.locks.spare + (length p.needs + 1)) is c.look_here.ensures.spare)
+    (ap (λ (p : Party). p.needs) c.mark_asked-asked.ensures.own) (ap (λ (o : Option OpenWant). is_some o) c.requires.opened) c.mark_asked-asked.ensures.others (subst (λ (p : Party). c.args.self.now.locks.spare ≤ c.look_here.new.locks.spare + (length p.needs + 1)) is c.look_here.ensures.spare)
     c.mark_asked-asked.ensures.length c.mark_asked-asked.ensures.capacity c.go_on.result
-    (roomy-on c.args.owner (needs_of s c.args.owner) c.mark_asked-asked.result c.args.wait (record { locks = c.look_here.new.locks; parties = c.mark_asked-asked.new.parties; trail = c.mark_asked-asked.new.trail }) c.go_on.new.self (ap (λ (p : Party). p.needs) c.mark_asked-asked.ensures.own) c.go_on.ensures.table c.go_on.ensures.trail c.go_on.result
+    (roomy-on c.args.owner (needs_of s c.args.owner) c.mark_asked-asked.result c.args.wait (record { locks = c.look_here.new.locks; parties = c.mark_asked-asked.new.parties; trail = c.mark_asked-asked.new.trail }) c.go_on.new.self (ap (λ (p : Party). p.needs) c.mark_asked-asked.ensures.own) (ap (λ (p : Party). is_some p.opened) c.mark_asked-asked.ensures.own) c.go_on.ensures.others c.go_on.ensures.table c.go_on.ensures.trail c.go_on.result
     (subst (λ (ws : List Need). Steps ws (state_of c.go_on.new.self) c.args.owner c.mark_asked-asked.result c.args.wait c.go_on.result) (ap (λ (p : Party). p.needs) c.mark_asked-asked.ensures.own) (c.go_on.ensures.step c.args.wait)))
 
 pub returns-in-Asked-Asleep-clause-room : goal.returns-in-Asked-Asleep-clause-room
@@ -181,7 +188,7 @@ returns-in-Asked-Asleep-clause-room c =
     let s : State = state_of c.args.self.now in
     let is : c.in-Some.party.now ≡ party_of s.parties c.args.owner = ap (λ x. unwrap_or x idle) c.in-Some.ensures.value in
     leaves-used c.args.owner c.args.self.now (record { locks = c.look_here.new.locks; parties = c.mark_asked-asked-in-Asked-Asleep.new.parties; trail = c.mark_asked-asked-in-Asked-Asleep.new.trail }) c.stand.new.self
-    (ap (λ (p : Party). p.needs) c.mark_asked-asked-in-Asked-Asleep.ensures.own) (subst (λ (p : Party). c.args.self.now.locks.spare ≤ c.look_here.new.locks.spare + (length p.needs + 1)) is c.look_here.ensures.spare)
+    (ap (λ (p : Party). p.needs) c.mark_asked-asked-in-Asked-Asleep.ensures.own) (ap (λ (o : Option OpenWant). is_some o) c.requires.opened) c.mark_asked-asked-in-Asked-Asleep.ensures.others (subst (λ (p : Party). c.args.self.now.locks.spare ≤ c.look_here.new.locks.spare + (length p.needs + 1)) is c.look_here.ensures.spare)
     c.mark_asked-asked-in-Asked-Asleep.ensures.length c.mark_asked-asked-in-Asked-Asleep.ensures.capacity c.stand.result
     c.stand.ensures.room
 
@@ -192,7 +199,8 @@ returns-in-NoticeTo-clause-progress c =
     let r : State = record { table = c.look_here.new.locks; parties = c.args.self.now.parties.entries; trail = c.args.self.now.trail.items } in
     let after = whole-looked s r c.args.owner c.args.want c.requires.whole c.requires.opened
     (subst (λ (p : Party). ComesDown c.args.owner p s.table c.look_here.new.locks) (sym (as-open (party_of s.parties c.args.owner) (unasked c.args.want) c.requires.opened))
-    (look-due s c.look_here.new.locks c.args.owner c.args.want c.args.wait c.look_here.result c.in-Some.party.now is c.look_here.ensures.look c.in-NoticeTo.other c.in-NoticeTo.mode c.in-NoticeTo.is).0) refl refl in
+    (look-due s c.look_here.new.locks c.args.owner c.args.want c.args.wait c.look_here.result c.in-Some.party.now is c.look_here.ensures.look c.in-NoticeTo.other c.in-NoticeTo.mode c.in-NoticeTo.is).0) refl refl
+    (kept-looked c.args.owner c.args.self.now c.look_here.new.locks c.requires.room c.in-Some.party.now is c.look_here.ensures.spare) in
     served-never s r c.args.owner c.args.want.here c.requires.whole after (λ u. refl)
     (subst (λ (p : Party). IsServedAt c.args.owner p c.args.want.here s.table r.table) is
     (subst (LooksOn c.args.owner c.in-Some.party.now c.args.want s.table r.table) c.in-NoticeTo.is c.look_here.ensures.progress))
@@ -232,3 +240,12 @@ returns-in-Asked-Deadlock-clause-progress c =
     (leaves-then s.table c.look_here.new.locks c.refuse-in-Asked-Deadlock.new.self.locks c.args.owner
     (subst (LooksOn c.args.owner c.in-Some.party.now c.args.want s.table c.look_here.new.locks) c.in-Asked-Deadlock.is c.look_here.ensures.progress) c.refuse-in-Asked-Deadlock.ensures.locks)
     c.requires.opened (ap (λ (p : Party). p.opened) c.refuse-in-Asked-Deadlock.ensures.ended)
+
+pub returns-in-Asked-Granted-clause-others : goal.returns-in-Asked-Granted-clause-others
+returns-in-Asked-Granted-clause-others c = λ u d. c.go_on.ensures.others u d ∙ c.mark_asked-asked.ensures.others u d
+
+pub returns-in-Asked-Asleep-clause-others : goal.returns-in-Asked-Asleep-clause-others
+returns-in-Asked-Asleep-clause-others c = λ u d. c.stand.ensures.others u d ∙ c.mark_asked-asked-in-Asked-Asleep.ensures.others u d
+
+pub look_here-requires-clause-kept : goal.look_here-requires-clause-kept
+look_here-requires-clause-kept c = subst (IsKept c.args.self.now.locks c.args.owner) (sym (ap (λ x. unwrap_or x idle) c.in-Some.ensures.value)) (c.requires.whole.kept c.args.owner)

@@ -1,10 +1,12 @@
 use Rattle.std.proofs.Common.{◌≡◌, refl, ap, ◌++◌, ◌∷◌, []}
 use Rattle.std.specs.Prelude.{is_some}
+use Rattle.std.proofs.Math.Nat.{le_trans}
 use Rattle.lock_needs.specs.Party.{Party}
 use Rattle.lock_tree.specs.Parties.{resting}
 use Rattle.lock_tree.specs.Forest.{State, party_of}
 use Rattle.lock_tree.specs.States.{state_of}
 use Rattle.lock_tree.specs.Wanted.{needs_of}
+use Rattle.lock_tree.proofs.KeptPlaces.{places-closed}
 use Rattle.lock_tree.proofs.Whole.{whole-ended}
 use Rattle.lock_tree.proofs.Opened.{open-got, covered-got, covered-stands}
 use Rattle.lock_tree.proofs.WayMade.{way-none}
@@ -23,3 +25,4 @@ returns-clause-whole c =
     (covered-got s c.args.owner (needs_of s c.args.owner) c.args.need c.requires.whole c.requires.open c.requires.covered c.requires.plain c.requires.quiet) c.get_for.ensures.others tt (λ u n d. refl)
     (way-none c.args.owner c.args.self.now.locks) (covered-stands s c.args.owner (needs_of s c.args.owner) c.args.need c.requires.whole c.requires.open) refl
     (opened-ended (party_of s.parties) (party_of r.parties) c.args.owner c.get_for.ensures.others (ap (λ (p : Party). is_some p.opened) own) s.trail)
+    (le_trans (places-closed c.args.owner s.parties r.parties c.get_for.ensures.others (ap (λ (p : Party). p.opened) own)) c.requires.whole.room)

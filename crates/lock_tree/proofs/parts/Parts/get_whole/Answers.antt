@@ -1,9 +1,13 @@
-use Rattle.std.proofs.Common.{refl, sym, ◌∙◌, subst, ◌++◌, ◌∷◌, [], arith}
+use Rattle.std.proofs.Common.{refl, sym, ◌∙◌, ap, subst, ◌++◌, ◌∷◌, [], arith}
+use Rattle.std.proofs.Math.Nat.{le_trans}
 use Rattle.std.proofs.lemmas.Bool.{false≢true}
 use Rattle.lock_tree.specs.Parties.{IsKept}
 use Rattle.lock_tree.specs.Forest.{State}
 use Rattle.lock_tree.specs.States.{state_of}
 use Rattle.lock_tree.specs.Wanted.{needs_of}
+use Rattle.lock_needs.specs.Party.{Party}
+use Rattle.lock_tree.proofs.KeptPlaces.{places-closed}
+use Rattle.lock_tree.proofs.RoomKept.{kept-taken}
 use Rattle.lock_tree.proofs.Sleepers.{all-clear}
 use Rattle.lock_tree.proofs.Opened.{whole-same, whole-noted}
 use Rattle.lock_tree.proofs.TakenInOrder.{taken-way, taken-stands}
@@ -33,6 +37,7 @@ returns-clause-whole c =
     c.note_ask.ensures.trail
     (taken-way s r.table c.args.owner c.args.want c.requires.whole c.requires.uncovered taken clear)
     (taken-stands s r.table c.args.owner c.args.want c.requires.whole c.requires.opened c.requires.uncovered taken clear)
+    (le_trans (places-closed c.args.owner s.parties r.parties c.take_whole.ensures.parties (ap (λ (p : Party). p.opened) got)) (kept-taken c.args.owner c.args.self.now r.table c.requires.room c.take_whole.ensures.spare))
 
 pub take_whole-requires-clause-room : goal.take_whole-requires-clause-room
 take_whole-requires-clause-room c = omega (arith, c.requires.room.table)
@@ -44,3 +49,6 @@ pub returns-then-is_crowded-clause-strong : goal.returns-then-is_crowded-clause-
 returns-then-is_crowded-clause-strong c = λ may.
     let queued = crowded-queued c.args.self.now.locks c.args.self.now.parties.entries c.is_crowded.ensures.unique c.requires.whole.kept c.args.want.here (sym c.is_crowded.ensures.value ∙ c.if-is_crowded.true) in
     absurd (false≢true (sym (may.clear queued.0) ∙ queued.1))
+
+pub take_whole-requires-clause-kept : goal.take_whole-requires-clause-kept
+take_whole-requires-clause-kept c = c.requires.whole.kept c.args.owner

@@ -1,5 +1,7 @@
 use Rattle.std.proofs.Common.{refl, ap, sym, ◌∙◌}
 use Rattle.std.specs.Prelude.{Option, is_some}
+use Rattle.std.proofs.lemmas.Bool.{false≢true}
+use Rattle.std.proofs.Math.Nat.{le_trans}
 use Rattle.lock_needs.specs.declared.party.OpenWant.{OpenWant}
 use Rattle.lock_needs.specs.Party.{Party}
 use Rattle.lock_tree.specs.LockTable.{granted_at}
@@ -7,8 +9,9 @@ use Rattle.lock_tree.specs.Parties.{wanting}
 use Rattle.lock_tree.specs.Forest.{State, party_of}
 use Rattle.lock_tree.specs.States.{state_of}
 use Rattle.lock_tree.specs.Wanted.{needs_of}
+use Rattle.lock_tree.proofs.KeptPlaces.{places-still, open-owner}
 use Rattle.lock_tree.proofs.Whole.{whole-served}
-use Rattle.lock_tree.proofs.Opened.{still-open, granted-quiet_all, covered-there, down-kept, down-asks, down-stands, down-asked}
+use Rattle.lock_tree.proofs.Opened.{kept-open, still-open, granted-quiet_all, covered-there, down-kept, down-asks, down-stands, down-asked}
 use Rattle.lock_tree.proofs.WayMade.{way-none}
 use Rattle.lock_tree.proofs.OpenAsks.{opened-still}
 use Rattle.lock_tree.proofs.MeasureFalls.{next-never, ended-falls}
@@ -37,6 +40,8 @@ returns-clause-whole c =
     (λ n. refl)
     (down-asked s c.args.owner c.args.want c.in-Some.next c.requires.whole c.requires.opened c.requires.asked c.requires.granted c.in-Some.ensures.need c.in-Some.ensures.unasked c.in-Some.ensures.above c.in-Some.ensures.way)
     (opened-still (party_of s.parties) (party_of r.parties) c.args.owner c.go_to.ensures.others (ap (λ (p : Party). is_some p.opened) c.go_to.ensures.own ∙ sym (ap (λ (o : Option OpenWant). is_some o) c.requires.opened)) s.trail)
+    (λ f. absurd (false≢true (sym f ∙ open-owner s c.args.owner c.args.want c.requires.whole c.requires.opened)))
+    (le_trans (places-still c.args.owner s.parties r.parties c.go_to.ensures.others (ap (λ (o : Option OpenWant). is_some o) c.requires.opened) (ap (λ (p : Party). p.needs) c.go_to.ensures.own)) c.requires.whole.room)
 
 pub returns-clause-progress : goal.returns-clause-progress
 returns-clause-progress c =
@@ -49,3 +54,6 @@ pub returns-in_default-clause-progress : goal.returns-in_default-clause-progress
 returns-in_default-clause-progress c =
     ended-falls (state_of c.args.self.now) (state_of c.get_need.new.self) c.args.owner c.args.want c.get_need.ensures.others
     (same-leaves c.args.self.now.locks c.get_need.new.self.locks c.args.owner c.get_need.ensures.table) c.requires.opened (ap (λ (p : Party). p.opened) c.get_need.ensures.got)
+
+pub further_down-requires : goal.further_down-requires
+further_down-requires c = record { way = (kept-open (state_of c.args.self.now) c.args.owner c.args.want c.requires.whole c.requires.opened).way }

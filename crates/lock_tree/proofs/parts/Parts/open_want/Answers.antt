@@ -1,4 +1,5 @@
-use Rattle.std.proofs.Common.{◌≡◌, sym, ◌∙◌, ap, subst, true, false, refl}
+use Rattle.std.proofs.Common.{◌≡◌, List, sym, ◌∙◌, ap, subst, true, false, refl, arith}
+use Rattle.std.proofs.lemmas.Bool.{false≢true}
 use Rattle.std.specs.Prelude.{Option, is_some}
 use Rattle.lock_needs.specs.declared.need.Need.{Need}
 use Rattle.lock_needs.specs.declared.party.OpenWant.{OpenWant}
@@ -10,7 +11,7 @@ use Rattle.lock_tree.specs.Parties.{IsKept, wanting, unasked}
 use Rattle.lock_tree.specs.Order.{StandsByNeeds, asked_of_want, asked_last}
 use Rattle.lock_tree.specs.Forest.{State, open_asks, party_of}
 use Rattle.lock_tree.specs.States.{state_of}
-use Rattle.lock_tree.specs.Wanted.{MayTakeWhole, GotWhole, needs_of}
+use Rattle.lock_tree.specs.Wanted.{MayTakeWhole, GotWhole, needs_of, Answered}
 use Rattle.lock_tree.proofs.Outcomes.{on_err-any}
 use Rattle.lock_tree.proofs.Trails.{asks-opening, never-asked}
 use Rattle.lock_tree.proofs.Wanting.{opens}
@@ -19,7 +20,8 @@ use Rattle.lock_tree.proofs.WayMade.{way-none}
 use Rattle.lock_tree.proofs.StepsInOrder.{stands-opens}
 use Rattle.lock_tree.proofs.OpenAsks.{opened-opens, cut-fresh}
 use Rattle.lock_tree.proofs.Opened.{as-resting, whole-same}
-use Rattle.lock_tree.proofs.RoomKept.{room-cut, room-start, each-as-before}
+use Rattle.lock_tree.proofs.KeptPlaces.{places-opened}
+use Rattle.lock_tree.proofs.RoomKept.{room-opened, room-start, each-as-before}
 use Rattle.lock_tree.proofs.AtOnce.{opened-trail}
 use Rattle.lock_tree.proofs.parts.Parts.open_want.Goals as goal
 
@@ -39,8 +41,11 @@ returns-in_err-open_for-clause-err c =
 pub go_down-requires-clause-room : goal.go_down-requires-clause-room
 go_down-requires-clause-room c =
     room-start c.args.owner (record { locks = c.args.self.now.locks; parties = c.open_for.new.parties; trail = c.cut_asks.new.trail }) c.opening-want.result.here.level
-    (room-cut c.args.owner c.args.self.now (record { locks = c.args.self.now.locks; parties = c.open_for.new.parties; trail = c.cut_asks.new.trail })
-    (ap (λ (p : Party). p.needs) c.in_ok-open_for.ensures.own ∙ ap (λ (p : Party). p.needs) (c.admit.ensures.same c.args.owner)) refl c.cut_asks.ensures.bound c.cut_asks.ensures.capacity 4 c.requires.room)
+    (room-opened c.args.owner c.args.self.now (record { locks = c.args.self.now.locks; parties = c.open_for.new.parties; trail = c.cut_asks.new.trail })
+    (ap (λ (p : Party). p.needs) c.in_ok-open_for.ensures.own ∙ ap (λ (p : Party). p.needs) (c.admit.ensures.same c.args.owner))
+    (places-opened c.args.owner c.args.self.now.parties.entries c.open_for.new.parties.entries (λ u d. c.open_for.ensures.others u d ∙ c.admit.ensures.same u) c.requires.owner
+    (ap (λ (p : Party). p.needs) c.in_ok-open_for.ensures.own ∙ ap (λ (p : Party). p.needs) (c.admit.ensures.same c.args.owner)))
+    refl c.cut_asks.ensures.bound c.cut_asks.ensures.capacity c.requires.room)
 
 pub go_down-requires-clause-whole : goal.go_down-requires-clause-whole
 go_down-requires-clause-whole c =
@@ -65,6 +70,13 @@ go_down-requires-clause-whole c =
     (λ n. refl) (λ n. never n ∙ sym (ap (λ (o : Option OpenWant). asked_of_want o n) c.requires.resting))
     (ap (open_asks r.parties) (c.cut_asks.ensures.cut ∙ cut-fresh c.args.owner c.opening-want.result never s.trail)
     ∙ opened-opens (party_of s.parties) (party_of r.parties) c.args.owner (λ u d. c.open_for.ensures.others u d ∙ c.admit.ensures.same u) shut s.trail)
+    (λ f. absurd (false≢true (sym f ∙ c.requires.owner)))
+    (omega (
+      arith,
+      places-opened c.args.owner s.parties r.parties (λ u d. c.open_for.ensures.others u d ∙ c.admit.ensures.same u) c.requires.owner
+          (ap (λ (p : Party). p.needs) c.in_ok-open_for.ensures.own ∙ ap (λ (p : Party). p.needs) (c.admit.ensures.same c.args.owner)),
+      c.requires.room.table,
+    ))
 
 pub returns-clause-others : goal.returns-clause-others
 returns-clause-others c = λ u d. c.go_down.ensures.others u d ∙ (c.open_for.ensures.others u d ∙ c.admit.ensures.same u)
@@ -90,3 +102,10 @@ returns-clause-strong c = λ bare may.
       raised = got.1;
       asks = got.2 ∙ ap (λ trail. asked_last trail o w.here) (opened-trail s o w c.cut_asks.new.trail.items c.requires.resting c.cut_asks.ensures.cut (never-asked w c.opening-want.ensures.unasked c.opening-want.ensures.top));
     })
+
+pub returns-clause-answer : goal.returns-clause-answer
+returns-clause-answer c =
+    let r = state_of c.go_down.new.self in
+    subst (λ (n : Need). Answered (needs_of (state_of c.args.self.now) c.args.owner) r c.args.owner n c.args.wait c.go_down.result) c.opening-want.ensures.need
+    (subst (λ (ws : List Need). Answered ws r c.args.owner c.opening-want.result.need c.args.wait c.go_down.result)
+    (ap (λ (p : Party). p.needs) c.in_ok-open_for.ensures.own ∙ ap (λ (p : Party). p.needs) (c.admit.ensures.same c.args.owner)) c.go_down.ensures.answer)

@@ -1,5 +1,4 @@
 use Rattle.std.proofs.Common.{refl, subst}
-use Rattle.std.proofs.lemmas.Bool.{false≢true}
 use Rattle.lock_tree.specs.Parties.{IsKept}
 use Rattle.lock_tree.specs.Forest.{State}
 use Rattle.lock_tree.specs.States.{state_of}
@@ -17,6 +16,4 @@ returns-clause-whole c =
     whole-noted s r c.args.owner c.args.want.here (needs_of (state_of c.args.self.now) c.args.owner) c.close_want.ensures.whole c.close_want.ensures.whole.intents (λ u q d k. k)
     (subst (IsKept c.close_want.new.self.locks c.args.owner) c.close_want.ensures.ended (c.close_want.ensures.whole.kept c.args.owner)) c.close_want.ensures.ended (λ u d. refl) c.note_ask.ensures.trail
     (way-none c.args.owner c.close_want.new.self.locks) (subst (StandsByNeeds c.close_want.new.self.locks c.args.owner) c.close_want.ensures.ended (least-of s c.args.owner c.close_want.ensures.whole))
-
-pub close_want-requires-clause-room : goal.close_want-requires-clause-room
-close_want-requires-clause-room c = λ h. absurd (false≢true h)
+    c.close_want.ensures.whole.room

@@ -1,9 +1,11 @@
 use Rattle.std.proofs.Common.{refl, ap, sym, ◌∙◌, inr}
+use Rattle.std.specs.Prelude.{Option, is_some}
+use Rattle.lock_needs.specs.declared.party.OpenWant.{OpenWant}
 use Rattle.lock_tree.specs.Forest.{State, party_of}
 use Rattle.lock_tree.specs.States.{state_of}
 use Rattle.lock_tree.specs.Wanted.{needs_of}
 use Rattle.lock_tree.specs.LockTable.{granted_at}
-use Rattle.lock_tree.proofs.RoomKept.{roomy-on, asleep-partly}
+use Rattle.lock_tree.proofs.RoomKept.{roomy-on}
 use Rattle.lock_tree.proofs.Sleepers.{queued-blocker, sleeping-queued}
 use Rattle.lock_tree.proofs.Opened.{as-open, awake-granted}
 use Rattle.lock_tree.proofs.AskedByNeeds.{waiter-needed}
@@ -61,10 +63,7 @@ returns-clause-step c =
 
 pub returns-then-not-is_asleep-clause-room : goal.returns-then-not-is_asleep-clause-room
 returns-then-not-is_asleep-clause-room c =
-    roomy-on c.args.owner (needs_of (state_of c.args.self.now) c.args.owner) c.args.want c.args.wait c.args.self.now c.go_on.new.self refl c.go_on.ensures.table c.go_on.ensures.trail c.go_on.result (c.go_on.ensures.step c.args.wait)
-
-pub close_want-requires-clause-room : goal.close_want-requires-clause-room
-close_want-requires-clause-room c = λ h. absurd (asleep-partly (granted_at c.args.self.now.locks c.args.owner) c.args.want (sym c.is_asleep.ensures.value ∙ c.if-not-is_asleep.false) h)
+    roomy-on c.args.owner (needs_of (state_of c.args.self.now) c.args.owner) c.args.want c.args.wait c.args.self.now c.go_on.new.self refl (ap (λ (o : Option OpenWant). is_some o) c.requires.opened) c.go_on.ensures.others c.go_on.ensures.table c.go_on.ensures.trail c.go_on.result (c.go_on.ensures.step c.args.wait)
 
 pub returns-then-wait-clause-progress : goal.returns-then-wait-clause-progress
 returns-then-wait-clause-progress c = stays-never (state_of c.args.self.now) c.args.owner

@@ -6,6 +6,7 @@ use Rattle.lock_tree.specs.Parties.{IsKept, unasked}
 use Rattle.lock_tree.specs.States.{state_of}
 use Rattle.lock_tree.specs.Wanted.{needs_of}
 use Rattle.lock_needs.specs.Party.{Party}
+use Rattle.lock_tree.proofs.KeptPlaces.{places-same}
 use Rattle.lock_tree.proofs.RoomKept.{room-same, leaves-after}
 use Rattle.lock_tree.proofs.Opened.{still-open, unasked-quiet, got-covered_need}
 use Rattle.vms_locks.specs.declared.answer.Enq.TheVariants.{Granted}
@@ -38,12 +39,13 @@ ask_node-requires-clause-uncovered c =
 pub ask_node-requires-clause-room : goal.ask_node-requires-clause-room
 ask_node-requires-clause-room c =
     let left = c.get_whole.ensures.left c.if-get_whole.false in
-    room-same c.args.owner c.args.self.now c.get_whole.new.self (ap (λ (p : Party). p.needs) left.0) left.1 left.2 1 c.requires.room
+    room-same c.args.owner c.args.self.now c.get_whole.new.self (ap (λ (p : Party). p.needs) left.0)
+    (places-same c.args.owner c.args.self.now.parties.entries c.get_whole.new.self.parties.entries c.get_whole.ensures.others left.0) left.1 left.2 1 c.requires.room
 
 pub returns-clause-room : goal.returns-clause-room
 returns-clause-room c =
     let left = c.get_whole.ensures.left c.if-get_whole.false in
-    leaves-after c.args.owner c.args.self.now c.get_whole.new.self c.ask_node.new.self (ap (λ (p : Party). p.needs) left.0) left.1 left.2 c.ask_node.result c.ask_node.ensures.room
+    leaves-after c.args.owner c.args.self.now c.get_whole.new.self c.ask_node.new.self left.0 c.get_whole.ensures.others left.1 left.2 c.ask_node.result c.ask_node.ensures.room
 
 pub returns-then-is_covered-clause-progress : goal.returns-then-is_covered-clause-progress
 returns-then-is_covered-clause-progress c =
@@ -63,3 +65,6 @@ returns-clause-progress c =
     never-steps (state_of c.args.self.now) (state_of c.get_whole.new.self) (state_of c.ask_node.new.self) c.args.owner
     (left-never (state_of c.args.self.now) (state_of c.get_whole.new.self) c.args.owner left.1 left.0 c.get_whole.ensures.others)
     c.ask_node.result c.ask_node.ensures.progress
+
+pub returns-clause-others : goal.returns-clause-others
+returns-clause-others c = λ u d. c.ask_node.ensures.others u d ∙ c.get_whole.ensures.others u d

@@ -16,7 +16,7 @@ use Rattle.lock_tree.proofs.AtOnce.{got-roomy, whole-roomy}
 use Rattle.lock_tree.proofs.parts.Parts.want.Goals as goal
 
 pub returns-in_err-make_room-clause-whole : goal.returns-in_err-make_room-clause-whole
-returns-in_err-make_room-clause-whole c = whole-room (state_of c.args.self.now) (state_of c.make_room.new.self) c.make_room.ensures.same.table (ap (λ m. m.entries) c.make_room.ensures.parties) c.make_room.ensures.same.trail c.requires.whole
+returns-in_err-make_room-clause-whole c = whole-room (state_of c.args.self.now) (state_of c.make_room.new.self) c.make_room.ensures.same.table c.make_room.ensures.spare (ap (λ m. m.entries) c.make_room.ensures.parties) c.make_room.ensures.same.trail c.requires.whole
 
 pub returns-in_err-make_room-clause-err : goal.returns-in_err-make_room-clause-err
 returns-in_err-make_room-clause-err c = on_err-any _ c.from_residual.result c.make_room.ensures.same
@@ -25,7 +25,7 @@ pub returns-in_err-make_room-clause-others : goal.returns-in_err-make_room-claus
 returns-in_err-make_room-clause-others c = λ u d. c.make_room.ensures.same.parties u
 
 pub want_in_room-requires-clause-whole : goal.want_in_room-requires-clause-whole
-want_in_room-requires-clause-whole c = whole-room (state_of c.args.self.now) (state_of c.make_room.new.self) c.make_room.ensures.same.table (ap (λ m. m.entries) c.make_room.ensures.parties) c.make_room.ensures.same.trail c.requires.whole
+want_in_room-requires-clause-whole c = whole-room (state_of c.args.self.now) (state_of c.make_room.new.self) c.make_room.ensures.same.table c.make_room.ensures.spare (ap (λ m. m.entries) c.make_room.ensures.parties) c.make_room.ensures.same.trail c.requires.whole
 
 pub want_in_room-requires-clause-same : goal.want_in_room-requires-clause-same
 want_in_room-requires-clause-same c = subst (λ (p : Party). IsOf c.args.need p.opened) (sym (c.make_room.ensures.same.parties c.args.owner)) c.requires.same

@@ -1,5 +1,6 @@
 use Rattle.std.proofs.Common.{◌≡◌, refl, ◌∙◌, ap, sym, subst, true, false}
-use Rattle.std.specs.Prelude.{OnOk, OnErr, unwrap_or}
+use Rattle.std.specs.Prelude.{Bool, OnOk, OnErr, unwrap_or, if◌then◌else◌, Some, None}
+use Rattle.std.proofs.lemmas.Bool.{false≢true}
 use Rattle.lock_needs.specs.Party.{Party}
 use Rattle.lock_needs.specs.Keeping.{is_excess}
 use Rattle.lock_needs.specs.Wants.{kept_at}
@@ -11,6 +12,7 @@ use Rattle.lock_tree.specs.Progress.{is_spare, Falls, IsServedAt}
 use Rattle.lock_tree.proofs.MeasureFalls.{served-falls}
 use Rattle.lock_tree.proofs.Opened.{whole-kept}
 use Rattle.lock_tree.proofs.Outcomes.{on_ok-more, on_err-more}
+use Rattle.lock_tree.proofs.ServedAt.{nothing-due}
 use Rattle.lock_tree.proofs.tree.Tree.deliver_notice.Goals as goal
 
 pub returns-in-Some-clause-least : goal.returns-in-Some-clause-least
@@ -42,7 +44,7 @@ invariant_of-self c =
       intents = c.answer_notice.ensures.intents;
       others = c.answer_notice.ensures.others;
     }))
-    refl (λ u d. refl) refl
+    refl (λ u d. refl) refl (c.answer_notice.ensures.room c.self.invariant.room)
 
 pub returns-in-Some-clause-err : goal.returns-in-Some-clause-err
 returns-in-Some-clause-err c =
@@ -62,7 +64,18 @@ returns-in-Some-clause-falls c =
       intents = c.answer_notice.ensures.intents;
       others = c.answer_notice.ensures.others;
     }))
-    refl (λ u d. refl) refl in
+    refl (λ u d. refl) refl (c.answer_notice.ensures.room c.self.invariant.room) in
     subst (λ (z : State). OnOk c.answer_notice.result (is_spare (granted_at z.table c.args.to) (party_of z.parties c.args.to) c.args.node ≡ true → Falls c.args.to z r)) c.self.view_is
     (on_ok-more (IsServedAt c.args.to c.in-Some.party.now c.args.node s.table r.table) _ c.answer_notice.result c.answer_notice.ensures.served
     (λ f x. served-falls s r c.args.to c.args.node c.self.invariant after (λ u. refl) (subst (λ (p : Party). IsServedAt c.args.to p c.args.node s.table r.table) is f) x))
+
+pub returns-in-None-clause-answer : goal.returns-in-None-clause-answer
+returns-in-None-clause-answer c =
+    sym (ap (λ (b : Bool). if b then Some (record { from = granted_at c.args.self.now.table c.args.to c.args.node; to = kept_at (granted_at c.args.self.now.table c.args.to) (party_of c.args.self.now.parties c.args.to) c.args.node }) else None)
+    (nothing-due _ c.args.self.now c.args.to c.args.node c.self.view_is (ap (λ x. unwrap_or x idle) c.in-None.ensures.value) c.self.invariant))
+
+pub returns-in-None-clause-least : goal.returns-in-None-clause-least
+returns-in-None-clause-least c = λ h. absurd (false≢true (sym (nothing-due _ c.args.self.now c.args.to c.args.node c.self.view_is (ap (λ x. unwrap_or x idle) c.in-None.ensures.value) c.self.invariant) ∙ h))
+
+pub returns-in-None-clause-falls : goal.returns-in-None-clause-falls
+returns-in-None-clause-falls c = λ h. absurd (false≢true (sym (nothing-due _ c.args.self.now c.args.to c.args.node c.self.view_is (ap (λ x. unwrap_or x idle) c.in-None.ensures.value) c.self.invariant) ∙ h))

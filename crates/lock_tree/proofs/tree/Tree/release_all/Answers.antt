@@ -1,4 +1,4 @@
-use Rattle.std.proofs.Common.{◌≡◌, refl, sym, ◌∙◌, ap, subst, true}
+use Rattle.std.proofs.Common.{◌≡◌, refl, sym, ◌∙◌, ap, subst, true, arith}
 use Rattle.std.proofs.lemmas.Bool.{false≢true}
 use Rattle.std.specs.Prelude.{is_some}
 use Rattle.vms_queues.specs.declared.lock_mode.Mode.{Mode}
@@ -8,6 +8,7 @@ use Rattle.lock_tree.specs.LockTable.{sought_at}
 use Rattle.lock_tree.specs.Forest.{State, idle, opened_of, party_of}
 use Rattle.lock_tree.specs.Progress.{Falls}
 use Rattle.lock_tree.proofs.HeldModes.{nothing-shares}
+use Rattle.lock_tree.proofs.KeptPlaces.{places-closed}
 use Rattle.lock_tree.proofs.MeasureFalls.{way-leaves, closed-falls}
 use Rattle.lock_tree.proofs.OpenAsks.{opened-ended}
 use Rattle.lock_tree.proofs.Whole.{whole-ended}
@@ -23,6 +24,7 @@ invariant_of-self c =
     (λ a n d f. absurd (false≢true (sym f ∙ (ap (λ (m : Mode). may_share m (sought_at r.table a n)) (c.release_owner.ensures.none n) ∙ nothing-shares (sought_at r.table a n)))))
     refl
     (opened-ended (party_of s.parties) (party_of r.parties) c.args.owner c.forget.ensures.others (ap (λ (p : Party). is_some p.opened) c.forget.ensures.own) s.trail)
+    (omega (arith, places-closed c.args.owner s.parties r.parties c.forget.ensures.others (ap (λ (p : Party). p.opened) c.forget.ensures.own), c.self.invariant.room, c.release_owner.ensures.spare))
 
 pub returns-in-Some-clause-falls : goal.returns-in-Some-clause-falls
 returns-in-Some-clause-falls c =
