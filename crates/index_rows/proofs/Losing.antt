@@ -113,8 +113,8 @@ module _ (before : Row) (tests : Conjunction) where
     left_out x [] has wide = tt
     left_out x (e ∷ es) has wide = (
       λ out behind more.
-      passed (parts_at (before ++ (e.1 ++ behind)) tests)
-      (λ kept. true_false _ (reached_one x e behind (choice (x ∷ []) before tests) has.0 (access.reached (x ∷ []) tests before (e.1 ++ behind) (both_wide e.1 behind wide.0 more) kept)) out),
+          passed (parts_at (before ++ (e.1 ++ behind)) tests)
+          (λ kept. true_false _ (reached_one x e behind (choice (x ∷ []) before tests) has.0 (access.reached (x ∷ []) tests before (e.1 ++ behind) (both_wide e.1 behind wide.0 more) kept)) out),
       left_out x es has.1 wide.1,
     )
 
