@@ -318,3 +318,19 @@ fn what_a_lower_lock_covers_is_not_taken_again(rt: HostRuntime) -> Result<(), Fa
     assert_eq!(rt; tree.mode_of(4, line(0)), Mode::EX);
     Ok(())
 }
+
+#[test]
+fn a_want_that_was_granted_in_its_sleep_is_given_up(rt: HostRuntime) -> Result<(), Fail> {
+    let mut tree = Tree::new(rt.alloc());
+    let turns = [
+        at_once(1, Act::Reserve(Mode::EX), Told::Got),
+        at_once(2, Act::Reserve(Mode::PR), Told::Asleep(1)),
+        at_once(1, Act::Release, Told::Got),
+    ];
+    assert!(rt; plays(&mut tree, true, &turns)?);
+    assert_eq!(rt; tree.mode_of(2, AREA), Mode::PR);
+    tree.give_up(2);
+    assert_eq!(rt; tree.wanted(2), None);
+    assert_eq!(rt; tree.mode_of(2, AREA), Mode::NL);
+    Ok(())
+}
