@@ -12,6 +12,10 @@ pub mod Keeping
 pub mod RowsAtHand
 pub mod SameTuples
 pub mod Alone
+pub mod Serving
+pub mod Plain
+pub mod Left
+pub mod Adding
 pub mod Accesses
 pub mod Thinned
 pub mod RangesCrossed
