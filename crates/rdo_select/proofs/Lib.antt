@@ -20,6 +20,7 @@ pub mod Accesses
 pub mod Thinned
 pub mod RangesCrossed
 pub mod Ranges
+pub mod Candidates
 pub mod Read
 pub mod Orders
 pub mod Through
