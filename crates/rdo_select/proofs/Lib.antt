@@ -12,10 +12,15 @@ pub mod Keeping
 pub mod RowsAtHand
 pub mod SameTuples
 pub mod Alone
+pub mod Serving
+pub mod Plain
+pub mod Left
+pub mod Adding
 pub mod Accesses
 pub mod Thinned
 pub mod RangesCrossed
 pub mod Ranges
+pub mod Candidates
 pub mod Read
 pub mod Orders
 pub mod Through

@@ -32,7 +32,7 @@ mutual
   values_settled (operation op e os) h = let p = neither (asks e) (operations_ask os) h in (value_settled e p.0, values_settled os p.1)
 
 mutual
-  test_settled : (c : Testing) → test_asks c ≡ false → IsSettledTesting c
+  pub test_settled : (c : Testing) → test_asks c ≡ false → IsSettledTesting c
   test_settled (compare op a b) h = let p = neither (asks a) (asks b) h in (value_settled a p.0, value_settled b p.1)
   test_settled (between a low high) h = let p = none_of (asks a) (asks low) (asks high) h in (value_settled a p.0, value_settled low p.1, value_settled high p.2)
   test_settled (containing a b) h = let p = neither (asks a) (asks b) h in (value_settled a p.0, value_settled b p.1)
@@ -70,7 +70,7 @@ module _ (t : Tables) (scope : Scope) where
     values_known (operation op e os) h = let p = neither (asks e) (operations_ask os) h in (value_known e p.0, values_known os p.1)
 
   mutual
-    test_known : (c : Testing) → test_asks c ≡ false → IsKnownTesting c t scope
+    pub test_known : (c : Testing) → test_asks c ≡ false → IsKnownTesting c t scope
     test_known (compare op a b) h = let p = neither (asks a) (asks b) h in (value_known a p.0, value_known b p.1)
     test_known (between a low high) h = let p = none_of (asks a) (asks low) (asks high) h in (value_known a p.0, value_known low p.1, value_known high p.2)
     test_known (containing a b) h = let p = neither (asks a) (asks b) h in (value_known a p.0, value_known b p.1)

@@ -37,6 +37,15 @@ abbrev mutual
   condition_asks no_conjunction = false
   condition_asks (conjunction c cs) = tests_ask c || condition_asks cs
 
+-- the tests that ask nothing
+abbrev pub plain_if : Bool → Testing → Conjunction → Conjunction
+plain_if true c cs = cs
+plain_if false c cs = test c cs
+
+abbrev pub plain : Conjunction → Conjunction
+plain no_test = no_test
+plain (test c cs) = plain_if (test_asks c) c (plain cs)
+
 abbrev pub asks_with : With → Bool
 asks_with without_condition = false
 asks_with (with_condition c) = condition_asks c

@@ -476,8 +476,12 @@ fn indexes(alloc: Global) -> Result<Items<IndexPath>, NoMemory> {
     Ok(indexes)
 }
 
-// What comes of the rows with the number 7, which an index finds.
-fn with_seven(alloc: Global, known: &Known) -> Result<Result<FoundTuples, SelectStop>, NoMemory> {
+// What comes of the rows with the number 7, which an index finds, that pass another test, if there is one.
+fn with_seven(
+    alloc: Global,
+    known: &Known,
+    second: Option<BoundTest>,
+) -> Result<Result<FoundTuples, SelectStop>, NoMemory> {
     let fields = fields(alloc)?;
     let indexes = indexes(alloc)?;
     let sources = indexed(alloc, fields.as_slice(), indexes.as_slice())?;
@@ -487,7 +491,7 @@ fn with_seven(alloc: Global, known: &Known) -> Result<Result<FoundTuples, Select
         field(alloc, 0)?,
         BoundExpression::Number(7, 0),
     );
-    let inner = ranging(alloc, None, seven, None)?;
+    let inner = ranging(alloc, None, seven, second)?;
     Ok(matching(alloc, known, &sources, &inner, &outer))
 }
 
@@ -496,11 +500,24 @@ fn an_index_finds_a_row_of_an_area_that_is_not_known(rt: HostRuntime) -> Result<
     let alloc = rt.alloc();
     let mut known = Known::new(alloc);
     known.learn_line(root(), Some(Image::from_bytes(ROOT)))?;
-    let found = with_seven(alloc, &known)?.err();
+    let found = with_seven(alloc, &known, None)?.err();
     assert_eq!(rt; found, Some(SelectStop::Missing(Need::Line(at_page(2)))));
     let row = Image::from_bytes(b"\x01\x00\x01\x01\x07\0\0\0\0\0\0\0");
     known.learn_line(at_page(2), Some(row))?;
-    let found = with_seven(alloc, &known)?;
+    let found = with_seven(alloc, &known, None)?;
+    assert!(rt; are_tuples(&found, &[&[2]]));
+    Ok(())
+}
+
+#[test]
+fn an_index_serves_beside_a_test_that_asks(rt: HostRuntime) -> Result<(), Fail> {
+    let alloc = rt.alloc();
+    let mut known = Known::new(alloc);
+    known.learn_line(root(), Some(Image::from_bytes(ROOT)))?;
+    let row = Image::from_bytes(b"\x01\x00\x01\x01\x07\0\0\0\0\0\0\0");
+    known.learn_line(at_page(2), Some(row))?;
+    let same = any(alloc, compared(alloc, Comparison::Equal, 1, 0)?, None)?;
+    let found = with_seven(alloc, &known, Some(same))?;
     assert!(rt; are_tuples(&found, &[&[2]]));
     Ok(())
 }
