@@ -22,6 +22,7 @@ pub mod RangesCrossed
 pub mod Ranges
 pub mod Candidates
 pub mod Read
+pub mod Working
 pub mod Orders
 pub mod Through
 pub mod Selections

@@ -1,4 +1,6 @@
 pub mod Sources
+pub mod Readings
+pub mod Work
 pub mod AtHand
 pub mod Asking
 pub mod Chosen
