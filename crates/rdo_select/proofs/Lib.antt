@@ -23,6 +23,7 @@ pub mod Ranges
 pub mod Candidates
 pub mod Read
 pub mod Working
+pub mod ComingBy
 pub mod Orders
 pub mod Through
 pub mod Selections
