@@ -9,7 +9,7 @@ use Rattle.line_view.specs.Knowledge.{Knowledge, Lines, IsInOrder, Agrees, line_
 use Rattle.line_view.proofs.Agreements.{Found, found_all, found_some}
 use Rattle.relation_rows.specs.declared.stored.StoredRelation.{StoredRelation}
 use Rattle.relation_rows.specs.declared.stored.StoredRow.{StoredRow}
-use Rattle.relation_rows.specs.Stored.{IsRowOf, AreRowsOf, IsLineKnown, IsNextLine, IsBadIn}
+use Rattle.relation_rows.specs.Stored.{IsRowOf, AreRowsOf, IsLineKnown, IsNextLine, IsAreaKnown, IsBadIn}
 
 -- of the lines of the relation's area in the full map, those that were read have these rows, and these are left
 pub record Splits (r : StoredRelation) (left : List Dbkey) (rows : List StoredRow) (all : Lines) : Type 0 where
@@ -104,6 +104,9 @@ all_read known r keys rows are all sorted agrees = go (are.split all sorted agre
     ends : (es : Lines) → [] ≡ keys_of es → s.done ++ es ≡ s.done
     ends [] keys = append-nil s.done
     ends (e ∷ es) keys = absurd (cc)
+
+pub area_known : (known : Knowledge) (r : StoredRelation) (keys : List Dbkey) (rows : List StoredRow) → known.area r.area ≡ Some keys → AreRead known r keys [] rows → IsAreaKnown known r.area
+area_known known r keys rows told are = (keys, told, subst (AllByRecursion (IsLineKnown known)) (sym (are.stands ∙ append-nil are.front)) are.lines)
 
 pub next_line : (known : Knowledge) (r : StoredRelation) (keys left : List Dbkey) (key : Dbkey) (rows : List StoredRow) → AreRead known r keys (key ∷ left) rows → known.line key ≡ None → IsNextLine known keys key
 next_line known r keys left key rows are unknown = record { before = are.front; behind = left; stands = are.stands; read = are.lines; unknown = unknown }

@@ -81,6 +81,10 @@ IsBadIn r key all = (image : List ℕ) × (line_in key all ≡ Some image) × ((
 abbrev pub IsLineKnown : Knowledge → Dbkey → Type 0
 IsLineKnown known key = is_some (known.line key) ≡ true
 
+-- all that is read of a logical area is known: its keys and its lines
+abbrev pub IsAreaKnown : Knowledge → ℕ → Type 0
+IsAreaKnown known area = (keys : List Dbkey) × (known.area area ≡ Some keys) × AllByRecursion (IsLineKnown known) keys
+
 -- The first of these lines that isn't known is this one.
 pub record IsNextLine (known : Knowledge) (keys : List Dbkey) (key : Dbkey) : Type 0 where
   pub before : List Dbkey

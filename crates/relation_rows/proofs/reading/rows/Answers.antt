@@ -1,7 +1,7 @@
 use Rattle.std.proofs.Common.{rules, ◌≡◌, Some, None, refl, sym, ap, subst, ◌∙◌, List, [], ◌∷◌, ◌++◌}
 use Rattle.std.specs.Prelude.{IfSome, IfNone}
 use Rattle.relation_rows.specs.Stored.{IsRowAt}
-use Rattle.relation_rows.proofs.Progress.{AreRead, none_read, row_read, absent_read, all_read, next_line, bad_line}
+use Rattle.relation_rows.proofs.Progress.{AreRead, none_read, row_read, absent_read, all_read, area_known, next_line, bad_line}
 use Rattle.relation_rows.proofs.reading.rows.Goals as goal
 
 pub loop-key-preserved-in-Continue-branch-3 : goal.loop-key-preserved-in-Continue-branch-3
