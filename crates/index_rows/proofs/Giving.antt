@@ -26,6 +26,7 @@ use Rattle.access_paths.specs.declared.choice.Access.TheVariants.{Scan, Find, Ra
 use Rattle.index_rows.specs.Indexed.{IsIndexOf}
 use Rattle.index_rows.specs.Given.{is_keyed, Serves, lines_read, IsFirstNeed, Gives}
 use Rattle.index_rows.specs.Reading.{IsNextAmong, ReadsRows, ReadsArea, ReadsInOrder, ReadsIndexed, IsNoRowIn}
+use Rattle.index_rows.proofs.InTurn.{lines_known}
 use Rattle.index_rows.proofs.Keyed.{keys_in_order}
 use Rattle.index_rows.proofs.Standing.{row_keys, rows_sorted, rows_stand, stand_left, rows_match, no_row_in, no_fault}
 
@@ -40,6 +41,10 @@ module _ (known : Knowledge) where
   unknown_next [] key behind read unknown = ap (λ o. cond (is_none o) (Some key) (first_unknown known behind)) unknown
   unknown_next (b ∷ bs) key behind read unknown =
       ap (λ b'. cond b' (Some b) (first_unknown known (bs ++ key ∷ behind))) (known_is_some (known.line b) read.0) ∙ unknown_next bs key behind read.1 unknown
+
+  none_unknown : (lines : List Dbkey) → AllByRecursion (IsLineKnown known) lines → first_unknown known lines ≡ None
+  none_unknown [] read = refl
+  none_unknown (k ∷ ks) read = ap (λ b. cond b (Some k) (first_unknown known ks)) (known_is_some (known.line k) read.0) ∙ none_unknown ks read.1
 
   unknown_behind : (front back : List Dbkey) → first_unknown known front ≡ None → first_unknown known (front ++ back) ≡ first_unknown known back
   unknown_behind [] back none = refl
@@ -70,9 +75,11 @@ every_row (e ∷ es) = ap (λ l. e ∷ l) (every_row es)
 
 module _ (known : Knowledge) (r : StoredRelation) (all : Lines) (positions : List ℕ) (rows : List (Dbkey × Row)) (sorted : IsInOrder all) (agrees : Agrees known all) (are : AreRowsOf r (lines_in r.area all) (map stored_row rows)) where
   scan_of_keys : (keys : List Dbkey) (given : Result (List StoredRow) Stop) → known.area r.area ≡ Some keys → ReadsRows known r keys given → Gives known r.area all positions rows Scan tt given
-  scan_of_keys keys (Ok xs) told reads =
-      rows_match all r known agrees keys rows xs (agrees.area r.area keys told ∙ row_keys r (lines_in r.area all) rows are) (rows_stand all r rows sorted are) reads
-      ∙ ap (map stored_row) (sym (every_row rows))
+  scan_of_keys keys (Ok xs) told reads = (
+    rows_match all r known agrees keys rows xs (agrees.area r.area keys told ∙ row_keys r (lines_in r.area all) rows are) (rows_stand all r rows sorted are) reads
+        ∙ ap (map stored_row) (sym (every_row rows)),
+    (keys, told, lines_known known r keys xs reads),
+  )
   scan_of_keys keys (Err (Missing (Line key))) told next = (keys, told, next)
   scan_of_keys keys (Err (Missing (Area area))) told next = absurd next
   scan_of_keys keys (Err (Missing (Room room))) told next = absurd next
@@ -87,7 +94,7 @@ module _ (known : Knowledge) (r : StoredRelation) (all : Lines) (positions : Lis
   module _ (root : Dbkey) (interval : Interval) (of : IsIndexOf all root positions rows) where
     -- what is given by way of the index
     abbrev pub GivesBy : Result (List StoredRow) Stop → Type 0
-    GivesBy (Ok given) = given ≡ map stored_row (filter (is_keyed positions interval) rows)
+    GivesBy (Ok given) = (given ≡ map stored_row (filter (is_keyed positions interval) rows)) × (first_unknown known (lines_read all root positions rows interval of) ≡ None)
     GivesBy (Err (Missing need)) = IsFirstNeed known (lines_read all root positions rows interval of) need
     GivesBy (Err (Bad at)) = ⊥
     GivesBy (Err NoMemory) = Unit {0}
@@ -99,8 +106,11 @@ module _ (known : Knowledge) (r : StoredRelation) (all : Lines) (positions : Lis
     in_order found given read is = keys_in_order interval positions rows found read.set (rows_sorted r all rows sorted are) (is ∙ ap (rows_within interval) of.holds) read.has
 
     from_found : (found : List Dbkey) (given : Result (List StoredRow) Stop) → found ≡ rows_within interval (pairs of.level of.tree) → first_unknown known (reads interval of.level of.tree) ≡ None → ReadsIndexed known r root (Ok found) given → GivesBy given
-    from_found found (Ok xs) is whole read =
-        rows_match all r known agrees (read.set).keys keyed xs (in_order found (Ok xs) read is) (stand_left all r (is_keyed positions interval) rows (rows_stand all r rows sorted are)) read.reads
+    from_found found (Ok xs) is whole read = (
+      rows_match all r known agrees (read.set).keys keyed xs (in_order found (Ok xs) read is) (stand_left all r (is_keyed positions interval) rows (rows_stand all r rows sorted are)) read.reads,
+      unknown_behind known (reads interval of.level of.tree) (map (λ e. e.0) keyed) whole
+          ∙ subst (λ keys. first_unknown known keys ≡ None) (in_order found (Ok xs) read is) (none_unknown known (read.set).keys (lines_known known r (read.set).keys xs read.reads)),
+    )
     from_found found (Err (Missing need)) is whole read =
         ap (option_map Line) (unknown_behind known (reads interval of.level of.tree) (map (λ e. e.0) keyed) whole)
         ∙ subst (λ keys. IsFirstNeed known keys need) (in_order found (Err (Missing need)) read is) (next_need known (read.set).keys need read.reads)
