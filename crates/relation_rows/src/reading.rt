@@ -37,7 +37,7 @@ pub fn rows<V: View>(alloc: Global, view: &V, relation: &StoredRelation<'_>) -> 
     ensures rows { IfOk result (λ rows. (all : Lines) → IsInOrder all → Agrees (V.knows view.now) all → AreRowsOf relation.now (lines_in relation.now.area all) rows) }
     ensures known { IfOk result (λ _. IsAreaKnown (V.knows view.now) relation.now.area) }
     ensures missing { (need : _) → result ≡ Err (stop.Missing need) → IsNextNeed (V.knows view.now) relation.now.area need }
-    ensures bad { (at : _) → result ≡ Err (stop.Bad at) → (all : Lines) → Agrees (V.knows view.now) all → IsBadIn relation.now at all }
+    ensures bad { (at : _) → result ≡ Err (stop.Bad at) → (all : Lines) → Agrees (V.knows view.now) all → (at.area ≡ relation.now.area) × IsBadIn relation.now at all }
 {
     let area = relation.area;
     let Some(keys) = view.area(area) else {
