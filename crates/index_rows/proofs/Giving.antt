@@ -1,6 +1,6 @@
 -- What an access gives.
 use Rattle.std.proofs.Common.{◌≡◌, ℕ, true, false, cond, List, [], ◌∷◌, ◌++◌, map, Option, Some, None, is_some, Result, Ok, Err, inl, inr, refl, sym, ap, subst, ◌∙◌}
-use Rattle.std.specs.Prelude.{◌⊎◌, is_none, option_map}
+use Rattle.std.specs.Prelude.{◌⊎◌, IfOk, is_none, option_map}
 use Rattle.std.specs.List.{AllByRecursion, filter}
 use Rattle.rdb_types.specs.declared.keys.Dbkey.{Dbkey}
 use Rattle.rdb_meaning.specs.declared.tables.Relation.{Relation}
@@ -12,7 +12,7 @@ use Rattle.line_view.specs.declared.need.Stop.TheVariants.{Missing, Bad, NoMemor
 use Rattle.line_view.specs.Knowledge.{Knowledge, Lines, IsInOrder, Agrees, lines_in}
 use Rattle.relation_rows.specs.declared.stored.StoredRelation.{StoredRelation}
 use Rattle.relation_rows.specs.declared.stored.StoredRow.{StoredRow}
-use Rattle.relation_rows.specs.Stored.{AreRowsOf, IsLineKnown}
+use Rattle.relation_rows.specs.Stored.{AreRowsOf, IsAreaKnown, IsBadIn, IsLineKnown, IsNextNeed}
 use Rattle.relation_rows.specs.Relations.{stored_row, HasRows}
 use Rattle.sorted_index.specs.declared.stop.IndexStop.{IndexStop}
 use Rattle.sorted_index.specs.declared.stop.IndexStop.TheVariants as index
@@ -25,9 +25,10 @@ use Rattle.access_paths.specs.declared.choice.Access.{Access}
 use Rattle.access_paths.specs.declared.choice.Access.TheVariants.{Scan, Find, Range}
 use Rattle.index_rows.specs.Indexed.{IsIndexOf}
 use Rattle.index_rows.specs.Given.{is_keyed, Serves, lines_read, IsFirstNeed, Gives}
-use Rattle.index_rows.specs.Reading.{IsNextAmong, ReadsRows, ReadsArea, ReadsInOrder, ReadsIndexed, IsNoRowIn}
+use Rattle.index_rows.specs.Reading.{IsNextAmong, ReadsInOrder, ReadsIndexed, IsNoRowIn}
+use Rattle.index_rows.proofs.InTurn.{lines_known}
 use Rattle.index_rows.proofs.Keyed.{keys_in_order}
-use Rattle.index_rows.proofs.Standing.{row_keys, rows_sorted, rows_stand, stand_left, rows_match, no_row_in, no_fault}
+use Rattle.index_rows.proofs.Standing.{same_rows, none_bad, rows_sorted, rows_stand, stand_left, rows_match, no_row_in, no_fault}
 
 -- ---- lines that aren't known
 
@@ -40,6 +41,10 @@ module _ (known : Knowledge) where
   unknown_next [] key behind read unknown = ap (λ o. cond (is_none o) (Some key) (first_unknown known behind)) unknown
   unknown_next (b ∷ bs) key behind read unknown =
       ap (λ b'. cond b' (Some b) (first_unknown known (bs ++ key ∷ behind))) (known_is_some (known.line b) read.0) ∙ unknown_next bs key behind read.1 unknown
+
+  none_unknown : (lines : List Dbkey) → AllByRecursion (IsLineKnown known) lines → first_unknown known lines ≡ None
+  none_unknown [] read = refl
+  none_unknown (k ∷ ks) read = ap (λ b. cond b (Some k) (first_unknown known ks)) (known_is_some (known.line k) read.0) ∙ none_unknown ks read.1
 
   unknown_behind : (front back : List Dbkey) → first_unknown known front ≡ None → first_unknown known (front ++ back) ≡ first_unknown known back
   unknown_behind [] back none = refl
@@ -64,30 +69,30 @@ module _ (known : Knowledge) where
 
 -- ---- in a map with the rows
 
+-- what is said of the rows of a relation's logical area
+pub record ScansRows (known : Knowledge) (r : StoredRelation) (given : Result (List StoredRow) Stop) : Type 0 where
+  pub rows : IfOk given (λ rows. (all : Lines) → IsInOrder all → Agrees known all → AreRowsOf r (lines_in r.area all) rows)
+  pub whole : IfOk given (λ _. IsAreaKnown known r.area)
+  pub missing : (need : Need) → given ≡ Err (Missing need) → IsNextNeed known r.area need
+  pub bad : (at : Dbkey) → given ≡ Err (Bad at) → (all : Lines) → Agrees known all → (at.area ≡ r.area) × IsBadIn r at all
+
 every_row : (rows : List (Dbkey × Row)) → filter (λ e. true) rows ≡ rows
 every_row [] = refl
 every_row (e ∷ es) = ap (λ l. e ∷ l) (every_row es)
 
 module _ (known : Knowledge) (r : StoredRelation) (all : Lines) (positions : List ℕ) (rows : List (Dbkey × Row)) (sorted : IsInOrder all) (agrees : Agrees known all) (are : AreRowsOf r (lines_in r.area all) (map stored_row rows)) where
-  scan_of_keys : (keys : List Dbkey) (given : Result (List StoredRow) Stop) → known.area r.area ≡ Some keys → ReadsRows known r keys given → Gives known r.area all positions rows Scan tt given
-  scan_of_keys keys (Ok xs) told reads =
-      rows_match all r known agrees keys rows xs (agrees.area r.area keys told ∙ row_keys r (lines_in r.area all) rows are) (rows_stand all r rows sorted are) reads
-      ∙ ap (map stored_row) (sym (every_row rows))
-  scan_of_keys keys (Err (Missing (Line key))) told next = (keys, told, next)
-  scan_of_keys keys (Err (Missing (Area area))) told next = absurd next
-  scan_of_keys keys (Err (Missing (Room room))) told next = absurd next
-  scan_of_keys keys (Err (Bad at)) told bad =
-      no_fault all r known agrees keys rows at (agrees.area r.area keys told ∙ row_keys r (lines_in r.area all) rows are) (rows_stand all r rows sorted are) bad
-  scan_of_keys keys (Err NoMemory) told reads = tt
-
-  pub scan_gives : (keys : Option (List Dbkey)) (given : Result (List StoredRow) Stop) → known.area r.area ≡ keys → ReadsArea known r keys given → Gives known r.area all positions rows Scan tt given
-  scan_gives None given told reads = subst (λ g. Gives known r.area all positions rows Scan tt g) (sym reads) (refl, told)
-  scan_gives (Some keys) given told reads = scan_of_keys keys given told reads
+  pub scan_gives : (given : Result (List StoredRow) Stop) → ScansRows known r given → Gives known r.area all positions rows Scan tt given
+  scan_gives (Ok xs) scans = (same_rows r (lines_in r.area all) xs (map stored_row rows) (scans.rows all sorted agrees) are ∙ ap (map stored_row) (sym (every_row rows)), scans.whole)
+  scan_gives (Err (Missing need)) scans = scans.missing need refl
+  scan_gives (Err (Bad at)) scans =
+      let bad = scans.bad at refl all agrees in
+      absurd (none_bad all r (map stored_row rows) at bad.0 bad.1 are)
+  scan_gives (Err NoMemory) scans = tt
 
   module _ (root : Dbkey) (interval : Interval) (of : IsIndexOf all root positions rows) where
     -- what is given by way of the index
     abbrev pub GivesBy : Result (List StoredRow) Stop → Type 0
-    GivesBy (Ok given) = given ≡ map stored_row (filter (is_keyed positions interval) rows)
+    GivesBy (Ok given) = (given ≡ map stored_row (filter (is_keyed positions interval) rows)) × (first_unknown known (lines_read all root positions rows interval of) ≡ None)
     GivesBy (Err (Missing need)) = IsFirstNeed known (lines_read all root positions rows interval of) need
     GivesBy (Err (Bad at)) = ⊥
     GivesBy (Err NoMemory) = Unit {0}
@@ -99,8 +104,11 @@ module _ (known : Knowledge) (r : StoredRelation) (all : Lines) (positions : Lis
     in_order found given read is = keys_in_order interval positions rows found read.set (rows_sorted r all rows sorted are) (is ∙ ap (rows_within interval) of.holds) read.has
 
     from_found : (found : List Dbkey) (given : Result (List StoredRow) Stop) → found ≡ rows_within interval (pairs of.level of.tree) → first_unknown known (reads interval of.level of.tree) ≡ None → ReadsIndexed known r root (Ok found) given → GivesBy given
-    from_found found (Ok xs) is whole read =
-        rows_match all r known agrees (read.set).keys keyed xs (in_order found (Ok xs) read is) (stand_left all r (is_keyed positions interval) rows (rows_stand all r rows sorted are)) read.reads
+    from_found found (Ok xs) is whole read = (
+      rows_match all r known agrees (read.set).keys keyed xs (in_order found (Ok xs) read is) (stand_left all r (is_keyed positions interval) rows (rows_stand all r rows sorted are)) read.reads,
+      unknown_behind known (reads interval of.level of.tree) (map (λ e. e.0) keyed) whole
+          ∙ subst (λ keys. first_unknown known keys ≡ None) (in_order found (Ok xs) read is) (none_unknown known (read.set).keys (lines_known known r (read.set).keys xs read.reads)),
+    )
     from_found found (Err (Missing need)) is whole read =
         ap (option_map Line) (unknown_behind known (reads interval of.level of.tree) (map (λ e. e.0) keyed) whole)
         ∙ subst (λ keys. IsFirstNeed known keys need) (in_order found (Err (Missing need)) read is) (next_need known (read.set).keys need read.reads)
@@ -146,9 +154,9 @@ module _ (known : Knowledge) (r : StoredRelation) (given : Result (List StoredRo
   abbrev Searches : Dbkey → Interval → Result (List Dbkey) IndexStop → Type 0
   Searches root interval found = (all : Lines) (level : ℕ) (tree : Tree level) → Agrees known all → IsIndex all root level tree → Answers known (reads interval level tree) (rows_within interval (pairs level tree)) found
 
-pub scan_everywhere : (known : Knowledge) (r : StoredRelation) (given : Result (List StoredRow) Stop) (access : Access) → access ≡ Scan → ReadsArea known r (known.area r.area) given → GivesEverywhere known r given access
-scan_everywhere known r given access is read =
-    subst (GivesEverywhere known r given) (sym is) (λ all table positions sorted agrees has served. scan_gives known r all positions table.rows sorted agrees has.rows (known.area r.area) given refl read)
+pub scan_everywhere : (known : Knowledge) (r : StoredRelation) (given : Result (List StoredRow) Stop) (access : Access) → access ≡ Scan → ScansRows known r given → GivesEverywhere known r given access
+scan_everywhere known r given access is scans =
+    subst (GivesEverywhere known r given) (sym is) (λ all table positions sorted agrees has served. scan_gives known r all positions table.rows sorted agrees has.rows given scans)
 
 pub find_everywhere : (known : Knowledge) (r : StoredRelation) (given : Result (List StoredRow) Stop) (access : Access) (root : Dbkey) (key : Row) (found : Result (List Dbkey) IndexStop) →
     access ≡ Find root key → Searches known r given access root (only key) found → ReadsIndexed known r root found given → GivesEverywhere known r given access
@@ -163,10 +171,6 @@ range_everywhere known r given access root bounds found is searches read =
 -- ---- bad lines
 
 module _ (known : Knowledge) (r : StoredRelation) (all : Lines) (agrees : Agrees known all) (at : Dbkey) where
-  pub scan_bad : (keys : Option (List Dbkey)) → ReadsArea known r keys (Err (Bad at)) → IsNoRowIn r at all ⊎ ⊥
-  scan_bad None read = absurd (cc)
-  scan_bad (Some keys) bad = inl (no_row_in all r known agrees keys at bad)
-
   pub index_bad : (root : Dbkey) (interval : Interval) (found : Result (List Dbkey) IndexStop) → JudgesIndex all interval root found → ReadsIndexed known r root found (Err (Bad at)) → IsNoRowIn r at all ⊎ JudgesIndex {T = List Dbkey} all interval root (Err (index.Bad at))
   index_bad root interval (Ok found) judged read = inl (no_row_in all r known agrees (read.set).keys at read.reads)
   index_bad root interval (Err (index.Missing need)) judged read = absurd (cc)

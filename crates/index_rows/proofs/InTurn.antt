@@ -43,7 +43,7 @@ row_read known r keys left key rows row read is = record {
 pub all_read : (known : Knowledge) (r : StoredRelation) (keys : List Dbkey) (rows : List StoredRow) → AreRead known r keys [] rows → AreRowsAt known r keys rows
 all_read known r keys rows read = subst (λ keys. AreRowsAt known r keys rows) (sym (read.stands ∙ append-nil read.front)) read.are
 
-lines_known : (known : Knowledge) (r : StoredRelation) (keys : List Dbkey) (rows : List StoredRow) → AreRowsAt known r keys rows → AllByRecursion (IsLineKnown known) keys
+pub lines_known : (known : Knowledge) (r : StoredRelation) (keys : List Dbkey) (rows : List StoredRow) → AreRowsAt known r keys rows → AllByRecursion (IsLineKnown known) keys
 lines_known known r [] [] are = tt
 lines_known known r [] (x ∷ xs) are = absurd are
 lines_known known r (k ∷ ks) [] are = absurd are

@@ -3,4 +3,5 @@ pub mod Standing
 pub mod InTurn
 pub mod Giving
 pub mod Wide
+pub mod Chosen
 pub mod Losing

@@ -25,44 +25,9 @@ use Rattle.access_paths.proofs.Reaching as access
 use Rattle.access_paths.proofs.Rooted.{rooted}
 use Rattle.index_rows.specs.Indexed.{IsIndexOf, HasPositions, AreIndexesOf}
 use Rattle.index_rows.specs.Given.{reached, Serves, LosesNone}
-
--- ---- the choice for several indexes is that for one of them
-
--- which of two options
-abbrev either : Option Access → Option Access → Access
-either a b = unwrap_or (option_or a b) Scan
+use Rattle.index_rows.proofs.Chosen.{chosen_by_one}
 
 module _ (before : Row) (tests : Conjunction) where
-  abbrev by_key : IndexPath → Option Access
-  by_key x = option_map (access_by_key x.root) (key_at before tests x.fields)
-
-  abbrev by_limits : IndexPath → Option Access
-  by_limits x = access_by_limits x.root (first_limits before tests x.fields)
-
-  key_found : (xs : List IndexPath) (a : Access) → first_by_key before tests xs ≡ Some a → AnyByRecursion (λ x. by_key x ≡ Some a) xs
-  key_found [] a e = absurd (cc)
-  key_found (x ∷ xs) a e =
-      elim (by_key x) as (λ o. by_key x ≡ o → option_or o (first_by_key before tests xs) ≡ Some a → AnyByRecursion (λ x. by_key x ≡ Some a) (x ∷ xs)) [
-        | Some b ↦ λ p f. inl (p ∙ f)
-        | None ↦ λ p f. inr (key_found xs a f)
-      ] refl e
-
-  key_none : (xs : List IndexPath) → first_by_key before tests xs ≡ None → AllByRecursion (λ x. by_key x ≡ None) xs
-  key_none [] e = tt
-  key_none (x ∷ xs) e =
-      elim (by_key x) as (λ o. by_key x ≡ o → option_or o (first_by_key before tests xs) ≡ None → AllByRecursion (λ x. by_key x ≡ None) (x ∷ xs)) [
-        | Some b ↦ λ p f. absurd (cc)
-        | None ↦ λ p f. (p, key_none xs f)
-      ] refl e
-
-  limits_found : (xs : List IndexPath) (a : Access) → first_by_limits before tests xs ≡ Some a → AllByRecursion (λ x. by_key x ≡ None) xs → AnyByRecursion (λ x. (by_key x ≡ None) × (by_limits x ≡ Some a)) xs
-  limits_found [] a e none = absurd (cc)
-  limits_found (x ∷ xs) a e none =
-      elim (by_limits x) as (λ o. by_limits x ≡ o → option_or o (first_by_limits before tests xs) ≡ Some a → AnyByRecursion (λ x. (by_key x ≡ None) × (by_limits x ≡ Some a)) (x ∷ xs)) [
-        | Some b ↦ λ p f. inl (none.0, p ∙ f)
-        | None ↦ λ p f. inr (limits_found xs a f none.1)
-      ] refl e
-
   module _ (all : Lines) (rows : List (Dbkey × Row)) where
     serves_by : (root : Dbkey) (positions : List ℕ) (a : Access) → IsOfRoot root a → IsIndexOf all root positions rows → Serves all positions rows a
     serves_by root positions Scan is index = tt
@@ -139,27 +104,6 @@ module _ (before : Row) (tests : Conjunction) where
       | inr later ↦ loses_none_by_some xs a indexes.1 wide later
     ]
 
-    any_mapped : (P Q : IndexPath → Type 0) → ((x : IndexPath) → P x → Q x) → (xs : List IndexPath) → AnyByRecursion P xs → AnyByRecursion Q xs
-    any_mapped P Q f [] h = h
-    any_mapped P Q f (x ∷ xs) h = elim h as (λ h. AnyByRecursion Q (x ∷ xs)) [
-      | inl own ↦ inl (f x own)
-      | inr later ↦ inr (any_mapped P Q f xs later)
-    ]
-
-    key_alone : (a : Access) (x : IndexPath) → by_key x ≡ Some a → choice (x ∷ []) before tests ≡ a
-    key_alone a x e = ap (λ o. either (option_or o None) (option_or (by_limits x) None)) e
-
-    limits_alone : (a : Access) (x : IndexPath) → (by_key x ≡ None) × (by_limits x ≡ Some a) → choice (x ∷ []) before tests ≡ a
-    limits_alone a x e = λ i. either (option_or (e.0 i) None) (option_or (e.1 i) None)
-
-    by_limits_else : (xs : List IndexPath) (l : Option Access) → AreIndexesOf all xs rows → AllByRecursion (λ e. AllByRecursion IsWide e.1) rows → first_by_key before tests xs ≡ None → first_by_limits before tests xs ≡ l → LosesNone all rows (either None l) before tests
-    by_limits_else xs None indexes wide none e = scan_loses_none
-    by_limits_else xs (Some a) indexes wide none e =
-        loses_none_by_some xs a indexes wide (any_mapped (λ x. (by_key x ≡ None) × (by_limits x ≡ Some a)) (λ x. choice (x ∷ []) before tests ≡ a) (limits_alone a) xs (limits_found xs a e (key_none xs none)))
-
-    by_either : (xs : List IndexPath) (k l : Option Access) → AreIndexesOf all xs rows → AllByRecursion (λ e. AllByRecursion IsWide e.1) rows → first_by_key before tests xs ≡ k → first_by_limits before tests xs ≡ l → LosesNone all rows (either k l) before tests
-    by_either xs None l indexes wide e f = by_limits_else xs l indexes wide e f
-    by_either xs (Some a) l indexes wide e f = loses_none_by_some xs a indexes wide (any_mapped (λ x. by_key x ≡ Some a) (λ x. choice (x ∷ []) before tests ≡ a) (key_alone a) xs (key_found xs a e))
-
 pub loses_none : (all : Lines) (rows : List (Dbkey × Row)) (indexes : List IndexPath) (before : Row) (tests : Conjunction) → AreIndexesOf all indexes rows → AllByRecursion (λ e. AllByRecursion IsWide e.1) rows → LosesNone all rows (choice indexes before tests) before tests
-loses_none all rows indexes before tests are wide = by_either before tests all rows indexes (first_by_key before tests indexes) (first_by_limits before tests indexes) are wide refl refl
+loses_none all rows indexes before tests are wide =
+    chosen_by_one before tests (λ a. LosesNone all rows a before tests) indexes (scan_loses_none before tests all rows) (λ a some. loses_none_by_some before tests all rows indexes a are wide some)

@@ -2,22 +2,23 @@
 use Rattle.std.proofs.Common.{◌≡◌, ◌==◌, ℕ, Bool, true, false, cond, List, [], ◌∷◌, ◌++◌, map, Some, None, inl, inr, T, refl, sym, ap, subst, ◌∙◌}
 use Rattle.std.specs.declared.cmp.Ordering.{Ordering}
 use Rattle.std.specs.declared.cmp.Ordering.TheVariants.{Less, Equal, Greater}
-use Rattle.std.specs.Ordering.{is_lt}
+use Rattle.std.specs.Ordering.{is_eq, is_lt}
 use Rattle.std.specs.List.{AllByRecursion, filter}
 use Rattle.std.specs.List.Sorted.{IsStrictlySortedBy}
-use Rattle.std.specs.FinMap.Entries.{is_sorted, below_all, is_sorted-where_key}
-use Rattle.std.proofs.lemmas.Bool.{and_parts}
+use Rattle.std.specs.FinMap.Entries.{is_sorted, below_all, is_sorted-where_key, find-where_key}
+use Rattle.std.proofs.lemmas.Bool.{and_parts, eq-eqb}
 use Rattle.std.proofs.lemmas.Option.{none-some, same_Some}
 use Rattle.rdb_types.specs.declared.values.Value.{Value}
 use Rattle.rdb_types.specs.declared.keys.Dbkey.{Dbkey}
 use Rattle.ordered_entries.specs.Order.{dbkey_order}
+use Rattle.ordered_entries.proofs.Laws.{same_dbkey}
 use Rattle.rdb_meaning.specs.Contents.{Row}
 use Rattle.record_format.proofs.Rows.{one_row}
 use Rattle.line_view.specs.Knowledge.{Knowledge, Lines, IsInOrder, Agrees, line_in, lines_in, keys_of}
 use Rattle.line_view.proofs.Agreements.{Found, found_all, found_some}
 use Rattle.relation_rows.specs.declared.stored.StoredRelation.{StoredRelation}
 use Rattle.relation_rows.specs.declared.stored.StoredRow.{StoredRow}
-use Rattle.relation_rows.specs.Stored.{IsRowOf, AreRowsOf, completed}
+use Rattle.relation_rows.specs.Stored.{IsRowOf, AreRowsOf, IsBadIn, completed}
 use Rattle.relation_rows.specs.Relations.{stored_row}
 use Rattle.index_rows.specs.Reading.{AreRowsAt, IsNoRow, IsNoRowIn}
 
@@ -25,6 +26,18 @@ pub same_row : (r : StoredRelation) (image : List ℕ) (a b : List Value) → Is
 same_row r image a b x y =
     let values : x.values ≡ y.values = one_row image x.version y.version x.values y.values x.stands y.stands in
     x.whole ∙ (ap (completed r.fields.now) values ∙ sym y.whole)
+
+pub same_rows : (r : StoredRelation) (lines : Lines) (xs ys : List StoredRow) → AreRowsOf r lines xs → AreRowsOf r lines ys → xs ≡ ys
+same_rows r [] [] [] a b = refl
+same_rows r [] [] (y ∷ ys) a b = absurd b
+same_rows r [] (x ∷ xs) ys a b = absurd a
+same_rows r (l ∷ ls) [] ys a b = absurd a
+same_rows r (l ∷ ls) (x ∷ xs) [] a b = absurd b
+same_rows r (l ∷ ls) (x ∷ xs) (y ∷ ys) a b =
+    let own : x.key ≡ y.key = a.0 ∙ sym b.0 in
+    let row : x.row ≡ y.row = same_row r l.1 x.row y.row a.1 b.1 in
+    let others : xs ≡ ys = same_rows r ls xs ys a.2 b.2 in
+    λ i. record { key = own i; row = row i } ∷ others i
 
 -- ---- the order of the rows
 
@@ -61,6 +74,25 @@ keys_sorted (l ∷ ls) sorted =
 
 pub rows_sorted : (r : StoredRelation) (all : Lines) (rows : List (Dbkey × Row)) → IsInOrder all → AreRowsOf r (lines_in r.area all) (map stored_row rows) → IsStrictlySortedBy dbkey_order (map (λ e. e.0) rows)
 rows_sorted r all rows sorted are = subst (IsStrictlySortedBy dbkey_order) (row_keys r (lines_in r.area all) rows are) (keys_sorted (lines_in r.area all) (lines_sorted r.area all sorted))
+
+-- ---- a line of their area
+
+row_found : (r : StoredRelation) (key : Dbkey) (image : List ℕ) (lines : Lines) (rows : List StoredRow) → line_in key lines ≡ Some image → AreRowsOf r lines rows → (row : Row) × IsRowOf r image row
+row_found r key image [] rows found are = absurd (none-some image found)
+row_found r key image (l ∷ ls) [] found are = absurd are
+row_found r key image (l ∷ ls) (x ∷ xs) found are =
+    elim (is_eq (dbkey_order key l.0)) as (λ b. cond b (Some l.1) (line_in key ls) ≡ Some image → (row : Row) × IsRowOf r image row) [
+      | true ↦ λ h. (x.row, subst (λ i. IsRowOf r i x.row) (same_Some l.1 image h) are.1)
+      | false ↦ λ h. row_found r key image ls xs h are.2
+    ] found
+
+pub none_bad : (all : Lines) (r : StoredRelation) (rows : List StoredRow) (at : Dbkey) → at.area ≡ r.area → IsBadIn r at all → AreRowsOf r (lines_in r.area all) rows → ⊥
+none_bad all r rows at within bad are =
+    let alike : (key : Dbkey) → dbkey_order at key ≡ Equal → (key.area == r.area) ≡ (at.area == r.area) = λ key tied. ap (λ (k : Dbkey). k.area == r.area) (sym (same_dbkey at key tied)) in
+    let found : line_in at (lines_in r.area all) ≡ Some bad.0 =
+    find-where_key dbkey_order (λ key. key.area == r.area) at alike all ∙ ap (λ b. cond b (line_in at all) None) (eq-eqb at.area r.area within) ∙ bad.1 in
+    let row = row_found r at bad.0 (lines_in r.area all) rows found are in
+    bad.2 row.0 row.1
 
 -- ---- their lines
 

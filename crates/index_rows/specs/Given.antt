@@ -13,7 +13,7 @@ use Rattle.line_view.specs.declared.need.Stop.TheVariants.{Missing, Bad, NoMemor
 use Rattle.line_view.specs.Knowledge.{Knowledge, Lines}
 use Rattle.access_paths.specs.Reached.{IsWide}
 use Rattle.relation_rows.specs.declared.stored.StoredRow.{StoredRow}
-use Rattle.relation_rows.specs.Stored.{IsNextNeed, IsAreaKnown}
+use Rattle.relation_rows.specs.Stored.{IsAreaKnown, IsNextNeed}
 use Rattle.relation_rows.specs.Relations.{stored_row}
 use Rattle.sorted_index.specs.Keys.{Interval, only, between, is_within}
 use Rattle.sorted_index.specs.Search.{reads, first_unknown}
@@ -63,9 +63,9 @@ IsReadOfAccess known area all positions rows (Range root bounds) served = first_
 
 -- ---- what is answered
 
--- Where these are the rows of the relation and the index is right, those that are come by are given in the order of their Dbkeys, or what is read next is named. No line is bad.
+-- Where these are the rows of the relation and the index is right, those that are come by are given in the order of their Dbkeys, and all that is read is known; or what is read next is named. No line is bad.
 abbrev pub Gives : (known : Knowledge) (area : ℕ) (all : Lines) (positions : List ℕ) (rows : List (Dbkey × Row)) (access : Access) → Serves all positions rows access → Result (List StoredRow) Stop → Type 0
-Gives known area all positions rows access served (Ok given) = given ≡ map stored_row (filter (reached positions access) rows)
+Gives known area all positions rows access served (Ok given) = (given ≡ map stored_row (filter (reached positions access) rows)) × IsReadOfAccess known area all positions rows access served
 Gives known area all positions rows access served (Err (Missing need)) = IsNextOfAccess known area all positions rows access served need
 Gives known area all positions rows access served (Err (Bad at)) = ⊥
 Gives known area all positions rows access served (Err NoMemory) = Unit {0}

@@ -1,10 +1,10 @@
 -- An index of a relation's rows.
-use Rattle.std.specs.Prelude.{◌≡◌, ℕ, ◌<◌, if◌then◌else◌, List, [], ◌∷◌, length}
-use Rattle.std.specs.List.{AllByRecursion}
+use Rattle.std.specs.Prelude.{◌≡◌, ℕ, ◌<◌, List, [], ◌∷◌, length, if◌then◌else◌}
 use Rattle.std.specs.Ordering.{is_eq}
+use Rattle.std.specs.List.{AllByRecursion}
 use Rattle.rdb_types.specs.declared.keys.Dbkey.{Dbkey}
-use Rattle.rdb_meaning.specs.Contents.{Row, key_of}
 use Rattle.ordered_entries.specs.Order.{dbkey_order}
+use Rattle.rdb_meaning.specs.Contents.{Row, key_of}
 use Rattle.line_view.specs.Knowledge.{Lines}
 use Rattle.index_node.specs.declared.entry.NodeEntry.{NodeEntry}
 use Rattle.sorted_index.specs.Tree.{Tree, pairs, IsIndex}
@@ -33,13 +33,14 @@ HasPositions positions row = AllByRecursion (λ p. p < length row) positions
 abbrev pub AreIndexesOf : Lines → List IndexPath → List (Dbkey × Row) → Type 0
 AreIndexesOf all indexes rows = AllByRecursion (λ (x : IndexPath). IsIndexOf all x.root x.fields rows × AllByRecursion (λ e. HasPositions x.fields e.1) rows) indexes
 
--- ---- the index by which rows are come by
+-- ---- by which index
 
 -- the fields of the first index of this root
 abbrev pub fields_of_root : Dbkey → List IndexPath → List ℕ
 fields_of_root root [] = []
 fields_of_root root (x ∷ xs) = if is_eq (dbkey_order root x.root) then x.fields else fields_of_root root xs
 
+-- the fields of the index by which an access comes by rows
 abbrev pub positions_in : List IndexPath → Access → List ℕ
 positions_in indexes Scan = []
 positions_in indexes (Find root key) = fields_of_root root indexes

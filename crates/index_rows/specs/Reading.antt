@@ -1,5 +1,5 @@
 -- Rows that are read by their Dbkeys.
-use Rattle.std.specs.Prelude.{◌≡◌, ◌⊎◌, List, [], ◌∷◌, ◌++◌, Option, Some, None, Result, Ok, Err}
+use Rattle.std.specs.Prelude.{◌≡◌, ◌⊎◌, List, [], ◌∷◌, ◌++◌, Some, None, Result, Ok, Err}
 use Rattle.rdb_types.specs.declared.keys.Dbkey.{Dbkey}
 use Rattle.ordered_entries.specs.Order.{dbkey_order}
 use Rattle.std.specs.BTreeSet.{BTreeSet, IsFromIterResult}
@@ -46,11 +46,6 @@ ReadsRows known r keys (Ok rows) = AreRowsAt known r keys rows
 ReadsRows known r keys (Err (Missing need)) = IsNextAmong known keys need
 ReadsRows known r keys (Err (Bad at)) = IsNoRow known r keys at
 ReadsRows known r keys (Err NoMemory) = Unit {0}
-
--- the rows of the relation's logical area, whose keys are known or aren't
-abbrev pub ReadsArea : Knowledge → StoredRelation → Option (List Dbkey) → Result (List StoredRow) Stop → Type 0
-ReadsArea known r (Some keys) given = ReadsRows known r keys given
-ReadsArea known r None given = given ≡ Err (Missing (Area r.area))
 
 -- ---- rows of an index
 

@@ -5,26 +5,16 @@ ghost use Rattle.line_view.specs.Knowledge.{Lines, IsInOrder, Agrees};
 ghost use Rattle.line_view.specs.declared.need.Stop.TheVariants as stop;
 ghost use Rattle.relation_rows.specs.Relations.{HasRows};
 ghost use Rattle.index_rows.specs.Given.{Serves, Gives};
-ghost use Rattle.index_rows.specs.Reading.{IsBadFor, ReadsArea};
+ghost use Rattle.index_rows.specs.Reading.{IsBadFor};
 
-use crate::reading::{rows_at, rows_found};
+use crate::reading::rows_found;
 use access_paths::Access;
-use line_view::{Need, Stop, View};
-use relation_rows::{Rows, StoredRelation};
+use line_view::{Stop, View};
+use relation_rows::{Rows, StoredRelation, rows};
 use sorted_index::{find, range};
 use std::alloc::Global;
 
-/// The rows of the relation's logical area.
-fn scanned<V: View>(alloc: Global, view: &V, relation: &StoredRelation<'_>) -> Result<Rows, Stop>
-    ensures { ReadsArea (V.knows view.now) relation.now ((V.knows view.now).area relation.now.area) result }
-{
-    match view.area(relation.area) {
-        Some(keys) => rows_at(alloc, view, relation, keys),
-        None => Err(Stop::Missing(Need::Area(relation.area))),
-    }
-}
-
-/// The rows of a relation that are come by, in the order of their Dbkeys: all of its logical area, or those that an index has under a key or under keys within bounds. An index is read before the rows that it names. What is read next and isn't known is named. A line is bad that isn't the node that is read there, that is no row of the relation, or that isn't present where the index or the area names a row.
+/// The rows of a relation that are come by, in the order of their Dbkeys: all of its logical area, or those that an index has under a key or under keys within bounds. An index is read before the rows that it names. What is read next and isn't known is named. A line is bad that isn't the node that is read there, that is no row of the relation, or that isn't present where the index names a row.
 pub fn accessed<V: View>(
     alloc: Global,
     view: &V,
@@ -38,7 +28,7 @@ pub fn accessed<V: View>(
         → IsBadFor relation.now access.now at all }
 {
     match access {
-        Access::Scan => scanned(alloc, view, relation),
+        Access::Scan => rows(alloc, view, relation),
         Access::Find(root, key) => {
             let found = find(alloc, view, *root, key.as_slice());
             rows_found(alloc, view, relation, *root, found)

@@ -12,7 +12,7 @@ use std::alloc::{AllocError, Global};
 use std::collections::BTreeSet;
 
 /// The rows at these Dbkeys, in their order.
-pub(crate) fn rows_at<V: View>(
+fn rows_at<V: View>(
     alloc: Global,
     view: &V,
     relation: &StoredRelation<'_>,

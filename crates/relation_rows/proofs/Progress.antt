@@ -1,6 +1,7 @@
 -- The rows of the lines that were read, and the lines that are left.
-use Rattle.std.proofs.Common.{◌≡◌, ◌==◌, ℕ, Bool, true, false, List, [], ◌∷◌, ◌++◌, Option, Some, None, is_some, refl, sym, ap, subst, ◌∙◌}
+use Rattle.std.proofs.Common.{◌≡◌, ◌==◌, ℕ, Bool, true, false, cond, List, [], ◌∷◌, ◌++◌, Option, Some, None, is_some, refl, sym, ap, subst, ◌∙◌}
 use Rattle.std.specs.List.{AllByRecursion}
+use Rattle.std.proofs.lemmas.Bool.{eqb-true}
 use Rattle.std.proofs.lemmas.Option.{none-some, same_Some}
 use Rattle.std.proofs.lemmas.List.{append-nil, append_assoc}
 use Rattle.rdb_types.specs.declared.values.Value.{Value}
@@ -9,7 +10,7 @@ use Rattle.line_view.specs.Knowledge.{Knowledge, Lines, IsInOrder, Agrees, line_
 use Rattle.line_view.proofs.Agreements.{Found, found_all, found_some}
 use Rattle.relation_rows.specs.declared.stored.StoredRelation.{StoredRelation}
 use Rattle.relation_rows.specs.declared.stored.StoredRow.{StoredRow}
-use Rattle.relation_rows.specs.Stored.{IsRowOf, AreRowsOf, IsLineKnown, IsNextLine, IsBadIn}
+use Rattle.relation_rows.specs.Stored.{IsRowOf, AreRowsOf, IsLineKnown, IsNextLine, IsAreaKnown, IsBadAt, IsBadIn}
 
 -- of the lines of the relation's area in the full map, those that were read have these rows, and these are left
 pub record Splits (r : StoredRelation) (left : List Dbkey) (rows : List StoredRow) (all : Lines) : Type 0 where
@@ -105,8 +106,26 @@ all_read known r keys rows are all sorted agrees = go (are.split all sorted agre
     ends [] keys = append-nil s.done
     ends (e ∷ es) keys = absurd (cc)
 
+pub area_known : (known : Knowledge) (r : StoredRelation) (keys : List Dbkey) (rows : List StoredRow) → known.area r.area ≡ Some keys → AreRead known r keys [] rows → IsAreaKnown known r.area
+area_known known r keys rows told are = (keys, told, subst (AllByRecursion (IsLineKnown known)) (sym (are.stands ∙ append-nil are.front)) are.lines)
+
 pub next_line : (known : Knowledge) (r : StoredRelation) (keys left : List Dbkey) (key : Dbkey) (rows : List StoredRow) → AreRead known r keys (key ∷ left) rows → known.line key ≡ None → IsNextLine known keys key
 next_line known r keys left key rows are unknown = record { before = are.front; behind = left; stands = are.stands; read = are.lines; unknown = unknown }
 
-pub bad_line : (known : Knowledge) (r : StoredRelation) (key : Dbkey) (image : List ℕ) → known.line key ≡ Some (Some image) → ((row : List Value) → IsRowOf r image row → ⊥) → (all : Lines) → Agrees known all → IsBadIn r key all
-bad_line known r key image told none all agrees = (image, sym (agrees.line key (Some image) told), none)
+in_area : (area : ℕ) (all : Lines) → AllByRecursion (λ key. key.area ≡ area) (keys_of (lines_in area all))
+in_area area [] = tt
+in_area area (e ∷ es) =
+    elim (e.0.area == area) as (λ b. e.0.area == area ≡ b → AllByRecursion (λ key. key.area ≡ area) (keys_of (cond b (e ∷ lines_in area es) (lines_in area es)))) [
+      | true ↦ λ p. (eqb-true e.0.area area p, in_area area es)
+      | false ↦ λ p. in_area area es
+    ] refl
+
+area_of : (area : ℕ) (front left : List Dbkey) (key : Dbkey) → AllByRecursion (λ key. key.area ≡ area) (front ++ key ∷ left) → key.area ≡ area
+area_of area [] left key within = within.0
+area_of area (k ∷ ks) left key within = area_of area ks left key within.1
+
+pub bad_line : (known : Knowledge) (r : StoredRelation) (keys left : List Dbkey) (key : Dbkey) (rows : List StoredRow) → AreRead known r keys (key ∷ left) rows → known.area r.area ≡ Some keys → IsBadAt known r key → (all : Lines) → Agrees known all → (key.area ≡ r.area) × IsBadIn r key all
+bad_line known r keys left key rows are told bad all agrees = (
+  area_of r.area are.front left key (subst (AllByRecursion (λ key. key.area ≡ r.area)) (sym (agrees.area r.area keys told) ∙ are.stands) (in_area r.area all)),
+  (bad.0, sym (agrees.line key (Some bad.0) bad.1), bad.2),
+)

@@ -3,7 +3,7 @@ ghost use Rattle.std.specs.Prelude.{◌≡◌, Some, None, IfOk, IfSome, IfNone,
 ghost use Rattle.line_view.specs.Knowledge.{Lines, IsInOrder, Agrees, line_in, lines_in};
 ghost use Rattle.line_view.specs.declared.need.Stop.TheVariants as stop;
 ghost use Rattle.line_view.specs.declared.need.Need.TheVariants as needs;
-ghost use Rattle.relation_rows.specs.Stored.{IsRowAt, IsBadAt, AreRowsOf, IsBadIn, IsNextNeed};
+ghost use Rattle.relation_rows.specs.Stored.{IsRowAt, IsBadAt, AreRowsOf, IsBadIn, IsNextNeed, IsAreaKnown};
 
 use crate::stored::{Rows, StoredRelation, StoredRow, row_of};
 use line_view::{Need, Seen, Stop, View};
@@ -35,8 +35,9 @@ pub fn row<V: View>(
 /// The rows of a relation, in the order of their Dbkeys.
 pub fn rows<V: View>(alloc: Global, view: &V, relation: &StoredRelation<'_>) -> Result<Rows, Stop>
     ensures rows { IfOk result (λ rows. (all : Lines) → IsInOrder all → Agrees (V.knows view.now) all → AreRowsOf relation.now (lines_in relation.now.area all) rows) }
+    ensures known { IfOk result (λ _. IsAreaKnown (V.knows view.now) relation.now.area) }
     ensures missing { (need : _) → result ≡ Err (stop.Missing need) → IsNextNeed (V.knows view.now) relation.now.area need }
-    ensures bad { (at : _) → result ≡ Err (stop.Bad at) → (all : Lines) → Agrees (V.knows view.now) all → IsBadIn relation.now at all }
+    ensures bad { (at : _) → result ≡ Err (stop.Bad at) → (all : Lines) → Agrees (V.knows view.now) all → (at.area ≡ relation.now.area) × IsBadIn relation.now at all }
 {
     let area = relation.area;
     let Some(keys) = view.area(area) else {

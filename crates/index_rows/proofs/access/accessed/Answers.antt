@@ -4,7 +4,9 @@ use Rattle.index_rows.proofs.Giving.{scan_everywhere, find_everywhere, range_eve
 use Rattle.index_rows.proofs.access.accessed.Goals as goal
 
 pub returns-in-Scan-clause-gives : goal.returns-in-Scan-clause-gives
-returns-in-Scan-clause-gives g c = scan_everywhere (g.V.View.knows c.args.view.now) c.args.relation.now c.scanned.result c.args.access.now c.in-Scan.is c.scanned.ensures
+returns-in-Scan-clause-gives g c =
+    scan_everywhere (g.V.View.knows c.args.view.now) c.args.relation.now c.rows.result c.args.access.now c.in-Scan.is
+    (record { rows = c.rows.ensures.rows; whole = c.rows.ensures.known; missing = c.rows.ensures.missing; bad = c.rows.ensures.bad })
 
 pub returns-in-Find-clause-gives : goal.returns-in-Find-clause-gives
 returns-in-Find-clause-gives g c =

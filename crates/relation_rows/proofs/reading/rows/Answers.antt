@@ -1,8 +1,20 @@
-use Rattle.std.proofs.Common.{rules, ◌≡◌, Some, None, refl, sym, ap, subst, ◌∙◌, List, [], ◌∷◌, ◌++◌}
+use Rattle.std.proofs.Common.{rules, arith, ◌≡◌, Some, None, refl, sym, ap, subst, ◌∙◌, List, [], ◌∷◌, ◌++◌}
+use Rattle.std.proofs.lemmas.Grind.{common_steps}
 use Rattle.std.specs.Prelude.{IfSome, IfNone}
-use Rattle.relation_rows.specs.Stored.{IsRowAt}
-use Rattle.relation_rows.proofs.Progress.{AreRead, none_read, row_read, absent_read, all_read, next_line, bad_line}
+use Rattle.rdb_types.specs.declared.keys.Dbkey.{Dbkey}
+use Rattle.relation_rows.specs.Stored.{IsRowAt, IsBadAt, IsBadIn}
+use Rattle.relation_rows.proofs.Progress.{AreRead, none_read, row_read, absent_read, all_read, area_known, next_line, bad_line}
 use Rattle.relation_rows.proofs.reading.rows.Goals as goal
+
+pub returns-in_err-row-clause-bad : goal.returns-in_err-row-clause-bad
+returns-in_err-row-clause-bad g c = λ at stops all agrees.
+    let known = g.V.View.knows c.args.view.now in
+    let relation = c.args.relation.now in
+    let read = subst (λ l. AreRead known relation c.into_iter-key-iterator.result l c.loop-key.rows) c.in-Some-key.ensures.steps c.loop-key.invariant in
+    let key = c.in-Some-key.key.now in
+    let bad : (at ≡ key) × IsBadAt known relation key = first_of (search rules, grind (arith, common_steps)) in
+    subst (λ (key : Dbkey). (key.area ≡ relation.area) × IsBadIn relation key all) (sym bad.0)
+    (bad_line known relation c.into_iter-key-iterator.result c.next.new.self key c.loop-key.rows read (first_of (search rules, cc)) bad.1 all agrees)
 
 pub loop-key-preserved-in-Continue-branch-3 : goal.loop-key-preserved-in-Continue-branch-3
 loop-key-preserved-in-Continue-branch-3 g c =
