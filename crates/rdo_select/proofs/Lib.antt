@@ -21,9 +21,12 @@ pub mod Thinned
 pub mod RangesCrossed
 pub mod Ranges
 pub mod Candidates
+pub mod TuplesLeft
 pub mod Read
 pub mod Working
 pub mod ComingBy
+pub mod OneReading
+pub mod ReadOnce
 pub mod Orders
 pub mod Through
 pub mod Selections
