@@ -1,7 +1,6 @@
 -- The access that is chosen leaves out only rows that the tests pass over.
-use Rattle.std.proofs.Common.{◌≡◌, ◌≢◌, ℕ, zero, suc, ◌<◌, Bool, true, false, not, ◌&&◌, List, [], ◌∷◌, ◌++◌, length, slice_index_or, Option, Some, None, option_map, unwrap_or, inl, inr, refl, ap, sym, subst, ◌∙◌, arith}
+use Rattle.std.proofs.Common.{◌≡◌, ◌≢◌, ℕ, zero, suc, ◌<◌, Bool, true, false, not, ◌&&◌, List, [], ◌∷◌, ◌++◌, length, slice_index_or, inl, inr, refl, ap, sym, subst, ◌∙◌, arith}
 use Rattle.std.specs.Ordering.{is_lt, is_gt}
-use Rattle.std.specs.Option.{option_or}
 use Rattle.std.specs.List.{AllByRecursion}
 use Rattle.std.specs.Cmp.{tied_itself}
 use Rattle.rdb_types.specs.declared.keys.Dbkey.{Dbkey}
@@ -18,8 +17,7 @@ use Rattle.sorted_index.specs.Nodes.{AnyByRecursion}
 use Rattle.access_paths.specs.declared.choice.IndexPath.{IndexPath}
 use Rattle.access_paths.specs.declared.choice.Access.{Access}
 use Rattle.access_paths.specs.declared.choice.Access.TheVariants.{Scan, Find, Range}
-use Rattle.access_paths.specs.Equated.{key_at}
-use Rattle.access_paths.specs.Choice.{access_by_key, first_by_key, access_by_limits, first_limits, first_by_limits, choice}
+use Rattle.access_paths.specs.Choice.{choice}
 use Rattle.access_paths.specs.Reached.{IsWide, Reaches, IsOfRoot}
 use Rattle.access_paths.proofs.Reaching as access
 use Rattle.access_paths.proofs.Rooted.{rooted}

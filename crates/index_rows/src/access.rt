@@ -14,7 +14,7 @@ use relation_rows::{Rows, StoredRelation, rows};
 use sorted_index::{find, range};
 use std::alloc::Global;
 
-/// The rows of a relation that are come by, in the order of their Dbkeys: all of its logical area, or those that an index has under a key or under keys within bounds. An index is read before the rows that it names. What is read next and isn't known is named. A line is bad that isn't the node that is read there, that is no row of the relation, or that isn't present where the index names a row.
+/// The rows of a relation that are come by, in the order of their Dbkeys: all of its logical area, or those that an index has under a key or under keys within bounds. An index is read before the rows that it names. What is read next and isn't known is named, and rows are answered only where all that is read is known. A line is bad that isn't the node that is read there, that is no row of the relation, or that isn't present where the index names a row.
 pub fn accessed<V: View>(
     alloc: Global,
     view: &V,

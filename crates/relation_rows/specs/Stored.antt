@@ -1,5 +1,5 @@
 -- The rows of a relation, as they stand on lines.
-use Rattle.std.specs.Prelude.{◌≡◌, ◌≤◌, ◌-◌, ℕ, ℤ, Bool, true, false, ◌&&◌, nat_le, List, [], ◌∷◌, ◌++◌, length, replicate, Option, Some, None, is_some}
+use Rattle.std.specs.Prelude.{◌≡◌, ◌≤◌, ◌-◌, ℕ, ℤ, Bool, true, false, ◌&&◌, nat_le, List, [], ◌∷◌, ◌++◌, length, replicate, Some, None, is_some}
 use Rattle.std.specs.List.{AllByRecursion, filter}
 use Rattle.rdb_types.specs.declared.values.Value.{Value}
 use Rattle.rdb_types.specs.declared.values.Value.TheVariants.{Missing, Number, Text}
@@ -12,7 +12,7 @@ use Rattle.rdb_meaning.specs.Numbers.{is_text_type, bits_of, fits_bits}
 use Rattle.record_format.specs.Rows.{IsRowImage}
 use Rattle.line_view.specs.declared.need.Need.{Need}
 use Rattle.line_view.specs.declared.need.Need.TheVariants.{Line, Area}
-use Rattle.line_view.specs.Knowledge.{Knowledge, Lines, Agrees, line_in}
+use Rattle.line_view.specs.Knowledge.{Knowledge, Lines, line_in}
 use Rattle.relation_rows.specs.declared.stored.StoredRelation.{StoredRelation}
 use Rattle.relation_rows.specs.declared.stored.StoredRow.{StoredRow}
 

@@ -1,9 +1,9 @@
-use Rattle.std.proofs.Common.{rules, arith, ◌≡◌, Some, None, refl, sym, ap, subst, ◌∙◌, List, [], ◌∷◌, ◌++◌}
+use Rattle.std.proofs.Common.{rules, arith, ◌≡◌, Some, None, sym, subst}
 use Rattle.std.proofs.lemmas.Grind.{common_steps}
 use Rattle.std.specs.Prelude.{IfSome, IfNone}
 use Rattle.rdb_types.specs.declared.keys.Dbkey.{Dbkey}
 use Rattle.relation_rows.specs.Stored.{IsRowAt, IsBadAt, IsBadIn}
-use Rattle.relation_rows.proofs.Progress.{AreRead, none_read, row_read, absent_read, all_read, area_known, next_line, bad_line}
+use Rattle.relation_rows.proofs.Progress.{AreRead, row_read, absent_read, bad_line}
 use Rattle.relation_rows.proofs.reading.rows.Goals as goal
 
 pub returns-in_err-row-clause-bad : goal.returns-in_err-row-clause-bad

@@ -1,4 +1,4 @@
-use Rattle.std.proofs.Common.{◌≡◌, ◌++◌, ◌-◌, ◌+◌, replicate, ap, ◌∙◌}
+use Rattle.std.proofs.Common.{◌++◌, ◌-◌, ◌+◌, replicate, ap, ◌∙◌}
 use Rattle.rdb_types.specs.declared.values.Value.{Value}
 use Rattle.std.specs.Prelude.{List, length}
 use Rattle.rdb_types.specs.declared.values.Value.TheVariants.{Missing}

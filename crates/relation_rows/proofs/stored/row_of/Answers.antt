@@ -1,4 +1,4 @@
-use Rattle.std.proofs.Common.{◌≡◌, sym, subst, refl, ◌∙◌}
+use Rattle.std.proofs.Common.{sym, subst, refl, ◌∙◌}
 use Rattle.std.proofs.lemmas.Option.{same_Some}
 use Rattle.record_format.specs.declared.row.VersionedRow.{VersionedRow}
 use Rattle.relation_rows.specs.Stored.{AreValuesIn}
