@@ -13,7 +13,8 @@ use Rattle.line_view.specs.Knowledge.{Knowledge, Lines, IsInOrder, Agrees}
 use Rattle.relation_rows.specs.Relations.{HasRows}
 use Rattle.sound_lines.specs.Gathered.{put_all}
 use Rattle.sound_lines.specs.Contents.{version_of, stored, HaveRows}
-use Rattle.sound_lines.specs.Reading.{IsAreaKnown, StopsRows, StopsAt, StopsRelations}
+use Rattle.relation_rows.specs.Stored.{IsAreaKnown}
+use Rattle.sound_lines.specs.Reading.{StopsRows, StopsAt, StopsRelations}
 use Rattle.sound_lines.proofs.Gathering.{keys, gathered, put_all_more, same_sorted}
 
 abbrev IsRead : Knowledge → Name × Relation → Type 0

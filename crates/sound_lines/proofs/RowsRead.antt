@@ -16,11 +16,11 @@ use Rattle.line_view.specs.declared.need.Need.{Need}
 use Rattle.line_view.specs.Knowledge.{Knowledge, Lines, IsInOrder, Agrees, lines_in}
 use Rattle.relation_rows.specs.declared.stored.StoredRelation.{StoredRelation}
 use Rattle.relation_rows.specs.declared.stored.StoredRow.{StoredRow}
-use Rattle.relation_rows.specs.Stored.{IsRowOf, AreRowsOf, IsRowAt, IsBadAt, IsLineKnown, IsNextNeed, count_in, are_values_of, completed}
+use Rattle.relation_rows.specs.Stored.{IsRowOf, AreRowsOf, IsRowAt, IsBadAt, IsLineKnown, IsAreaKnown, IsNextNeed, count_in, are_values_of, completed}
 use Rattle.relation_rows.proofs.Progress.{AreRead, none_read, row_read, absent_read, all_read, next_line}
 use Rattle.sound_lines.specs.Gathered.{put_all}
 use Rattle.relation_rows.specs.Relations.{stored_row}
-use Rattle.sound_lines.specs.Reading.{IsAreaKnown, IsBadRow, StopsRows}
+use Rattle.sound_lines.specs.Reading.{IsBadRow, StopsRows}
 use Rattle.sound_lines.proofs.Gathering.{keys as keys_in, true_from_T, gathered, put_all_more, same_sorted}
 
 -- ---- the rows are one thing for relations of one version and of the same fields
@@ -116,11 +116,7 @@ rows_are known r keys rows reads all sorted agrees =
     subst (AreRowsOf r (lines_in r.area all)) (sym (ap (map stored_row) same ∙ entries_back reads.stored)) are
 
 pub area_known : (known : Knowledge) (r : StoredRelation) (keys : List Dbkey) (rows : List (Dbkey × Row)) → known.area r.area ≡ Some keys → Reads known r keys [] rows → IsAreaKnown known r.area
-area_known known r keys rows told reads = record {
-  keys = keys;
-  told = told;
-  lines = subst (AllByRecursion (IsLineKnown known)) (sym (reads.are.stands ∙ append-nil reads.are.front)) reads.are.lines;
-}
+area_known known r keys rows told reads = (keys, told, subst (AllByRecursion (IsLineKnown known)) (sym (reads.are.stands ∙ append-nil reads.are.front)) reads.are.lines)
 
 pub row_stops : (known : Knowledge) (r : StoredRelation) (keys left : List Dbkey) (key : Dbkey) (rows : List (Dbkey × Row)) (stop : Stop) →
     known.area r.area ≡ Some keys → Reads known r keys (key ∷ left) rows →

@@ -10,14 +10,8 @@ use Rattle.line_view.specs.Knowledge.{Knowledge, Lines}
 use Rattle.catalog.specs.declared.reading.Catalog.{Catalog}
 use Rattle.catalog.specs.Reading.{IsCatalogOf, StopsCatalog}
 use Rattle.relation_rows.specs.declared.stored.StoredRelation.{StoredRelation}
-use Rattle.relation_rows.specs.Stored.{IsLineKnown, IsBadAt, IsNextNeed}
+use Rattle.relation_rows.specs.Stored.{IsLineKnown, IsAreaKnown, IsBadAt, IsNextNeed}
 use Rattle.sound_lines.specs.Contents.{versions_in, version_of, stored}
-
--- the keys of the logical area are known, and each of their lines
-pub record IsAreaKnown (known : Knowledge) (area : ℕ) : Type 0 where
-  pub keys : List Dbkey
-  pub told : known.area area ≡ Some keys
-  pub lines : AllByRecursion (IsLineKnown known) keys
 
 -- The lines of the relation's logical area are known before this one, and this one is no row of the relation.
 pub record IsBadRow (known : Knowledge) (r : StoredRelation) (key : Dbkey) : Type 0 where

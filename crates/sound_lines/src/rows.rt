@@ -1,10 +1,10 @@
 // The rows of one relation.
 ghost use Rattle.std.specs.Prelude.{◌≡◌, map, IfOk, IfErr};
 ghost use Rattle.line_view.specs.Knowledge.{Lines, IsInOrder, Agrees, lines_in};
-ghost use Rattle.relation_rows.specs.Stored.{AreRowsOf};
+ghost use Rattle.relation_rows.specs.Stored.{AreRowsOf, IsAreaKnown};
 ghost use Rattle.relation_rows.specs.Relations.{stored_row, HasRows};
 ghost use Rattle.sound_lines.specs.Contents.{stored};
-ghost use Rattle.sound_lines.specs.Reading.{IsAreaKnown, StopsRows};
+ghost use Rattle.sound_lines.specs.Reading.{StopsRows};
 
 use line_view::{Need, Stop, View};
 use ordered_entries::Entries;
