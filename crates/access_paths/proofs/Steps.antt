@@ -9,7 +9,7 @@ use Rattle.rdb_meaning.specs.Contents.{Row}
 use Rattle.rdo_values.specs.declared.bound.BoundExpression as tree
 use Rattle.rdo_values.specs.declared.bound.BoundOperation.{BoundOperation}
 use Rattle.rdo_values.specs.declared.bound.BoundTest.{BoundTest}
-use Rattle.rdo_values.specs.Tree.{Expression, between}
+use Rattle.rdo_values.specs.Tree.{Expression}
 use Rattle.rdo_values.specs.Views.{operations_of, applied_of, expression_of, testing_of, conjunction_with}
 use Rattle.rdo_values.specs.Filled.{value_at}
 use Rattle.access_paths.specs.declared.limits.Limited.{Limited}
@@ -106,7 +106,3 @@ equating by.Greater h = absurd (cc)
 equating by.GreaterEqual h = absurd (cc)
 equating by.Less h = absurd (cc)
 equating by.LessEqual h = absurd (cc)
-
-pub between_unequated_test : (rows : Row) (start place : ℕ) (t : BoundTest) (a low high : Expression) → testing_of t ≡ between a low high → None ≡ first_equated rows (asked_of start place (testing_of t))
-between_unequated_test rows start place t a low high e =
-    between_unequated rows (is_before start low && is_before start high) start place a low high ∙ ap (λ t. first_equated rows (asked_of start place t)) (sym e)

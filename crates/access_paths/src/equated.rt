@@ -113,7 +113,6 @@ fn equated_by_test(
 {
     match test {
         BoundTest::Compare(op, a, b) => equated_by_comparison(alloc, *op, a, b, place, rows),
-        BoundTest::Between(_, _, _) => Ok(None),
         _ => Ok(None),
     }
 }

@@ -10,33 +10,55 @@ use Rattle.vms_queues.specs.declared.held.Held.{Held}
 use Rattle.vms_queues.specs.Modes.{may_share, at_most, least_above}
 use Rattle.vms_queues.specs.Queues.{Queues, has_owner, mode_in, blocks, blockers, fits}
 use Rattle.vms_queues.proofs.ModeLaws.{may_share-comm}
-use Rattle.vms_locks.specs.Table.{Table, queues_at, ChangesAt, IsLive}
+use Rattle.vms_locks.specs.Table.{Table, queues_at, ChangesAt, IsLive, WaitsIn}
 use Rattle.vms_locks.specs.Answers.{Answers, asking, converting}
+use Rattle.vms_locks.specs.Walks.{IsCycle}
 use Rattle.vms_locks.specs.declared.answer.Enq.{Enq}
 use Rattle.vms_locks.specs.declared.answer.Enq.TheVariants.{Granted, Asleep, NotQueued, Deadlock}
 use Rattle.lock_needs.specs.declared.need.Need.{Need}
 use Rattle.lock_needs.specs.declared.party.OpenWant.{OpenWant}
 use Rattle.lock_needs.specs.declared.party.Asked.{Asked}
 use Rattle.lock_needs.specs.Party.{Party}
-use Rattle.lock_needs.specs.Wants.{mode_for}
+use Rattle.lock_needs.specs.Wants.{mode_for, kept_at}
 use Rattle.lock_needs.proofs.ModeTables.{join-left}
-use Rattle.lock_tree.specs.LockTable.{granted_at, sought_at, BarsNobody, RaisedAt}
+use Rattle.lock_tree.specs.LockTable.{granted_at, sought_at, HasIntents, BarsNobody, RaisedAt}
 use Rattle.lock_tree.specs.Forest.{Parties, party_of}
 use Rattle.lock_tree.specs.Asking.{exceeds_at, first_excess}
-use Rattle.lock_tree.specs.Parties.{IsKept, wanting, asked_at}
-use Rattle.lock_tree.specs.Order.{KeepsParty, MakesWay, MayAsk, AnswersByNeeds, NoneInExcess, asked_last, requesting}
+use Rattle.lock_tree.specs.Parties.{IsKept, wanting, unasked, asked_at}
+use Rattle.lock_tree.specs.Order.{AreKept, IsInOrder, KeepsParty, MakesWay, asked_last, requesting, waits_by_needs}
 use Rattle.lock_tree.proofs.HeldModes.{option-cases, one-mode, nothing-shares}
 use Rattle.lock_tree.proofs.QueueModes.{mode-absent}
 use Rattle.lock_tree.proofs.Changes.{shares-live, quiet-at}
 use Rattle.lock_tree.proofs.Conditions.{absent-quiet, asked-law, converted-law}
 use Rattle.lock_tree.proofs.Answered.{request-answered, conversion-answered}
 use Rattle.lock_tree.proofs.Arrivals.{mode-of}
+use Rattle.lock_tree.proofs.LeastInWay.{NoneInExcess}
 use Rattle.lock_tree.proofs.WantAsked.{raised-asked, want-kept}
 use Rattle.lock_tree.proofs.Ordered.{flip, fits-shares}
 use Rattle.lock_tree.proofs.OrderedRequests.{asked-order, raised-order}
 use Rattle.lock_tree.proofs.WayMade.{way-raised}
 use Rattle.lock_tree.proofs.AskedInOrder.{own-quiet, queued-in_order, granted-in_order}
 use Rattle.lock_tree.proofs.Refusals.{queued-needed, refused-first, refused-cycle}
+
+-- The owner's open want has come to its node, nothing asked there yet: its own lock there is no stronger than it has to be, and
+-- neither is another's that stands in the way of what the want asks.
+pub record MayAsk (t : Table) (party : ℕ → Party) (asks : List Asked) (owner : ℕ) (ws : List Need) (w : OpenWant) : Type 0 where
+  pub live : IsLive (queues_at t)
+  pub intents : HasIntents t
+  pub kept : AreKept t party
+  pub order : IsInOrder t party asks
+  pub own : party owner ≡ wanting ws (unasked w)
+  pub real : at_most w.need.mode NL ≡ false
+  pub least : at_most (granted_at t owner w.here) (kept_at (granted_at t owner) (wanting ws (unasked w)) w.here) ≡ true
+  pub none_due : NoneInExcess t party owner w.here (least_above (granted_at t owner w.here) (mode_for w.need w.here))
+
+-- What an owner's want at a node is answered leaves the order. A sleeper waits by needs for each that stands in its way; whom a
+-- refusal names the owner would wait for by needs, and so would each of those that a deadlock names for the next.
+abbrev pub AnswersByNeeds : Table → (ℕ → Party) → List Asked → ℕ → Enq → Type 0
+AnswersByNeeds new party asks owner Granted = IsInOrder new party asks
+AnswersByNeeds new party asks owner Asleep = IsInOrder new party asks × ((b : ℕ) → WaitsIn (queues_at new) owner b → waits_by_needs party asks owner b ≡ true)
+AnswersByNeeds new party asks owner (NotQueued blocker) = waits_by_needs party asks owner blocker ≡ true
+AnswersByNeeds new party asks owner (Deadlock cycle) = IsCycle (λ a b. waits_by_needs party asks a b ≡ true) owner cycle
 
 -- ---- nobody is found in the way in excess
 

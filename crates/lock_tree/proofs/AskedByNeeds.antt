@@ -22,10 +22,10 @@ use Rattle.lock_tree.specs.Parties.{wanting, unasked, asked_at}
 use Rattle.lock_tree.specs.Forest.{State, IsWhole, open_asks, party_of, opened_of}
 use Rattle.lock_tree.specs.Asking.{AsksAt, asked_mode}
 use Rattle.lock_tree.specs.Wanted.{needs_of}
-use Rattle.lock_tree.specs.Order.{AreKept, KeepsParty, MayAsk, AnswersByNeeds, asked_last, waits_with, waits_by_needs}
+use Rattle.lock_tree.specs.Order.{AreKept, KeepsParty, asked_last, waits_with, waits_by_needs}
 use Rattle.lock_tree.proofs.NeedsInWay.{waits-in_needed}
 use Rattle.lock_tree.proofs.Refusals.{cycle-more}
-use Rattle.lock_tree.proofs.AnsweredInOrder.{none-due, answered-by_needs}
+use Rattle.lock_tree.proofs.AnsweredInOrder.{MayAsk, AnswersByNeeds, none-due, answered-by_needs}
 use Rattle.lock_tree.proofs.WayMade.{stays-live}
 use Rattle.lock_tree.proofs.StepsInOrder.{served-in_order}
 use Rattle.lock_tree.proofs.Whole.{live-of, order-of, least-of, after-kept}

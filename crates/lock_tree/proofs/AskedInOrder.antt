@@ -25,7 +25,7 @@ use Rattle.lock_needs.proofs.Growing.{join-more, kept-more}
 use Rattle.lock_needs.proofs.Joins.{nothing}
 use Rattle.lock_tree.specs.LockTable.{granted_at, sought_at, AllShare, HasIntents, RaisedAt, QueuedAt}
 use Rattle.lock_tree.specs.Parties.{IsKept, wanting, unasked, asked_at}
-use Rattle.lock_tree.specs.Order.{IsOrdered, IsInOrder, AreKept, KeepsParty, asked_of_want, is_listed, asked_last, requesting, NoneInExcess}
+use Rattle.lock_tree.specs.Order.{IsOrdered, IsInOrder, AreKept, KeepsParty, asked_of_want, is_listed, asked_last, requesting}
 use Rattle.lock_tree.proofs.QueueModes.{mode-absent}
 use Rattle.lock_tree.proofs.Changes.{quiet-at, queued-at, shares-live, changed-request, changed-conversion}
 use Rattle.lock_tree.proofs.Conditions.{absent-quiet}
@@ -34,7 +34,7 @@ use Rattle.lock_tree.proofs.Exactness.{HasNoExclusiveAbove}
 use Rattle.lock_tree.proofs.Ordered.{flip, considered-ordered}
 use Rattle.lock_tree.proofs.OrderedRequests.{order-there, ordered-lock, ordered-mode, ordered-request, ordered-conversion}
 use Rattle.lock_tree.proofs.Asks.{before-push, before-last, listed-last}
-use Rattle.lock_tree.proofs.LeastInWay.{shut-more, beside-exclusive, mode-used, least-held}
+use Rattle.lock_tree.proofs.LeastInWay.{NoneInExcess, shut-more, beside-exclusive, mode-used, least-held}
 use Rattle.lock_tree.proofs.Arrivals.{holder-came, waiter-came}
 
 -- the order says no less where more came before, and more have a need there

@@ -10,7 +10,6 @@ pub mod Waking
 pub mod OwnLocks
 pub mod Brought
 pub mod Leaving
-pub mod Depths
 pub mod Trails
 pub mod Sleepers
 pub mod Whole

@@ -23,7 +23,7 @@ use Rattle.lock_tree.specs.Parties.{IsKept, KeepsOthers, wanting, resting, unask
 use Rattle.lock_tree.specs.Releasing.{IsQuiet}
 use Rattle.lock_tree.specs.Forest.{Parties, State, IsWhole, HasAsks, KeepsParties, is_asked_at, open_asks, party_of, opened_of, places_kept}
 use Rattle.lock_tree.specs.Wanted.{needs_of, IsOpen}
-use Rattle.lock_tree.proofs.Depths.{depth}
+use Rattle.lock_tree.specs.Room.{depth}
 use Rattle.lock_tree.proofs.KeptPlaces.{places-same, places-still, open-owner}
 use Rattle.lock_tree.proofs.Leaving.{and-none, sleeps-elsewhere, up-same}
 use Rattle.lock_tree.proofs.Wanting.{at_node, descends}

@@ -26,12 +26,13 @@ use Rattle.lock_needs.specs.Wants.{mode_for, kept_at}
 use Rattle.lock_needs.proofs.NodeLaws.{same_node-true, same_node-refl, same_node-sym}
 use Rattle.lock_tree.specs.LockTable.{granted_at, HasIntents}
 use Rattle.lock_tree.specs.Parties.{IsKept, wanting, unasked, asked_at}
-use Rattle.lock_tree.specs.Order.{IsInOrder, AreKept, KeepsParty, asked_last, requesting, waits_by_needs, NoneInExcess}
+use Rattle.lock_tree.specs.Order.{IsInOrder, AreKept, KeepsParty, asked_last, requesting, waits_by_needs}
 use Rattle.lock_tree.proofs.QueueModes.{mode-absent}
 use Rattle.lock_tree.proofs.Conditions.{absent-quiet}
 use Rattle.lock_tree.proofs.WantAsked.{AskedAt, queued-asked, want-intents, want-kept, asked-others}
 use Rattle.lock_tree.proofs.AskedInOrder.{queued-law, queued-in_order, unqueued, no-conversion}
 use Rattle.lock_tree.proofs.NeedsInWay.{waits-in_needed}
+use Rattle.lock_tree.proofs.LeastInWay.{NoneInExcess}
 
 -- ---- who is named first stands in the way
 

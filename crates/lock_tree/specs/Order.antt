@@ -5,23 +5,18 @@ use Rattle.rdb_types.specs.declared.node.Node.{Node}
 use Rattle.vms_queues.specs.declared.lock_mode.Mode.{Mode}
 use Rattle.vms_queues.specs.declared.lock_mode.Mode.TheVariants.{NL}
 use Rattle.vms_queues.specs.declared.held.Held.{Held}
-use Rattle.vms_queues.specs.Modes.{may_share, at_most, least_above}
+use Rattle.vms_queues.specs.Modes.{may_share, at_most}
 use Rattle.vms_queues.specs.Queues.{Queues, has_owner}
-use Rattle.vms_locks.specs.Table.{Table, queues_at, IsLive, WaitsIn}
-use Rattle.vms_locks.specs.declared.answer.Enq.{Enq}
-use Rattle.vms_locks.specs.declared.answer.Enq.TheVariants.{Granted, Asleep, NotQueued, Deadlock}
+use Rattle.vms_locks.specs.Table.{Table, queues_at, IsLive}
 use Rattle.vms_locks.specs.Answers.{Request, asking, converting}
-use Rattle.vms_locks.specs.Walks.{IsCycle}
-use Rattle.lock_needs.specs.declared.need.Need.{Need}
 use Rattle.lock_needs.specs.declared.party.OpenWant.{OpenWant}
 use Rattle.lock_needs.specs.declared.party.Asked.{Asked}
 use Rattle.lock_needs.specs.Party.{Party}
 use Rattle.lock_needs.specs.Nodes.{same_node}
-use Rattle.lock_needs.specs.Keeping.{is_excess}
-use Rattle.lock_needs.specs.Wants.{mode_for, kept_at}
+use Rattle.lock_needs.specs.Wants.{kept_at}
 use Rattle.lock_needs.specs.Waits.{converts_at, asked_before, waits_for}
 use Rattle.lock_tree.specs.LockTable.{granted_in, sought_in, granted_at, sought_at, HasIntents}
-use Rattle.lock_tree.specs.Parties.{IsKept, KeepsOthers, was_asked, wanting, unasked}
+use Rattle.lock_tree.specs.Parties.{IsKept, KeepsOthers, was_asked}
 
 -- of the entries of these two owners the first is one of the first owner
 abbrev pub stands_before : (first second : ℕ) → List Held → Bool
@@ -130,27 +125,3 @@ requesting q owner mode = if has_owner owner q.granted then converting q owner m
 -- each other's party is as it was
 abbrev pub KeepsParty : ℕ → (ℕ → Party) → (ℕ → Party) → Type 0
 KeepsParty owner old new = (u : ℕ) → (u == owner) ≡ false → new u ≡ old u
-
--- nobody else who stands in the way of the mode at the node has a stronger lock there than it has to have
-abbrev pub NoneInExcess : Table → (ℕ → Party) → ℕ → Node → Mode → Type 0
-NoneInExcess t party owner n mode = (u : ℕ) → (u == owner) ≡ false → may_share (granted_at t u n) mode ≡ false → is_excess (granted_at t u n) (kept_at (granted_at t u) (party u) n) ≡ false
-
--- The owner's open want has come to its node, nothing asked there yet: its own lock there is no stronger than it has to be, and
--- neither is another's that stands in the way of what the want asks.
-pub record MayAsk (t : Table) (party : ℕ → Party) (asks : List Asked) (owner : ℕ) (ws : List Need) (w : OpenWant) : Type 0 where
-  pub live : IsLive (queues_at t)
-  pub intents : HasIntents t
-  pub kept : AreKept t party
-  pub order : IsInOrder t party asks
-  pub own : party owner ≡ wanting ws (unasked w)
-  pub real : at_most w.need.mode NL ≡ false
-  pub least : at_most (granted_at t owner w.here) (kept_at (granted_at t owner) (wanting ws (unasked w)) w.here) ≡ true
-  pub none_due : NoneInExcess t party owner w.here (least_above (granted_at t owner w.here) (mode_for w.need w.here))
-
--- What an owner's want at a node is answered leaves the order. A sleeper waits by needs for each that stands in its way; whom a
--- refusal names the owner would wait for by needs, and so would each of those that a deadlock names for the next.
-abbrev pub AnswersByNeeds : Table → (ℕ → Party) → List Asked → ℕ → Enq → Type 0
-AnswersByNeeds new party asks owner Granted = IsInOrder new party asks
-AnswersByNeeds new party asks owner Asleep = IsInOrder new party asks × ((b : ℕ) → WaitsIn (queues_at new) owner b → waits_by_needs party asks owner b ≡ true)
-AnswersByNeeds new party asks owner (NotQueued blocker) = waits_by_needs party asks owner blocker ≡ true
-AnswersByNeeds new party asks owner (Deadlock cycle) = IsCycle (λ a b. waits_by_needs party asks a b ≡ true) owner cycle

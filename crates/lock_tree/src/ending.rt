@@ -1,5 +1,4 @@
 ghost use Rattle.std.specs.Prelude.{◌≡◌, List, true, false, length};
-ghost use Rattle.vms_queues.specs.Modes.{at_most};
 ghost use Rattle.lock_needs.specs.Needs.{covers_from, covered_above as covered_over, is_covered as is_covered_by};
 ghost use Rattle.lock_needs.specs.Keeping.{needed_uncovered, after_want};
 ghost use Rattle.lock_tree.specs.LockTable.{granted_at, sought_at, HasIntents};
@@ -7,7 +6,6 @@ ghost use Rattle.lock_needs.specs.declared.need.Need.{Need};
 ghost use Rattle.lock_tree.specs.Parties.{IsKept, KeepsOthers, wanting, resting, unasked, StandsStill};
 ghost use Rattle.lock_tree.specs.Order.{MakesWay, StandsByNeeds};
 ghost use Rattle.lock_tree.specs.Room.{HasSpare, UsesSpare, is_over_others};
-ghost use Rattle.lock_needs.specs.Wants.{mode_for as mode_on_way};
 
 use crate::coming_down::bring_down;
 use crate::holding::granted_of;
@@ -73,7 +71,6 @@ pub(crate) fn stop_asking(locks: &mut Locks, owner: u32, want: OpenWant) -> Open
 
     ensures here { result.here ≡ want.here }
     ensures need { result.need ≡ want.need }
-    ensures asked { result.is_asked ≡ true → (result ≡ want) × (locks.new ≡ locks.old) × (at_most (mode_on_way want.need want.here) (granted_at locks.old owner want.here) ≡ true) }
     ensures kept { StandsStill owner want result locks.old locks.new }
     ensures intents { HasIntents locks.new }
     ensures others { KeepsOthers owner locks.old locks.new }

@@ -24,7 +24,7 @@ mod wants;
 mod way;
 
 pub use answer::Want;
-pub use laws::{answers_are_by_needs, making_way_keeps_the_order, waits_are_by_needs};
+pub use laws::{making_way_keeps_the_order, waits_are_by_needs};
 pub use lock_needs::{Level, Need, Node};
 pub use notice::Demotion;
 pub use owners::{MAX_OWNERS, is_owner};

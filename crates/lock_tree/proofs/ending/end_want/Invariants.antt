@@ -2,8 +2,7 @@ use Rattle.std.proofs.Common.{◌≡◌, true, length}
 use Rattle.lock_tree.specs.LockTable.{granted_at, sought_at, HasIntents}
 use Rattle.lock_tree.specs.Parties.{IsKept, KeepsOthers, wanting}
 use Rattle.lock_tree.specs.Order.{MakesWay, StandsByNeeds}
-use Rattle.lock_tree.specs.Room.{UsesSpare, is_over_others}
-use Rattle.lock_tree.proofs.Depths.{depth}
+use Rattle.lock_tree.specs.Room.{UsesSpare, is_over_others, depth}
 use Rattle.lock_tree.proofs.ending.end_want.Given as goal
 
 abbrev pub invariant-loop-up : goal.invariant-loop-up

@@ -1,5 +1,4 @@
-use Rattle.std.proofs.Common.{sym, ◌∙◌, true, false, refl}
-use Rattle.std.proofs.lemmas.Bool.{false≢true}
+use Rattle.std.proofs.Common.{sym, ◌∙◌, true, false}
 use Rattle.vms_locks.proofs.Granting.{live-after_cancel}
 use Rattle.lock_tree.specs.LockTable.{granted_at}
 use Rattle.lock_tree.proofs.Brought.{lowered-others}
@@ -58,13 +57,3 @@ returns-clause-stands_still c = λ ws.
     (λ l. live-after_cancel c.args.locks.now c.cancel.new.self c.args.want.here c.args.owner l c.cancel.ensures.after) low
     (at_most-refl (granted_at c.args.locks.now c.args.owner c.args.want.here)))
     (tested-mode c.mode_for.result c.granted_of-held.result _ _ c.is_at_most.result false c.mode_for.ensures c.granted_of-held.ensures.value c.is_at_most.ensures.table c.if-is_at_most.false)
-
-pub returns-then-is_at_most-clause-asked : goal.returns-then-is_at_most-clause-asked
-returns-then-is_at_most-clause-asked c = λ a. (
-  refl,
-  refl,
-  tested-mode c.mode_for.result c.granted_of-held.result _ _ c.is_at_most.result true c.mode_for.ensures c.granted_of-held.ensures.value c.is_at_most.ensures.table c.if-is_at_most.true,
-)
-
-pub returns-clause-asked : goal.returns-clause-asked
-returns-clause-asked c = λ a. absurd (false≢true a)

@@ -4,9 +4,8 @@ use Rattle.lock_tree.specs.Forest.{IsWhole, KeepsParties, opened_of}
 use Rattle.lock_tree.specs.Progress.{NeverRises}
 use Rattle.lock_tree.specs.States.{state_of}
 use Rattle.lock_tree.specs.Wanted.{needs_of}
-use Rattle.lock_tree.specs.Room.{HasRoomFor}
+use Rattle.lock_tree.specs.Room.{HasRoomFor, depth}
 use Rattle.lock_tree.proofs.AtOnce.{EndsHere}
-use Rattle.lock_tree.proofs.Depths.{depth}
 use Rattle.lock_tree.proofs.parts.Parts.go_down.Given as goal
 
 abbrev pub invariant-loop-next : goal.invariant-loop-next

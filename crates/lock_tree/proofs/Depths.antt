@@ -1,2 +1,0 @@
--- How deep nodes lie.
-pub use Rattle.lock_tree.specs.Room.{depth}
