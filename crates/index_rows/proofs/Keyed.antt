@@ -27,7 +27,7 @@ swapped false false c = refl
 -- ---- whether a Dbkey that passes a test is found
 
 module _ (interval : Interval) (test : Dbkey → Bool) where
-  abbrev finds : List NodeEntry → Bool
+  abbrev pub finds : List NodeEntry → Bool
   finds pairs = list_any test (rows_within interval pairs)
 
   abbrev is_found : NodeEntry → Bool
@@ -49,17 +49,17 @@ module _ (interval : Interval) (test : Dbkey → Bool) where
       ]
 
   module _ (positions : List ℕ) where
-    abbrev keyed : List (Dbkey × Row) → List Dbkey
+    abbrev pub keyed : List (Dbkey × Row) → List Dbkey
     keyed rows = map (λ e. e.0) (filter (is_keyed positions interval) rows)
 
-    keyed_first : (e : Dbkey × Row) (es : List (Dbkey × Row)) → list_any test (keyed (e ∷ es)) ≡ ((is_keyed positions interval e && test e.0) || list_any test (keyed es))
+    pub keyed_first : (e : Dbkey × Row) (es : List (Dbkey × Row)) → list_any test (keyed (e ∷ es)) ≡ ((is_keyed positions interval e && test e.0) || list_any test (keyed es))
     keyed_first e es =
         elim (is_keyed positions interval e) as (λ b. list_any test (map (λ e. e.0) (cond b (e ∷ filter (is_keyed positions interval) es) (filter (is_keyed positions interval) es))) ≡ ((b && test e.0) || list_any test (keyed es))) [
           | true ↦ refl
           | false ↦ refl
         ]
 
-    found_keyed : (rows : List (Dbkey × Row)) → finds (pairs_of positions rows) ≡ list_any test (keyed rows)
+    pub found_keyed : (rows : List (Dbkey × Row)) → finds (pairs_of positions rows) ≡ list_any test (keyed rows)
     found_keyed [] = refl
     found_keyed (e ∷ es) =
         found_with (pair_of (key_of positions e.1) e.0) (pairs_of positions es)
@@ -68,7 +68,7 @@ module _ (interval : Interval) (test : Dbkey → Bool) where
 -- ---- rows that are left are in order
 
 module _ (p : Dbkey × Row → Bool) where
-  below_left : (key : Dbkey) (rows : List (Dbkey × Row)) → AllByRecursion (λ k. dbkey_order key k ≡ Less) (map (λ e. e.0) rows) → AllByRecursion (λ k. dbkey_order key k ≡ Less) (map (λ e. e.0) (filter p rows))
+  pub below_left : (key : Dbkey) (rows : List (Dbkey × Row)) → AllByRecursion (λ k. dbkey_order key k ≡ Less) (map (λ e. e.0) rows) → AllByRecursion (λ k. dbkey_order key k ≡ Less) (map (λ e. e.0) (filter p rows))
   below_left key [] below = tt
   below_left key (e ∷ es) below =
       elim (p e) as (λ b. AllByRecursion (λ k. dbkey_order key k ≡ Less) (map (λ e. e.0) (cond b (e ∷ filter p es) (filter p es)))) [

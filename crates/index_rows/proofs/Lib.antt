@@ -5,3 +5,4 @@ pub mod Giving
 pub mod Wide
 pub mod Chosen
 pub mod Losing
+pub mod SameKeys
