@@ -18,11 +18,10 @@ pub mod Left
 pub mod Adding
 pub mod Accesses
 pub mod Thinned
+pub mod LeftOut
 pub mod RangesCrossed
 pub mod Ranges
 pub mod Candidates
-pub mod TuplesLeft
-pub mod Read
 pub mod Working
 pub mod ComingBy
 pub mod OneReading
