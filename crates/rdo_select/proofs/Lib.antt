@@ -23,6 +23,12 @@ pub mod Ranges
 pub mod Candidates
 pub mod Read
 pub mod Working
+pub mod Each
+pub mod ReadTuples
+pub mod ReadArms
+pub mod ReadTests
+pub mod ReadLists
+pub mod ReadMatching
 pub mod Orders
 pub mod Through
 pub mod Selections
