@@ -26,6 +26,12 @@ pub mod Working
 pub mod ComingBy
 pub mod OneReading
 pub mod ReadOnce
+pub mod Each
+pub mod ReadTuples
+pub mod ReadArms
+pub mod ReadTests
+pub mod ReadLists
+pub mod ReadMatching
 pub mod Orders
 pub mod Through
 pub mod Selections
