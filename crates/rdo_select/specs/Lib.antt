@@ -1,5 +1,5 @@
-pub mod Sources
 pub mod Readings
+pub mod Sources
 pub mod Work
 pub mod AtHand
 pub mod Asking
