@@ -1,6 +1,7 @@
 pub mod Readings
 pub mod Sources
 pub mod Work
+pub mod Worked
 pub mod AtHand
 pub mod Asking
 pub mod Chosen

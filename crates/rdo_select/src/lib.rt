@@ -5,6 +5,7 @@ mod any;
 mod asking;
 mod crossing;
 mod judging;
+mod laws;
 mod putting;
 mod reducing;
 mod selection;
@@ -19,6 +20,7 @@ mod tuples;
 
 pub use any::any_selected;
 pub use crossing::{Found, FoundTuples};
+pub use laws::a_join_asks_the_index_for_each_row;
 pub use selection::select;
 pub use settling::{holds_in, matching, selected, value_in};
 pub use source::{Source, Sources};
