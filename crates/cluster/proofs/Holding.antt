@@ -5,15 +5,17 @@ use Rattle.rdo_ast.specs.declared.syntax.Item.{Item}
 use Rattle.rdo_ast.specs.Views.{uttered_of}
 use Rattle.rdb_meaning.specs.Contents.{no_tables}
 use Rattle.rdb_account.specs.Events.{event_of}
-use Rattle.rdb_account.specs.Places.{start}
-use Rattle.rdb_account.specs.Legal.{AreWhole}
+use Rattle.rdb_account.specs.Places.{Opening, Place, start}
+use Rattle.rdb_account.specs.Legal.{AreWhole, is_mortal}
 use Rattle.rdb_drive.specs.Boards.{IsSession, AllEnded, answers_by}
 use Rattle.rdb_drive.specs.Steps.{StepOf, RecoveryOf}
 use Rattle.rdb_drive.specs.declared.driven.Step.TheVariants as step
 use Rattle.session_steps.specs.declared.member.Member.{Member}
+use Rattle.session_steps.specs.declared.member.State.{State}
+use Rattle.session_steps.specs.declared.member.State.TheVariants.{Outside, Asking, Writing, Reading, Over}
 use Rattle.session_steps.specs.Openings.{opening, uttered_in}
-use Rattle.session_steps.specs.Members.{weight, left_of, is_asking, is_writing}
-use Rattle.session_steps.specs.Right.{Sessions, Lock, turns_by, turns_of, is_in, is_inside, Stands}
+use Rattle.session_steps.specs.Members.{weight, weight_in, life_of, left_of, is_asking, is_writing}
+use Rattle.session_steps.specs.Right.{Sessions, Lock, turns_by, turns_of, is_in, is_inside, Stands, StandsAs}
 use Rattle.session_steps.proofs.Kept.{member-of, place_in}
 use Rattle.cluster.specs.declared.sessions.Turn.{Turn}
 use Rattle.cluster.specs.declared.sessions.Turn.TheVariants as turn
@@ -154,9 +156,23 @@ low n s h = grind arith
 high : (n s : ℕ) → (nat_le 1 s && nat_le s n) ≡ true → s ≤ n
 high n s h = grind arith
 
+all-live : (state : State) → is_mortal (life_of state) ≡ true
+all-live Outside = refl
+all-live (Asking start) = refl
+all-live (Writing t standing) = refl
+all-live (Reading t) = refl
+all-live Over = refl
+
+silent-at-end : (o : Opening) (p : Place) (s : ℕ) (left : List Item) (state : State) → weight_in (length left) state ≡ 0 → StandsAs o p s left state → p.transaction s ≡ None
+silent-at-end o p s left Outside light h = h
+silent-at-end o p s left (Asking start) light h = absurd (omega arith)
+silent-at-end o p s left (Writing t standing) light h = absurd (omega arith)
+silent-at-end o p s left (Reading t) light h = absurd (omega arith)
+silent-at-end o p s left Over light h = h.0
+
 pub whole : (word : List ℕ) (scripts : List (List Item)) (c : Sessions) → IsKept word scripts c → AllEnded (length scripts) (board_of (opening word scripts) c) →
     AreWhole (is_session (length scripts)) (opening word scripts) (map event_of c.events)
-whole word scripts c k ended s session mortal =
+whole word scripts c k ended s session =
     let found = member-of c.members s (low (length scripts) s session) (rw k.count (high (length scripts) s session)) in
     let o = opening word scripts in
     let i = found.0 in
@@ -164,8 +180,9 @@ whole word scripts c k ended s session mortal =
     let stands = k.right.each i m found.3 in
     let light = is-zero (weight m) (sym (ap has_ended found.3) ∙ subst (λ u. has_ended (member_of c.members u) ≡ true) found.2 (ended s (low (length scripts) s session) (high (length scripts) s session))) in
     let none = none-left o (place_in o c) k.right.lock (suc i) m stands light in
-    subst (λ u. (place_in o c).said u ≡ length (o.script u)) (sym found.2)
-    (stands.count ∙ sym (ap length (stands.script ∙ (ap (λ ys. stands.answered ++ ys) none ∙ append-none stands.answered))))
+    let at = place_in o c in
+    subst (λ u. (is_mortal (at.life u) ≡ true) × (at.said u ≡ length (o.script u)) × (at.transaction u ≡ None)) (sym found.2)
+    (rw stands.lives (all-live m.state), stands.count ∙ sym (ap length (stands.script ∙ (ap (λ ys. stands.answered ++ ys) none ∙ append-none stands.answered))), silent-at-end o at (suc i) m.left m.state light stands.state)
 
 -- ---- nobody dies
 

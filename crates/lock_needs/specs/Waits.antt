@@ -23,10 +23,15 @@ asked_before first second n [] = false
 asked_before first second n (a ∷ rest) =
     if same_node a.node n && (a.owner == first || a.owner == second) then a.owner == first else asked_before first second n rest
 
--- The open want of another owner, which has got these needs, conflicts with this want, and converts at the upper node or was asked there before.
+-- a want of the owner was asked at some node
+abbrev pub has_asked : ℕ → List Asked → Bool
+has_asked owner asks = list_any (λ a. a.owner == owner) asks
+
+-- The open want of another owner, which has got these needs, conflicts with this want. It was asked at the upper node before, or it was
+-- asked somewhere and converts there.
 abbrev pub comes_first : List Asked → (waiter : ℕ) → Need → (other : ℕ) → List Need → Option Need → Bool
 comes_first asks waiter w other got None = false
-comes_first asks waiter w other got (Some v) = conflict w v && (converts_at got (upper_of w v) || asked_before other waiter (upper_of w v) asks)
+comes_first asks waiter w other got (Some v) = conflict w v && ((converts_at got (upper_of w v) && has_asked other asks) || asked_before other waiter (upper_of w v) asks)
 
 -- An owner with this want open waits for another, which has got these needs and has this want open: the want conflicts with a need that
 -- is got, or with an open want that comes first.

@@ -1,5 +1,5 @@
 ghost use Rattle.std.specs.Prelude.{◌≡◌};
-ghost use Rattle.lock_needs.specs.Waits.{upper_of as upper_node, converts_at, asked_before as came_first, holds_against, wants_against, waits_for as waits_by_needs};
+ghost use Rattle.lock_needs.specs.Waits.{upper_of as upper_node, converts_at, asked_before as came_first, has_asked as was_asked, holds_against, wants_against, waits_for as waits_by_needs};
 
 use crate::need::{Need, conflict};
 use crate::node::{contains, is_on};
@@ -36,6 +36,13 @@ fn asked_before(asks: &[Asked], first: u32, second: u32, node: Node) -> bool
     false
 }
 
+// Whether a want of the owner was asked at some node.
+fn has_asked(asks: &[Asked], owner: u32) -> bool
+    ensures { result ≡ was_asked owner asks.now }
+{
+    asks.iter().any(|asked| asked.owner == owner)
+}
+
 // Whether the party has got a need that conflicts with this one.
 fn holds_in_way(want: Need, party: &Party) -> bool
     ensures { result ≡ holds_against want party.now }
@@ -52,7 +59,8 @@ fn wants_in_way(asks: &[Asked], waiter: u32, want: Need, blocker: u32, other: &P
     };
     let upper = upper_of(want, open.need);
     conflict(want, open.need)
-        && (has_lock_for(other.needs(), upper) || asked_before(asks, blocker, waiter, upper))
+        && ((has_lock_for(other.needs(), upper) && has_asked(asks, blocker))
+            || asked_before(asks, blocker, waiter, upper))
 }
 
 /// Whether the open want `want` of the owner `waiter` waits by needs for the owner `blocker`: it conflicts with a need that this

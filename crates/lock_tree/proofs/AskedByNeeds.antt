@@ -1,6 +1,6 @@
 -- An open want that is asked at its node, by the tree's state: it keeps the order, and waits and refusals are by needs.
 use Rattle.std.proofs.Common.{◌≡◌, ℕ, Bool, true, false, List, refl, sym, ◌∙◌, ap, subst, inl, inr}
-use Rattle.std.specs.Prelude.{◌==◌, if◌then◌else◌, Option, Some, None}
+use Rattle.std.specs.Prelude.{◌==◌, ◌&&◌, if◌then◌else◌, Option, Some, None}
 use Rattle.std.proofs.lemmas.Bool.{false≢true, cases_Bool, eq-eqb, eqb-true, or_parts}
 use Rattle.vms_queues.specs.declared.lock_mode.Mode.TheVariants.{NL}
 use Rattle.vms_queues.specs.Modes.{at_most}
@@ -14,7 +14,7 @@ use Rattle.lock_needs.specs.declared.party.Asked.{Asked}
 use Rattle.lock_needs.specs.Party.{Party}
 use Rattle.lock_needs.specs.Needs.{Holding, is_covered, covered_above}
 use Rattle.lock_needs.specs.Wants.{kept_at}
-use Rattle.lock_needs.specs.Waits.{is_behind, wanted}
+use Rattle.lock_needs.specs.Waits.{is_behind, has_asked, wanted}
 use Rattle.lock_needs.proofs.ModeTables.{at_most-trans}
 use Rattle.lock_needs.proofs.Joins.{nothing}
 use Rattle.lock_tree.specs.LockTable.{granted_at}
@@ -46,7 +46,7 @@ waiter-needed s whole = waits-in_needed s.table (party_of s.parties) (open_asks 
 
 abbrev by-wanted : List Asked → ℕ → Option Need → ℕ → List Need → Option Need → Bool
 by-wanted asks a None b ws v = false
-by-wanted asks a (Some n) b ws v = is_behind asks a n b ws v
+by-wanted asks a (Some n) b ws v = has_asked a asks && is_behind asks a n b ws v
 
 with-wanted : (asks : List Asked) (a : ℕ) (o : Option OpenWant) (b : ℕ) (p : Party) → waits_with asks a o b p ≡ by-wanted asks a (wanted o) b p.needs (wanted p.opened)
 with-wanted asks a None b p = refl

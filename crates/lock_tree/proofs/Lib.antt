@@ -54,3 +54,4 @@ pub mod OthersLeft
 pub mod NoEndlessFall
 pub mod AtOnce
 pub mod TakingWhole
+mod Added

@@ -1,5 +1,5 @@
 -- Who stands in the way of a request is one for whom its owner waits by needs.
-use Rattle.std.proofs.Common.{◌≡◌, ℕ, Bool, true, false, refl, sym, ◌∙◌, ap, subst, ◌⊎◌, inl, inr, List}
+use Rattle.std.proofs.Common.{◌≡◌, ℕ, Bool, true, false, refl, sym, ◌∙◌, ap, subst, ◌⊎◌, inl, inr, List, [], ◌∷◌}
 use Rattle.std.specs.Prelude.{◌&&◌, ◌||◌, ◌==◌, not, if◌then◌else◌, Option, Some, None, unwrap_or}
 use Rattle.std.proofs.lemmas.Bool.{false≢true, and_parts, and_from, or_left, or_right, or_cases, cases_Bool, not_from_false, eq-eqb, eqb-true}
 use Rattle.rdb_types.specs.declared.node.Node.{Node}
@@ -18,12 +18,12 @@ use Rattle.lock_needs.specs.Nodes.{same_node, contains}
 use Rattle.lock_needs.specs.Needs.{Holding, AreCompatible, conflict}
 use Rattle.lock_needs.specs.Keeping.{below, needed_on}
 use Rattle.lock_needs.specs.Wants.{mode_for, has_granted, opened_at, sleeps_at, IsOnWay}
-use Rattle.lock_needs.specs.Waits.{upper_of, converts_at, asked_before, holds_against, wants_against, comes_first, wanted}
+use Rattle.lock_needs.specs.Waits.{upper_of, converts_at, asked_before, has_asked, holds_against, wants_against, waits_for, comes_first, wanted}
 use Rattle.lock_needs.proofs.ModeTables.{at_most-shares}
 use Rattle.lock_needs.proofs.NodeLaws.{same_node-true, IsOn}
 use Rattle.lock_tree.specs.LockTable.{granted_at, sought_at, HasIntents}
 use Rattle.lock_tree.specs.Parties.{IsKeptBut, nowhere, was_asked}
-use Rattle.lock_tree.specs.Order.{stands_before, IsInOrder, AreKept, waits_with, waits_by_needs}
+use Rattle.lock_tree.specs.Order.{stands_before, is_listed, asked_of_want, IsInOrder, AreKept, waits_with, waits_by_needs}
 use Rattle.lock_tree.proofs.QueueModes.{mode-absent}
 use Rattle.lock_tree.proofs.HeldModes.{nothing-shares, shares-in}
 use Rattle.lock_tree.proofs.OwnLocks.{asked-at_here}
@@ -32,6 +32,25 @@ use Rattle.lock_tree.proofs.Meeting.{as-on, on-on, Meets, meets, covered-shares,
 
 other-way : (o u : ℕ) → (o == u) ≡ false → (u == o) ≡ false
 other-way o u d = elim (cases_Bool (u == o)) [ inr n ↦ n | inl y ↦ absurd (false≢true (sym d ∙ eq-eqb o u (sym (eqb-true u o y)))) ]
+
+-- where a want was asked at a node, it was asked
+listed-asked : (owner : ℕ) (n : Node) (asks : List Asked) → is_listed owner n asks ≡ true → has_asked owner asks ≡ true
+listed-asked owner n [] h = absurd (false≢true h)
+listed-asked owner n (a ∷ rest) h =
+    elim (or_cases (same_node a.node n && (a.owner == owner)) (is_listed owner n rest) h) [
+      | inl x ↦ or_left (a.owner == owner) (has_asked owner rest) (and_parts (same_node a.node n) (a.owner == owner) x).1
+      | inr x ↦ or_right (a.owner == owner) (has_asked owner rest) (listed-asked owner n rest x)
+    ]
+
+-- where it was granted its mode, it was asked
+granted-asked : (v : OpenWant) (held : Holding) (n : Node) → has_granted held v n ≡ true → was_asked v n ≡ true
+granted-asked v held n g =
+    elim (or_cases (contains n v.here) (same_node n v.here && (v.is_asked && at_most (mode_for v.need n) (held n))) g) [
+      | inl c ↦ or_left (contains n v.here) (same_node n v.here && v.is_asked) c
+      | inr s ↦
+          let p = and_parts (same_node n v.here) (v.is_asked && at_most (mode_for v.need n) (held n)) s in
+          or_right (contains n v.here) (same_node n v.here && v.is_asked) (and_from (same_node n v.here) v.is_asked p.0 (and_parts v.is_asked (at_most (mode_for v.need n) (held n)) p.1).0)
+    ]
 
 -- the open want of who asks another mode at the node than it holds
 pub record IsAsleepAt (held sought : Holding) (p : Party) (n : Node) : Type 0 where
@@ -81,16 +100,23 @@ module _ (t : Table) (party : ℕ → Party) (asks : List Asked) (sound : (n : N
         (may_share-comm (granted_at t a n) x ∙ s)
 
     -- a want of b that came first
-    want-waits : (w : IsAsleepAt (granted_at t a) (sought_at t a) (party a) n) (v : OpenWant) → Meets w.want.need v.need n → ((converts_at (party b).needs n || asked_before b a n asks) ≡ true) → comes_first asks a w.want.need b (party b).needs (wanted (Some v)) ≡ true
-    want-waits w v m first =
-        and_from (conflict w.want.need v.need) (converts_at (party b).needs (upper_of w.want.need v.need) || asked_before b a (upper_of w.want.need v.need) asks) m.conflicts
-        (subst (λ (z : Node). (converts_at (party b).needs z || asked_before b a z asks) ≡ true) (sym m.upper) first)
+    want-waits : (w : IsAsleepAt (granted_at t a) (sought_at t a) (party a) n) (v : OpenWant) → Meets w.want.need v.need n → (party b).opened ≡ Some v → was_asked v n ≡ true → ((converts_at (party b).needs n || asked_before b a n asks) ≡ true) → comes_first asks a w.want.need b (party b).needs (wanted (Some v)) ≡ true
+    want-waits w v m e asked first =
+        and_from (conflict w.want.need v.need) ((converts_at (party b).needs (upper_of w.want.need v.need) && has_asked b asks) || asked_before b a (upper_of w.want.need v.need) asks) m.conflicts
+        (subst (λ (z : Node). ((converts_at (party b).needs z && has_asked b asks) || asked_before b a z asks) ≡ true) (sym m.upper)
+        (elim (or_cases (converts_at (party b).needs n) (asked_before b a n asks) first) [
+          | inl c ↦ or_left (converts_at (party b).needs n && has_asked b asks) (asked_before b a n asks) (and_from (converts_at (party b).needs n) (has_asked b asks) c
+              (listed-asked b n asks (order.listed b n ∙ (ap (λ (o : Option OpenWant). asked_of_want o n) e ∙ asked))))
+          | inr s ↦ or_right (converts_at (party b).needs n && has_asked b asks) (asked_before b a n asks) s
+        ]))
 
     -- so a waits for b
     for-want : (w : IsAsleepAt (granted_at t a) (sought_at t a) (party a) n) → (holds_against w.want.need (party b) || wants_against asks a w.want.need b (party b)) ≡ true → waits_by_needs party asks a b ≡ true
     for-want w h =
         ap (λ (o : Option OpenWant). waits_with asks a o b (party b)) w.opened
-        ∙ and_from (not (a == b)) (holds_against w.want.need (party b) || wants_against asks a w.want.need b (party b)) (not_from_false (a == b) (other-way b a other)) h
+        ∙ and_from (has_asked a asks) (waits_for asks a w.want.need b (party b))
+        (listed-asked a n asks (order.listed a n ∙ (ap (λ (o : Option OpenWant). asked_of_want o n) w.opened ∙ w.asked)))
+        (and_from (not (a == b)) (holds_against w.want.need (party b) || wants_against asks a w.want.need b (party b)) (not_from_false (a == b) (other-way b a other)) h)
 
     module _ (shuts : may_share (granted_at t b n) (sought_at t a n) ≡ false) where
       asleep : IsAsleepAt (granted_at t a) (sought_at t a) (party a) n
@@ -144,7 +170,7 @@ module _ (t : Table) (party : ℕ → Party) (asks : List Asked) (sound : (n : N
                 (meets asleep.want.need v.need n asleep.on (granted-on v e g)
                 (apart asleep (mode_for v.need n) (at_most-shares (mode_for v.need n) (granted_at t b n) (granted_at t a n) most (side n))
                 (subst (λ (y : Mode). may_share y (sought_at t a n) ≡ false) opens f)))
-                first
+                e (granted-asked v (granted_at t b) n g) first
           ]
 
       pub by-lock : waits_by_needs party asks a b ≡ true
@@ -189,7 +215,7 @@ module _ (t : Table) (party : ℕ → Party) (asks : List Asked) (sound : (n : N
           for-want waiter
           (or_right (holds_against waiter.want.need (party b)) (wants_against asks a waiter.want.need b (party b))
           (subst (λ (o : Option OpenWant). comes_first asks a waiter.want.need b (party b).needs (wanted o) ≡ true) (sym ahead.opened)
-          (want-waits waiter v (meets waiter.want.need v.need n waiter.on ahead.on (apart waiter (mode_for v.need n) (shares-bare (mode_for v.need n)) shut)) came)))
+          (want-waits waiter v (meets waiter.want.need v.need n waiter.on ahead.on (apart waiter (mode_for v.need n) (shares-bare (mode_for v.need n)) shut)) ahead.opened ahead.asked came)))
 
   -- who stands in the way by the grant rule is waited for by needs
   pub waits-needed : (n : Node) (a b : ℕ) → waits (queues_at t n) a b ≡ true → waits_by_needs party asks a b ≡ true

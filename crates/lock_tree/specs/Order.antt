@@ -14,7 +14,7 @@ use Rattle.lock_needs.specs.declared.party.Asked.{Asked}
 use Rattle.lock_needs.specs.Party.{Party}
 use Rattle.lock_needs.specs.Nodes.{same_node}
 use Rattle.lock_needs.specs.Wants.{kept_at}
-use Rattle.lock_needs.specs.Waits.{converts_at, asked_before, waits_for}
+use Rattle.lock_needs.specs.Waits.{converts_at, asked_before, has_asked, waits_for}
 use Rattle.lock_tree.specs.LockTable.{granted_in, sought_in, granted_at, sought_at, HasIntents}
 use Rattle.lock_tree.specs.Parties.{IsKept, KeepsOthers, was_asked}
 
@@ -64,9 +64,9 @@ StandsInOrder t party asks = IsLive (queues_at t) × IsInOrder t party asks
 
 abbrev pub waits_with : List Asked → ℕ → Option OpenWant → ℕ → Party → Bool
 waits_with asks a None b p = false
-waits_with asks a (Some w) b p = waits_for asks a w.need b p
+waits_with asks a (Some w) b p = has_asked a asks && waits_for asks a w.need b p
 
--- the first owner's open want waits for the second owner by needs
+-- the first owner's open want, which was asked somewhere, waits for the second owner by needs
 abbrev pub waits_by_needs : (ℕ → Party) → List Asked → ℕ → ℕ → Bool
 waits_by_needs party asks a b = waits_with asks a (party a).opened b (party b)
 

@@ -1,6 +1,6 @@
 -- What a want is answered, and what it leaves.
-use Rattle.std.specs.Prelude.{◌≡◌, ℕ, Bool, true, false, ◌==◌, if◌then◌else◌, is_some, option_map, Option, Some, None, List, [], ◌∷◌, ◌++◌, ◌⊎◌}
-use Rattle.std.specs.List.{list_any}
+use Rattle.std.specs.Prelude.{◌≡◌, ℕ, Bool, true, false, ◌==◌, if◌then◌else◌, is_some, option_map, Option, Some, None, List, [], ◌∷◌, ◌++◌, map, ◌⊎◌}
+use Rattle.std.specs.List.{list_any, AllByRecursion}
 use Rattle.rdb_types.specs.declared.node.Level.{Level}
 use Rattle.rdb_types.specs.declared.node.Level.TheVariants.{Area, Journal}
 use Rattle.rdb_types.specs.declared.node.Node.{Node}
@@ -11,7 +11,7 @@ use Rattle.vms_locks.specs.declared.answer.Enq.TheVariants.{NotQueued, Deadlock 
 use Rattle.lock_needs.specs.declared.need.Need.{Need}
 use Rattle.lock_needs.specs.declared.party.OpenWant.{OpenWant}
 use Rattle.lock_needs.specs.declared.party.Asked.{Asked}
-use Rattle.lock_needs.specs.Nodes.{on_way, above_of}
+use Rattle.lock_needs.specs.Nodes.{on_way, above_of, is_on}
 use Rattle.lock_needs.specs.Needs.{is_covered}
 use Rattle.lock_needs.specs.Wants.{sleeps_at}
 use Rattle.lock_tree.specs.LockTable.{granted_at, IsFree, RaisedAt}
@@ -108,6 +108,16 @@ pub record SleepsFor (s : State) (owner : ℕ) (w : OpenWant) (t : ℕ) : Type 0
 abbrev pub WaitsOnceAsked : State → ℕ → OpenWant → ℕ → ℕ → Type 0
 WaitsOnceAsked s owner w a b = waits_by_needs (party_of s.parties) (asked_last (open_asks s.parties s.trail) owner w.here) a b ≡ true
 
+-- the owner's entries for these nodes
+abbrev pub asks_for : ℕ → List Node → List Asked
+asks_for owner nodes = map (λ n. record { owner = owner; node = n }) nodes
+
+-- Behind what the trail was, the want of this need was asked at these nodes, in this order, each on the way to the need's node.
+pub record AddsAsks (owner : ℕ) (need : Need) (old new : List Asked) : Type 0 where
+  pub nodes : List Node
+  pub added : new ≡ old ++ asks_for owner nodes
+  pub way : AllByRecursion (λ n. is_on n need.node ≡ true) nodes
+
 -- What was true of the owner's open want just before it ended without being got.
 pub record Ended (s : State) (owner : ℕ) (ws : List Need) (need : Need) (cause : State → OpenWant → Type 0) : Type 0 where
   pub before : State
@@ -120,20 +130,20 @@ pub record Ended (s : State) (owner : ℕ) (ws : List Need) (need : Need) (cause
   pub rests : party_of s.parties owner ≡ resting ws
 
 -- t is the first in the way of the want, which would wait for it by needs, or the want is queued and waits for it
-abbrev pub IsBarredBy : ℕ → ℕ → State → OpenWant → Type 0
-IsBarredBy owner t s w = (HasCause s.table s.parties owner w (NotQueued t) × WaitsOnceAsked s owner w owner t) ⊎ SleepsFor s owner w t
+abbrev pub IsBarredBy : List Asked → ℕ → ℕ → State → OpenWant → Type 0
+IsBarredBy trail owner t s w = (HasCause s.table s.parties owner w (NotQueued t) × WaitsOnceAsked s owner w owner t × (trail ≡ asked_last s.trail owner w.here)) ⊎ (SleepsFor s owner w t × (trail ≡ s.trail))
 
 -- once queued the want would be on this cycle of waits, which are waits by needs
-abbrev pub ClosesCycle : ℕ → List ℕ → State → OpenWant → Type 0
-ClosesCycle owner cycle s w = HasCause s.table s.parties owner w (Closes cycle) × IsCycle (WaitsOnceAsked s owner w) owner cycle
+abbrev pub ClosesCycle : List Asked → ℕ → List ℕ → State → OpenWant → Type 0
+ClosesCycle trail owner cycle s w = HasCause s.table s.parties owner w (Closes cycle) × IsCycle (WaitsOnceAsked s owner w) owner cycle × (trail ≡ asked_last s.trail owner w.here)
 
 -- Each answer to an owner with these needs that wants this one, with its cause and what it leaves.
 abbrev pub Answered : List Need → State → ℕ → Need → Bool → Want → Type 0
 Answered ws s owner need wait Got = (party_of s.parties owner ≡ resting (ws ++ need ∷ [])) × (is_covered (granted_at s.table owner) need ≡ true)
 Answered ws s owner need wait (NoticeTo t n mode) = (w : OpenWant) × IsWanting s owner ws w × (w.need ≡ need) × (w ≡ unasked w) × (n ≡ w.here) × IsDue s.table s.parties owner w t mode
 Answered ws s owner need wait (Asleep t) = (wait ≡ true) × ((w : OpenWant) × IsWanting s owner ws w × (w.need ≡ need) × SleepsFor s owner w t)
-Answered ws s owner need wait (Conflict t) = (wait ≡ false) × Ended s owner ws need (IsBarredBy owner t)
-Answered ws s owner need wait (Deadlock cycle) = (wait ≡ true) × Ended s owner ws need (ClosesCycle owner cycle)
+Answered ws s owner need wait (Conflict t) = (wait ≡ false) × Ended s owner ws need (IsBarredBy s.trail owner t)
+Answered ws s owner need wait (Deadlock cycle) = (wait ≡ true) × Ended s owner ws need (ClosesCycle s.trail owner cycle)
 
 -- a step of the open want
 abbrev pub Steps : List Need → State → ℕ → OpenWant → Bool → Step → Type 0

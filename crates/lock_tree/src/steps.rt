@@ -16,7 +16,7 @@ ghost use Rattle.lock_tree.specs.Progress.{LeavesLocks, MovesOn, StepsOn};
 ghost use Rattle.lock_tree.specs.declared.answer.Step.TheVariants.{Ends};
 ghost use Rattle.lock_tree.specs.declared.answer.Want.TheVariants.{Got};
 ghost use Rattle.lock_tree.specs.States.{state_of};
-ghost use Rattle.lock_tree.specs.Wanted.{IsClear, MayTakeWhole, needs_of, IsOpen, Steps, Answered};
+ghost use Rattle.lock_tree.specs.Wanted.{IsClear, MayTakeWhole, needs_of, IsOpen, Steps, Answered, AddsAsks};
 
 use crate::answer::{Step, Want};
 use crate::asking::take_whole;
@@ -123,6 +123,7 @@ impl Parts {
         requires asked { want.is_asked ≡ true }
         requires plain { is_plain want.need ≡ true }
 
+        ensures trail { self.new.trail ≡ self.old.trail }
         ensures step { Steps (needs_of (state_of self.old) owner) (state_of self.new) owner want wait result }
         ensures progress { StepsOn owner (state_of self.old) (state_of self.new) result }
         ensures room { StaysRoomy owner self.old self.new result }
@@ -174,6 +175,7 @@ impl Parts {
         requires uncovered { is_covered (granted_at self.old.locks owner) want.need ≡ false }
         requires plain { is_plain want.need ≡ true }
 
+        ensures trail { AddsAsks owner want.need self.old.trail.items self.new.trail.items }
         ensures step { Steps (needs_of (state_of self.old) owner) (state_of self.new) owner want wait result }
         ensures progress { StepsOn owner (state_of self.old) (state_of self.new) result }
         ensures room { LeavesRoom owner self.old self.new result }
@@ -212,6 +214,7 @@ impl Parts {
         requires opened { opened_of (state_of self.old) owner ≡ Some (unasked want) }
         requires plain { is_plain want.need ≡ true }
 
+        ensures trail { AddsAsks owner want.need self.old.trail.items self.new.trail.items }
         ensures step { Steps (needs_of (state_of self.old) owner) (state_of self.new) owner want wait result }
         ensures progress { StepsOn owner (state_of self.old) (state_of self.new) result }
         ensures room { LeavesRoom owner self.old self.new result }
@@ -238,6 +241,7 @@ impl Parts {
         requires opened { opened_of (state_of self.old) owner ≡ Some (unasked want) }
         requires plain { is_plain want.need ≡ true }
 
+        ensures trail { AddsAsks owner want.need self.old.trail.items self.new.trail.items }
         ensures answer { Answered (needs_of (state_of self.old) owner) (state_of self.new) owner want.need wait result }
         ensures progress { MovesOn owner (state_of self.old) (state_of self.new) result }
         ensures covered { is_covered (granted_at self.old.locks owner) want.need ≡ true → (result ≡ Got) × (self.new.locks ≡ self.old.locks) × (self.new.trail ≡ self.old.trail) }

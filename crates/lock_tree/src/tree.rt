@@ -9,7 +9,7 @@ ghost use Rattle.lock_tree.specs.LockTable.{granted_at, AllShare};
 ghost use Rattle.lock_tree.specs.Forest.{IsWhole, KeepsParties, NeedsAreApart, idle, party_of, has_need, asks_of};
 ghost use Rattle.lock_tree.specs.Notices.{notice_answer};
 ghost use Rattle.lock_tree.specs.Progress.{is_spare, Falls, MovesOn};
-ghost use Rattle.lock_tree.specs.Wanted.{MayTakeWhole, needs_of, wanted_of, IsOf, IsLooking, Answered, GotAtOnce, GotWhole, want_of};
+ghost use Rattle.lock_tree.specs.Wanted.{MayTakeWhole, needs_of, wanted_of, IsOf, IsLooking, Answered, GotAtOnce, GotWhole, want_of, AddsAsks, trail_of_want};
 ghost use Rattle.lock_tree.specs.Room.{IsAsBefore};
 
 use crate::answer::Want;
@@ -74,6 +74,7 @@ impl Tree {
         requires plain { is_plain need ≡ true }
         requires same { IsOf need (party_of self.old.parties owner).opened }
 
+        ensures trail { IfOk result (λ a. AddsAsks owner need (trail_of_want self.old owner) self.new.trail) }
         ensures answer { IfOk result (Answered (needs_of self.old owner) self.new owner need wait) }
         ensures progress { is_some (party_of self.old.parties owner).opened ≡ true → IfOk result (MovesOn owner self.old self.new) }
         ensures covered { is_covered (granted_at self.old.table owner) need ≡ true → IsLooking (party_of self.old.parties owner).opened → IfOk result (GotAtOnce owner self.old self.new) }
@@ -133,6 +134,7 @@ impl Tree {
     /// Ends the owner's open want, its queued request with it: the locks that it was granted come down to what the owner's needs
     /// require. Where there is none, nothing changes. As it ends, the measure falls. Takes no memory.
     pub fn give_up(&mut self, owner: u32)
+        ensures trail { self.new.trail ≡ self.old.trail }
         ensures ended { (party_of self.new.parties owner).opened ≡ None }
         ensures needs { (party_of self.new.parties owner).needs ≡ (party_of self.old.parties owner).needs }
         ensures others { KeepsParties owner self.old.parties self.new.parties }
@@ -167,6 +169,7 @@ impl Tree {
     /// Releases all that the owner holds and asks, and forgets its needs and its open want. Where one was open, the measure falls.
     /// Takes no memory.
     pub fn release_all(&mut self, owner: u32)
+        ensures trail { self.new.trail ≡ self.old.trail }
         ensures idle { party_of self.new.parties owner ≡ idle }
         ensures none { (n : Node) → granted_at self.new.table owner n ≡ NL }
         ensures others { KeepsParties owner self.old.parties self.new.parties }

@@ -7,7 +7,7 @@ ghost use Rattle.lock_tree.specs.Forest.{IsWhole, KeepsParties, party_of, opened
 ghost use Rattle.lock_tree.specs.LockTable.{granted_at};
 ghost use Rattle.lock_tree.specs.Progress.{MovesOn};
 ghost use Rattle.lock_tree.specs.States.{state_of};
-ghost use Rattle.lock_tree.specs.Wanted.{MayTakeWhole, needs_of, IsOf, IsLooking, Answered, GotAtOnce, GotWhole, opening_of, want_of};
+ghost use Rattle.lock_tree.specs.Wanted.{MayTakeWhole, needs_of, IsOf, IsLooking, Answered, GotAtOnce, GotWhole, AddsAsks, trail_of_want, opening_of, want_of};
 ghost use Rattle.lock_tree.specs.Room.{HasRoomFor, HasRoomToOpen, IsAsBefore};
 
 use crate::answer::{Step, Want};
@@ -75,6 +75,7 @@ impl Parts {
         requires resting { open_want_of (state_of self.old) owner ≡ None }
         requires plain { is_plain need ≡ true }
 
+        ensures trail { IfOk result (λ a. AddsAsks owner need (trail_of_want (state_of self.old) owner) self.new.trail.items) }
         ensures answer { IfOk result (Answered (needs_of (state_of self.old) owner) (state_of self.new) owner need wait) }
         ensures covered { is_covered (granted_at self.old.locks owner) need ≡ true → IfOk result (GotAtOnce owner (state_of self.old) (state_of self.new)) }
         ensures strong { is_covered (granted_at self.old.locks owner) need ≡ false → MayTakeWhole self.old.locks owner (opening_of need) → IfOk result (GotWhole owner (opening_of need) (state_of self.old) (state_of self.new)) }
@@ -98,6 +99,7 @@ impl Parts {
         requires asked { want.is_asked ≡ true }
         requires plain { is_plain want.need ≡ true }
 
+        ensures trail { AddsAsks owner want.need self.old.trail.items self.new.trail.items }
         ensures answer { Answered (needs_of (state_of self.old) owner) (state_of self.new) owner want.need wait result }
         ensures progress { MovesOn owner (state_of self.old) (state_of self.new) result }
         ensures whole { IsWhole (state_of self.new) }
@@ -117,6 +119,7 @@ impl Parts {
         requires plain { is_plain need ≡ true }
         requires same { IsOf need (open_want_of (state_of self.old) owner) }
 
+        ensures trail { IfOk result (λ a. AddsAsks owner need (trail_of_want (state_of self.old) owner) self.new.trail.items) }
         ensures answer { IfOk result (Answered (needs_of (state_of self.old) owner) (state_of self.new) owner need wait) }
         ensures progress { is_some (open_want_of (state_of self.old) owner) ≡ true → IfOk result (MovesOn owner (state_of self.old) (state_of self.new)) }
         ensures covered { is_covered (granted_at self.old.locks owner) need ≡ true → IsLooking (open_want_of (state_of self.old) owner) → IfOk result (GotAtOnce owner (state_of self.old) (state_of self.new)) }
@@ -139,6 +142,7 @@ impl Parts {
         requires plain { is_plain need ≡ true }
         requires same { IsOf need (open_want_of (state_of self.old) owner) }
 
+        ensures trail { IfOk result (λ a. AddsAsks owner need (trail_of_want (state_of self.old) owner) self.new.trail.items) }
         ensures answer { IfOk result (Answered (needs_of (state_of self.old) owner) (state_of self.new) owner need wait) }
         ensures progress { is_some (open_want_of (state_of self.old) owner) ≡ true → IfOk result (MovesOn owner (state_of self.old) (state_of self.new)) }
         ensures covered { is_covered (granted_at self.old.locks owner) need ≡ true → IsLooking (open_want_of (state_of self.old) owner) → IfOk result (GotAtOnce owner (state_of self.old) (state_of self.new)) }

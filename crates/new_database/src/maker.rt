@@ -2,7 +2,7 @@
 ghost use Rattle.std.specs.Prelude.{◌≡◌, length, OnOk, IsErr, IsErrOf, IsTrue};
 ghost use Rattle.rdb_outside.specs.Disk.{Image, LeftNow, LeavesOnly, Keeps};
 ghost use Rattle.rdb_outside.specs.Causes.{Rose};
-ghost use Rattle.new_database.specs.Maker.{IsEmpty, IsNew, IsNewOrNone, HasRoot};
+ghost use Rattle.new_database.specs.Maker.{IsUnmade, IsNew, IsNewOrNone, HasRoot, MakesNone};
 
 use rdb_outside::{Disk, Failed};
 use rdb_types::{FileId, FileKind};
@@ -35,17 +35,40 @@ const AIJ: FileId = FileId {
     number: 0,
 };
 
+/// Writes zeros to the first slot of some files of a kind.
+fn make_numbered<D: Disk>(disk: &mut D, kind: FileKind, last: u32) -> Result<(), Failed>
+    ensures cause { IsErr result → Rose (D.view disk.old).faults (D.view disk.new).faults }
+    ensures none { MakesNone (D.view disk.old) (D.view disk.new) }
+{
+    let zeros = [0; 1024];
+    for number in 1..=last {
+        let file = FileId { kind, number };
+        disk.write(file, 0, &zeros[..file.slot_bytes()])?;
+    }
+    Ok(())
+}
+
+/// Writes zeros to the first slot of each area, snapshot file and undo journal. This changes nothing, but each of the files is there behind it, so one that is lost later can be told from one that was never written.
+fn make_files<D: Disk>(disk: &mut D) -> Result<(), Failed>
+    ensures cause { IsErr result → Rose (D.view disk.old).faults (D.view disk.new).faults }
+    ensures none { MakesNone (D.view disk.old) (D.view disk.new) }
+{
+    make_numbered(disk, FileKind::Area, 3)?;
+    make_numbered(disk, FileKind::Snap, 3)?;
+    make_numbered(disk, FileKind::Ruj, 16)
+}
+
 /// Makes a database with this root and this header of its after-image journal.
 pub fn make<D: Disk>(disk: &mut D, header: &[u8], root: &[u8]) -> Result<(), NewFault>
     requires root { length root.now ≡ 1024 }
     requires header { length header.now ≡ 512 }
 
     // Every crash from now on leaves the new database.
-    ensures made { OnOk result (IsTrue (D.view disk.old).tells → IsEmpty (D.view disk.old)
+    ensures made { OnOk result (IsTrue (D.view disk.old).tells → IsUnmade (D.view disk.old)
         → (image : Image) → LeftNow (D.view disk.new) image → IsNew header.now root.now image) }
 
-    // A crash at any moment of the call leaves no root, or the new database.
-    ensures any_moment { IsTrue (D.view disk.old).tells → IsEmpty (D.view disk.old)
+    // A crash at any moment of the call leaves no database, or the new one.
+    ensures any_moment { IsTrue (D.view disk.old).tells → IsUnmade (D.view disk.old)
         → LeavesOnly (D.view disk.old) (D.view disk.new) (IsNewOrNone header.now root.now) }
 
     // It doesn't give up by itself.
@@ -63,6 +86,7 @@ pub fn make<D: Disk>(disk: &mut D, header: &[u8], root: &[u8]) -> Result<(), New
     if !is_zeros(&slot) {
         return Err(NewFault::NotEmpty);
     }
+    make_files(disk)?;
     disk.write(AIJ, 0, header)?;
     disk.barrier()?;
     disk.write(ROOT, 0, root)?;

@@ -3,7 +3,7 @@ ghost use Rattle.std.specs.Prelude.{◌≡◌, IsTrue, OnOk, IsErr, IsErrOf};
 ghost use Rattle.root_file.specs.Root.{IsAllowed};
 ghost use Rattle.rdb_outside.specs.Disk.{Image, LeftNow, LeavesOnly, Keeps};
 ghost use Rattle.rdb_outside.specs.Causes.{Rose};
-ghost use Rattle.new_database.specs.Maker.{IsEmpty, HasRoot};
+ghost use Rattle.new_database.specs.Maker.{IsUnmade, HasRoot};
 ghost use Rattle.new_database.specs.New.{new_root as root_of, IsNewDatabase, IsNewDatabaseOrNone};
 
 use crate::NewFault;
@@ -25,16 +25,16 @@ fn new_root(limits: Limits) -> Root
     }
 }
 
-/// Makes an empty database with these limits, where the root slot is zeros: the header of the journal and a barrier, then the root and a barrier.
+/// Makes an empty database with these limits, where the root slot is zeros: the first slots of the files, the header of the journal and a barrier, then the root and a barrier.
 pub fn make_new<D: Disk>(disk: &mut D, limits: Limits) -> Result<(), NewFault>
     requires { IsAllowed (root_of limits) }
 
     // Every crash from now on leaves the new database.
-    ensures made { OnOk result (IsTrue (D.view disk.old).tells → IsEmpty (D.view disk.old)
+    ensures made { OnOk result (IsTrue (D.view disk.old).tells → IsUnmade (D.view disk.old)
         → (image : Image) → LeftNow (D.view disk.new) image → IsNewDatabase limits image) }
 
-    // A crash at any moment of the call leaves no root, or the new database.
-    ensures any_moment { IsTrue (D.view disk.old).tells → IsEmpty (D.view disk.old)
+    // A crash at any moment of the call leaves no database, where it can be called again, or the new one.
+    ensures any_moment { IsTrue (D.view disk.old).tells → IsUnmade (D.view disk.old)
         → LeavesOnly (D.view disk.old) (D.view disk.new) (IsNewDatabaseOrNone limits) }
 
     // It doesn't give up by itself.

@@ -195,6 +195,7 @@ beside script tables = record {
   has_owner = λ file page. false;
   group_slots = 0;
   moment = 0;
+  may_die = λ s cause. true;
 }
 
 abbrev pub by_turns_script : ℕ → List Uttered

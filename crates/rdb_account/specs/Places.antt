@@ -11,7 +11,9 @@ use Rattle.rdb_meaning.specs.declared.tables.Tables.{Tables}
 use Rattle.rdb_meaning.specs.Checks.{is_retrieval}
 use Rattle.rdb_meaning.specs.Meaning.{Meaning, means, meaningless, meaning}
 use Rattle.rdb_meaning.specs.Usual.{is_refusal_of_means}
-use Rattle.vms_queues.specs.Modes.{may_share}
+use Rattle.vms_queues.specs.declared.lock_mode.Mode.TheVariants.{EX}
+use Rattle.vms_queues.specs.Modes.{at_most}
+use Rattle.rdb_types.specs.declared.session.Cause.{Cause}
 use Rattle.rdb_types.specs.declared.node.Level.{Level}
 use Rattle.rdb_types.specs.declared.node.Level.TheVariants as level
 use Rattle.rdb_types.specs.declared.node.Node.{Node}
@@ -38,6 +40,8 @@ pub record Opening : Type 0 where
   pub has_owner : (file page : ℕ) → Bool
   pub group_slots : ℕ
   pub moment : ℕ
+  -- which sessions may die of which cause
+  pub may_die : ℕ → Cause → Bool
 
 -- ---- the items of a transaction told again, from tables
 
@@ -191,9 +195,8 @@ abbrev pub is_journal : Level → Bool
 is_journal level.Journal = true
 is_journal _ = false
 
--- EX shares with NL alone, and no need is NL
 abbrev pub is_write : Need → Bool
-is_write n = is_line n.node.level && not (may_share n.mode n.mode)
+is_write n = is_line n.node.level && at_most EX n.mode
 
 abbrev pub is_new_write : Need → List Node → Bool
 is_new_write n written = is_write n && not (list_any (same_node n.node) written)

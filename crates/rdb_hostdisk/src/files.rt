@@ -1,34 +1,72 @@
 // The files of a database. Each is opened when it is first used, made when it is first written, and kept open.
-ghost use Rattle.std.specs.Prelude.{◌<◌, length, IfOk};
-
 use rdb_types::{FileId, FileKind};
 use std::alloc::{AllocError, Global};
 use std::fs::{File, Files, OpenOptions};
 use std::io;
+use std::os::fd::AsRawFd;
 use std::os::unix::fs::FileExt;
 
+/// What a disk is used for, which decides how its root is locked.
+#[derive(Clone, Copy, PartialEq, Eq)]
+pub enum Access {
+    /// Nobody else uses the database.
+    Sole,
+    /// It is only read, beside others who only read it.
+    Shared,
+}
+
+/// What is known of the root's file.
+#[derive(Clone, Copy, PartialEq, Eq)]
+enum RootFile {
+    Unseen,
+    Absent,
+    /// It is open and locked.
+    Held,
+}
+
 #[derive(Drop)]
-pub struct HostFile {
-    id: FileId,
+struct HostFile {
+    kind: FileKind,
     name: String,
     open: Option<File>,
     /// It was written since the last barrier.
     is_dirty: bool,
-    /// It was made since the last barrier.
-    is_new: bool,
 }
 
-/// All files of a database whose names begin with `base`. None is opened.
-pub fn all_files(alloc: Global, base: &str) -> Result<Vec<HostFile>, AllocError> {
-    let mut files = Vec::new(alloc);
-    add_single(alloc, &mut files, FileKind::Root, base, "RDB")?;
-    add_single(alloc, &mut files, FileKind::Aij, base, "AIJ")?;
-    add_numbered(alloc, &mut files, FileKind::Area, 3, base, "RDA")?;
-    add_numbered(alloc, &mut files, FileKind::Snap, 3, base, "SNP")?;
-    add_numbered(alloc, &mut files, FileKind::Ruj, 16, base, "RUJ")?;
-    add_numbered(alloc, &mut files, FileKind::Backup, 9, base, "RBF")?;
-    add_numbered(alloc, &mut files, FileKind::AijBackup, 9, base, "AIB")?;
-    Ok(files)
+#[derive(Drop)]
+pub struct HostFiles {
+    access: Access,
+    root: RootFile,
+    files: Vec<HostFile>,
+    /// A barrier has opened every file that was there.
+    are_all_open: bool,
+    /// The folder wasn't made stable since the disk was made or since a file was.
+    has_new: bool,
+    /// What the disk holds isn't known any more, and each call fails.
+    is_lost: bool,
+}
+
+const ROOT_PLACE: usize = 0;
+
+// The place of the first file of a kind, and its first and last number.
+fn places(kind: FileKind) -> (usize, u32, u32) {
+    match kind {
+        FileKind::Root => (0, 0, 0),
+        FileKind::Aij => (1, 0, 0),
+        FileKind::Area => (2, 1, 3),
+        FileKind::Snap => (5, 1, 3),
+        FileKind::Ruj => (8, 1, 16),
+        FileKind::Backup => (24, 1, 9),
+        FileKind::AijBackup => (33, 1, 9),
+    }
+}
+
+fn place_of(id: FileId) -> io::Result<usize> {
+    let (place, first, last) = places(id.kind);
+    if id.number < first || last < id.number {
+        return Err(io::Error::from(io::ErrorKind::NotFound));
+    }
+    Ok(place.saturating_add((id.number - first) as usize))
 }
 
 fn add_single(
@@ -39,7 +77,7 @@ fn add_single(
     ending: &str,
 ) -> Result<(), AllocError> {
     let name = format!(in alloc; "{base}.{ending}")?;
-    files.push(HostFile::new(FileId { kind, number: 0 }, name))?;
+    files.push(HostFile::new(kind, name))?;
     Ok(())
 }
 
@@ -47,115 +85,90 @@ fn add_numbered(
     alloc: Global,
     files: &mut Vec<HostFile>,
     kind: FileKind,
-    last: u32,
     base: &str,
     ending: &str,
 ) -> Result<(), AllocError> {
-    for number in 1..=last {
+    let (_, first, last) = places(kind);
+    for number in first..=last {
         let name = format!(in alloc; "{base}_{number}.{ending}")?;
-        files.push(HostFile::new(FileId { kind, number }, name))?;
+        files.push(HostFile::new(kind, name))?;
     }
     Ok(())
 }
 
+// Whether zeros are what an engine may find in a file's first slot, so that nobody else would see that the file isn't there.
+fn is_made_by_new(kind: FileKind) -> bool {
+    matches!(kind, FileKind::Area | FileKind::Snap | FileKind::Ruj)
+}
+
 impl HostFile {
-    fn new(id: FileId, name: String) -> HostFile {
+    fn new(kind: FileKind, name: String) -> HostFile {
         HostFile {
-            id,
+            kind,
             name,
             open: None,
             is_dirty: false,
-            is_new: false,
         }
     }
 
-    /// Opens the file where there is one.
-    fn open_existing<R: Files<File = File>>(&mut self, rt: &R) -> io::Result<()> {
-        if self.open.is_some() {
-            return Ok(());
+    /// Opens a file that may not be there.
+    fn found<R: Files<File = File>>(&self, rt: &R, access: Access) -> io::Result<Option<File>> {
+        let opened = OpenOptions::new()
+            .read(true)
+            .write(access == Access::Sole)
+            .open(rt, self.name.as_str());
+        match opened {
+            Ok(file) => Ok(Some(file)),
+            Err(error) if error.kind() == io::ErrorKind::NotFound => Ok(None),
+            Err(error) => Err(error),
         }
-        match OpenOptions::new()
+    }
+
+    /// Makes a file that isn't there.
+    fn made<R: Files<File = File>>(&self, rt: &R) -> io::Result<File> {
+        OpenOptions::new()
             .read(true)
             .write(true)
+            .create_new(true)
             .open(rt, self.name.as_str())
-        {
-            Ok(file) => self.open = Some(file),
-            Err(error) => {
-                if error.kind() != io::ErrorKind::NotFound {
-                    return Err(error);
-                }
-            }
-        }
-        Ok(())
-    }
-
-    /// Makes the file where there is none.
-    fn open_or_make<R: Files<File = File>>(&mut self, rt: &R) -> io::Result<()> {
-        self.open_existing(rt)?;
-        if self.open.is_none() {
-            let file = OpenOptions::new()
-                .read(true)
-                .write(true)
-                .create(true)
-                .open(rt, self.name.as_str())?;
-            self.open = Some(file);
-            self.is_new = true;
-        }
-        Ok(())
     }
 
     fn offset(&self, slot: u32) -> u64 {
-        u64::from(slot) * self.id.slot_bytes() as u64
-    }
-
-    fn read<R: Files<File = File>>(
-        &mut self,
-        rt: &R,
-        slot: u32,
-        into: &mut [u8],
-    ) -> io::Result<()> {
-        self.open_existing(rt)?;
-        let offset = self.offset(slot);
-        match &self.open {
-            Some(file) => read_all(file, offset, into),
-            None => {
-                into.fill(0);
-                Ok(())
+        u64::from(slot)
+            * FileId {
+                kind: self.kind,
+                number: 0,
             }
-        }
-    }
-
-    fn write<R: Files<File = File>>(&mut self, rt: &R, slot: u32, from: &[u8]) -> io::Result<()> {
-        self.open_or_make(rt)?;
-        self.is_dirty = true;
-        let offset = self.offset(slot);
-        match &self.open {
-            Some(file) => file.write_all_at(from, offset),
-            None => Err(io::Error::from(io::ErrorKind::NotFound)),
-        }
+            .slot_bytes() as u64
     }
 
     /// The slots up to the file's end.
-    fn length<R: Files<File = File>>(&mut self, rt: &R) -> io::Result<u64> {
-        self.open_existing(rt)?;
-        match &self.open {
-            Some(file) => {
-                let bytes = file.metadata()?.len();
-                Ok(bytes.div_ceil(self.id.slot_bytes() as u64))
-            }
-            None => Ok(0),
+    fn length(&self, file: &File) -> io::Result<u64> {
+        let bytes = file.metadata()?.len();
+        Ok(bytes.div_ceil(FileId {
+            kind: self.kind,
+            number: 0,
         }
+        .slot_bytes() as u64))
     }
+}
 
-    fn settle(&mut self) -> io::Result<()> {
-        if self.is_dirty {
-            if let Some(file) = &self.open {
-                file.sync_all()?;
-            }
-            self.is_dirty = false;
-        }
-        Ok(())
+/// Makes stable what others wrote to a file, and drops the kernel's copies, which a failed sync may have left other than the disk has them.
+fn settle_found(file: &File) -> io::Result<()> {
+    file.sync_data()?;
+    let advised = libc::posix_fadvise(file.as_raw_fd(), 0, 0, libc::POSIX_FADV_DONTNEED);
+    if advised != 0 {
+        return Err(io::Error::from_raw_os_error(advised));
     }
+    Ok(())
+}
+
+fn lock_root(file: &File, access: Access) -> io::Result<()> {
+    match access {
+        Access::Sole => file.try_lock()?,
+        Access::Shared => file.try_lock_shared()?,
+    }
+    Ok(())
 }
 
 /// Reads from an offset on. Past the file's end are zeros.
@@ -172,64 +185,214 @@ fn read_all(file: &File, offset: u64, into: &mut [u8]) -> io::Result<()> {
     Ok(())
 }
 
-fn place_of(files: &[HostFile], id: FileId) -> io::Result<usize>
-    ensures { IfOk result (λ place. place < length files.now) }
-{
-    match files.iter().position(|file| file.id.is_same(id)) {
-        Some(place) => Ok(place),
-        None => Err(io::Error::from(io::ErrorKind::NotFound)),
+fn lost() -> io::Error {
+    io::Error::from(io::ErrorKind::Other)
+}
+
+impl HostFiles {
+    /// All files of a database whose names begin with `base`. None is opened.
+    pub fn over(alloc: Global, base: &str, access: Access) -> Result<HostFiles, AllocError> {
+        let mut files = Vec::new(alloc);
+        add_single(alloc, &mut files, FileKind::Root, base, "RDB")?;
+        add_single(alloc, &mut files, FileKind::Aij, base, "AIJ")?;
+        add_numbered(alloc, &mut files, FileKind::Area, base, "RDA")?;
+        add_numbered(alloc, &mut files, FileKind::Snap, base, "SNP")?;
+        add_numbered(alloc, &mut files, FileKind::Ruj, base, "RUJ")?;
+        add_numbered(alloc, &mut files, FileKind::Backup, base, "RBF")?;
+        add_numbered(alloc, &mut files, FileKind::AijBackup, base, "AIB")?;
+        Ok(HostFiles {
+            access,
+            root: RootFile::Unseen,
+            files,
+            are_all_open: false,
+            has_new: true,
+            is_lost: false,
+        })
     }
-}
 
-pub fn read_slot<R: Files<File = File>>(
-    rt: &R,
-    files: &mut [HostFile],
-    id: FileId,
-    slot: u32,
-    into: &mut [u8],
-) -> io::Result<()> {
-    let place = place_of(files, id)?;
-    files[place].read(rt, slot, into)
-}
-
-pub fn write_slot<R: Files<File = File>>(
-    rt: &R,
-    files: &mut [HostFile],
-    id: FileId,
-    slot: u32,
-    from: &[u8],
-) -> io::Result<()> {
-    let place = place_of(files, id)?;
-    files[place].write(rt, slot, from)
-}
-
-pub fn length_of<R: Files<File = File>>(
-    rt: &R,
-    files: &mut [HostFile],
-    id: FileId,
-) -> io::Result<u64> {
-    let place = place_of(files, id)?;
-    files[place].length(rt)
-}
-
-/// Makes what was written stable, and the names of the files that were made.
-pub fn settle_all<R: Files<File = File>>(rt: &R, files: &mut [HostFile]) -> io::Result<()> {
-    let mut has_new = false;
-    for file in files.iter_mut() {
-        file.settle()?;
-        has_new = has_new || file.is_new;
+    /// From now on each call fails.
+    fn lose<T>(&mut self) -> io::Result<T> {
+        self.is_lost = true;
+        Err(lost())
     }
-    if has_new {
-        settle_names(rt, files)?;
-    }
-    Ok(())
-}
 
-fn settle_names<R: Files<File = File>>(rt: &R, files: &mut [HostFile]) -> io::Result<()> {
-    let folder = OpenOptions::new().read(true).open(rt, ".")?;
-    folder.sync_all()?;
-    for file in files.iter_mut() {
-        file.is_new = false;
+    /// Each call begins with this. The first one looks for the root's file, and locks it.
+    fn enter<R: Files<File = File>>(&mut self, rt: &R) -> io::Result<()> {
+        if self.is_lost {
+            return Err(lost());
+        }
+        if self.root == RootFile::Unseen {
+            self.look_for_root(rt)?;
+        }
+        Ok(())
     }
-    Ok(())
+
+    fn look_for_root<R: Files<File = File>>(&mut self, rt: &R) -> io::Result<()> {
+        let Some(root) = self.files.get(ROOT_PLACE) else {
+            return Err(lost());
+        };
+        match root.found(rt, self.access)? {
+            Some(file) => self.hold_root(file),
+            None => {
+                self.root = RootFile::Absent;
+                Ok(())
+            }
+        }
+    }
+
+    /// Locks the root's file, and keeps it.
+    fn hold_root(&mut self, file: File) -> io::Result<()> {
+        if lock_root(&file, self.access).is_err() || settle_found(&file).is_err() {
+            return self.lose();
+        }
+        let Some(root) = self.files.get_mut(ROOT_PLACE) else {
+            return Err(lost());
+        };
+        root.open = Some(file);
+        self.root = RootFile::Held;
+        Ok(())
+    }
+
+    /// Before the first write of a database that isn't there its root's file is made, so that two can't make it at once.
+    fn make_root<R: Files<File = File>>(&mut self, rt: &R) -> io::Result<()> {
+        let Some(root) = self.files.get(ROOT_PLACE) else {
+            return Err(lost());
+        };
+        match root.made(rt) {
+            Ok(file) => {
+                self.has_new = true;
+                self.hold_root(file)
+            }
+            Err(error) => {
+                if error.kind() == io::ErrorKind::AlreadyExists {
+                    self.is_lost = true;
+                }
+                Err(error)
+            }
+        }
+    }
+
+    /// Opens a file where it is there.
+    fn open_found<R: Files<File = File>>(&mut self, rt: &R, place: usize) -> io::Result<()> {
+        let Some(entry) = self.files.get_mut(place) else {
+            return Err(lost());
+        };
+        if entry.open.is_some() || place == ROOT_PLACE {
+            return Ok(());
+        }
+        if let Some(file) = entry.found(rt, self.access)? {
+            if settle_found(&file).is_err() {
+                return self.lose();
+            }
+            entry.open = Some(file);
+        }
+        Ok(())
+    }
+
+    /// Whether a file that isn't there stands for one of zeros.
+    fn may_be_absent(&self, kind: FileKind) -> bool {
+        self.root != RootFile::Held || !is_made_by_new(kind)
+    }
+
+    pub fn read<R: Files<File = File>>(
+        &mut self,
+        rt: &R,
+        id: FileId,
+        slot: u32,
+        into: &mut [u8],
+    ) -> io::Result<()> {
+        self.enter(rt)?;
+        let place = place_of(id)?;
+        self.open_found(rt, place)?;
+        let Some(entry) = self.files.get(place) else {
+            return Err(lost());
+        };
+        match &entry.open {
+            Some(file) => read_all(file, entry.offset(slot), into),
+            None if self.may_be_absent(id.kind) => {
+                into.fill(0);
+                Ok(())
+            }
+            None => Err(io::Error::from(io::ErrorKind::NotFound)),
+        }
+    }
+
+    pub fn write<R: Files<File = File>>(
+        &mut self,
+        rt: &R,
+        id: FileId,
+        slot: u32,
+        from: &[u8],
+    ) -> io::Result<()> {
+        self.enter(rt)?;
+        if self.access == Access::Shared {
+            return Err(io::Error::from(io::ErrorKind::PermissionDenied));
+        }
+        let place = place_of(id)?;
+        if self.root == RootFile::Absent {
+            self.make_root(rt)?;
+        }
+        self.open_found(rt, place)?;
+        let Some(entry) = self.files.get_mut(place) else {
+            return Err(lost());
+        };
+        if entry.open.is_none() {
+            entry.open = Some(entry.made(rt)?);
+            self.has_new = true;
+        }
+        entry.is_dirty = true;
+        match &entry.open {
+            Some(file) => file.write_all_at(from, entry.offset(slot)),
+            None => Err(lost()),
+        }
+    }
+
+    /// The slots up to a file's end.
+    pub fn length<R: Files<File = File>>(&mut self, rt: &R, id: FileId) -> io::Result<u64> {
+        self.enter(rt)?;
+        let place = place_of(id)?;
+        self.open_found(rt, place)?;
+        let Some(entry) = self.files.get(place) else {
+            return Err(lost());
+        };
+        match &entry.open {
+            Some(file) => entry.length(file),
+            None if self.may_be_absent(id.kind) => Ok(0),
+            None => Err(io::Error::from(io::ErrorKind::NotFound)),
+        }
+    }
+
+    /// Makes what was written stable, by whomever, and the names of the files.
+    pub fn settle<R: Files<File = File>>(&mut self, rt: &R) -> io::Result<()> {
+        self.enter(rt)?;
+        if !self.are_all_open {
+            for place in 0..self.files.len() {
+                self.open_found(rt, place)?;
+            }
+            self.are_all_open = true;
+        }
+        if self.settle_written().is_err() {
+            return self.lose();
+        }
+        if self.has_new {
+            let folder = OpenOptions::new().read(true).open(rt, ".")?;
+            if folder.sync_all().is_err() {
+                return self.lose();
+            }
+            self.has_new = false;
+        }
+        Ok(())
+    }
+
+    fn settle_written(&mut self) -> io::Result<()> {
+        for entry in self.files.iter_mut() {
+            if entry.is_dirty {
+                if let Some(file) = &entry.open {
+                    file.sync_data()?;
+                }
+                entry.is_dirty = false;
+            }
+        }
+        Ok(())
+    }
 }

@@ -7,7 +7,7 @@ mod streams;
 ghost use Rattle.std.specs.Prelude.{◌≡◌, ◌≤◌, ◌+◌, ◌-◌, ◌^◌, true, min, OnOk, OnErr};
 ghost use Rattle.rdb_hostdisk.specs.Host.{host_view};
 
-use files::{HostFile, all_files, length_of, read_slot, settle_all, write_slot};
+use files::{Access, HostFiles};
 use rdb_outside::{Disk, Failed};
 use rdb_types::{FileId, Moment, NoMemory, Word};
 use std::alloc::Global;
@@ -18,11 +18,15 @@ pub use streams::{HostSink, HostSource};
 #[cfg(test)]
 mod tests;
 
-/// The files of one database, in the folder where the program runs. A file that isn't there reads as zeros. The disk tells no content, and counts its faults.
+/// The files of one database, in the folder where the program runs. The disk tells no content, and counts its faults.
+///
+/// The first call locks the root's file, and fails where another process uses the database; the lock ends with the disk. A file that isn't there reads as zeros; once the root's file is there, that of an area, a snapshot file or an undo journal is a fault.
+///
+/// A file is made stable when it is opened, and the first barrier opens every file that is there, so what another process wrote is stable behind it. Where a file couldn't be made stable, each later call fails, since the kernel may hold bytes that the disk hasn't.
 #[derive(Drop)]
 pub struct HostDisk<R: Files<File = File> + Clone + Drop> {
     rt: R,
-    files: Vec<HostFile>,
+    files: HostFiles,
     moment: u64,
     faults: u64,
 }
@@ -30,6 +34,15 @@ pub struct HostDisk<R: Files<File = File> + Clone + Drop> {
 impl<R: Files<File = File> + Clone + Drop> HostDisk<R> {
     /// The files whose names begin with `base`. None is opened yet. A base that is no text is refused as want of memory.
     pub fn over(rt: &R, alloc: Global, base: &Word) -> Result<HostDisk<R>, NoMemory> {
+        HostDisk::with(rt, alloc, base, Access::Sole)
+    }
+
+    /// The same for a command that writes nothing: it may run beside others of its kind, and each write fails.
+    pub fn reading(rt: &R, alloc: Global, base: &Word) -> Result<HostDisk<R>, NoMemory> {
+        HostDisk::with(rt, alloc, base, Access::Shared)
+    }
+
+    fn with(rt: &R, alloc: Global, base: &Word, access: Access) -> Result<HostDisk<R>, NoMemory> {
         let Ok(base) = str::from_utf8(base.as_slice()) else {
             return Err(NoMemory {});
         };
@@ -38,7 +51,7 @@ impl<R: Files<File = File> + Clone + Drop> HostDisk<R> {
         };
         Ok(HostDisk {
             rt,
-            files: all_files(alloc, base)?,
+            files: HostFiles::over(alloc, base, access)?,
             moment: 0,
             faults: 0,
         })
@@ -66,25 +79,25 @@ impl<R: Files<File = File> + Clone + Drop> Disk for HostDisk<R> {
     ghost content_left = { λ d t told le. tt };
 
     fn read(&mut self, file: FileId, slot: u32, into: &mut [u8]) -> Result<(), Failed> {
-        let done = read_slot(&self.rt, &mut self.files, file, slot, into);
+        let done = self.files.read(&self.rt, file, slot, into);
         counted(&mut self.moment, &mut self.faults, done.is_ok())?;
         Ok(())
     }
 
     fn write(&mut self, file: FileId, slot: u32, from: &[u8]) -> Result<(), Failed> {
-        let done = write_slot(&self.rt, &mut self.files, file, slot, from);
+        let done = self.files.write(&self.rt, file, slot, from);
         counted(&mut self.moment, &mut self.faults, done.is_ok())?;
         Ok(())
     }
 
     fn barrier(&mut self) -> Result<(), Failed> {
-        let done = settle_all(&self.rt, &mut self.files);
+        let done = self.files.settle(&self.rt);
         counted(&mut self.moment, &mut self.faults, done.is_ok())?;
         Ok(())
     }
 
     fn length(&mut self, file: FileId) -> Result<u32, Failed> {
-        let slots = match length_of(&self.rt, &mut self.files, file) {
+        let slots = match self.files.length(&self.rt, file) {
             Ok(slots) => u32::try_from(slots).ok(),
             Err(_) => None,
         };

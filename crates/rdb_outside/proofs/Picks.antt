@@ -15,7 +15,7 @@ use Rattle.rdb_outside.specs.Memory.{State, written, after_call, state_of, conte
 use Rattle.rdb_outside.specs.MemoryLaws.{eq_from, same_file}
 use Rattle.rdb_outside.proofs.Calls.{state_push, content_by}
 
-content_push : (log : List Event) (e : Event) (file : FileId) (slot : ℕ) → content_of (log ++ e ∷ []) file slot ≡ (if writes e file slot then written e else content_of log file slot)
+pub content_push : (log : List Event) (e : Event) (file : FileId) (slot : ℕ) → content_of (log ++ e ∷ []) file slot ≡ (if writes e file slot then written e else content_of log file slot)
 content_push log e file slot = ap (λ s. s.content file slot) (state_push log e) ∙ content_by e.effect e (state_of log) file slot
 
 pub again_wrote : (log h : List Event) (k : ℕ) (d : Event) → k < length h → ((file : FileId) (slot : ℕ) → content_of log file slot ≡ content_of (take k h) file slot)
@@ -24,7 +24,7 @@ again_wrote log h k d less same file slot =
     let e = get_or h k d in
     content_push log e file slot ∙ ap (λ x. if writes e file slot then written e else x) (same file slot) ∙ sym (content_push (take k h) e file slot) ∙ ap (λ l. content_of l file slot) (sym (take_more h k d less))
 
-skip : (w : Effect) (e : Event) (s : State) → is_written w ≡ false → (file : FileId) (slot : ℕ) → (after_call w e s).content file slot ≡ s.content file slot
+pub skip : (w : Effect) (e : Event) (s : State) → is_written w ≡ false → (file : FileId) (slot : ℕ) → (after_call w e s).content file slot ≡ s.content file slot
 skip Passed e s is file slot = refl
 skip Written e s is file slot = let bad : ⊥ = cc in absurd bad
 skip Lost e s is file slot = refl
@@ -89,3 +89,7 @@ closed h log new e is more was = same_image h (content_of log) (content_of new) 
 
 pub left_at : (log same : List Event) (t : ℕ) (image : Image) → same ≡ log → t ≤ length log → IsImage (take t same) image → LeftSince log t image
 left_at log same t image is le was = record { calls = t; from = omega arith; made = le; is_image = subst (λ (l : List Event). IsImage (take t l) image) is was }
+
+-- a barrier changes nothing that reads give
+pub barrier_same : (log new : List Event) (e : Event) → e.effect ≡ Settled → new ≡ log ++ e ∷ [] → (f : FileId) (i : ℕ) → content_of new f i ≡ content_of log f i
+barrier_same log new e is more f i = ap (λ l. content_of l f i) more ∙ ap (λ s. s.content f i) (state_push log e) ∙ skip e.effect e (state_of log) (ap is_written is) f i

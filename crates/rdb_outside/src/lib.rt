@@ -3,6 +3,7 @@
 
 mod disk;
 mod event;
+mod laws;
 mod memory_disk;
 mod memory_streams;
 mod streams;
@@ -10,6 +11,7 @@ mod streams;
 mod tests;
 
 pub use disk::Disk;
+pub use laws::{every_image_is_picked, every_pick_is_left, no_image_has_more_slots};
 pub use memory_disk::MemoryDisk;
 pub use memory_streams::{MemorySink, MemorySource};
 pub use streams::{Failed, Sink, Source};

@@ -147,6 +147,46 @@ fn a_crash_leaves_what_is_picked(rt: HostRuntime) -> Result<(), Fail> {
     Ok(())
 }
 
+// Behind the 32nd write the bits begin anew, and a list says of each write whether it is kept.
+#[test]
+fn a_crash_picks_of_any_number_of_writes(rt: HostRuntime) -> Result<(), Fail> {
+    let mut disk = MemoryDisk::new(rt.alloc(), 40, 40, &[])?;
+    for slot in 0..40 {
+        assert!(rt; put(&mut disk, slot, 1));
+    }
+    let moment = disk.moment();
+    let mut left = disk.after(moment, 1)?;
+    for (slot, byte) in [(0, 1), (1, 0), (31, 0), (32, 1), (33, 0)] {
+        assert_eq!(rt; first_byte(&mut left, slot), byte, "slot {slot}");
+    }
+    let mut kept = [false; 40];
+    kept[34] = true;
+    let moment = disk.moment();
+    let mut left = disk.after_picked(moment, &kept)?;
+    for (slot, byte) in [(0, 0), (2, 0), (34, 1), (39, 0)] {
+        assert_eq!(rt; first_byte(&mut left, slot), byte, "slot {slot}");
+    }
+    Ok(())
+}
+
+// A write that fails and is done is what later reads give; one of a slot past the room is in no image.
+#[test]
+fn a_failed_write_may_be_done(rt: HostRuntime) -> Result<(), Fail> {
+    let mut disk = MemoryDisk::failing(rt.alloc(), 4, 20, &[2], &[1, 4])?;
+    assert!(rt; !put(&mut disk, 0, 1));
+    assert!(rt; !put(&mut disk, 0, 2));
+    assert_eq!(rt; first_byte(&mut disk, 0), 1);
+    assert!(rt; !put(&mut disk, 4, 3));
+    assert_eq!(rt; disk.length(ROOT), Ok(1));
+    for (pick, byte, end) in [(0, 0, 0), (1, 1, 1), (2, 2, 1), (7, 2, 1)] {
+        let moment = disk.moment();
+        let mut left = disk.after(moment, pick)?;
+        assert_eq!(rt; first_byte(&mut left, 0), byte, "pick {pick}");
+        assert_eq!(rt; left.length(ROOT), Ok(end), "pick {pick}");
+    }
+    Ok(())
+}
+
 // The call of a number, counted from 1, fails once; a slot past the room fails, and so does a call past it.
 #[test]
 fn a_call_fails_once(rt: HostRuntime) -> Result<(), Fail> {

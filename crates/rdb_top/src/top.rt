@@ -3,7 +3,7 @@ ghost use Rattle.rdb_types.specs.declared.keys.Limits.{Limits};
 ghost use Rattle.rdb_outside.specs.Causes.{Rose};
 ghost use Rattle.rdb_outside.specs.Disk.{Image, LeftNow, LeavesOnly, Keeps};
 ghost use Rattle.root_file.specs.Root.{IsAllowed};
-ghost use Rattle.new_database.specs.Maker.{IsEmpty, HasRoot};
+ghost use Rattle.new_database.specs.Maker.{IsUnmade, HasRoot};
 ghost use Rattle.new_database.specs.New.{new_root, IsNewDatabase, IsNewDatabaseOrNone};
 ghost use Rattle.command_words.specs.declared.words.Scripts.{Scripts as GivenScripts};
 ghost use Rattle.command_words.specs.Words.{command_of as command_for, word_of, order_in, AreLast};
@@ -186,6 +186,7 @@ fn run_rdo<R: Threads + Wait + Sync, S: Source, K: Sink, G: Gate + Sync>(
     ensures too_long { S.tells scripts.old ≡ true → (s : ℕ) → IsSession given.count s → 1048576 < length (S.left scripts.old s) →
         (result.status ≡ 2) ⊎ (result.status ≡ 5) ⊎ (result.status ≡ 10) }
     ensures opening { result.account.opening ≡ no_tables }
+    ensures unread { (result.status ≡ 2) ⊎ (result.status ≡ 10) → result.account.events ≡ [] }
     ensures account { OfSomeScripts given.count (S.tells scripts.old ≡ true) (scripts_of (S.left scripts.old) given.count)
         (IsRun (word_of words.now) given (order_in words.now) result.status result.account.events) }
     ensures legal { S.tells scripts.old ≡ true → IsLegal (opening (word_of words.now) (scripts_of (S.left scripts.old) given.count)) (map event_of result.account.events) }
@@ -210,9 +211,9 @@ fn run_new<D: Disk>(disk: &mut D, limits: Limits) -> u8
     requires { IsAllowed (new_root limits) }
     ensures status { (result ≡ 0) ⊎ (result ≡ 3) ⊎ (result ≡ 9) }
     ensures device { result ≡ 3 → Rose (D.view disk.old).faults (D.view disk.new).faults }
-    ensures made { result ≡ 0 → IsTrue (D.view disk.old).tells → IsEmpty (D.view disk.old) →
+    ensures made { result ≡ 0 → IsTrue (D.view disk.old).tells → IsUnmade (D.view disk.old) →
         (image : Image) → LeftNow (D.view disk.new) image → IsNewDatabase limits image }
-    ensures any_moment { IsTrue (D.view disk.old).tells → IsEmpty (D.view disk.old) →
+    ensures any_moment { IsTrue (D.view disk.old).tells → IsUnmade (D.view disk.old) →
         LeavesOnly (D.view disk.old) (D.view disk.new) (IsNewDatabaseOrNone limits) }
     ensures taken { result ≡ 9 → IsTrue (D.view disk.old).tells → HasRoot (D.view disk.old).content }
     ensures standing { IsTrue (D.view disk.old).tells → HasRoot (D.view disk.old).content →
@@ -280,16 +281,24 @@ where
     ensures disk { (given : GivenScripts) → command_for words.now ≡ Some (Command.Rdo given) → result.disk ≡ disk }
     // Every crash behind NEW leaves the new database.
     ensures made { (limits : Limits) → command_for words.now ≡ Some (Command.New limits) → result.status ≡ 0 →
-        IsTrue (D.view disk).tells → IsEmpty (D.view disk) →
+        IsTrue (D.view disk).tells → IsUnmade (D.view disk) →
         (image : Image) → LeftNow (D.view result.disk) image → IsNewDatabase limits image }
-    // A crash at any moment of NEW leaves no root, or the new database.
+    // A crash at any moment of NEW leaves no database, where it can be called again, or the new one.
     ensures any_moment { (limits : Limits) → command_for words.now ≡ Some (Command.New limits) →
-        IsTrue (D.view disk).tells → IsEmpty (D.view disk) →
+        IsTrue (D.view disk).tells → IsUnmade (D.view disk) →
         LeavesOnly (D.view disk) (D.view result.disk) (IsNewDatabaseOrNone limits) }
     // There is a database already, and then it stays as it is.
     ensures taken { result.status ≡ 9 → IsTrue (D.view disk).tells → HasRoot (D.view disk).content }
     ensures standing { (limits : Limits) → command_for words.now ≡ Some (Command.New limits) →
-        IsTrue (D.view disk).tells → HasRoot (D.view disk).content → Keeps (D.view disk) (D.view result.disk) }
+        IsTrue (D.view disk).tells → HasRoot (D.view disk).content → ((result.status ≡ 0 → ⊥) × Keeps (D.view disk) (D.view result.disk)) }
+    // Words in no row touch nothing.
+    ensures untouched { command_for words.now ≡ None → result.disk ≡ disk }
+    // Nothing is said where no script is run.
+    ensures unsaid { (command_for words.now ≡ None) ⊎ ((limits : Limits) × (command_for words.now ≡ Some (Command.New limits))) → result.account.events ≡ [] }
+    // Nothing is said where a script wasn't read.
+    ensures unread { (result.status ≡ 2) ⊎ (result.status ≡ 10) → result.account.events ≡ [] }
+    // The statuses of scripts.
+    ensures statuses { (given : GivenScripts) → command_for words.now ≡ Some (Command.Rdo given) → is_script_status result.status ≡ true }
 {
     match command_of(words) {
         None => ended_with(alloc, unsaid(alloc, 1), disk),

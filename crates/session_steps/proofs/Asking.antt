@@ -11,11 +11,11 @@ use Rattle.rdb_meaning.specs.Checks.{is_retrieval}
 use Rattle.std.specs.List.{list_any}
 use Rattle.vms_queues.specs.Queues.{first_of}
 use Rattle.lock_needs.specs.Needs.{conflict}
-use Rattle.lock_needs.specs.Waits.{converts_at, asked_before, comes_first}
+use Rattle.lock_needs.specs.Waits.{converts_at, asked_before, has_asked, comes_first}
 use Rattle.rdb_account.specs.Events.{Began, Wanted, Said, RolledBack}
 use Rattle.rdb_account.specs.Places.{Opening, Place, Transaction, Line, Ask, nothing, rolls_back, at, after, begins, begun, wanting, with_line, is_writer, leaves_none, asks_of_others}
 use Rattle.rdb_account.specs.Lawful.{waits, waits_by, want_in, got_of, asked_of, never_sleeps, first_refusal, never_waits}
-use Rattle.rdb_account.specs.Legal.{May, MaySay}
+use Rattle.rdb_account.specs.Legal.{May, MaySay, is_one_want}
 use Rattle.session_steps.specs.declared.member.State.TheVariants.{Outside, Asking}
 use Rattle.session_steps.specs.Members.{member}
 use Rattle.session_steps.specs.Happenings.{the_lock, first_area}
@@ -64,6 +64,11 @@ behind_wanted kind p s = record p {
 wanted-place : (o : Opening) (kind : Standing) (p : Place) (s : ℕ) → after o (behind_began kind p s) (Wanted s the_lock first_area) ≡ behind_wanted kind p s
 wanted-place o kind p s = rw (at-same s (Some (begun kind p.tables)) p.transaction) refl
 
+-- all ask for the one lock
+one-want : (s : ℕ) (ss : List ℕ) → is_one_want s the_lock (map ask_of ss) ≡ true
+one-want s [] = refl
+one-want s (u ∷ us) = one-want s us
+
 -- one more awaits the lock
 abbrev pub with_one : Lock → ℕ → Lock
 with_one lock s = record { inside = lock.inside; queue = lock.queue ++ s ∷ [] }
@@ -103,7 +108,7 @@ asked o p lock s item left total committed kind h begins_so writes =
     record {
       may = (
         (ready p s h.awake h.free h.stands.lives, h.stands.state, rw next begins_so),
-        ((ready (behind_began kind p s) s h.awake h.free h.stands.lives, rw (at-same s (Some (begun kind p.tables)) p.transaction) writes, refl), tt),
+        ((ready (behind_began kind p s) s h.awake h.free h.stands.lives, rw (at-same s (Some (begun kind p.tables)) p.transaction) writes, rw h.asks (one-want s lock.queue)), tt),
       );
       own = (refl, (refl, tt));
       to = behind_wanted kind p s;
@@ -171,7 +176,8 @@ first-asked p s t asks first = rw first (rw (same-number t) refl)
 first-stands : (p : Place) (s t : ℕ) (asks : List Ask) → p.asks ≡ ask_of t ∷ asks → comes_first (map asked_of p.asks) s the_lock t (got_of (p.transaction t)) (want_in t p.asks) ≡ true
 first-stands p s t asks first =
     ap (λ w. comes_first (map asked_of p.asks) s the_lock t (got_of (p.transaction t)) w) (first-want p t asks first)
-    ∙ (ap (λ b. converts_at (got_of (p.transaction t)) first_area || b) (first-asked p s t asks first) ∙ or-true (converts_at (got_of (p.transaction t)) first_area))
+    ∙ (ap (λ b. (converts_at (got_of (p.transaction t)) first_area && has_asked t (map asked_of p.asks)) || b) (first-asked p s t asks first)
+    ∙ or-true (converts_at (got_of (p.transaction t)) first_area && has_asked t (map asked_of p.asks)))
 
 waits-first : (p : Place) (s t : ℕ) (asks : List Ask) → p.asks ≡ ask_of t ∷ asks → (s == t) ≡ false → want_in s p.asks ≡ Some the_lock → waits p s t ≡ true
 waits-first p s t asks first other want =
@@ -254,7 +260,7 @@ refused o p lock s item left total committed kind t h begins_so writes never fir
       may = (
         (ready p s h.awake h.free h.stands.lives, h.stands.state, rw next begins_so),
         (
-          (ready (behind_began kind p s) s h.awake h.free h.stands.lives, rw (at-same s (Some (begun kind p.tables)) p.transaction) writes, refl),
+          (ready (behind_began kind p s) s h.awake h.free h.stands.lives, rw (at-same s (Some (begun kind p.tables)) p.transaction) writes, rw h.asks (one-want s lock.queue)),
           (
             subst (λ q. May o q (Said s (uttered_of item) [] (r.LockConflict t))) (sym (wanted-place o kind p s)) (
               next,

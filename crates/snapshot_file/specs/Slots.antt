@@ -1,9 +1,14 @@
 -- Which slots of a snapshot file are free: for each slot, the first being 1, whether it is.
-use Rattle.std.specs.Prelude.{ℕ, zero, suc, ◌+◌, ◌-◌, ◌^◌, ◌<◌, ◌≤◌, ◌≡◌, ◌≢◌, Bool, true, false, List, length, map, nat_lt, slice_index, slice_index_or}
+use Rattle.std.specs.Prelude.{ℕ, zero, suc, ◌+◌, ◌-◌, ◌^◌, ◌<◌, ◌≤◌, ◌≡◌, ◌≢◌, Bool, true, false, cond, List, [], ◌∷◌, length, map, nat_lt, slice_index, slice_index_or}
 
 abbrev pub is_free : List Bool → ℕ → Bool
 is_free slots zero = false
 is_free slots (suc k) = slice_index_or slots k false
+
+-- how many slots are free
+abbrev pub left_in : List Bool → ℕ
+left_in [] = 0
+left_in (free ∷ slots) = cond free (suc (left_in slots)) (left_in slots)
 
 -- a free slot was taken, and no other
 pub record Takes (old new : List Bool) (slot : ℕ) : Type 0 where
@@ -30,3 +35,8 @@ pub record IsOrder (order places : List ℕ) (used : ℕ) : Type 0 where
 -- the slots behind the used ones are free
 abbrev pub slots_in : List ℕ → ℕ → List Bool
 slots_in places used = map (λ place. nat_lt used place) places
+
+-- Which slots are free, and how many of those are set aside for changes that are under way.
+pub record Store : Type 0 where
+  pub slots : List Bool
+  pub aside : ℕ

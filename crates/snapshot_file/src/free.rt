@@ -1,6 +1,6 @@
 // Which slots are free.
 ghost use Rattle.std.specs.Prelude.{◌≡◌, ◌≤◌, ◌<◌, ◌+◌, ℕ, Bool, List, true, false, Err, IfOk, OnErr, length, slice_index};
-ghost use Rattle.snapshot_file.specs.Slots.{is_free, Takes, Gives, IsOrder, slots_in};
+ghost use Rattle.snapshot_file.specs.Slots.{is_free, left_in, Takes, Gives, IsOrder, slots_in};
 
 use rdb_types::NoMemory;
 use std::alloc::Global;
@@ -42,6 +42,13 @@ impl Free {
             places,
             used: 0,
         })
+    }
+
+    /// How many slots are free.
+    pub fn left(&self) -> u32
+        ensures { result ≡ left_in self.now }
+    {
+        self.order.len() as u32 - self.used
     }
 
     /// Takes a free slot. It is refused only where none is free, and then nothing changes.

@@ -3,6 +3,8 @@
 
 mod entry;
 mod free;
+mod stock;
 
 pub use entry::{SnapEntry, one_entry, put_entry, read_entry};
 pub use free::{Free, SnapFull};
+pub use stock::Stock;

@@ -22,6 +22,7 @@ use Rattle.lock_tree.proofs.AskedByNeeds.{need-used, asked-by_needs, blocker-nee
 use Rattle.lock_tree.specs.Progress.{IsServedAt, LooksOn}
 use Rattle.lock_tree.proofs.OthersLeft.{leaves-then}
 use Rattle.lock_tree.proofs.MeasureFalls.{served-never, asked-never, ended-falls, never-steps}
+use Rattle.lock_tree.proofs.Added.{adds-one, way-on}
 use Rattle.lock_tree.proofs.parts.Parts.ask_node.Goals as goal
 
 pub returns-in-NoticeTo-clause-whole : goal.returns-in-NoticeTo-clause-whole
@@ -124,6 +125,7 @@ returns-in-Asked-NotQueued-clause-step c =
           cause-of s.parties c.args.owner c.args.want c.args.wait s.table c.look_here.new.locks (NotQueued c.in-Asked-NotQueued.other) asked.1,
           blocker-needed s c.args.owner c.args.want c.requires.whole c.requires.opened (need-used (granted_at s.table c.args.owner) c.args.want.need c.requires.uncovered) c.args.wait c.look_here.new.locks
               c.args.self.now.trail.items refl c.in-Asked-NotQueued.other asked.1,
+          c.refuse.ensures.asked,
         );
         rests = c.refuse.ensures.ended;
       },
@@ -148,6 +150,7 @@ returns-in-Asked-Deadlock-clause-step c =
           cause-of s.parties c.args.owner c.args.want c.args.wait s.table c.look_here.new.locks (Deadlock c.in-Asked-Deadlock.cycle) asked.1,
           cycle-needed s c.args.owner c.args.want c.requires.whole c.requires.opened (need-used (granted_at s.table c.args.owner) c.args.want.need c.requires.uncovered) c.args.wait c.look_here.new.locks
               c.args.self.now.trail.items refl c.in-Asked-Deadlock.cycle asked.1,
+          c.refuse-in-Asked-Deadlock.ensures.asked,
         );
         rests = c.refuse-in-Asked-Deadlock.ensures.ended;
       },
@@ -249,3 +252,23 @@ returns-in-Asked-Asleep-clause-others c = λ u d. c.stand.ensures.others u d ∙
 
 pub look_here-requires-clause-kept : goal.look_here-requires-clause-kept
 look_here-requires-clause-kept c = subst (IsKept c.args.self.now.locks c.args.owner) (sym (ap (λ x. unwrap_or x idle) c.in-Some.ensures.value)) (c.requires.whole.kept c.args.owner)
+
+pub returns-in-Asked-Granted-clause-trail : goal.returns-in-Asked-Granted-clause-trail
+returns-in-Asked-Granted-clause-trail c =
+    adds-one c.args.owner c.args.want.need c.args.want.here c.args.self.now.trail.items _ (way-on (state_of c.args.self.now) c.args.owner c.args.want c.requires.whole c.requires.opened)
+    (ap (λ v. v.items) c.go_on.ensures.trail ∙ c.mark_asked-asked.ensures.trail)
+
+pub returns-in-Asked-Asleep-clause-trail : goal.returns-in-Asked-Asleep-clause-trail
+returns-in-Asked-Asleep-clause-trail c =
+    adds-one c.args.owner c.args.want.need c.args.want.here c.args.self.now.trail.items _ (way-on (state_of c.args.self.now) c.args.owner c.args.want c.requires.whole c.requires.opened)
+    (ap (λ v. v.items) c.stand.ensures.trail ∙ c.mark_asked-asked-in-Asked-Asleep.ensures.trail)
+
+pub returns-in-Asked-NotQueued-clause-trail : goal.returns-in-Asked-NotQueued-clause-trail
+returns-in-Asked-NotQueued-clause-trail c =
+    adds-one c.args.owner c.args.want.need c.args.want.here c.args.self.now.trail.items _ (way-on (state_of c.args.self.now) c.args.owner c.args.want c.requires.whole c.requires.opened)
+    (c.refuse.ensures.asked)
+
+pub returns-in-Asked-Deadlock-clause-trail : goal.returns-in-Asked-Deadlock-clause-trail
+returns-in-Asked-Deadlock-clause-trail c =
+    adds-one c.args.owner c.args.want.need c.args.want.here c.args.self.now.trail.items _ (way-on (state_of c.args.self.now) c.args.owner c.args.want c.requires.whole c.requires.opened)
+    (c.refuse-in-Asked-Deadlock.ensures.asked)

@@ -4,7 +4,8 @@ use Rattle.lock_needs.specs.declared.party.OpenWant.{OpenWant}
 use Rattle.lock_needs.specs.Needs.{is_covered}
 use Rattle.lock_needs.specs.Party.{Party}
 use Rattle.lock_tree.specs.LockTable.{granted_at}
-use Rattle.lock_tree.specs.Wanted.{MayTakeWhole, Answered, needs_of}
+use Rattle.lock_tree.specs.Wanted.{MayTakeWhole, Answered, AddsAsks, needs_of}
+use Rattle.lock_tree.proofs.Added.{adds-then}
 use Rattle.lock_tree.specs.declared.parts.Parts.{Parts}
 use Rattle.lock_tree.specs.declared.answer.Want.TheVariants.{Got}
 use Rattle.lock_tree.proofs.AtOnce.{EndsHere, GotHere, no-step_down, same-answer, still}
@@ -29,6 +30,8 @@ loop-next-preserved c =
       λ h. absurd (no-step_down c.args.owner c.loop-next.self c.loop-next.want c.in-Down.next
           (still (EndsHere c.args.owner) c.args.self.now c.loop-next.self c.args.want c.loop-next.want (c.loop-next.invariant.7 h) h)
           (λ covered. (c.in-Down.ensures.covered covered).0) (λ bare may. (c.in-Down.ensures.strong bare may).0)),
+      adds-then c.args.owner c.args.want.need c.args.self.now.trail.items c.loop-next.self.trail.items _ c.loop-next.invariant.8
+          (subst (λ (n : Need). AddsAsks c.args.owner n c.loop-next.self.trail.items c.step.new.self.trail.items) c.loop-next.invariant.2 c.step.ensures.trail),
     )
 
 pub returns-in-Ends-clause-progress : goal.returns-in-Ends-clause-progress
@@ -57,3 +60,8 @@ pub returns-in-Ends-clause-answer : goal.returns-in-Ends-clause-answer
 returns-in-Ends-clause-answer c =
     subst (λ (ws : List Need). Answered ws (state_of c.step.new.self) c.args.owner c.args.want.need c.args.wait c.in-Ends.answer) c.loop-next.invariant.3
     (subst (λ (n : Need). Answered (needs_of (state_of c.loop-next.self) c.args.owner) (state_of c.step.new.self) c.args.owner n c.args.wait c.in-Ends.answer) c.loop-next.invariant.2 c.in-Ends.ensures.step)
+
+pub returns-in-Ends-clause-trail : goal.returns-in-Ends-clause-trail
+returns-in-Ends-clause-trail c =
+    adds-then c.args.owner c.args.want.need c.args.self.now.trail.items c.loop-next.self.trail.items _ c.loop-next.invariant.8
+    (subst (λ (n : Need). AddsAsks c.args.owner n c.loop-next.self.trail.items c.step.new.self.trail.items) c.loop-next.invariant.2 c.step.ensures.trail)

@@ -8,10 +8,11 @@ use Rattle.lock_needs.specs.Nodes.{is_on}
 use Rattle.lock_needs.specs.Needs.{is_covered}
 use Rattle.lock_tree.specs.LockTable.{granted_at, sought_at}
 use Rattle.lock_tree.specs.Parties.{IsKept, wanting, unasked}
+use Rattle.lock_needs.specs.declared.party.Asked.{Asked}
 use Rattle.lock_tree.specs.Order.{StandsByNeeds, asked_of_want, asked_last}
 use Rattle.lock_tree.specs.Forest.{State, open_asks, party_of}
 use Rattle.lock_tree.specs.States.{state_of}
-use Rattle.lock_tree.specs.Wanted.{MayTakeWhole, GotWhole, needs_of, Answered}
+use Rattle.lock_tree.specs.Wanted.{MayTakeWhole, GotWhole, AddsAsks, needs_of, Answered}
 use Rattle.lock_tree.proofs.Outcomes.{on_err-any}
 use Rattle.lock_tree.proofs.Trails.{asks-opening, never-asked}
 use Rattle.lock_tree.proofs.Wanting.{opens}
@@ -109,3 +110,11 @@ returns-clause-answer c =
     subst (λ (n : Need). Answered (needs_of (state_of c.args.self.now) c.args.owner) r c.args.owner n c.args.wait c.go_down.result) c.opening-want.ensures.need
     (subst (λ (ws : List Need). Answered ws r c.args.owner c.opening-want.result.need c.args.wait c.go_down.result)
     (ap (λ (p : Party). p.needs) c.in_ok-open_for.ensures.own ∙ ap (λ (p : Party). p.needs) (c.admit.ensures.same c.args.owner)) c.go_down.ensures.answer)
+
+pub returns-clause-trail : goal.returns-clause-trail
+returns-clause-trail c =
+    let s : State = state_of c.args.self.now in
+    let w : OpenWant = c.opening-want.result in
+    subst (λ (old : List Asked). AddsAsks c.args.owner c.args.need old c.go_down.new.self.trail.items)
+    (opened-trail s c.args.owner w c.cut_asks.new.trail.items c.requires.resting c.cut_asks.ensures.cut (never-asked w c.opening-want.ensures.unasked c.opening-want.ensures.top))
+    (subst (λ (n : Need). AddsAsks c.args.owner n c.cut_asks.new.trail.items c.go_down.new.self.trail.items) c.opening-want.ensures.need c.go_down.ensures.trail)

@@ -52,11 +52,14 @@ returns-clause-step c =
         want = c.args.want;
         stood = as-open (party_of s.parties c.args.owner) c.args.want c.requires.opened;
         same = refl;
-        why = inr (record {
-          sleeps = sym c.is_asleep.ensures.value ∙ c.if-not-is_asleep.false;
-          waits = c.in-Some.ensures.waits;
-          by_needs = waiter-needed s c.requires.whole c.args.owner c.in-Some.other c.in-Some.ensures.waits;
-        });
+        why = inr (
+          record {
+            sleeps = sym c.is_asleep.ensures.value ∙ c.if-not-is_asleep.false;
+            waits = c.in-Some.ensures.waits;
+            by_needs = waiter-needed s c.requires.whole c.args.owner c.in-Some.other c.in-Some.ensures.waits;
+          },
+          ap (λ v. v.items) c.close_want.ensures.trail,
+        );
         rests = c.close_want.ensures.ended;
       },
     )

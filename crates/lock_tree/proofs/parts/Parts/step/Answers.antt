@@ -12,6 +12,7 @@ use Rattle.lock_tree.proofs.Opened.{still-open, unasked-quiet, got-covered_need}
 use Rattle.vms_locks.specs.declared.answer.Enq.TheVariants.{Granted}
 use Rattle.lock_tree.proofs.OthersLeft.{same-leaves, answer-leaves}
 use Rattle.lock_tree.proofs.MeasureFalls.{left-never, never-steps, ended-falls}
+use Rattle.lock_tree.proofs.Added.{adds-one, way-on}
 use Rattle.lock_tree.proofs.parts.Parts.step.Goals as goal
 
 pub get_need-requires-clause-open : goal.get_need-requires-clause-open
@@ -68,3 +69,8 @@ returns-clause-progress c =
 
 pub returns-clause-others : goal.returns-clause-others
 returns-clause-others c = λ u d. c.ask_node.ensures.others u d ∙ c.get_whole.ensures.others u d
+
+pub returns-then-get_whole-clause-trail : goal.returns-then-get_whole-clause-trail
+returns-then-get_whole-clause-trail c =
+    adds-one c.args.owner c.args.want.need c.args.want.here c.args.self.now.trail.items _ (way-on (state_of c.args.self.now) c.args.owner c.args.want c.requires.whole c.requires.opened)
+    (c.get_whole.ensures.asked c.if-get_whole.true)
