@@ -7,8 +7,6 @@ mod equated;
 mod laws;
 mod limits;
 mod nearest;
-#[cfg(test)]
-mod tests;
 
 pub use choice::{Access, IndexPath, choose};
 pub use laws::no_row_is_lost;

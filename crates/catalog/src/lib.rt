@@ -5,8 +5,6 @@ mod deletions;
 mod directory;
 mod reading;
 mod schema;
-#[cfg(test)]
-mod tests;
 
 pub use deletions::{delete_index, delete_relation};
 pub use directory::{Directory, FieldPlace, LogicalArea, PlacedField, PlacedLine};

@@ -7,8 +7,6 @@ mod fields;
 mod indexes;
 mod relations;
 mod stop;
-#[cfg(test)]
-mod tests;
 mod writing;
 
 pub use allowed::{is_index_definition, is_relation_definition};

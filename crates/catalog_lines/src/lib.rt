@@ -5,8 +5,6 @@ mod allowed;
 mod line;
 mod parts;
 mod reading;
-#[cfg(test)]
-mod tests;
 mod writing;
 
 pub use allowed::is_allowed_line;

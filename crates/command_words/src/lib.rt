@@ -4,8 +4,6 @@
 mod bytes;
 mod options;
 mod orders;
-#[cfg(test)]
-mod tests;
 mod words;
 
 pub use words::{Command, Scripts, command_of, database_word, order_of, script_words};

@@ -4,8 +4,6 @@
 mod entry;
 mod node;
 mod order;
-#[cfg(test)]
-mod tests;
 
 pub use entry::{NodeEntry, entry_size};
 pub use node::{

@@ -4,8 +4,6 @@
 mod access;
 mod laws;
 mod reading;
-#[cfg(test)]
-mod tests;
 
 pub use access::accessed;
 pub use laws::{access_loses_no_row, rows_are_wide};

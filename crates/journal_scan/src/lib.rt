@@ -5,8 +5,6 @@ mod full;
 mod group;
 mod laws;
 mod scan;
-#[cfg(test)]
-mod tests;
 
 pub use full::{AijFull, room};
 pub use group::{Group, GroupLines, Groups};

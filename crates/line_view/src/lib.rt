@@ -11,5 +11,3 @@ pub use need::{Need, Room, Stop};
 pub use view::{Seen, View};
 pub use writes::{Write, Writes};
 
-#[cfg(test)]
-mod tests;

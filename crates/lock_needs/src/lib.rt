@@ -16,5 +16,3 @@ pub use party::{Asked, OpenWant, Party, mode_for};
 pub use rdb_types::{Level, Node};
 pub use waiting::waits_for;
 
-#[cfg(test)]
-mod tests;

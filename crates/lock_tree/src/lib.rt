@@ -32,5 +32,3 @@ pub use progress::the_measure_falls;
 pub use tree::Tree;
 pub use vms_locks::Cycle;
 
-#[cfg(test)]
-mod tests;

@@ -6,8 +6,6 @@ mod fields;
 mod indexes;
 mod keys;
 mod relations;
-#[cfg(test)]
-mod tests;
 
 pub use fields::define_field;
 pub use indexes::{check_index_exists, check_index_names, define_index, delete_index};

@@ -9,5 +9,3 @@ pub use driven::{Act, Driven, Gate, Point, Step};
 pub use order::{MOST_SESSIONS, drive_in_order};
 pub use threads::drive;
 
-#[cfg(test)]
-mod tests;

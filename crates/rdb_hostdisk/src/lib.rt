@@ -15,8 +15,6 @@ use std::fs::{File, Files};
 use std::str;
 pub use streams::{HostSink, HostSource};
 
-#[cfg(test)]
-mod tests;
 
 /// The files of one database, in the folder where the program runs. The disk tells no content, and counts its faults.
 ///

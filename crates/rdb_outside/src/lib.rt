@@ -7,8 +7,6 @@ mod laws;
 mod memory_disk;
 mod memory_streams;
 mod streams;
-#[cfg(test)]
-mod tests;
 
 pub use disk::Disk;
 pub use laws::{every_image_is_picked, every_pick_is_left, no_image_has_more_slots};

@@ -9,8 +9,6 @@ mod reference;
 mod refusal;
 mod selection;
 mod statement;
-#[cfg(test)]
-mod tests;
 mod variable;
 
 pub use action::{BoundAction, BoundPrintItem, bind_action};

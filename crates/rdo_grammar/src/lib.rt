@@ -6,5 +6,3 @@ pub mod expr;
 pub mod nested;
 pub mod range;
 pub mod selection;
-#[cfg(test)]
-mod tests;

@@ -7,8 +7,6 @@ mod law;
 mod next;
 mod place;
 mod statement;
-#[cfg(test)]
-mod tests;
 mod transaction;
 
 pub use items::Script;

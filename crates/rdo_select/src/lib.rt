@@ -14,8 +14,6 @@ mod sorting;
 mod source;
 mod sources;
 mod stop;
-#[cfg(test)]
-mod tests;
 mod tuples;
 
 pub use any::any_selected;

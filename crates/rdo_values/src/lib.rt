@@ -5,8 +5,6 @@ mod bound;
 mod condition;
 mod expression;
 mod scales;
-#[cfg(test)]
-mod tests;
 
 pub use bound::{
     BoundClause, BoundCondition, BoundConjunction, BoundExpression, BoundInner, BoundOperation,

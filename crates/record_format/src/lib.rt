@@ -3,8 +3,6 @@
 
 mod dbkey;
 mod row;
-#[cfg(test)]
-mod tests;
 mod value;
 
 pub use dbkey::{dbkey_at, put_dbkey};

@@ -7,5 +7,3 @@ mod stored;
 pub use reading::{row, rows};
 pub use stored::{Rows, StoredRelation, StoredRow};
 
-#[cfg(test)]
-mod tests;

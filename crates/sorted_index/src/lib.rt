@@ -11,8 +11,6 @@ mod removal;
 mod search;
 mod splitting;
 mod stop;
-#[cfg(test)]
-mod tests;
 mod work;
 
 pub use bounds::Bounds;

@@ -6,8 +6,6 @@ mod relations;
 mod rows;
 mod sizes;
 mod tables;
-#[cfg(test)]
-mod tests;
 mod versions;
 
 pub use laws::{

@@ -14,5 +14,3 @@ pub use answer::{Cycle, Enq};
 pub use locks::Locks;
 pub use rdb_types::{Level, Node};
 
-#[cfg(test)]
-mod tests;

@@ -1,9 +1,0 @@
-use Rattle.std.proofs.Common.{arith}
-use Rattle.rdb_drive.proofs.TalkSteps.{slept_step, stopped_step}
-use Rattle.rdb_drive.proofs.tests.Talk.second_goes_on.Goals as goal
-
-pub returns-then-self-gt0 : goal.returns-then-self-gt0
-returns-then-self-gt0 c = slept_step _ _ _ _ (omega arith) (omega arith)
-
-pub returns-in-Err : goal.returns-in-Err
-returns-in-Err c = rw c.in-Err.ensures.items (stopped_step _ _ _ _ _)

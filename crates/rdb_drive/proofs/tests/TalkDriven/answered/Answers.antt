@@ -1,9 +1,0 @@
-use Rattle.std.proofs.lemmas.Grind.{common_steps}
-use Rattle.std.proofs.Common.{arith}
-use Rattle.rdb_drive.proofs.TalkSteps.{answers_more}
-use Rattle.rdb_drive.proofs.tests.TalkDriven.answered.Goals as goal
-
-pub loop-number-preserved : goal.loop-number-preserved
-loop-number-preserved c =
-    let one = answers_more c.args.s.number c.loop-number.number-index _ c.loop-number-test.true in
-    grind (arith, common_steps, one)
