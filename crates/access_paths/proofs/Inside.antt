@@ -13,10 +13,10 @@ use Rattle.rdb_types.specs.declared.values.FieldType.{FieldType}
 use Rattle.rdo_ast.specs.declared.syntax.Comparison.{Comparison}
 use Rattle.rdo_ast.specs.declared.syntax.Comparison.TheVariants as by
 use Rattle.rdb_meaning.specs.Numbers.{Computed, is, overflow, fits_bits, fitted_value}
-use Rattle.rdb_meaning.specs.Comparison.{holds, weighed, order_of_values, passes, judged, compared, rank_of, passed_over, verdict_of}
+use Rattle.rdb_meaning.specs.Comparison.{holds, weighed, order_of_values, passes, judged, compared, passed_over, verdict_of}
+use Rattle.rdb_types.specs.Order.{value_order as rank_of}
 use Rattle.rdb_meaning.specs.Evaluation.{scaled_by}
-use Rattle.index_node.specs.Order.{value_order}
-use Rattle.index_node.specs.OrderLaws.{values_exact}
+use Rattle.rdb_types.specs.OrderLaws.{same_value as values_exact}
 use Rattle.access_paths.specs.declared.limits.End.{End}
 use Rattle.access_paths.specs.declared.limits.Limits.{Limits}
 use Rattle.access_paths.specs.declared.limits.Limited.{Limited}
@@ -103,17 +103,6 @@ inside op kind v other wide h = inside_by op kind v other.value other refl wide 
 
 -- ---- the value that a field is equated with
 
-pub rank_is : (a b : Value) → rank_of a b ≡ value_order a b
-rank_is Missing Missing = refl
-rank_is Missing (Number n) = refl
-rank_is Missing (Text t) = refl
-rank_is (Number m) Missing = refl
-rank_is (Number m) (Number n) = refl
-rank_is (Number m) (Text t) = refl
-rank_is (Text s) Missing = refl
-rank_is (Text s) (Number n) = refl
-rank_is (Text s) (Text t) = refl
-
 -- from an end on and up to it there is the end alone, where it is included
 only_end : (included : Bool) (o : Ordering) → is_from included o ≡ true → is_up_to included o ≡ true → (included ≡ true) × (o ≡ Equal)
 only_end true Less h k = absurd (cc)
@@ -128,7 +117,7 @@ equal_found kind v other None h =
     let only = only_end false (rank_of v Missing) h.low h.high in absurd (cc)
 equal_found kind v other (Some f) h =
     let only = only_end (meets by.Equal kind f other) (rank_of v f) h.low h.high in
-    ap (λ b. if b then to.To f else to.Never) only.0 ∙ ap to.To (sym (values_exact v f (sym (rank_is v f) ∙ only.1)))
+    ap (λ b. if b then to.To f else to.Never) only.0 ∙ ap to.To (sym (values_exact v f only.1))
 
 -- ---- with what an expression gives
 

@@ -9,7 +9,7 @@ use Rattle.rdb_types.specs.declared.values.FieldType.{FieldType}
 use Rattle.rdo_ast.specs.declared.syntax.Comparison.{Comparison}
 use Rattle.rdo_ast.specs.declared.syntax.Comparison.TheVariants as by
 use Rattle.rdb_meaning.specs.Numbers.{Computed, is, overflow}
-use Rattle.rdb_meaning.specs.Comparison.{rank_of}
+use Rattle.rdb_types.specs.Order.{value_order as rank_of}
 use Rattle.rdb_meaning.specs.Contents.{Row}
 use Rattle.rdo_values.specs.Tree.{Conjunction}
 use Rattle.rdo_values.specs.Filled.{value_at}

@@ -8,8 +8,7 @@ ghost use Rattle.access_paths.specs.Limits.{open_end, nothing as nothing_of, lim
 
 use crate::before::{is_before, is_bounding, kind_at, turned};
 use crate::nearest::{meets, nearest};
-use rdb_types::{Copied, FieldType, Items, NoMemory, Row, Scaled, Value};
-use rdo_arithmetic::rank;
+use rdb_types::{Copied, FieldType, Items, NoMemory, Row, Scaled, Value, value_order};
 use rdo_ast::syntax::Comparison;
 use rdo_values::{BoundExpression, BoundTest, Stop, value};
 use sorted_index::Bounds;
@@ -95,7 +94,7 @@ fn limits_of(
 fn highest(a: End, b: End) -> End
     ensures { result ≡ highest_of a b }
 {
-    match rank(&a.value, &b.value) {
+    match value_order(&a.value, &b.value) {
         Ordering::Less => b,
         Ordering::Greater => a,
         Ordering::Equal => { if a.included { b } else { a } }
@@ -105,7 +104,7 @@ fn highest(a: End, b: End) -> End
 fn lowest(a: End, b: End) -> End
     ensures { result ≡ lowest_of a b }
 {
-    match rank(&a.value, &b.value) {
+    match value_order(&a.value, &b.value) {
         Ordering::Less => a,
         Ordering::Greater => b,
         Ordering::Equal => { if a.included { b } else { a } }

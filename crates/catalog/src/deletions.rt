@@ -1,7 +1,8 @@
 // The lines that deletions erase.
 ghost use Rattle.std.specs.Prelude.{◌≡◌, IfOk};
 ghost use Rattle.std.specs.FinMap.Entries.{find};
-ghost use Rattle.rdb_meaning.specs.Contents.{name_order, relation_named};
+ghost use Rattle.rdb_meaning.specs.Contents.{relation_named};
+ghost use Rattle.rdb_types.specs.Order.{chars_order as name_order};
 ghost use Rattle.rdb_meaning.specs.Checks.{needs_some};
 ghost use Rattle.rdb_meaning.specs.Execution.{area_of};
 ghost use Rattle.rdb_checks.specs.Answers.{Finds};

@@ -4,7 +4,7 @@ ghost use Rattle.std.specs.Cmp.{IsTotalOrder, nat_cmp_total, on_total, then_tota
 ghost use Rattle.std.specs.FinMap.Entries.{find};
 ghost use Rattle.std.specs.Option.{option_copied};
 ghost use Rattle.catalog.specs.Directory.{area_order, place_order, numbered, place, noted, directory};
-ghost use Rattle.ordered_entries.specs.Order.{chars_order};
+ghost use Rattle.rdb_types.specs.Order.{chars_order};
 ghost use Rattle.catalog.specs.Schema.{has_area, has_field, is_key, is_field_key};
 
 use catalog_lines::CatalogLine;

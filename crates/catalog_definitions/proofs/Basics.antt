@@ -6,8 +6,8 @@ use Rattle.std.specs.declared.cmp.Ordering.TheVariants.{Less, Equal, Greater}
 use Rattle.std.specs.Ordering.{is_eq}
 use Rattle.std.specs.Cmp.{tied_itself}
 use Rattle.rdb_types.specs.declared.keys.Dbkey.{Dbkey}
-use Rattle.ordered_entries.specs.Order.{dbkey_order}
-use Rattle.ordered_entries.proofs.Laws.{dbkey_total}
+use Rattle.rdb_types.specs.Order.{dbkey_order}
+use Rattle.rdb_types.specs.OrderLaws.{dbkey_total}
 use Rattle.rdo_ast.specs.Tree.{Name}
 use Rattle.rdb_meaning.specs.Checks.{needs_some, needs_none}
 

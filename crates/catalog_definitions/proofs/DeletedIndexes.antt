@@ -5,10 +5,11 @@ use Rattle.std.specs.declared.cmp.Ordering.TheVariants.{Less, Equal, Greater}
 use Rattle.std.specs.Ordering.{is_eq, nat_cmp}
 use Rattle.std.specs.FinMap.Entries.{find, put, by_order}
 use Rattle.std.proofs.lemmas.Map.Text.{is_eq-slice_cmp}
-use Rattle.ordered_entries.proofs.Laws.{chars_total}
+use Rattle.rdb_types.specs.OrderLaws.{chars_total}
 use Rattle.rdo_ast.specs.Tree.{Name}
 use Rattle.rdb_meaning.specs.declared.tables.Tables.{Tables}
-use Rattle.rdb_meaning.specs.Contents.{name_order, no_tables}
+use Rattle.rdb_meaning.specs.Contents.{no_tables}
+use Rattle.rdb_types.specs.Order.{chars_order as name_order}
 use Rattle.rdb_meaning.specs.Defining.{without, without_index}
 use Rattle.line_view.specs.Knowledge.{Lines, IsInOrder}
 use Rattle.catalog_lines.specs.declared.line.CatalogLine.{CatalogLine}

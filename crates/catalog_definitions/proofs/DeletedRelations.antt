@@ -6,13 +6,13 @@ use Rattle.std.specs.Ordering.{is_eq, nat_cmp}
 use Rattle.std.specs.Cmp.{tied_itself}
 use Rattle.std.specs.FinMap.Entries.{find, put, by_order, find-put}
 use Rattle.rdb_types.specs.declared.keys.Dbkey.{Dbkey}
-use Rattle.ordered_entries.specs.Order.{dbkey_order}
-use Rattle.ordered_entries.proofs.Laws.{chars_total, dbkey_total}
+use Rattle.rdb_types.specs.Order.{dbkey_order, chars_order as name_order}
+use Rattle.rdb_types.specs.OrderLaws.{chars_total, dbkey_total}
 use Rattle.rdo_ast.specs.Tree.{Name}
 use Rattle.rdb_meaning.specs.declared.tables.Relation.{Relation as RelationOf}
 use Rattle.rdb_meaning.specs.declared.tables.Index.{Index as IndexOf}
 use Rattle.rdb_meaning.specs.declared.tables.Tables.{Tables}
-use Rattle.rdb_meaning.specs.Contents.{name_order, no_tables, relation_named}
+use Rattle.rdb_meaning.specs.Contents.{no_tables, relation_named}
 use Rattle.rdb_meaning.specs.Checks.{needs_some}
 use Rattle.rdb_meaning.specs.Defining.{without, without_relation}
 use Rattle.rdb_meaning.specs.Execution.{area_of}

@@ -6,8 +6,8 @@ use Rattle.std.proofs.lemmas.List.Elements.{All-from_recursion, recursion_from_A
 use Rattle.std.specs.Ordering.{is_eq}
 use Rattle.std.specs.Cmp.{tied_itself}
 use Rattle.rdb_types.specs.declared.keys.Dbkey.{Dbkey}
-use Rattle.ordered_entries.specs.Order.{dbkey_order}
-use Rattle.ordered_entries.proofs.Laws.{same_dbkey, dbkey_total}
+use Rattle.rdb_types.specs.Order.{dbkey_order}
+use Rattle.rdb_types.specs.OrderLaws.{same_dbkey, dbkey_total}
 use Rattle.line_view.specs.Knowledge.{Lines, line_in, lines_in, keys_of, laid}
 use Rattle.line_view.proofs.FullMap.{laid_found}
 use Rattle.line_view.specs.Writes.{laid_all}

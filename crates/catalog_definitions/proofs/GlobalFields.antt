@@ -5,9 +5,11 @@ use Rattle.std.specs.Ordering.{is_eq}
 use Rattle.std.specs.Cmp.{tied_itself}
 use Rattle.std.specs.FinMap.Entries.{find}
 use Rattle.rdb_types.specs.declared.keys.Dbkey.{Dbkey}
-use Rattle.ordered_entries.proofs.Laws.{chars_total, dbkey_total, find-put_same}
+use Rattle.ordered_entries.proofs.Laws.{find-put_same}
+use Rattle.rdb_types.specs.OrderLaws.{chars_total, dbkey_total}
 use Rattle.rdb_meaning.specs.declared.tables.Tables.{Tables}
-use Rattle.rdb_meaning.specs.Contents.{name_order, no_tables}
+use Rattle.rdb_meaning.specs.Contents.{no_tables}
+use Rattle.rdb_types.specs.Order.{chars_order as name_order}
 use Rattle.rdb_meaning.specs.Defining.{with_field}
 use Rattle.line_view.specs.Knowledge.{Knowledge, Lines}
 use Rattle.line_view.specs.declared.writes.Write.{Write}

@@ -8,9 +8,10 @@ use Rattle.std.proofs.lemmas.Option.{same_Some}
 use Rattle.rdb_types.specs.declared.values.Field.{Field}
 use Rattle.rdo_ast.specs.declared.reply.Reply.TheVariants.{Exists}
 use Rattle.rdo_ast.specs.Tree.{Name}
-use Rattle.ordered_entries.proofs.Laws.{same_chars, chars_total}
+use Rattle.rdb_types.specs.OrderLaws.{same_chars, chars_total}
 use Rattle.std.specs.Cmp.{tied_itself}
-use Rattle.rdb_meaning.specs.Contents.{name_order, same_name, place_from, place_of}
+use Rattle.rdb_meaning.specs.Contents.{same_name, place_from, place_of}
+use Rattle.rdb_types.specs.Order.{chars_order as name_order}
 use Rattle.rdb_meaning.specs.Checks.{Refusal, or_else, needs_some}
 use Rattle.rdb_meaning.specs.Defining.{is_among, index_fields_names, positions_of}
 use Rattle.catalog.specs.Schema.{differ}

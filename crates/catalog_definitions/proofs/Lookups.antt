@@ -5,11 +5,12 @@ use Rattle.std.specs.List.{AllByRecursion}
 use Rattle.std.specs.Ordering.{is_eq}
 use Rattle.std.specs.FinMap.Entries.{find, find-put}
 use Rattle.rdb_types.specs.declared.keys.Dbkey.{Dbkey}
-use Rattle.ordered_entries.proofs.Laws.{chars_total}
+use Rattle.rdb_types.specs.OrderLaws.{chars_total}
 use Rattle.rdb_meaning.specs.declared.tables.Relation.{Relation as RelationOf}
 use Rattle.rdb_meaning.specs.declared.tables.Index.{Index as IndexOf}
 use Rattle.rdb_meaning.specs.declared.tables.Tables.{Tables}
-use Rattle.rdb_meaning.specs.Contents.{name_order, no_tables, relation_named, is_used}
+use Rattle.rdb_meaning.specs.Contents.{no_tables, relation_named, is_used}
+use Rattle.rdb_types.specs.Order.{chars_order as name_order}
 use Rattle.rdb_meaning.specs.Execution.{area_of}
 use Rattle.catalog_lines.specs.declared.line.RelationLine.{RelationLine}
 use Rattle.catalog_lines.specs.declared.line.IndexLine.{IndexLine}

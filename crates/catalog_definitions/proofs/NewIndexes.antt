@@ -8,13 +8,15 @@ use Rattle.rdb_types.specs.declared.keys.Dbkey.{Dbkey}
 use Rattle.rdo_ast.specs.declared.syntax.IndexDefinition.{IndexDefinition}
 use Rattle.rdb_meaning.specs.declared.tables.Relation.{Relation as RelationOf}
 use Rattle.rdb_meaning.specs.declared.tables.Tables.{Tables}
-use Rattle.rdb_meaning.specs.Contents.{name_order, no_tables, relation_named, fields_of, is_used, new_index_area}
+use Rattle.rdb_meaning.specs.Contents.{no_tables, relation_named, fields_of, is_used, new_index_area}
+use Rattle.rdb_types.specs.Order.{chars_order as name_order}
 use Rattle.rdb_meaning.specs.Checks.{needs_some, needs_none}
 use Rattle.rdb_meaning.specs.Defining.{index_names, index_fields_names, positions_of, with_index}
 use Rattle.rdb_meaning.specs.Execution.{area_of}
 use Rattle.rdb_meaning.specs.declared.tables.Index.{Index as IndexOf}
 use Rattle.rdb_definitions.specs.NewIndex.{new_index}
-use Rattle.ordered_entries.proofs.Laws.{chars_total, find-put_same}
+use Rattle.ordered_entries.proofs.Laws.{find-put_same}
+use Rattle.rdb_types.specs.OrderLaws.{chars_total}
 use Rattle.std.proofs.lemmas.Option.{same_Some}
 use Rattle.line_view.specs.Knowledge.{Knowledge, Lines}
 use Rattle.line_view.specs.declared.writes.Write.{Write}

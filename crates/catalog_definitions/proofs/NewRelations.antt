@@ -9,7 +9,8 @@ use Rattle.std.specs.FinMap.Entries.{find, find-put}
 use Rattle.rdb_types.specs.declared.keys.Dbkey.{Dbkey}
 use Rattle.rdb_types.specs.declared.values.Field.{Field}
 use Rattle.rdb_types.specs.declared.values.FieldType.{FieldType}
-use Rattle.ordered_entries.proofs.Laws.{chars_total, find-put_same}
+use Rattle.ordered_entries.proofs.Laws.{find-put_same}
+use Rattle.rdb_types.specs.OrderLaws.{chars_total}
 use Rattle.std.proofs.lemmas.Option.{same_Some}
 use Rattle.rdo_ast.specs.Tree.{Name}
 use Rattle.rdo_ast.specs.declared.syntax.FieldDefinition.{FieldDefinition}
@@ -18,7 +19,8 @@ use Rattle.rdo_ast.specs.declared.syntax.DefinedType.TheVariants.{Own, BasedOn}
 use Rattle.rdo_ast.specs.declared.reply.Reply.TheVariants.{Exists}
 use Rattle.rdb_meaning.specs.declared.tables.Relation.{Relation as RelationOf}
 use Rattle.rdb_meaning.specs.declared.tables.Tables.{Tables}
-use Rattle.rdb_meaning.specs.Contents.{name_order, same_name, no_tables, relation_named, is_used, longest_value, class_of, new_relation_area}
+use Rattle.rdb_meaning.specs.Contents.{same_name, no_tables, relation_named, is_used, longest_value, class_of, new_relation_area}
+use Rattle.rdb_types.specs.Order.{chars_order as name_order}
 use Rattle.rdb_meaning.specs.Checks.{or_else, needs_some, needs_none}
 use Rattle.rdb_meaning.specs.Defining.{is_among, type_names, fields_names, relation_names, copied_type, type_of, new_field, with_relation}
 use Rattle.line_view.specs.Knowledge.{Knowledge, Lines}

@@ -9,10 +9,10 @@ use Rattle.std.specs.FinMap.Entries.{find, is_sorted, below_all, is_sorted-where
 use Rattle.std.proofs.lemmas.Bool.{and_parts}
 use Rattle.std.proofs.lemmas.Cmp.{ranked}
 use Rattle.rdb_types.specs.declared.keys.Dbkey.{Dbkey}
-use Rattle.ordered_entries.specs.Order.{dbkey_order}
-use Rattle.ordered_entries.proofs.Laws.{same_chars, dbkey_total}
+use Rattle.rdb_types.specs.Order.{dbkey_order, chars_order as name_order}
+use Rattle.rdb_types.specs.OrderLaws.{same_chars, dbkey_total}
 use Rattle.rdb_meaning.specs.declared.tables.Tables.{Tables}
-use Rattle.rdb_meaning.specs.Contents.{name_order, relation_named}
+use Rattle.rdb_meaning.specs.Contents.{relation_named}
 use Rattle.rdb_meaning.specs.Execution.{area_of}
 use Rattle.line_view.specs.Knowledge.{Lines, IsInOrder, lines_in, keys_of}
 use Rattle.catalog_lines.specs.declared.line.CatalogLine.{CatalogLine}

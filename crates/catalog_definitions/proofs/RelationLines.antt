@@ -5,10 +5,12 @@ use Rattle.std.specs.List.{AllByRecursion, list_all}
 use Rattle.std.specs.FinMap.Entries.{find, put}
 use Rattle.rdb_types.specs.declared.keys.Dbkey.{Dbkey}
 use Rattle.rdb_types.specs.declared.values.Field.{Field}
-use Rattle.ordered_entries.proofs.Laws.{chars_total, find-put_same}
+use Rattle.ordered_entries.proofs.Laws.{find-put_same}
+use Rattle.rdb_types.specs.OrderLaws.{chars_total}
 use Rattle.rdb_meaning.specs.declared.tables.Relation.{Relation as RelationOf}
 use Rattle.rdb_meaning.specs.declared.tables.Tables.{Tables}
-use Rattle.rdb_meaning.specs.Contents.{name_order, fields_of}
+use Rattle.rdb_meaning.specs.Contents.{fields_of}
+use Rattle.rdb_types.specs.Order.{chars_order as name_order}
 use Rattle.rdb_meaning.specs.Execution.{area_of}
 use Rattle.catalog_lines.specs.declared.line.RelationLine.{RelationLine}
 use Rattle.catalog_lines.specs.declared.line.CatalogLine.{CatalogLine}

@@ -4,9 +4,10 @@ use Rattle.std.specs.Prelude.{is_some, ◌||◌}
 use Rattle.std.specs.List.{AllByRecursion, list_all}
 use Rattle.std.specs.FinMap.Entries.{find}
 use Rattle.rdb_types.specs.declared.keys.Dbkey.{Dbkey}
-use Rattle.ordered_entries.proofs.Laws.{chars_total}
+use Rattle.rdb_types.specs.OrderLaws.{chars_total}
 use Rattle.rdb_meaning.specs.declared.tables.Tables.{Tables}
-use Rattle.rdb_meaning.specs.Contents.{name_order, fields_of}
+use Rattle.rdb_meaning.specs.Contents.{fields_of}
+use Rattle.rdb_types.specs.Order.{chars_order as name_order}
 use Rattle.rdb_meaning.specs.Execution.{area_of}
 use Rattle.catalog_lines.specs.declared.line.CatalogLine.{CatalogLine}
 use Rattle.catalog_lines.specs.declared.line.CatalogLine.TheVariants.{Relation, Global, Field as FieldOf, Index}

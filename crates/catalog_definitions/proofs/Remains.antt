@@ -3,7 +3,7 @@ use Rattle.std.proofs.Common.{◌≡◌, Bool, true, false, cond, not, List, [],
 use Rattle.std.specs.List.{AllByRecursion}
 use Rattle.std.specs.Ordering.{is_eq}
 use Rattle.std.proofs.lemmas.List.Elements.{recursion_from_All}
-use Rattle.ordered_entries.specs.Order.{dbkey_order}
+use Rattle.rdb_types.specs.Order.{dbkey_order}
 use Rattle.rdb_meaning.specs.declared.tables.Tables.{Tables}
 use Rattle.rdb_meaning.specs.Contents.{no_tables}
 use Rattle.line_view.specs.Knowledge.{Lines, IsInOrder}

@@ -1,7 +1,8 @@
 ghost use Rattle.std.specs.Prelude.{◌≡◌, Some, None, IsSome, IfOk, IfErr};
 ghost use Rattle.std.specs.FinMap.Entries.{find};
 ghost use Rattle.rdb_types.specs.declared.keys.Dbkey.{Dbkey};
-ghost use Rattle.rdb_meaning.specs.Contents.{name_order, new_index_area};
+ghost use Rattle.rdb_meaning.specs.Contents.{new_index_area};
+ghost use Rattle.rdb_types.specs.Order.{chars_order as name_order};
 ghost use Rattle.rdb_meaning.specs.Checks.{or_else};
 ghost use Rattle.rdb_meaning.specs.Defining.{index_names, index_refusal, with_index};
 ghost use Rattle.rdb_definitions.specs.Answers.{Defines};

@@ -9,8 +9,8 @@ use Rattle.rdb_meaning.specs.Comparison.{Verdict, chosen, passed_over, undecided
 use Rattle.rdb_meaning.specs.Contents.{Row, key_of}
 use Rattle.rdo_values.specs.Tree.{Conjunction}
 use Rattle.rdo_values.specs.Filled.{parts_at}
-use Rattle.index_node.specs.Order.{key_order}
-use Rattle.index_node.specs.OrderLaws.{keys_total}
+use Rattle.rdb_types.specs.Order.{row_order as key_order}
+use Rattle.rdb_types.specs.OrderLaws.{row_total as keys_total}
 use Rattle.line_view.specs.Knowledge.{Lines}
 use Rattle.sorted_index.specs.Keys.{is_within, between}
 use Rattle.sorted_index.specs.Nodes.{AnyByRecursion}

@@ -7,8 +7,8 @@ use Rattle.std.specs.Cmp.{tied_itself}
 use Rattle.std.specs.List.{AllByRecursion, filter, list_any}
 use Rattle.std.specs.List.Sorted.{IsStrictlySortedBy}
 use Rattle.rdb_types.specs.declared.keys.Dbkey.{Dbkey}
-use Rattle.ordered_entries.specs.Order.{dbkey_order}
-use Rattle.ordered_entries.proofs.Laws.{dbkey_total}
+use Rattle.rdb_types.specs.Order.{dbkey_order}
+use Rattle.rdb_types.specs.OrderLaws.{dbkey_total}
 use Rattle.rdb_meaning.specs.declared.tables.Relation.{Relation}
 use Rattle.rdb_meaning.specs.Contents.{Row}
 use Rattle.line_view.specs.Knowledge.{Lines, IsInOrder}

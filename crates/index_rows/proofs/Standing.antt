@@ -10,8 +10,8 @@ use Rattle.std.proofs.lemmas.Bool.{and_parts, eq-eqb}
 use Rattle.std.proofs.lemmas.Option.{none-some, same_Some}
 use Rattle.rdb_types.specs.declared.values.Value.{Value}
 use Rattle.rdb_types.specs.declared.keys.Dbkey.{Dbkey}
-use Rattle.ordered_entries.specs.Order.{dbkey_order}
-use Rattle.ordered_entries.proofs.Laws.{same_dbkey}
+use Rattle.rdb_types.specs.Order.{dbkey_order}
+use Rattle.rdb_types.specs.OrderLaws.{same_dbkey}
 use Rattle.rdb_meaning.specs.Contents.{Row}
 use Rattle.record_format.proofs.Rows.{one_row}
 use Rattle.line_view.specs.Knowledge.{Knowledge, Lines, IsInOrder, Agrees, line_in, lines_in, keys_of}

@@ -3,7 +3,7 @@ use Rattle.std.specs.Prelude.{◌≡◌, ℕ, ◌<◌, List, [], ◌∷◌, leng
 use Rattle.std.specs.Ordering.{is_eq}
 use Rattle.std.specs.List.{AllByRecursion}
 use Rattle.rdb_types.specs.declared.keys.Dbkey.{Dbkey}
-use Rattle.ordered_entries.specs.Order.{dbkey_order}
+use Rattle.rdb_types.specs.Order.{dbkey_order}
 use Rattle.rdb_meaning.specs.Contents.{Row, key_of}
 use Rattle.line_view.specs.Knowledge.{Lines}
 use Rattle.index_node.specs.declared.entry.NodeEntry.{NodeEntry}

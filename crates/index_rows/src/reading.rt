@@ -1,7 +1,7 @@
 // Rows read by their Dbkeys.
 ghost use Rattle.std.specs.Prelude.{◌≡◌, IfOk};
 ghost use Rattle.std.specs.BTreeSet.{IsFromIterResult};
-ghost use Rattle.ordered_entries.specs.Order.{dbkey_order};
+ghost use Rattle.rdb_types.specs.Order.{dbkey_order};
 ghost use Rattle.index_rows.specs.Reading.{ReadsRows, ReadsIndexed, stop_of_index};
 
 use line_view::{Stop, View};

@@ -3,7 +3,7 @@ use Rattle.std.specs.Prelude.{◌≡◌, ℕ, ◌+◌, ◌&&◌, Bool, true, Lis
 use Rattle.std.specs.List.{flat_map}
 use Rattle.std.specs.Ordering.{is_lt}
 use Rattle.rdb_types.specs.declared.keys.Dbkey.{Dbkey}
-use Rattle.ordered_entries.specs.Order.{dbkey_order}
+use Rattle.rdb_types.specs.Order.{dbkey_order}
 use Rattle.aij_journal.specs.declared.part.GroupLine.{GroupLine}
 use Rattle.aij_journal.specs.declared.part.AijPart.{AijPart}
 use Rattle.aij_journal.specs.Part.{IsPart}

@@ -16,8 +16,9 @@ use Rattle.std.proofs.lemmas.List.{append-nil, append_assoc}
 use Rattle.std.proofs.lemmas.Option.{none-some, same_Some}
 use Rattle.std.proofs.lemmas.Cmp.{ranked}
 use Rattle.rdb_types.specs.declared.keys.Dbkey.{Dbkey}
-use Rattle.ordered_entries.specs.Order.{dbkey_order}
-use Rattle.ordered_entries.proofs.Laws.{dbkey_total, same_dbkey, find-put_same}
+use Rattle.rdb_types.specs.Order.{dbkey_order}
+use Rattle.ordered_entries.proofs.Laws.{find-put_same}
+use Rattle.rdb_types.specs.OrderLaws.{dbkey_total, same_dbkey}
 use Rattle.line_view.specs.declared.need.Room.{Room}
 use Rattle.line_view.specs.Knowledge.{Lines, Agrees, line_in, lines_in, keys_of, laid}
 use Rattle.line_view.specs.Held.{Held, AreRooms, knows, usable, unless_present, with_line, with_lines, with_keys, with_area, with_room, with_write, written, with_written, areas_written, ordered, ordered_from, room_order}

@@ -14,8 +14,8 @@ use Rattle.std.proofs.Math.Dec.{eqb_refl}
 use Rattle.std.proofs.lemmas.Bool.{and_parts}
 use Rattle.std.proofs.lemmas.Option.{none-some}
 use Rattle.rdb_types.specs.declared.keys.Dbkey.{Dbkey}
-use Rattle.ordered_entries.specs.Order.{dbkey_order}
-use Rattle.ordered_entries.proofs.Laws.{dbkey_total, same_dbkey}
+use Rattle.rdb_types.specs.Order.{dbkey_order}
+use Rattle.rdb_types.specs.OrderLaws.{dbkey_total, same_dbkey}
 use Rattle.line_view.specs.Knowledge.{Lines, line_in, lines_in, keys_of, laid}
 use Rattle.line_view.specs.Held.{written, ordered_from, ordered}
 

@@ -2,12 +2,8 @@
 use Rattle.std.proofs.Common.{◌≡◌, ℕ, true, cond, not, List, [], ◌∷◌, Some, None, refl, sym, ap, ◌∙◌}
 use Rattle.std.specs.declared.cmp.Ordering.{Ordering}
 use Rattle.std.specs.declared.cmp.Ordering.TheVariants.{Less, Equal, Greater}
-use Rattle.std.specs.Ordering.{is_eq, nat_cmp, ordering_then}
-use Rattle.std.specs.Cmp.{IsTotalOrder, tied_itself, nat_cmp_total, on_total, then_total}
-use Rattle.std.specs.Cmp.Lexicographic.{lists_total}
-use Rattle.std.proofs.lemmas.Cmp.{ranked}
-use Rattle.rdb_types.specs.declared.keys.Dbkey.{Dbkey}
-use Rattle.ordered_entries.specs.Order.{dbkey_order, chars_order}
+use Rattle.std.specs.Ordering.{is_eq}
+use Rattle.std.specs.Cmp.{IsTotalOrder, tied_itself}
 use Rattle.std.specs.List.{filter}
 use Rattle.std.specs.FinMap.Entries.{find, put, is_sorted, by_order, find-put}
 use Rattle.std.proofs.lemmas.Bool.{and_parts}
@@ -52,34 +48,3 @@ module _ {K V : Type 0} (R : K → K → Ordering) (o : IsTotalOrder R) where
         | Equal ↦ λ p h. ap (λ w. (e.0, w) ∷ es) (sym (same_Some _ _ h))
         | Greater ↦ λ p h. ap (λ l. e ∷ l) (put_found k v es (and_parts _ _ sorted).1 h)
       ] refl found
-
-pub dbkey_total : IsTotalOrder dbkey_order
-dbkey_total = then_total (on_total (λ k. k.area) nat_cmp_total) (then_total (on_total (λ k. k.page) nat_cmp_total) (on_total (λ k. k.line) nat_cmp_total))
-
-pub chars_total : IsTotalOrder chars_order
-chars_total = lists_total nat_cmp_total
-
-both_equal : (r s : Ordering) → ordering_then r s ≡ Equal → (r ≡ Equal) × (s ≡ Equal)
-both_equal Less s e = absurd (cc)
-both_equal Equal s e = (refl, e)
-both_equal Greater s e = absurd (cc)
-
--- keys that tie are equal
-pub same_dbkey : (a b : Dbkey) → dbkey_order a b ≡ Equal → a ≡ b
-same_dbkey a b e =
-    let areas = both_equal (nat_cmp a.area b.area) _ e in
-    let pages = both_equal (nat_cmp a.page b.page) _ areas.1 in
-    let area = ranked _ _ _ (sym areas.0) in
-    let page = ranked _ _ _ (sym pages.0) in
-    let line = ranked _ _ _ (sym pages.1) in
-    λ i. record { area = area i; page = page i; line = line i }
-
-pub same_chars : (a b : List ℕ) → chars_order a b ≡ Equal → a ≡ b
-same_chars [] [] e = refl
-same_chars [] (y ∷ ys) e = absurd (cc)
-same_chars (x ∷ xs) [] e = absurd (cc)
-same_chars (x ∷ xs) (y ∷ ys) e =
-    let (first, rest) = both_equal (nat_cmp x y) _ e in
-    let head = ranked x y _ (sym first) in
-    let tail = same_chars xs ys rest in
-    λ i. head i ∷ tail i

@@ -1,8 +1,8 @@
 ghost use Rattle.std.specs.Prelude.{◌≡◌};
 ghost use Rattle.std.specs.declared.cmp.Ordering.{Ordering};
-ghost use Rattle.std.specs.Cmp.{IsTotalOrder, nat_cmp_total, on_total, then_total};
-ghost use Rattle.std.specs.Cmp.Lexicographic.{lists_total};
-ghost use Rattle.ordered_entries.specs.Order.{dbkey_order, chars_order};
+ghost use Rattle.std.specs.Cmp.{IsTotalOrder};
+ghost use Rattle.rdb_types.specs.Order.{dbkey_order, chars_order};
+ghost use Rattle.rdb_types.specs.OrderLaws.{dbkey_total, chars_total};
 
 use rdb_types::{Chars, Dbkey};
 use std::cmp::Ordering;
@@ -22,7 +22,7 @@ pub trait Key: Drop {
 impl Key for Dbkey {
     ghost order = { dbkey_order };
 
-    ghost total = { then_total (on_total (λ k. k.area) nat_cmp_total) (then_total (on_total (λ k. k.page) nat_cmp_total) (on_total (λ k. k.line) nat_cmp_total)) };
+    ghost total = { dbkey_total };
 
     fn order(&self, other: &Dbkey) -> Ordering {
         self.cmp(other)
@@ -33,7 +33,7 @@ impl Key for Dbkey {
 impl Key for Chars {
     ghost order = { chars_order };
 
-    ghost total = { lists_total nat_cmp_total };
+    ghost total = { chars_total };
 
     fn order(&self, other: &Chars) -> Ordering {
         self.as_slice().cmp(&other.as_slice())

@@ -9,9 +9,9 @@ use Rattle.std.specs.FinMap.Entries.{below_all, is_sorted}
 use Rattle.std.proofs.lemmas.Bool.{and_parts}
 use Rattle.std.proofs.lemmas.List.{at_drop_more, at_drop_all}
 use Rattle.std.proofs.lemmas.Map.Text.{is_eq-slice_cmp}
-use Rattle.ordered_entries.proofs.Laws.{chars_total}
+use Rattle.rdb_types.specs.OrderLaws.{chars_total}
 use Rattle.rdo_ast.specs.Tree.{Name}
-use Rattle.rdb_meaning.specs.Contents.{name_order}
+use Rattle.rdb_types.specs.Order.{chars_order as name_order}
 use Rattle.rdb_meaning.specs.Defining.{without}
 
 -- names that tie are those of the same bytes

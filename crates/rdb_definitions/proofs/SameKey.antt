@@ -5,7 +5,7 @@ use Rattle.std.specs.declared.cmp.Ordering.TheVariants.{Less, Equal, Greater}
 use Rattle.std.specs.Ordering.{is_eq, ordering_then}
 use Rattle.std.proofs.lemmas.List.{at_drop_more}
 use Rattle.rdb_types.specs.declared.values.Value.TheVariants.{Missing}
-use Rattle.rdb_meaning.specs.Comparison.{rank_of, row_rank}
+use Rattle.rdb_types.specs.Order.{value_order as rank_of, row_order as row_rank}
 use Rattle.rdb_meaning.specs.Contents.{Row, key_of}
 
 is_eq_then : (first rest : Ordering) → is_eq (ordering_then first rest) ≡ (is_eq first && is_eq rest)

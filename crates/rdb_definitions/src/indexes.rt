@@ -2,7 +2,8 @@ ghost use Rattle.std.specs.Prelude.{◌≡◌, ◌==◌, [], not, map, filter, O
 ghost use Rattle.std.specs.List.{list_any};
 ghost use Rattle.std.specs.Ordering.{is_eq};
 ghost use Rattle.std.specs.FinMap.Entries.{find};
-ghost use Rattle.rdb_meaning.specs.Contents.{name_order, relation_named, fields_of, new_index_area};
+ghost use Rattle.rdb_meaning.specs.Contents.{relation_named, fields_of, new_index_area};
+ghost use Rattle.rdb_types.specs.Order.{chars_order as name_order};
 ghost use Rattle.rdb_meaning.specs.Checks.{needs_some};
 ghost use Rattle.rdb_meaning.specs.Defining.{is_among, index_fields_names, index_names, index_refusal, with_index, without_index};
 ghost use Rattle.rdb_checks.specs.Answers.{Finds};

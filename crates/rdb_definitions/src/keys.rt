@@ -1,6 +1,6 @@
 ghost use Rattle.std.specs.Prelude.{◌≡◌, nat_lt, slice_index_or, IfOk};
 ghost use Rattle.std.specs.Ordering.{is_eq};
-ghost use Rattle.rdb_meaning.specs.Comparison.{rank_of, row_rank};
+ghost use Rattle.rdb_types.specs.Order.{value_order as rank_of, row_order as row_rank};
 ghost use Rattle.rdb_meaning.specs.Contents.{key_of, has_key};
 ghost use Rattle.rdb_meaning.specs.Defining.{positions_of, longest_at, longest_key, keys_repeat};
 

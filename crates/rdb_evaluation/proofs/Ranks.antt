@@ -11,18 +11,18 @@ use Rattle.rdb_types.specs.declared.values.Value.{Value}
 use Rattle.rdb_types.specs.declared.values.Value.TheVariants.{Missing, Number, Text}
 use Rattle.rdo_ast.specs.declared.syntax.SortKey.{SortKey}
 use Rattle.rdo_ast.specs.declared.syntax.Reference.{Reference}
-use Rattle.rdb_meaning.specs.Comparison.{rank_of}
+use Rattle.rdb_types.specs.Order.{value_order}
 use Rattle.rdb_meaning.specs.Evaluation.{number_of}
 use Rattle.rdb_meaning.specs.Selecting.{turned, sort_order}
 use Rattle.rdb_evaluation.specs.declared.sorting.Ranked.{Ranked}
-use Rattle.rdb_evaluation.specs.RowLaws.{rank_total}
+use Rattle.rdb_types.specs.OrderLaws.{value_total}
 use Rattle.rdb_evaluation.specs.Sorting.{first_value, further_values, directed_order, ranked_order, key_values, directions}
 
 -- ---- lists of values
 
-pub turned_total : (d : Bool) → IsTotalOrder (λ a b. turned d (rank_of a b))
-turned_total true = subst IsTotalOrder (λ i a b. rank_total.antisymm b a i) (back_total rank_total)
-turned_total false = rank_total
+pub turned_total : (d : Bool) → IsTotalOrder (λ a b. turned d (value_order a b))
+turned_total true = subst IsTotalOrder (λ i a b. value_total.antisymm b a i) (back_total value_total)
+turned_total false = value_total
 
 pub equal_total : {A : Type 0} → IsTotalOrder (λ (a b : A). Equal)
 equal_total = record { antisymm = λ a b. refl; trans = λ a b c p q. p; congr = λ a b c p. refl }
@@ -38,7 +38,7 @@ ranked_total ds = on_total (λ (r : Ranked). r.values) (directed_total ds)
 
 pub directed_is : (keys : List SortKey) (a b : Reference → Value) → directed_order (directions keys) (key_values keys a) (key_values keys b) ≡ sort_order keys a b
 directed_is [] a b = refl
-directed_is (k ∷ keys) a b = ap (ordering_then (turned k.descending (rank_of (a k.reference) (b k.reference)))) (directed_is keys a b)
+directed_is (k ∷ keys) a b = ap (ordering_then (turned k.descending (value_order (a k.reference) (b k.reference)))) (directed_is keys a b)
 
 -- ---- one place further
 
@@ -54,11 +54,11 @@ further_is [] (suc i) = refl
 further_is (v ∷ vs) zero = refl
 further_is (v ∷ vs) (suc i) = further_is vs i
 
-directed_step : (ds : List Bool) (a b : List Value) (i : ℕ) (e : Bool) → i < length ds → directed_order (drop i ds) (drop i a) (drop i b) ≡ ordering_then (turned (get_or ds i e) (rank_of (get_or a i Missing) (get_or b i Missing))) (directed_order (drop (i + 1) ds) (drop (i + 1) a) (drop (i + 1) b))
+directed_step : (ds : List Bool) (a b : List Value) (i : ℕ) (e : Bool) → i < length ds → directed_order (drop i ds) (drop i a) (drop i b) ≡ ordering_then (turned (get_or ds i e) (value_order (get_or a i Missing) (get_or b i Missing))) (directed_order (drop (i + 1) ds) (drop (i + 1) a) (drop (i + 1) b))
 directed_step ds a b i e h =
     at_drop_more (λ es. directed_order es (drop i a) (drop i b)) ds i e h
-    ∙ (λ j. ordering_then (turned (get_or ds i e) (rank_of (first_is a i j) (first_is b i j))) (directed_order (drop (i + 1) ds) (further_is a i j) (further_is b i j)))
-    ∙ ap (λ n. ordering_then (turned (get_or ds i e) (rank_of (get_or a i Missing) (get_or b i Missing))) (directed_order (drop (i + 1) ds) (drop n a) (drop n b))) (sym (add-one i))
+    ∙ (λ j. ordering_then (turned (get_or ds i e) (value_order (first_is a i j) (first_is b i j))) (directed_order (drop (i + 1) ds) (further_is a i j) (further_is b i j)))
+    ∙ ap (λ n. ordering_then (turned (get_or ds i e) (value_order (get_or a i Missing) (get_or b i Missing))) (directed_order (drop (i + 1) ds) (drop n a) (drop n b))) (sym (add-one i))
 
 pub then_ne : (o p : Ordering) → is_ne o ≡ true → ordering_then o p ≡ o
 then_ne Less p e = refl
@@ -71,12 +71,12 @@ then_not_ne Equal p e = refl
 then_not_ne Greater p e = cc
 
 -- the order at a place, and that of the places behind it
-one_place : (ds : List Bool) (a b : List Value) (i : ℕ) (e : Bool) (r o : Ordering) → i < length ds → directed_order ds a b ≡ directed_order (drop i ds) (drop i a) (drop i b) → r ≡ rank_of (get_or a i Missing) (get_or b i Missing) → o ≡ turned (get_or ds i e) r → directed_order ds a b ≡ ordering_then o (directed_order (drop (i + 1) ds) (drop (i + 1) a) (drop (i + 1) b))
+one_place : (ds : List Bool) (a b : List Value) (i : ℕ) (e : Bool) (r o : Ordering) → i < length ds → directed_order ds a b ≡ directed_order (drop i ds) (drop i a) (drop i b) → r ≡ value_order (get_or a i Missing) (get_or b i Missing) → o ≡ turned (get_or ds i e) r → directed_order ds a b ≡ ordering_then o (directed_order (drop (i + 1) ds) (drop (i + 1) a) (drop (i + 1) b))
 one_place ds a b i e r o h inv f g =
     inv ∙ directed_step ds a b i e h ∙ ap (λ p. ordering_then p (directed_order (drop (i + 1) ds) (drop (i + 1) a) (drop (i + 1) b))) (ap (turned (get_or ds i e)) (sym f) ∙ sym g)
 
-pub directed_decides : (ds : List Bool) (a b : List Value) (i : ℕ) (e : Bool) (r o : Ordering) → i < length ds → directed_order ds a b ≡ directed_order (drop i ds) (drop i a) (drop i b) → r ≡ rank_of (get_or a i Missing) (get_or b i Missing) → o ≡ turned (get_or ds i e) r → is_ne o ≡ true → o ≡ directed_order ds a b
+pub directed_decides : (ds : List Bool) (a b : List Value) (i : ℕ) (e : Bool) (r o : Ordering) → i < length ds → directed_order ds a b ≡ directed_order (drop i ds) (drop i a) (drop i b) → r ≡ value_order (get_or a i Missing) (get_or b i Missing) → o ≡ turned (get_or ds i e) r → is_ne o ≡ true → o ≡ directed_order ds a b
 directed_decides ds a b i e r o h inv f g n = sym (one_place ds a b i e r o h inv f g ∙ then_ne o (directed_order (drop (i + 1) ds) (drop (i + 1) a) (drop (i + 1) b)) n)
 
-pub directed_more : (ds : List Bool) (a b : List Value) (i : ℕ) (e : Bool) (r o : Ordering) → i < length ds → directed_order ds a b ≡ directed_order (drop i ds) (drop i a) (drop i b) → r ≡ rank_of (get_or a i Missing) (get_or b i Missing) → o ≡ turned (get_or ds i e) r → is_ne o ≡ false → directed_order ds a b ≡ directed_order (drop (i + 1) ds) (drop (i + 1) a) (drop (i + 1) b)
+pub directed_more : (ds : List Bool) (a b : List Value) (i : ℕ) (e : Bool) (r o : Ordering) → i < length ds → directed_order ds a b ≡ directed_order (drop i ds) (drop i a) (drop i b) → r ≡ value_order (get_or a i Missing) (get_or b i Missing) → o ≡ turned (get_or ds i e) r → is_ne o ≡ false → directed_order ds a b ≡ directed_order (drop (i + 1) ds) (drop (i + 1) a) (drop (i + 1) b)
 directed_more ds a b i e r o h inv f g n = one_place ds a b i e r o h inv f g ∙ then_not_ne o (directed_order (drop (i + 1) ds) (drop (i + 1) a) (drop (i + 1) b)) n

@@ -14,11 +14,11 @@ use Rattle.rdo_ast.specs.declared.syntax.Clause.{Clause}
 use Rattle.rdo_ast.specs.declared.syntax.Range.{Range}
 use Rattle.rdo_ast.specs.declared.syntax.Reference.{Reference}
 use Rattle.rdb_meaning.specs.declared.tables.Tables.{Tables}
-use Rattle.rdb_meaning.specs.Comparison.{rank_of, row_rank}
+use Rattle.rdb_types.specs.Order.{value_order, row_order}
 use Rattle.rdb_meaning.specs.Evaluation.{Scope, Tuple}
 use Rattle.rdb_meaning.specs.Selecting.{without_repeats, agree, reads_of, reduced_fields}
 use Rattle.rdb_evaluation.specs.Crossing.{kept_if}
-use Rattle.rdb_evaluation.specs.RowLaws.{row_total}
+use Rattle.rdb_types.specs.OrderLaws.{row_total}
 use Rattle.rdb_evaluation.specs.Sorting.{reduced_row, read_alike}
 
 -- ---- two filters in one
@@ -35,7 +35,7 @@ module _ {X : Type 0} (p q r : X → Bool) (both : (y : X) → r y ≡ cond (q y
 -- ---- rows that are equal in the order
 
 abbrev alike : List Value → List Value → Bool
-alike a b = is_eq (row_rank a b)
+alike a b = is_eq (row_order a b)
 
 laws : IsEquivalence alike
 laws = eq_by_cmp_equiv row_total
@@ -131,9 +131,9 @@ eq_then Less p = refl
 eq_then Equal p = refl
 eq_then Greater p = refl
 
-agrees_is : (refs : List Reference) (a b : Reference → Value) → is_eq (row_rank (map a refs) (map b refs)) ≡ agree refs a b
+agrees_is : (refs : List Reference) (a b : Reference → Value) → is_eq (row_order (map a refs) (map b refs)) ≡ agree refs a b
 agrees_is [] a b = refl
-agrees_is (r ∷ refs) a b = eq_then (rank_of (a r) (b r)) (row_rank (map a refs) (map b refs)) ∙ ap (λ t. is_eq (rank_of (a r) (b r)) && t) (agrees_is refs a b)
+agrees_is (r ∷ refs) a b = eq_then (value_order (a r) (b r)) (row_order (map a refs) (map b refs)) ∙ ap (λ t. is_eq (value_order (a r) (b r)) && t) (agrees_is refs a b)
 
 pub read_alike_is : (cs : List Clause) (ss : List Range) (t : Tables) (scope : Scope) (ks : List Tuple) → without_repeats (read_alike cs ss t scope) ks ≡ without_repeats (λ k l. agree (reduced_fields cs) (reads_of ss t scope k) (reads_of ss t scope l)) ks
 read_alike_is cs ss t scope ks = (λ i. without_repeats (λ k l. agrees_is (reduced_fields cs) (reads_of ss t scope k) (reads_of ss t scope l) i) ks)

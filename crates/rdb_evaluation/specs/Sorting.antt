@@ -12,7 +12,7 @@ use Rattle.rdo_ast.specs.declared.syntax.SortKey.{SortKey}
 use Rattle.rdo_ast.specs.declared.syntax.Clause.{Clause}
 use Rattle.rdb_meaning.specs.declared.tables.Tables.{Tables}
 use Rattle.rdb_evaluation.specs.declared.sorting.Ranked.{Ranked}
-use Rattle.rdb_meaning.specs.Comparison.{rank_of, row_rank}
+use Rattle.rdb_types.specs.Order.{value_order, row_order}
 use Rattle.rdb_meaning.specs.Evaluation.{Scope, Tuple, read}
 use Rattle.rdb_meaning.specs.Selecting.{turned, sort_keys, reduced_fields, reads_of}
 
@@ -41,7 +41,7 @@ further_values (v ∷ vs) = vs
 -- the order by as many values as there are directions, true for a descending one
 abbrev pub directed_order : List Bool → List Value → List Value → Ordering
 directed_order [] a b = Equal
-directed_order (d ∷ ds) a b = ordering_then (turned d (rank_of (first_value a) (first_value b))) (directed_order ds (further_values a) (further_values b))
+directed_order (d ∷ ds) a b = ordering_then (turned d (value_order (first_value a) (first_value b))) (directed_order ds (further_values a) (further_values b))
 
 abbrev pub ranked_order : List Bool → Ranked → Ranked → Ordering
 ranked_order ds a b = directed_order ds a.values b.values
@@ -51,4 +51,4 @@ abbrev pub reduced_row : List Clause → List Range → Tables → Scope → Tup
 reduced_row cs ss t scope ks = map (reads_of ss t scope ks) (reduced_fields cs)
 
 abbrev pub read_alike : List Clause → List Range → Tables → Scope → Tuple → Tuple → Bool
-read_alike cs ss t scope k l = is_eq (row_rank (reduced_row cs ss t scope k) (reduced_row cs ss t scope l))
+read_alike cs ss t scope k l = is_eq (row_order (reduced_row cs ss t scope k) (reduced_row cs ss t scope l))

@@ -1,6 +1,5 @@
 //! REDUCED TO: of the tuples that agree in the fields only the first stays.
 ghost use Rattle.std.specs.Prelude.{◌≡◌, ◌++◌, map, IfOk};
-ghost use Rattle.rdb_meaning.specs.Comparison.{row_rank};
 ghost use Rattle.rdb_meaning.specs.Selecting.{is_reduced as is_reduced_by, reduced_fields, reduced_tuples, without_repeats as without_repeats_of};
 ghost use Rattle.rdb_evaluation.specs.Crossing.{AreOver};
 ghost use Rattle.rdb_evaluation.specs.Sorting.{value_read, read_alike};
@@ -9,32 +8,11 @@ use crate::binding::{opened, rebind};
 use crate::reading::read_value;
 use crate::tuples::{Tuples, push_if};
 use rdb_meaning::{Binding, Tables};
-use rdb_types::{Items, Keys, NoMemory, Row, Value};
-use rdo_arithmetic::rank;
+use rdb_types::{Items, Keys, NoMemory, Row, row_order};
 use rdo_ast::syntax::{Clause, Range, Reference};
 use std::alloc::Global;
 use std::cmp::Ordering;
 use std::collections::BTreeSet;
-
-/// The order of two rows: the first place that tells them apart decides, and a prefix is less.
-fn row_order(a: &[Value], b: &[Value]) -> Ordering
-    ensures { result ≡ row_rank a.now b.now }
-{
-    for (at, value) in a.iter().enumerate() {
-        let Some(other) = b.get(at) else {
-            return Ordering::Greater;
-        };
-        let order = rank(value, other);
-        if order.is_ne() {
-            return order;
-        }
-    }
-    if a.len() < b.len() {
-        Ordering::Less
-    } else {
-        Ordering::Equal
-    }
-}
 
 /// The values of the fields that tuples are reduced to. They are ordered as rows are.
 #[derive(Drop)]
@@ -44,10 +22,10 @@ pub struct ReducedValues {
 
 impl PartialEq for ReducedValues {
     ghost use Rattle.std.specs.Ordering.{is_eq};
-    ghost use Rattle.rdb_meaning.specs.Comparison.{row_rank};
+    ghost use Rattle.rdb_types.specs.Order.{row_order};
     ghost use Rattle.rdb_evaluation.specs.RowLaws.{row_partial_equivalence};
 
-    ghost eq = { λ a b. is_eq (row_rank a.values b.values) };
+    ghost eq = { λ a b. is_eq (row_order a.values b.values) };
 
     ghost laws = { row_partial_equivalence };
 
@@ -64,10 +42,10 @@ impl Eq for ReducedValues {
 
 impl PartialOrd for ReducedValues {
     ghost use Rattle.std.specs.Prelude.{Some};
-    ghost use Rattle.rdb_meaning.specs.Comparison.{row_rank};
+    ghost use Rattle.rdb_types.specs.Order.{row_order};
     ghost use Rattle.rdb_evaluation.specs.RowLaws.{row_partial_order};
 
-    ghost partial_cmp = { λ a b. Some (row_rank a.values b.values) };
+    ghost partial_cmp = { λ a b. Some (row_order a.values b.values) };
 
     ghost laws = { row_partial_order };
 
@@ -78,10 +56,10 @@ impl PartialOrd for ReducedValues {
 
 impl Ord for ReducedValues {
     ghost use Rattle.std.proofs.Common.{refl};
-    ghost use Rattle.rdb_meaning.specs.Comparison.{row_rank};
+    ghost use Rattle.rdb_types.specs.Order.{row_order};
     ghost use Rattle.rdb_evaluation.specs.RowLaws.{reduced_total};
 
-    ghost cmp = { λ a b. row_rank a.values b.values };
+    ghost cmp = { λ a b. row_order a.values b.values };
 
     ghost total = { reduced_total };
 

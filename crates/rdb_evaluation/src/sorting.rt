@@ -1,7 +1,7 @@
 //! SORTED BY: each tuple's key values are read once, and the tuples sorted by them.
 ghost use Rattle.std.specs.Prelude.{◌≡◌, ◌++◌, map, slice_index_or, IfOk};
 ghost use Rattle.rdb_types.specs.declared.values.Value.TheVariants.{Missing as MissingValue};
-ghost use Rattle.rdb_meaning.specs.Comparison.{rank_of};
+ghost use Rattle.rdb_types.specs.Order.{value_order};
 ghost use Rattle.rdb_meaning.specs.Selecting.{turned as turned_order, sort_keys, stably_sorted, sorted_tuples};
 ghost use Rattle.rdb_evaluation.specs.Crossing.{AreOver};
 ghost use Rattle.rdb_evaluation.specs.Sorting.{value_read, key_values, directions as directions_of, ranked_tuple, directed_order, ranked_order};
@@ -10,8 +10,7 @@ use crate::binding::{opened, rebind};
 use crate::reading::read_value;
 use crate::tuples::Tuples;
 use rdb_meaning::{Binding, Tables};
-use rdb_types::{Copied, Items, Keys, NoMemory, Row, Value};
-use rdo_arithmetic::rank;
+use rdb_types::{Copied, Items, Keys, NoMemory, Row, Value, value_order};
 use rdo_ast::syntax::{Clause, Range, SortKey};
 use std::alloc::Global;
 use std::cmp::Ordering;
@@ -86,12 +85,12 @@ fn turned(descending: bool, order: Ordering) -> Ordering
 
 /// The order of two values at a place, a missing one where there is none.
 fn rank_at(a: &[Value], b: &[Value], at: usize) -> Ordering
-    ensures { result ≡ rank_of (slice_index_or a.now at MissingValue) (slice_index_or b.now at MissingValue) }
+    ensures { result ≡ value_order (slice_index_or a.now at MissingValue) (slice_index_or b.now at MissingValue) }
 {
     match (a.get(at), b.get(at)) {
-        (Some(x), Some(y)) => rank(x, y),
-        (Some(x), None) => rank(x, &Value::Missing),
-        (None, Some(y)) => rank(&Value::Missing, y),
+        (Some(x), Some(y)) => value_order(x, y),
+        (Some(x), None) => value_order(x, &Value::Missing),
+        (None, Some(y)) => value_order(&Value::Missing, y),
         (None, None) => Ordering::Equal,
     }
 }

@@ -2,7 +2,6 @@
 use Rattle.std.specs.Prelude.{ℕ, max, Bool, true, false, ◌&&◌, ◌||◌, nat_eq, List, [], ◌∷◌, Option, Some, None}
 use Rattle.std.specs.List.{starts_with}
 use Rattle.std.specs.declared.cmp.Ordering.{Ordering}
-use Rattle.std.specs.declared.cmp.Ordering.TheVariants.{Less, Equal, Greater}
 use Rattle.std.specs.Ordering.{nat_cmp, int_cmp, is_eq, is_ne, is_lt, is_le, is_gt, is_ge}
 use Rattle.std.specs.Cmp.Lexicographic.{slice_cmp}
 use Rattle.std.specs.Str.{str_to_ascii_uppercase}
@@ -134,17 +133,3 @@ both_parts _ passed_over = passed_over
 both_parts undecided _ = undecided
 both_parts _ undecided = undecided
 both_parts chosen chosen = chosen
-
--- ---- the order of SORTED BY, of indexes and of REDUCED TO: a missing value is below all others and equals itself
-
-abbrev pub rank_of : Value → Value → Ordering
-rank_of Missing Missing = Equal
-rank_of Missing _ = Less
-rank_of _ Missing = Greater
-rank_of (Number m) (Number n) = int_cmp m n
-rank_of (Text a) (Text b) = slice_cmp nat_cmp a b
-rank_of (Number m) (Text b) = Less
-rank_of (Text a) (Number n) = Greater
-
-abbrev pub row_rank : List Value → List Value → Ordering
-row_rank = slice_cmp rank_of

@@ -1,9 +1,7 @@
 -- Tables, as lists of entries in order, and the numbers that definitions give out.
 use Rattle.std.specs.Prelude.{ℕ, zero, suc, ◌+◌, Bool, ◌&&◌, not, if◌then◌else◌, nat_eq, nat_lt, nat_le, ◌==◌, List, [], ◌∷◌, map, length, filter, sum_by, Option, Some, None, slice_index_or}
 use Rattle.std.specs.List.{list_any}
-use Rattle.std.specs.declared.cmp.Ordering.{Ordering}
-use Rattle.std.specs.Ordering.{nat_cmp, ordering_then, is_eq}
-use Rattle.std.specs.Cmp.Lexicographic.{slice_cmp}
+use Rattle.std.specs.Ordering.{nat_cmp, is_eq}
 use Rattle.std.specs.FinMap.Entries.{find, put}
 use Rattle.std.specs.Str.{bytes_eq}
 use Rattle.rdb_types.specs.declared.values.Value.{Value}
@@ -16,20 +14,13 @@ use Rattle.rdb_meaning.specs.declared.tables.Relation.{Relation}
 use Rattle.rdb_meaning.specs.declared.tables.Index.{Index}
 use Rattle.rdb_meaning.specs.declared.tables.Tables.{Tables}
 use Rattle.rdb_meaning.specs.Numbers.{is_text_type}
-use Rattle.rdb_meaning.specs.Comparison.{row_rank}
+use Rattle.rdb_types.specs.Order.{row_order, dbkey_order, chars_order}
 
 abbrev pub Row : Type 0
 Row = List Value
 
-abbrev pub name_order : Name → Name → Ordering
-name_order = slice_cmp nat_cmp
-
 abbrev pub same_name : Name → Name → Bool
 same_name = bytes_eq
-
--- by area, page and line
-abbrev pub key_order : Dbkey → Dbkey → Ordering
-key_order a b = ordering_then (nat_cmp a.area b.area) (ordering_then (nat_cmp a.page b.page) (nat_cmp a.line b.line))
 
 abbrev pub no_tables : Tables
 no_tables = record { globals = []; relations = []; indexes = [] }
@@ -37,7 +28,7 @@ no_tables = record { globals = []; relations = []; indexes = [] }
 -- ---- look-ups
 
 abbrev pub relation_named : Name → Tables → Option Relation
-relation_named n t = find name_order n t.relations
+relation_named n t = find chars_order n t.relations
 
 abbrev pub rows_of : Option Relation → List (Dbkey × Row)
 rows_of (Some r) = r.rows
@@ -48,7 +39,7 @@ fields_of (Some r) = r.fields
 fields_of None = []
 
 abbrev pub row_at : Dbkey → Option Relation → Option Row
-row_at k r = find key_order k (rows_of r)
+row_at k r = find dbkey_order k (rows_of r)
 
 -- the place of a field among the fields, and the field with it
 abbrev pub place_from : ℕ → Name → List Field → Option (ℕ × Field)
@@ -64,17 +55,17 @@ abbrev pub with_rows : List (Dbkey × Row) → Relation → Relation
 with_rows rows r = record r { rows = rows }
 
 abbrev pub rows_changed : Name → (List (Dbkey × Row) → List (Dbkey × Row)) → Option Relation → Tables → Tables
-rows_changed n f (Some r) t = record t { relations = put name_order n (with_rows (f r.rows) r) t.relations }
+rows_changed n f (Some r) t = record t { relations = put chars_order n (with_rows (f r.rows) r) t.relations }
 rows_changed n f None t = t
 
 abbrev pub change_rows : Name → (List (Dbkey × Row) → List (Dbkey × Row)) → Tables → Tables
 change_rows n f t = rows_changed n f (relation_named n t) t
 
 abbrev pub with_row : Name → Dbkey → Row → Tables → Tables
-with_row n k row t = change_rows n (put key_order k row) t
+with_row n k row t = change_rows n (put dbkey_order k row) t
 
 abbrev pub without_row : Name → Dbkey → Tables → Tables
-without_row n k t = change_rows n (filter (λ e. not (is_eq (key_order k e.0)))) t
+without_row n k t = change_rows n (filter (λ e. not (is_eq (dbkey_order k e.0)))) t
 
 -- ---- logical areas
 
@@ -127,10 +118,10 @@ indexes_on area t = map (λ e. e.1) (by_area (filter (λ e. e.1.relation == area
 -- another row has the key
 abbrev pub is_taken : List ℕ → Row → Dbkey → List (Dbkey × Row) → Bool
 is_taken positions row own rows =
-    list_any (λ e. not (is_eq (key_order own e.0)) && is_eq (row_rank (key_of positions row) (key_of positions e.1))) rows
+    list_any (λ e. not (is_eq (dbkey_order own e.0)) && is_eq (row_order (key_of positions row) (key_of positions e.1))) rows
 
 abbrev pub has_key : List ℕ → Row → List (Dbkey × Row) → Bool
-has_key positions row rows = list_any (λ e. is_eq (row_rank (key_of positions row) (key_of positions e.1))) rows
+has_key positions row rows = list_any (λ e. is_eq (row_order (key_of positions row) (key_of positions e.1))) rows
 
 -- the first unique index in which the test finds the key taken
 abbrev pub first_taken : (List ℕ → Bool) → List (Name × Index) → Option Name

@@ -13,23 +13,24 @@ use Rattle.rdo_ast.specs.declared.syntax.DefinedType.TheVariants.{Own, BasedOn}
 use Rattle.rdo_ast.specs.declared.reply.Reply.TheVariants.{Exists, Duplicate, TooLong}
 use Rattle.rdo_ast.specs.Tree.{Name}
 use Rattle.rdb_meaning.specs.declared.tables.Tables.{Tables}
-use Rattle.rdb_meaning.specs.Contents.{Row, same_name, name_order, relation_named, fields_of, rows_of, place_of, new_relation_area, new_index_area, longest_value, has_key}
+use Rattle.rdb_meaning.specs.Contents.{Row, same_name, relation_named, fields_of, rows_of, place_of, new_relation_area, new_index_area, longest_value, has_key}
+use Rattle.rdb_types.specs.Order.{chars_order}
 use Rattle.rdb_meaning.specs.Checks.{Refusal, or_else, needs_some, needs_none}
 use Rattle.rdb_meaning.specs.Execution.{area_of}
 
 -- ---- DEFINE FIELD
 
 abbrev pub field_names : Name → Tables → Refusal
-field_names n t = needs_none n (find name_order n t.globals)
+field_names n t = needs_none n (find chars_order n t.globals)
 
 abbrev pub with_field : Name → FieldType → Tables → Tables
-with_field n type t = record t { globals = put name_order n type t.globals }
+with_field n type t = record t { globals = put chars_order n type t.globals }
 
 -- ---- DEFINE RELATION
 
 abbrev pub type_names : DefinedType → Tables → Refusal
 type_names (Own type) t = None
-type_names (BasedOn g) t = needs_some g (find name_order g t.globals)
+type_names (BasedOn g) t = needs_some g (find chars_order g t.globals)
 
 abbrev pub is_among : Name → List Name → Bool
 is_among n ns = list_any (same_name n) ns
@@ -49,14 +50,14 @@ copied_type None = record { kind = Quadword; scale = 0; size = 0 }
 
 abbrev pub type_of : DefinedType → Tables → FieldType
 type_of (Own type) t = type
-type_of (BasedOn g) t = copied_type (find name_order g t.globals)
+type_of (BasedOn g) t = copied_type (find chars_order g t.globals)
 
 abbrev pub new_field : Tables → FieldDefinition → Field
 new_field t f = record { name = f.name; kind = type_of f.kind t; version = 1 }
 
 abbrev pub with_relation : Name → List FieldDefinition → Tables → Tables
 with_relation n fs t =
-    record t { relations = put name_order n (record { area = new_relation_area t; fields = map (new_field t) fs; rows = [] }) t.relations }
+    record t { relations = put chars_order n (record { area = new_relation_area t; fields = map (new_field t) fs; rows = [] }) t.relations }
 
 -- ---- DEFINE INDEX
 
@@ -69,7 +70,7 @@ index_fields_names before (n ∷ ns) fields =
 
 abbrev pub index_names : IndexDefinition → Tables → Refusal
 index_names d t =
-    or_else (needs_none d.name (find name_order d.name t.indexes))
+    or_else (needs_none d.name (find chars_order d.name t.indexes))
     (or_else (needs_some d.relation (relation_named d.relation t)) (index_fields_names [] d.fields (fields_of (relation_named d.relation t))))
 
 abbrev pub place_number : Option (ℕ × Field) → Option ℕ
@@ -104,7 +105,7 @@ index_refusal d t =
 abbrev pub with_index : IndexDefinition → Tables → Tables
 with_index d t =
     record t {
-      indexes = put name_order d.name (record {
+      indexes = put chars_order d.name (record {
         area = new_index_area t;
         relation = area_of (relation_named d.relation t);
         unique = d.unique;

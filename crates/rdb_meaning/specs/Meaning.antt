@@ -12,7 +12,8 @@ use Rattle.rdo_ast.specs.Tree.{Name, Act, Command, invoke, start_read_only, star
 use Rattle.rdb_meaning.specs.declared.tables.Relation.{Relation}
 use Rattle.rdb_meaning.specs.declared.tables.Index.{Index}
 use Rattle.rdb_meaning.specs.declared.tables.Tables.{Tables}
-use Rattle.rdb_meaning.specs.Contents.{name_order, relation_named}
+use Rattle.rdb_meaning.specs.Contents.{relation_named}
+use Rattle.rdb_types.specs.Order.{chars_order as name_order}
 use Rattle.rdb_meaning.specs.Checks.{Refusal, or_else, needs_some, Use, use_of, reservation_refusal, act_names, act_uses, act_clashes, is_retrieval}
 use Rattle.rdb_meaning.specs.Execution.{world, Ran, ran, refused, astray, done}
 use Rattle.rdb_meaning.specs.Defining.{is_among, field_names, with_field, relation_names, with_relation, index_names, index_refusal, with_index, without_relation, without_index}

@@ -2,7 +2,8 @@
 ghost use Rattle.std.specs.Prelude.{◌≡◌, ◌<◌, length, IfSome};
 ghost use Rattle.std.specs.Option.{option_copied};
 ghost use Rattle.std.specs.FinMap.Entries.{find};
-ghost use Rattle.rdb_meaning.specs.Contents.{name_order, key_order, relation_named, rows_of, place_of};
+ghost use Rattle.rdb_meaning.specs.Contents.{relation_named, rows_of, place_of};
+ghost use Rattle.rdb_types.specs.Order.{chars_order, dbkey_order};
 ghost use Rattle.rdb_meaning.specs.Lookups.{place_and_field};
 
 use crate::same_name;
@@ -44,7 +45,7 @@ pub struct FieldAt<'a> {
 impl Relation {
     /// The row at a Dbkey.
     pub fn row(&self, key: &Dbkey) -> Option<&Row>
-        ensures { option_copied result ≡ find key_order key.now self.now.rows }
+        ensures { option_copied result ≡ find dbkey_order key.now self.now.rows }
     {
         self.rows.find(key)
     }

@@ -16,7 +16,8 @@ use Rattle.rdb_types.specs.declared.keys.Dbkey.{Dbkey}
 use Rattle.rdo_ast.specs.Tree.{Name}
 use Rattle.rdb_meaning.specs.declared.tables.Relation.{Relation}
 use Rattle.rdb_meaning.specs.declared.tables.Tables.{Tables}
-use Rattle.rdb_meaning.specs.Contents.{Row, name_order, key_order, same_name, with_rows, relation_named, change_rows, rows_changed}
+use Rattle.rdb_meaning.specs.Contents.{Row, same_name, with_rows, relation_named, change_rows, rows_changed}
+use Rattle.rdb_types.specs.Order.{chars_order as name_order, dbkey_order as key_order}
 use Rattle.rdb_tables.specs.declared.undo.Change.{Change}
 use Rattle.rdb_tables.specs.declared.undo.Saved.{Saved}
 use Rattle.rdb_tables.specs.declared.undo.Undo.{Undo}

@@ -10,7 +10,8 @@ use Rattle.rdb_types.specs.declared.keys.Dbkey.{Dbkey}
 use Rattle.rdo_ast.specs.Tree.{Name}
 use Rattle.rdb_meaning.specs.declared.tables.Relation.{Relation}
 use Rattle.rdb_meaning.specs.declared.tables.Tables.{Tables}
-use Rattle.rdb_meaning.specs.Contents.{Row, name_order, key_order, same_name, relation_named, row_at}
+use Rattle.rdb_meaning.specs.Contents.{Row, same_name, relation_named, row_at}
+use Rattle.rdb_types.specs.Order.{chars_order as name_order, dbkey_order as key_order}
 use Rattle.rdb_meaning.specs.Execution.{area_of, may_be_given}
 use Rattle.rdb_tables.specs.declared.undo.Change.{Change}
 use Rattle.rdb_tables.specs.declared.undo.Undo.{Undo}

@@ -8,7 +8,8 @@ use Rattle.rdo_ast.specs.Tree.{Name}
 use Rattle.rdb_meaning.specs.declared.tables.Relation.{Relation}
 use Rattle.rdb_types.specs.declared.keys.Dbkey.{Dbkey}
 use Rattle.rdb_meaning.specs.declared.tables.Tables.{Tables}
-use Rattle.rdb_meaning.specs.Contents.{name_order, Row, change_rows, rows_changed}
+use Rattle.rdb_meaning.specs.Contents.{Row, change_rows, rows_changed}
+use Rattle.rdb_types.specs.Order.{chars_order as name_order}
 use Rattle.ordered_entries.proofs.Laws.{put-put, find-put_same, put_found}
 
 abbrev Relations : Type 0

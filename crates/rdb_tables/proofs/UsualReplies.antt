@@ -18,7 +18,8 @@ use Rattle.rdo_ast.specs.declared.syntax.FieldDefinition.{FieldDefinition}
 use Rattle.rdo_ast.specs.declared.syntax.IndexDefinition.{IndexDefinition}
 use Rattle.rdo_ast.specs.declared.syntax.DefinedType.{DefinedType}
 use Rattle.rdo_ast.specs.declared.syntax.DefinedType.TheVariants.{Own, BasedOn}
-use Rattle.rdb_meaning.specs.Contents.{same_name, name_order, relation_named, rows_of, fields_of, place_of}
+use Rattle.rdb_meaning.specs.Contents.{same_name, relation_named, rows_of, fields_of, place_of}
+use Rattle.rdb_types.specs.Order.{chars_order as name_order}
 use Rattle.rdb_meaning.specs.Evaluation.{Scope, bound_as, referred, bind_source, bind_sources, sources_of}
 use Rattle.rdb_meaning.specs.Checks.{Refusal, or_else, first_refusal, needs_some, needs_none, reference_names, source_names, sources_names, expression_names, operations_names, testing_names, conjunction_names, condition_names, with_names, ranging_names, clause_names, assignment_names, shown_names, act_names, acts_names, Use, reserved_for, use_of, reservation_refusal, act_uses, act_clashes, is_retrieval}
 use Rattle.rdb_meaning.specs.Defining.{is_among, type_names, fields_names, index_fields_names, index_names, index_refusal, longest_key, keys_repeat, positions_of}

@@ -6,7 +6,8 @@ use Rattle.rdb_types.specs.declared.memory.NoMemory.{NoMemory}
 use Rattle.rdo_ast.specs.declared.reply.Standing.{Standing}
 use Rattle.rdo_ast.specs.Tree.{Command, define_field, define_relation, define_index, delete_relation, delete_index}
 use Rattle.rdb_meaning.specs.declared.tables.Tables.{Tables}
-use Rattle.rdb_meaning.specs.Contents.{name_order, relation_named}
+use Rattle.rdb_meaning.specs.Contents.{relation_named}
+use Rattle.rdb_types.specs.Order.{chars_order as name_order}
 use Rattle.rdb_meaning.specs.Checks.{Refusal, or_else, needs_some, use_of, reservation_refusal}
 use Rattle.rdb_meaning.specs.Defining.{field_names, with_field, relation_names, with_relation, index_names, index_refusal, with_index, without_relation, without_index}
 use Rattle.rdb_meaning.specs.Meaning.{Meaning, means, needs_read_write, reservations_of, index_uses}

@@ -3,7 +3,7 @@ use Rattle.std.specs.Prelude.{Bool, true, not, ◌&&◌, ◌==◌, Option, Some,
 use Rattle.std.specs.FinMap.Entries.{find}
 use Rattle.rdb_types.specs.declared.keys.Dbkey.{Dbkey}
 use Rattle.rdb_meaning.specs.declared.tables.Relation.{Relation}
-use Rattle.rdb_meaning.specs.Contents.{key_order}
+use Rattle.rdb_types.specs.Order.{dbkey_order as key_order}
 
 -- it is of the relation's area, and no row has it
 abbrev pub is_free : Dbkey → Relation → Bool

@@ -2,7 +2,8 @@
 ghost use Rattle.std.specs.Prelude.{◌≡◌, [], ◌∷◌, true, false, IfOk};
 ghost use Rattle.std.specs.FinMap.Entries.{find};
 ghost use Rattle.rdo_ast.specs.Views.{command_of};
-ghost use Rattle.rdb_meaning.specs.Contents.{name_order, relation_named};
+ghost use Rattle.rdb_meaning.specs.Contents.{relation_named};
+ghost use Rattle.rdb_types.specs.Order.{chars_order as name_order};
 ghost use Rattle.rdb_meaning.specs.Checks.{or_else, needs_some, use_of, reservation_refusal};
 ghost use Rattle.rdb_meaning.specs.Defining.{field_names, with_field, relation_names, with_relation, index_names, index_refusal, with_index, without_relation, without_index};
 ghost use Rattle.rdb_meaning.specs.Meaning.{command_meaning, needs_read_write, reservations_of, index_uses};

@@ -2,7 +2,7 @@
 ghost use Rattle.std.specs.Prelude.{◌≡◌, ◌==◌, IfOk, filter, slice_index_or};
 ghost use Rattle.rdb_types.specs.declared.values.Value.TheVariants.{Missing};
 ghost use Rattle.std.specs.Ordering.{is_eq};
-ghost use Rattle.rdb_meaning.specs.Comparison.{rank_of, row_rank};
+ghost use Rattle.rdb_types.specs.Order.{value_order as rank_of, row_order as row_rank};
 ghost use Rattle.rdb_meaning.specs.Contents.{key_of, is_taken as taken_in, by_area, indexes_on as indexes_of, first_taken};
 ghost use Rattle.rdb_tables.specs.Indexes.{seen_at, with_some};
 

@@ -8,6 +8,7 @@ mod image;
 mod keys;
 mod memory;
 mod node;
+mod order;
 mod session;
 mod values;
 
@@ -18,6 +19,7 @@ pub use image::Image;
 pub use keys::{Dbkey, Keys, Limits, Line, LineState, Tsn};
 pub use memory::{NoMemory, OrMemory};
 pub use node::{Level, Node};
+pub use order::{orders_are_exact, orders_are_total, row_order, value_order};
 pub use session::{Cause, Moment, Session};
 pub use sqlite_items::{Boxed, Items};
 pub use values::{

@@ -1,7 +1,7 @@
-//! The order of values: that of conditions, where a missing value has none, and that of SORTED BY, where it is the least.
+//! The order of values in conditions, where a missing value has none.
 ghost use Rattle.std.specs.Prelude.{◌≡◌};
 ghost use Rattle.rdb_meaning.specs.Numbers.{is};
-ghost use Rattle.rdb_meaning.specs.Comparison.{order_of, passes as passes_of, compared as compared_of, within as within_of, lies_between as lies_between_of, missing_test, is_absent, weighed, rank_of};
+ghost use Rattle.rdb_meaning.specs.Comparison.{order_of, passes as passes_of, compared as compared_of, within as within_of, lies_between as lies_between_of, missing_test, is_absent, weighed};
 ghost use Rattle.rdo_arithmetic.specs.Answers.{Weighs, Orders, truth_of};
 
 use crate::numbers::{GREATEST_SCALE, brought, greater};
@@ -74,19 +74,4 @@ pub fn is_missing(a: &Value) -> bool
     ensures { result ≡ is_absent a.now }
 {
     matches!(a, Value::Missing)
-}
-
-/// The order of SORTED BY: a missing value is below all others and equals itself.
-pub fn rank(a: &Value, b: &Value) -> Ordering
-    ensures { result ≡ rank_of a.now b.now }
-{
-    match (a, b) {
-        (Value::Missing, Value::Missing) => Ordering::Equal,
-        (Value::Missing, _) => Ordering::Less,
-        (_, Value::Missing) => Ordering::Greater,
-        (Value::Number(m), Value::Number(n)) => m.cmp(n),
-        (Value::Text(s), Value::Text(t)) => s.as_slice().cmp(&t.as_slice()),
-        (Value::Number(_), Value::Text(_)) => Ordering::Less,
-        (Value::Text(_), Value::Number(_)) => Ordering::Greater,
-    }
 }

@@ -9,7 +9,7 @@ mod stop;
 mod texts;
 mod truth;
 
-pub use compare::{compared, is_missing, lies_between, order, rank};
+pub use compare::{compared, is_missing, lies_between, order};
 pub use fitting::fit;
 pub use numbers::{GREATEST_SCALE, result};
 pub use operate::{absent, arithmetic, negated};

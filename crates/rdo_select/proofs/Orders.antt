@@ -5,7 +5,7 @@ use Rattle.std.proofs.lemmas.Cmp.{on_total, then_total}
 use Rattle.std.specs.Cmp.{IsTotalOrder}
 use Rattle.std.specs.declared.cmp.Ordering.{Ordering}
 use Rattle.std.specs.Ordering.{is_ne, ordering_then}
-use Rattle.rdb_meaning.specs.Comparison.{rank_of}
+use Rattle.rdb_types.specs.Order.{value_order as rank_of}
 use Rattle.rdb_meaning.specs.Contents.{Row}
 use Rattle.rdb_meaning.specs.Selecting.{turned}
 use Rattle.rdb_evaluation.proofs.Ranks.{turned_total, equal_total, then_ne, then_not_ne}

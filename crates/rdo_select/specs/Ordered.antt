@@ -5,7 +5,7 @@ use Rattle.std.specs.declared.cmp.Ordering.TheVariants.{Equal}
 use Rattle.std.specs.Ordering.{is_eq, ordering_then}
 use Rattle.rdb_types.specs.declared.values.Value.{Value}
 use Rattle.rdb_types.specs.declared.values.Value.TheVariants.{Missing}
-use Rattle.rdb_meaning.specs.Comparison.{rank_of, row_rank}
+use Rattle.rdb_types.specs.Order.{value_order as rank_of, row_order as row_rank}
 use Rattle.rdb_meaning.specs.Contents.{Row}
 use Rattle.rdb_meaning.specs.Selecting.{turned, stably_sorted, without_repeats, is_reduced}
 use Rattle.rdo_values.specs.declared.bound.BoundReference.{BoundReference}

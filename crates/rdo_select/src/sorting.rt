@@ -1,12 +1,11 @@
 //! SORTED BY: found tuples sorted stably by the values at the places of the keys.
 ghost use Rattle.std.specs.Prelude.{◌≡◌, reverse, IfOk};
-ghost use Rattle.rdb_meaning.specs.Comparison.{rank_of};
+ghost use Rattle.rdb_types.specs.Order.{value_order as rank_of};
 ghost use Rattle.rdb_meaning.specs.Selecting.{turned as turned_order};
 ghost use Rattle.rdo_select.specs.Ordered.{value_in, order_by_keys, order_by, sorted_found};
 
 use crate::crossing::{Found, FoundTuples};
-use rdb_types::{Items, NoMemory, Value};
-use rdo_arithmetic::rank;
+use rdb_types::{Items, NoMemory, Value, value_order};
 use rdo_values::{BoundClause, BoundReference, BoundSortKey};
 use std::alloc::Global;
 use std::cmp::Ordering;
@@ -22,9 +21,9 @@ fn order_at(reference: &BoundReference, a: &[Value], b: &[Value]) -> Ordering
     ensures { result ≡ rank_of (value_in a.now reference.now) (value_in b.now reference.now) }
 {
     match (a.get(reference.place), b.get(reference.place)) {
-        (Some(x), Some(y)) => rank(x, y),
-        (Some(x), None) => rank(x, &Value::Missing),
-        (None, Some(y)) => rank(&Value::Missing, y),
+        (Some(x), Some(y)) => value_order(x, y),
+        (Some(x), None) => value_order(x, &Value::Missing),
+        (None, Some(y)) => value_order(&Value::Missing, y),
         (None, None) => Ordering::Equal,
     }
 }

@@ -6,9 +6,9 @@ use Rattle.std.specs.Ordering.{is_eq, ordering_then, ordering_reverse}
 use Rattle.std.specs.List.{AllByRecursion}
 use Rattle.rdb_types.specs.declared.keys.Dbkey.{Dbkey}
 use Rattle.rdb_types.specs.declared.values.Value.{Value}
-use Rattle.ordered_entries.specs.Order.{dbkey_order}
+use Rattle.rdb_types.specs.Order.{dbkey_order, row_order as key_order}
 use Rattle.index_node.specs.declared.entry.NodeEntry.{NodeEntry}
-use Rattle.index_node.specs.Order.{entry_order, key_order}
+use Rattle.index_node.specs.Order.{entry_order}
 use Rattle.index_node.specs.OrderLaws.{entries_total}
 use Rattle.sorted_index.specs.Changes.{goes_on, with_pair}
 use Rattle.sorted_index.specs.Insertion.{bound, unbound, lowered, is_up_to_own, IsNew}

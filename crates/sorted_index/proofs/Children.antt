@@ -7,8 +7,8 @@ use Rattle.std.specs.List.{AllByRecursion, filter}
 use Rattle.std.proofs.lemmas.List.{map-append}
 use Rattle.std.proofs.lemmas.List.Elements.{filter-append}
 use Rattle.index_node.specs.declared.entry.NodeEntry.{NodeEntry}
-use Rattle.index_node.specs.Order.{key_order, entry_order}
-use Rattle.ordered_entries.specs.Order.{dbkey_order}
+use Rattle.index_node.specs.Order.{entry_order}
+use Rattle.rdb_types.specs.Order.{row_order as key_order, dbkey_order}
 use Rattle.sorted_index.specs.Keys.{Interval, is_within}
 use Rattle.sorted_index.specs.Tree.{Tree, pairs, IsPartedFrom, AreParted}
 use Rattle.sorted_index.specs.Search.{rows_within, reaches, may_hold}

@@ -4,7 +4,7 @@ use Rattle.std.specs.Prelude.{◌||◌, is_none}
 use Rattle.std.specs.Ordering.{is_eq}
 use Rattle.std.specs.List.{AllByRecursion}
 use Rattle.rdb_types.specs.declared.keys.Dbkey.{Dbkey}
-use Rattle.ordered_entries.specs.Order.{dbkey_order}
+use Rattle.rdb_types.specs.Order.{dbkey_order}
 use Rattle.index_node.specs.declared.entry.NodeEntry.{NodeEntry}
 use Rattle.line_view.specs.declared.writes.Write.{Write}
 use Rattle.sorted_index.specs.Tree.{Tree, place, node_of, places, Bears, is_empty, has_nothing}

@@ -5,8 +5,8 @@ use Rattle.std.specs.declared.cmp.Ordering.TheVariants.{Less, Equal, Greater}
 use Rattle.std.specs.Ordering.{is_lt, is_le, is_gt, is_ge, ordering_then, ordering_reverse}
 use Rattle.std.proofs.lemmas.Cmp.{upto}
 use Rattle.rdb_types.specs.declared.values.Value.{Value}
-use Rattle.index_node.specs.Order.{value_order, key_order}
-use Rattle.index_node.specs.OrderLaws.{keys_total}
+use Rattle.rdb_types.specs.Order.{value_order, row_order as key_order}
+use Rattle.rdb_types.specs.OrderLaws.{row_total as keys_total}
 use Rattle.sorted_index.specs.declared.bounds.Wanted.{Wanted}
 use Rattle.sorted_index.specs.declared.bounds.Wanted.TheVariants.{Key, Within}
 use Rattle.sorted_index.specs.Keys.{Interval, is_below_low, is_above_high}

@@ -3,7 +3,7 @@ use Rattle.std.specs.Prelude.{Bool, false, not, ◌&&◌, List, length, take, Op
 use Rattle.std.specs.declared.cmp.Ordering.{Ordering}
 use Rattle.std.specs.Ordering.{is_lt, is_le, is_gt, is_ge}
 use Rattle.rdb_types.specs.declared.values.Value.{Value}
-use Rattle.index_node.specs.Order.{key_order}
+use Rattle.rdb_types.specs.Order.{row_order as key_order}
 use Rattle.sorted_index.specs.declared.bounds.Bounds.{Bounds}
 
 -- Keys that follow one another in the order of keys: those that are neither below nor above.

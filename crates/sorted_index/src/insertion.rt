@@ -2,7 +2,7 @@
 ghost use Rattle.std.specs.Prelude.{◌≡◌, ◌≤◌, ◌<◌, ◌+◌, [], ◌∷◌, ℕ, IfOk, IfErr, OnOk};
 ghost use Rattle.std.specs.List.{IsDistinct};
 ghost use Rattle.std.specs.Ordering.{is_eq};
-ghost use Rattle.ordered_entries.specs.Order.{dbkey_order};
+ghost use Rattle.rdb_types.specs.Order.{dbkey_order};
 ghost use Rattle.line_view.specs.Knowledge.{Lines, Agrees};
 ghost use Rattle.sorted_index.specs.declared.stop.IndexStop.TheVariants.{NoMemory};
 ghost use Rattle.sorted_index.specs.Tree.{Tree, node_of, pairs, IsIndex};

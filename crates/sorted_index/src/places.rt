@@ -9,14 +9,14 @@ ghost use Rattle.sorted_index.specs.Changes.{pair_of, without_pair};
 ghost use Rattle.sorted_index.specs.Steps.{count_up_to as count_up_to_of, child_place as child_place_of};
 ghost use Rattle.sorted_index.specs.Insertion.{count_below as count_below_of};
 
-use index_node::{NodeEntry, key_order};
-use rdb_types::{Dbkey, Items, Value};
+use index_node::NodeEntry;
+use rdb_types::{Dbkey, Items, Value, row_order};
 use std::cmp::Ordering;
 
 fn pair_order(entry: &NodeEntry, key: &[Value], row: Dbkey) -> Ordering
     ensures { result ≡ entry_order_of entry.now (pair_of key.now row) }
 {
-    key_order(entry.key.as_slice(), key).then(entry.row.cmp(&row))
+    row_order(entry.key.as_slice(), key).then(entry.row.cmp(&row))
 }
 
 fn count_up_to(entries: &[NodeEntry], key: &[Value], row: Dbkey) -> usize

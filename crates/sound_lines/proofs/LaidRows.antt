@@ -8,8 +8,8 @@ use Rattle.std.specs.FinMap.Entries.{put, by_order, is_sorted, find-put, find-wh
 use Rattle.std.proofs.lemmas.Bool.{eq-eqb, ne_eqb}
 use Rattle.rdb_types.specs.declared.values.Value.{Value}
 use Rattle.rdb_types.specs.declared.keys.Dbkey.{Dbkey}
-use Rattle.ordered_entries.specs.Order.{dbkey_order}
-use Rattle.ordered_entries.proofs.Laws.{dbkey_total, same_dbkey}
+use Rattle.rdb_types.specs.Order.{dbkey_order}
+use Rattle.rdb_types.specs.OrderLaws.{dbkey_total, same_dbkey}
 use Rattle.rdb_meaning.specs.Contents.{Row}
 use Rattle.line_view.specs.Knowledge.{Lines, IsInOrder, line_in, lines_in, laid}
 use Rattle.line_view.proofs.FullMap.{other_area}

@@ -5,8 +5,8 @@ use Rattle.std.specs.FinMap.Entries.{put, is_sorted}
 use Rattle.std.proofs.lemmas.List.{append-nil, append_assoc}
 use Rattle.rdo_ast.specs.Tree.{Name}
 use Rattle.rdb_meaning.specs.declared.tables.Relation.{Relation}
-use Rattle.rdb_meaning.specs.Contents.{name_order}
-use Rattle.ordered_entries.proofs.Laws.{chars_total}
+use Rattle.rdb_types.specs.Order.{chars_order as name_order}
+use Rattle.rdb_types.specs.OrderLaws.{chars_total}
 use Rattle.line_view.specs.declared.need.Stop.{Stop}
 use Rattle.line_view.specs.declared.need.Stop.TheVariants.{Missing, Bad, NoMemory}
 use Rattle.line_view.specs.Knowledge.{Knowledge, Lines, IsInOrder, Agrees}

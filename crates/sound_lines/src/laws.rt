@@ -6,7 +6,8 @@ ghost use Rattle.line_view.specs.Knowledge.{Knowledge, Lines, IsInOrder, Agrees,
 ghost use Rattle.line_view.specs.declared.need.Stop.TheVariants.{Bad};
 ghost use Rattle.rdb_types.specs.declared.keys.Dbkey.{Dbkey as Place};
 ghost use Rattle.rdb_meaning.specs.declared.tables.Tables.{Tables as Kept};
-ghost use Rattle.rdb_meaning.specs.Contents.{Row, key_order, no_tables};
+ghost use Rattle.rdb_meaning.specs.Contents.{Row, no_tables};
+ghost use Rattle.rdb_types.specs.Order.{dbkey_order as key_order};
 ghost use Rattle.relation_rows.specs.declared.stored.StoredRelation.{StoredRelation as Stored};
 ghost use Rattle.relation_rows.specs.Stored.{IsRowOf, AreRowsOf};
 ghost use Rattle.relation_rows.specs.Relations.{stored_row};

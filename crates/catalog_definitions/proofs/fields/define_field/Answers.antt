@@ -1,6 +1,6 @@
 use Rattle.std.proofs.Common.{ap, sym, subst, ◌∙◌, ◌≡◌, ◌∷◌, [], None}
 use Rattle.std.specs.FinMap.Entries.{find}
-use Rattle.rdb_meaning.specs.Contents.{name_order}
+use Rattle.rdb_types.specs.Order.{chars_order as name_order}
 use Rattle.rdb_meaning.specs.Defining.{field_names, with_field}
 use Rattle.catalog_definitions.specs.Written.{AreWritten, global_line}
 use Rattle.catalog_definitions.specs.Leaving.{Turns}

@@ -1,6 +1,6 @@
 use Rattle.std.proofs.Common.{subst}
 use Rattle.std.specs.BTreeSet.{IsFromIterResult}
-use Rattle.ordered_entries.specs.Order.{dbkey_order}
+use Rattle.rdb_types.specs.Order.{dbkey_order}
 use Rattle.index_rows.proofs.InTurn.{found_read}
 use Rattle.index_rows.proofs.reading.rows_found.Goals as goal
 

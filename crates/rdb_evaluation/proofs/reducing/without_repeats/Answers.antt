@@ -2,7 +2,7 @@ use Rattle.std.proofs.Common.{◌≡◌, ◌+◌, ◌∙◌, sym, ap, subst, ref
 use Rattle.std.specs.List.{list_any}
 use Rattle.std.specs.Ordering.{is_eq}
 use Rattle.rdb_evaluation.specs.declared.reducing.ReducedValues.{ReducedValues}
-use Rattle.rdb_meaning.specs.Comparison.{row_rank}
+use Rattle.rdb_types.specs.Order.{row_order}
 use Rattle.rdb_meaning.specs.Evaluation.{bind_tuple}
 use Rattle.rdb_meaning.specs.Selecting.{reduced_fields}
 use Rattle.rdb_evaluation.specs.Crossing.{rebound, kept_if}
@@ -14,7 +14,7 @@ use Rattle.rdb_evaluation.proofs.reducing.without_repeats.Goals as goal
 pub loop-tuple-init : goal.loop-tuple-init
 loop-tuple-init c = record {
   rebinds = subst (Rebinds c.args.ranges.now c.args.scope.now) (sym c.in_ok-bound.ensures) (rebinds_sources c.args.ranges.now c.args.scope.now);
-  seen = λ q. ap (list_any (λ (k : ReducedValues). is_eq (row_rank q.values k.values))) c.new-seen.ensures.empty
+  seen = λ q. ap (list_any (λ (k : ReducedValues). is_eq (row_order q.values k.values))) c.new-seen.ensures.empty
       ∙ sym (ap (λ ks. seen_in (reduced_row c.args.clauses.now c.args.ranges.now c.args.tables.now c.args.scope.now) ks q.values) c.new-kept.ensures);
   whole = kept_none (reduced_row c.args.clauses.now c.args.ranges.now c.args.tables.now c.args.scope.now) _ c.new-kept.result c.args.tuples.now c.new-kept.ensures refl;
 }
@@ -35,7 +35,7 @@ loop-tuple-preserved c =
     record {
       rebinds = subst (Rebinds ss c.args.scope.now) (sym bound) (rebinds_more ss c.args.scope.now c.loop-tuple.bound.items tuple inv.rebinds width);
       seen = λ q. set_more row c.loop-tuple.kept c.push_if.new.found tuple q.values c.in_ok-first.first _ new c.in_ok-push_if.ensures
-          (c.in_ok-first.ensures.updates.0 q ∙ (λ j. cond (is_eq (row_rank (values j) q.values)) true (inv.seen q j)));
+          (c.in_ok-first.ensures.updates.0 q ∙ (λ j. cond (is_eq (row_order (values j) q.values)) true (inv.seen q j)));
       whole = kept_more row c.args.tuples.now i tuple _ c.loop-tuple.kept c.push_if.new.found c.in_ok-first.first c.loop-tuple-test.true c.tuple-item.is inv.whole new c.in_ok-push_if.ensures;
     }
 

@@ -1,6 +1,6 @@
 use Rattle.std.proofs.Common.{◌≡◌, drop}
 use Rattle.std.specs.BTreeSet.{contains}
-use Rattle.rdb_meaning.specs.Comparison.{row_rank}
+use Rattle.rdb_types.specs.Order.{row_order}
 use Rattle.rdb_meaning.specs.Selecting.{without_repeats}
 use Rattle.rdb_evaluation.specs.declared.reducing.ReducedValues.{ReducedValues}
 use Rattle.rdb_evaluation.specs.Sorting.{reduced_row, read_alike}
@@ -11,7 +11,7 @@ use Rattle.rdb_evaluation.proofs.reducing.without_repeats.Given as goal
 abbrev pub invariant-loop-tuple : goal.invariant-loop-tuple
 invariant-loop-tuple l = record {
   rebinds : Rebinds l.ranges l.scope l.bound.items;
-  seen : (q : ReducedValues) → contains (λ (a b : ReducedValues). row_rank a.values b.values) l.seen q ≡ seen_in (reduced_row l.clauses l.ranges l.tables l.scope) l.kept q.values;
+  seen : (q : ReducedValues) → contains (λ (a b : ReducedValues). row_order a.values b.values) l.seen q ≡ seen_in (reduced_row l.clauses l.ranges l.tables l.scope) l.kept q.values;
   whole : without_repeats (read_alike l.clauses l.ranges l.tables l.scope) l.tuples
       ≡ kept_then (reduced_row l.clauses l.ranges l.tables l.scope) l.kept (drop l.tuple-index l.tuples);
 }

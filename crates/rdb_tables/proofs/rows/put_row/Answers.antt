@@ -1,6 +1,6 @@
 use Rattle.std.specs.FinMap.Entries.{put}
 use Rattle.std.proofs.lemmas.Result.{on_ok_weaker, on_err_weaker}
-use Rattle.rdb_meaning.specs.Contents.{key_order}
+use Rattle.rdb_types.specs.Order.{dbkey_order as key_order}
 use Rattle.rdb_tables.proofs.RowsInPlace.{rows_put, row_not_put}
 use Rattle.rdb_tables.proofs.rows.put_row.Goals as goal
 

@@ -1,6 +1,6 @@
 use Rattle.std.proofs.Common.{not, filter}
 use Rattle.std.specs.Ordering.{is_eq}
-use Rattle.rdb_meaning.specs.Contents.{key_order}
+use Rattle.rdb_types.specs.Order.{dbkey_order as key_order}
 use Rattle.rdb_tables.proofs.RowsInPlace.{rows_put}
 use Rattle.rdb_tables.proofs.rows.take_row.Goals as goal
 

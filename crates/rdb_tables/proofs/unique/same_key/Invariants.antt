@@ -1,6 +1,6 @@
 use Rattle.std.proofs.Common.{◌≡◌, drop}
 use Rattle.std.specs.Ordering.{is_eq}
-use Rattle.rdb_meaning.specs.Comparison.{row_rank}
+use Rattle.rdb_types.specs.Order.{row_order as row_rank}
 use Rattle.rdb_meaning.specs.Contents.{key_of}
 use Rattle.rdb_tables.proofs.unique.same_key.Given as goal
 

@@ -1,7 +1,7 @@
 use Rattle.std.proofs.Common.{◌≡◌, ◌∙◌, sym, ap, refl, not, cond, true}
 use Rattle.std.specs.List.{list_any}
 use Rattle.std.specs.Ordering.{is_eq}
-use Rattle.rdb_meaning.specs.Comparison.{row_rank}
+use Rattle.rdb_types.specs.Order.{row_order as row_rank}
 use Rattle.rdb_evaluation.specs.declared.reducing.ReducedValues.{ReducedValues}
 use Rattle.rdb_evaluation.proofs.Repeats.{seen_in, kept_none, kept_more, kept_all, set_more}
 use Rattle.rdo_select.specs.Ordered.{reduced_row, reduced_values}

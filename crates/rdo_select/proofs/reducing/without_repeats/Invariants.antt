@@ -1,6 +1,6 @@
 use Rattle.std.proofs.Common.{◌≡◌, drop}
 use Rattle.std.specs.BTreeSet.{contains}
-use Rattle.rdb_meaning.specs.Comparison.{row_rank}
+use Rattle.rdb_types.specs.Order.{row_order as row_rank}
 use Rattle.rdb_meaning.specs.Selecting.{without_repeats}
 use Rattle.rdb_evaluation.specs.declared.reducing.ReducedValues.{ReducedValues}
 use Rattle.rdb_evaluation.proofs.Repeats.{seen_in, kept_then}
