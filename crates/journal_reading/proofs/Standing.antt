@@ -4,7 +4,7 @@ use Rattle.std.specs.List.{flat_map}
 use Rattle.std.proofs.lemmas.Bool.{cases_lt}
 use Rattle.rdb_types.specs.declared.file.FileId.{FileId}
 use Rattle.rdb_types.specs.File.{slot_bytes}
-use Rattle.rdb_outside.specs.Disk.{Image, View}
+use Rattle.rdb_outside.specs.Disk.{Image, View, OnlyReads}
 use Rattle.aij_journal.specs.declared.part.AijPart.{AijPart}
 use Rattle.aij_journal.specs.Part.{IsPart}
 use Rattle.slot_fields.proofs.Laws.{word_not_zeros}
@@ -18,7 +18,6 @@ use Rattle.journal_scan.specs.Standing.{what_stands}
 use Rattle.journal_scan.proofs.Stands.{only_stands}
 use Rattle.journal_scan.proofs.Steps.{in_pieces, end_stays}
 use Rattle.journal_scan.proofs.Groups as found
-use Rattle.journal_reading.specs.OnlyReads.{OnlyReads}
 use Rattle.journal_reading.specs.Journal.{EndsBy, standing, IsReadUpTo}
 
 -- a scan found as much as another, wherever it ended

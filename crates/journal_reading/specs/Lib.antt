@@ -1,2 +1,1 @@
-pub mod OnlyReads
 pub mod Journal

@@ -5,7 +5,7 @@ ghost use Rattle.rdb_types.specs.File.{slot_bytes};
 ghost use Rattle.aij_journal.specs.Header.{IsHeader};
 ghost use Rattle.journal_scan.specs.Whole.{slots_of, AreGroups};
 ghost use Rattle.rdb_outside.specs.Causes.{Rose};
-ghost use Rattle.journal_reading.specs.OnlyReads.{OnlyReads};
+ghost use Rattle.rdb_outside.specs.Disk.{OnlyReads};
 ghost use Rattle.journal_reading.specs.Journal.{EndsBy, standing, IsReadUpTo};
 
 use aij_journal::read_header;

@@ -1,4 +1,7 @@
 // The files of a database. Each is opened when it is first used, made when it is first written, and kept open.
+ghost use Rattle.std.specs.Prelude.{◌≤◌, length, IfOk};
+
+use crate::MOST_TRIES;
 use rdb_types::{FileId, FileKind};
 use std::alloc::{AllocError, Global};
 use std::fs::{File, Files, OpenOptions};
@@ -171,11 +174,24 @@ fn lock_root(file: &File, access: Access) -> io::Result<()> {
     Ok(())
 }
 
+/// One read, made again where a signal interrupts it.
+fn read_some(file: &File, offset: u64, into: &mut [u8]) -> io::Result<usize>
+    ensures { IfOk result (λ count. count ≤ length into.new) }
+{
+    for _ in 0..MOST_TRIES {
+        match file.read_at(into, offset) {
+            Err(error) if error.kind() == io::ErrorKind::Interrupted => {}
+            done => return done,
+        }
+    }
+    Err(io::Error::from(io::ErrorKind::Interrupted))
+}
+
 /// Reads from an offset on. Past the file's end are zeros.
 fn read_all(file: &File, offset: u64, into: &mut [u8]) -> io::Result<()> {
     let mut at = 0;
     while at < into.len() {
-        let count = file.read_at(&mut into[at..], offset.saturating_add(at as u64))?;
+        let count = read_some(file, offset.saturating_add(at as u64), &mut into[at..])?;
         if count == 0 {
             into[at..].fill(0);
             return Ok(());

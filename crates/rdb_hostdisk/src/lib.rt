@@ -15,6 +15,8 @@ use std::fs::{File, Files};
 use std::str;
 pub use streams::{HostSink, HostSource};
 
+/// How often a call is made again that signals interrupt.
+const MOST_TRIES: u32 = u32::MAX;
 
 /// The files of one database, in the folder where the program runs. The disk tells no content, and counts its faults.
 ///

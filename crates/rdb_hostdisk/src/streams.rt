@@ -1,5 +1,6 @@
 ghost use Rattle.std.specs.Prelude.{ℕ, Bool, false, List, [], ◌≤◌, length, IfOk};
 
+use crate::MOST_TRIES;
 use rdb_outside::{Failed, Sink, Source};
 use rdb_types::{NoMemory, Word};
 use std::alloc::Global;
@@ -44,6 +45,32 @@ impl<R: Files + Clone + Drop> HostSource<R> {
     }
 }
 
+/// One read, made again where a signal interrupts it.
+fn read_some<F: Read>(file: &mut F, into: &mut [u8]) -> io::Result<usize>
+    ensures { IfOk result (λ count. count ≤ length into.new) }
+{
+    for _ in 0..MOST_TRIES {
+        match file.read(into) {
+            Err(error) if error.kind() == io::ErrorKind::Interrupted => {}
+            done => return done,
+        }
+    }
+    Err(io::Error::from(io::ErrorKind::Interrupted))
+}
+
+/// One write, made again where a signal interrupts it.
+fn write_some<R: Print>(rt: &R, from: &[u8]) -> io::Result<usize>
+    ensures { IfOk result (λ count. count ≤ length from.now) }
+{
+    for _ in 0..MOST_TRIES {
+        match io::writer(rt).write(from) {
+            Err(error) if error.kind() == io::ErrorKind::Interrupted => {}
+            done => return done,
+        }
+    }
+    Err(io::Error::from(io::ErrorKind::Interrupted))
+}
+
 /// Reads what is left of a script.
 fn read_more<R: Files + Clone + Drop>(
     rt: &R,
@@ -56,7 +83,7 @@ fn read_more<R: Files + Clone + Drop>(
         script.file = Some(fs::open(rt, script.name.as_str())?);
     }
     match &mut script.file {
-        Some(file) => file.read(into),
+        Some(file) => read_some(file, into),
         None => Ok(0),
     }
 }
@@ -108,7 +135,7 @@ impl<R: Print + Clone + Drop> Sink for HostSink<R> {
     ghost faults = { λ s. s.faults };
 
     fn write(&mut self, from: &[u8]) -> Result<usize, Failed> {
-        match io::writer(&self.rt).write(from) {
+        match write_some(&self.rt, from) {
             Ok(count) if count > 0 || from.is_empty() => Ok(count),
             _ => {
                 self.faults = self.faults.saturating_add(1);

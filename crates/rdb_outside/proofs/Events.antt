@@ -5,12 +5,12 @@ use Rattle.rdb_types.specs.declared.file.FileId.{FileId}
 use Rattle.rdb_outside.specs.declared.event.Effect.{Effect}
 use Rattle.rdb_outside.specs.declared.event.Effect.TheVariants.{Passed, Written, Lost, Settled}
 use Rattle.rdb_outside.specs.declared.event.Event.{Event}
-use Rattle.rdb_outside.specs.Disk.{Keeps, Puts, Adds, SameContent, Pending}
+use Rattle.rdb_outside.specs.Disk.{Keeps, Puts, Adds, SameContent, Pending, StillPending}
 use Rattle.rdb_outside.specs.Failing.{failed, failing, is_written, may_be_left, is_settled}
-use Rattle.rdb_outside.specs.Memory.{State, after_call, written, state_of, content_of, memory_view}
+use Rattle.rdb_outside.specs.Memory.{State, written, state_of, content_of, memory_view}
 use Rattle.rdb_outside.specs.Plan.{Plan, is_listed, fails_at, does_at}
-use Rattle.rdb_outside.proofs.Calls.{state_push, pend, settles, same_log, passes_or, adds_to, puts_to, written_adds, written_puts, lost_adds}
-use Rattle.rdb_outside.proofs.Picks.{skip}
+use Rattle.rdb_outside.proofs.Calls.{state_push, pend, pend_of, settles, same_log, passes_or, adds_to, puts_to, written_adds, written_puts, lost_adds}
+use Rattle.rdb_outside.proofs.Picks.{skip, grows, gives}
 
 pub keeps_by : (w : Effect) (log new : List Event) (e : Event) (f g : ℕ) → e.effect ≡ w → may_be_left w ≡ false → (new ≡ log ++ e ∷ []) ⊎ (new ≡ log) → Keeps (memory_view log f) (memory_view new g)
 keeps_by Passed log new e f g is left which = passes_or log new e f g is which
@@ -71,18 +71,22 @@ same_or_puts log new e file slot bytes puts (inl more) = at (is_written e.effect
     at true is = inr (puts_by log new e file slot bytes is puts more)
     at false is = inl (same_by log new e is (inl more))
 
-left_by : (w : Effect) (e : Event) (s : State) → may_be_left w ≡ true → (after_call w e s).pending e.file e.slot (written e)
-left_by Passed e s is = let bad : ⊥ = cc in absurd bad
-left_by Written e s is = inr (refl, refl, refl)
-left_by Lost e s is = inr (refl, refl, refl)
-left_by Settled e s is = let bad : ⊥ = cc in absurd bad
-
 -- a write that is kept may be left by a crash
 pub may_by : (log new : List Event) (e : Event) (g : ℕ) (file : FileId) (slot : ℕ) (bytes : List ℕ) → may_be_left e.effect ≡ true
     → (may_be_left e.effect ≡ true → (e.file ≡ file) × (e.slot ≡ slot) × (written e ≡ bytes)) → new ≡ log ++ e ∷ [] → Pending (memory_view new g) file slot bytes
 may_by log new e g file slot bytes is puts more =
     let here = puts is in
-    let now : (state_of new).pending e.file e.slot (written e) = subst (λ (s : State). s.pending e.file e.slot (written e)) (sym (ap state_of more ∙ state_push log e)) (left_by e.effect e (state_of log) is) in
+    let now : (state_of new).pending e.file e.slot (written e) = subst (λ (s : State). s.pending e.file e.slot (written e)) (sym (ap state_of more ∙ state_push log e)) (gives e.effect e (state_of log) is) in
     let first : (state_of new).pending file e.slot (written e) = subst (λ (f : FileId). (state_of new).pending f e.slot (written e)) here.0 now in
     let second : (state_of new).pending file slot (written e) = subst (λ (i : ℕ). (state_of new).pending file i (written e)) here.1 first in
     pend new g file slot bytes (subst (λ (x : List ℕ). (state_of new).pending file slot x) here.2 second)
+
+-- what may be left is left out by nothing but a barrier
+pub still : (log new : List Event) (e : Event) (f g : ℕ) → is_settled e.effect ≡ false → (new ≡ log ++ e ∷ []) ⊎ (new ≡ log) → StillPending (memory_view log f) (memory_view new g)
+still log new e f g plain (inl more) h i x p =
+    pend new g h i x (subst (λ (s : State). s.pending h i x) (sym (ap state_of more ∙ state_push log e)) (grows e.effect e (state_of log) h i x plain (pend_of log f h i x p)))
+still log new e f g plain (inr same) h i x p = pend new g h i x (subst (λ (l : List Event). (state_of l).pending h i x) (sym same) (pend_of log f h i x p))
+
+pub barrier_plain : (b : Bool) (e : Event) → e.effect ≡ Settled → b ≡ false → is_settled (if b then e else failed e).effect ≡ false
+barrier_plain true e is fails = let bad : ⊥ = cc in absurd bad
+barrier_plain false e is fails = ap (λ w. is_settled (failing w)) is

@@ -36,7 +36,7 @@ again_skip log h k d less is same file slot =
     let e = get_or h k d in
     same file slot ∙ sym (skip e.effect e (state_of (take k h)) is file slot) ∙ ap (λ s. s.content file slot) (sym (state_push (take k h) e)) ∙ ap (λ l. content_of l file slot) (sym (take_more h k d less))
 
-grows : (w : Effect) (e : Event) (s : State) (f : FileId) (i : ℕ) (x : List ℕ) → is_settled w ≡ false → s.pending f i x → (after_call w e s).pending f i x
+pub grows : (w : Effect) (e : Event) (s : State) (f : FileId) (i : ℕ) (x : List ℕ) → is_settled w ≡ false → s.pending f i x → (after_call w e s).pending f i x
 grows Passed e s f i x is may = may
 grows Written e s f i x is may = inl may
 grows Lost e s f i x is may = inl may
@@ -48,7 +48,7 @@ left_not_settled Written is = refl
 left_not_settled Lost is = refl
 left_not_settled Settled is = let bad : ⊥ = cc in absurd bad
 
-gives : (w : Effect) (e : Event) (s : State) → may_be_left w ≡ true → (after_call w e s).pending e.file e.slot (written e)
+pub gives : (w : Effect) (e : Event) (s : State) → may_be_left w ≡ true → (after_call w e s).pending e.file e.slot (written e)
 gives Passed e s is = let bad : ⊥ = cc in absurd bad
 gives Written e s is = inr (refl, refl, refl)
 gives Lost e s is = inr (refl, refl, refl)

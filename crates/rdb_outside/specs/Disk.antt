@@ -52,6 +52,10 @@ pub record Keeps (old new : View) : Type 0 where
   pub content : SameContent old.content new.content
   pub pending : (file : FileId) (slot : ℕ) (bytes : List ℕ) → Pending new file slot bytes → Pending old file slot bytes
 
+-- what a crash might have left in a slot it may leave there still
+abbrev pub StillPending : View → View → Type 0
+StillPending old new = (file : FileId) (slot : ℕ) (bytes : List ℕ) → Pending old file slot bytes → Pending new file slot bytes
+
 -- one slot has these bytes, and the others are as they were
 pub record Puts (file : FileId) (slot : ℕ) (bytes : List ℕ) (old new : Image) : Type 0 where
   pub here : new file slot ≡ bytes
@@ -78,3 +82,16 @@ pub record LeavesOnly (old new : View) (P : Image → Type 0) : Type 0 where
   pub each : (image : Image) → new.left_since old.moment image → P image
   -- for a run that began earlier
   pub before : (t : ℕ) (image : Image) → t ≤ old.moment → new.left_since t image → old.left_since t image ⊎ P image
+
+-- each slot of the image has what a crash might have left there
+abbrev pub IsPending : View → Image → Type 0
+IsPending v image = (file : FileId) (slot : ℕ) → Pending v file slot (image file slot)
+
+-- A run of device calls that write nothing.
+pub record OnlyReads (old new : View) : Type 0 where
+  pub told : new.tells ≡ old.tells
+  pub later : old.moment ≤ new.moment
+  pub no_fewer : old.faults ≤ new.faults
+  pub keeps : IsTrue old.tells → Keeps old new
+  -- a crash at any moment of the run leaves in each slot what one at its beginning might have left there
+  pub leaves : IsTrue old.tells → LeavesOnly old new (IsPending old)

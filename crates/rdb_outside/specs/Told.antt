@@ -1,11 +1,11 @@
 -- What a disk in memory tells.
-use Rattle.std.specs.Prelude.{ℕ, ◌≡◌, ◌≤◌, Bool, List, take, length}
+use Rattle.std.specs.Prelude.{ℕ, ◌≡◌, ◌≤◌, ◌<◌, ◌^◌, Bool, List, take, length}
 use Rattle.rdb_types.specs.declared.file.FileId.{FileId}
 use Rattle.rdb_outside.specs.declared.event.Event.{Event}
 use Rattle.rdb_outside.specs.declared.memory_disk.MemoryDisk.{MemoryDisk}
 use Rattle.rdb_outside.specs.Disk.{Image, View}
 use Rattle.rdb_outside.specs.Memory.{memory_view}
-use Rattle.rdb_outside.specs.Picks.{picked, turned, late_writes}
+use Rattle.rdb_outside.specs.Picks.{picked, turned, bit_of, late_writes}
 use Rattle.rdb_outside.specs.Plan.{Plan}
 
 abbrev pub told_by : MemoryDisk → View
@@ -31,3 +31,9 @@ pub record IsPick (d : MemoryDisk) (t : ℕ) (image : Image) : Type 0 where
   pub kept : List Bool
   pub one_each : length kept ≡ late_writes (calls_of d moment)
   pub same : (file : FileId) (slot : ℕ) → picked_at d moment (turned kept) file slot ≡ image file slot
+
+-- the bits of one number of 32 bits are choices that give the same image
+pub record HasNumber (d : MemoryDisk) (t : ℕ) (keep : ℕ → Bool) : Type 0 where
+  pub pick : ℕ
+  pub small : pick < 2 ^ 32
+  pub same : (file : FileId) (slot : ℕ) → picked_at d t (bit_of pick) file slot ≡ picked_at d t keep file slot

@@ -9,7 +9,9 @@ mod memory_streams;
 mod streams;
 
 pub use disk::Disk;
-pub use laws::{every_image_is_picked, every_pick_is_left, no_image_has_more_slots};
+pub use laws::{
+    a_number_picks_of_32, every_image_is_picked, every_pick_is_left, no_image_has_more_slots,
+};
 pub use memory_disk::MemoryDisk;
 pub use memory_streams::{MemorySink, MemorySource};
 pub use streams::{Failed, Sink, Source};

@@ -5,7 +5,7 @@ ghost use Rattle.std.specs.Vec.{vec_len, vec_capacity};
 ghost use Rattle.rdb_types.specs.File.{slot_bytes};
 ghost use Rattle.rdb_outside.specs.Memory.{content_of, memory_view, IsImage, written};
 ghost use Rattle.rdb_outside.specs.Causes.{Rose};
-ghost use Rattle.rdb_outside.specs.Disk.{IsStable, zeros, View, Counts, Keeps, Puts, Adds, SameContent, Pending};
+ghost use Rattle.rdb_outside.specs.Disk.{IsStable, zeros, View, Counts, Keeps, Puts, Adds, SameContent, Pending, StillPending};
 ghost use Rattle.rdb_outside.specs.Failing.{failed, is_settled, is_written, may_be_left};
 ghost use Rattle.rdb_outside.specs.MemoryLaws.{content_left};
 ghost use Rattle.rdb_outside.specs.Picks.{picked, crash_of, turned, bit_of};
@@ -360,6 +360,7 @@ impl Disk for MemoryDisk {
         ensures works { OnOk result (IsMeantToWork (plan_of self.old) (told_by self.old).moment
             × (slot < self.old.slots)) }
         ensures plan { plan_of self.new ≡ plan_of self.old }
+        ensures still { StillPending (told_by self.old) (told_by self.new) }
         ensures step { (told_by self.old).moment < self.old.calls
             → (told_by self.new).moment ≡ (told_by self.old).moment + 1 }
     {
@@ -397,6 +398,7 @@ impl Disk for MemoryDisk {
         ensures lost { does_at (plan_of self.old) (told_by self.old).moment ≡ false
             → SameContent (told_by self.old).content (told_by self.new).content }
         ensures plan { plan_of self.new ≡ plan_of self.old }
+        ensures still { StillPending (told_by self.old) (told_by self.new) }
         ensures step { (told_by self.old).moment < self.old.calls
             → (told_by self.new).moment ≡ (told_by self.old).moment + 1 }
     {
@@ -413,6 +415,8 @@ impl Disk for MemoryDisk {
         ensures only { OnErr result (IsMeantToFail (plan_of self.old) (told_by self.old).moment) }
         ensures works { OnOk result (IsMeantToWork (plan_of self.old) (told_by self.old).moment) }
         ensures plan { plan_of self.new ≡ plan_of self.old }
+        ensures still { does_at (plan_of self.old) (told_by self.old).moment ≡ false
+            → StillPending (told_by self.old) (told_by self.new) }
         ensures step { (told_by self.old).moment < self.old.calls
             → (told_by self.new).moment ≡ (told_by self.old).moment + 1 }
     {
@@ -431,6 +435,7 @@ impl Disk for MemoryDisk {
         ensures only { OnErr result (IsMeantToFail (plan_of self.old) (told_by self.old).moment) }
         ensures works { OnOk result (IsMeantToWork (plan_of self.old) (told_by self.old).moment) }
         ensures plan { plan_of self.new ≡ plan_of self.old }
+        ensures still { StillPending (told_by self.old) (told_by self.new) }
         ensures step { (told_by self.old).moment < self.old.calls
             → (told_by self.new).moment ≡ (told_by self.old).moment + 1 }
     {

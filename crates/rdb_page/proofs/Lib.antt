@@ -1,3 +1,5 @@
 pub mod States
 pub mod Places
 pub mod Readings
+mod Checking
+mod Staying

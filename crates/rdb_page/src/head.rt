@@ -2,6 +2,7 @@
 ghost use Rattle.std.specs.Prelude.{◌≡◌, ◌<◌, ◌↔◌, ℕ, true, false, Some, None, Ok, length, IfOk, IfSome, IfNone, OnErr, MatchOption, List};
 ghost use Rattle.rdb_page.specs.Page.{lines_of as lines_in, IsHead, IsClass, IsOwner, HasNoMore, IsUnused, StandsAs};
 ghost use Rattle.rdb_page.specs.Lines.{IsLine, never};
+ghost use Rattle.rdb_page.specs.Whole.{IsUsedPage};
 
 use crate::BadPage;
 use slot_fields::{
@@ -30,6 +31,12 @@ pub fn put_head(page: &mut [u8], head: &Head)
     ensures head { IsHead page.new head.now }
     ensures lines { (line : ℕ) → line < lines_in head.now.class
         → IsLine page.new head.now.class line never }
+
+    // Where an area file may hold the logical area, it is a whole page of that file.
+    ensures stands { (file : ℕ) → IsOwner file head.now.owner
+        → StandsAs page.new file head.now.page head.now }
+    ensures whole { (file : ℕ) → IsOwner file head.now.owner
+        → IsUsedPage file head.now.page page.new }
 {
     put_bytes(page, 0, b"PAGE");
     put_u32(page, 4, head.page);

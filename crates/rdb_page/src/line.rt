@@ -2,7 +2,8 @@
 ghost use Rattle.std.specs.Prelude.{◌≡◌, ◌≢◌, ◌≤◌, ◌<◌, ◌+◌, true, false, Ok, length, take, drop, IfSome, IfNone, IfOk, OnErr, ℕ, List};
 ghost use Rattle.slot_fields.specs.Fields.{HasPart};
 ghost use Rattle.rdb_page.specs.Lines.{line_fields, byte_of, IsAllowedLine, IsLine, Agrees, line_place};
-ghost use Rattle.rdb_page.specs.Page.{class_at, lines_of as lines_in, IsClass};
+ghost use Rattle.rdb_page.specs.Page.{class_at, lines_of as lines_in, IsClass, IsHead, HasNoMore};
+ghost use Rattle.rdb_page.specs.Whole.{IsUsedPage};
 
 use crate::BadPage;
 use rdb_types::{Image, Line, LineState, Tsn};
@@ -71,6 +72,14 @@ pub fn put_line(page: &mut [u8], line: u16, value: &Line)
         take place page.new ≡ take place page.old }
     ensures behind { let end = line_place (class_at page.old) (line + 1) in
         drop end page.new ≡ drop end page.old }
+    ensures class { class_at page.new ≡ class_at page.old }
+    ensures head { (head : _) → IsHead page.old head → IsHead page.new head }
+    ensures rest { HasNoMore page.old (class_at page.old)
+        → HasNoMore page.new (class_at page.old) }
+
+    // A whole page stays one.
+    ensures whole { (file number : ℕ) → IsUsedPage file number page.old
+        → IsUsedPage file number page.new }
 {
     let class = u16_at(page, 12) as usize;
     let at = 24 + line as usize * (16 + class);

@@ -5,7 +5,7 @@ use Rattle.std.proofs.Math.Seq.{take-length}
 use Rattle.slot_fields.specs.Fields.{Field, number, number_at}
 use Rattle.slot_fields.proofs.Laws.{number_before, number_behind, zero_number, zeros_within}
 use Rattle.area_files.specs.Areas.{IsDataPage, space_page_of, index_of}
-use Rattle.space_pages.specs.Space.{entry_place, level_at, entries_of, HasNoMore, IsWritten, IsSpace, IsBeside}
+use Rattle.space_pages.specs.Space.{entry_place, level_at, owner_of, level_of, entries_of, HasNoMore, IsWritten, IsSpace, IsBeside}
 
 abbrev pub entry_fields : ℕ → ℕ → List Field
 entry_fields owner level = number 4 owner ∷ number 1 level ∷ []
@@ -76,3 +76,10 @@ old_rest spam space_page size is =
     (λ (zeros : spam ≡ replicate (length spam) 0). (zeros_within 0 (length spam) end (1024 - end) spam (omega arith) (omega (arith, size, entries_bound space_page)) (take-length spam ∙ zeros), tt))
     (λ (written : IsWritten spam space_page). written.rest)
     is.bytes
+
+-- what zeros say of a page
+pub no_owner : (spam : List ℕ) (page : ℕ) → length spam ≡ 1024 → spam ≡ replicate (length spam) 0 → IsDataPage page → owner_of page spam ≡ 0
+no_owner spam page size zeros own = zero_number 0 (length spam) (entry_place (index_of page)) 4 spam (omega arith) (omega (arith, size, index_within page own, entries_bound (space_page_of page))) (take-length spam ∙ zeros)
+
+pub no_level : (spam : List ℕ) (page : ℕ) → length spam ≡ 1024 → spam ≡ replicate (length spam) 0 → IsDataPage page → level_of page spam ≡ 0
+no_level spam page size zeros own = zero_number 0 (length spam) (entry_place (index_of page) + 4) 1 spam (omega arith) (omega (arith, size, index_within page own, entries_bound (space_page_of page))) (take-length spam ∙ zeros)

@@ -1,7 +1,8 @@
 //! Space-management pages: which logical area owns each page, and how full it is.
 #![tactic(auto)]
 
-ghost use Rattle.std.specs.Prelude.{◌≡◌, ◌≤◌, ◌<◌, ◌+◌, ◌*◌, ◌/◌, length, take, drop, true, false, ℕ, OnOk, OnErr};
+ghost use Rattle.std.specs.Prelude.{◌≡◌, ◌≤◌, ◌<◌, ◌+◌, ◌*◌, ◌/◌, length, take, drop, true, false, ℕ, List, OnOk, OnErr};
+ghost use Rattle.rdb_page.specs.Page.{IsUnused};
 ghost use Rattle.slot_fields.specs.Fields.{HasPart};
 ghost use Rattle.area_files.specs.Areas.{IsPage, IsDataPage, space_page_of as space_of, index_of};
 ghost use Rattle.space_pages.specs.Space.{head_fields, entry_place, owner_at, level_at as level_in, owner_of, level_of as level_said, entries_of as count_of, HasNoMore, IsWritten, IsSpace, IsBeside, level_for};
@@ -151,6 +152,14 @@ pub fn check(spam: &[u8], number: u32) -> Result<(), BadPage>
         Err(BadPage {})
     }
 }
+
+/// A space page of zeros says of each page that nobody owns it and that none of its lines is used.
+pub fn zeros_own_nothing()
+    ensures owner { (spam : List ℕ) (page : ℕ) → length spam ≡ 1024 → IsUnused spam → IsDataPage page
+        → owner_of page spam ≡ 0 }
+    ensures level { (spam : List ℕ) (page : ℕ) → length spam ≡ 1024 → IsUnused spam → IsDataPage page
+        → level_said page spam ≡ 0 }
+{}
 
 #[cfg(test)]
 mod tests {

@@ -1,7 +1,7 @@
 use Rattle.std.proofs.Common.{◌≡◌, ◌+◌, ◌-◌, ◌∙◌, sym, ap, subst, inr, IsTrue, arith}
 use Rattle.journal_scan.specs.Reading.{begins_at, read_all}
 use Rattle.journal_reading.specs.Journal.{standing}
-use Rattle.journal_reading.proofs.Runs.{one_call}
+use Rattle.rdb_outside.specs.Runs.{one_call}
 use Rattle.journal_reading.proofs.Standing.{read_next, stage_ended}
 use Rattle.journal_reading.proofs.reading.read_groups.Goals as goal
 

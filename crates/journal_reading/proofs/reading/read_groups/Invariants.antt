@@ -1,6 +1,6 @@
 use Rattle.std.proofs.Common.{◌≡◌, ◌-◌, IsTrue}
 use Rattle.journal_scan.specs.Reading.{begins_at, read_all, slot_of}
-use Rattle.journal_reading.specs.OnlyReads.{OnlyReads}
+use Rattle.rdb_outside.specs.Disk.{OnlyReads}
 use Rattle.journal_reading.specs.Journal.{standing}
 use Rattle.journal_reading.proofs.reading.read_groups.Given as goal
 

@@ -1,7 +1,7 @@
 use Rattle.std.proofs.Common.{◌+◌, length, sym, ◌∙◌, ap, subst, rules}
 use Rattle.journal_scan.specs.Whole.{AreGroups}
 use Rattle.journal_reading.specs.Journal.{standing}
-use Rattle.journal_reading.proofs.Runs.{one_call, then_reads}
+use Rattle.rdb_outside.specs.Runs.{one_call, then_reads}
 use Rattle.journal_reading.proofs.Standing.{is_read, groups, next_number, next_slot}
 use Rattle.journal_reading.proofs.reading.scan.Goals as goal
 

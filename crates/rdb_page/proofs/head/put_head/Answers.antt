@@ -4,6 +4,7 @@ use Rattle.slot_fields.proofs.Laws.{laid_out, zeros_within}
 use Rattle.rdb_page.specs.declared.head.Head.{Head}
 use Rattle.rdb_page.specs.Page.{page_word, lines_end}
 use Rattle.rdb_page.proofs.Places.{ends, zero_line}
+use Rattle.rdb_page.proofs.Staying.{laid_stands, laid_whole}
 use Rattle.rdb_page.proofs.head.put_head.Goals as goal
 
 -- a page with this head and nothing else
@@ -27,3 +28,9 @@ returns-clause-lines c =
     let page = c.put_zeros.new.slot in
     let whole = laid_out (unused_fields c.args.head.now) page 1024 (rw (c.put_zeros.ensures.front, c.put_u16.ensures.front, c.put_u32-2.ensures.front, c.put_u32.ensures.front, c.put_bytes.ensures.front) refl) (search rules) (search rules) in
     λ line less. zero_line c.args.head.now.class line page c.requires.class less whole.1.1.1.1.0
+
+pub returns-clause-stands : goal.returns-clause-stands
+returns-clause-stands c = laid_stands c.put_zeros.new.slot c.args.head.now (returns-clause-head c)
+
+pub returns-clause-whole : goal.returns-clause-whole
+returns-clause-whole c = laid_whole c.put_zeros.new.slot c.args.head.now (returns-clause-head c) (returns-clause-lines c)

@@ -1,6 +1,8 @@
-use Rattle.std.proofs.Common.{ap, ◌∙◌}
+use Rattle.std.proofs.Common.{ap, inl, ◌∙◌}
 use Rattle.rdb_outside.specs.Memory.{content_of}
+use Rattle.rdb_outside.specs.Failing.{is_settled}
 use Rattle.rdb_outside.proofs.Calls.{counts_ok, counts_err, passes, passes_or}
+use Rattle.rdb_outside.proofs.Events.{still}
 use Rattle.rdb_outside.proofs.memory_disk.MemoryDiskDisk.read.Goals as goal
 
 pub returns-in_err-call-clause-counts : goal.returns-in_err-call-clause-counts
@@ -19,3 +21,9 @@ pub returns-clause-bytes : goal.returns-clause-bytes
 returns-clause-bytes c = λ told.
     let kept = (passes _ _ _ c.args.self.now.faults c.call.new.faults c.plain.ensures c.in_ok-call.ensures.ok.0).content c.args.file c.args.slot in
     c.read_from.ensures ∙ ap (λ l. content_of l c.args.file c.args.slot) c.deref.ensures.value ∙ kept
+
+pub returns-in_err-call-clause-still : goal.returns-in_err-call-clause-still
+returns-in_err-call-clause-still c = still _ _ c.plain.result c.args.self.now.faults c.call.new.faults (ap is_settled c.plain.ensures) c.in_err-call.ensures.err
+
+pub returns-clause-still : goal.returns-clause-still
+returns-clause-still c = still _ _ c.plain.result c.args.self.now.faults c.call.new.faults (ap is_settled c.plain.ensures) (inl c.in_ok-call.ensures.ok.0)

@@ -2,7 +2,7 @@ use Rattle.std.proofs.Common.{inl, refl, ◌∙◌, length}
 use Rattle.std.proofs.lemmas.Result.{MatchResult-from_err}
 use Rattle.rdb_outside.specs.Told.{plan_of}
 use Rattle.rdb_outside.proofs.Calls.{counts_ok, counts_err}
-use Rattle.rdb_outside.proofs.Events.{adds_by, puts_by, same_by, same_or_puts, fails_does, may_by}
+use Rattle.rdb_outside.proofs.Events.{adds_by, puts_by, same_by, same_or_puts, fails_does, may_by, still}
 use Rattle.rdb_outside.proofs.memory_disk.MemoryDiskDisk.write.Goals as goal
 
 pub returns-in_err-call-clause-counts : goal.returns-in_err-call-clause-counts
@@ -40,3 +40,9 @@ returns-in_err-call-clause-may c = λ less fits. may_by _ _ c.writing-event.resu
 
 pub returns-clause-may : goal.returns-clause-may
 returns-clause-may c = λ less fits. may_by _ _ c.writing-event.result c.call.new.faults _ _ _ (c.writing-event.ensures.may fits) c.writing-event.ensures.puts c.in_ok-call.ensures.ok.0
+
+pub returns-in_err-call-clause-still : goal.returns-in_err-call-clause-still
+returns-in_err-call-clause-still c = still _ _ c.writing-event.result c.args.self.now.faults c.call.new.faults c.writing-event.ensures.plain c.in_err-call.ensures.err
+
+pub returns-clause-still : goal.returns-clause-still
+returns-clause-still c = still _ _ c.writing-event.result c.args.self.now.faults c.call.new.faults c.writing-event.ensures.plain (inl c.in_ok-call.ensures.ok.0)

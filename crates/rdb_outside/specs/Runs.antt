@@ -1,8 +1,7 @@
--- How a run of calls that write nothing goes on.
+-- How a run of calls that write nothing goes on, for the proofs of the crates above.
 use Rattle.std.proofs.Common.{IsTrue, Result, refl, sym, ◌∙◌, subst, ⊎_elim, inr, arith}
-use Rattle.rdb_outside.specs.Disk.{Image, View, Counts, Keeps, LeavesOnly}
+use Rattle.rdb_outside.specs.Disk.{Image, View, Counts, Keeps, LeavesOnly, IsPending, OnlyReads}
 use Rattle.rdb_outside.specs.Moments.{each_slot, started, goes_on}
-use Rattle.journal_reading.specs.OnlyReads.{IsPending, OnlyReads}
 
 -- before the first call
 pub no_calls : (v : View) → OnlyReads v v
