@@ -6,7 +6,6 @@ use rdb_types::{FileId, FileKind};
 use std::alloc::{AllocError, Global};
 use std::fs::{File, Files, OpenOptions};
 use std::io;
-use std::os::fd::AsRawFd;
 use std::os::unix::fs::FileExt;
 
 /// What a disk is used for, which decides how its root is locked.
@@ -156,16 +155,6 @@ impl HostFile {
     }
 }
 
-/// Makes stable what others wrote to a file, and drops the kernel's copies, which a failed sync may have left other than the disk has them.
-fn settle_found(file: &File) -> io::Result<()> {
-    file.sync_data()?;
-    let advised = libc::posix_fadvise(file.as_raw_fd(), 0, 0, libc::POSIX_FADV_DONTNEED);
-    if advised != 0 {
-        return Err(io::Error::from_raw_os_error(advised));
-    }
-    Ok(())
-}
-
 fn lock_root(file: &File, access: Access) -> io::Result<()> {
     match access {
         Access::Sole => file.try_lock()?,
@@ -258,7 +247,7 @@ impl HostFiles {
 
     /// Locks the root's file, and keeps it.
     fn hold_root(&mut self, file: File) -> io::Result<()> {
-        if lock_root(&file, self.access).is_err() || settle_found(&file).is_err() {
+        if lock_root(&file, self.access).is_err() || file.sync_data().is_err() {
             return self.lose();
         }
         let Some(root) = self.files.get_mut(ROOT_PLACE) else {
@@ -297,7 +286,7 @@ impl HostFiles {
             return Ok(());
         }
         if let Some(file) = entry.found(rt, self.access)? {
-            if settle_found(&file).is_err() {
+            if file.sync_data().is_err() {
                 return self.lose();
             }
             entry.open = Some(file);
