@@ -10,4 +10,3 @@ pub use known::{Known, PresentLine};
 pub use need::{Need, Room, Stop};
 pub use view::{Seen, View};
 pub use writes::{Write, Writes};
-

@@ -15,4 +15,3 @@ pub use node::{contains, is_above, is_on, level_under, node_above, on_way, step_
 pub use party::{Asked, OpenWant, Party, mode_for};
 pub use rdb_types::{Level, Node};
 pub use waiting::waits_for;
-

@@ -31,4 +31,3 @@ pub use owners::{MAX_OWNERS, is_owner};
 pub use progress::the_measure_falls;
 pub use tree::Tree;
 pub use vms_locks::Cycle;
-

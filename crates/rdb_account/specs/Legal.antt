@@ -173,4 +173,4 @@ pub record IsLegal (o : Opening) (events : List Event) : Type 0 where
 abbrev pub AreWhole : (ℕ → Bool) → Opening → List Event → Type 0
 AreWhole ended o events =
     (s : ℕ) → ended s ≡ true →
-        (is_mortal ((place o events).life s) ≡ true) × ((place o events).said s ≡ length (o.script s)) × ((place o events).transaction s ≡ None)
+    (is_mortal ((place o events).life s) ≡ true) × ((place o events).said s ≡ length (o.script s)) × ((place o events).transaction s ≡ None)

@@ -8,4 +8,3 @@ mod threads;
 pub use driven::{Act, Driven, Gate, Point, Step};
 pub use order::{MOST_SESSIONS, drive_in_order};
 pub use threads::drive;
-

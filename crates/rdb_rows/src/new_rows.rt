@@ -68,15 +68,7 @@ fn new_over<R: Threads + Wait + Sync>(
     alloc: Global,
     disk: MemoryDisk,
 ) -> Result<Outcome, NoMemory> {
-    run_on(
-        rt,
-        alloc,
-        &["NEW", "P"],
-        Vec::new(alloc),
-        &[],
-        &[],
-        disk,
-    )
+    run_on(rt, alloc, &["NEW", "P"], Vec::new(alloc), &[], &[], disk)
 }
 
 fn has_root(disk: &mut MemoryDisk) -> bool {

@@ -6,4 +6,3 @@ mod stored;
 
 pub use reading::{row, rows};
 pub use stored::{Rows, StoredRelation, StoredRow};
-

@@ -13,4 +13,3 @@ mod waits;
 pub use answer::{Cycle, Enq};
 pub use locks::Locks;
 pub use rdb_types::{Level, Node};
-
