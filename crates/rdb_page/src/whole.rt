@@ -3,9 +3,9 @@ ghost use Rattle.std.specs.Prelude.{◌≡◌, length, true, false, IfOk, IfSome
 ghost use Rattle.rdb_page.specs.Page.{IsClass, StandsAs, class_at};
 ghost use Rattle.rdb_page.specs.Whole.{HasLines, IsPageOf};
 
+use crate::BadPage;
 use crate::head::{Head, lines_of, read_head};
 use crate::line::read_line;
-use crate::BadPage;
 
 /// Whether a line stands in each place of this class.
 fn has_lines(page: &[u8], class: u16) -> bool
