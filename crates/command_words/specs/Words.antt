@@ -2,8 +2,7 @@
 use Rattle.std.specs.Prelude.{◌≡◌, ◌≤◌, ℕ, Bool, true, false, ◌||◌, ◌&&◌, ◌+◌, ◌-◌, nat_le, nat_eq, List, [], ◌∷◌, map, length, codes, bytes_eq, slice_index_or, Option, Some, None, is_some, if◌then◌else◌}
 use Rattle.std.specs.List.{list_all}
 use Rattle.rdb_types.specs.declared.keys.Limits.{Limits}
-use Rattle.root_file.specs.Root.{IsAllowed}
-use Rattle.new_database.specs.New.{new_root}
+use Rattle.root_file.specs.Root.{AreLimits}
 use Rattle.command_words.specs.Bytes.{is_letter, is_digit, upper_of, behind}
 use Rattle.command_words.specs.Options.{ask, limits_of, nothing_asked}
 use Rattle.command_words.specs.Orders.{is_order, sessions_in}
@@ -120,5 +119,5 @@ pub record AreLast (words : List (List ℕ)) (s : Scripts) : Type 0 where
 
 -- the limits of a command are within their ranges, and its scripts within its words
 abbrev pub IsAllowedCommand : List (List ℕ) → Command → Type 0
-IsAllowedCommand words (New limits) = IsAllowed (new_root limits)
+IsAllowedCommand words (New limits) = AreLimits limits
 IsAllowedCommand words (Rdo scripts) = AreLast words scripts

@@ -1,8 +1,7 @@
 //! The options of NEW.
 ghost use Rattle.std.specs.Prelude.{◌≡◌, IfSome, codes};
 ghost use Rattle.command_words.specs.Options.{number_in as number_of_range, taken_by, ask as ask_of, limits_of as limits_for, InRange, GivenInRange, IsAsked};
-ghost use Rattle.root_file.specs.Root.{IsAllowed};
-ghost use Rattle.new_database.specs.New.{new_root};
+ghost use Rattle.root_file.specs.Root.{AreLimits};
 
 use crate::bytes::{are_digits, behind, number_of};
 use rdb_types::Limits;
@@ -100,7 +99,7 @@ pub fn ask(asked: Asked, word: &[u8]) -> Option<Asked>
 pub fn limits_of(asked: Asked) -> Limits
     requires { IsAsked asked }
     ensures value { result ≡ limits_for asked }
-    ensures allowed { IsAllowed (new_root result) }
+    ensures allowed { AreLimits result }
 {
     Limits {
         pages: asked.pages.unwrap_or(65536),

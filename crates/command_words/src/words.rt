@@ -6,8 +6,7 @@ ghost use Rattle.command_words.specs.Words.{is_database_byte as database_byte, i
 ghost use Rattle.command_words.specs.Words.{order_text as text_said, scripts_at as scripts_from, rdo_words as rdo_of, said_order as order_said};
 ghost use Rattle.command_words.specs.Words.{command_of as command_for, IsAllowedCommand, database_place, word_of, order_in};
 ghost use Rattle.command_words.specs.Options.{nothing_asked};
-ghost use Rattle.root_file.specs.Root.{IsAllowed};
-ghost use Rattle.new_database.specs.New.{new_root};
+ghost use Rattle.root_file.specs.Root.{AreLimits};
 
 use crate::bytes::{behind, is_digit, is_letter, to_upper};
 use crate::options::{Asked, ask, limits_of};
@@ -85,7 +84,7 @@ fn is_new(word: &[u8]) -> bool
 /// The limits that the words behind NEW name.
 fn new_words(words: &[Word]) -> Option<Limits>
     ensures value { result ≡ new_of nothing_asked words.now }
-    ensures allowed { IfSome result (λ limits. IsAllowed (new_root limits)) }
+    ensures allowed { IfSome result AreLimits }
 {
     let mut asked = Asked {
         pages: None,

@@ -1,6 +1,6 @@
 // A new database with its limits.
 ghost use Rattle.std.specs.Prelude.{◌≡◌, IsTrue, OnOk, IsErr, IsErrOf};
-ghost use Rattle.root_file.specs.Root.{IsAllowed};
+ghost use Rattle.root_file.specs.Root.{AreLimits};
 ghost use Rattle.rdb_outside.specs.Disk.{Image, LeftNow, LeavesOnly, Keeps};
 ghost use Rattle.rdb_outside.specs.Causes.{Rose};
 ghost use Rattle.new_database.specs.Maker.{IsUnmade, HasRoot};
@@ -27,7 +27,7 @@ fn new_root(limits: Limits) -> Root
 
 /// Makes an empty database with these limits, where the root slot is zeros: the first slots of the files, the header of the journal and a barrier, then the root and a barrier.
 pub fn make_new<D: Disk>(disk: &mut D, limits: Limits) -> Result<(), NewFault>
-    requires { IsAllowed (root_of limits) }
+    requires { AreLimits limits }
 
     // Every crash from now on leaves the new database.
     ensures made { OnOk result (IsTrue (D.view disk.old).tells → IsUnmade (D.view disk.old)

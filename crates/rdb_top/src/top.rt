@@ -2,9 +2,9 @@ ghost use Rattle.std.specs.Prelude.{◌≡◌, ◌⊎◌, ◌↔◌, ◌<◌, �
 ghost use Rattle.rdb_types.specs.declared.keys.Limits.{Limits};
 ghost use Rattle.rdb_outside.specs.Causes.{Rose};
 ghost use Rattle.rdb_outside.specs.Disk.{Image, LeftNow, LeavesOnly, Keeps};
-ghost use Rattle.root_file.specs.Root.{IsAllowed};
+ghost use Rattle.root_file.specs.Root.{AreLimits};
 ghost use Rattle.new_database.specs.Maker.{IsUnmade, HasRoot};
-ghost use Rattle.new_database.specs.New.{new_root, IsNewDatabase, IsNewDatabaseOrNone};
+ghost use Rattle.new_database.specs.New.{IsNewDatabase, IsNewDatabaseOrNone};
 ghost use Rattle.command_words.specs.declared.words.Scripts.{Scripts as GivenScripts};
 ghost use Rattle.command_words.specs.Words.{command_of as command_for, word_of, order_in, AreLast};
 ghost use Rattle.script_streams.specs.Fronts.{WritesFront};
@@ -208,7 +208,7 @@ fn run_rdo<R: Threads + Wait + Sync, S: Source, K: Sink, G: Gate + Sync>(
 
 /// Makes a database, and answers the status.
 fn run_new<D: Disk>(disk: &mut D, limits: Limits) -> u8
-    requires { IsAllowed (new_root limits) }
+    requires { AreLimits limits }
     ensures status { (result ≡ 0) ⊎ (result ≡ 3) ⊎ (result ≡ 9) }
     ensures device { result ≡ 3 → Rose (D.view disk.old).faults (D.view disk.new).faults }
     ensures made { result ≡ 0 → IsTrue (D.view disk.old).tells → IsUnmade (D.view disk.old) →
