@@ -6,8 +6,8 @@ ghost use Rattle.rdo_values.specs.Selections.{written_clause};
 ghost use Rattle.rdo_select.specs.Ordered.{value_in, reduced_row, found_alike, reduced_found};
 
 use crate::crossing::{Found, FoundTuples};
-use rdo_arithmetic::ReducedValues;
 use rdb_types::{Copied, Items, NoMemory, Row, Value};
+use rdo_arithmetic::ReducedValues;
 use rdo_values::{BoundClause, BoundReference};
 use std::alloc::Global;
 use std::collections::BTreeSet;
