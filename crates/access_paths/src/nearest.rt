@@ -4,9 +4,8 @@ ghost use Rattle.access_paths.specs.Nearest.{nearest as nearest_of, nearest_numb
 ghost use Rattle.rdb_types.specs.declared.values.Value.TheVariants.{Number as NumberValue};
 ghost use Rattle.rdb_meaning.specs.Numbers.{fitted_value};
 
-use rdb_evaluation::scaled;
 use rdb_types::{Copied, DataType, FieldType, NoMemory, Scaled, Value};
-use rdo_arithmetic::{Misfit, Truth, compared, fit};
+use rdo_arithmetic::{Misfit, Truth, compared, fit, scaled};
 use rdo_ast::syntax::Comparison;
 use std::alloc::Global;
 

@@ -1,11 +1,5 @@
--- Letters, digits and numbers in a word.
-use Rattle.std.specs.Prelude.{ℕ, Bool, ◌||◌, ◌&&◌, ◌+◌, ◌-◌, ◌*◌, nat_le, nat_eq, List, [], ◌∷◌, Option, Some, None, if◌then◌else◌}
-
-abbrev pub is_letter : ℕ → Bool
-is_letter b = (nat_le 65 b && nat_le b 90) || (nat_le 97 b && nat_le b 122)
-
-abbrev pub is_digit : ℕ → Bool
-is_digit b = nat_le 48 b && nat_le b 57
+-- Capitals and numbers in a word.
+use Rattle.std.specs.Prelude.{ℕ, ◌&&◌, ◌+◌, ◌-◌, ◌*◌, nat_le, nat_eq, List, [], ◌∷◌, Option, Some, None, if◌then◌else◌}
 
 -- the capital of a letter, and any other byte itself
 abbrev pub upper_of : ℕ → ℕ

@@ -2,14 +2,15 @@
 use Rattle.std.specs.Prelude.{ℕ, ◌≤◌, Bool, ◌&&◌, nat_le, List, length, codes, Option, Some, None, if◌then◌else◌}
 use Rattle.std.specs.List.{list_all}
 use Rattle.rdb_types.specs.declared.keys.Limits.{Limits}
-use Rattle.command_words.specs.Bytes.{is_digit, digits_from, behind}
+use Rattle.std.specs.Char.{is_ascii_digit}
+use Rattle.command_words.specs.Bytes.{digits_from, behind}
 use Rattle.command_words.specs.declared.options.Taken.{Taken}
 use Rattle.command_words.specs.declared.options.Taken.TheVariants.{Other, Bad, Given}
 use Rattle.command_words.specs.declared.options.Asked.{Asked}
 
 -- 1 to 10 digits
 abbrev pub are_number : List ℕ → Bool
-are_number ds = (nat_le 1 (length ds) && nat_le (length ds) 10) && list_all is_digit ds
+are_number ds = (nat_le 1 (length ds) && nat_le (length ds) 10) && list_all is_ascii_digit ds
 
 -- a number from low to high
 abbrev pub number_in : ℕ → ℕ → List ℕ → Option ℕ

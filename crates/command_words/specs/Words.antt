@@ -2,8 +2,9 @@
 use Rattle.std.specs.Prelude.{◌≡◌, ◌≤◌, ℕ, Bool, true, false, ◌||◌, ◌&&◌, ◌+◌, ◌-◌, nat_le, nat_eq, List, [], ◌∷◌, map, length, codes, bytes_eq, slice_index_or, Option, Some, None, is_some, if◌then◌else◌}
 use Rattle.std.specs.List.{list_all}
 use Rattle.rdb_types.specs.declared.keys.Limits.{Limits}
+use Rattle.std.specs.Char.{is_ascii_alphabetic, is_ascii_digit}
 use Rattle.root_file.specs.Root.{AreLimits}
-use Rattle.command_words.specs.Bytes.{is_letter, is_digit, upper_of, behind}
+use Rattle.command_words.specs.Bytes.{upper_of, behind}
 use Rattle.command_words.specs.Options.{ask, limits_of, nothing_asked}
 use Rattle.command_words.specs.Orders.{is_order, sessions_in}
 use Rattle.command_words.specs.declared.options.Asked.{Asked}
@@ -13,12 +14,12 @@ use Rattle.command_words.specs.declared.words.Command.TheVariants.{New, Rdo}
 
 -- a letter, a digit or `_`
 abbrev pub is_database_byte : ℕ → Bool
-is_database_byte b = (is_letter b || is_digit b) || nat_eq b 95
+is_database_byte b = (is_ascii_alphabetic b || is_ascii_digit b) || nat_eq b 95
 
 -- the name of a database: 1 to 24 such bytes, a letter first
 abbrev pub is_database : List ℕ → Bool
 is_database [] = false
-is_database (b ∷ bs) = (is_letter b && nat_le (length bs) 23) && list_all is_database_byte bs
+is_database (b ∷ bs) = (is_ascii_alphabetic b && nat_le (length bs) 23) && list_all is_database_byte bs
 
 -- a command word, case disregarded
 abbrev pub is_command : List ℕ → List ℕ → Bool

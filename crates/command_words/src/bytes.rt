@@ -1,20 +1,9 @@
-//! Letters, digits and numbers in a word.
+//! Capitals, digits and numbers in a word.
 ghost use Rattle.std.specs.Prelude.{◌≡◌, ◌≤◌, ◌<◌, ◌^◌, ℤ, pos, IfNone, IfSome};
 ghost use Rattle.std.specs.Option.{option_copied};
+ghost use Rattle.std.specs.Char.{is_ascii_digit};
 ghost use Rattle.std.specs.List.{list_all};
-ghost use Rattle.command_words.specs.Bytes.{is_letter as letter, is_digit as digit, upper_of, digits_from, behind as behind_of};
-
-pub fn is_letter(b: u8) -> bool
-    ensures { result ≡ letter b }
-{
-    (65 <= b && b <= 90) || (97 <= b && b <= 122)
-}
-
-pub fn is_digit(b: u8) -> bool
-    ensures { result ≡ digit b }
-{
-    48 <= b && b <= 57
-}
+ghost use Rattle.command_words.specs.Bytes.{upper_of, digits_from, behind as behind_of};
 
 pub fn to_upper(b: u8) -> u8
     ensures { result ≡ upper_of b }
@@ -23,9 +12,9 @@ pub fn to_upper(b: u8) -> u8
 }
 
 pub fn are_digits(bytes: &[u8]) -> bool
-    ensures { result ≡ list_all digit bytes.now }
+    ensures { result ≡ list_all is_ascii_digit bytes.now }
 {
-    bytes.iter().all(|b| is_digit(*b))
+    bytes.iter().all(|b| b.is_ascii_digit())
 }
 
 /// The number that digits stand for, where it is below 2 ^ 63.

@@ -8,7 +8,7 @@ ghost use Rattle.command_words.specs.Words.{command_of as command_for, IsAllowed
 ghost use Rattle.command_words.specs.Options.{nothing_asked};
 ghost use Rattle.root_file.specs.Root.{AreLimits};
 
-use crate::bytes::{behind, is_digit, is_letter, to_upper};
+use crate::bytes::{behind, to_upper};
 use crate::options::{Asked, ask, limits_of};
 use crate::orders::{is_order, sessions_of};
 use rdb_types::{Items, Limits, NoMemory, Word};
@@ -40,7 +40,7 @@ pub enum Command {
 fn is_database_byte(b: u8) -> bool
     ensures { result ≡ database_byte b }
 {
-    is_letter(b) || is_digit(b) || b == b'_'
+    b.is_ascii_alphabetic() || b.is_ascii_digit() || b == b'_'
 }
 
 fn are_database_bytes(bytes: &[u8]) -> bool
@@ -56,7 +56,7 @@ fn is_database(word: &[u8]) -> bool
         [] => false,
         [b, rest @ ..] => {
             let are_good = are_database_bytes(rest);
-            let starts = is_letter(*b);
+            let starts = b.is_ascii_alphabetic();
             let is_short = rest.len() <= 23;
             starts && is_short && are_good
         }

@@ -1,13 +1,9 @@
-pub mod Connectives
 pub mod Chains
 pub mod Exits
 pub mod Cursors
 pub mod Rebinding
 pub mod FirstTuple
 pub mod Scales
-pub mod Extremes
 pub mod Judging
-pub mod StableSort
 pub mod Ranks
 pub mod Sorted
-pub mod Repeats

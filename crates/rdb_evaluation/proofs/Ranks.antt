@@ -1,31 +1,22 @@
--- The order of values, and of lists of them with directions, is a total order.
-use Rattle.std.proofs.Common.{◌≡◌, ℕ, zero, suc, ◌+◌, ◌<◌, Bool, true, false, List, [], ◌∷◌, length, get_or, drop, refl, ap, sym, subst, ◌∙◌, add-one}
+-- The order of lists of values with directions is a total order.
+use Rattle.std.proofs.Common.{◌≡◌, ℕ, zero, suc, ◌+◌, ◌<◌, Bool, true, false, List, [], ◌∷◌, length, get_or, drop, refl, ap, sym, ◌∙◌, add-one}
 use Rattle.std.proofs.lemmas.List.{at_drop_more}
 use Rattle.std.specs.Cmp.{IsTotalOrder}
-use Rattle.std.specs.Cmp.Lexicographic.{slice_cmp}
 use Rattle.std.specs.declared.cmp.Ordering.{Ordering}
-use Rattle.std.specs.declared.cmp.Ordering.TheVariants.{Less, Equal, Greater}
-use Rattle.std.specs.Ordering.{nat_cmp, int_cmp, on, then_cmp, ordering_then, is_ne}
-use Rattle.std.proofs.lemmas.Cmp.{nat_cmp_total, int_cmp_total, nat_list_cmp_total, on_total, then_total, back_total}
+use Rattle.std.specs.declared.cmp.Ordering.TheVariants.{Equal}
+use Rattle.std.specs.Ordering.{ordering_then, is_ne}
+use Rattle.std.proofs.lemmas.Cmp.{on_total, then_total}
 use Rattle.rdb_types.specs.declared.values.Value.{Value}
-use Rattle.rdb_types.specs.declared.values.Value.TheVariants.{Missing, Number, Text}
+use Rattle.rdb_types.specs.declared.values.Value.TheVariants.{Missing}
 use Rattle.rdo_ast.specs.declared.syntax.SortKey.{SortKey}
 use Rattle.rdo_ast.specs.declared.syntax.Reference.{Reference}
 use Rattle.rdb_types.specs.Order.{value_order}
-use Rattle.rdb_meaning.specs.Evaluation.{number_of}
 use Rattle.rdb_meaning.specs.Selecting.{turned, sort_order}
 use Rattle.rdb_evaluation.specs.declared.sorting.Ranked.{Ranked}
-use Rattle.rdb_types.specs.OrderLaws.{value_total}
+use Rattle.rdo_arithmetic.proofs.Directions.{turned_total, equal_total, then_ne, then_not_ne}
 use Rattle.rdb_evaluation.specs.Sorting.{first_value, further_values, directed_order, ranked_order, key_values, directions}
 
 -- ---- lists of values
-
-pub turned_total : (d : Bool) → IsTotalOrder (λ a b. turned d (value_order a b))
-turned_total true = subst IsTotalOrder (λ i a b. value_total.antisymm b a i) (back_total value_total)
-turned_total false = value_total
-
-pub equal_total : {A : Type 0} → IsTotalOrder (λ (a b : A). Equal)
-equal_total = record { antisymm = λ a b. refl; trans = λ a b c p q. p; congr = λ a b c p. refl }
 
 directed_total : (ds : List Bool) → IsTotalOrder (directed_order ds)
 directed_total [] = equal_total
@@ -59,16 +50,6 @@ directed_step ds a b i e h =
     at_drop_more (λ es. directed_order es (drop i a) (drop i b)) ds i e h
     ∙ (λ j. ordering_then (turned (get_or ds i e) (value_order (first_is a i j) (first_is b i j))) (directed_order (drop (i + 1) ds) (further_is a i j) (further_is b i j)))
     ∙ ap (λ n. ordering_then (turned (get_or ds i e) (value_order (get_or a i Missing) (get_or b i Missing))) (directed_order (drop (i + 1) ds) (drop n a) (drop n b))) (sym (add-one i))
-
-pub then_ne : (o p : Ordering) → is_ne o ≡ true → ordering_then o p ≡ o
-then_ne Less p e = refl
-then_ne Equal p e = cc
-then_ne Greater p e = refl
-
-pub then_not_ne : (o p : Ordering) → is_ne o ≡ false → ordering_then o p ≡ p
-then_not_ne Less p e = cc
-then_not_ne Equal p e = refl
-then_not_ne Greater p e = cc
 
 -- the order at a place, and that of the places behind it
 one_place : (ds : List Bool) (a b : List Value) (i : ℕ) (e : Bool) (r o : Ordering) → i < length ds → directed_order ds a b ≡ directed_order (drop i ds) (drop i a) (drop i b) → r ≡ value_order (get_or a i Missing) (get_or b i Missing) → o ≡ turned (get_or ds i e) r → directed_order ds a b ≡ ordering_then o (directed_order (drop (i + 1) ds) (drop (i + 1) a) (drop (i + 1) b))

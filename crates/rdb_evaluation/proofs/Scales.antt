@@ -3,22 +3,11 @@ use Rattle.std.proofs.Common.{◌≡◌, ℕ, ◌+◌, ◌<◌, ◌≤◌, min, 
 use Rattle.std.proofs.lemmas.List.{at_drop_more}
 use Rattle.rdo_ast.specs.declared.syntax.Expression as tree
 use Rattle.rdo_ast.specs.declared.syntax.Operation.{Operation}
-use Rattle.rdo_ast.specs.declared.syntax.Arithmetic.{Arithmetic}
-use Rattle.rdo_ast.specs.declared.syntax.Arithmetic.TheVariants.{Plus, Minus, Times}
 use Rattle.rdo_ast.specs.Tree.{Operations, no_operation, operation}
 use Rattle.rdo_ast.specs.Views.{operations_of, applied_of, expression_of}
 use Rattle.rdb_meaning.specs.declared.tables.Tables.{Tables}
 use Rattle.rdb_meaning.specs.Evaluation.{Scope, scale_by, scale_of, scale_after}
-
-cut_by : (op : Arithmetic) (r s t : ℕ) → min r 19 ≡ min s 19 → min (scale_by op r t) 19 ≡ min (scale_by op s t) 19
-cut_by Plus r s t e = omega arith
-cut_by Minus r s t e = omega arith
-cut_by Times r s t e = omega arith
-
-cut_operand : (op : Arithmetic) (s t u : ℕ) → t ≡ min u 19 → min (scale_by op s t) 19 ≡ min (scale_by op s u) 19
-cut_operand Plus s t u e = omega arith
-cut_operand Minus s t u e = omega arith
-cut_operand Times s t u e = omega arith
+use Rattle.rdo_arithmetic.proofs.Cuts.{cut_by, cut_operand}
 
 cut_after : (os : Operations) (r s : ℕ) (t : Tables) (scope : Scope) → min r 19 ≡ min s 19 → min (scale_after r os t scope) 19 ≡ min (scale_after s os t scope) 19
 cut_after no_operation r s t scope e = e

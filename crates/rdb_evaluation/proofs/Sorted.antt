@@ -17,7 +17,7 @@ use Rattle.rdb_meaning.specs.Selecting.{sort_keys, sort_order, reads_of, placed,
 use Rattle.rdb_evaluation.specs.declared.sorting.Ranked.{Ranked}
 use Rattle.rdb_evaluation.specs.Sorting.{ranked_tuple, ranked_order, directions, key_values}
 use Rattle.rdb_evaluation.proofs.Ranks.{directed_is}
-use Rattle.rdb_evaluation.proofs.StableSort.{sorted_map, sorted_by_none}
+use Rattle.rdo_arithmetic.proofs.StableSort.{sorted_map, sorted_by_none}
 
 pub map_take_more : {A B : Type 0} (f : A → B) (xs : List A) (i : ℕ) (x : A) → i < length xs → x ≡ get_or xs i x → map f (take (i + 1) xs) ≡ map f (take i xs) ++ f x ∷ []
 map_take_more f xs i x h e = ap (map f) (take_more xs i x h) ∙ map-append f (take i xs) (get_or xs i x ∷ []) ∙ ap (λ y. map f (take i xs) ++ f y ∷ []) (sym e)

@@ -1,4 +1,3 @@
 pub mod Answers
 pub mod Crossing
 pub mod Sorting
-pub mod RowLaws

@@ -1,8 +1,8 @@
--- What tuples are sorted and reduced by: the values that their keys read, and the order of such values.
+-- What tuples are sorted by: the values that their keys read, and the order of such values.
 use Rattle.std.specs.Prelude.{Bool, List, [], ◌∷◌, map}
 use Rattle.std.specs.declared.cmp.Ordering.{Ordering}
 use Rattle.std.specs.declared.cmp.Ordering.TheVariants.{Equal}
-use Rattle.std.specs.Ordering.{ordering_then, is_eq}
+use Rattle.std.specs.Ordering.{ordering_then}
 use Rattle.rdb_types.specs.declared.keys.Dbkey.{Dbkey}
 use Rattle.rdb_types.specs.declared.values.Value.{Value}
 use Rattle.rdb_types.specs.declared.values.Value.TheVariants.{Missing}
@@ -12,9 +12,9 @@ use Rattle.rdo_ast.specs.declared.syntax.SortKey.{SortKey}
 use Rattle.rdo_ast.specs.declared.syntax.Clause.{Clause}
 use Rattle.rdb_meaning.specs.declared.tables.Tables.{Tables}
 use Rattle.rdb_evaluation.specs.declared.sorting.Ranked.{Ranked}
-use Rattle.rdb_types.specs.Order.{value_order, row_order}
+use Rattle.rdb_types.specs.Order.{value_order}
 use Rattle.rdb_meaning.specs.Evaluation.{Scope, Tuple, read}
-use Rattle.rdb_meaning.specs.Selecting.{turned, sort_keys, reduced_fields, reads_of}
+use Rattle.rdb_meaning.specs.Selecting.{turned, sort_keys, reads_of}
 
 -- the value that a reference reads
 abbrev pub value_read : Tables → Scope → Reference → Value
@@ -45,10 +45,3 @@ directed_order (d ∷ ds) a b = ordering_then (turned d (value_order (first_valu
 
 abbrev pub ranked_order : List Bool → Ranked → Ranked → Ordering
 ranked_order ds a b = directed_order ds a.values b.values
-
--- what the fields of REDUCED TO read for a tuple
-abbrev pub reduced_row : List Clause → List Range → Tables → Scope → Tuple → List Value
-reduced_row cs ss t scope ks = map (reads_of ss t scope ks) (reduced_fields cs)
-
-abbrev pub read_alike : List Clause → List Range → Tables → Scope → Tuple → Tuple → Bool
-read_alike cs ss t scope k l = is_eq (row_order (reduced_row cs ss t scope k) (reduced_row cs ss t scope l))

@@ -9,13 +9,9 @@ mod reducing;
 mod scale;
 mod select;
 mod sorting;
-mod statistics;
 mod tuples;
 
 pub use evaluate::{chooses, value_of};
-pub use reading::{read, scaled};
-pub use reducing::ReducedValues;
-pub use scale::{capped, operated_scale};
+pub use reading::read;
 pub use select::selection;
-pub use statistics::statistic;
 pub use tuples::Tuples;

@@ -1,31 +1,14 @@
 ghost use Rattle.std.specs.Prelude.{◌≡◌, IfOk};
 ghost use Rattle.rdb_meaning.specs.Numbers.{is};
-ghost use Rattle.rdb_meaning.specs.Evaluation.{read as read_of, read_bound as read_bound_of, scaled_by};
+ghost use Rattle.rdb_meaning.specs.Evaluation.{read as read_of, read_bound as read_bound_of};
 ghost use Rattle.rdo_arithmetic.specs.Answers.{Gives};
 ghost use Rattle.rdb_evaluation.specs.Sorting.{value_read};
 
 use rdb_meaning::{Binding, FieldAt, Tables, binding_of, field_of};
-use rdb_types::{Chars, Copied, FieldType, NoMemory, Scaled, Value};
-use rdo_arithmetic::{Stop, absent};
+use rdb_types::{Chars, NoMemory, Scaled, Value};
+use rdo_arithmetic::{Stop, absent, scaled};
 use rdo_ast::syntax::Reference;
 use std::alloc::Global;
-
-/// A value with its field's scale, which is 0 for a text and for a missing value.
-pub fn scaled(alloc: Global, kind: &FieldType, value: &Value) -> Result<Scaled, Stop>
-    ensures { Gives result (is (scaled_by kind.now value.now)) }
-{
-    match value {
-        Value::Missing => Ok(absent()),
-        Value::Number(n) => Ok(Scaled {
-            value: Value::Number(*n),
-            scale: kind.scale,
-        }),
-        Value::Text(text) => Ok(Scaled {
-            value: Value::Text(text.copied(alloc)?),
-            scale: 0,
-        }),
-    }
-}
 
 fn read_bound(
     alloc: Global,

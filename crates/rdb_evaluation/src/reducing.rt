@@ -2,75 +2,18 @@
 ghost use Rattle.std.specs.Prelude.{◌≡◌, ◌++◌, map, IfOk};
 ghost use Rattle.rdb_meaning.specs.Selecting.{is_reduced as is_reduced_by, reduced_fields, reduced_tuples, without_repeats as without_repeats_of};
 ghost use Rattle.rdb_evaluation.specs.Crossing.{AreOver};
-ghost use Rattle.rdb_evaluation.specs.Sorting.{value_read, read_alike};
+ghost use Rattle.rdb_evaluation.specs.Sorting.{value_read};
+ghost use Rattle.rdo_arithmetic.specs.Reducing.{read_alike};
 
 use crate::binding::{opened, rebind};
 use crate::reading::read_value;
 use crate::tuples::{Tuples, push_if};
 use rdb_meaning::{Binding, Tables};
-use rdb_types::{Items, Keys, NoMemory, Row, row_order};
+use rdb_types::{Items, Keys, NoMemory, Row};
+use rdo_arithmetic::ReducedValues;
 use rdo_ast::syntax::{Clause, Range, Reference};
 use std::alloc::Global;
-use std::cmp::Ordering;
 use std::collections::BTreeSet;
-
-/// The values of the fields that tuples are reduced to. They are ordered as rows are.
-#[derive(Drop)]
-pub struct ReducedValues {
-    pub values: Row,
-}
-
-impl PartialEq for ReducedValues {
-    ghost use Rattle.std.specs.Ordering.{is_eq};
-    ghost use Rattle.rdb_types.specs.Order.{row_order};
-    ghost use Rattle.rdb_evaluation.specs.RowLaws.{row_partial_equivalence};
-
-    ghost eq = { λ a b. is_eq (row_order a.values b.values) };
-
-    ghost laws = { row_partial_equivalence };
-
-    fn eq(&self, other: &ReducedValues) -> bool {
-        row_order(self.values.as_slice(), other.values.as_slice()).is_eq()
-    }
-}
-
-impl Eq for ReducedValues {
-    ghost use Rattle.rdb_evaluation.specs.RowLaws.{row_equivalence};
-
-    ghost laws = { row_equivalence };
-}
-
-impl PartialOrd for ReducedValues {
-    ghost use Rattle.std.specs.Prelude.{Some};
-    ghost use Rattle.rdb_types.specs.Order.{row_order};
-    ghost use Rattle.rdb_evaluation.specs.RowLaws.{row_partial_order};
-
-    ghost partial_cmp = { λ a b. Some (row_order a.values b.values) };
-
-    ghost laws = { row_partial_order };
-
-    fn partial_cmp(&self, other: &ReducedValues) -> Option<Ordering> {
-        Some(row_order(self.values.as_slice(), other.values.as_slice()))
-    }
-}
-
-impl Ord for ReducedValues {
-    ghost use Rattle.std.proofs.Common.{refl};
-    ghost use Rattle.rdb_types.specs.Order.{row_order};
-    ghost use Rattle.rdb_evaluation.specs.RowLaws.{reduced_total};
-
-    ghost cmp = { λ a b. row_order a.values b.values };
-
-    ghost total = { reduced_total };
-
-    ghost matches_partial_cmp = { λ a b. refl };
-
-    ghost matches_eq = { λ a b. refl };
-
-    fn cmp(&self, other: &ReducedValues) -> Ordering {
-        row_order(self.values.as_slice(), other.values.as_slice())
-    }
-}
 
 fn is_reduced(clauses: &[Clause]) -> bool
     ensures { result ≡ is_reduced_by clauses.now }

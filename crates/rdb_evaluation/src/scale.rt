@@ -1,25 +1,14 @@
 //! How many digits after the point an expression's numbers have. A TOTAL over no values is 0 with as many.
 ghost use Rattle.std.specs.Prelude.{◌≡◌, ◌≤◌, min, map, IfOk};
 ghost use Rattle.rdo_ast.specs.Views.{expression_of, operations_of, applied_of};
-ghost use Rattle.rdb_meaning.specs.Evaluation.{bind_sources, referred, scale_of_place, scale_by, scale_of as scale_of_expression, scale_after};
+ghost use Rattle.rdb_meaning.specs.Evaluation.{bind_sources, referred, scale_of_place, scale_of as scale_of_expression, scale_after};
 
 use crate::binding::opened;
 use rdb_meaning::{Binding, FieldAt, Tables, binding_of, field_of};
 use rdb_types::NoMemory;
-use rdo_arithmetic::GREATEST_SCALE;
-use rdo_ast::syntax::{Arithmetic, Expression, Operation, Range, Reference};
+use rdo_arithmetic::{capped, operated_scale};
+use rdo_ast::syntax::{Expression, Operation, Range, Reference};
 use std::alloc::Global;
-
-/// The scale, or 19 for any past the greatest: no result has one.
-pub fn capped(scale: u8) -> u8
-    ensures { result ≡ min scale 19 }
-{
-    if scale > GREATEST_SCALE {
-        GREATEST_SCALE + 1
-    } else {
-        scale
-    }
-}
 
 fn field_scale(tables: &Tables, scope: &[Binding], reference: &Reference) -> u8
     ensures { result ≡ scale_of_place (referred reference.now tables.now scope.now) }
@@ -33,18 +22,6 @@ fn field_scale(tables: &Tables, scope: &[Binding], reference: &Reference) -> u8
     match field_of(relation.fields.as_slice(), &reference.field) {
         Some(FieldAt { place: _, field }) => field.kind.scale,
         None => 0,
-    }
-}
-
-/// The scale of an operation's result by the scales of its operands, or 19 for any past the greatest.
-pub fn operated_scale(op: Arithmetic, s: u8, t: u8) -> u8
-    requires left { s ≤ 19 }
-    requires right { t ≤ 19 }
-    ensures { result ≡ min (scale_by op s t) 19 }
-{
-    match op {
-        Arithmetic::Times => capped(s + t),
-        Arithmetic::Plus | Arithmetic::Minus => { if s < t { t } else { s } }
     }
 }
 

@@ -7,9 +7,10 @@ ghost use Rattle.rdb_meaning.specs.Execution.{row_line as line_of_row, fields_li
 ghost use Rattle.rdb_tables.specs.Answers.{PrintsLine};
 
 use crate::stop::Stop;
-use rdb_evaluation::{scaled, value_of};
+use rdb_evaluation::value_of;
 use rdb_meaning::{Binding, Tables, binding_of};
 use rdb_types::{Chars, Field, Items, NoMemory, Printed, Scaled, Value};
+use rdo_arithmetic::scaled;
 use rdo_ast::syntax::PrintItem;
 use std::alloc::Global;
 

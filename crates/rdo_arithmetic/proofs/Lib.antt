@@ -1,2 +1,11 @@
 pub mod Scales
 pub mod Prefixes
+pub mod Cuts
+pub mod Items
+pub mod Connectives
+pub mod Exits
+pub mod Extremes
+pub mod Judging
+pub mod Directions
+pub mod StableSort
+pub mod Repeats

@@ -1,5 +1,5 @@
 -- A number of 64 bits keeps within 123 bits where it is brought to a scale up to 18, so 128 bits hold the sum of two such.
-use Rattle.std.proofs.Common.{◌≡◌, ℕ, ◌+◌, ◌-◌, ◌*◌, ◌^◌, ◌≤◌, ◌<◌, ℤ, pos, ◌*ℤ◌, ◌+ℤ◌, ◌-ℤ◌, unsigned_abs, w64, FitsSigned, to_z, of_z, refl, sym, ap, subst, ◌∙◌, arith, Result}
+use Rattle.std.proofs.Common.{◌≡◌, ℕ, ◌*◌, ◌^◌, ◌≤◌, ◌<◌, ℤ, pos, ◌*ℤ◌, ◌+ℤ◌, ◌-ℤ◌, unsigned_abs, w64, FitsSigned, to_z, of_z, refl, subst, ◌∙◌, arith, Result}
 use Rattle.std.specs.Int.{w128}
 use Rattle.std.specs.Int.RustNames.{int_div}
 use Rattle.rdb_types.specs.declared.values.Scaled.{Scaled}
@@ -8,7 +8,7 @@ use Rattle.rdb_meaning.specs.Numbers.{result as result_of}
 use Rattle.rdo_arithmetic.specs.Answers.{Gives}
 use Rattle.std.proofs.lemmas.Int.{to_z-of_z, unsigned_abs-mul, fits_signed_from_abs, quot_fits, ints}
 use Rattle.std.proofs.Math.Nat.{mul-le-mul, pow-le-pow_right, one-le-pow}
-use Rattle.std.specs.Int.Signed.{nat_abs-le, mag}
+use Rattle.std.specs.Int.Signed.{nat_abs-le}
 use Rattle.std.proofs.Math.Facts.{sfits_widen}
 use Rattle.std.proofs.Common.{lit≤, lit<}
 

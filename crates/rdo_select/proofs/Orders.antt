@@ -8,8 +8,8 @@ use Rattle.std.specs.Ordering.{is_ne, ordering_then}
 use Rattle.rdb_types.specs.Order.{value_order as rank_of}
 use Rattle.rdb_meaning.specs.Contents.{Row}
 use Rattle.rdb_meaning.specs.Selecting.{turned}
-use Rattle.rdb_evaluation.proofs.Ranks.{turned_total, equal_total, then_ne, then_not_ne}
-use Rattle.rdb_evaluation.proofs.StableSort.{sorted_by_none}
+use Rattle.rdo_arithmetic.proofs.Directions.{turned_total, equal_total, then_ne, then_not_ne}
+use Rattle.rdo_arithmetic.proofs.StableSort.{sorted_by_none}
 use Rattle.rdo_values.specs.declared.bound.BoundSortKey.{BoundSortKey}
 use Rattle.rdo_values.specs.declared.bound.BoundClause.{BoundClause}
 use Rattle.rdo_values.specs.declared.bound.BoundClause.TheVariants.{Sorted, Reduced}

@@ -1,13 +1,13 @@
 //! REDUCED TO: of the found tuples that agree in the fields only the first stays.
 ghost use Rattle.std.specs.Prelude.{◌≡◌, ◌++◌, map, IfOk};
 ghost use Rattle.rdb_meaning.specs.Selecting.{is_reduced as is_reduced_by, without_repeats as without_repeats_of};
-ghost use Rattle.rdb_evaluation.specs.Crossing.{kept_if};
+ghost use Rattle.rdo_arithmetic.specs.Reducing.{kept_if};
 ghost use Rattle.rdo_values.specs.Selections.{written_clause};
 ghost use Rattle.rdo_select.specs.Ordered.{value_in, reduced_row, found_alike, reduced_found};
 
 use crate::crossing::{Found, FoundTuples};
-use rdb_evaluation::ReducedValues;
 use rdb_types::{Copied, Items, NoMemory, Row, Value};
+use rdo_arithmetic::ReducedValues;
 use rdo_values::{BoundClause, BoundReference};
 use std::alloc::Global;
 use std::collections::BTreeSet;

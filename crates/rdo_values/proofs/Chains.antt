@@ -1,11 +1,11 @@
 -- One step of the loops over chains of operations, over tests and over conjunctions.
 use Rattle.std.proofs.Common.{◌≡◌, ℕ, ◌+◌, ◌<◌, ◌≤◌, Bool, true, false, List, [], ◌∷◌, map, length, get_or, drop, refl, ap, sym, ◌∙◌, subst, rules, arith, zero, suc}
-use Rattle.std.proofs.lemmas.List.{at_drop_more}
 use Rattle.rdb_types.specs.declared.values.Scaled.{Scaled}
 use Rattle.rdb_meaning.specs.Numbers.{Computed, is, overflow, arithmetic}
 use Rattle.rdb_meaning.specs.Comparison.{Weighed, holds, overflows, and_of, or_of, Verdict, chosen, passed_over, undecided, both_parts, verdict_of}
 use Rattle.rdb_meaning.specs.Contents.{Row}
-use Rattle.rdb_evaluation.proofs.Connectives.{and_of_assoc, or_of_assoc, or_of-overflows, both_parts_assoc}
+use Rattle.rdo_arithmetic.proofs.Connectives.{and_of_assoc, or_of_assoc, or_of-overflows, both_parts_assoc, so_far, both_parts-chosen_right, so_far-undecided}
+use Rattle.rdo_arithmetic.proofs.Items.{at_item}
 use Rattle.rdo_values.specs.declared.bound.BoundExpression as tree
 use Rattle.rdo_values.specs.declared.bound.BoundOperation.{BoundOperation}
 use Rattle.rdo_values.specs.declared.bound.BoundConjunction.{BoundConjunction}
@@ -14,10 +14,6 @@ use Rattle.rdo_values.specs.Tree.{Operations, no_operation, operation}
 use Rattle.rdo_values.specs.Views.{operations_of, applied_of, expression_of, testing_of, conjunction_of, conjunction_with, condition_with}
 use Rattle.rdo_values.specs.Known.{IsSettled, AreSettled, IsSettledTesting, IsSettledConjunction, IsSettledCondition}
 use Rattle.rdo_values.specs.Filled.{value_at, value_after, truth_at, all_at, some_at, parts_at, verdict_at}
-
--- an item of a list in its place, and what is behind it
-at_item : {X Y : Type 0} (F : List X → Y) (xs : List X) (i : ℕ) (x : X) → i < length xs → x ≡ get_or xs i x → F (drop i xs) ≡ F (x ∷ drop (i + 1) xs)
-at_item F xs i x h e = at_drop_more F xs i x h ∙ ap (λ y. F (y ∷ drop (i + 1) xs)) (sym e)
 
 -- ---- chains of operations
 
@@ -99,23 +95,9 @@ conjunction_settled (c ∷ cs) (suc i) x h k e = conjunction_settled cs i x (fir
 abbrev pub parts : Row → List BoundTest → Verdict
 parts rows tests = parts_at rows (conjunction_with (map testing_of tests))
 
--- no part was false or missing, and whether one overflowed
-abbrev pub so_far : Bool → Verdict
-so_far true = undecided
-so_far false = chosen
-
 parts_more : (rows : Row) (tests : List BoundTest) (i : ℕ) (x : BoundTest) (total a : Verdict) (w : Weighed) → i < length tests → x ≡ get_or tests i x → total ≡ both_parts a (parts rows (drop i tests)) → truth_at rows (testing_of x) ≡ w → total ≡ both_parts (both_parts a (verdict_of w)) (parts rows (drop (i + 1) tests))
 parts_more rows tests i x total a w h e inv c =
     inv ∙ at_item (λ ts. both_parts a (parts rows ts)) tests i x h e ∙ ap (λ w. both_parts a (both_parts (verdict_of w) (parts rows (drop (i + 1) tests)))) c ∙ sym (both_parts_assoc a (verdict_of w) (parts rows (drop (i + 1) tests)))
-
-both_parts-chosen_right : (v : Verdict) → both_parts v chosen ≡ v
-both_parts-chosen_right chosen = refl
-both_parts-chosen_right passed_over = refl
-both_parts-chosen_right undecided = refl
-
-so_far-undecided : (b : Bool) → both_parts (so_far b) undecided ≡ undecided
-so_far-undecided true = refl
-so_far-undecided false = refl
 
 pub parts_true : (rows : Row) (tests : List BoundTest) (i : ℕ) (x : BoundTest) (total : Verdict) (b d : Bool) → i < length tests → x ≡ get_or tests i x → total ≡ both_parts (so_far b) (parts rows (drop i tests)) → truth_at rows (testing_of x) ≡ holds → d ≡ b → total ≡ both_parts (so_far d) (parts rows (drop (i + 1) tests))
 parts_true rows tests i x total b d h e inv c q =

@@ -1,24 +1,13 @@
 -- Scales of bound forms, cut at 19: what comes of them is cut alike.
 use Rattle.std.proofs.Common.{◌≡◌, ℕ, ◌+◌, ◌<◌, min, List, ◌∷◌, map, length, get_or, drop, ap, sym, ◌∙◌, arith, rules}
 use Rattle.std.proofs.lemmas.List.{at_drop_more}
-use Rattle.rdo_ast.specs.declared.syntax.Arithmetic.{Arithmetic}
-use Rattle.rdo_ast.specs.declared.syntax.Arithmetic.TheVariants.{Plus, Minus, Times}
 use Rattle.rdb_meaning.specs.Evaluation.{scale_by}
 use Rattle.rdo_values.specs.declared.bound.BoundExpression as tree
 use Rattle.rdo_values.specs.declared.bound.BoundOperation.{BoundOperation}
 use Rattle.rdo_values.specs.Tree.{Operations, no_operation, operation}
 use Rattle.rdo_values.specs.Views.{operations_of, applied_of, expression_of}
 use Rattle.rdo_values.specs.Scales.{scale_in, scale_behind}
-
-cut_by : (op : Arithmetic) (r s t : ℕ) → min r 19 ≡ min s 19 → min (scale_by op r t) 19 ≡ min (scale_by op s t) 19
-cut_by Plus r s t e = omega arith
-cut_by Minus r s t e = omega arith
-cut_by Times r s t e = omega arith
-
-cut_operand : (op : Arithmetic) (s t u : ℕ) → t ≡ min u 19 → min (scale_by op s t) 19 ≡ min (scale_by op s u) 19
-cut_operand Plus s t u e = omega arith
-cut_operand Minus s t u e = omega arith
-cut_operand Times s t u e = omega arith
+use Rattle.rdo_arithmetic.proofs.Cuts.{cut_by, cut_operand}
 
 cut_behind : (os : Operations) (r s : ℕ) → min r 19 ≡ min s 19 → min (scale_behind r os) 19 ≡ min (scale_behind s os) 19
 cut_behind no_operation r s e = e

@@ -12,9 +12,8 @@ ghost use Rattle.rdo_values.specs.Known.{IsKnown, IsSettled, AreSettled, value_k
 ghost use Rattle.rdo_values.specs.Filled.{read_at as value_read, value_at, value_after};
 
 use crate::bound::{BoundExpression, BoundOperation, BoundReference, KnownValue};
-use rdb_evaluation::scaled;
 use rdb_types::{Copied, Scaled, Value};
-use rdo_arithmetic::{Stop, absent, arithmetic, negated};
+use rdo_arithmetic::{Stop, absent, arithmetic, negated, scaled};
 use std::alloc::Global;
 
 /// The value at a reference's place, with its field's scale.

@@ -9,7 +9,7 @@ ghost use Rattle.rdo_values.specs.Places.{IsBound};
 ghost use Rattle.rdo_values.specs.Scales.{scale_in, scale_behind};
 
 use crate::bound::{BoundExpression, BoundOperation};
-use rdb_evaluation::{capped, operated_scale};
+use rdo_arithmetic::{capped, operated_scale};
 
 #[cycle(scales)]
 fn scale_of(expr: &BoundExpression) -> u8

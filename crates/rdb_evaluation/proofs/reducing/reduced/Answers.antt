@@ -1,8 +1,8 @@
 use Rattle.std.proofs.Common.{◌≡◌, ◌∙◌, cond, sym, ap, subst}
 use Rattle.std.specs.Result.{IfOk}
 use Rattle.rdb_meaning.specs.Selecting.{without_repeats, agree, reduced_fields, reads_of}
-use Rattle.rdb_evaluation.specs.Sorting.{read_alike}
-use Rattle.rdb_evaluation.proofs.Repeats.{read_alike_is}
+use Rattle.rdo_arithmetic.specs.Reducing.{read_alike}
+use Rattle.rdo_arithmetic.proofs.Repeats.{read_alike_is}
 use Rattle.rdb_evaluation.proofs.reducing.reduced.Goals as goal
 
 pub returns-then-is_reduced : goal.returns-then-is_reduced

@@ -1,14 +1,15 @@
 use Rattle.std.proofs.Common.{◌≡◌, ◌+◌, ◌∙◌, sym, ap, subst, refl, length, map, not, cond, true}
 use Rattle.std.specs.List.{list_any}
 use Rattle.std.specs.Ordering.{is_eq}
-use Rattle.rdb_evaluation.specs.declared.reducing.ReducedValues.{ReducedValues}
+use Rattle.rdo_arithmetic.specs.declared.reduced.ReducedValues.{ReducedValues}
 use Rattle.rdb_types.specs.Order.{row_order}
 use Rattle.rdb_meaning.specs.Evaluation.{bind_tuple}
 use Rattle.rdb_meaning.specs.Selecting.{reduced_fields}
-use Rattle.rdb_evaluation.specs.Crossing.{rebound, kept_if}
-use Rattle.rdb_evaluation.specs.Sorting.{reduced_row, value_read}
+use Rattle.rdb_evaluation.specs.Crossing.{rebound}
+use Rattle.rdo_arithmetic.specs.Reducing.{kept_if, reduced_row}
+use Rattle.rdb_evaluation.specs.Sorting.{value_read}
 use Rattle.rdb_evaluation.proofs.Rebinding.{Rebinds, rebinds_sources, rebinds_more}
-use Rattle.rdb_evaluation.proofs.Repeats.{seen_in, kept_then, kept_none, kept_more, kept_all, set_more}
+use Rattle.rdo_arithmetic.proofs.Repeats.{seen_in, kept_then, kept_none, kept_more, kept_all, set_more}
 use Rattle.rdb_evaluation.proofs.reducing.without_repeats.Goals as goal
 
 pub loop-tuple-init : goal.loop-tuple-init

@@ -2,10 +2,10 @@ use Rattle.std.proofs.Common.{◌≡◌, drop}
 use Rattle.std.specs.BTreeSet.{contains}
 use Rattle.rdb_types.specs.Order.{row_order}
 use Rattle.rdb_meaning.specs.Selecting.{without_repeats}
-use Rattle.rdb_evaluation.specs.declared.reducing.ReducedValues.{ReducedValues}
-use Rattle.rdb_evaluation.specs.Sorting.{reduced_row, read_alike}
+use Rattle.rdo_arithmetic.specs.declared.reduced.ReducedValues.{ReducedValues}
+use Rattle.rdo_arithmetic.specs.Reducing.{reduced_row, read_alike}
 use Rattle.rdb_evaluation.proofs.Rebinding.{Rebinds}
-use Rattle.rdb_evaluation.proofs.Repeats.{seen_in, kept_then}
+use Rattle.rdo_arithmetic.proofs.Repeats.{seen_in, kept_then}
 use Rattle.rdb_evaluation.proofs.reducing.without_repeats.Given as goal
 
 abbrev pub invariant-loop-tuple : goal.invariant-loop-tuple

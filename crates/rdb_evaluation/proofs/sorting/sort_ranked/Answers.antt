@@ -5,7 +5,7 @@ use Rattle.std.proofs.lemmas.List.Sorted.{ranks_by}
 use Rattle.rdb_evaluation.specs.declared.sorting.Ranked.{Ranked}
 use Rattle.rdb_evaluation.specs.Sorting.{ranked_order}
 use Rattle.rdb_evaluation.proofs.Ranks.{ranked_total}
-use Rattle.rdb_evaluation.proofs.StableSort.{sort_is}
+use Rattle.rdo_arithmetic.proofs.StableSort.{sort_is}
 use Rattle.rdb_evaluation.proofs.sorting.sort_ranked.Goals as goal
 
 pub returns : goal.returns

@@ -1,4 +1,4 @@
-use Rattle.std.proofs.Common.{◌≡◌, ℕ, ◌-◌, ◌*ℤ◌, ◌≤◌, ◌^◌, pos, ℤ, FitsSigned, arith, sym, ◌∙◌, ap, subst, refl, unsigned_abs}
+use Rattle.std.proofs.Common.{◌-◌, ◌≤◌, arith, ◌∙◌}
 use Rattle.std.specs.Int.{w64, w128}
 use Rattle.std.proofs.lemmas.Int.{to_z-of_z}
 use Rattle.rdo_arithmetic.proofs.Scales.{code_product, product_fits, product_small}

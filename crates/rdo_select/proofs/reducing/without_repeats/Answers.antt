@@ -2,8 +2,8 @@ use Rattle.std.proofs.Common.{◌≡◌, ◌∙◌, sym, ap, refl, not, cond, tr
 use Rattle.std.specs.List.{list_any}
 use Rattle.std.specs.Ordering.{is_eq}
 use Rattle.rdb_types.specs.Order.{row_order as row_rank}
-use Rattle.rdb_evaluation.specs.declared.reducing.ReducedValues.{ReducedValues}
-use Rattle.rdb_evaluation.proofs.Repeats.{seen_in, kept_none, kept_more, kept_all, set_more}
+use Rattle.rdo_arithmetic.specs.declared.reduced.ReducedValues.{ReducedValues}
+use Rattle.rdo_arithmetic.proofs.Repeats.{seen_in, kept_none, kept_more, kept_all, set_more}
 use Rattle.rdo_select.specs.Ordered.{reduced_row, reduced_values}
 use Rattle.rdo_select.proofs.reducing.without_repeats.Goals as goal
 

@@ -2,8 +2,8 @@ use Rattle.std.proofs.Common.{◌≡◌, drop}
 use Rattle.std.specs.BTreeSet.{contains}
 use Rattle.rdb_types.specs.Order.{row_order as row_rank}
 use Rattle.rdb_meaning.specs.Selecting.{without_repeats}
-use Rattle.rdb_evaluation.specs.declared.reducing.ReducedValues.{ReducedValues}
-use Rattle.rdb_evaluation.proofs.Repeats.{seen_in, kept_then}
+use Rattle.rdo_arithmetic.specs.declared.reduced.ReducedValues.{ReducedValues}
+use Rattle.rdo_arithmetic.proofs.Repeats.{seen_in, kept_then}
 use Rattle.rdo_select.specs.Ordered.{reduced_values, found_alike}
 use Rattle.rdo_select.proofs.reducing.without_repeats.Given as goal
 

@@ -2,7 +2,7 @@ use Rattle.std.proofs.Common.{◌≡◌, rules}
 use Rattle.std.specs.Ordering.{is_lt}
 use Rattle.std.proofs.lemmas.Fn.{always_returns_same}
 use Rattle.std.proofs.lemmas.List.Sorted.{ranks_by}
-use Rattle.rdb_evaluation.proofs.StableSort.{sort_is}
+use Rattle.rdo_arithmetic.proofs.StableSort.{sort_is}
 use Rattle.rdo_select.specs.declared.crossing.Found.{Found}
 use Rattle.rdo_select.specs.Ordered.{found_order}
 use Rattle.rdo_select.proofs.Orders.{found_total}

@@ -3,12 +3,11 @@ use Rattle.std.proofs.Common.{◌≡◌, ℕ, ◌+◌, ◌<◌, ◌≤◌, Bool,
 use Rattle.std.proofs.lemmas.List.{at_drop_more, at_drop_all}
 use Rattle.std.proofs.lemmas.List.Folds.{list_any-append}
 use Rattle.std.proofs.lemmas.Cmp.{eq_by_cmp_equiv}
-use Rattle.std.specs.List.{filter, list_any, list_all}
+use Rattle.std.specs.List.{filter, list_any}
 use Rattle.std.specs.Cmp.{IsEquivalence}
 use Rattle.std.specs.declared.cmp.Ordering.{Ordering}
 use Rattle.std.specs.declared.cmp.Ordering.TheVariants.{Less, Equal, Greater}
 use Rattle.std.specs.Ordering.{is_eq, ordering_then}
-use Rattle.rdb_types.specs.declared.keys.Dbkey.{Dbkey}
 use Rattle.rdb_types.specs.declared.values.Value.{Value}
 use Rattle.rdo_ast.specs.declared.syntax.Clause.{Clause}
 use Rattle.rdo_ast.specs.declared.syntax.Range.{Range}
@@ -17,9 +16,8 @@ use Rattle.rdb_meaning.specs.declared.tables.Tables.{Tables}
 use Rattle.rdb_types.specs.Order.{value_order, row_order}
 use Rattle.rdb_meaning.specs.Evaluation.{Scope, Tuple}
 use Rattle.rdb_meaning.specs.Selecting.{without_repeats, agree, reads_of, reduced_fields}
-use Rattle.rdb_evaluation.specs.Crossing.{kept_if}
+use Rattle.rdo_arithmetic.specs.Reducing.{kept_if, read_alike}
 use Rattle.rdb_types.specs.OrderLaws.{row_total}
-use Rattle.rdb_evaluation.specs.Sorting.{reduced_row, read_alike}
 
 -- ---- two filters in one
 

@@ -1,5 +1,5 @@
 -- The best of values, taken from the last to the first.
-use Rattle.std.proofs.Common.{◌≡◌, ℕ, ◌≤◌, Bool, List, [], ◌∷◌, ◌++◌, min, ℤ, refl, ap, ◌∙◌, arith}
+use Rattle.std.proofs.Common.{◌≡◌, Bool, List, [], ◌∷◌, ◌++◌, refl, ap}
 use Rattle.std.specs.declared.cmp.Ordering.{Ordering}
 use Rattle.rdb_types.specs.declared.values.Scaled.{Scaled}
 use Rattle.rdb_meaning.specs.Numbers.{absent}

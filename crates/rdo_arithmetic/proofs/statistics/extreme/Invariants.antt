@@ -1,8 +1,8 @@
 use Rattle.std.proofs.Common.{◌≡◌, length}
 use Rattle.rdb_meaning.specs.Evaluation.{extreme}
-use Rattle.rdb_evaluation.specs.Answers.{prefers}
-use Rattle.rdb_evaluation.proofs.Extremes.{best_before}
-use Rattle.rdb_evaluation.proofs.statistics.extreme.Given as goal
+use Rattle.rdo_arithmetic.specs.Answers.{prefers}
+use Rattle.rdo_arithmetic.proofs.Extremes.{best_before}
+use Rattle.rdo_arithmetic.proofs.statistics.extreme.Given as goal
 
 abbrev pub invariant-loop-value : goal.invariant-loop-value
 invariant-loop-value l = best_before (prefers l.greatest) l.values l.best ≡ extreme (prefers l.greatest) l.initial.values

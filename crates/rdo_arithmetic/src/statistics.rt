@@ -3,11 +3,13 @@ ghost use Rattle.std.specs.Prelude.{◌≡◌, ◌≤◌, ◌^◌, ℕ, min, uns
 ghost use Rattle.rdb_meaning.specs.Numbers.{is};
 ghost use Rattle.rdb_meaning.specs.Comparison.{order_of};
 ghost use Rattle.rdb_meaning.specs.Evaluation.{number_of as number_in, sum_of, better as better_of, extreme as extreme_of, of_gathered};
-ghost use Rattle.rdo_arithmetic.specs.Answers.{Gives};
-ghost use Rattle.rdb_evaluation.specs.Answers.{prefers};
+ghost use Rattle.rdo_arithmetic.specs.Answers.{Gives, prefers};
 
+use crate::compare::{is_missing, order};
+use crate::numbers::result;
+use crate::operate::absent;
+use crate::stop::Stop;
 use rdb_types::{Items, Scaled, Value};
-use rdo_arithmetic::{Stop, absent, is_missing, order, result};
 use rdo_ast::syntax::Statistic;
 use std::cmp::Ordering;
 

@@ -6,7 +6,7 @@ use Rattle.std.specs.Cmp.{IsTotalOrder, IsEquivalence, IsPartialEquivalence, IsP
 use Rattle.std.specs.Ordering.{is_eq}
 use Rattle.rdb_types.specs.Order.{row_order}
 use Rattle.rdb_types.specs.OrderLaws.{row_total}
-use Rattle.rdb_evaluation.specs.declared.reducing.ReducedValues.{ReducedValues}
+use Rattle.rdo_arithmetic.specs.declared.reduced.ReducedValues.{ReducedValues}
 
 pub reduced_total : IsTotalOrder (λ (a b : ReducedValues). row_order a.values b.values)
 reduced_total = on_total (λ (r : ReducedValues). r.values) row_total

@@ -1,6 +1,6 @@
 use Rattle.std.proofs.Common.{◌≡◌, ◌≤◌, ◌*◌, ◌^◌, ◌+ℤ◌, drop, unsigned_abs}
 use Rattle.rdb_meaning.specs.Evaluation.{sum_of}
-use Rattle.rdb_evaluation.proofs.statistics.total.Given as goal
+use Rattle.rdo_arithmetic.proofs.statistics.total.Given as goal
 
 abbrev pub invariant-loop-value : goal.invariant-loop-value
 invariant-loop-value l = record {

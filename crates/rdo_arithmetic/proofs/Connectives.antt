@@ -1,5 +1,5 @@
 -- AND, OR and the parts of a selection's condition may be taken from the left.
-use Rattle.std.proofs.Common.{◌≡◌, refl}
+use Rattle.std.proofs.Common.{◌≡◌, Bool, true, false, refl}
 use Rattle.rdb_meaning.specs.Comparison.{Weighed, holds, fails, unknown, overflows, and_of, or_of, Verdict, chosen, passed_over, undecided, both_parts}
 
 pub and_of_assoc : (a b c : Weighed) → and_of (and_of a b) c ≡ and_of a (and_of b c)
@@ -136,3 +136,17 @@ pub both_parts-passed_over : (a : Verdict) → both_parts a passed_over ≡ pass
 both_parts-passed_over chosen = refl
 both_parts-passed_over passed_over = refl
 both_parts-passed_over undecided = refl
+
+-- no part was false or missing, and whether one overflowed
+abbrev pub so_far : Bool → Verdict
+so_far true = undecided
+so_far false = chosen
+
+pub both_parts-chosen_right : (v : Verdict) → both_parts v chosen ≡ v
+both_parts-chosen_right chosen = refl
+both_parts-chosen_right passed_over = refl
+both_parts-chosen_right undecided = refl
+
+pub so_far-undecided : (b : Bool) → both_parts (so_far b) undecided ≡ undecided
+so_far-undecided true = refl
+so_far-undecided false = refl
