@@ -10,19 +10,19 @@ use Rattle.lock_needs.specs.declared.party.Asked.{Asked}
 use Rattle.lock_needs.specs.Needs.{is_covered}
 use Rattle.lock_needs.specs.Party.{Party}
 use Rattle.lock_tree.specs.declared.parts.Parts.{Parts}
-use Rattle.lock_tree.specs.declared.answer.Want.{Want}
-use Rattle.lock_tree.specs.declared.answer.Want.TheVariants.{Got}
-use Rattle.lock_tree.specs.declared.answer.Step.{Step}
-use Rattle.lock_tree.specs.declared.answer.Step.TheVariants.{Down, Ends}
-use Rattle.lock_tree.specs.LockTable.{granted_at, RaisedAt}
-use Rattle.lock_tree.specs.Parties.{was_asked}
-use Rattle.lock_tree.specs.Order.{asked_last, asks_cut, without_asks}
-use Rattle.lock_tree.specs.Asking.{whole_mode}
-use Rattle.lock_tree.specs.Forest.{State, opened_of}
-use Rattle.lock_tree.specs.Wanted.{MayTakeWhole, trail_of_want, want_of, GotAtOnce, GotWhole}
-use Rattle.lock_tree.specs.Room.{IsAsBefore}
-use Rattle.lock_tree.proofs.OpenAsks.{cut-fresh}
-use Rattle.lock_tree.proofs.Respared.{with_spare, same-entries}
+use Rattle.lock_tree_laws.specs.declared.answer.Want.{Want}
+use Rattle.lock_tree_laws.specs.declared.answer.Want.TheVariants.{Got}
+use Rattle.lock_tree.specs.declared.steps.Step.{Step}
+use Rattle.lock_tree.specs.declared.steps.Step.TheVariants.{Down, Ends}
+use Rattle.lock_tree_laws.specs.LockTable.{granted_at, RaisedAt}
+use Rattle.lock_tree_laws.specs.Parties.{was_asked}
+use Rattle.lock_tree_laws.specs.Order.{asked_last, asks_cut, without_asks}
+use Rattle.lock_tree_laws.specs.Asking.{whole_mode}
+use Rattle.lock_tree_laws.specs.Forest.{State, opened_of}
+use Rattle.lock_tree_laws.specs.Wanted.{MayTakeWhole, trail_of_want, want_of, GotAtOnce, GotWhole}
+use Rattle.lock_tree_laws.specs.Room.{IsAsBefore}
+use Rattle.lock_tree_laws.proofs.OpenAsks.{cut-fresh}
+use Rattle.lock_tree_laws.proofs.Respared.{with_spare, same-entries}
 
 abbrev goes_down : Step → Bool
 goes_down (Down w) = true

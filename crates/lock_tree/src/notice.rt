@@ -1,13 +1,13 @@
 ghost use Rattle.std.specs.Prelude.{◌≡◌, ◌==◌, ◌+◌, ◌≤◌, ℕ, true, false, length, IfSome, IfOk, OnOk, OnErr};
 ghost use Rattle.lock_needs.specs.Keeping.{is_excess as exceeds};
 ghost use Rattle.lock_needs.specs.Wants.{opened_at, kept_at};
-ghost use Rattle.lock_tree.specs.LockTable.{granted_at, HasIntents};
-ghost use Rattle.lock_tree.specs.Parties.{IsKept, KeepsOthers};
-ghost use Rattle.lock_tree.specs.Forest.{places_kept as places_of_all};
+ghost use Rattle.lock_tree_laws.specs.LockTable.{granted_at, HasIntents};
+ghost use Rattle.lock_tree_laws.specs.Parties.{IsKept, KeepsOthers};
+ghost use Rattle.lock_tree_laws.specs.Forest.{places_kept as places_of_all};
 ghost use Rattle.lock_tree.specs.Notices.{notice_answer};
-ghost use Rattle.lock_tree.specs.Order.{MakesWay, StandsByNeeds};
-ghost use Rattle.lock_tree.specs.Progress.{IsServedAt};
-ghost use Rattle.lock_tree.specs.Room.{HasSpare, UsesSpare};
+ghost use Rattle.lock_tree_laws.specs.Order.{MakesWay, StandsByNeeds};
+ghost use Rattle.lock_tree_laws.specs.Progress.{IsServedAt};
+ghost use Rattle.lock_tree_laws.specs.Inner.Spare.{HasSpare, UsesSpare};
 
 use crate::coming_down::bring_down;
 use crate::holding::granted_of;

@@ -1,7 +1,7 @@
 //! Places in the lock table that are kept for the ends of open wants.
 
 ghost use Rattle.std.specs.Prelude.{◌≡◌, IfSome};
-ghost use Rattle.lock_tree.specs.Forest.{party_of, places_of as places_of_party, places_kept as places_of_all};
+ghost use Rattle.lock_tree_laws.specs.Forest.{party_of, places_of as places_of_party, places_kept as places_of_all};
 
 use crate::owners::MAX_OWNERS;
 use indexmap::IndexMap;

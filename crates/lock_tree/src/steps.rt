@@ -5,20 +5,24 @@ ghost use Rattle.vms_queues.specs.Modes.{at_most};
 ghost use Rattle.vms_queues.specs.Owners.{is_owner};
 ghost use Rattle.lock_needs.specs.Needs.{is_covered, is_plain};
 ghost use Rattle.lock_needs.specs.Wants.{mode_for};
-ghost use Rattle.lock_tree.specs.LockTable.{granted_at, RaisedAt};
-ghost use Rattle.lock_tree.specs.Asking.{HasTakenWhole, whole_mode};
-ghost use Rattle.lock_tree.specs.Releasing.{IsQuiet};
-ghost use Rattle.lock_tree.specs.Room.{UsesSpare, HasRoomFor, LeavesRoom, StaysRoomy, depth};
-ghost use Rattle.lock_tree.specs.Parties.{resting, unasked};
-ghost use Rattle.lock_tree.specs.Forest.{IsWhole, KeepsParties, opened_of, party_of};
-ghost use Rattle.lock_tree.specs.Order.{asked_last};
-ghost use Rattle.lock_tree.specs.Progress.{LeavesLocks, MovesOn, StepsOn};
-ghost use Rattle.lock_tree.specs.declared.answer.Step.TheVariants.{Ends};
-ghost use Rattle.lock_tree.specs.declared.answer.Want.TheVariants.{Got};
+ghost use Rattle.lock_tree_laws.specs.LockTable.{granted_at, RaisedAt};
+ghost use Rattle.lock_tree_laws.specs.Inner.Answering.{HasTakenWhole};
+ghost use Rattle.lock_tree_laws.specs.Asking.{whole_mode};
+ghost use Rattle.lock_tree_laws.specs.Inner.Releasing.{IsQuiet};
+ghost use Rattle.lock_tree_laws.specs.Inner.Spare.{UsesSpare};
+ghost use Rattle.lock_tree.specs.Inner.Rooms.{HasRoomFor, LeavesRoom, StaysRoomy};
+ghost use Rattle.lock_tree_laws.specs.Room.{depth};
+ghost use Rattle.lock_tree_laws.specs.Parties.{resting, unasked};
+ghost use Rattle.lock_tree_laws.specs.Forest.{IsWhole, KeepsParties, opened_of, party_of};
+ghost use Rattle.lock_tree_laws.specs.Order.{asked_last};
+ghost use Rattle.lock_tree_laws.specs.Progress.{LeavesLocks, MovesOn};
+ghost use Rattle.lock_tree.specs.Inner.Stepping.{StepsOn, Steps};
+ghost use Rattle.lock_tree.specs.declared.steps.Step.TheVariants.{Ends};
+ghost use Rattle.lock_tree_laws.specs.declared.answer.Want.TheVariants.{Got};
 ghost use Rattle.lock_tree.specs.States.{state_of};
-ghost use Rattle.lock_tree.specs.Wanted.{IsClear, MayTakeWhole, needs_of, IsOpen, Steps, Answered, AddsAsks};
+ghost use Rattle.lock_tree_laws.specs.Wanted.{IsClear, MayTakeWhole, needs_of, IsOpen, Answered, AddsAsks};
 
-use crate::answer::{Step, Want};
+use lock_tree_laws::Want;
 use crate::asking::take_whole;
 use crate::closing::{end_open, mark_asked, note_ask};
 use crate::ending::is_covered as has_cover;
@@ -29,6 +33,15 @@ use crate::sleeping::{find_blocker, is_asleep, is_crowded};
 use crate::way::further_down;
 use lock_needs::{Need, OpenWant};
 use vms_locks::Enq;
+
+// What comes of a step of an open want.
+#[derive(Debug, Drop)]
+pub(crate) enum Step {
+    // It has come to the next node down its way, where nothing was asked yet.
+    Down(OpenWant),
+    // The call ends with this answer.
+    Ends(Want),
+}
 
 impl Parts {
     // The owner has got the need of its open want, which its locks cover.

@@ -5,14 +5,14 @@ ghost use Rattle.vms_queues.specs.Owners.{is_owner};
 ghost use Rattle.lock_needs.specs.Needs.{is_covered, is_plain};
 ghost use Rattle.lock_needs.specs.Keeping.{is_excess};
 ghost use Rattle.lock_needs.specs.Wants.{kept_at};
-ghost use Rattle.lock_tree.specs.LockTable.{granted_at, AllShare};
-ghost use Rattle.lock_tree.specs.Forest.{IsWhole, KeepsParties, NeedsAreApart, idle, party_of, has_need, asks_of};
+ghost use Rattle.lock_tree_laws.specs.LockTable.{granted_at, AllShare};
+ghost use Rattle.lock_tree_laws.specs.Forest.{IsWhole, KeepsParties, NeedsAreApart, idle, party_of, has_need, asks_of};
 ghost use Rattle.lock_tree.specs.Notices.{notice_answer};
-ghost use Rattle.lock_tree.specs.Progress.{is_spare, Falls, MovesOn};
-ghost use Rattle.lock_tree.specs.Wanted.{MayTakeWhole, needs_of, wanted_of, IsOf, IsLooking, Answered, GotAtOnce, GotWhole, want_of, AddsAsks, trail_of_want};
-ghost use Rattle.lock_tree.specs.Room.{IsAsBefore};
+ghost use Rattle.lock_tree_laws.specs.Progress.{is_spare, Falls, MovesOn};
+ghost use Rattle.lock_tree_laws.specs.Wanted.{MayTakeWhole, needs_of, wanted_of, IsOf, IsLooking, Answered, GotAtOnce, GotWhole, want_of, AddsAsks, trail_of_want};
+ghost use Rattle.lock_tree_laws.specs.Room.{IsAsBefore};
 
-use crate::answer::Want;
+use lock_tree_laws::Want;
 use crate::holding::granted_of;
 use crate::notice::{Demotion, answer_notice};
 use crate::parties::forget;
@@ -35,7 +35,7 @@ pub struct Tree {
 }
 
 impl Model for Tree {
-    ghost use Rattle.lock_tree.specs.Forest.{State, IsWhole};
+    ghost use Rattle.lock_tree_laws.specs.Forest.{State, IsWhole};
     ghost use Rattle.lock_tree.specs.States.{state_of};
 
     ghost Value = { State };

@@ -3,14 +3,16 @@
 ghost use Rattle.std.specs.Prelude.{◌≡◌, ◌≤◌, ◌+◌, ◌*◌, true, false, None, Some, is_some, length, IfOk, IfSome, OnOk, OnErr};
 ghost use Rattle.vms_queues.specs.Owners.{is_owner};
 ghost use Rattle.lock_needs.specs.Needs.{is_covered, is_plain};
-ghost use Rattle.lock_tree.specs.Forest.{IsWhole, KeepsParties, party_of, opened_of as open_want_of, places_kept as places_of_all};
-ghost use Rattle.lock_tree.specs.LockTable.{granted_at};
-ghost use Rattle.lock_tree.specs.Progress.{MovesOn};
+ghost use Rattle.lock_tree_laws.specs.Forest.{IsWhole, KeepsParties, party_of, opened_of as open_want_of, places_kept as places_of_all};
+ghost use Rattle.lock_tree_laws.specs.LockTable.{granted_at};
+ghost use Rattle.lock_tree_laws.specs.Progress.{MovesOn};
 ghost use Rattle.lock_tree.specs.States.{state_of};
-ghost use Rattle.lock_tree.specs.Wanted.{MayTakeWhole, needs_of, IsOf, IsLooking, Answered, GotAtOnce, GotWhole, AddsAsks, trail_of_want, opening_of, want_of};
-ghost use Rattle.lock_tree.specs.Room.{HasRoomFor, HasRoomToOpen, IsAsBefore};
+ghost use Rattle.lock_tree_laws.specs.Wanted.{MayTakeWhole, needs_of, IsOf, IsLooking, Answered, GotAtOnce, GotWhole, AddsAsks, trail_of_want, opening_of, want_of};
+ghost use Rattle.lock_tree.specs.Inner.Rooms.{HasRoomFor, HasRoomToOpen};
+ghost use Rattle.lock_tree_laws.specs.Room.{IsAsBefore};
 
-use crate::answer::{Step, Want};
+use crate::steps::Step;
+use lock_tree_laws::Want;
 use crate::parties::{admit, open_for};
 use crate::parts::Parts;
 use crate::places::places_kept;

@@ -1,9 +1,9 @@
 use Rattle.std.proofs.Common.{subst}
 use Rattle.vms_queues.specs.declared.lock_mode.Mode.{Mode}
 use Rattle.vms_locks.specs.Answers.{Answers}
-use Rattle.lock_tree.specs.Asking.{request_at}
-use Rattle.lock_tree.proofs.WantAsked.{want-quiet, want-answered, answer-intents, answer-others, asked-mode}
-use Rattle.lock_tree.proofs.OthersLeft.{answer-leaves}
+use Rattle.lock_tree_laws.specs.Asking.{request_at}
+use Rattle.lock_tree_laws.proofs.WantAsked.{want-quiet, want-answered, answer-intents, answer-others, asked-mode}
+use Rattle.lock_tree_laws.proofs.OthersLeft.{answer-leaves}
 use Rattle.lock_tree.proofs.asking.ask_here.Goals as goal
 
 pub ask-requires-clause-quiet : goal.ask-requires-clause-quiet

@@ -6,15 +6,15 @@ use Rattle.vms_queues.specs.Queues.{blockers}
 use Rattle.lock_needs.specs.declared.need.Need.{Need}
 use Rattle.lock_needs.specs.Party.{Party}
 use Rattle.lock_needs.specs.Wants.{kept_at}
-use Rattle.lock_tree.specs.LockTable.{granted_at}
-use Rattle.lock_tree.specs.Parties.{IsKept, wanting, unasked}
-use Rattle.lock_tree.specs.Asking.{first_excess, TakesAnswer}
+use Rattle.lock_tree_laws.specs.LockTable.{granted_at}
+use Rattle.lock_tree_laws.specs.Parties.{IsKept, wanting, unasked}
+use Rattle.lock_tree_laws.specs.Asking.{first_excess}
+use Rattle.lock_tree_laws.specs.Inner.Answering.{TakesAnswer, ComesDown}
 use Rattle.vms_locks.specs.Table.{queues_at}
-use Rattle.lock_tree.specs.Order.{ComesDown}
-use Rattle.lock_tree.proofs.InWay.{found-in_way}
-use Rattle.lock_tree.proofs.Opened.{as-open}
-use Rattle.lock_tree.proofs.MeasureFalls.{way-leaves}
-use Rattle.lock_tree.proofs.OthersLeft.{leaves-then}
+use Rattle.lock_tree_laws.proofs.InWay.{found-in_way}
+use Rattle.lock_tree_laws.proofs.Opened.{as-open}
+use Rattle.lock_tree_laws.proofs.MeasureFalls.{way-leaves}
+use Rattle.lock_tree_laws.proofs.OthersLeft.{leaves-then}
 use Rattle.lock_tree.proofs.looking.look_here.Goals as goal
 
 pub returns-in-Some-clause-look : goal.returns-in-Some-clause-look

@@ -1,6 +1,6 @@
 use Rattle.std.proofs.Common.{ℕ, ◌+◌, ◌-◌, arith}
-use Rattle.lock_tree.specs.Forest.{party_of, places_of}
-use Rattle.lock_tree.proofs.KeptPlaces.{sum-first}
+use Rattle.lock_tree_laws.specs.Forest.{party_of, places_of}
+use Rattle.lock_tree_laws.proofs.KeptPlaces.{sum-first}
 use Rattle.lock_tree.proofs.places.places_kept.Goals as goal
 
 pub loop-owner-preserved : goal.loop-owner-preserved

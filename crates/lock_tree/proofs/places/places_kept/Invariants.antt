@@ -1,6 +1,6 @@
 use Rattle.std.proofs.Common.{◌≡◌, ◌+◌, ◌-◌}
 use Rattle.std.specs.List.{sum_by, range_with_len}
-use Rattle.lock_tree.specs.Forest.{party_of, places_of, places_kept}
+use Rattle.lock_tree_laws.specs.Forest.{party_of, places_of, places_kept}
 use Rattle.lock_tree.proofs.places.places_kept.Given as goal
 
 -- those of the owners that are left come to the sum

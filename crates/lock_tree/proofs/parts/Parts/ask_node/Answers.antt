@@ -8,21 +8,23 @@ use Rattle.lock_needs.specs.declared.need.Need.{Need}
 use Rattle.lock_needs.specs.declared.party.OpenWant.{OpenWant}
 use Rattle.lock_needs.specs.Party.{Party}
 use Rattle.lock_needs.specs.Wants.{mode_for}
-use Rattle.lock_tree.specs.LockTable.{granted_at}
-use Rattle.lock_tree.specs.Parties.{IsKept, unasked}
-use Rattle.lock_tree.specs.Order.{ComesDown}
+use Rattle.lock_tree_laws.specs.LockTable.{granted_at}
+use Rattle.lock_tree_laws.specs.Parties.{IsKept, unasked}
+use Rattle.lock_tree_laws.specs.Inner.Answering.{ComesDown}
 use Rattle.lock_tree.proofs.RoomKept.{roomy-on, leaves-used, kept-looked}
-use Rattle.lock_tree.specs.Forest.{State, idle, party_of}
+use Rattle.lock_tree_laws.specs.Forest.{State, idle, party_of}
 use Rattle.lock_tree.specs.States.{state_of}
-use Rattle.lock_tree.specs.Wanted.{needs_of, Steps}
-use Rattle.lock_tree.proofs.Answered.{cause-of}
-use Rattle.lock_tree.proofs.Opened.{as-open, whole-looked, whole-asked}
-use Rattle.lock_tree.proofs.Looked.{look-due, look-asked, refused-down, deadlock-down, steps-asked}
-use Rattle.lock_tree.proofs.AskedByNeeds.{need-used, asked-by_needs, blocker-needed, cycle-needed}
-use Rattle.lock_tree.specs.Progress.{IsServedAt, LooksOn}
-use Rattle.lock_tree.proofs.OthersLeft.{leaves-then}
-use Rattle.lock_tree.proofs.MeasureFalls.{served-never, asked-never, ended-falls, never-steps}
-use Rattle.lock_tree.proofs.Added.{adds-one, way-on}
+use Rattle.lock_tree_laws.specs.Wanted.{needs_of}
+use Rattle.lock_tree.specs.Inner.Stepping.{Steps}
+use Rattle.lock_tree_laws.proofs.Answered.{cause-of}
+use Rattle.lock_tree_laws.proofs.Opened.{as-open, whole-looked, whole-asked}
+use Rattle.lock_tree.proofs.Looked.{look-due, look-asked, refused-down, deadlock-down, steps-asked, never-steps}
+use Rattle.lock_tree_laws.proofs.AskedByNeeds.{need-used, asked-by_needs, blocker-needed, cycle-needed}
+use Rattle.lock_tree_laws.specs.Progress.{IsServedAt}
+use Rattle.lock_tree.specs.Inner.Looking.{LooksOn}
+use Rattle.lock_tree_laws.proofs.OthersLeft.{leaves-then}
+use Rattle.lock_tree_laws.proofs.MeasureFalls.{served-never, asked-never, ended-falls}
+use Rattle.lock_tree_laws.proofs.Added.{adds-one, way-on}
 use Rattle.lock_tree.proofs.parts.Parts.ask_node.Goals as goal
 
 pub returns-in-NoticeTo-clause-whole : goal.returns-in-NoticeTo-clause-whole

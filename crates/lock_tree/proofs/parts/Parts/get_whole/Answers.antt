@@ -1,17 +1,17 @@
 use Rattle.std.proofs.Common.{refl, sym, ◌∙◌, ap, subst, ◌++◌, ◌∷◌, [], arith}
 use Rattle.std.proofs.Math.Nat.{le_trans}
 use Rattle.std.proofs.lemmas.Bool.{false≢true}
-use Rattle.lock_tree.specs.Parties.{IsKept}
-use Rattle.lock_tree.specs.Forest.{State}
+use Rattle.lock_tree_laws.specs.Parties.{IsKept}
+use Rattle.lock_tree_laws.specs.Forest.{State}
 use Rattle.lock_tree.specs.States.{state_of}
-use Rattle.lock_tree.specs.Wanted.{needs_of}
+use Rattle.lock_tree_laws.specs.Wanted.{needs_of}
 use Rattle.lock_needs.specs.Party.{Party}
-use Rattle.lock_tree.proofs.KeptPlaces.{places-closed}
+use Rattle.lock_tree_laws.proofs.KeptPlaces.{places-closed}
 use Rattle.lock_tree.proofs.RoomKept.{kept-taken}
-use Rattle.lock_tree.proofs.Sleepers.{all-clear}
-use Rattle.lock_tree.proofs.Opened.{whole-same, whole-noted}
-use Rattle.lock_tree.proofs.TakenInOrder.{taken-way, taken-stands}
-use Rattle.lock_tree.proofs.TakingWhole.{crowded-queued}
+use Rattle.lock_tree_laws.proofs.Sleepers.{all-clear}
+use Rattle.lock_tree_laws.proofs.Opened.{whole-same, whole-noted}
+use Rattle.lock_tree_laws.proofs.TakenInOrder.{taken-way, taken-stands}
+use Rattle.lock_tree_laws.proofs.TakingWhole.{crowded-queued}
 use Rattle.lock_tree.proofs.parts.Parts.get_whole.Goals as goal
 
 pub returns-then-not-take_whole-clause-whole : goal.returns-then-not-take_whole-clause-whole

@@ -3,15 +3,15 @@ use Rattle.lock_needs.specs.declared.need.Need.{Need}
 use Rattle.lock_needs.specs.declared.party.OpenWant.{OpenWant}
 use Rattle.lock_needs.specs.Needs.{is_covered}
 use Rattle.lock_needs.specs.Party.{Party}
-use Rattle.lock_tree.specs.LockTable.{granted_at}
-use Rattle.lock_tree.specs.Wanted.{MayTakeWhole, Answered, AddsAsks, needs_of}
-use Rattle.lock_tree.proofs.Added.{adds-then}
+use Rattle.lock_tree_laws.specs.LockTable.{granted_at}
+use Rattle.lock_tree_laws.specs.Wanted.{MayTakeWhole, Answered, AddsAsks, needs_of}
+use Rattle.lock_tree_laws.proofs.Added.{adds-then}
 use Rattle.lock_tree.specs.declared.parts.Parts.{Parts}
-use Rattle.lock_tree.specs.declared.answer.Want.TheVariants.{Got}
+use Rattle.lock_tree_laws.specs.declared.answer.Want.TheVariants.{Got}
 use Rattle.lock_tree.proofs.AtOnce.{EndsHere, GotHere, no-step_down, same-answer, still}
 use Rattle.lock_tree.proofs.RoomKept.{room-one, room-lower}
 use Rattle.lock_tree.specs.States.{state_of}
-use Rattle.lock_tree.proofs.MeasureFalls.{never-then, never-moves}
+use Rattle.lock_tree_laws.proofs.MeasureFalls.{never-then, never-moves}
 use Rattle.lock_tree.proofs.parts.Parts.go_down.Goals as goal
 
 pub step-requires-clause-room : goal.step-requires-clause-room

@@ -1,10 +1,11 @@
 use Rattle.std.proofs.Common.{◌≡◌, ◌-◌, Some}
-use Rattle.lock_tree.specs.Parties.{unasked}
-use Rattle.lock_tree.specs.Forest.{IsWhole, KeepsParties, opened_of}
-use Rattle.lock_tree.specs.Progress.{NeverRises}
+use Rattle.lock_tree_laws.specs.Parties.{unasked}
+use Rattle.lock_tree_laws.specs.Forest.{IsWhole, KeepsParties, opened_of}
+use Rattle.lock_tree_laws.specs.Progress.{NeverRises}
 use Rattle.lock_tree.specs.States.{state_of}
-use Rattle.lock_tree.specs.Wanted.{needs_of, AddsAsks}
-use Rattle.lock_tree.specs.Room.{HasRoomFor, depth}
+use Rattle.lock_tree_laws.specs.Wanted.{needs_of, AddsAsks}
+use Rattle.lock_tree.specs.Inner.Rooms.{HasRoomFor}
+use Rattle.lock_tree_laws.specs.Room.{depth}
 use Rattle.lock_tree.proofs.AtOnce.{EndsHere}
 use Rattle.lock_tree.proofs.parts.Parts.go_down.Given as goal
 

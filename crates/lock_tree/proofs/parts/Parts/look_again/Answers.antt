@@ -1,7 +1,7 @@
 use Rattle.std.proofs.Common.{◌∙◌}
 use Rattle.lock_tree.proofs.RoomKept.{room-start}
 use Rattle.lock_tree.specs.States.{state_of}
-use Rattle.lock_tree.proofs.MeasureFalls.{never-moves}
+use Rattle.lock_tree_laws.proofs.MeasureFalls.{never-moves}
 use Rattle.lock_tree.proofs.parts.Parts.look_again.Goals as goal
 
 pub go_down-requires-clause-room : goal.go_down-requires-clause-room

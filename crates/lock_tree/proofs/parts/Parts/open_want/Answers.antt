@@ -6,22 +6,22 @@ use Rattle.lock_needs.specs.declared.party.OpenWant.{OpenWant}
 use Rattle.lock_needs.specs.Party.{Party}
 use Rattle.lock_needs.specs.Nodes.{is_on}
 use Rattle.lock_needs.specs.Needs.{is_covered}
-use Rattle.lock_tree.specs.LockTable.{granted_at, sought_at}
-use Rattle.lock_tree.specs.Parties.{IsKept, wanting, unasked}
+use Rattle.lock_tree_laws.specs.LockTable.{granted_at, sought_at}
+use Rattle.lock_tree_laws.specs.Parties.{IsKept, wanting, unasked}
 use Rattle.lock_needs.specs.declared.party.Asked.{Asked}
-use Rattle.lock_tree.specs.Order.{StandsByNeeds, asked_of_want, asked_last}
-use Rattle.lock_tree.specs.Forest.{State, open_asks, party_of}
+use Rattle.lock_tree_laws.specs.Order.{StandsByNeeds, asked_of_want, asked_last}
+use Rattle.lock_tree_laws.specs.Forest.{State, open_asks, party_of}
 use Rattle.lock_tree.specs.States.{state_of}
-use Rattle.lock_tree.specs.Wanted.{MayTakeWhole, GotWhole, AddsAsks, needs_of, Answered}
-use Rattle.lock_tree.proofs.Outcomes.{on_err-any}
-use Rattle.lock_tree.proofs.Trails.{asks-opening, never-asked}
-use Rattle.lock_tree.proofs.Wanting.{opens}
-use Rattle.lock_tree.proofs.Whole.{least-of, whole-served}
-use Rattle.lock_tree.proofs.WayMade.{way-none}
-use Rattle.lock_tree.proofs.StepsInOrder.{stands-opens}
-use Rattle.lock_tree.proofs.OpenAsks.{opened-opens, cut-fresh}
-use Rattle.lock_tree.proofs.Opened.{as-resting, whole-same}
-use Rattle.lock_tree.proofs.KeptPlaces.{places-opened}
+use Rattle.lock_tree_laws.specs.Wanted.{MayTakeWhole, GotWhole, AddsAsks, needs_of, Answered}
+use Rattle.lock_tree_laws.proofs.Outcomes.{on_err-any}
+use Rattle.lock_tree_laws.proofs.Trails.{asks-opening, never-asked}
+use Rattle.lock_tree_laws.proofs.Wanting.{opens}
+use Rattle.lock_tree_laws.proofs.Whole.{least-of, whole-served}
+use Rattle.lock_tree_laws.proofs.WayMade.{way-none}
+use Rattle.lock_tree_laws.proofs.StepsInOrder.{stands-opens}
+use Rattle.lock_tree_laws.proofs.OpenAsks.{opened-opens, cut-fresh}
+use Rattle.lock_tree_laws.proofs.Opened.{as-resting, whole-same}
+use Rattle.lock_tree_laws.proofs.KeptPlaces.{places-opened}
 use Rattle.lock_tree.proofs.RoomKept.{room-opened, room-start, each-as-before}
 use Rattle.lock_tree.proofs.AtOnce.{opened-trail}
 use Rattle.lock_tree.proofs.parts.Parts.open_want.Goals as goal

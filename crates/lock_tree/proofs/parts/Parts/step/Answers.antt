@@ -1,18 +1,19 @@
 use Rattle.std.proofs.Common.{◌≡◌, refl, sym, ◌∙◌, ap, subst, false}
 use Rattle.vms_locks.specs.Table.{Table}
 use Rattle.lock_needs.specs.Needs.{is_covered}
-use Rattle.lock_tree.specs.LockTable.{granted_at}
-use Rattle.lock_tree.specs.Parties.{IsKept, unasked}
+use Rattle.lock_tree_laws.specs.LockTable.{granted_at}
+use Rattle.lock_tree_laws.specs.Parties.{IsKept, unasked}
 use Rattle.lock_tree.specs.States.{state_of}
-use Rattle.lock_tree.specs.Wanted.{needs_of}
+use Rattle.lock_tree_laws.specs.Wanted.{needs_of}
 use Rattle.lock_needs.specs.Party.{Party}
-use Rattle.lock_tree.proofs.KeptPlaces.{places-same}
+use Rattle.lock_tree_laws.proofs.KeptPlaces.{places-same}
 use Rattle.lock_tree.proofs.RoomKept.{room-same, leaves-after}
-use Rattle.lock_tree.proofs.Opened.{still-open, unasked-quiet, got-covered_need}
+use Rattle.lock_tree_laws.proofs.Opened.{still-open, unasked-quiet, got-covered_need}
 use Rattle.vms_locks.specs.declared.answer.Enq.TheVariants.{Granted}
-use Rattle.lock_tree.proofs.OthersLeft.{same-leaves, answer-leaves}
-use Rattle.lock_tree.proofs.MeasureFalls.{left-never, never-steps, ended-falls}
-use Rattle.lock_tree.proofs.Added.{adds-one, way-on}
+use Rattle.lock_tree_laws.proofs.OthersLeft.{same-leaves, answer-leaves}
+use Rattle.lock_tree_laws.proofs.MeasureFalls.{left-never, ended-falls}
+use Rattle.lock_tree.proofs.Looked.{never-steps}
+use Rattle.lock_tree_laws.proofs.Added.{adds-one, way-on}
 use Rattle.lock_tree.proofs.parts.Parts.step.Goals as goal
 
 pub get_need-requires-clause-open : goal.get_need-requires-clause-open

@@ -4,14 +4,14 @@ use Rattle.rdb_types.specs.declared.node.Node.{Node}
 use Rattle.vms_queues.specs.Queues.{Queues}
 use Rattle.lock_needs.specs.declared.need.Need.{Need}
 use Rattle.lock_needs.specs.Needs.{is_covered}
-use Rattle.lock_tree.specs.LockTable.{granted_at}
+use Rattle.lock_tree_laws.specs.LockTable.{granted_at}
 use Rattle.lock_needs.specs.Party.{Party}
 use Rattle.lock_tree.specs.States.{state_of}
-use Rattle.lock_tree.specs.Wanted.{IsOf, IsLooking, Answered}
-use Rattle.lock_tree.proofs.Outcomes.{on_err-any, on_err-more}
-use Rattle.lock_tree.proofs.Respared.{whole-room}
+use Rattle.lock_tree_laws.specs.Wanted.{IsOf, IsLooking, Answered}
+use Rattle.lock_tree_laws.proofs.Outcomes.{on_err-any, on_err-more}
+use Rattle.lock_tree_laws.proofs.Respared.{whole-room}
 use Rattle.lock_tree.proofs.RoomKept.{before-then}
-use Rattle.lock_tree.proofs.MeasureFalls.{same-never, never-calls}
+use Rattle.lock_tree_laws.proofs.MeasureFalls.{same-never, never-calls}
 use Rattle.lock_tree.proofs.AtOnce.{got-roomy, whole-roomy}
 use Rattle.lock_tree.proofs.parts.Parts.want.Goals as goal
 

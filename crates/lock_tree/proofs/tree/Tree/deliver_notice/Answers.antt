@@ -4,15 +4,15 @@ use Rattle.std.proofs.lemmas.Bool.{false≢true}
 use Rattle.lock_needs.specs.Party.{Party}
 use Rattle.lock_needs.specs.Keeping.{is_excess}
 use Rattle.lock_needs.specs.Wants.{kept_at}
-use Rattle.lock_tree.specs.LockTable.{granted_at}
-use Rattle.lock_tree.specs.Forest.{State, IsWhole, idle, party_of}
-use Rattle.lock_tree.specs.Order.{ComesDown}
-use Rattle.lock_tree.specs.Room.{IsAsBefore}
-use Rattle.lock_tree.specs.Progress.{is_spare, Falls, IsServedAt}
-use Rattle.lock_tree.proofs.MeasureFalls.{served-falls}
-use Rattle.lock_tree.proofs.Opened.{whole-kept}
-use Rattle.lock_tree.proofs.Outcomes.{on_ok-more, on_err-more}
-use Rattle.lock_tree.proofs.ServedAt.{nothing-due}
+use Rattle.lock_tree_laws.specs.LockTable.{granted_at}
+use Rattle.lock_tree_laws.specs.Forest.{State, IsWhole, idle, party_of}
+use Rattle.lock_tree_laws.specs.Inner.Answering.{ComesDown}
+use Rattle.lock_tree_laws.specs.Room.{IsAsBefore}
+use Rattle.lock_tree_laws.specs.Progress.{is_spare, Falls, IsServedAt}
+use Rattle.lock_tree_laws.proofs.MeasureFalls.{served-falls}
+use Rattle.lock_tree_laws.proofs.Opened.{whole-kept}
+use Rattle.lock_tree_laws.proofs.Outcomes.{on_ok-more, on_err-more}
+use Rattle.lock_tree_laws.proofs.ServedAt.{nothing-due}
 use Rattle.lock_tree.proofs.tree.Tree.deliver_notice.Goals as goal
 
 pub returns-in-Some-clause-least : goal.returns-in-Some-clause-least

@@ -1,10 +1,10 @@
 use Rattle.std.proofs.Common.{◌≡◌, ◌∙◌, ap, subst, true}
 use Rattle.std.specs.Prelude.{is_some}
 use Rattle.lock_needs.specs.Party.{Party}
-use Rattle.lock_tree.specs.Forest.{State, opened_of, party_of}
+use Rattle.lock_tree_laws.specs.Forest.{State, opened_of, party_of}
 use Rattle.lock_tree.specs.States.{state_of}
-use Rattle.lock_tree.specs.Progress.{Falls}
-use Rattle.lock_tree.proofs.MeasureFalls.{closed-falls}
+use Rattle.lock_tree_laws.specs.Progress.{Falls}
+use Rattle.lock_tree_laws.proofs.MeasureFalls.{closed-falls}
 use Rattle.lock_tree.proofs.tree.Tree.give_up.Goals as goal
 
 pub returns-in-Some-clause-others : goal.returns-in-Some-clause-others

@@ -4,14 +4,14 @@ use Rattle.std.specs.Prelude.{is_some}
 use Rattle.vms_queues.specs.declared.lock_mode.Mode.{Mode}
 use Rattle.vms_queues.specs.Modes.{may_share}
 use Rattle.lock_needs.specs.Party.{Party}
-use Rattle.lock_tree.specs.LockTable.{sought_at}
-use Rattle.lock_tree.specs.Forest.{State, idle, opened_of, party_of}
-use Rattle.lock_tree.specs.Progress.{Falls}
-use Rattle.lock_tree.proofs.HeldModes.{nothing-shares}
-use Rattle.lock_tree.proofs.KeptPlaces.{places-closed}
-use Rattle.lock_tree.proofs.MeasureFalls.{way-leaves, closed-falls}
-use Rattle.lock_tree.proofs.OpenAsks.{opened-ended}
-use Rattle.lock_tree.proofs.Whole.{whole-ended}
+use Rattle.lock_tree_laws.specs.LockTable.{sought_at}
+use Rattle.lock_tree_laws.specs.Forest.{State, idle, opened_of, party_of}
+use Rattle.lock_tree_laws.specs.Progress.{Falls}
+use Rattle.lock_tree_laws.proofs.HeldModes.{nothing-shares}
+use Rattle.lock_tree_laws.proofs.KeptPlaces.{places-closed}
+use Rattle.lock_tree_laws.proofs.MeasureFalls.{way-leaves, closed-falls}
+use Rattle.lock_tree_laws.proofs.OpenAsks.{opened-ended}
+use Rattle.lock_tree_laws.proofs.Whole.{whole-ended}
 use Rattle.lock_tree.proofs.tree.Tree.release_all.Goals as goal
 
 pub invariant_of-self : goal.invariant_of-self
