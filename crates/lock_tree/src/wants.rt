@@ -1,6 +1,6 @@
 //! Wants, from their opening on.
 
-ghost use Rattle.std.specs.Prelude.{◌≡◌, ◌≤◌, ◌+◌, ◌*◌, true, false, None, Some, is_some, length, IfOk, IfSome, OnOk, OnErr};
+ghost use Rattle.std.specs.Prelude.{◌≡◌, ◌≤◌, ◌<◌, ◌+◌, ◌*◌, ◌^◌, true, false, None, Some, is_some, length, IfOk, OnOk, OnErr};
 ghost use Rattle.vms_queues.specs.Owners.{is_owner};
 ghost use Rattle.lock_needs.specs.Needs.{is_covered, is_plain};
 ghost use Rattle.lock_tree_laws.specs.Forest.{IsWhole, KeepsParties, party_of, opened_of as open_want_of, places_kept as places_of_all};
@@ -27,7 +27,8 @@ const WAY_NODES: usize = 4;
 
 // How many needs the owner has got.
 fn count_needs(parties: &IndexMap<u32, Party>, owner: u32) -> usize
-    ensures { result ≡ length (party_of parties.now.entries owner).needs }
+    ensures value { result ≡ length (party_of parties.now.entries owner).needs }
+    ensures small { result < 2 ^ 59 }
 {
     match parties.get(&owner) {
         Some(party) => party.needs().len(),
@@ -37,13 +38,11 @@ fn count_needs(parties: &IndexMap<u32, Party>, owner: u32) -> usize
 
 // How many places are to be spare in the lock table as a want goes its way: at each node on it one for its lock, and one for each
 // need of its owner that is to be taken lower; and those that the ends of open wants may take, its own among them.
-fn places_for(parties: &IndexMap<u32, Party>, owner: u32) -> Option<usize>
-    ensures { IfSome result (λ n. n ≡ 4 * (length (party_of parties.now.entries owner).needs + 1) + (places_of_all parties.now.entries + length (party_of parties.now.entries owner).needs)) }
+fn places_for(parties: &IndexMap<u32, Party>, owner: u32) -> usize
+    ensures { result ≡ 4 * (length (party_of parties.now.entries owner).needs + 1) + (places_of_all parties.now.entries + length (party_of parties.now.entries owner).needs) }
 {
     let needs = count_needs(parties, owner);
-    let way = needs.checked_add(1)?.checked_mul(WAY_NODES)?;
-    let ends = places_kept(parties)?.checked_add(needs)?;
-    way.checked_add(ends)
+    WAY_NODES * (needs + 1) + (places_kept(parties) + needs)
 }
 
 impl Parts {
@@ -61,12 +60,8 @@ impl Parts {
         ensures spare { self.old.locks.spare ≤ self.new.locks.spare }
         ensures ok { OnOk result (HasRoomToOpen owner self.new) }
     {
-        let Some(places) = places_for(&self.parties, owner) else {
-            return Err(NoMemory {});
-        };
         self.trail.reserve(WAY_NODES)?;
-        self.locks.reserve(places)?;
-        Ok(())
+        self.locks.reserve(places_for(&self.parties, owner))
     }
 
     // Opens a want of the need for an owner that has none open.
