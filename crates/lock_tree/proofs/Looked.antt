@@ -1,5 +1,5 @@
 -- What a look at the want's node tells of the tree, and what a step adds.
-use Rattle.std.proofs.Common.{◌≡◌, ℕ, Bool, List, sym, subst}
+use Rattle.std.proofs.Common.{◌≡◌, ℕ, Bool, List, sym, subst, ap}
 use Rattle.vms_queues.specs.declared.lock_mode.Mode.{Mode}
 use Rattle.vms_locks.specs.Table.{Table}
 use Rattle.vms_locks.specs.declared.answer.Enq.{Enq}
@@ -17,7 +17,8 @@ use Rattle.lock_tree_laws.specs.Forest.{State, party_of}
 use Rattle.lock_tree.specs.Inner.Looking.{TakesLook}
 use Rattle.lock_tree_laws.specs.Asking.{IsDue}
 use Rattle.lock_tree_laws.specs.Wanted.{needs_of}
-use Rattle.lock_tree.specs.Inner.Stepping.{Steps, StepsOn}
+use Rattle.lock_tree.specs.Inner.Stepping.{Steps, StepsOn, StepFinishes}
+use Rattle.lock_tree_laws.proofs.ByRule.{finishes-same}
 use Rattle.lock_tree_laws.specs.Progress.{NeverRises}
 use Rattle.lock_tree_laws.proofs.MeasureFalls.{never-then, never-moves}
 
@@ -53,3 +54,8 @@ steps-asked ws vs s owner w v wait e f step h =
 pub never-steps : (s m r : State) (owner : ℕ) → NeverRises owner s m → (step : Step) → StepsOn owner m r step → StepsOn owner s r step
 never-steps s m r owner f (Down w) g = never-then s m r owner f g
 never-steps s m r owner f (Ends answer) g = never-moves s m r owner f answer g
+
+-- a step that leaves the table as it was
+pub finishes-still : (owner : ℕ) (last new : Table) → new ≡ last → (step : Step) → StepFinishes owner step last new
+finishes-still owner last new e (Down w) = ap (λ (t : Table). t.entries) e
+finishes-still owner last new e (Ends answer) = finishes-same owner last new e answer

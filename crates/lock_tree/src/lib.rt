@@ -26,4 +26,3 @@ pub use notice::Demotion;
 pub use owners::{MAX_OWNERS, is_owner};
 pub use tree::Tree;
 pub use vms_locks::Cycle;
-

@@ -1,5 +1,5 @@
 -- How the trail grows as a want is asked.
-use Rattle.std.proofs.Common.{◌≡◌, ℕ, true, List, [], ◌∷◌, ◌++◌, map, Some, refl, sym, ap, subst, ◌∙◌, append-nil, append_assoc}
+use Rattle.std.proofs.Common.{◌≡◌, ℕ, true, List, [], ◌∷◌, ◌++◌, Some, sym, ap, subst, ◌∙◌, append-nil, append_assoc}
 use Rattle.std.specs.List.{AllByRecursion}
 use Rattle.std.proofs.lemmas.List.{map-append}
 use Rattle.rdb_types.specs.declared.node.Node.{Node}
@@ -18,7 +18,7 @@ adds-none owner need old new h = record { nodes = []; added = h ∙ sym (append-
 pub adds-one : (owner : ℕ) (need : Need) (n : Node) (old new : List Asked) → is_on n need.node ≡ true → new ≡ old ++ (record { owner = owner; node = n }) ∷ [] → AddsAsks owner need old new
 adds-one owner need n old new on h = record { nodes = n ∷ []; added = h; way = (on, tt) }
 
-way-append : (need : Need) (xs ys : List Node) → AllByRecursion (λ n. is_on n need.node ≡ true) xs → AllByRecursion (λ n. is_on n need.node ≡ true) ys → AllByRecursion (λ n. is_on n need.node ≡ true) (xs ++ ys)
+pub way-append : (need : Need) (xs ys : List Node) → AllByRecursion (λ n. is_on n need.node ≡ true) xs → AllByRecursion (λ n. is_on n need.node ≡ true) ys → AllByRecursion (λ n. is_on n need.node ≡ true) (xs ++ ys)
 way-append need [] ys a b = b
 way-append need (x ∷ xs) ys a b = (a.0, way-append need xs ys a.1 b)
 

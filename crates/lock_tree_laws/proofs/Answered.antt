@@ -13,8 +13,8 @@ use Rattle.vms_locks.specs.declared.answer.Enq.TheVariants.{Granted, Asleep, Not
 use Rattle.lock_tree_laws.specs.Inner.Releasing.{IsQuiet}
 use Rattle.lock_needs.specs.declared.party.OpenWant.{OpenWant}
 use Rattle.lock_tree_laws.specs.Forest.{Parties}
-use Rattle.lock_tree_laws.specs.Inner.Answering.{AnswersAt, AsksAt}
-use Rattle.lock_tree_laws.specs.Asking.{request_at, HasCause}
+use Rattle.lock_tree_laws.specs.Inner.Answering.{AsksAt}
+use Rattle.lock_tree_laws.specs.Asking.{request_at, HasCause, AnswersAt}
 use Rattle.lock_tree_laws.proofs.Changes.{quiet-at, queued-at, changed-request, changed-conversion}
 use Rattle.lock_tree_laws.proofs.Conditions.{absent-quiet, asked-law, converted-law}
 

@@ -10,22 +10,21 @@ use Rattle.vms_queues.specs.declared.held.Held.{Held}
 use Rattle.vms_queues.specs.Modes.{may_share, at_most, least_above}
 use Rattle.vms_queues.specs.Queues.{Queues, has_owner, mode_in, blocks, blockers, fits}
 use Rattle.vms_queues.proofs.ModeLaws.{may_share-comm}
-use Rattle.vms_locks.specs.Table.{Table, queues_at, ChangesAt, IsLive, WaitsIn}
+use Rattle.vms_locks.specs.Table.{Table, queues_at, ChangesAt, IsLive}
 use Rattle.vms_locks.specs.Answers.{Answers, asking, converting}
-use Rattle.vms_locks.specs.Walks.{IsCycle}
 use Rattle.vms_locks.specs.declared.answer.Enq.{Enq}
 use Rattle.vms_locks.specs.declared.answer.Enq.TheVariants.{Granted, Asleep, NotQueued, Deadlock}
 use Rattle.lock_needs.specs.declared.need.Need.{Need}
 use Rattle.lock_needs.specs.declared.party.OpenWant.{OpenWant}
 use Rattle.lock_needs.specs.declared.party.Asked.{Asked}
 use Rattle.lock_needs.specs.Party.{Party}
-use Rattle.lock_needs.specs.Wants.{mode_for, kept_at}
+use Rattle.lock_needs.specs.Wants.{mode_for}
 use Rattle.lock_needs.proofs.ModeTables.{join-left}
-use Rattle.lock_tree_laws.specs.LockTable.{granted_at, sought_at, HasIntents, BarsNobody, RaisedAt}
+use Rattle.lock_tree_laws.specs.LockTable.{granted_at, sought_at, BarsNobody, RaisedAt}
 use Rattle.lock_tree_laws.specs.Forest.{Parties, party_of}
 use Rattle.lock_tree_laws.specs.Asking.{exceeds_at, first_excess}
-use Rattle.lock_tree_laws.specs.Parties.{IsKept, wanting, unasked, asked_at}
-use Rattle.lock_tree_laws.specs.Order.{MayAsk, AnswersByNeeds, AreKept, IsInOrder, KeepsParty, MakesWay, asked_last, requesting, waits_by_needs, NoneInExcess}
+use Rattle.lock_tree_laws.specs.Parties.{IsKept, wanting, asked_at}
+use Rattle.lock_tree_laws.specs.Order.{MayAsk, AnswersByNeeds, KeepsParty, MakesWay, asked_last, requesting, NoneInExcess}
 use Rattle.lock_tree_laws.proofs.HeldModes.{option-cases, one-mode, nothing-shares}
 use Rattle.lock_tree_laws.proofs.QueueModes.{mode-absent}
 use Rattle.lock_tree_laws.proofs.Changes.{shares-live, quiet-at}

@@ -26,7 +26,8 @@ use Rattle.lock_tree_laws.specs.Wanted.{needs_of}
 use Rattle.lock_tree_laws.specs.Order.{AreKept, KeepsParty, asked_last, waits_with, waits_by_needs}
 use Rattle.lock_tree_laws.proofs.NeedsInWay.{waits-in_needed}
 use Rattle.lock_tree_laws.proofs.Refusals.{cycle-more}
-use Rattle.lock_tree_laws.proofs.AnsweredInOrder.{MayAsk, AnswersByNeeds, none-due, answered-by_needs}
+use Rattle.lock_tree_laws.specs.Order.{MayAsk, AnswersByNeeds}
+use Rattle.lock_tree_laws.proofs.AnsweredInOrder.{none-due, answered-by_needs}
 use Rattle.lock_tree_laws.proofs.WayMade.{stays-live}
 use Rattle.lock_tree_laws.proofs.StepsInOrder.{served-in_order}
 use Rattle.lock_tree_laws.proofs.Whole.{live-of, order-of, least-of, after-kept}

@@ -22,8 +22,8 @@ use Rattle.lock_needs.proofs.Joins.{nothing}
 use Rattle.lock_tree_laws.specs.LockTable.{granted_at, sought_at, HasIntents, RaisedAt}
 use Rattle.lock_tree_laws.specs.Parties.{IsKeptBut, IsKept, KeepsOthers, HasReason, nowhere, wanting, resting, unasked}
 use Rattle.vms_locks.specs.Answers.{Answers}
-use Rattle.lock_tree_laws.specs.Inner.Answering.{was_granted, AnswersAt}
-use Rattle.lock_tree_laws.specs.Asking.{request_at}
+use Rattle.lock_tree_laws.specs.Inner.Answering.{was_granted}
+use Rattle.lock_tree_laws.specs.Asking.{request_at, AnswersAt}
 use Rattle.lock_tree_laws.proofs.Wanting.{list_all-push, list_any-push, list_any-pushed, intents-push, intents-pushed}
 use Rattle.lock_tree_laws.proofs.WantAsked.{asked-intents, asked-others, raised-asked}
 use Rattle.lock_tree_laws.proofs.Leaving.{and-none, opened-unasked}

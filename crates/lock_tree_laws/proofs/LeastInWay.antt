@@ -1,13 +1,12 @@
 -- Who isn't in excess at a node. Where no lock of its owner above is exclusive, it holds there no more than it must keep.
-use Rattle.std.proofs.Common.{◌≡◌, ℕ, true, false, refl, sym, ◌∙◌, inl, inr}
-use Rattle.std.specs.Prelude.{◌==◌, if◌then◌else◌}
+use Rattle.std.proofs.Common.{◌≡◌, true, false, refl, sym, ◌∙◌, inl, inr}
+use Rattle.std.specs.Prelude.{if◌then◌else◌}
 use Rattle.std.proofs.lemmas.Bool.{false≢true, and_from, cases_Bool}
 use Rattle.rdb_types.specs.declared.node.Node.{Node}
 use Rattle.vms_queues.specs.declared.lock_mode.Mode.{Mode}
 use Rattle.vms_queues.specs.declared.lock_mode.Mode.TheVariants.{NL, CR, CW, PR, PW, EX}
 use Rattle.vms_queues.specs.Modes.{may_share, at_most, least_above, intent}
 use Rattle.vms_queues.proofs.ModeLaws.{all_modes_2-at, implies, from_implies}
-use Rattle.vms_locks.specs.Table.{Table}
 use Rattle.lock_needs.specs.declared.need.Need.{Need}
 use Rattle.lock_needs.specs.Party.{Party}
 use Rattle.lock_needs.specs.Nodes.{same_node}
@@ -15,9 +14,7 @@ use Rattle.lock_needs.specs.Needs.{Holding, HasIntentsAbove}
 use Rattle.lock_needs.specs.Keeping.{below, needed_on, is_excess}
 use Rattle.lock_needs.specs.Wants.{mode_for, opened_at, kept_at, intents_on, earned_at}
 use Rattle.lock_needs.proofs.ModeTables.{at_most-trans, at_most-join, at_most-shares, join-left, join-right, intent-own}
-use Rattle.lock_tree_laws.specs.LockTable.{granted_at}
 use Rattle.lock_tree_laws.specs.Parties.{IsKeptBut, nowhere}
-use Rattle.lock_tree_laws.specs.Order.{NoneInExcess}
 use Rattle.lock_tree_laws.proofs.Exactness.{HasNoExclusiveAbove, below-allowed, needed-allowed, at-least-read, intents-kept}
 
 -- what isn't shared with a mode isn't shared with one that is at least the mode

@@ -52,3 +52,4 @@ pub mod NoEndlessFall
 pub mod TakingWhole
 pub mod Added
 pub mod MeasureFalls
+pub mod ByRule

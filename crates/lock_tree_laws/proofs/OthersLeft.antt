@@ -10,8 +10,8 @@ use Rattle.vms_locks.specs.declared.answer.Enq.TheVariants.{Granted, Asleep, Not
 use Rattle.lock_needs.specs.Nodes.{same_node}
 use Rattle.lock_needs.proofs.ModeTables.{at_most-refl, at_most-trans}
 use Rattle.lock_tree_laws.specs.LockTable.{granted_at}
-use Rattle.lock_tree_laws.specs.Inner.Answering.{AnswersAt}
 use Rattle.lock_tree_laws.specs.Progress.{LeavesLocks}
+use Rattle.lock_tree_laws.specs.Asking.{AnswersAt}
 
 alike-leaves : (old new : Table) (owner : ℕ) → ((u : ℕ) (x : Node) → (u == owner) ≡ false → granted_at new u x ≡ granted_at old u x) → LeavesLocks owner old new
 alike-leaves old new owner same u x d = subst (λ (y : Mode). at_most (granted_at old u x) y ≡ true) (sym (same u x d)) (at_most-refl (granted_at old u x))

@@ -34,7 +34,7 @@ whole-spare s n more w = record {
   room = le_trans w.room more;
 }
 
-way-spare : (owner : ℕ) (old new : Table) (n : ℕ) → MakesWay owner (with_spare old n) new → MakesWay owner old new
+pub way-spare : (owner : ℕ) (old new : Table) (n : ℕ) → MakesWay owner (with_spare old n) new → MakesWay owner old new
 unfolding StaysLive
 way-spare owner old new n w = record { order = w.order; live = w.live; bars = w.bars; quiet = w.quiet; asks = w.asks; sought = w.sought; granted = w.granted }
 

@@ -10,6 +10,8 @@ use Rattle.lock_needs.specs.Nodes.{same_node, contains, is_on}
 use Rattle.lock_needs.specs.Keeping.{is_excess}
 use Rattle.lock_needs.specs.Wants.{kept_at}
 use Rattle.lock_needs.proofs.NodeLaws.{same_node-sym}
+use Rattle.lock_needs.proofs.ModeTables.{at_most-refl}
+use Rattle.vms_queues.specs.Modes.{at_most}
 use Rattle.lock_tree_laws.specs.LockTable.{granted_at}
 use Rattle.lock_tree_laws.specs.Inner.Lowering.{BroughtDown}
 use Rattle.lock_tree_laws.specs.Parties.{IsKept}
@@ -40,6 +42,7 @@ pub served-nothing : (t : Table) (owner : ℕ) (p : Party) (n : Node) → is_spa
 served-nothing t owner p n f = record {
   way = way-none owner t;
   elsewhere = λ x e. refl;
+  rises = λ x d. at_most-refl (granted_at t owner x);
   least = λ h. absurd (false≢true (sym f ∙ h));
   unchanged = λ h. refl;
 }
@@ -49,6 +52,7 @@ pub served-lock : (old new : Table) (owner : ℕ) (p : Party) (n : Node) (keep :
 served-lock old new owner p n keep needs is excess way b = record {
   way = way;
   elsewhere = brought-elsewhere old new owner n keep needs b;
+  rises = λ x d. subst (λ (m : Mode). at_most (granted_at old owner x) m ≡ true) (sym (b.lowered.elsewhere owner x d)) (b.taken.more x);
   least = λ h. b.lowered.own ∙ is;
   unchanged = λ h. absurd (false≢true (sym h ∙ excess));
 }
@@ -58,6 +62,7 @@ pub served-roomy : (old mid new : Table) (owner : ℕ) (p : Party) (n : Node) �
 served-roomy old mid new owner p n e same h = record {
   way = way-same owner old mid new e h.way;
   elsewhere = λ x f. subst (λ (es : List (Node × Queues)). granted_at new owner x ≡ granted_at (record { entries = es; spare = mid.spare }) owner x) e (h.elsewhere x f);
+  rises = λ x d. subst (λ (es : List (Node × Queues)). at_most (granted_at (record { entries = es; spare = mid.spare }) owner x) (granted_at new owner x) ≡ true) e (h.rises x d);
   least = subst (λ (es : List (Node × Queues)). is_spare (granted_at (record { entries = es; spare = mid.spare }) owner) p n ≡ true → granted_at new owner n ≡ kept_at (granted_at (record { entries = es; spare = mid.spare }) owner) p n) e h.least;
   unchanged = λ f.
       h.unchanged (subst (λ (es : List (Node × Queues)). is_spare (granted_at (record { entries = es; spare = mid.spare }) owner) p n ≡ false) (sym e) f) ∙ same f;

@@ -1,8 +1,8 @@
 -- Where nothing is queued, and the whole need shares with what others hold, it is granted at once.
 use Rattle.std.proofs.Common.{◌≡◌, ℕ, inl, inr, true, false, Bool, refl, ◌∙◌, sym, ap, subst}
-use Rattle.std.specs.Prelude.{Option, Some, None, unwrap_or, nat_eq}
+use Rattle.std.specs.Prelude.{Option, Some, None, unwrap_or, nat_eq, if◌then◌else◌, ◌&&◌}
 use Rattle.std.specs.List.{list_any, IsDistinct}
-use Rattle.std.proofs.lemmas.Bool.{false≢true, cases_Bool, and_parts}
+use Rattle.std.proofs.lemmas.Bool.{false≢true, cases_Bool, and_parts, eq-eqb}
 use Rattle.std.proofs.lemmas.Cmp.{nat_eq_equiv}
 use Rattle.std.proofs.lemmas.List.Folds.{Any-from_list_any}
 use Rattle.std.proofs.lemmas.Map.Views.{lookup-from_Contains}
@@ -18,15 +18,16 @@ use Rattle.vms_locks.specs.declared.answer.Enq.{Enq}
 use Rattle.lock_needs.specs.declared.party.OpenWant.{OpenWant}
 use Rattle.lock_needs.specs.Party.{Party}
 use Rattle.lock_needs.specs.Wants.{sleeps_at}
-use Rattle.lock_needs.proofs.NodeLaws.{same_node-true}
-use Rattle.lock_tree_laws.specs.LockTable.{granted_at, IsFree, BarsNobody}
+use Rattle.lock_needs.proofs.NodeLaws.{same_node-true, same_node-refl}
+use Rattle.lock_needs.specs.Nodes.{same_node}
+use Rattle.lock_tree_laws.specs.LockTable.{granted_at, IsFree, BarsNobody, RaisedAt}
 use Rattle.lock_tree_laws.specs.Parties.{IsKept}
 use Rattle.lock_tree_laws.specs.Forest.{Parties, idle, party_of}
 use Rattle.lock_tree_laws.specs.Inner.Answering.{was_granted}
 use Rattle.lock_tree_laws.specs.Asking.{request_at, whole_mode}
 use Rattle.lock_tree_laws.specs.Wanted.{IsClear, MayTakeWhole, someone_sleeps}
 use Rattle.lock_tree_laws.proofs.QueueModes.{mode-absent}
-use Rattle.lock_tree_laws.proofs.Changes.{sought-unqueued}
+use Rattle.lock_tree_laws.proofs.Changes.{sought-unqueued, shares-live}
 use Rattle.lock_tree_laws.proofs.Conditions.{fits-free, grantable-free, grantable-granted}
 use Rattle.lock_tree_laws.proofs.Answered.{request-converts, request-asks}
 use Rattle.lock_tree_laws.proofs.Sleepers.{sleeping-queued}
@@ -66,3 +67,13 @@ crowded-queued t ps distinct kept n h =
     sleeper u p k (Some w) e s =
         let at : n ≡ w.here = same_node-true n w.here (and_parts _ _ s).0 in
         subst (λ (x : Node). is_queued u (queues_at t x) ≡ true) (sym at) (sleeping-queued t u p w k e (subst (λ (x : Node). sleeps_at (granted_at t u) (Some w) x ≡ true) at s))
+
+-- what was raised shares with all that others hold
+pub whole-free : (old new : Table) (owner : ℕ) (n : Node) (mode : Mode) → IsLive (queues_at new) → RaisedAt old new owner n mode → IsFree old owner n mode
+whole-free old new owner n mode live r u d =
+    let held = granted_at old owner n in
+    let own : granted_at new owner n ≡ mode =
+    r.granted owner n ∙ (ap (λ (b : Bool). if b && same_node n n then mode else held) (eq-eqb owner owner refl) ∙ ap (λ (b : Bool). if b then mode else held) (same_node-refl n)) in
+    let other : granted_at new u n ≡ granted_at old u n = r.granted u n ∙ ap (λ (b : Bool). if b && same_node n n then mode else granted_at old u n) d in
+    subst (λ (m : Mode). may_share m (granted_at old u n) ≡ true) own
+    (subst (λ (m : Mode). may_share (granted_at new owner n) m ≡ true) other (shares-live new new owner n live owner u d n))

@@ -20,12 +20,13 @@ use Rattle.lock_needs.proofs.Growing.{join-more}
 use Rattle.lock_needs.proofs.Joins.{nothing, at_most-both}
 use Rattle.vms_locks.specs.declared.answer.Enq.{Enq}
 use Rattle.vms_locks.specs.declared.answer.Enq.TheVariants.{Granted, Asleep, NotQueued, Deadlock}
-use Rattle.lock_tree_laws.specs.Inner.Answering.{AnswersAt, TakesAnswer}
+use Rattle.lock_tree_laws.specs.Inner.Answering.{TakesAnswer}
 use Rattle.lock_tree_laws.specs.LockTable.{granted_at, sought_at, HasIntents, RaisedAt, QueuedAt}
 use Rattle.lock_tree_laws.specs.Parties.{IsKeptBut, IsKept, KeepsOthers, was_asked, nowhere, wanting, unasked, asked_at}
 use Rattle.lock_tree_laws.proofs.Waking.{woken-kept}
 use Rattle.lock_tree_laws.proofs.Brought.{kept-alike}
 use Rattle.lock_tree_laws.proofs.Leaving.{opened-unasked, and-none, the-want}
+use Rattle.lock_tree_laws.specs.Asking.{AnswersAt}
 
 -- what joins a mode to one that is at least it
 join-same : (h m : Mode) → at_most m h ≡ true → least_above h m ≡ h

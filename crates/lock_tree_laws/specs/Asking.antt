@@ -8,13 +8,20 @@ use Rattle.vms_locks.specs.Table.{Table, queues_at}
 use Rattle.vms_locks.specs.Answers.{Request, WaitsQueued}
 use Rattle.vms_locks.specs.Walks.{IsCycle}
 use Rattle.vms_locks.specs.declared.answer.Enq.{Enq}
-use Rattle.vms_locks.specs.declared.answer.Enq.TheVariants.{NotQueued, Deadlock}
+use Rattle.vms_locks.specs.declared.answer.Enq.TheVariants.{Granted, Asleep, NotQueued, Deadlock}
 use Rattle.lock_needs.specs.declared.party.OpenWant.{OpenWant}
 use Rattle.lock_needs.specs.Wants.{mode_for, kept_at}
 use Rattle.lock_needs.specs.Keeping.{is_excess}
 use Rattle.lock_tree_laws.specs.Forest.{Parties, party_of}
-use Rattle.lock_tree_laws.specs.LockTable.{granted_at}
+use Rattle.lock_tree_laws.specs.LockTable.{granted_at, RaisedAt, QueuedAt}
 use Rattle.lock_tree_laws.specs.Order.{requesting}
+
+-- each answer with what it leaves
+abbrev pub AnswersAt : Table → Table → ℕ → Node → Mode → Bool → Enq → Type 0
+AnswersAt old new owner n mode wait Granted = RaisedAt old new owner n mode
+AnswersAt old new owner n mode wait Asleep = (wait ≡ true) × QueuedAt old new owner n mode
+AnswersAt old new owner n mode wait (NotQueued blocker) = (wait ≡ false) × (new ≡ old)
+AnswersAt old new owner n mode wait (Deadlock cycle) = (wait ≡ true) × (new ≡ old)
 
 -- the owner's request for the mode at the node: for another mode of its lock, where it holds one there
 abbrev pub request_at : Table → ℕ → Node → Mode → Request

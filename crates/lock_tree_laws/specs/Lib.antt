@@ -4,6 +4,7 @@ pub mod Forest
 pub mod Asking
 pub mod Wanted
 pub mod Order
+pub mod Rule
 pub mod Room
 pub mod Progress
 pub mod Inner

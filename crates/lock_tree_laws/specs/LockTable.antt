@@ -58,3 +58,8 @@ pub record LoweredAt (old new : Table) (owner : ℕ) (n : Node) (mode : Mode) : 
   pub others : (o : ℕ) → (o == owner) ≡ false → (granted_at new o n ≡ granted_at old o n) ⊎ (granted_at new o n ≡ sought_at old o n)
   pub sought_own : sought_at new owner n ≡ mode
   pub sought_others : (o : ℕ) (x : Node) → ((o == owner) && same_node x n) ≡ false → sought_at new o x ≡ sought_at old o x
+
+-- Each other owner asks what it asked, and its lock at each node is as it was, or what its queued request asked and was granted.
+pub record KeepsLocks (owner : ℕ) (old new : Table) : Type 0 where
+  pub granted : (u : ℕ) (n : Node) → (u == owner) ≡ false → (granted_at new u n ≡ granted_at old u n) ⊎ (granted_at new u n ≡ sought_at old u n)
+  pub sought : (u : ℕ) (n : Node) → (u == owner) ≡ false → sought_at new u n ≡ sought_at old u n

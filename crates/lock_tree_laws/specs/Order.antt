@@ -21,7 +21,7 @@ use Rattle.lock_needs.specs.Keeping.{is_excess}
 use Rattle.lock_needs.specs.Wants.{mode_for, kept_at}
 use Rattle.lock_needs.specs.Waits.{converts_at, asked_before, has_asked, waits_for}
 use Rattle.lock_tree_laws.specs.LockTable.{granted_in, sought_in, granted_at, sought_at, HasIntents}
-use Rattle.lock_tree_laws.specs.Parties.{IsKept, KeepsOthers, was_asked, wanting, unasked}
+use Rattle.lock_tree_laws.specs.Parties.{IsKept, was_asked, wanting, unasked}
 
 -- of the entries of these two owners the first is one of the first owner
 abbrev pub stands_before : (first second : ℕ) → List Held → Bool

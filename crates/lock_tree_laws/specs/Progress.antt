@@ -10,7 +10,7 @@ use Rattle.vms_locks.specs.Table.{Table}
 use Rattle.lock_needs.specs.declared.need.Need.{Need}
 use Rattle.lock_needs.specs.declared.party.OpenWant.{OpenWant}
 use Rattle.lock_needs.specs.Party.{Party}
-use Rattle.lock_needs.specs.Nodes.{is_above, on_way, is_on}
+use Rattle.lock_needs.specs.Nodes.{same_node, is_above, on_way, is_on}
 use Rattle.lock_needs.specs.Needs.{Holding}
 use Rattle.lock_needs.specs.Keeping.{is_excess}
 use Rattle.lock_needs.specs.Wants.{mode_for, kept_at}
@@ -87,10 +87,11 @@ NeverRises owner s r = (us : List ℕ) → is_among owner us ≡ true → IsAtMo
 -- ---- what doesn't raise it
 
 -- The owner, of which this is the party, was served a notice at the node: where its lock there was stronger than it had to be, it
--- came down to what must be kept, and no lock of the owner changed but there and below. Else nothing changed.
+-- came down to what must be kept, and no lock of the owner changed but there and, to be stronger, below. Else nothing changed.
 pub record IsServedAt (owner : ℕ) (p : Party) (n : Node) (old new : Table) : Type 0 where
   pub way : MakesWay owner old new
   pub elsewhere : (x : Node) → is_on n x ≡ false → granted_at new owner x ≡ granted_at old owner x
+  pub rises : (x : Node) → same_node x n ≡ false → at_most (granted_at old owner x) (granted_at new owner x) ≡ true
   pub least : is_spare (granted_at old owner) p n ≡ true → granted_at new owner n ≡ kept_at (granted_at old owner) p n
   pub unchanged : is_spare (granted_at old owner) p n ≡ false → new ≡ old
 
