@@ -10,19 +10,25 @@ use Rattle.lock_needs.specs.declared.party.Asked.{Asked}
 use Rattle.lock_needs.specs.Needs.{is_covered}
 use Rattle.lock_needs.specs.Party.{Party}
 use Rattle.lock_tree.specs.declared.parts.Parts.{Parts}
-use Rattle.lock_tree.specs.declared.answer.Want.{Want}
-use Rattle.lock_tree.specs.declared.answer.Want.TheVariants.{Got}
-use Rattle.lock_tree.specs.declared.answer.Step.{Step}
-use Rattle.lock_tree.specs.declared.answer.Step.TheVariants.{Down, Ends}
-use Rattle.lock_tree.specs.LockTable.{granted_at, RaisedAt}
-use Rattle.lock_tree.specs.Parties.{was_asked}
-use Rattle.lock_tree.specs.Order.{asked_last, asks_cut, without_asks}
-use Rattle.lock_tree.specs.Asking.{whole_mode}
-use Rattle.lock_tree.specs.Forest.{State, opened_of}
-use Rattle.lock_tree.specs.Wanted.{MayTakeWhole, trail_of_want, want_of, GotAtOnce, GotWhole}
-use Rattle.lock_tree.specs.Room.{IsAsBefore}
-use Rattle.lock_tree.proofs.OpenAsks.{cut-fresh}
-use Rattle.lock_tree.proofs.Respared.{with_spare, same-entries}
+use Rattle.lock_tree_laws.specs.declared.answer.Want.{Want}
+use Rattle.lock_tree_laws.specs.declared.answer.Want.TheVariants.{Got}
+use Rattle.lock_tree.specs.declared.steps.Step.{Step}
+use Rattle.lock_tree.specs.declared.steps.Step.TheVariants.{Down, Ends}
+use Rattle.lock_tree_laws.specs.LockTable.{granted_at, RaisedAt}
+use Rattle.lock_tree_laws.specs.Parties.{was_asked}
+use Rattle.lock_tree_laws.specs.Order.{asked_last, asks_cut, without_asks}
+use Rattle.lock_tree_laws.specs.Asking.{whole_mode}
+use Rattle.lock_tree_laws.specs.Forest.{State, opened_of}
+use Rattle.lock_tree_laws.specs.Wanted.{MayTakeWhole, trail_of_want, want_of, GotAtOnce, GotWhole}
+use Rattle.lock_tree_laws.specs.Room.{IsAsBefore}
+use Rattle.lock_tree_laws.specs.LockTable.{KeepsLocks}
+use Rattle.lock_tree_laws.specs.Progress.{LeavesLocks}
+use Rattle.lock_tree_laws.specs.Forest.{IsWhole}
+use Rattle.lock_tree_laws.specs.Wanted.{AddsAsks}
+use Rattle.lock_tree_laws.specs.Rule.{Finishes, GoesDown, entered}
+use Rattle.lock_tree_laws.proofs.ByRule.{goes-none, goes-then, goes-adds, goes-keeps, keeps-leaves}
+use Rattle.lock_tree_laws.proofs.OpenAsks.{cut-fresh}
+use Rattle.lock_tree_laws.proofs.Respared.{with_spare, same-entries}
 
 abbrev goes_down : Step → Bool
 goes_down (Down w) = true
@@ -104,3 +110,26 @@ whole-roomy s m r owner need b result f may =
     took-roomy s m r owner w b result
     (subst (λ (p : Party). MayTakeWhole m.table owner (want_of p.opened need) → IfOk result (GotWhole owner (want_of p.opened need) m r)) (b.parties owner) f
     (may-roomy s.table m.table owner w b.table may))
+
+-- ---- how a want went down
+
+pub went-roomy : {E : Type 0} (s m r : State) (owner : ℕ) (need : Need) (wait : Bool) → IsAsBefore s m → (result : Result Want E) → IfOk result (λ a. GoesDown owner need wait (Finishes owner a) (entered m owner) r)
+    → IfOk result (λ a. GoesDown owner need wait (Finishes owner a) (entered s owner) r)
+went-roomy s m r owner need wait b (Ok answer) g =
+    goes-then owner need wait (Finishes owner answer) (entered s owner) (entered m owner) r (ap (λ (p : Party). p.needs) (b.parties owner))
+    (goes-none owner need wait _ (entered s owner) (entered m owner) (trail-same s m owner b) b.table) g
+went-roomy s m r owner need wait b (Err e) g = g
+
+pub went-adds : {E : Type 0} (s r : State) (owner : ℕ) (need : Need) (wait : Bool) → (result : Result Want E) → IfOk result (λ a. GoesDown owner need wait (Finishes owner a) (entered s owner) r)
+    → IfOk result (λ a. AddsAsks owner need (trail_of_want s owner) r.trail)
+went-adds s r owner need wait (Ok answer) g = goes-adds owner need wait (Finishes owner answer) (entered s owner) r g
+went-adds s r owner need wait (Err e) g = g
+
+pub went-keeps : {E : Type 0} (s r : State) (owner : ℕ) (need : Need) (wait : Bool) → (result : Result Want E) → IfOk result (λ a. GoesDown owner need wait (Finishes owner a) (entered s owner) r)
+    → IfOk result (λ a. KeepsLocks owner s.table r.table)
+went-keeps s r owner need wait (Ok answer) g = goes-keeps owner need wait answer (entered s owner) r g
+went-keeps s r owner need wait (Err e) g = g
+
+pub went-leaves : {E : Type 0} (s r : State) (owner : ℕ) → IsWhole s → (result : Result Want E) → IfOk result (λ a. KeepsLocks owner s.table r.table) → IfOk result (λ a. LeavesLocks owner s.table r.table)
+went-leaves s r owner whole (Ok answer) k = keeps-leaves owner s.table r.table whole.intents k
+went-leaves s r owner whole (Err e) k = k

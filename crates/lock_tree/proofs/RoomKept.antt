@@ -14,13 +14,15 @@ use Rattle.lock_needs.specs.Nodes.{is_above, level_over, above_of}
 use Rattle.lock_needs.proofs.Above.{above-contains, above-level}
 use Rattle.lock_needs.proofs.NodeLaws.{contains-above}
 use Rattle.lock_tree.specs.declared.parts.Parts.{Parts}
-use Rattle.lock_tree.specs.declared.answer.Step.{Step}
-use Rattle.lock_tree.specs.declared.answer.Step.TheVariants.{Down, Ends}
-use Rattle.lock_tree.specs.Forest.{State, Parties, KeepsParties, party_of, places_kept}
+use Rattle.lock_tree.specs.declared.steps.Step.{Step}
+use Rattle.lock_tree.specs.declared.steps.Step.TheVariants.{Down, Ends}
+use Rattle.lock_tree_laws.specs.Forest.{State, Parties, KeepsParties, party_of, places_kept}
 use Rattle.lock_tree.specs.States.{state_of}
-use Rattle.lock_tree.specs.Wanted.{needs_of, Steps}
-use Rattle.lock_tree.specs.Room.{HasRoomFor, HasRoomToOpen, LeavesRoom, StaysRoomy, IsAsBefore, depth}
-use Rattle.lock_tree.proofs.KeptPlaces.{places-same, places-still}
+use Rattle.lock_tree_laws.specs.Wanted.{needs_of}
+use Rattle.lock_tree.specs.Inner.Stepping.{Steps}
+use Rattle.lock_tree.specs.Inner.Rooms.{HasRoomFor, HasRoomToOpen, LeavesRoom, StaysRoomy}
+use Rattle.lock_tree_laws.specs.Room.{IsAsBefore, depth}
+use Rattle.lock_tree_laws.proofs.KeptPlaces.{places-same, places-still}
 
 -- as many places more or fewer
 times-more : (n k : ℕ) → (n + 1) * k ≡ n * k + k

@@ -1,12 +1,3 @@
-pub mod LockTable
-pub mod Parties
-pub mod Lowering
 pub mod Notices
-pub mod Forest
-pub mod Releasing
-pub mod Asking
-pub mod Wanted
 pub mod States
-pub mod Order
-pub mod Room
-pub mod Progress
+pub mod Inner

@@ -6,15 +6,15 @@ ghost use Rattle.vms_locks.specs.Answers.{Answers};
 ghost use Rattle.lock_needs.specs.declared.need.Need.{Need};
 ghost use Rattle.lock_needs.specs.Needs.{covered_above, is_plain};
 ghost use Rattle.lock_needs.specs.Wants.{kept_at};
-ghost use Rattle.lock_tree.specs.LockTable.{granted_at, HasIntents};
-ghost use Rattle.lock_tree.specs.Parties.{IsKept, KeepsOthers, wanting, resting, unasked};
-ghost use Rattle.lock_tree.specs.Releasing.{IsQuiet};
-ghost use Rattle.lock_tree.specs.Order.{ComesDown};
-ghost use Rattle.lock_tree.specs.Progress.{IsServedAt, LeavesLocks};
-ghost use Rattle.lock_tree.specs.Room.{HasSpare, UsesSpare};
-ghost use Rattle.lock_tree.specs.Asking.{was_granted, request_at, asked_mode, AnswersAt, TakesAnswer, TakesWhole, HasTakenWhole};
-ghost use Rattle.lock_tree.specs.Forest.{party_of, KeepsParties};
-ghost use Rattle.lock_tree.specs.Wanted.{MayTakeWhole};
+ghost use Rattle.lock_tree_laws.specs.LockTable.{granted_at, HasIntents};
+ghost use Rattle.lock_tree_laws.specs.Parties.{IsKept, KeepsOthers, wanting, resting, unasked};
+ghost use Rattle.lock_tree_laws.specs.Inner.Releasing.{IsQuiet};
+ghost use Rattle.lock_tree_laws.specs.Inner.Answering.{ComesDown, was_granted, TakesAnswer, TakesWhole, HasTakenWhole};
+ghost use Rattle.lock_tree_laws.specs.Progress.{IsServedAt, LeavesLocks};
+ghost use Rattle.lock_tree_laws.specs.Inner.Spare.{HasSpare, UsesSpare};
+ghost use Rattle.lock_tree_laws.specs.Asking.{request_at, asked_mode, AnswersAt};
+ghost use Rattle.lock_tree_laws.specs.Forest.{party_of, KeepsParties};
+ghost use Rattle.lock_tree_laws.specs.Wanted.{MayTakeWhole};
 
 use crate::holding::granted_of;
 use crate::notice::serve_notice;
@@ -70,7 +70,7 @@ pub(crate) fn ask_here(
     ensures live { IsLive (queues_at locks.new) }
     ensures intents { HasIntents locks.new }
     ensures others { KeepsOthers owner locks.old locks.new }
-    ensures locks { LeavesLocks owner locks.old locks.new }
+    ensures left { AnswersAt locks.old locks.new owner want.here (asked_mode locks.old owner want) wait result }
     ensures spare { UsesSpare 1 locks.old locks.new }
 {
     let held = granted_of(locks, owner, want.here);

@@ -1,9 +1,9 @@
 ghost use Rattle.std.specs.Prelude.{◌≡◌, ◌++◌, ◌∷◌, [], ◌<◌, ◌≤◌, ◌+◌, true, Some, is_some, length, vec_len, vec_capacity};
-ghost use Rattle.lock_tree.specs.LockTable.{HasIntents};
-ghost use Rattle.lock_tree.specs.Parties.{IsKept, KeepsOthers, resting, asked_at};
-ghost use Rattle.lock_tree.specs.Order.{MakesWay, StandsByNeeds};
-ghost use Rattle.lock_tree.specs.Forest.{party_of, KeepsParties};
-ghost use Rattle.lock_tree.specs.Room.{HasSpare, UsesSpare};
+ghost use Rattle.lock_tree_laws.specs.LockTable.{HasIntents};
+ghost use Rattle.lock_tree_laws.specs.Parties.{IsKept, KeepsOthers, resting, asked_at};
+ghost use Rattle.lock_tree_laws.specs.Order.{MakesWay, StandsByNeeds};
+ghost use Rattle.lock_tree_laws.specs.Forest.{party_of, KeepsParties};
+ghost use Rattle.lock_tree_laws.specs.Inner.Spare.{HasSpare, UsesSpare};
 
 use crate::ending::end_want;
 use crate::parties::{close_for, go_to};

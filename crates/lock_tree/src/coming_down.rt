@@ -3,10 +3,10 @@ ghost use Rattle.std.specs.List.{list_all};
 ghost use Rattle.vms_queues.specs.Owners.{is_owner};
 ghost use Rattle.lock_needs.specs.Needs.{covers_from, is_covered, all_covered, supposing, is_plain};
 ghost use Rattle.lock_needs.specs.Keeping.{allows, is_enough};
-ghost use Rattle.lock_tree.specs.LockTable.{granted_at};
-ghost use Rattle.lock_tree.specs.Lowering.{MayComeDown, HasTaken, BroughtDown};
-ghost use Rattle.lock_tree.specs.Order.{MakesWay};
-ghost use Rattle.lock_tree.specs.Room.{HasSpare, UsesSpare};
+ghost use Rattle.lock_tree_laws.specs.LockTable.{granted_at};
+ghost use Rattle.lock_tree_laws.specs.Inner.Lowering.{MayComeDown, HasTaken, BroughtDown};
+ghost use Rattle.lock_tree_laws.specs.Order.{MakesWay};
+ghost use Rattle.lock_tree_laws.specs.Inner.Spare.{HasSpare, UsesSpare};
 
 use crate::holding::{granted_of, lower, raise};
 use lock_needs::{Level, Need, Node, contains, covers_below, is_above, on_way, step_towards};

@@ -1,11 +1,12 @@
 ghost use Rattle.std.specs.Prelude.{◌≡◌, List, true, false, length};
 ghost use Rattle.lock_needs.specs.Needs.{covers_from, covered_above as covered_over, is_covered as is_covered_by};
 ghost use Rattle.lock_needs.specs.Keeping.{needed_uncovered, after_want};
-ghost use Rattle.lock_tree.specs.LockTable.{granted_at, sought_at, HasIntents};
+ghost use Rattle.lock_tree_laws.specs.LockTable.{granted_at, sought_at, HasIntents};
 ghost use Rattle.lock_needs.specs.declared.need.Need.{Need};
-ghost use Rattle.lock_tree.specs.Parties.{IsKept, KeepsOthers, wanting, resting, unasked, StandsStill};
-ghost use Rattle.lock_tree.specs.Order.{MakesWay, StandsByNeeds};
-ghost use Rattle.lock_tree.specs.Room.{HasSpare, UsesSpare, is_over_others};
+ghost use Rattle.lock_tree_laws.specs.Parties.{IsKept, KeepsOthers, wanting, resting, unasked};
+ghost use Rattle.lock_tree_laws.specs.Inner.Answering.{StandsStill};
+ghost use Rattle.lock_tree_laws.specs.Order.{MakesWay, StandsByNeeds};
+ghost use Rattle.lock_tree_laws.specs.Inner.Spare.{HasSpare, UsesSpare, is_over_others};
 
 use crate::coming_down::bring_down;
 use crate::holding::granted_of;

@@ -3,9 +3,9 @@ ghost use Rattle.vms_queues.specs.declared.lock_mode.Mode.TheVariants.{NL};
 ghost use Rattle.vms_queues.specs.Modes.{at_most};
 ghost use Rattle.vms_queues.specs.Owners.{is_owner};
 ghost use Rattle.vms_locks.specs.Table.{queues_at, IsLive};
-ghost use Rattle.lock_tree.specs.LockTable.{granted_at, sought_at, IsFree, BarsNobody, RaisedAt, LoweredAt};
-ghost use Rattle.lock_tree.specs.Order.{MakesWay};
-ghost use Rattle.lock_tree.specs.Room.{HasSpare, UsesSpare};
+ghost use Rattle.lock_tree_laws.specs.LockTable.{granted_at, sought_at, IsFree, BarsNobody, RaisedAt, LoweredAt};
+ghost use Rattle.lock_tree_laws.specs.Order.{MakesWay};
+ghost use Rattle.lock_tree_laws.specs.Inner.Spare.{HasSpare, UsesSpare};
 
 use lock_needs::Node;
 use vms_locks::Locks;

@@ -3,12 +3,12 @@ ghost use Rattle.vms_queues.specs.Queues.{blockers};
 ghost use Rattle.vms_queues.specs.Owners.{is_owner};
 ghost use Rattle.vms_locks.specs.Table.{queues_at, IsLive};
 ghost use Rattle.lock_needs.specs.Needs.{covered_above};
-ghost use Rattle.lock_tree.specs.LockTable.{granted_at, HasIntents};
-ghost use Rattle.lock_tree.specs.Parties.{IsKept, KeepsOthers, unasked};
-ghost use Rattle.lock_tree.specs.Forest.{party_of};
-ghost use Rattle.lock_tree.specs.Room.{HasSpare, UsesSpare};
-ghost use Rattle.lock_tree.specs.Asking.{exceeds_at, first_excess, asked_mode, TakesLook};
-ghost use Rattle.lock_tree.specs.Progress.{LooksOn};
+ghost use Rattle.lock_tree_laws.specs.LockTable.{granted_at, HasIntents};
+ghost use Rattle.lock_tree_laws.specs.Parties.{IsKept, KeepsOthers, unasked};
+ghost use Rattle.lock_tree_laws.specs.Forest.{party_of};
+ghost use Rattle.lock_tree_laws.specs.Inner.Spare.{HasSpare, UsesSpare};
+ghost use Rattle.lock_tree_laws.specs.Asking.{exceeds_at, first_excess, asked_mode};
+ghost use Rattle.lock_tree.specs.Inner.Looking.{TakesLook, LooksOn};
 
 use crate::asking::{ask_here, make_least};
 use crate::holding::granted_of;

@@ -1,13 +1,13 @@
-ghost use Rattle.std.specs.Prelude.{◌≡◌, ◌==◌, ◌+◌, ◌≤◌, ℕ, true, false, length, IfSome, IfOk, OnOk, OnErr};
+ghost use Rattle.std.specs.Prelude.{◌≡◌, ◌==◌, ◌+◌, ◌≤◌, ℕ, true, false, length, IfOk, OnOk, OnErr};
 ghost use Rattle.lock_needs.specs.Keeping.{is_excess as exceeds};
 ghost use Rattle.lock_needs.specs.Wants.{opened_at, kept_at};
-ghost use Rattle.lock_tree.specs.LockTable.{granted_at, HasIntents};
-ghost use Rattle.lock_tree.specs.Parties.{IsKept, KeepsOthers};
-ghost use Rattle.lock_tree.specs.Forest.{places_kept as places_of_all};
+ghost use Rattle.lock_tree_laws.specs.LockTable.{granted_at, HasIntents};
+ghost use Rattle.lock_tree_laws.specs.Parties.{IsKept, KeepsOthers};
+ghost use Rattle.lock_tree_laws.specs.Forest.{places_kept as places_of_all};
 ghost use Rattle.lock_tree.specs.Notices.{notice_answer};
-ghost use Rattle.lock_tree.specs.Order.{MakesWay, StandsByNeeds};
-ghost use Rattle.lock_tree.specs.Progress.{IsServedAt};
-ghost use Rattle.lock_tree.specs.Room.{HasSpare, UsesSpare};
+ghost use Rattle.lock_tree_laws.specs.Order.{MakesWay, StandsByNeeds};
+ghost use Rattle.lock_tree_laws.specs.Progress.{IsServedAt};
+ghost use Rattle.lock_tree_laws.specs.Inner.Spare.{HasSpare, UsesSpare};
 
 use crate::coming_down::bring_down;
 use crate::holding::granted_of;
@@ -89,10 +89,10 @@ pub(crate) fn serve_notice(
 
 // How many places are to be spare in the lock table where the party is served a notice: one for each of its needs, and those that
 // the ends of open wants may take.
-fn places_for_notice(parties: &IndexMap<u32, Party>, party: &Party) -> Option<usize>
-    ensures { IfSome result (λ n. n ≡ length party.now.needs + places_of_all parties.now.entries) }
+fn places_for_notice(parties: &IndexMap<u32, Party>, party: &Party) -> usize
+    ensures { result ≡ length party.now.needs + places_of_all parties.now.entries }
 {
-    places_kept(parties)?.checked_add(party.needs().len())
+    party.needs().len() + places_kept(parties)
 }
 
 // Makes room for all that the owner's needs may take lower, where a notice to it is due at the node, beside what is kept for the
@@ -113,10 +113,7 @@ fn make_room_for_notice(
     if !is_excess(held, kept_mode(locks, owner, party, node)) {
         return Ok(());
     }
-    let Some(places) = places_for_notice(parties, party) else {
-        return Err(NoMemory {});
-    };
-    locks.reserve(places)
+    locks.reserve(places_for_notice(parties, party))
 }
 
 // Answers a notice, as `serve_notice` does. All memory is taken before anything changes, and the room for the ends of open wants

@@ -1,7 +1,7 @@
 ghost use Rattle.std.specs.Prelude.{◌≡◌, ◌==◌, ◌++◌, ◌∷◌, [], ℕ, true, false, Some, is_some, OnOk, OnErr};
 ghost use Rattle.lock_needs.specs.declared.party.OpenWant.{OpenWant};
-ghost use Rattle.lock_tree.specs.Parties.{resting};
-ghost use Rattle.lock_tree.specs.Forest.{idle, party_of, has_party, KeepsParties};
+ghost use Rattle.lock_tree_laws.specs.Parties.{resting};
+ghost use Rattle.lock_tree_laws.specs.Forest.{idle, party_of, has_party, KeepsParties};
 
 use indexmap::IndexMap;
 use lock_needs::{OpenWant, Party};

@@ -2,12 +2,12 @@ ghost use Rattle.std.specs.Prelude.{◌≡◌, true};
 ghost use Rattle.vms_queues.specs.declared.lock_mode.Mode.TheVariants.{NL};
 ghost use Rattle.rdb_types.specs.declared.node.Node.{Node};
 ghost use Rattle.lock_needs.specs.Nodes.{is_on};
-ghost use Rattle.lock_tree.specs.LockTable.{granted_at, HasIntents};
-ghost use Rattle.lock_tree.specs.Parties.{IsKept, KeepsOthers};
-ghost use Rattle.lock_tree.specs.Forest.{idle};
-ghost use Rattle.lock_tree.specs.Order.{MakesWay};
-ghost use Rattle.lock_tree.specs.Room.{UsesSpare};
-ghost use Rattle.lock_tree.specs.Releasing.{same_level, IsQuiet, IsClearBelow, HasNoneAt, HasPlaces, IsReleasing};
+ghost use Rattle.lock_tree_laws.specs.LockTable.{granted_at, HasIntents};
+ghost use Rattle.lock_tree_laws.specs.Parties.{IsKept, KeepsOthers};
+ghost use Rattle.lock_tree_laws.specs.Forest.{idle};
+ghost use Rattle.lock_tree_laws.specs.Order.{MakesWay};
+ghost use Rattle.lock_tree_laws.specs.Inner.Spare.{UsesSpare};
+ghost use Rattle.lock_tree_laws.specs.Inner.Releasing.{same_level, IsQuiet, IsClearBelow, HasNoneAt, HasPlaces, IsReleasing};
 
 use crate::ending::stop_asking;
 use crate::holding::lower;

@@ -2,8 +2,8 @@ ghost use Rattle.std.specs.Prelude.{◌≡◌, ℕ, true, nat_eq, IfSome, IfNone
 ghost use Rattle.indexmap.specs.IndexMap.{IsUnique};
 ghost use Rattle.vms_locks.specs.Table.{queues_at, IsLive, WaitsIn};
 ghost use Rattle.lock_needs.specs.Wants.{sleeps_at};
-ghost use Rattle.lock_tree.specs.LockTable.{granted_at};
-ghost use Rattle.lock_tree.specs.Wanted.{is_known, someone_sleeps};
+ghost use Rattle.lock_tree_laws.specs.LockTable.{granted_at};
+ghost use Rattle.lock_tree_laws.specs.Wanted.{is_known, someone_sleeps};
 
 use crate::holding::granted_of;
 use indexmap::IndexMap;

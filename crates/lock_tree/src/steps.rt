@@ -5,20 +5,24 @@ ghost use Rattle.vms_queues.specs.Modes.{at_most};
 ghost use Rattle.vms_queues.specs.Owners.{is_owner};
 ghost use Rattle.lock_needs.specs.Needs.{is_covered, is_plain};
 ghost use Rattle.lock_needs.specs.Wants.{mode_for};
-ghost use Rattle.lock_tree.specs.LockTable.{granted_at, RaisedAt};
-ghost use Rattle.lock_tree.specs.Asking.{HasTakenWhole, whole_mode};
-ghost use Rattle.lock_tree.specs.Releasing.{IsQuiet};
-ghost use Rattle.lock_tree.specs.Room.{UsesSpare, HasRoomFor, LeavesRoom, StaysRoomy, depth};
-ghost use Rattle.lock_tree.specs.Parties.{resting, unasked};
-ghost use Rattle.lock_tree.specs.Forest.{IsWhole, KeepsParties, opened_of, party_of};
-ghost use Rattle.lock_tree.specs.Order.{asked_last};
-ghost use Rattle.lock_tree.specs.Progress.{LeavesLocks, MovesOn, StepsOn};
-ghost use Rattle.lock_tree.specs.declared.answer.Step.TheVariants.{Ends};
-ghost use Rattle.lock_tree.specs.declared.answer.Want.TheVariants.{Got};
+ghost use Rattle.lock_tree_laws.specs.LockTable.{granted_at, RaisedAt};
+ghost use Rattle.lock_tree_laws.specs.Inner.Answering.{HasTakenWhole};
+ghost use Rattle.lock_tree_laws.specs.Asking.{whole_mode};
+ghost use Rattle.lock_tree_laws.specs.Inner.Releasing.{IsQuiet};
+ghost use Rattle.lock_tree_laws.specs.Inner.Spare.{UsesSpare};
+ghost use Rattle.lock_tree.specs.Inner.Rooms.{HasRoomFor, LeavesRoom, StaysRoomy};
+ghost use Rattle.lock_tree_laws.specs.Room.{depth};
+ghost use Rattle.lock_tree_laws.specs.Parties.{resting, unasked};
+ghost use Rattle.lock_tree_laws.specs.Forest.{IsWhole, KeepsParties, opened_of, party_of};
+ghost use Rattle.lock_tree_laws.specs.Order.{asked_last, MakesWay};
+ghost use Rattle.lock_tree_laws.specs.Rule.{Finishes, GoesDown};
+ghost use Rattle.lock_tree_laws.specs.Progress.{LeavesLocks, MovesOn};
+ghost use Rattle.lock_tree.specs.Inner.Stepping.{StepFinishes, StepsOn, Steps};
+ghost use Rattle.lock_tree.specs.declared.steps.Step.TheVariants.{Ends};
+ghost use Rattle.lock_tree_laws.specs.declared.answer.Want.TheVariants.{Got};
 ghost use Rattle.lock_tree.specs.States.{state_of};
-ghost use Rattle.lock_tree.specs.Wanted.{IsClear, MayTakeWhole, needs_of, IsOpen, Steps, Answered, AddsAsks};
+ghost use Rattle.lock_tree_laws.specs.Wanted.{MayTakeWhole, needs_of, IsOpen, Answered};
 
-use crate::answer::{Step, Want};
 use crate::asking::take_whole;
 use crate::closing::{end_open, mark_asked, note_ask};
 use crate::ending::is_covered as has_cover;
@@ -28,7 +32,17 @@ use crate::parts::Parts;
 use crate::sleeping::{find_blocker, is_asleep, is_crowded};
 use crate::way::further_down;
 use lock_needs::{Need, OpenWant};
+use lock_tree_laws::Want;
 use vms_locks::Enq;
+
+// What comes of a step of an open want.
+#[derive(Debug, Drop)]
+pub(crate) enum Step {
+    // It has come to the next node down its way, where nothing was asked yet.
+    Down(OpenWant),
+    // The call ends with this answer.
+    Ends(Want),
+}
 
 impl Parts {
     // The owner has got the need of its open want, which its locks cover.
@@ -59,7 +73,7 @@ impl Parts {
         requires plain { is_plain want.need ≡ true }
 
         ensures got { result ≡ true → party_of self.new.parties.entries owner ≡ resting (needs_of (state_of self.old) owner ++ want.need ∷ []) }
-        ensures clear { result ≡ true → IsClear self.old.locks want.here }
+        ensures may { result ≡ true → MayTakeWhole self.old.locks owner want }
         ensures taken { result ≡ true → HasTakenWhole owner want self.old.locks self.new.locks }
         ensures strong { MayTakeWhole self.old.locks owner want → result ≡ true }
         ensures asked { result ≡ true → self.new.trail.items ≡ self.old.trail.items ++ (record { owner = owner; node = want.here }) ∷ [] }
@@ -108,6 +122,7 @@ impl Parts {
         ensures ended { party_of self.new.parties.entries owner ≡ resting (needs_of (state_of self.old) owner) }
         ensures trail { self.new.trail ≡ self.old.trail }
         ensures locks { LeavesLocks owner self.old.locks self.new.locks }
+        ensures way { MakesWay owner self.old.locks self.new.locks }
         ensures spare { UsesSpare (length (needs_of (state_of self.old) owner)) self.old.locks self.new.locks }
         ensures whole { IsWhole (state_of self.new) }
         ensures others { KeepsParties owner self.old.parties.entries self.new.parties.entries }
@@ -124,6 +139,7 @@ impl Parts {
         requires plain { is_plain want.need ≡ true }
 
         ensures trail { self.new.trail ≡ self.old.trail }
+        ensures finish { StepFinishes owner result self.old.locks self.new.locks }
         ensures step { Steps (needs_of (state_of self.old) owner) (state_of self.new) owner want wait result }
         ensures progress { StepsOn owner (state_of self.old) (state_of self.new) result }
         ensures room { StaysRoomy owner self.old self.new result }
@@ -152,6 +168,7 @@ impl Parts {
         ensures ended { party_of self.new.parties.entries owner ≡ resting (needs_of (state_of self.old) owner) }
         ensures asked { self.new.trail.items ≡ self.old.trail.items ++ (record { owner = owner; node = want.here }) ∷ [] }
         ensures locks { LeavesLocks owner self.old.locks self.new.locks }
+        ensures way { MakesWay owner self.old.locks self.new.locks }
         ensures whole { IsWhole (state_of self.new) }
         ensures others { KeepsParties owner self.old.parties.entries self.new.parties.entries }
     {
@@ -173,9 +190,10 @@ impl Parts {
         requires whole { IsWhole (state_of self.old) }
         requires opened { opened_of (state_of self.old) owner ≡ Some (unasked want) }
         requires uncovered { is_covered (granted_at self.old.locks owner) want.need ≡ false }
+        requires not_whole { MayTakeWhole self.old.locks owner want → ⊥ }
         requires plain { is_plain want.need ≡ true }
 
-        ensures trail { AddsAsks owner want.need self.old.trail.items self.new.trail.items }
+        ensures went { GoesDown owner want.need wait (StepFinishes owner result) (state_of self.old) (state_of self.new) }
         ensures step { Steps (needs_of (state_of self.old) owner) (state_of self.new) owner want wait result }
         ensures progress { StepsOn owner (state_of self.old) (state_of self.new) result }
         ensures room { LeavesRoom owner self.old self.new result }
@@ -214,7 +232,7 @@ impl Parts {
         requires opened { opened_of (state_of self.old) owner ≡ Some (unasked want) }
         requires plain { is_plain want.need ≡ true }
 
-        ensures trail { AddsAsks owner want.need self.old.trail.items self.new.trail.items }
+        ensures went { GoesDown owner want.need wait (StepFinishes owner result) (state_of self.old) (state_of self.new) }
         ensures step { Steps (needs_of (state_of self.old) owner) (state_of self.new) owner want wait result }
         ensures progress { StepsOn owner (state_of self.old) (state_of self.new) result }
         ensures room { LeavesRoom owner self.old self.new result }
@@ -241,7 +259,7 @@ impl Parts {
         requires opened { opened_of (state_of self.old) owner ≡ Some (unasked want) }
         requires plain { is_plain want.need ≡ true }
 
-        ensures trail { AddsAsks owner want.need self.old.trail.items self.new.trail.items }
+        ensures went { GoesDown owner want.need wait (Finishes owner result) (state_of self.old) (state_of self.new) }
         ensures answer { Answered (needs_of (state_of self.old) owner) (state_of self.new) owner want.need wait result }
         ensures progress { MovesOn owner (state_of self.old) (state_of self.new) result }
         ensures covered { is_covered (granted_at self.old.locks owner) want.need ≡ true → (result ≡ Got) × (self.new.locks ≡ self.old.locks) × (self.new.trail ≡ self.old.trail) }

@@ -1,8 +1,8 @@
 ghost use Rattle.std.specs.Prelude.{◌≡◌, ◌≤◌, ◌&&◌, ℕ, option_map, slice_get, vec_len, vec_capacity};
 ghost use Rattle.rdb_types.specs.declared.node.Node.{Node};
-ghost use Rattle.lock_tree.specs.Parties.{was_asked as was_asked_at};
-ghost use Rattle.lock_tree.specs.Forest.{asks_of, is_asked_at, KeepsAsks};
-ghost use Rattle.lock_tree.specs.Order.{asks_cut};
+ghost use Rattle.lock_tree_laws.specs.Parties.{was_asked as was_asked_at};
+ghost use Rattle.lock_tree_laws.specs.Forest.{asks_of, is_asked_at, KeepsAsks};
+ghost use Rattle.lock_tree_laws.specs.Order.{asks_cut};
 
 use lock_needs::{Asked, Node, OpenWant, contains};
 

@@ -1,18 +1,20 @@
 ghost use Rattle.std.specs.Prelude.{◌≡◌, [], true, false, None, Some, is_some, option_map, slice_get, IfOk, OnOk, OnErr};
 ghost use Rattle.rdb_types.specs.declared.node.Node.{Node};
 ghost use Rattle.vms_queues.specs.declared.lock_mode.Mode.TheVariants.{NL};
+ghost use Rattle.vms_queues.specs.Modes.{at_most};
 ghost use Rattle.vms_queues.specs.Owners.{is_owner};
+ghost use Rattle.lock_needs.specs.Nodes.{same_node, is_on};
 ghost use Rattle.lock_needs.specs.Needs.{is_covered, is_plain};
 ghost use Rattle.lock_needs.specs.Keeping.{is_excess};
 ghost use Rattle.lock_needs.specs.Wants.{kept_at};
-ghost use Rattle.lock_tree.specs.LockTable.{granted_at, AllShare};
-ghost use Rattle.lock_tree.specs.Forest.{IsWhole, KeepsParties, NeedsAreApart, idle, party_of, has_need, asks_of};
+ghost use Rattle.lock_tree_laws.specs.LockTable.{granted_at, AllShare, KeepsLocks};
+ghost use Rattle.lock_tree_laws.specs.Forest.{IsWhole, KeepsParties, NeedsAreApart, idle, party_of, has_need, asks_of};
 ghost use Rattle.lock_tree.specs.Notices.{notice_answer};
-ghost use Rattle.lock_tree.specs.Progress.{is_spare, Falls, MovesOn};
-ghost use Rattle.lock_tree.specs.Wanted.{MayTakeWhole, needs_of, wanted_of, IsOf, IsLooking, Answered, GotAtOnce, GotWhole, want_of, AddsAsks, trail_of_want};
-ghost use Rattle.lock_tree.specs.Room.{IsAsBefore};
+ghost use Rattle.lock_tree_laws.specs.Progress.{is_spare, Falls, LeavesLocks, MovesOn};
+ghost use Rattle.lock_tree_laws.specs.Rule.{Finishes, GoesDown, entered};
+ghost use Rattle.lock_tree_laws.specs.Wanted.{MayTakeWhole, needs_of, wanted_of, IsOf, IsLooking, Answered, GotAtOnce, GotWhole, want_of, AddsAsks, trail_of_want};
+ghost use Rattle.lock_tree_laws.specs.Room.{IsAsBefore};
 
-use crate::answer::Want;
 use crate::holding::granted_of;
 use crate::notice::{Demotion, answer_notice};
 use crate::parties::forget;
@@ -21,6 +23,7 @@ use crate::releasing::release_owner;
 use crate::trail::nth_ask;
 use indexmap::IndexMap;
 use lock_needs::{Need, Node};
+use lock_tree_laws::Want;
 use rdb_types::NoMemory;
 use std::alloc::Global;
 use std::marker::Model;
@@ -35,7 +38,7 @@ pub struct Tree {
 }
 
 impl Model for Tree {
-    ghost use Rattle.lock_tree.specs.Forest.{State, IsWhole};
+    ghost use Rattle.lock_tree_laws.specs.Forest.{State, IsWhole};
     ghost use Rattle.lock_tree.specs.States.{state_of};
 
     ghost Value = { State };
@@ -65,7 +68,8 @@ impl Tree {
     /// topmost node on the way to the need's, and goes down: at each node the whole need is taken where nothing is queued there and
     /// it can be granted at once; else the owner's own lock comes down to what must be kept, and the want's mode is asked, unless a
     /// notice is due before. A want that is open goes on from where it stands; after a notice was delivered it looks again. Where it
-    /// isn't to wait, what can't be granted is refused. Who sleeps or is refused waits by needs, or would wait so, for whom the
+    /// isn't to wait, what can't be granted is refused. No other owner's lock is weaker afterwards: a notice that is due is left to
+    /// be served. Who sleeps or is refused waits by needs, or would wait so, for whom the
     /// answer names: by the needs that others have got, the wants that are open, and the order in which these were asked. All memory
     /// is taken before the first change, that for the want's end with it: after want of memory all is as before. A want that is open
     /// never raises the measure that each notice lowers, and where it ends, the measure falls: so no lock goes to and fro.
@@ -75,6 +79,9 @@ impl Tree {
         requires same { IsOf need (party_of self.old.parties owner).opened }
 
         ensures trail { IfOk result (λ a. AddsAsks owner need (trail_of_want self.old owner) self.new.trail) }
+        ensures by_rule { IfOk result (λ a. GoesDown owner need wait (Finishes owner a) (entered self.old owner) self.new) }
+        ensures locks { IfOk result (λ a. KeepsLocks owner self.old.table self.new.table) }
+        ensures no_weaker { IfOk result (λ a. LeavesLocks owner self.old.table self.new.table) }
         ensures answer { IfOk result (Answered (needs_of self.old owner) self.new owner need wait) }
         ensures progress { is_some (party_of self.old.parties owner).opened ≡ true → IfOk result (MovesOn owner self.old self.new) }
         ensures covered { is_covered (granted_at self.old.table owner) need ≡ true → IsLooking (party_of self.old.parties owner).opened → IfOk result (GotAtOnce owner self.old self.new) }
@@ -104,7 +111,8 @@ impl Tree {
     /// Serves a notice at the node: where the owner's lock there is stronger than it has to be, it comes down to the least mode that
     /// its needs and its open want require. What a stronger lock covered alone is taken one level lower first. The mode that was
     /// asked there needn't be looked at. The memory for that is taken before: after want of memory all is as before. Each
-    /// notice that finds something to do lowers a measure.
+    /// notice that finds something to do lowers a measure. No other owner's lock is weaker afterwards, and of the owner's own locks
+    /// only those below the node changed: they are stronger.
     pub fn deliver_notice(
         &mut self,
         to: u32,
@@ -114,6 +122,10 @@ impl Tree {
         ensures answer { IfOk result (λ d. d ≡ notice_answer (granted_at self.old.table to node) (kept_at (granted_at self.old.table to) (party_of self.old.parties to) node)) }
         ensures least { OnOk result (is_excess (granted_at self.old.table to node) (kept_at (granted_at self.old.table to) (party_of self.old.parties to) node) ≡ true → granted_at self.new.table to node ≡ kept_at (granted_at self.old.table to) (party_of self.old.parties to) node) }
         ensures unchanged { OnOk result (is_excess (granted_at self.old.table to node) (kept_at (granted_at self.old.table to) (party_of self.old.parties to) node) ≡ false → self.new ≡ self.old) }
+        ensures below { OnOk result ((n : Node) → same_node n node ≡ false → at_most (granted_at self.old.table to n) (granted_at self.new.table to n) ≡ true) }
+        ensures elsewhere { OnOk result ((n : Node) → is_on node n ≡ false → granted_at self.new.table to n ≡ granted_at self.old.table to n) }
+        ensures locks { OnOk result (KeepsLocks to self.old.table self.new.table) }
+        ensures no_weaker { OnOk result (LeavesLocks to self.old.table self.new.table) }
         ensures falls { OnOk result (is_spare (granted_at self.old.table to) (party_of self.old.parties to) node ≡ true → Falls to self.old self.new) }
         ensures parties { self.new.parties ≡ self.old.parties }
         ensures trail { self.new.trail ≡ self.old.trail }
@@ -138,6 +150,8 @@ impl Tree {
         ensures ended { (party_of self.new.parties owner).opened ≡ None }
         ensures needs { (party_of self.new.parties owner).needs ≡ (party_of self.old.parties owner).needs }
         ensures others { KeepsParties owner self.old.parties self.new.parties }
+        ensures locks { KeepsLocks owner self.old.table self.new.table }
+        ensures no_weaker { LeavesLocks owner self.old.table self.new.table }
         ensures unchanged { (party_of self.old.parties owner).opened ≡ None → self.new ≡ self.old }
         ensures falls { is_some (party_of self.old.parties owner).opened ≡ true → Falls owner self.old self.new }
     {
@@ -173,6 +187,8 @@ impl Tree {
         ensures idle { party_of self.new.parties owner ≡ idle }
         ensures none { (n : Node) → granted_at self.new.table owner n ≡ NL }
         ensures others { KeepsParties owner self.old.parties self.new.parties }
+        ensures locks { KeepsLocks owner self.old.table self.new.table }
+        ensures no_weaker { LeavesLocks owner self.old.table self.new.table }
         ensures falls { is_some (party_of self.old.parties owner).opened ≡ true → Falls owner self.old self.new }
     {
         if let Some(party) = self.parts.parties.get(&owner) {

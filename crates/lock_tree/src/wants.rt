@@ -1,23 +1,26 @@
 //! Wants, from their opening on.
 
-ghost use Rattle.std.specs.Prelude.{◌≡◌, ◌≤◌, ◌+◌, ◌*◌, true, false, None, Some, is_some, length, IfOk, IfSome, OnOk, OnErr};
+ghost use Rattle.std.specs.Prelude.{◌≡◌, ◌≤◌, ◌<◌, ◌+◌, ◌*◌, ◌^◌, true, false, None, Some, is_some, length, IfOk, OnOk, OnErr};
 ghost use Rattle.vms_queues.specs.Owners.{is_owner};
 ghost use Rattle.lock_needs.specs.Needs.{is_covered, is_plain};
-ghost use Rattle.lock_tree.specs.Forest.{IsWhole, KeepsParties, party_of, opened_of as open_want_of, places_kept as places_of_all};
-ghost use Rattle.lock_tree.specs.LockTable.{granted_at};
-ghost use Rattle.lock_tree.specs.Progress.{MovesOn};
+ghost use Rattle.lock_tree_laws.specs.Forest.{IsWhole, KeepsParties, party_of, opened_of as open_want_of, places_kept as places_of_all};
+ghost use Rattle.lock_tree_laws.specs.LockTable.{granted_at, KeepsLocks};
+ghost use Rattle.lock_tree_laws.specs.Rule.{Finishes, GoesDown, entered};
+ghost use Rattle.lock_tree_laws.specs.Progress.{LeavesLocks, MovesOn};
 ghost use Rattle.lock_tree.specs.States.{state_of};
-ghost use Rattle.lock_tree.specs.Wanted.{MayTakeWhole, needs_of, IsOf, IsLooking, Answered, GotAtOnce, GotWhole, AddsAsks, trail_of_want, opening_of, want_of};
-ghost use Rattle.lock_tree.specs.Room.{HasRoomFor, HasRoomToOpen, IsAsBefore};
+ghost use Rattle.lock_tree_laws.specs.Wanted.{MayTakeWhole, needs_of, IsOf, IsLooking, Answered, GotAtOnce, GotWhole, AddsAsks, trail_of_want, opening_of, want_of};
+ghost use Rattle.lock_tree.specs.Inner.Rooms.{HasRoomFor, HasRoomToOpen};
+ghost use Rattle.lock_tree_laws.specs.Room.{IsAsBefore};
 
-use crate::answer::{Step, Want};
 use crate::parties::{admit, open_for};
 use crate::parts::Parts;
 use crate::places::places_kept;
+use crate::steps::Step;
 use crate::trail::cut_asks;
 use crate::way::opening;
 use indexmap::IndexMap;
 use lock_needs::{Need, OpenWant, Party};
+use lock_tree_laws::Want;
 use rdb_types::NoMemory;
 
 /// How many nodes are on the way of a need, its own with them.
@@ -25,7 +28,8 @@ const WAY_NODES: usize = 4;
 
 // How many needs the owner has got.
 fn count_needs(parties: &IndexMap<u32, Party>, owner: u32) -> usize
-    ensures { result ≡ length (party_of parties.now.entries owner).needs }
+    ensures value { result ≡ length (party_of parties.now.entries owner).needs }
+    ensures small { result < 2 ^ 59 }
 {
     match parties.get(&owner) {
         Some(party) => party.needs().len(),
@@ -35,13 +39,11 @@ fn count_needs(parties: &IndexMap<u32, Party>, owner: u32) -> usize
 
 // How many places are to be spare in the lock table as a want goes its way: at each node on it one for its lock, and one for each
 // need of its owner that is to be taken lower; and those that the ends of open wants may take, its own among them.
-fn places_for(parties: &IndexMap<u32, Party>, owner: u32) -> Option<usize>
-    ensures { IfSome result (λ n. n ≡ 4 * (length (party_of parties.now.entries owner).needs + 1) + (places_of_all parties.now.entries + length (party_of parties.now.entries owner).needs)) }
+fn places_for(parties: &IndexMap<u32, Party>, owner: u32) -> usize
+    ensures { result ≡ 4 * (length (party_of parties.now.entries owner).needs + 1) + (places_of_all parties.now.entries + length (party_of parties.now.entries owner).needs) }
 {
     let needs = count_needs(parties, owner);
-    let way = needs.checked_add(1)?.checked_mul(WAY_NODES)?;
-    let ends = places_kept(parties)?.checked_add(needs)?;
-    way.checked_add(ends)
+    WAY_NODES * (needs + 1) + (places_kept(parties) + needs)
 }
 
 impl Parts {
@@ -59,12 +61,8 @@ impl Parts {
         ensures spare { self.old.locks.spare ≤ self.new.locks.spare }
         ensures ok { OnOk result (HasRoomToOpen owner self.new) }
     {
-        let Some(places) = places_for(&self.parties, owner) else {
-            return Err(NoMemory {});
-        };
         self.trail.reserve(WAY_NODES)?;
-        self.locks.reserve(places)?;
-        Ok(())
+        self.locks.reserve(places_for(&self.parties, owner))
     }
 
     // Opens a want of the need for an owner that has none open.
@@ -75,7 +73,7 @@ impl Parts {
         requires resting { open_want_of (state_of self.old) owner ≡ None }
         requires plain { is_plain need ≡ true }
 
-        ensures trail { IfOk result (λ a. AddsAsks owner need (trail_of_want (state_of self.old) owner) self.new.trail.items) }
+        ensures went { IfOk result (λ a. GoesDown owner need wait (Finishes owner a) (entered (state_of self.old) owner) (state_of self.new)) }
         ensures answer { IfOk result (Answered (needs_of (state_of self.old) owner) (state_of self.new) owner need wait) }
         ensures covered { is_covered (granted_at self.old.locks owner) need ≡ true → IfOk result (GotAtOnce owner (state_of self.old) (state_of self.new)) }
         ensures strong { is_covered (granted_at self.old.locks owner) need ≡ false → MayTakeWhole self.old.locks owner (opening_of need) → IfOk result (GotWhole owner (opening_of need) (state_of self.old) (state_of self.new)) }
@@ -99,7 +97,7 @@ impl Parts {
         requires asked { want.is_asked ≡ true }
         requires plain { is_plain want.need ≡ true }
 
-        ensures trail { AddsAsks owner want.need self.old.trail.items self.new.trail.items }
+        ensures went { GoesDown owner want.need wait (Finishes owner result) (state_of self.old) (state_of self.new) }
         ensures answer { Answered (needs_of (state_of self.old) owner) (state_of self.new) owner want.need wait result }
         ensures progress { MovesOn owner (state_of self.old) (state_of self.new) result }
         ensures whole { IsWhole (state_of self.new) }
@@ -119,7 +117,7 @@ impl Parts {
         requires plain { is_plain need ≡ true }
         requires same { IsOf need (open_want_of (state_of self.old) owner) }
 
-        ensures trail { IfOk result (λ a. AddsAsks owner need (trail_of_want (state_of self.old) owner) self.new.trail.items) }
+        ensures went { IfOk result (λ a. GoesDown owner need wait (Finishes owner a) (entered (state_of self.old) owner) (state_of self.new)) }
         ensures answer { IfOk result (Answered (needs_of (state_of self.old) owner) (state_of self.new) owner need wait) }
         ensures progress { is_some (open_want_of (state_of self.old) owner) ≡ true → IfOk result (MovesOn owner (state_of self.old) (state_of self.new)) }
         ensures covered { is_covered (granted_at self.old.locks owner) need ≡ true → IsLooking (open_want_of (state_of self.old) owner) → IfOk result (GotAtOnce owner (state_of self.old) (state_of self.new)) }
@@ -142,7 +140,10 @@ impl Parts {
         requires plain { is_plain need ≡ true }
         requires same { IsOf need (open_want_of (state_of self.old) owner) }
 
+        ensures went { IfOk result (λ a. GoesDown owner need wait (Finishes owner a) (entered (state_of self.old) owner) (state_of self.new)) }
         ensures trail { IfOk result (λ a. AddsAsks owner need (trail_of_want (state_of self.old) owner) self.new.trail.items) }
+        ensures locks { IfOk result (λ a. KeepsLocks owner self.old.locks self.new.locks) }
+        ensures no_weaker { IfOk result (λ a. LeavesLocks owner self.old.locks self.new.locks) }
         ensures answer { IfOk result (Answered (needs_of (state_of self.old) owner) (state_of self.new) owner need wait) }
         ensures progress { is_some (open_want_of (state_of self.old) owner) ≡ true → IfOk result (MovesOn owner (state_of self.old) (state_of self.new)) }
         ensures covered { is_covered (granted_at self.old.locks owner) need ≡ true → IsLooking (open_want_of (state_of self.old) owner) → IfOk result (GotAtOnce owner (state_of self.old) (state_of self.new)) }

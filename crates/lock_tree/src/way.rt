@@ -1,7 +1,7 @@
 ghost use Rattle.std.specs.Prelude.{◌≡◌, true, Some, None, IfSome, IfNone};
 ghost use Rattle.lock_needs.specs.Nodes.{is_on, above_of};
-ghost use Rattle.lock_tree.specs.Parties.{unasked};
-ghost use Rattle.lock_tree.specs.Wanted.{top_from, opening_of};
+ghost use Rattle.lock_tree_laws.specs.Parties.{unasked};
+ghost use Rattle.lock_tree_laws.specs.Wanted.{top_from, opening_of};
 
 use lock_needs::{Level, Need, Node, OpenWant, on_way, step_towards};
 

@@ -8,10 +8,10 @@ use Rattle.vms_queues.specs.Queues.{has_owner}
 use Rattle.vms_locks.specs.Table.{queues_at}
 use Rattle.vms_locks.proofs.Granting.{live-after_enq, live-after_convert}
 use Rattle.vms_locks.specs.Answers.{Request, Answers}
-use Rattle.lock_tree.proofs.HeldModes.{mode-has_owner, no-mode_absent}
-use Rattle.lock_tree.proofs.Changes.{quiet-at}
-use Rattle.lock_tree.proofs.Conditions.{absent-quiet}
-use Rattle.lock_tree.proofs.Answered.{quiet-awake, request-answered, conversion-answered, request-converts, request-asks}
+use Rattle.lock_tree_laws.proofs.HeldModes.{mode-has_owner, no-mode_absent}
+use Rattle.lock_tree_laws.proofs.Changes.{quiet-at}
+use Rattle.lock_tree_laws.proofs.Conditions.{absent-quiet}
+use Rattle.lock_tree_laws.proofs.Answered.{quiet-awake, request-answered, conversion-answered, request-converts, request-asks}
 use Rattle.lock_tree.proofs.asking.ask.Goals as goal
 
 pub convert-requires-clause-granted : goal.convert-requires-clause-granted

@@ -1,9 +1,8 @@
 use Rattle.std.proofs.Common.{subst}
 use Rattle.vms_queues.specs.declared.lock_mode.Mode.{Mode}
 use Rattle.vms_locks.specs.Answers.{Answers}
-use Rattle.lock_tree.specs.Asking.{request_at}
-use Rattle.lock_tree.proofs.WantAsked.{want-quiet, want-answered, answer-intents, answer-others, asked-mode}
-use Rattle.lock_tree.proofs.OthersLeft.{answer-leaves}
+use Rattle.lock_tree_laws.specs.Asking.{AnswersAt, request_at}
+use Rattle.lock_tree_laws.proofs.WantAsked.{want-quiet, want-answered, answer-intents, answer-others, asked-mode}
 use Rattle.lock_tree.proofs.asking.ask_here.Goals as goal
 
 pub ask-requires-clause-quiet : goal.ask-requires-clause-quiet
@@ -31,5 +30,7 @@ returns-clause-exact c =
     subst (λ (m : Mode). Answers c.args.locks.now c.ask.new.locks c.args.owner c.args.want.here c.args.wait (request_at c.args.locks.now c.args.owner c.args.want.here m) c.ask.result)
     (asked-mode _ _ _ _ c.join.result c.granted_of-held.ensures.value c.mode_for.ensures c.join.ensures.table) c.ask.ensures.exact
 
-pub returns-clause-locks : goal.returns-clause-locks
-returns-clause-locks c = answer-leaves c.args.locks.now c.ask.new.locks c.args.owner c.args.want.here c.join.result c.args.wait c.ask.result c.ask.ensures.answer
+pub returns-clause-left : goal.returns-clause-left
+returns-clause-left c =
+    subst (λ (m : Mode). AnswersAt c.args.locks.now c.ask.new.locks c.args.owner c.args.want.here m c.args.wait c.ask.result)
+    (asked-mode _ _ _ _ c.join.result c.granted_of-held.ensures.value c.mode_for.ensures c.join.ensures.table) c.ask.ensures.answer

@@ -2,10 +2,10 @@ use Rattle.std.proofs.Common.{◌≡◌, true, refl, sym, ◌∙◌, subst}
 use Rattle.vms_queues.specs.declared.lock_mode.Mode.{Mode}
 use Rattle.vms_queues.specs.Modes.{at_most}
 use Rattle.lock_needs.proofs.ModeTables.{join-left}
-use Rattle.lock_tree.specs.LockTable.{granted_at}
-use Rattle.lock_tree.proofs.WantAsked.{asked-mode}
-use Rattle.lock_tree.proofs.Getting.{whole-quiet, whole-intents, whole-others, whole-answered, whole-refused, whole-raised, whole-exact}
-use Rattle.lock_tree.proofs.TakingWhole.{whole-granted}
+use Rattle.lock_tree_laws.specs.LockTable.{granted_at}
+use Rattle.lock_tree_laws.proofs.WantAsked.{asked-mode}
+use Rattle.lock_tree_laws.proofs.Getting.{whole-quiet, whole-intents, whole-others, whole-answered, whole-refused, whole-raised, whole-exact}
+use Rattle.lock_tree_laws.proofs.TakingWhole.{whole-granted}
 use Rattle.lock_tree.proofs.asking.ask_whole.Goals as goal
 
 pub ask-answer-requires-clause-quiet : goal.ask-answer-requires-clause-quiet

@@ -1,4 +1,4 @@
-use Rattle.lock_tree.proofs.Exactness.{least-after}
+use Rattle.lock_tree_laws.proofs.Exactness.{least-after}
 use Rattle.lock_tree.proofs.asking.make_least.Goals as goal
 
 pub returns-clause-least : goal.returns-clause-least

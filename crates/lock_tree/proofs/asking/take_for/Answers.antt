@@ -1,6 +1,6 @@
 use Rattle.std.proofs.Common.{sym, subst}
-use Rattle.lock_tree.specs.Parties.{IsKept, unasked}
-use Rattle.lock_tree.proofs.Opened.{as-open}
+use Rattle.lock_tree_laws.specs.Parties.{IsKept, unasked}
+use Rattle.lock_tree_laws.proofs.Opened.{as-open}
 use Rattle.lock_tree.proofs.asking.take_for.Goals as goal
 
 pub returns-then-granted-clause-kept : goal.returns-then-granted-clause-kept

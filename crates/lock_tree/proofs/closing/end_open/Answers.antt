@@ -1,10 +1,10 @@
 use Rattle.std.proofs.Common.{◌≡◌, ap, sym, subst, length, ◌+◌, ◌≤◌}
 use Rattle.std.specs.Prelude.{unwrap_or}
 use Rattle.lock_needs.specs.Party.{Party}
-use Rattle.lock_tree.specs.Forest.{idle, party_of}
-use Rattle.lock_tree.specs.Parties.{IsKept, wanting, resting}
-use Rattle.lock_tree.specs.Order.{StandsByNeeds}
-use Rattle.lock_tree.proofs.Opened.{as-open}
+use Rattle.lock_tree_laws.specs.Forest.{idle, party_of}
+use Rattle.lock_tree_laws.specs.Parties.{IsKept, wanting, resting}
+use Rattle.lock_tree_laws.specs.Order.{StandsByNeeds}
+use Rattle.lock_tree_laws.proofs.Opened.{as-open}
 use Rattle.lock_tree.proofs.closing.end_open.Goals as goal
 
 pub end_want-requires-clause-kept : goal.end_want-requires-clause-kept

@@ -4,10 +4,10 @@ use Rattle.lock_needs.specs.Needs.{is_covered, all_covered, supposing, is_plain}
 use Rattle.lock_needs.specs.Keeping.{allows}
 use Rattle.lock_needs.proofs.ModeTables.{at_most-refl}
 use Rattle.lock_needs.proofs.Cover.{covered-more, allows-more}
-use Rattle.lock_tree.specs.LockTable.{granted_at}
-use Rattle.lock_tree.proofs.Spared.{supposed-more}
-use Rattle.lock_tree.proofs.Taking.{each-at, coming_down-next}
-use Rattle.lock_tree.proofs.WayMade.{way-none, way-then}
+use Rattle.lock_tree_laws.specs.LockTable.{granted_at}
+use Rattle.lock_tree_laws.proofs.Spared.{supposed-more}
+use Rattle.lock_tree_laws.proofs.Taking.{each-at, coming_down-next}
+use Rattle.lock_tree_laws.proofs.WayMade.{way-none, way-then}
 use Rattle.lock_tree.proofs.coming_down.take_lower.Goals as goal
 
 pub take_one-requires-clause-covered : goal.take_one-requires-clause-covered

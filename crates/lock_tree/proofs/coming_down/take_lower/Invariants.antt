@@ -1,9 +1,9 @@
 use Rattle.std.proofs.Common.{◌≡◌, take, ◌+◌, ◌≤◌, true}
 use Rattle.lock_needs.specs.Needs.{all_covered, supposing}
-use Rattle.lock_tree.specs.LockTable.{granted_at}
-use Rattle.lock_tree.specs.Order.{MakesWay}
-use Rattle.lock_tree.specs.Room.{UsesSpare}
-use Rattle.lock_tree.proofs.Taking.{IsComingDown}
+use Rattle.lock_tree_laws.specs.LockTable.{granted_at}
+use Rattle.lock_tree_laws.specs.Order.{MakesWay}
+use Rattle.lock_tree_laws.specs.Inner.Spare.{UsesSpare}
+use Rattle.lock_tree_laws.proofs.Taking.{IsComingDown}
 use Rattle.lock_tree.proofs.coming_down.take_lower.Given as goal
 
 abbrev pub invariant-loop-need : goal.invariant-loop-need

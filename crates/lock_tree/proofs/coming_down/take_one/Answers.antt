@@ -2,10 +2,10 @@ use Rattle.std.proofs.Common.{sym, ◌∙◌, inl, inr}
 use Rattle.std.proofs.lemmas.Bool.{false≢true}
 use Rattle.lock_needs.proofs.Cover.{kept_or_below}
 use Rattle.lock_needs.specs.Needs.{supposing}
-use Rattle.lock_tree.specs.LockTable.{granted_at}
-use Rattle.lock_tree.proofs.Changes.{shares-live}
-use Rattle.lock_tree.proofs.Taking.{taking, taking-awake, taking-free, taking-bars, taken-ready, taken-one, taken-covered}
-use Rattle.lock_tree.proofs.WayMade.{way-none, taken-used}
+use Rattle.lock_tree_laws.specs.LockTable.{granted_at}
+use Rattle.lock_tree_laws.proofs.Changes.{shares-live}
+use Rattle.lock_tree_laws.proofs.Taking.{taking, taking-awake, taking-free, taking-bars, taken-ready, taken-one, taken-covered}
+use Rattle.lock_tree_laws.proofs.WayMade.{way-none, taken-used}
 use Rattle.lock_tree.proofs.coming_down.take_one.Goals as goal
 
 pub raise-requires-clause-awake : goal.raise-requires-clause-awake

@@ -2,11 +2,11 @@ use Rattle.std.proofs.Common.{sym, ◌∙◌, arith}
 use Rattle.std.proofs.lemmas.Bool.{false≢true, and_parts}
 use Rattle.rdb_types.specs.declared.node.Level.TheVariants.{Line}
 use Rattle.lock_needs.specs.Nodes.{is_above}
-use Rattle.lock_tree.proofs.Leaving.{climbed, closed, up-quiet}
-use Rattle.lock_tree.specs.LockTable.{granted_at, sought_at}
-use Rattle.lock_tree.proofs.Spared.{up-apart, spare-left}
-use Rattle.lock_tree.proofs.WayMade.{way-then}
-use Rattle.lock_tree.proofs.ServedInOrder.{stands-climbed, stands-closed}
+use Rattle.lock_tree_laws.proofs.Leaving.{climbed, closed, up-quiet}
+use Rattle.lock_tree_laws.specs.LockTable.{granted_at, sought_at}
+use Rattle.lock_tree_laws.proofs.Spared.{up-apart, spare-left}
+use Rattle.lock_tree_laws.proofs.WayMade.{way-then}
+use Rattle.lock_tree_laws.proofs.ServedInOrder.{stands-climbed, stands-closed}
 use Rattle.lock_tree.proofs.ending.end_want.Goals as goal
 
 pub returns-in_default-clause-ended : goal.returns-in_default-clause-ended

@@ -1,8 +1,9 @@
 use Rattle.std.proofs.Common.{◌≡◌, true, length}
-use Rattle.lock_tree.specs.LockTable.{granted_at, sought_at, HasIntents}
-use Rattle.lock_tree.specs.Parties.{IsKept, KeepsOthers, wanting}
-use Rattle.lock_tree.specs.Order.{MakesWay, StandsByNeeds}
-use Rattle.lock_tree.specs.Room.{UsesSpare, is_over_others, depth}
+use Rattle.lock_tree_laws.specs.LockTable.{granted_at, sought_at, HasIntents}
+use Rattle.lock_tree_laws.specs.Parties.{IsKept, KeepsOthers, wanting}
+use Rattle.lock_tree_laws.specs.Order.{MakesWay, StandsByNeeds}
+use Rattle.lock_tree_laws.specs.Inner.Spare.{UsesSpare, is_over_others}
+use Rattle.lock_tree_laws.specs.Room.{depth}
 use Rattle.lock_tree.proofs.ending.end_want.Given as goal
 
 abbrev pub invariant-loop-up : goal.invariant-loop-up

@@ -7,15 +7,15 @@ use Rattle.lock_needs.specs.declared.need.Need.{Need}
 use Rattle.lock_needs.specs.declared.party.OpenWant.{OpenWant}
 use Rattle.lock_needs.specs.Needs.{all_covered, supposing}
 use Rattle.lock_needs.specs.Keeping.{is_enough}
-use Rattle.lock_tree.specs.LockTable.{granted_at}
-use Rattle.lock_tree.specs.Lowering.{BroughtDown}
-use Rattle.lock_tree.specs.Parties.{IsKept, wanting}
-use Rattle.lock_tree.specs.Order.{StandsByNeeds}
-use Rattle.lock_tree.proofs.Brought.{brought-others, brought-intents}
-use Rattle.lock_tree.proofs.Leaving.{left-ready, left-enough, left-down, left-stays, left-none, never-asked_here, tested-held}
-use Rattle.lock_tree.proofs.Spared.{double-not, left-covered, room-left}
-use Rattle.lock_tree.proofs.WayMade.{way-none}
-use Rattle.lock_tree.proofs.ServedInOrder.{stands-left, stands-skipped, stands-none}
+use Rattle.lock_tree_laws.specs.LockTable.{granted_at}
+use Rattle.lock_tree_laws.specs.Inner.Lowering.{BroughtDown}
+use Rattle.lock_tree_laws.specs.Parties.{IsKept, wanting}
+use Rattle.lock_tree_laws.specs.Order.{StandsByNeeds}
+use Rattle.lock_tree_laws.proofs.Brought.{brought-others, brought-intents}
+use Rattle.lock_tree_laws.proofs.Leaving.{left-ready, left-enough, left-down, left-stays, left-none, never-asked_here, tested-held}
+use Rattle.lock_tree_laws.proofs.Spared.{double-not, left-covered, room-left}
+use Rattle.lock_tree_laws.proofs.WayMade.{way-none}
+use Rattle.lock_tree_laws.proofs.ServedInOrder.{stands-left, stands-skipped, stands-none}
 use Rattle.lock_tree.proofs.ending.leave_node.Goals as goal
 
 pub bring_down-requires-clause-ready : goal.bring_down-requires-clause-ready

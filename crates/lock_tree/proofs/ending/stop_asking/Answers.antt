@@ -1,12 +1,12 @@
 use Rattle.std.proofs.Common.{sym, ◌∙◌, true, false}
 use Rattle.vms_locks.proofs.Granting.{live-after_cancel}
-use Rattle.lock_tree.specs.LockTable.{granted_at}
-use Rattle.lock_tree.proofs.Brought.{lowered-others}
-use Rattle.lock_tree.proofs.Changes.{cancelled-law}
-use Rattle.lock_tree.proofs.Leaving.{granted-quiet, woken-up, cancelled-intents, tested-mode}
-use Rattle.lock_tree.proofs.OrderedRequests.{cancelled-order}
-use Rattle.lock_tree.proofs.WayMade.{way-none, way-lowered}
-use Rattle.lock_tree.proofs.ServedInOrder.{stands-cancelled}
+use Rattle.lock_tree_laws.specs.LockTable.{granted_at}
+use Rattle.lock_tree_laws.proofs.Brought.{lowered-others}
+use Rattle.lock_tree_laws.proofs.Changes.{cancelled-law}
+use Rattle.lock_tree_laws.proofs.Leaving.{granted-quiet, woken-up, cancelled-intents, tested-mode}
+use Rattle.lock_tree_laws.proofs.OrderedRequests.{cancelled-order}
+use Rattle.lock_tree_laws.proofs.WayMade.{way-none, way-lowered}
+use Rattle.lock_tree_laws.proofs.ServedInOrder.{stands-cancelled}
 use Rattle.lock_needs.proofs.ModeTables.{at_most-refl}
 use Rattle.lock_tree.proofs.ending.stop_asking.Goals as goal
 

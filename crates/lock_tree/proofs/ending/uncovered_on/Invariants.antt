@@ -1,7 +1,7 @@
 use Rattle.std.proofs.Common.{◌≡◌, drop}
 use Rattle.vms_queues.specs.Modes.{least_above}
 use Rattle.lock_needs.specs.Keeping.{needed_uncovered}
-use Rattle.lock_tree.specs.LockTable.{granted_at}
+use Rattle.lock_tree_laws.specs.LockTable.{granted_at}
 use Rattle.lock_tree.proofs.ending.uncovered_on.Given as goal
 
 abbrev pub invariant-loop-need : goal.invariant-loop-need

@@ -1,8 +1,8 @@
 use Rattle.std.proofs.Common.{sym}
 use Rattle.std.proofs.lemmas.Bool.{false≢true}
 use Rattle.vms_locks.specs.Table.{queues_at}
-use Rattle.lock_tree.proofs.HeldModes.{mode-has_owner}
-use Rattle.lock_tree.proofs.Owned.{owner-of}
+use Rattle.lock_tree_laws.proofs.HeldModes.{mode-has_owner}
+use Rattle.lock_tree_laws.proofs.Owned.{owner-of}
 use Rattle.lock_tree.proofs.holding.granted_of.Goals as goal
 
 pub returns-in-Some-clause-owner : goal.returns-in-Some-clause-owner

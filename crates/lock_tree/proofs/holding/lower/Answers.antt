@@ -5,13 +5,12 @@ use Rattle.vms_queues.specs.declared.lock_mode.Mode.TheVariants.{NL}
 use Rattle.vms_queues.specs.Modes.{at_most}
 use Rattle.vms_locks.specs.Table.{queues_at}
 use Rattle.vms_locks.proofs.Granting.{live-after_deq, live-after_weaken}
-use Rattle.lock_tree.specs.LockTable.{LoweredAt}
+use Rattle.lock_tree_laws.specs.LockTable.{LoweredAt, granted_at}
 use Rattle.lock_needs.proofs.Joins.{nothing}
-use Rattle.lock_tree.proofs.HeldModes.{covers-less}
-use Rattle.lock_tree.proofs.Changes.{nothing-mode, weakened-law, released-law}
-use Rattle.lock_tree.specs.LockTable.{granted_at}
-use Rattle.lock_tree.proofs.OrderedRequests.{weakened-order, released-order}
-use Rattle.lock_tree.proofs.WayMade.{something-mode, way-none, way-lowered}
+use Rattle.lock_tree_laws.proofs.HeldModes.{covers-less}
+use Rattle.lock_tree_laws.proofs.Changes.{nothing-mode, weakened-law, released-law}
+use Rattle.lock_tree_laws.proofs.OrderedRequests.{weakened-order, released-order}
+use Rattle.lock_tree_laws.proofs.WayMade.{something-mode, way-none, way-lowered}
 use Rattle.lock_tree.proofs.holding.lower.Goals as goal
 
 pub weaken-requires : goal.weaken-requires

@@ -8,12 +8,12 @@ use Rattle.vms_queues.specs.Queues.{has_owner}
 use Rattle.vms_locks.specs.Table.{queues_at}
 use Rattle.vms_locks.specs.Answers.{asking, converting}
 use Rattle.vms_locks.proofs.Granting.{live-after_enq, live-after_convert}
-use Rattle.lock_tree.proofs.HeldModes.{mode-has_owner}
-use Rattle.lock_tree.proofs.Changes.{quiet-at}
-use Rattle.lock_tree.proofs.Conditions.{fits-free, grantable-free, no-wait_free, granted-only, absent-quiet, asked-law, converted-law}
-use Rattle.lock_tree.proofs.Ordered.{flip}
-use Rattle.lock_tree.proofs.OrderedRequests.{asked-order, raised-order}
-use Rattle.lock_tree.proofs.WayMade.{way-raised}
+use Rattle.lock_tree_laws.proofs.HeldModes.{mode-has_owner}
+use Rattle.lock_tree_laws.proofs.Changes.{quiet-at}
+use Rattle.lock_tree_laws.proofs.Conditions.{fits-free, grantable-free, no-wait_free, granted-only, absent-quiet, asked-law, converted-law}
+use Rattle.lock_tree_laws.proofs.Ordered.{flip}
+use Rattle.lock_tree_laws.proofs.OrderedRequests.{asked-order, raised-order}
+use Rattle.lock_tree_laws.proofs.WayMade.{way-raised}
 use Rattle.lock_tree.proofs.holding.raise.Goals as goal
 
 pub convert-granted-requires-clause-granted : goal.convert-granted-requires-clause-granted

@@ -1,5 +1,5 @@
 use Rattle.std.proofs.Common.{◌≡◌, drop}
-use Rattle.lock_tree.specs.Asking.{first_excess}
+use Rattle.lock_tree_laws.specs.Asking.{first_excess}
 use Rattle.lock_tree.proofs.looking.find_excess.Given as goal
 
 abbrev pub invariant-loop-other : goal.invariant-loop-other

@@ -6,15 +6,16 @@ use Rattle.vms_queues.specs.Queues.{blockers}
 use Rattle.lock_needs.specs.declared.need.Need.{Need}
 use Rattle.lock_needs.specs.Party.{Party}
 use Rattle.lock_needs.specs.Wants.{kept_at}
-use Rattle.lock_tree.specs.LockTable.{granted_at}
-use Rattle.lock_tree.specs.Parties.{IsKept, wanting, unasked}
-use Rattle.lock_tree.specs.Asking.{first_excess, TakesAnswer}
+use Rattle.lock_tree_laws.specs.LockTable.{granted_at}
+use Rattle.lock_tree_laws.specs.Parties.{IsKept, wanting, unasked}
+use Rattle.lock_tree_laws.specs.Asking.{first_excess}
+use Rattle.lock_tree_laws.specs.Inner.Answering.{TakesAnswer, ComesDown}
 use Rattle.vms_locks.specs.Table.{queues_at}
-use Rattle.lock_tree.specs.Order.{ComesDown}
-use Rattle.lock_tree.proofs.InWay.{found-in_way}
-use Rattle.lock_tree.proofs.Opened.{as-open}
-use Rattle.lock_tree.proofs.MeasureFalls.{way-leaves}
-use Rattle.lock_tree.proofs.OthersLeft.{leaves-then}
+use Rattle.lock_tree_laws.proofs.InWay.{found-in_way}
+use Rattle.lock_tree_laws.proofs.Opened.{as-open}
+use Rattle.lock_tree_laws.proofs.MeasureFalls.{way-leaves}
+use Rattle.lock_tree_laws.proofs.OthersLeft.{leaves-then, answer-leaves}
+use Rattle.lock_tree_laws.specs.Progress.{IsServedAt}
 use Rattle.lock_tree.proofs.looking.look_here.Goals as goal
 
 pub returns-in-Some-clause-look : goal.returns-in-Some-clause-look
@@ -56,6 +57,8 @@ returns-clause-look c = (
     none_due = subst (λ (m : Mode). first_excess c.make_least.new.locks c.args.parties.now.entries c.args.want.here (blockers c.args.owner m (queues_at c.make_least.new.locks c.args.want.here).granted) ≡ None)
         c.mode_of_want-mode.ensures.value (sym c.find_excess.ensures ∙ c.in_default.is);
     exact = c.ask_here-answer.ensures.exact;
+    left = c.ask_here-answer.ensures.left;
+    served = subst (λ (p : Party). IsServedAt c.args.owner p c.args.want.here c.args.locks.now c.make_least.new.locks) c.requires.party c.make_least.ensures.served;
   },
 )
 
@@ -74,4 +77,5 @@ returns-in-Some-clause-progress c = c.make_least.ensures.served
 pub returns-clause-progress : goal.returns-clause-progress
 returns-clause-progress c =
     leaves-then c.args.locks.now c.make_least.new.locks c.ask_here-answer.new.locks c.args.owner
-    (way-leaves c.args.locks.now c.make_least.new.locks c.args.owner c.requires.intents c.make_least.ensures.down.way) c.ask_here-answer.ensures.locks
+    (way-leaves c.args.locks.now c.make_least.new.locks c.args.owner c.requires.intents c.make_least.ensures.down.way)
+    (answer-leaves c.make_least.new.locks c.ask_here-answer.new.locks c.args.owner c.args.want.here _ c.args.wait c.ask_here-answer.result c.ask_here-answer.ensures.left)

@@ -3,15 +3,15 @@ use Rattle.rdb_types.specs.declared.node.Node.{Node}
 use Rattle.vms_queues.specs.Queues.{Queues}
 use Rattle.lock_needs.specs.Keeping.{is_excess}
 use Rattle.lock_needs.specs.Wants.{kept_at}
-use Rattle.lock_tree.specs.LockTable.{granted_at}
+use Rattle.lock_tree_laws.specs.LockTable.{granted_at}
 use Rattle.lock_tree.specs.Notices.{notice_answer}
-use Rattle.lock_tree.specs.Forest.{places_kept}
-use Rattle.lock_tree.specs.Parties.{IsKept}
-use Rattle.lock_tree.specs.Order.{StandsByNeeds}
-use Rattle.lock_tree.proofs.Outcomes.{on_err-any}
-use Rattle.lock_tree.proofs.Respared.{intents-same, way-same}
-use Rattle.lock_tree.proofs.WayMade.{way-none}
-use Rattle.lock_tree.proofs.ServedAt.{served-roomy, room-served}
+use Rattle.lock_tree_laws.specs.Forest.{places_kept}
+use Rattle.lock_tree_laws.specs.Parties.{IsKept}
+use Rattle.lock_tree_laws.specs.Order.{StandsByNeeds}
+use Rattle.lock_tree_laws.proofs.Outcomes.{on_err-any}
+use Rattle.lock_tree_laws.proofs.Respared.{intents-same, way-same}
+use Rattle.lock_tree_laws.proofs.WayMade.{way-none}
+use Rattle.lock_tree_laws.proofs.ServedAt.{served-roomy, room-served}
 use Rattle.lock_tree.proofs.notice.answer_notice.Goals as goal
 
 pub returns-in_err-make_room_for_notice-clause-err : goal.returns-in_err-make_room_for_notice-clause-err

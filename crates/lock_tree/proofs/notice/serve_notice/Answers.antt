@@ -1,10 +1,10 @@
 use Rattle.std.proofs.Common.{arith, false, sym, ◌∙◌, subst, List, length, ◌≤◌, ◌+◌}
 use Rattle.lock_needs.specs.declared.need.Need.{Need}
-use Rattle.lock_tree.proofs.Brought.{excess-of, serving-ready, serving-enough, served-down, brought-others, brought-intents}
-use Rattle.lock_tree.proofs.Spared.{excess-some}
-use Rattle.lock_tree.proofs.WayMade.{way-none}
-use Rattle.lock_tree.proofs.ServedInOrder.{stands-served}
-use Rattle.lock_tree.proofs.ServedAt.{excess-is, served-nothing, served-lock}
+use Rattle.lock_tree_laws.proofs.Brought.{excess-of, serving-ready, serving-enough, served-down, brought-others, brought-intents}
+use Rattle.lock_tree_laws.proofs.Spared.{excess-some}
+use Rattle.lock_tree_laws.proofs.WayMade.{way-none}
+use Rattle.lock_tree_laws.proofs.ServedInOrder.{stands-served}
+use Rattle.lock_tree_laws.proofs.ServedAt.{excess-is, served-nothing, served-lock}
 use Rattle.lock_tree.proofs.notice.serve_notice.Goals as goal
 
 pub bring_down-requires-clause-ready : goal.bring_down-requires-clause-ready

@@ -1,9 +1,9 @@
 use Rattle.std.proofs.Common.{◌≡◌, sym, ◌∙◌, subst}
 use Rattle.rdb_types.specs.declared.node.Node.{Node}
 use Rattle.vms_queues.specs.declared.lock_mode.Mode.TheVariants.{NL}
-use Rattle.lock_tree.specs.LockTable.{granted_at}
-use Rattle.lock_tree.proofs.Released.{on-way, released-one}
-use Rattle.lock_tree.proofs.WayMade.{way-none}
+use Rattle.lock_tree_laws.specs.LockTable.{granted_at}
+use Rattle.lock_tree_laws.proofs.Released.{on-way, released-one}
+use Rattle.lock_tree_laws.proofs.WayMade.{way-none}
 use Rattle.lock_tree.proofs.releasing.release_at.Goals as goal
 
 pub returns-then-eq-clause-releasing : goal.returns-then-eq-clause-releasing

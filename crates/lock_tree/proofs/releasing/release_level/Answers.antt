@@ -2,9 +2,9 @@ use Rattle.std.proofs.Common.{arith, ◌∙◌, sym, ap, subst, List, take, take
 use Rattle.std.proofs.lemmas.Bool.{false≢true}
 use Rattle.lock_needs.specs.declared.need.Need.{Need}
 use Rattle.lock_needs.specs.declared.party.OpenWant.{OpenWant}
-use Rattle.lock_tree.specs.Releasing.{is_on_want}
-use Rattle.lock_tree.proofs.Released.{AreReleased, released-next, releasing-then, level-none}
-use Rattle.lock_tree.proofs.WayMade.{way-none, way-then}
+use Rattle.lock_tree_laws.specs.Inner.Releasing.{is_on_want}
+use Rattle.lock_tree_laws.proofs.Released.{AreReleased, released-next, releasing-then, level-none}
+use Rattle.lock_tree_laws.proofs.WayMade.{way-none, way-then}
 use Rattle.lock_tree.proofs.releasing.release_level.Goals as goal
 
 pub loop-need-preserved : goal.loop-need-preserved

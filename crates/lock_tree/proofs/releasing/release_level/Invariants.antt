@@ -1,7 +1,7 @@
 use Rattle.std.proofs.Common.{take}
-use Rattle.lock_tree.specs.Order.{MakesWay}
-use Rattle.lock_tree.specs.Room.{UsesSpare}
-use Rattle.lock_tree.proofs.Released.{AreReleased}
+use Rattle.lock_tree_laws.specs.Order.{MakesWay}
+use Rattle.lock_tree_laws.specs.Inner.Spare.{UsesSpare}
+use Rattle.lock_tree_laws.proofs.Released.{AreReleased}
 use Rattle.lock_tree.proofs.releasing.release_level.Given as goal
 
 abbrev pub invariant-loop-need : goal.invariant-loop-need

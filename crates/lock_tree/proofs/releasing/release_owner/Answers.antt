@@ -1,4 +1,4 @@
-use Rattle.lock_tree.proofs.WayMade.{way-then}
+use Rattle.lock_tree_laws.proofs.WayMade.{way-then}
 use Rattle.lock_tree.proofs.releasing.release_owner.Goals as goal
 
 pub returns-clause-way : goal.returns-clause-way

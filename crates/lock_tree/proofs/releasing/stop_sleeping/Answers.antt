@@ -1,6 +1,6 @@
 use Rattle.std.proofs.Common.{sym, ◌∙◌}
-use Rattle.lock_tree.proofs.Released.{stopped-quiet, stopped-places}
-use Rattle.lock_tree.proofs.WayMade.{way-none}
+use Rattle.lock_tree_laws.proofs.Released.{stopped-quiet, stopped-places}
+use Rattle.lock_tree_laws.proofs.WayMade.{way-none}
 use Rattle.lock_tree.proofs.releasing.stop_sleeping.Goals as goal
 
 pub returns-in-Some-clause-quiet : goal.returns-in-Some-clause-quiet

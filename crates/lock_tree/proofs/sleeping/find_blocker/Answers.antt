@@ -3,8 +3,8 @@ use Rattle.std.specs.Prelude.{◌==◌, map}
 use Rattle.std.specs.Map.Iter.{deref_pair}
 use Rattle.std.proofs.lemmas.Bool.{false≢true, or_cases, eqb-true}
 use Rattle.vms_locks.specs.Table.{queues_at, WaitsIn}
-use Rattle.lock_tree.specs.Wanted.{is_known}
-use Rattle.lock_tree.proofs.Sleepers.{any-mapped}
+use Rattle.lock_tree_laws.specs.Wanted.{is_known}
+use Rattle.lock_tree_laws.proofs.Sleepers.{any-mapped}
 use Rattle.lock_tree.proofs.sleeping.find_blocker.Goals as goal
 
 pub loop-other-preserved : goal.loop-other-preserved

@@ -2,9 +2,9 @@ use Rattle.std.proofs.Common.{rules, ◌∙◌, ap, List}
 use Rattle.std.specs.Prelude.{◌==◌, not, ◌||◌}
 use Rattle.std.proofs.lemmas.Fn.{filter_same}
 use Rattle.lock_needs.specs.declared.party.Asked.{Asked}
-use Rattle.lock_tree.specs.Parties.{was_asked}
-use Rattle.lock_tree.specs.Forest.{is_asked_at}
-use Rattle.lock_tree.proofs.Trails.{cut-own, cut-others}
+use Rattle.lock_tree_laws.specs.Parties.{was_asked}
+use Rattle.lock_tree_laws.specs.Forest.{is_asked_at}
+use Rattle.lock_tree_laws.proofs.Trails.{cut-own, cut-others}
 use Rattle.lock_tree.proofs.trail.cut_asks.Goals as goal
 
 pub returns-clause-cut : goal.returns-clause-cut

@@ -1,6 +1,6 @@
 use Rattle.std.proofs.Common.{◌≡◌, drop}
 use Rattle.std.specs.Prelude.{slice_get}
-use Rattle.lock_tree.specs.Forest.{asks_of}
+use Rattle.lock_tree_laws.specs.Forest.{asks_of}
 use Rattle.lock_tree.proofs.trail.nth_ask.Given as goal
 
 abbrev pub invariant-loop-asked : goal.invariant-loop-asked

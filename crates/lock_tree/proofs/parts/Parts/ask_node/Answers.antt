@@ -8,21 +8,24 @@ use Rattle.lock_needs.specs.declared.need.Need.{Need}
 use Rattle.lock_needs.specs.declared.party.OpenWant.{OpenWant}
 use Rattle.lock_needs.specs.Party.{Party}
 use Rattle.lock_needs.specs.Wants.{mode_for}
-use Rattle.lock_tree.specs.LockTable.{granted_at}
-use Rattle.lock_tree.specs.Parties.{IsKept, unasked}
-use Rattle.lock_tree.specs.Order.{ComesDown}
+use Rattle.lock_tree_laws.specs.LockTable.{granted_at}
+use Rattle.lock_tree_laws.specs.Parties.{IsKept, unasked}
+use Rattle.lock_tree_laws.specs.Inner.Answering.{ComesDown}
 use Rattle.lock_tree.proofs.RoomKept.{roomy-on, leaves-used, kept-looked}
-use Rattle.lock_tree.specs.Forest.{State, idle, party_of}
+use Rattle.lock_tree_laws.specs.Forest.{State, idle, party_of}
 use Rattle.lock_tree.specs.States.{state_of}
-use Rattle.lock_tree.specs.Wanted.{needs_of, Steps}
-use Rattle.lock_tree.proofs.Answered.{cause-of}
-use Rattle.lock_tree.proofs.Opened.{as-open, whole-looked, whole-asked}
-use Rattle.lock_tree.proofs.Looked.{look-due, look-asked, refused-down, deadlock-down, steps-asked}
-use Rattle.lock_tree.proofs.AskedByNeeds.{need-used, asked-by_needs, blocker-needed, cycle-needed}
-use Rattle.lock_tree.specs.Progress.{IsServedAt, LooksOn}
-use Rattle.lock_tree.proofs.OthersLeft.{leaves-then}
-use Rattle.lock_tree.proofs.MeasureFalls.{served-never, asked-never, ended-falls, never-steps}
-use Rattle.lock_tree.proofs.Added.{adds-one, way-on}
+use Rattle.lock_tree_laws.specs.Wanted.{needs_of}
+use Rattle.lock_tree.specs.Inner.Stepping.{Steps}
+use Rattle.lock_tree_laws.proofs.Answered.{cause-of}
+use Rattle.lock_tree_laws.proofs.Opened.{as-open, whole-looked, whole-asked}
+use Rattle.lock_tree.proofs.Looked.{look-due, look-asked, refused-down, deadlock-down, steps-asked, never-steps, finishes-still}
+use Rattle.lock_tree_laws.proofs.AskedByNeeds.{need-used, asked-by_needs, blocker-needed, cycle-needed}
+use Rattle.lock_tree_laws.specs.Progress.{IsServedAt}
+use Rattle.lock_tree.specs.Inner.Looking.{LooksOn}
+use Rattle.lock_tree_laws.proofs.OthersLeft.{leaves-then}
+use Rattle.lock_tree_laws.proofs.MeasureFalls.{served-never, asked-never, ended-falls}
+use Rattle.lock_tree_laws.proofs.Added.{way-on}
+use Rattle.lock_tree_laws.proofs.ByRule.{goes-none, goes-one, asked-rule}
 use Rattle.lock_tree.proofs.parts.Parts.ask_node.Goals as goal
 
 pub returns-in-NoticeTo-clause-whole : goal.returns-in-NoticeTo-clause-whole
@@ -253,22 +256,53 @@ returns-in-Asked-Asleep-clause-others c = λ u d. c.stand.ensures.others u d ∙
 pub look_here-requires-clause-kept : goal.look_here-requires-clause-kept
 look_here-requires-clause-kept c = subst (IsKept c.args.self.now.locks c.args.owner) (sym (ap (λ x. unwrap_or x idle) c.in-Some.ensures.value)) (c.requires.whole.kept c.args.owner)
 
-pub returns-in-Asked-Granted-clause-trail : goal.returns-in-Asked-Granted-clause-trail
-returns-in-Asked-Granted-clause-trail c =
-    adds-one c.args.owner c.args.want.need c.args.want.here c.args.self.now.trail.items _ (way-on (state_of c.args.self.now) c.args.owner c.args.want c.requires.whole c.requires.opened)
+pub returns-in-NoticeTo-clause-went : goal.returns-in-NoticeTo-clause-went
+returns-in-NoticeTo-clause-went c =
+    let s : State = state_of c.args.self.now in
+    let is : c.in-Some.party.now ≡ party_of s.parties c.args.owner = ap (λ x. unwrap_or x idle) c.in-Some.ensures.value in
+    goes-none c.args.owner c.args.want.need c.args.wait _ s (record { table = c.look_here.new.locks; parties = s.parties; trail = s.trail }) refl
+    (look-due s c.look_here.new.locks c.args.owner c.args.want c.args.wait c.look_here.result c.in-Some.party.now is c.look_here.ensures.look c.in-NoticeTo.other c.in-NoticeTo.mode c.in-NoticeTo.is).0.way
+
+pub returns-in-Asked-Granted-clause-went : goal.returns-in-Asked-Granted-clause-went
+returns-in-Asked-Granted-clause-went c =
+    let s : State = state_of c.args.self.now in
+    let is : c.in-Some.party.now ≡ party_of s.parties c.args.owner = ap (λ x. unwrap_or x idle) c.in-Some.ensures.value in
+    let asked = look-asked s c.look_here.new.locks c.args.owner c.args.want c.args.wait c.look_here.result c.in-Some.party.now is c.look_here.ensures.look c.in-Asked-Granted.field-0 Granted c.in-Asked-Granted.is c.in-Asked-Granted.field-0-is in
+    goes-one c.args.owner c.args.want.need c.args.wait _ s (state_of c.go_on.new.self) c.args.want.here c.look_here.new.locks
+    (way-on s c.args.owner c.args.want c.requires.whole c.requires.opened)
     (ap (λ v. v.items) c.go_on.ensures.trail ∙ c.mark_asked-asked.ensures.trail)
+    (asked-rule s c.args.owner c.args.want c.args.wait c.look_here.new.locks Granted c.requires.opened c.requires.uncovered c.requires.not_whole asked.1)
+    (finishes-still c.args.owner c.look_here.new.locks c.go_on.new.self.locks c.go_on.ensures.table c.go_on.result)
 
-pub returns-in-Asked-Asleep-clause-trail : goal.returns-in-Asked-Asleep-clause-trail
-returns-in-Asked-Asleep-clause-trail c =
-    adds-one c.args.owner c.args.want.need c.args.want.here c.args.self.now.trail.items _ (way-on (state_of c.args.self.now) c.args.owner c.args.want c.requires.whole c.requires.opened)
+pub returns-in-Asked-Asleep-clause-went : goal.returns-in-Asked-Asleep-clause-went
+returns-in-Asked-Asleep-clause-went c =
+    let s : State = state_of c.args.self.now in
+    let is : c.in-Some.party.now ≡ party_of s.parties c.args.owner = ap (λ x. unwrap_or x idle) c.in-Some.ensures.value in
+    let asked = look-asked s c.look_here.new.locks c.args.owner c.args.want c.args.wait c.look_here.result c.in-Some.party.now is c.look_here.ensures.look c.in-Asked-Asleep.field-0 Asleep c.in-Asked-Asleep.is c.in-Asked-Asleep.field-0-is in
+    goes-one c.args.owner c.args.want.need c.args.wait _ s (state_of c.stand.new.self) c.args.want.here c.look_here.new.locks
+    (way-on s c.args.owner c.args.want c.requires.whole c.requires.opened)
     (ap (λ v. v.items) c.stand.ensures.trail ∙ c.mark_asked-asked-in-Asked-Asleep.ensures.trail)
+    (asked-rule s c.args.owner c.args.want c.args.wait c.look_here.new.locks Asleep c.requires.opened c.requires.uncovered c.requires.not_whole asked.1)
+    (c.stand.ensures.finish)
 
-pub returns-in-Asked-NotQueued-clause-trail : goal.returns-in-Asked-NotQueued-clause-trail
-returns-in-Asked-NotQueued-clause-trail c =
-    adds-one c.args.owner c.args.want.need c.args.want.here c.args.self.now.trail.items _ (way-on (state_of c.args.self.now) c.args.owner c.args.want c.requires.whole c.requires.opened)
+pub returns-in-Asked-NotQueued-clause-went : goal.returns-in-Asked-NotQueued-clause-went
+returns-in-Asked-NotQueued-clause-went c =
+    let s : State = state_of c.args.self.now in
+    let is : c.in-Some.party.now ≡ party_of s.parties c.args.owner = ap (λ x. unwrap_or x idle) c.in-Some.ensures.value in
+    let asked = look-asked s c.look_here.new.locks c.args.owner c.args.want c.args.wait c.look_here.result c.in-Some.party.now is c.look_here.ensures.look c.in-Asked-NotQueued.field-0 (NotQueued c.in-Asked-NotQueued.other) c.in-Asked-NotQueued.is c.in-Asked-NotQueued.field-0-is in
+    goes-one c.args.owner c.args.want.need c.args.wait _ s (state_of c.refuse.new.self) c.args.want.here c.look_here.new.locks
+    (way-on s c.args.owner c.args.want c.requires.whole c.requires.opened)
     (c.refuse.ensures.asked)
+    (asked-rule s c.args.owner c.args.want c.args.wait c.look_here.new.locks (NotQueued c.in-Asked-NotQueued.other) c.requires.opened c.requires.uncovered c.requires.not_whole asked.1)
+    (c.refuse.ensures.way)
 
-pub returns-in-Asked-Deadlock-clause-trail : goal.returns-in-Asked-Deadlock-clause-trail
-returns-in-Asked-Deadlock-clause-trail c =
-    adds-one c.args.owner c.args.want.need c.args.want.here c.args.self.now.trail.items _ (way-on (state_of c.args.self.now) c.args.owner c.args.want c.requires.whole c.requires.opened)
+pub returns-in-Asked-Deadlock-clause-went : goal.returns-in-Asked-Deadlock-clause-went
+returns-in-Asked-Deadlock-clause-went c =
+    let s : State = state_of c.args.self.now in
+    let is : c.in-Some.party.now ≡ party_of s.parties c.args.owner = ap (λ x. unwrap_or x idle) c.in-Some.ensures.value in
+    let asked = look-asked s c.look_here.new.locks c.args.owner c.args.want c.args.wait c.look_here.result c.in-Some.party.now is c.look_here.ensures.look c.in-Asked-Deadlock.field-0 (Deadlock c.in-Asked-Deadlock.cycle) c.in-Asked-Deadlock.is c.in-Asked-Deadlock.field-0-is in
+    goes-one c.args.owner c.args.want.need c.args.wait _ s (state_of c.refuse-in-Asked-Deadlock.new.self) c.args.want.here c.look_here.new.locks
+    (way-on s c.args.owner c.args.want c.requires.whole c.requires.opened)
     (c.refuse-in-Asked-Deadlock.ensures.asked)
+    (asked-rule s c.args.owner c.args.want c.args.wait c.look_here.new.locks (Deadlock c.in-Asked-Deadlock.cycle) c.requires.opened c.requires.uncovered c.requires.not_whole asked.1)
+    (c.refuse-in-Asked-Deadlock.ensures.way)

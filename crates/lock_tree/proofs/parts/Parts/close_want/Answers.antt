@@ -2,15 +2,15 @@ use Rattle.std.proofs.Common.{refl, ap, subst, arith}
 use Rattle.std.specs.Prelude.{Option, is_some}
 use Rattle.lock_needs.specs.declared.party.OpenWant.{OpenWant}
 use Rattle.lock_needs.specs.Party.{Party}
-use Rattle.lock_tree.specs.Parties.{IsKept, resting}
-use Rattle.lock_tree.specs.Forest.{State, party_of}
-use Rattle.lock_tree.specs.Order.{StandsByNeeds}
+use Rattle.lock_tree_laws.specs.Parties.{IsKept, resting}
+use Rattle.lock_tree_laws.specs.Forest.{State, party_of}
+use Rattle.lock_tree_laws.specs.Order.{StandsByNeeds}
 use Rattle.lock_tree.specs.States.{state_of}
-use Rattle.lock_tree.specs.Wanted.{needs_of}
-use Rattle.lock_tree.proofs.KeptPlaces.{open-owner, places-freed, room-own}
-use Rattle.lock_tree.proofs.Whole.{least-of, whole-ended}
-use Rattle.lock_tree.proofs.OpenAsks.{opened-ended}
-use Rattle.lock_tree.proofs.MeasureFalls.{way-leaves}
+use Rattle.lock_tree_laws.specs.Wanted.{needs_of}
+use Rattle.lock_tree_laws.proofs.KeptPlaces.{open-owner, places-freed, room-own}
+use Rattle.lock_tree_laws.proofs.Whole.{least-of, whole-ended}
+use Rattle.lock_tree_laws.proofs.OpenAsks.{opened-ended}
+use Rattle.lock_tree_laws.proofs.MeasureFalls.{way-leaves}
 use Rattle.lock_tree.proofs.parts.Parts.close_want.Goals as goal
 
 pub returns-clause-whole : goal.returns-clause-whole

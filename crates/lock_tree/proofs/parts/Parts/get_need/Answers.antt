@@ -2,15 +2,15 @@ use Rattle.std.proofs.Common.{◌≡◌, refl, ap, ◌++◌, ◌∷◌, []}
 use Rattle.std.specs.Prelude.{is_some}
 use Rattle.std.proofs.Math.Nat.{le_trans}
 use Rattle.lock_needs.specs.Party.{Party}
-use Rattle.lock_tree.specs.Parties.{resting}
-use Rattle.lock_tree.specs.Forest.{State, party_of}
+use Rattle.lock_tree_laws.specs.Parties.{resting}
+use Rattle.lock_tree_laws.specs.Forest.{State, party_of}
 use Rattle.lock_tree.specs.States.{state_of}
-use Rattle.lock_tree.specs.Wanted.{needs_of}
-use Rattle.lock_tree.proofs.KeptPlaces.{places-closed}
-use Rattle.lock_tree.proofs.Whole.{whole-ended}
-use Rattle.lock_tree.proofs.Opened.{open-got, covered-got, covered-stands}
-use Rattle.lock_tree.proofs.WayMade.{way-none}
-use Rattle.lock_tree.proofs.OpenAsks.{opened-ended}
+use Rattle.lock_tree_laws.specs.Wanted.{needs_of}
+use Rattle.lock_tree_laws.proofs.KeptPlaces.{places-closed}
+use Rattle.lock_tree_laws.proofs.Whole.{whole-ended}
+use Rattle.lock_tree_laws.proofs.Opened.{open-got, covered-got, covered-stands}
+use Rattle.lock_tree_laws.proofs.WayMade.{way-none}
+use Rattle.lock_tree_laws.proofs.OpenAsks.{opened-ended}
 use Rattle.lock_tree.proofs.parts.Parts.get_need.Goals as goal
 
 pub returns-clause-got : goal.returns-clause-got

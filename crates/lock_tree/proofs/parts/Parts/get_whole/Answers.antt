@@ -1,17 +1,17 @@
 use Rattle.std.proofs.Common.{refl, sym, ◌∙◌, ap, subst, ◌++◌, ◌∷◌, [], arith}
 use Rattle.std.proofs.Math.Nat.{le_trans}
 use Rattle.std.proofs.lemmas.Bool.{false≢true}
-use Rattle.lock_tree.specs.Parties.{IsKept}
-use Rattle.lock_tree.specs.Forest.{State}
+use Rattle.lock_tree_laws.specs.Parties.{IsKept}
+use Rattle.lock_tree_laws.specs.Forest.{State}
 use Rattle.lock_tree.specs.States.{state_of}
-use Rattle.lock_tree.specs.Wanted.{needs_of}
+use Rattle.lock_tree_laws.specs.Wanted.{needs_of}
 use Rattle.lock_needs.specs.Party.{Party}
-use Rattle.lock_tree.proofs.KeptPlaces.{places-closed}
+use Rattle.lock_tree_laws.proofs.KeptPlaces.{places-closed}
 use Rattle.lock_tree.proofs.RoomKept.{kept-taken}
-use Rattle.lock_tree.proofs.Sleepers.{all-clear}
-use Rattle.lock_tree.proofs.Opened.{whole-same, whole-noted}
-use Rattle.lock_tree.proofs.TakenInOrder.{taken-way, taken-stands}
-use Rattle.lock_tree.proofs.TakingWhole.{crowded-queued}
+use Rattle.lock_tree_laws.proofs.Sleepers.{all-clear}
+use Rattle.lock_tree_laws.proofs.Opened.{whole-same, whole-noted}
+use Rattle.lock_tree_laws.proofs.TakenInOrder.{taken-way, taken-stands}
+use Rattle.lock_tree_laws.proofs.TakingWhole.{whole-free, crowded-queued}
 use Rattle.lock_tree.proofs.parts.Parts.get_whole.Goals as goal
 
 pub returns-then-not-take_whole-clause-whole : goal.returns-then-not-take_whole-clause-whole
@@ -20,10 +20,13 @@ returns-then-not-take_whole-clause-whole c =
     let left = c.take_whole.ensures.left c.if-not-take_whole.true in
     whole-same (state_of c.args.self.now) r c.args.owner c.requires.whole left.1 left.0 c.take_whole.ensures.parties refl
 
-pub returns-clause-clear : goal.returns-clause-clear
-returns-clause-clear c = λ e.
-    all-clear c.args.self.now.locks c.args.self.now.parties.entries (c.take_whole.ensures.taken c.if-not-take_whole.false).live c.requires.whole.kept c.args.want.here
-    (sym c.is_crowded.ensures.value ∙ c.if-is_crowded.false)
+pub returns-clause-may : goal.returns-clause-may
+returns-clause-may c = λ e.
+    let taken = c.take_whole.ensures.taken c.if-not-take_whole.false in
+    record {
+      clear = all-clear c.args.self.now.locks c.args.self.now.parties.entries taken.live c.requires.whole.kept c.args.want.here (sym c.is_crowded.ensures.value ∙ c.if-is_crowded.false);
+      free = whole-free c.args.self.now.locks c.take_whole.new.locks c.args.owner c.args.want.here _ taken.live_after taken.raised;
+    }
 
 pub returns-clause-whole : goal.returns-clause-whole
 returns-clause-whole c =

@@ -1,21 +1,37 @@
-use Rattle.std.proofs.Common.{◌≡◌, ◌∙◌, sym, ap, subst, inl, inr, true, false, List}
+use Rattle.std.proofs.Common.{◌≡◌, ◌∙◌, refl, sym, ap, subst, inl, inr, true, false, List}
 use Rattle.lock_needs.specs.declared.need.Need.{Need}
 use Rattle.lock_needs.specs.declared.party.OpenWant.{OpenWant}
 use Rattle.lock_needs.specs.Needs.{is_covered}
 use Rattle.lock_needs.specs.Party.{Party}
-use Rattle.lock_tree.specs.LockTable.{granted_at}
-use Rattle.lock_tree.specs.Wanted.{MayTakeWhole, Answered, AddsAsks, needs_of}
-use Rattle.lock_tree.proofs.Added.{adds-then}
+use Rattle.lock_tree_laws.specs.LockTable.{granted_at}
+use Rattle.lock_tree_laws.specs.Wanted.{MayTakeWhole, Answered, needs_of}
+use Rattle.lock_tree_laws.proofs.ByRule.{goes-none, goes-then}
+use Rattle.lock_tree_laws.specs.Rule.{GoesDown}
+use Rattle.lock_tree.specs.Inner.Stepping.{StepFinishes}
+use Rattle.lock_tree.specs.declared.steps.Step.TheVariants.{Down, Ends}
 use Rattle.lock_tree.specs.declared.parts.Parts.{Parts}
-use Rattle.lock_tree.specs.declared.answer.Want.TheVariants.{Got}
+use Rattle.lock_tree_laws.specs.declared.answer.Want.TheVariants.{Got}
 use Rattle.lock_tree.proofs.AtOnce.{EndsHere, GotHere, no-step_down, same-answer, still}
 use Rattle.lock_tree.proofs.RoomKept.{room-one, room-lower}
 use Rattle.lock_tree.specs.States.{state_of}
-use Rattle.lock_tree.proofs.MeasureFalls.{never-then, never-moves}
+use Rattle.lock_tree_laws.proofs.MeasureFalls.{never-then, never-moves, stays-never}
 use Rattle.lock_tree.proofs.parts.Parts.go_down.Goals as goal
 
 pub step-requires-clause-room : goal.step-requires-clause-room
 step-requires-clause-room c = room-one c.args.owner c.loop-next.self c.loop-next.want.here.level c.loop-next.invariant.5
+
+pub loop-next-init : goal.loop-next-init
+loop-next-init c = (
+  c.requires.whole,
+  c.requires.opened,
+  refl,
+  refl,
+  λ u d. refl,
+  c.requires.room,
+  stays-never (state_of c.args.self.now) c.args.owner,
+  λ h. (refl, refl),
+  goes-none c.args.owner c.args.want.need c.args.wait _ (state_of c.args.self.now) (state_of c.args.self.now) refl refl,
+)
 
 pub loop-next-preserved : goal.loop-next-preserved
 loop-next-preserved c =
@@ -30,8 +46,8 @@ loop-next-preserved c =
       λ h. absurd (no-step_down c.args.owner c.loop-next.self c.loop-next.want c.in-Down.next
           (still (EndsHere c.args.owner) c.args.self.now c.loop-next.self c.args.want c.loop-next.want (c.loop-next.invariant.7 h) h)
           (λ covered. (c.in-Down.ensures.covered covered).0) (λ bare may. (c.in-Down.ensures.strong bare may).0)),
-      adds-then c.args.owner c.args.want.need c.args.self.now.trail.items c.loop-next.self.trail.items _ c.loop-next.invariant.8
-          (subst (λ (n : Need). AddsAsks c.args.owner n c.loop-next.self.trail.items c.step.new.self.trail.items) c.loop-next.invariant.2 c.step.ensures.trail),
+      goes-then c.args.owner c.args.want.need c.args.wait _ (state_of c.args.self.now) (state_of c.loop-next.self) (state_of c.step.new.self) c.loop-next.invariant.3 c.loop-next.invariant.8
+          (subst (λ (n : Need). GoesDown c.args.owner n c.args.wait (StepFinishes c.args.owner (Down c.in-Down.next)) (state_of c.loop-next.self) (state_of c.step.new.self)) c.loop-next.invariant.2 c.in-Down.ensures.went),
     )
 
 pub returns-in-Ends-clause-progress : goal.returns-in-Ends-clause-progress
@@ -61,7 +77,7 @@ returns-in-Ends-clause-answer c =
     subst (λ (ws : List Need). Answered ws (state_of c.step.new.self) c.args.owner c.args.want.need c.args.wait c.in-Ends.answer) c.loop-next.invariant.3
     (subst (λ (n : Need). Answered (needs_of (state_of c.loop-next.self) c.args.owner) (state_of c.step.new.self) c.args.owner n c.args.wait c.in-Ends.answer) c.loop-next.invariant.2 c.in-Ends.ensures.step)
 
-pub returns-in-Ends-clause-trail : goal.returns-in-Ends-clause-trail
-returns-in-Ends-clause-trail c =
-    adds-then c.args.owner c.args.want.need c.args.self.now.trail.items c.loop-next.self.trail.items _ c.loop-next.invariant.8
-    (subst (λ (n : Need). AddsAsks c.args.owner n c.loop-next.self.trail.items c.step.new.self.trail.items) c.loop-next.invariant.2 c.step.ensures.trail)
+pub returns-in-Ends-clause-went : goal.returns-in-Ends-clause-went
+returns-in-Ends-clause-went c =
+    goes-then c.args.owner c.args.want.need c.args.wait _ (state_of c.args.self.now) (state_of c.loop-next.self) (state_of c.step.new.self) c.loop-next.invariant.3 c.loop-next.invariant.8
+    (subst (λ (n : Need). GoesDown c.args.owner n c.args.wait (StepFinishes c.args.owner (Ends c.in-Ends.answer)) (state_of c.loop-next.self) (state_of c.step.new.self)) c.loop-next.invariant.2 c.in-Ends.ensures.went)

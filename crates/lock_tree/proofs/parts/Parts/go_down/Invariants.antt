@@ -1,10 +1,12 @@
 use Rattle.std.proofs.Common.{◌≡◌, ◌-◌, Some}
-use Rattle.lock_tree.specs.Parties.{unasked}
-use Rattle.lock_tree.specs.Forest.{IsWhole, KeepsParties, opened_of}
-use Rattle.lock_tree.specs.Progress.{NeverRises}
+use Rattle.lock_tree_laws.specs.Parties.{unasked}
+use Rattle.lock_tree_laws.specs.Forest.{IsWhole, KeepsParties, opened_of}
+use Rattle.lock_tree_laws.specs.Progress.{NeverRises}
 use Rattle.lock_tree.specs.States.{state_of}
-use Rattle.lock_tree.specs.Wanted.{needs_of, AddsAsks}
-use Rattle.lock_tree.specs.Room.{HasRoomFor, depth}
+use Rattle.lock_tree_laws.specs.Wanted.{needs_of}
+use Rattle.lock_tree_laws.specs.Rule.{GoesDown}
+use Rattle.lock_tree.specs.Inner.Rooms.{HasRoomFor}
+use Rattle.lock_tree_laws.specs.Room.{depth}
 use Rattle.lock_tree.proofs.AtOnce.{EndsHere}
 use Rattle.lock_tree.proofs.parts.Parts.go_down.Given as goal
 
@@ -15,7 +17,7 @@ invariant-loop-next l =
     × HasRoomFor (4 - depth l.want.here.level) l.owner l.self × NeverRises l.owner (state_of l.fn.self) (state_of l.self)
     -- where the want can end at once, this is the first step
     × (EndsHere l.owner l.fn.self l.fn.want → (l.self ≡ l.fn.self) × (l.want ≡ l.fn.want))
-    × AddsAsks l.owner l.fn.want.need l.fn.self.trail.items l.self.trail.items
+    × GoesDown l.owner l.fn.want.need l.fn.wait (λ last new. new.entries ≡ last.entries) (state_of l.fn.self) (state_of l.self)
 
 abbrev pub decreases-loop-next : goal.decreases-loop-next
 decreases-loop-next l = 3 - depth l.want.here.level

@@ -4,18 +4,18 @@ use Rattle.std.proofs.lemmas.Bool.{false≢true}
 use Rattle.std.proofs.Math.Nat.{le_trans}
 use Rattle.lock_needs.specs.declared.party.OpenWant.{OpenWant}
 use Rattle.lock_needs.specs.Party.{Party}
-use Rattle.lock_tree.specs.LockTable.{granted_at}
-use Rattle.lock_tree.specs.Parties.{wanting}
-use Rattle.lock_tree.specs.Forest.{State, party_of}
+use Rattle.lock_tree_laws.specs.LockTable.{granted_at}
+use Rattle.lock_tree_laws.specs.Parties.{wanting}
+use Rattle.lock_tree_laws.specs.Forest.{State, party_of}
 use Rattle.lock_tree.specs.States.{state_of}
-use Rattle.lock_tree.specs.Wanted.{needs_of}
-use Rattle.lock_tree.proofs.KeptPlaces.{places-still, open-owner}
-use Rattle.lock_tree.proofs.Whole.{whole-served}
-use Rattle.lock_tree.proofs.Opened.{kept-open, still-open, granted-quiet_all, covered-there, down-kept, down-asks, down-stands, down-asked}
-use Rattle.lock_tree.proofs.WayMade.{way-none}
-use Rattle.lock_tree.proofs.OpenAsks.{opened-still}
-use Rattle.lock_tree.proofs.MeasureFalls.{next-never, ended-falls}
-use Rattle.lock_tree.proofs.OthersLeft.{same-leaves}
+use Rattle.lock_tree_laws.specs.Wanted.{needs_of}
+use Rattle.lock_tree_laws.proofs.KeptPlaces.{places-still, open-owner}
+use Rattle.lock_tree_laws.proofs.Whole.{whole-served}
+use Rattle.lock_tree_laws.proofs.Opened.{kept-open, still-open, granted-quiet_all, covered-there, down-kept, down-asks, down-stands, down-asked}
+use Rattle.lock_tree_laws.proofs.WayMade.{way-none}
+use Rattle.lock_tree_laws.proofs.OpenAsks.{opened-still}
+use Rattle.lock_tree_laws.proofs.MeasureFalls.{next-never, ended-falls}
+use Rattle.lock_tree_laws.proofs.OthersLeft.{same-leaves}
 use Rattle.lock_tree.proofs.parts.Parts.go_on.Goals as goal
 
 pub get_need-requires-clause-open : goal.get_need-requires-clause-open

@@ -6,24 +6,25 @@ use Rattle.lock_needs.specs.declared.party.OpenWant.{OpenWant}
 use Rattle.lock_needs.specs.Party.{Party}
 use Rattle.lock_needs.specs.Nodes.{is_on}
 use Rattle.lock_needs.specs.Needs.{is_covered}
-use Rattle.lock_tree.specs.LockTable.{granted_at, sought_at}
-use Rattle.lock_tree.specs.Parties.{IsKept, wanting, unasked}
-use Rattle.lock_needs.specs.declared.party.Asked.{Asked}
-use Rattle.lock_tree.specs.Order.{StandsByNeeds, asked_of_want, asked_last}
-use Rattle.lock_tree.specs.Forest.{State, open_asks, party_of}
+use Rattle.lock_tree_laws.specs.LockTable.{granted_at, sought_at}
+use Rattle.lock_tree_laws.specs.Parties.{IsKept, wanting, unasked}
+use Rattle.lock_tree_laws.specs.Order.{StandsByNeeds, asked_of_want, asked_last}
+use Rattle.lock_tree_laws.specs.Forest.{State, open_asks, party_of}
 use Rattle.lock_tree.specs.States.{state_of}
-use Rattle.lock_tree.specs.Wanted.{MayTakeWhole, GotWhole, AddsAsks, needs_of, Answered}
-use Rattle.lock_tree.proofs.Outcomes.{on_err-any}
-use Rattle.lock_tree.proofs.Trails.{asks-opening, never-asked}
-use Rattle.lock_tree.proofs.Wanting.{opens}
-use Rattle.lock_tree.proofs.Whole.{least-of, whole-served}
-use Rattle.lock_tree.proofs.WayMade.{way-none}
-use Rattle.lock_tree.proofs.StepsInOrder.{stands-opens}
-use Rattle.lock_tree.proofs.OpenAsks.{opened-opens, cut-fresh}
-use Rattle.lock_tree.proofs.Opened.{as-resting, whole-same}
-use Rattle.lock_tree.proofs.KeptPlaces.{places-opened}
+use Rattle.lock_tree_laws.specs.Wanted.{MayTakeWhole, GotWhole, needs_of, Answered}
+use Rattle.lock_tree_laws.proofs.Outcomes.{on_err-any}
+use Rattle.lock_tree_laws.proofs.Trails.{asks-opening, never-asked}
+use Rattle.lock_tree_laws.proofs.Wanting.{opens}
+use Rattle.lock_tree_laws.proofs.Whole.{least-of, whole-served}
+use Rattle.lock_tree_laws.proofs.WayMade.{way-none}
+use Rattle.lock_tree_laws.proofs.StepsInOrder.{stands-opens}
+use Rattle.lock_tree_laws.proofs.OpenAsks.{opened-opens, cut-fresh}
+use Rattle.lock_tree_laws.proofs.Opened.{as-resting, whole-same}
+use Rattle.lock_tree_laws.proofs.KeptPlaces.{places-opened}
 use Rattle.lock_tree.proofs.RoomKept.{room-opened, room-start, each-as-before}
 use Rattle.lock_tree.proofs.AtOnce.{opened-trail}
+use Rattle.lock_tree_laws.specs.Rule.{Finishes, GoesDown, entered}
+use Rattle.lock_tree_laws.proofs.ByRule.{goes-none, goes-then}
 use Rattle.lock_tree.proofs.parts.Parts.open_want.Goals as goal
 
 pub returns-in_err-open_for-clause-whole : goal.returns-in_err-open_for-clause-whole
@@ -111,10 +112,13 @@ returns-clause-answer c =
     (subst (λ (ws : List Need). Answered ws r c.args.owner c.opening-want.result.need c.args.wait c.go_down.result)
     (ap (λ (p : Party). p.needs) c.in_ok-open_for.ensures.own ∙ ap (λ (p : Party). p.needs) (c.admit.ensures.same c.args.owner)) c.go_down.ensures.answer)
 
-pub returns-clause-trail : goal.returns-clause-trail
-returns-clause-trail c =
+pub returns-clause-went : goal.returns-clause-went
+returns-clause-went c =
     let s : State = state_of c.args.self.now in
     let w : OpenWant = c.opening-want.result in
-    subst (λ (old : List Asked). AddsAsks c.args.owner c.args.need old c.go_down.new.self.trail.items)
-    (opened-trail s c.args.owner w c.cut_asks.new.trail.items c.requires.resting c.cut_asks.ensures.cut (never-asked w c.opening-want.ensures.unasked c.opening-want.ensures.top))
-    (subst (λ (n : Need). AddsAsks c.args.owner n c.cut_asks.new.trail.items c.go_down.new.self.trail.items) c.opening-want.ensures.need c.go_down.ensures.trail)
+    let m : State = record { table = s.table; parties = c.open_for.new.parties.entries; trail = c.cut_asks.new.trail.items } in
+    goes-then c.args.owner c.args.need c.args.wait _ (entered s c.args.owner) m (state_of c.go_down.new.self)
+    (ap (λ (p : Party). p.needs) c.in_ok-open_for.ensures.own ∙ ap (λ (p : Party). p.needs) (c.admit.ensures.same c.args.owner))
+    (goes-none c.args.owner c.args.need c.args.wait _ (entered s c.args.owner) m
+    (opened-trail s c.args.owner w c.cut_asks.new.trail.items c.requires.resting c.cut_asks.ensures.cut (never-asked w c.opening-want.ensures.unasked c.opening-want.ensures.top)) refl)
+    (subst (λ (n : Need). GoesDown c.args.owner n c.args.wait (Finishes c.args.owner c.go_down.result) m (state_of c.go_down.new.self)) c.opening-want.ensures.need c.go_down.ensures.went)

@@ -1,12 +1,12 @@
 use Rattle.std.proofs.Common.{refl, subst}
-use Rattle.lock_tree.specs.Parties.{IsKept}
-use Rattle.lock_tree.specs.Forest.{State}
+use Rattle.lock_tree_laws.specs.Parties.{IsKept}
+use Rattle.lock_tree_laws.specs.Forest.{State}
 use Rattle.lock_tree.specs.States.{state_of}
-use Rattle.lock_tree.specs.Wanted.{needs_of}
-use Rattle.lock_tree.specs.Order.{StandsByNeeds}
-use Rattle.lock_tree.proofs.WayMade.{way-none}
-use Rattle.lock_tree.proofs.Whole.{least-of}
-use Rattle.lock_tree.proofs.Opened.{whole-noted}
+use Rattle.lock_tree_laws.specs.Wanted.{needs_of}
+use Rattle.lock_tree_laws.specs.Order.{StandsByNeeds}
+use Rattle.lock_tree_laws.proofs.WayMade.{way-none}
+use Rattle.lock_tree_laws.proofs.Whole.{least-of}
+use Rattle.lock_tree_laws.proofs.Opened.{whole-noted}
 use Rattle.lock_tree.proofs.parts.Parts.refuse.Goals as goal
 
 pub returns-clause-whole : goal.returns-clause-whole

@@ -1,16 +1,17 @@
 use Rattle.std.proofs.Common.{refl, ap, sym, ◌∙◌, inr}
 use Rattle.std.specs.Prelude.{Option, is_some}
 use Rattle.lock_needs.specs.declared.party.OpenWant.{OpenWant}
-use Rattle.lock_tree.specs.Forest.{State, party_of}
+use Rattle.lock_tree_laws.specs.Forest.{State, party_of}
 use Rattle.lock_tree.specs.States.{state_of}
-use Rattle.lock_tree.specs.Wanted.{needs_of}
-use Rattle.lock_tree.specs.LockTable.{granted_at}
+use Rattle.lock_tree_laws.specs.Wanted.{needs_of}
+use Rattle.lock_tree_laws.specs.LockTable.{granted_at}
 use Rattle.lock_tree.proofs.RoomKept.{roomy-on}
-use Rattle.lock_tree.proofs.Sleepers.{queued-blocker, sleeping-queued}
-use Rattle.lock_tree.proofs.Opened.{as-open, awake-granted}
-use Rattle.lock_tree.proofs.AskedByNeeds.{waiter-needed}
+use Rattle.lock_tree_laws.proofs.Sleepers.{queued-blocker, sleeping-queued}
+use Rattle.lock_tree_laws.proofs.Opened.{as-open, awake-granted}
+use Rattle.lock_tree_laws.proofs.AskedByNeeds.{waiter-needed}
 use Rattle.lock_needs.specs.Party.{Party}
-use Rattle.lock_tree.proofs.MeasureFalls.{stays-never, ended-falls}
+use Rattle.lock_tree_laws.proofs.MeasureFalls.{stays-never, ended-falls}
+use Rattle.lock_tree.proofs.Looked.{finishes-still}
 use Rattle.lock_tree.proofs.parts.Parts.stand.Goals as goal
 
 pub go_on-requires-clause-granted : goal.go_on-requires-clause-granted
@@ -75,3 +76,9 @@ pub returns-clause-progress : goal.returns-clause-progress
 returns-clause-progress c =
     ended-falls (state_of c.args.self.now) (state_of c.close_want.new.self) c.args.owner c.args.want c.close_want.ensures.others c.close_want.ensures.locks
     c.requires.opened (ap (λ (p : Party). p.opened) c.close_want.ensures.ended)
+
+pub returns-then-not-is_asleep-clause-finish : goal.returns-then-not-is_asleep-clause-finish
+returns-then-not-is_asleep-clause-finish c = finishes-still c.args.owner c.args.self.now.locks c.go_on.new.self.locks c.go_on.ensures.table c.go_on.result
+
+pub returns-clause-finish : goal.returns-clause-finish
+returns-clause-finish c = c.close_want.ensures.way

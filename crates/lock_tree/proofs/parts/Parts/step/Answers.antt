@@ -1,18 +1,23 @@
 use Rattle.std.proofs.Common.{◌≡◌, refl, sym, ◌∙◌, ap, subst, false}
 use Rattle.vms_locks.specs.Table.{Table}
 use Rattle.lock_needs.specs.Needs.{is_covered}
-use Rattle.lock_tree.specs.LockTable.{granted_at}
-use Rattle.lock_tree.specs.Parties.{IsKept, unasked}
+use Rattle.lock_tree_laws.specs.LockTable.{granted_at}
+use Rattle.lock_tree_laws.specs.Parties.{IsKept, unasked}
 use Rattle.lock_tree.specs.States.{state_of}
-use Rattle.lock_tree.specs.Wanted.{needs_of}
+use Rattle.lock_tree_laws.specs.Wanted.{needs_of}
 use Rattle.lock_needs.specs.Party.{Party}
-use Rattle.lock_tree.proofs.KeptPlaces.{places-same}
+use Rattle.lock_tree_laws.proofs.KeptPlaces.{places-same}
 use Rattle.lock_tree.proofs.RoomKept.{room-same, leaves-after}
-use Rattle.lock_tree.proofs.Opened.{still-open, unasked-quiet, got-covered_need}
+use Rattle.lock_tree_laws.proofs.Opened.{still-open, unasked-quiet, got-covered_need}
 use Rattle.vms_locks.specs.declared.answer.Enq.TheVariants.{Granted}
-use Rattle.lock_tree.proofs.OthersLeft.{same-leaves, answer-leaves}
-use Rattle.lock_tree.proofs.MeasureFalls.{left-never, never-steps, ended-falls}
-use Rattle.lock_tree.proofs.Added.{adds-one, way-on}
+use Rattle.lock_tree_laws.proofs.OthersLeft.{same-leaves, answer-leaves}
+use Rattle.lock_tree_laws.proofs.MeasureFalls.{left-never, ended-falls}
+use Rattle.lock_tree.proofs.Looked.{never-steps}
+use Rattle.lock_tree_laws.proofs.Added.{way-on}
+use Rattle.lock_tree_laws.proofs.ByRule.{goes-none, goes-one, goes-then, took-rule}
+use Rattle.lock_tree_laws.specs.Wanted.{MayTakeWhole}
+use Rattle.std.proofs.lemmas.Bool.{false≢true}
+use Rattle.lock_tree_laws.specs.Forest.{State}
 use Rattle.lock_tree.proofs.parts.Parts.step.Goals as goal
 
 pub get_need-requires-clause-open : goal.get_need-requires-clause-open
@@ -70,7 +75,28 @@ returns-clause-progress c =
 pub returns-clause-others : goal.returns-clause-others
 returns-clause-others c = λ u d. c.ask_node.ensures.others u d ∙ c.get_whole.ensures.others u d
 
-pub returns-then-get_whole-clause-trail : goal.returns-then-get_whole-clause-trail
-returns-then-get_whole-clause-trail c =
-    adds-one c.args.owner c.args.want.need c.args.want.here c.args.self.now.trail.items _ (way-on (state_of c.args.self.now) c.args.owner c.args.want c.requires.whole c.requires.opened)
-    (c.get_whole.ensures.asked c.if-get_whole.true)
+pub returns-then-is_covered-clause-went : goal.returns-then-is_covered-clause-went
+returns-then-is_covered-clause-went c =
+    goes-none c.args.owner c.args.want.need c.args.wait _ (state_of c.args.self.now) (state_of c.get_need.new.self) (ap (λ v. v.items) c.get_need.ensures.trail) (ap (λ (t : Table). t.entries) c.get_need.ensures.table)
+
+pub returns-then-get_whole-clause-went : goal.returns-then-get_whole-clause-went
+returns-then-get_whole-clause-went c =
+    let s : State = state_of c.args.self.now in
+    goes-one c.args.owner c.args.want.need c.args.wait _ s (state_of c.get_whole.new.self) c.args.want.here c.get_whole.new.self.locks
+    (way-on s c.args.owner c.args.want c.requires.whole c.requires.opened) (c.get_whole.ensures.asked c.if-get_whole.true)
+    (took-rule s c.args.owner c.args.want c.args.wait c.get_whole.new.self.locks (sym c.is_covered.ensures ∙ c.if-is_covered.false) (c.get_whole.ensures.may c.if-get_whole.true)
+    (c.get_whole.ensures.taken c.if-get_whole.true).raised)
+    refl
+
+pub ask_node-requires-clause-not_whole : goal.ask_node-requires-clause-not_whole
+ask_node-requires-clause-not_whole c = λ may.
+    let left = c.get_whole.ensures.left c.if-get_whole.false in
+    false≢true (sym c.if-get_whole.false ∙ c.get_whole.ensures.strong (subst (λ (t : Table). MayTakeWhole t c.args.owner c.args.want) left.1 may))
+
+pub returns-clause-went : goal.returns-clause-went
+returns-clause-went c =
+    let s : State = state_of c.args.self.now in
+    let left = c.get_whole.ensures.left c.if-get_whole.false in
+    goes-then c.args.owner c.args.want.need c.args.wait _ s (state_of c.get_whole.new.self) (state_of c.ask_node.new.self) (ap (λ (p : Party). p.needs) left.0)
+    (goes-none c.args.owner c.args.want.need c.args.wait _ s (state_of c.get_whole.new.self) (ap (λ v. v.items) left.2) (ap (λ (t : Table). t.entries) left.1))
+    c.ask_node.ensures.went

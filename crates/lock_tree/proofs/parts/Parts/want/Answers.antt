@@ -4,15 +4,16 @@ use Rattle.rdb_types.specs.declared.node.Node.{Node}
 use Rattle.vms_queues.specs.Queues.{Queues}
 use Rattle.lock_needs.specs.declared.need.Need.{Need}
 use Rattle.lock_needs.specs.Needs.{is_covered}
-use Rattle.lock_tree.specs.LockTable.{granted_at}
+use Rattle.lock_tree_laws.specs.LockTable.{granted_at}
 use Rattle.lock_needs.specs.Party.{Party}
 use Rattle.lock_tree.specs.States.{state_of}
-use Rattle.lock_tree.specs.Wanted.{IsOf, IsLooking, Answered}
-use Rattle.lock_tree.proofs.Outcomes.{on_err-any, on_err-more}
-use Rattle.lock_tree.proofs.Respared.{whole-room}
+use Rattle.lock_tree_laws.specs.Wanted.{IsOf, IsLooking, Answered}
+use Rattle.lock_tree_laws.proofs.Outcomes.{on_err-any, on_err-more}
+use Rattle.lock_tree_laws.proofs.Respared.{whole-room}
 use Rattle.lock_tree.proofs.RoomKept.{before-then}
-use Rattle.lock_tree.proofs.MeasureFalls.{same-never, never-calls}
-use Rattle.lock_tree.proofs.AtOnce.{got-roomy, whole-roomy}
+use Rattle.lock_tree_laws.proofs.MeasureFalls.{same-never, never-calls}
+use Rattle.lock_tree.proofs.AtOnce.{got-roomy, whole-roomy, went-roomy, went-adds, went-keeps, went-leaves}
+use Rattle.lock_tree_laws.specs.Forest.{State}
 use Rattle.lock_tree.proofs.parts.Parts.want.Goals as goal
 
 pub returns-in_err-make_room-clause-whole : goal.returns-in_err-make_room-clause-whole
@@ -59,3 +60,24 @@ returns-clause-strong c = λ bare looking.
     (c.want_in_room.ensures.strong
     (subst (λ (es : List (Node × Queues)). is_covered (granted_at (record { entries = es; spare = c.make_room.new.self.locks.spare }) c.args.owner) c.args.need ≡ false) (sym c.make_room.ensures.same.table) bare)
     (subst (λ (p : Party). IsLooking p.opened) (sym (c.make_room.ensures.same.parties c.args.owner)) looking))
+
+pub returns-clause-went : goal.returns-clause-went
+returns-clause-went c = went-roomy (state_of c.args.self.now) (state_of c.make_room.new.self) (state_of c.want_in_room.new.self) c.args.owner c.args.need c.args.wait c.make_room.ensures.same c.want_in_room.result c.want_in_room.ensures.went
+
+pub returns-clause-trail : goal.returns-clause-trail
+returns-clause-trail c =
+    went-adds (state_of c.args.self.now) (state_of c.want_in_room.new.self) c.args.owner c.args.need c.args.wait c.want_in_room.result
+    (went-roomy (state_of c.args.self.now) (state_of c.make_room.new.self) (state_of c.want_in_room.new.self) c.args.owner c.args.need c.args.wait c.make_room.ensures.same c.want_in_room.result c.want_in_room.ensures.went)
+
+pub returns-clause-locks : goal.returns-clause-locks
+returns-clause-locks c =
+    went-keeps (state_of c.args.self.now) (state_of c.want_in_room.new.self) c.args.owner c.args.need c.args.wait c.want_in_room.result
+    (went-roomy (state_of c.args.self.now) (state_of c.make_room.new.self) (state_of c.want_in_room.new.self) c.args.owner c.args.need c.args.wait c.make_room.ensures.same c.want_in_room.result c.want_in_room.ensures.went)
+
+pub returns-clause-no_weaker : goal.returns-clause-no_weaker
+returns-clause-no_weaker c =
+    let s : State = state_of c.args.self.now in
+    let r : State = state_of c.want_in_room.new.self in
+    went-leaves s r c.args.owner c.requires.whole c.want_in_room.result
+    (went-keeps s r c.args.owner c.args.need c.args.wait c.want_in_room.result
+    (went-roomy (state_of c.args.self.now) (state_of c.make_room.new.self) (state_of c.want_in_room.new.self) c.args.owner c.args.need c.args.wait c.make_room.ensures.same c.want_in_room.result c.want_in_room.ensures.went))

@@ -4,15 +4,19 @@ use Rattle.std.proofs.lemmas.Bool.{false≢true}
 use Rattle.lock_needs.specs.Party.{Party}
 use Rattle.lock_needs.specs.Keeping.{is_excess}
 use Rattle.lock_needs.specs.Wants.{kept_at}
-use Rattle.lock_tree.specs.LockTable.{granted_at}
-use Rattle.lock_tree.specs.Forest.{State, IsWhole, idle, party_of}
-use Rattle.lock_tree.specs.Order.{ComesDown}
-use Rattle.lock_tree.specs.Room.{IsAsBefore}
-use Rattle.lock_tree.specs.Progress.{is_spare, Falls, IsServedAt}
-use Rattle.lock_tree.proofs.MeasureFalls.{served-falls}
-use Rattle.lock_tree.proofs.Opened.{whole-kept}
-use Rattle.lock_tree.proofs.Outcomes.{on_ok-more, on_err-more}
-use Rattle.lock_tree.proofs.ServedAt.{nothing-due}
+use Rattle.lock_tree_laws.specs.LockTable.{granted_at, KeepsLocks}
+use Rattle.lock_tree_laws.specs.Forest.{State, IsWhole, idle, party_of}
+use Rattle.lock_tree_laws.specs.Inner.Answering.{ComesDown}
+use Rattle.lock_tree_laws.specs.Room.{IsAsBefore}
+use Rattle.lock_tree_laws.specs.Progress.{is_spare, Falls, IsServedAt, LeavesLocks}
+use Rattle.lock_tree_laws.proofs.MeasureFalls.{served-falls, way-leaves}
+use Rattle.lock_tree_laws.proofs.Opened.{whole-kept}
+use Rattle.lock_tree_laws.proofs.Outcomes.{on_ok-more, on_err-more}
+use Rattle.lock_tree_laws.proofs.ServedAt.{nothing-due}
+use Rattle.rdb_types.specs.declared.node.Node.{Node}
+use Rattle.vms_queues.specs.Modes.{at_most}
+use Rattle.lock_needs.specs.Nodes.{same_node, is_on}
+use Rattle.lock_tree_laws.proofs.ByRule.{keeps-way}
 use Rattle.lock_tree.proofs.tree.Tree.deliver_notice.Goals as goal
 
 pub returns-in-Some-clause-least : goal.returns-in-Some-clause-least
@@ -79,3 +83,31 @@ returns-in-None-clause-least c = λ h. absurd (false≢true (sym (nothing-due _ 
 
 pub returns-in-None-clause-falls : goal.returns-in-None-clause-falls
 returns-in-None-clause-falls c = λ h. absurd (false≢true (sym (nothing-due _ c.args.self.now c.args.to c.args.node c.self.view_is (ap (λ x. unwrap_or x idle) c.in-None.ensures.value) c.self.invariant) ∙ h))
+
+pub returns-in-Some-clause-below : goal.returns-in-Some-clause-below
+returns-in-Some-clause-below c =
+    let old = c.self.inside.parts.locks in
+    let new = c.answer_notice.new.locks in
+    subst (λ (s : State). OnOk c.answer_notice.result ((n : Node) → same_node n c.args.node ≡ false → at_most (granted_at s.table c.args.to n) (granted_at new c.args.to n) ≡ true)) c.self.view_is
+    (on_ok-more (IsServedAt c.args.to c.in-Some.party.now c.args.node old new) _ c.answer_notice.result c.answer_notice.ensures.served (λ f. f.rises))
+
+pub returns-in-Some-clause-elsewhere : goal.returns-in-Some-clause-elsewhere
+returns-in-Some-clause-elsewhere c =
+    let old = c.self.inside.parts.locks in
+    let new = c.answer_notice.new.locks in
+    subst (λ (s : State). OnOk c.answer_notice.result ((n : Node) → is_on c.args.node n ≡ false → granted_at new c.args.to n ≡ granted_at s.table c.args.to n)) c.self.view_is
+    (on_ok-more (IsServedAt c.args.to c.in-Some.party.now c.args.node old new) _ c.answer_notice.result c.answer_notice.ensures.served (λ f. f.elsewhere))
+
+pub returns-in-Some-clause-locks : goal.returns-in-Some-clause-locks
+returns-in-Some-clause-locks c =
+    let old = c.self.inside.parts.locks in
+    let new = c.answer_notice.new.locks in
+    subst (λ (s : State). OnOk c.answer_notice.result (KeepsLocks c.args.to s.table new)) c.self.view_is
+    (on_ok-more (IsServedAt c.args.to c.in-Some.party.now c.args.node old new) _ c.answer_notice.result c.answer_notice.ensures.served (λ f. keeps-way c.args.to old new f.way))
+
+pub returns-in-Some-clause-no_weaker : goal.returns-in-Some-clause-no_weaker
+returns-in-Some-clause-no_weaker c =
+    let old = c.self.inside.parts.locks in
+    let new = c.answer_notice.new.locks in
+    subst (λ (s : State). OnOk c.answer_notice.result (LeavesLocks c.args.to s.table new)) c.self.view_is
+    (on_ok-more (IsServedAt c.args.to c.in-Some.party.now c.args.node old new) _ c.answer_notice.result c.answer_notice.ensures.served (λ f. way-leaves old new c.args.to c.self.invariant.intents f.way))

@@ -1,8 +1,8 @@
 use Rattle.std.proofs.Common.{subst}
-use Rattle.lock_tree.specs.LockTable.{AllShare}
-use Rattle.lock_tree.specs.Forest.{State, NeedsAreApart}
-use Rattle.lock_tree.proofs.Changes.{shares-live}
-use Rattle.lock_tree.proofs.Whole.{whole-apart}
+use Rattle.lock_tree_laws.specs.LockTable.{AllShare}
+use Rattle.lock_tree_laws.specs.Forest.{State, NeedsAreApart}
+use Rattle.lock_tree_laws.proofs.Changes.{shares-live}
+use Rattle.lock_tree_laws.proofs.Whole.{whole-apart}
 use Rattle.lock_tree.proofs.tree.Tree.mode_of.Goals as goal
 
 pub returns-clause-compatible : goal.returns-clause-compatible

@@ -1,5 +1,5 @@
 use Rattle.lock_tree.specs.States.{state_of}
-use Rattle.lock_tree.proofs.Whole.{whole-empty}
+use Rattle.lock_tree_laws.proofs.Whole.{whole-empty}
 use Rattle.lock_tree.proofs.tree.Tree.new.Goals as goal
 
 pub invariant_of-result : goal.invariant_of-result

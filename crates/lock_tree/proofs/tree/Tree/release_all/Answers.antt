@@ -4,14 +4,15 @@ use Rattle.std.specs.Prelude.{is_some}
 use Rattle.vms_queues.specs.declared.lock_mode.Mode.{Mode}
 use Rattle.vms_queues.specs.Modes.{may_share}
 use Rattle.lock_needs.specs.Party.{Party}
-use Rattle.lock_tree.specs.LockTable.{sought_at}
-use Rattle.lock_tree.specs.Forest.{State, idle, opened_of, party_of}
-use Rattle.lock_tree.specs.Progress.{Falls}
-use Rattle.lock_tree.proofs.HeldModes.{nothing-shares}
-use Rattle.lock_tree.proofs.KeptPlaces.{places-closed}
-use Rattle.lock_tree.proofs.MeasureFalls.{way-leaves, closed-falls}
-use Rattle.lock_tree.proofs.OpenAsks.{opened-ended}
-use Rattle.lock_tree.proofs.Whole.{whole-ended}
+use Rattle.lock_tree_laws.specs.LockTable.{sought_at, KeepsLocks}
+use Rattle.lock_tree_laws.specs.Forest.{State, idle, opened_of, party_of}
+use Rattle.lock_tree_laws.specs.Progress.{Falls, LeavesLocks}
+use Rattle.lock_tree_laws.proofs.ByRule.{keeps-way}
+use Rattle.lock_tree_laws.proofs.HeldModes.{nothing-shares}
+use Rattle.lock_tree_laws.proofs.KeptPlaces.{places-closed}
+use Rattle.lock_tree_laws.proofs.MeasureFalls.{way-leaves, closed-falls}
+use Rattle.lock_tree_laws.proofs.OpenAsks.{opened-ended}
+use Rattle.lock_tree_laws.proofs.Whole.{whole-ended}
 use Rattle.lock_tree.proofs.tree.Tree.release_all.Goals as goal
 
 pub invariant_of-self : goal.invariant_of-self
@@ -34,3 +35,14 @@ returns-in-Some-clause-falls c =
     (λ open_. closed-falls s r c.args.owner
     (record { parties = c.forget.ensures.others; locks = way-leaves s.table r.table c.args.owner c.self.invariant.intents c.release_owner.ensures.way })
     open_ (ap (λ (p : Party). p.opened) c.forget.ensures.own))
+
+pub returns-in-Some-clause-locks : goal.returns-in-Some-clause-locks
+returns-in-Some-clause-locks c =
+    let new = c.release_owner.new.locks in
+    subst (λ (s : State). KeepsLocks c.args.owner s.table new) c.self.view_is (keeps-way c.args.owner c.self.inside.parts.locks new c.release_owner.ensures.way)
+
+pub returns-in-Some-clause-no_weaker : goal.returns-in-Some-clause-no_weaker
+returns-in-Some-clause-no_weaker c =
+    let old = c.self.inside.parts.locks in
+    let new = c.release_owner.new.locks in
+    subst (λ (s : State). LeavesLocks c.args.owner s.table new) c.self.view_is (way-leaves old new c.args.owner c.self.invariant.intents c.release_owner.ensures.way)

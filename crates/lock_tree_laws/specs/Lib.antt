@@ -1,0 +1,10 @@
+pub mod LockTable
+pub mod Parties
+pub mod Forest
+pub mod Asking
+pub mod Wanted
+pub mod Order
+pub mod Rule
+pub mod Room
+pub mod Progress
+pub mod Inner
