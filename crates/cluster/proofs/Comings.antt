@@ -1,15 +1,18 @@
 -- A turn keeps what is true of the sessions, and is such a step as drivers want.
 use Rattle.std.proofs.Common.{◌≡◌, ◌≤◌, ◌<◌, ℕ, zero, suc, ◌++◌, ◌∷◌, [], ◌==◌, Bool, true, false, List, length, refl, ◌∙◌, sym, ap, subst, arith, map, Some, slice_get, slice_set, inl, inr}
 use Rattle.vms_queues.specs.Queues.{first_of}
-use Rattle.rdb_account.specs.Places.{Opening, place}
-use Rattle.rdb_account.specs.Lawful.{waits, want_in}
+use Rattle.rdo_ast.specs.declared.syntax.Item.{Item}
+use Rattle.rdb_account.specs.Places.{Opening, Place, place}
+use Rattle.rdb_account.specs.Lawful.{waits, want_in, is_nowait, never_sleeps}
 use Rattle.rdb_drive.specs.Boards.{Board}
 use Rattle.rdb_drive.specs.Steps.{StepOf, IsQuiet}
 use Rattle.rdb_drive.specs.declared.driven.Step.TheVariants as step
 use Rattle.session_steps.specs.declared.member.Member.{Member}
+use Rattle.session_steps.specs.declared.member.State.{State}
+use Rattle.session_steps.specs.declared.member.State.TheVariants.{Outside, Asking, Writing, Reading, Over}
 use Rattle.session_steps.specs.Members.{weight, is_asking}
 use Rattle.session_steps.specs.Happenings.{events_of}
-use Rattle.session_steps.specs.Right.{Sessions, ask_of, IsRight}
+use Rattle.session_steps.specs.Right.{Sessions, Lock, turns_of, ask_of, StandsAs, IsRight}
 use Rattle.session_steps.specs.Steps.{Steps}
 use Rattle.session_steps.proofs.Kept.{stepped, here, holder-has, set-length, place_in, events_in}
 use Rattle.session_steps.proofs.Turns.{swapped}
@@ -98,6 +101,27 @@ sleeper-waits o c i t m r found asks first other =
     (r.asks ∙ sym (append-none (map ask_of r.lock.queue))) (holder-has o c r)
     (ap (λ xs. want_in (suc i) xs) r.asks ∙ want-among (suc i) r.lock.queue (stands.queued ∙ asks))
 
+-- who asks and isn't the first doesn't refuse to wait
+never-late : (o : Opening) (p : Place) (lock : Lock) (s t : ℕ) (left : List Item) (state : State) → is_asking state ≡ true → StandsAs o p lock s left state → first_of (turns_of lock) ≡ Some t → (t == s) ≡ false →
+    is_nowait (p.transaction s) ≡ false
+never-late o p lock s t left Outside asks h first other = absurd (grind arith)
+never-late o p lock s t left (Writing u standing) asks h first other = absurd (grind arith)
+never-late o p lock s t left (Reading u) asks h first other = absurd (grind arith)
+never-late o p lock s t left Over asks h first other = absurd (grind arith)
+never-late o p lock s t left (Asking start) asks h first other = rw h.is_open (by (never_sleeps h.transaction.kind) refl)
+  where
+    clash : {A : Type 0} (t s : ℕ) → Some t ≡ Some s → (t == s) ≡ false → A
+    clash t s e k = absurd (grind arith)
+
+    by : (b : Bool) → never_sleeps h.transaction.kind ≡ b → never_sleeps h.transaction.kind ≡ false
+    by false e = e
+    by true e = clash t s (sym first ∙ h.prompt e) other
+
+pub sleeper-may : (o : Opening) (c : Sessions) (i t : ℕ) (m : Member) → IsRight o c → slice_get c.members i ≡ Some m → is_asking m.state ≡ true → first_of c.turns ≡ Some t → (t == suc i) ≡ false →
+    is_nowait ((place_in o c).transaction (suc i)) ≡ false
+sleeper-may o c i t m r found asks first other =
+    never-late o (place_in o c) r.lock (suc i) t m.left m.state asks (r.each i m found).state (ap first_of (sym r.turns) ∙ first) other
+
 quiet : (s : ℕ) (b : Board) → IsQuiet s b b
 quiet s b = record { asleep = λ t k h. h; ended = λ t k. refl; measure = inl refl }
 
@@ -150,6 +174,7 @@ halted-right o c r = record {
   turns = r.turns;
   once = r.once;
   asks = r.asks;
+  empty_handed = r.empty_handed;
   are_sessions = r.are_sessions;
   each = r.each;
 }

@@ -6,7 +6,7 @@ use Rattle.rdo_ast.specs.Views.{uttered_of}
 use Rattle.rdb_meaning.specs.Contents.{no_tables}
 use Rattle.rdb_account.specs.Events.{event_of}
 use Rattle.rdb_account.specs.Places.{Opening, Place, start}
-use Rattle.rdb_account.specs.Legal.{AreWhole, is_mortal}
+use Rattle.rdb_account.specs.Legal.{AreWhole, has_not_died}
 use Rattle.rdb_drive.specs.Boards.{IsSession, AllEnded, answers_by}
 use Rattle.rdb_drive.specs.Steps.{StepOf, RecoveryOf}
 use Rattle.rdb_drive.specs.declared.driven.Step.TheVariants as step
@@ -70,6 +70,7 @@ fresh-kept word scripts = record {
     turns = refl;
     once = tt;
     asks = refl;
+    empty_handed = λ t h. refl;
     are_sessions = λ s h. absurd (nobody h);
     each = fresh-stands word scripts;
   };
@@ -117,7 +118,10 @@ turn-step word scripts old new i turn.OutOfMemory k w h = stopped-step (opening 
 
 pub turn-blocker : (word : List ℕ) (scripts : List (List Item)) (old new : Sessions) (i : ℕ) (t : Turn) → IsKept word scripts old → Came i old new t → NamesBlocker (opening word scripts) old (suc i) t
 turn-blocker word scripts old new i turn.Moved k h = tt
-turn-blocker word scripts old new i (turn.Asleep t) k h = sleeper-waits (opening word scripts) old i t.number h.before k.right h.found h.asks h.first h.other
+turn-blocker word scripts old new i (turn.Asleep t) k h = (
+  sleeper-waits (opening word scripts) old i t.number h.before k.right h.found h.asks h.first h.other,
+  sleeper-may (opening word scripts) old i t.number h.before k.right h.found h.asks h.first h.other,
+)
 turn-blocker word scripts old new i turn.Ended k h = tt
 turn-blocker word scripts old new i turn.OutOfMemory k h = tt
 
@@ -156,19 +160,19 @@ low n s h = grind arith
 high : (n s : ℕ) → (nat_le 1 s && nat_le s n) ≡ true → s ≤ n
 high n s h = grind arith
 
-all-live : (state : State) → is_mortal (life_of state) ≡ true
+all-live : (state : State) → has_not_died (life_of state) ≡ true
 all-live Outside = refl
 all-live (Asking start) = refl
 all-live (Writing t standing) = refl
 all-live (Reading t) = refl
 all-live Over = refl
 
-silent-at-end : (o : Opening) (p : Place) (s : ℕ) (left : List Item) (state : State) → weight_in (length left) state ≡ 0 → StandsAs o p s left state → p.transaction s ≡ None
-silent-at-end o p s left Outside light h = h
-silent-at-end o p s left (Asking start) light h = absurd (omega arith)
-silent-at-end o p s left (Writing t standing) light h = absurd (omega arith)
-silent-at-end o p s left (Reading t) light h = absurd (omega arith)
-silent-at-end o p s left Over light h = h.0
+silent-at-end : (o : Opening) (p : Place) (lock : Lock) (s : ℕ) (left : List Item) (state : State) → weight_in (length left) state ≡ 0 → StandsAs o p lock s left state → p.transaction s ≡ None
+silent-at-end o p lock s left Outside light h = h
+silent-at-end o p lock s left (Asking start) light h = absurd (omega arith)
+silent-at-end o p lock s left (Writing t standing) light h = absurd (omega arith)
+silent-at-end o p lock s left (Reading t) light h = absurd (omega arith)
+silent-at-end o p lock s left Over light h = h.0
 
 pub whole : (word : List ℕ) (scripts : List (List Item)) (c : Sessions) → IsKept word scripts c → AllEnded (length scripts) (board_of (opening word scripts) c) →
     AreWhole (is_session (length scripts)) (opening word scripts) (map event_of c.events)
@@ -181,8 +185,8 @@ whole word scripts c k ended s session =
     let light = is-zero (weight m) (sym (ap has_ended found.3) ∙ subst (λ u. has_ended (member_of c.members u) ≡ true) found.2 (ended s (low (length scripts) s session) (high (length scripts) s session))) in
     let none = none-left o (place_in o c) k.right.lock (suc i) m stands light in
     let at = place_in o c in
-    subst (λ u. (is_mortal (at.life u) ≡ true) × (at.said u ≡ length (o.script u)) × (at.transaction u ≡ None)) (sym found.2)
-    (rw stands.lives (all-live m.state), stands.count ∙ sym (ap length (stands.script ∙ (ap (λ ys. stands.answered ++ ys) none ∙ append-none stands.answered))), silent-at-end o at (suc i) m.left m.state light stands.state)
+    subst (λ u. (has_not_died (at.life u) ≡ true) × (at.said u ≡ length (o.script u)) × (at.transaction u ≡ None)) (sym found.2)
+    (rw stands.lives (all-live m.state), stands.count ∙ sym (ap length (stands.script ∙ (ap (λ ys. stands.answered ++ ys) none ∙ append-none stands.answered))), silent-at-end o at k.right.lock (suc i) m.left m.state light stands.state)
 
 -- ---- nobody dies
 

@@ -33,7 +33,7 @@ none-left o p lock s m h light = by m.left m.state h.state light
     three : {A : Type 0} (n : ℕ) → 3 * suc n ≡ 0 → A
     three n e = absurd (grind arith)
 
-    by : (left : List Item) (state : State) → StandsAs o p s left state → weight_in (length left) state ≡ 0 → left_of (record { left = left; state = state; total = m.total }) ≡ []
+    by : (left : List Item) (state : State) → StandsAs o p lock s left state → weight_in (length left) state ≡ 0 → left_of (record { left = left; state = state; total = m.total }) ≡ []
     by [] Outside k l = refl
     by (x ∷ xs) Outside k l = three (length xs) l
     by left (Asking start) k l = absurd (grind arith)

@@ -4,7 +4,7 @@ use Rattle.rdo_ast.specs.declared.syntax.Item.{Item}
 use Rattle.vms_queues.specs.Queues.{first_of}
 use Rattle.rdb_account.specs.Events.{event_of}
 use Rattle.rdb_account.specs.Places.{Opening, place}
-use Rattle.rdb_account.specs.Lawful.{waits}
+use Rattle.rdb_account.specs.Lawful.{waits, is_nowait}
 use Rattle.rdb_account.specs.declared.event.Event.{Event as Declared}
 use Rattle.rdb_drive.specs.Orders.{AreParts, rounds}
 use Rattle.rdb_drive.specs.declared.driven.Step.{Step}
@@ -84,10 +84,11 @@ step_of (turn.Asleep t) = step.Asleep
 step_of turn.Ended = step.Ended
 step_of turn.OutOfMemory = step.Stopped
 
--- who sleeps waits for the session that is named
+-- who sleeps waits for the session that is named, and not under NOWAIT
 abbrev pub NamesBlocker : Opening → Sessions → ℕ → Turn → Type 0
 NamesBlocker o c s turn.Moved = Unit {0}
-NamesBlocker o c s (turn.Asleep t) = waits (place o (map event_of c.events)) s t.number ≡ true
+NamesBlocker o c s (turn.Asleep t) =
+    (waits (place o (map event_of c.events)) s t.number ≡ true) × (is_nowait ((place o (map event_of c.events)).transaction s) ≡ false)
 NamesBlocker o c s turn.Ended = Unit {0}
 NamesBlocker o c s turn.OutOfMemory = Unit {0}
 

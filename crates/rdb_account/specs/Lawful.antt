@@ -159,7 +159,7 @@ has_cause o p s (r.Deadlock cycle) = is_lawful_cycle p s cycle
 has_cause o p s (r.AreaFull n) = (n == o.limits.pages) && (all_taken o p 1 n || (all_taken o p 2 n || all_taken o p 3 n))
 has_cause o p s (r.RujFull n) = (n == o.limits.entries) && nat_lt n (written_by (p.transaction s))
 has_cause o p s (r.SnapFull n) = (n == o.limits.snapshots) && nat_lt n p.pairs
-has_cause o p s (r.AijFull n) = (n == o.limits.slots) && nat_lt n (journal_sum p s)
+has_cause o p s (r.AijFull n) = (n == o.limits.slots) && (nat_lt 0 (written_by (p.transaction s)) && nat_lt n (journal_sum p s))
 has_cause o p s r.NoMemory = true
 has_cause o p s _ = false
 

@@ -12,11 +12,11 @@ use Rattle.rdb_types.specs.declared.session.Cause.{Cause}
 use Rattle.rdb_types.specs.declared.session.Cause.TheVariants as cause
 use Rattle.rdb_account.specs.Events.{Event, Began, Wanted, Got, Demoted, Said, Committed, RolledBack, Died, Recovered}
 use Rattle.std.specs.List.{list_all}
-use Rattle.vms_queues.specs.Modes.{at_most}
 use Rattle.lock_needs.specs.declared.need.Need.{Need}
-use Rattle.lock_needs.specs.Nodes.{same_node, is_on}
+use Rattle.lock_needs.specs.Nodes.{is_on}
 use Rattle.rdb_account.specs.Places.{Opening, Place, Transaction, Line, Ask, Life, living, over, dead, Due, nothing, commit_reply, rollback_reply, rolls_back, start, after, place, next_item, begins, is_done, is_writer, retold, IsTold}
 use Rattle.rdb_account.specs.Lawful.{reply_of, IsExcused, has_cause}
+use Rattle.rdb_account.specs.AskedFor.{is_need, IsAskedFor, IsApart}
 
 -- ---- replies
 
@@ -67,10 +67,10 @@ abbrev pub is_dead : Life → Bool
 is_dead dead = true
 is_dead _ = false
 
-abbrev pub is_mortal : Life → Bool
-is_mortal living = true
-is_mortal over = true
-is_mortal _ = false
+abbrev pub has_not_died : Life → Bool
+has_not_died living = true
+has_not_died over = true
+has_not_died _ = false
 
 -- nobody is dead and not recovered, nothing must come next, and s lives
 abbrev pub is_free : Due → Bool
@@ -136,26 +136,23 @@ abbrev pub begins_at : Option Uttered → Option Standing
 begins_at (Some item) = begins item
 begins_at None = None
 
-abbrev pub same_need : Need → Need → Bool
-same_need a b = same_node a.node b.node && at_most a.mode b.mode && at_most b.mode a.mode
-
 -- a session that has a want open asks for no other need
 abbrev pub is_one_want : ℕ → Need → List Ask → Bool
-is_one_want s n asks = list_all (λ a. same_need a.need n || not (a.session == s)) asks
+is_one_want s n asks = list_all (λ a. is_need a.need.node a.need.mode n || not (a.session == s)) asks
 
 -- The event may come at this place.
 abbrev pub May : Opening → Place → Event → Type 0
 May o p (Began s kind) =
     (is_ready p s ≡ true) × (p.transaction s ≡ None) × (begins_at (next_item o p s) ≡ Some kind)
 May o p (Wanted s n asked) =
-    (is_ready p s ≡ true) × (has_writer (p.transaction s) ≡ true) × ((is_on asked n.node && is_one_want s n p.asks) ≡ true)
-May o p (Got s n) = (is_ready p s ≡ true) × (has_writer (p.transaction s) ≡ true)
-May o p (Demoted s n from to) = is_ready p s ≡ true
+    (is_ready p s ≡ true) × (has_writer (p.transaction s) ≡ true) × ((is_on asked n.node && is_one_want s n p.asks) ≡ true) × IsAskedFor o p s n
+May o p (Got s n) = (is_ready p s ≡ true) × (has_writer (p.transaction s) ≡ true) × IsAskedFor o p s n × IsApart p s n
+May o p (Demoted s n from to) = (is_ready p s && has_writer (p.transaction s)) ≡ true
 May o p (Said s item choices reply) =
     (next_item o p s ≡ Some item) × MaySay p.due o p s (record { item = item; choices = choices; reply = reply })
 May o p (Committed s moment) = (is_ready p s ≡ true) × (p.moment ≤ moment) × MayCommitBy o p s (p.transaction s)
 May o p (RolledBack s) = MayRollBack p.due o p s
-May o p (Died s c) = ((is_free p.due && is_mortal (p.life s)) ≡ true) × ((o.may_die s c && not (is_stop c)) ≡ true)
+May o p (Died s c) = ((is_free p.due && has_not_died (p.life s)) ≡ true) × ((o.may_die s c && not (is_stop c)) ≡ true)
 May o p (Recovered s committed moment) =
     ((is_free p.due && is_dead (p.life s)) ≡ true) × (p.moment ≤ moment) × MayRecover committed o p s (p.transaction s)
 
@@ -173,4 +170,4 @@ pub record IsLegal (o : Opening) (events : List Event) : Type 0 where
 abbrev pub AreWhole : (ℕ → Bool) → Opening → List Event → Type 0
 AreWhole ended o events =
     (s : ℕ) → ended s ≡ true →
-    (is_mortal ((place o events).life s) ≡ true) × ((place o events).said s ≡ length (o.script s)) × ((place o events).transaction s ≡ None)
+    (has_not_died ((place o events).life s) ≡ true) × ((place o events).said s ≡ length (o.script s)) × ((place o events).transaction s ≡ None)

@@ -13,8 +13,9 @@ use Rattle.vms_queues.specs.Queues.{first_of}
 use Rattle.lock_needs.specs.Needs.{conflict}
 use Rattle.lock_needs.specs.Waits.{converts_at, asked_before, has_asked, comes_first}
 use Rattle.rdb_account.specs.Events.{Began, Wanted, Said, RolledBack}
-use Rattle.rdb_account.specs.Places.{Opening, Place, Transaction, Line, Ask, nothing, rolls_back, at, after, begins, begun, wanting, with_line, is_writer, leaves_none, asks_of_others}
+use Rattle.rdb_account.specs.Places.{Opening, Place, Transaction, Line, Ask, nothing, rolls_back, at, after, begins, begun, wanting, with_line, is_writer, leaves_none, asks_of_others, next_item}
 use Rattle.rdb_account.specs.Lawful.{waits, waits_by, want_in, got_of, asked_of, never_sleeps, first_refusal, never_waits}
+use Rattle.rdb_account.specs.AskedFor.{IsAskedFor, item_asks}
 use Rattle.rdb_account.specs.Legal.{May, MaySay, is_one_want}
 use Rattle.session_steps.specs.declared.member.State.TheVariants.{Outside, Asking}
 use Rattle.session_steps.specs.Members.{member}
@@ -30,6 +31,7 @@ pub record Starts (item : Uttered) : Type 0 where
   pub leaves : leaves_none item ≡ true
   pub stands : first_refusal Closed item ≡ None
   pub waits : never_waits item ≡ false
+  pub asks : (t : Tables) → item_asks (first_refusal Closed item) t the_lock item ≡ true
 
 reads-none : {A : Type 0} (b : Bool) (kind : Standing) → (if b then Some ReadOnly else None) ≡ Some kind → is_writer kind ≡ true → A
 reads-none true kind h w = absurd (grind arith)
@@ -39,7 +41,7 @@ pub writer-starts : (item : Uttered) (kind : Standing) → begins item ≡ Some 
 writer-starts (syntax_fault line column) kind h w = absurd (grind arith)
 writer-starts (said (invoke text)) kind h w = absurd (grind arith)
 writer-starts (said start_read_only) kind h w = absurd (grind arith)
-writer-starts (said (start_read_write wait rs)) kind h w = record { leaves = refl; stands = refl; waits = refl }
+writer-starts (said (start_read_write wait rs)) kind h w = record { leaves = refl; stands = refl; waits = refl; asks = λ t. refl }
 writer-starts (said commit) kind h w = absurd (grind arith)
 writer-starts (said rollback) kind h w = absurd (grind arith)
 writer-starts (said finish) kind h w = absurd (grind arith)
@@ -98,17 +100,35 @@ absent-turns lock s queued holds = absent lock.inside lock.queue s queued holds
     absent None queue s h k = h
     absent (Some t) queue s h k = rw k h
 
+first-more : (t s : ℕ) (turns : List ℕ) → first_of turns ≡ Some t → first_of (turns ++ s ∷ []) ≡ Some t
+first-more t s [] e = absurd (grind arith)
+first-more t s (u ∷ us) e = e
+
+-- START_TRANSACTION asks for the lock
+asks-there : (o : Opening) (p : Place) (s : ℕ) (item : Uttered) (kind : Standing) → next_item o p s ≡ Some item → begins item ≡ Some kind → is_writer kind ≡ true →
+    IsAskedFor o (behind_began kind p s) s the_lock
+asks-there o p s item kind next begins_so writes =
+    rw (at-same s (Some (begun kind p.tables)) p.transaction) (rw next ((writer-starts item kind begins_so writes).asks p.tables))
+
 pub asked : (o : Opening) (p : Place) (lock : Lock) (s : ℕ) (item : Item) (left : List Item) (total : ℕ) (committed : Tables) (kind : Standing) →
-    Here o p lock s (member (item ∷ left) Outside total) committed → begins (uttered_of item) ≡ Some kind → is_writer kind ≡ true →
+    Here o p lock s (member (item ∷ left) Outside total) committed → begins (uttered_of item) ≡ Some kind → is_writer kind ≡ true → (never_sleeps kind ≡ true → turns_of lock ≡ []) →
     Steps o p lock s (member left (Asking item) total) committed (turns_of lock ++ s ∷ []) (Began s kind ∷ Wanted s the_lock first_area ∷ [])
-asked o p lock s item left total committed kind h begins_so writes =
+asked o p lock s item left total committed kind h begins_so writes alone =
     let m = member (item ∷ left) Outside total in
     let next = next-is o p lock s m (uttered_of item) (map uttered_of left) h.stands refl in
     let absent = absent-turns lock s h.stands.queued h.stands.holds in
     record {
       may = (
         (ready p s h.awake h.free h.stands.lives, h.stands.state, rw next begins_so),
-        ((ready (behind_began kind p s) s h.awake h.free h.stands.lives, rw (at-same s (Some (begun kind p.tables)) p.transaction) writes, rw h.asks (one-want s lock.queue)), tt),
+        (
+          (
+            ready (behind_began kind p s) s h.awake h.free h.stands.lives,
+            rw (at-same s (Some (begun kind p.tables)) p.transaction) writes,
+            rw h.asks (one-want s lock.queue),
+            asks-there o p s (uttered_of item) kind next begins_so writes,
+          ),
+          tt,
+        ),
       );
       own = (refl, (refl, tt));
       to = behind_wanted kind p s;
@@ -130,9 +150,12 @@ asked o p lock s item left total committed kind h begins_so writes =
             kind = begins_so;
             writes = writes;
             is_silent = refl;
+            has_nothing = refl;
+            prompt = λ e. ap first_of (sym (turns-more lock.inside lock.queue s)) ∙ ap (λ ts. first_of (ts ++ s ∷ [])) (alone e);
           });
       queued = λ t k. in-more-other t s lock.queue k;
       holds = λ t k. refl;
+      prompt = λ t k e. first-more t s (turns_of lock) e;
       stays = λ t k e. refl;
     }
 
@@ -260,7 +283,12 @@ refused o p lock s item left total committed kind t h begins_so writes never fir
       may = (
         (ready p s h.awake h.free h.stands.lives, h.stands.state, rw next begins_so),
         (
-          (ready (behind_began kind p s) s h.awake h.free h.stands.lives, rw (at-same s (Some (begun kind p.tables)) p.transaction) writes, rw h.asks (one-want s lock.queue)),
+          (
+            ready (behind_began kind p s) s h.awake h.free h.stands.lives,
+            rw (at-same s (Some (begun kind p.tables)) p.transaction) writes,
+            rw h.asks (one-want s lock.queue),
+            asks-there o p s (uttered_of item) kind next begins_so writes,
+          ),
           (
             subst (λ q. May o q (Said s (uttered_of item) [] (r.LockConflict t))) (sym (wanted-place o kind p s)) (
               next,
@@ -294,5 +322,6 @@ refused o p lock s item left total committed kind t h begins_so writes never fir
           refl refl (at-same s (p.said s + 1) p.said) h.stands.lives h.stands.queued h.stands.holds (at-same s None (behind_refusal kind p s item t).transaction);
       queued = λ u k. refl;
       holds = λ u k. refl;
+      prompt = λ u k e. e;
       stays = λ u k e. refl;
     }

@@ -6,6 +6,7 @@ use Rattle.rdo_ast.specs.declared.syntax.Item.{Item}
 use Rattle.rdo_ast.specs.Tree.{said, commit, rollback}
 use Rattle.rdo_ast.specs.Views.{uttered_of}
 use Rattle.rdb_meaning.specs.declared.tables.Tables.{Tables}
+use Rattle.vms_queues.specs.Queues.{first_of}
 use Rattle.rdb_account.specs.Events.{Committed, RolledBack}
 use Rattle.rdb_account.specs.Places.{Opening, Place, Transaction, nothing, commit_reply, rollback_reply, living, over, at, after, next_item, is_writer, retold, asks_of_others}
 use Rattle.rdb_account.specs.Legal.{May, MayRollBack, is_at_end, is_rolling_back, has_none}
@@ -28,10 +29,11 @@ pub record Leaves (lock then : Lock) (s : ℕ) : Type 0 where
   pub others : (t : ℕ) → (t == s) ≡ false → is_inside t then.inside ≡ is_inside t lock.inside
   pub once : IsOnce (turns_of then)
   pub known : (t : ℕ) → is_in t (turns_of then) ≡ true → is_in t (turns_of lock) ≡ true
+  pub prompt : (t : ℕ) → (t == s) ≡ false → first_of (turns_of lock) ≡ Some t → first_of (turns_of then) ≡ Some t
 
 -- it had none
 pub had-none : (lock : Lock) (s : ℕ) → is_in s lock.queue ≡ false → is_inside s lock.inside ≡ false → IsOnce (turns_of lock) → Leaves lock lock s
-had-none lock s absent outside once = record { queue = refl; absent = absent; outside = outside; others = λ t k. refl; once = once; known = λ t k. k }
+had-none lock s absent outside once = record { queue = refl; absent = absent; outside = outside; others = λ t k. refl; once = once; known = λ t k. k; prompt = λ t k e. e }
 
 -- it was inside
 abbrev pub opened : Lock → Lock
@@ -47,8 +49,12 @@ was-inside lock s inside once =
       others = λ t k. rw inside (sym (swapped s t k));
       once = both.1;
       known = λ t k. rw inside (in-behind t s lock.queue k);
+      prompt = λ t k e. other-first s t (subst (λ i. first_of (turns_of (record { inside = i; queue = lock.queue })) ≡ Some t) inside e) k;
     }
   where
+    other-first : {A : Type 0} (s t : ℕ) → Some s ≡ Some t → (t == s) ≡ false → A
+    other-first s t e h = absurd (grind arith)
+
     in-behind : (t s : ℕ) (ss : List ℕ) → is_in t ss ≡ true → is_in t (s ∷ ss) ≡ true
     in-behind t s ss h = grind arith
 
@@ -101,6 +107,7 @@ rolls-back o p lock then s m left committed h says lives is_open leaves =
           says refl (at-same s (p.said s + 1) p.said) lives (rw leaves.queue leaves.absent) leaves.outside (at-same s None p.transaction);
       queued = λ t k. ap (λ q. is_in t q) leaves.queue;
       holds = leaves.others;
+      prompt = leaves.prompt;
       stays = λ t k e. refl;
     }
 
@@ -135,6 +142,7 @@ ends o p lock then s m committed h says lives is_open leaves =
           says refl refl (at-same s over p.life) (rw leaves.queue leaves.absent) leaves.outside (at-same s None p.transaction, refl);
       queued = λ t k. ap (λ q. is_in t q) leaves.queue;
       holds = leaves.others;
+      prompt = leaves.prompt;
       stays = λ t k e. refl;
     }
 
@@ -196,6 +204,7 @@ reader-commits o p lock s item left total committed start h is_commit =
           says refl (at-same s (p.said s + 1) p.said) h.stands.lives h.stands.queued h.stands.holds (at-same s None p.transaction);
       queued = λ t k. refl;
       holds = λ t k. refl;
+      prompt = λ t k e. e;
       stays = λ t k e. refl;
     }
 
@@ -237,5 +246,6 @@ writer-commits o p lock s item left total committed copy standing h inside is_co
           says refl (at-same s (p.said s + 1) p.said) h.stands.lives leaves.absent leaves.outside (at-same s None p.transaction);
       queued = λ t k. refl;
       holds = leaves.others;
+      prompt = leaves.prompt;
       stays = λ t k e. another s t lock.inside inside k e;
     }

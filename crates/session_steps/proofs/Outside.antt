@@ -72,6 +72,7 @@ outside-said o p lock s item left total committed choices reply h replies outsid
       refl refl (at-same s (p.said s + 1) p.said) h.stands.lives h.stands.queued h.stands.holds h.stands.state;
   queued = λ t k. refl;
   holds = λ t k. refl;
+  prompt = λ t k e. e;
   stays = λ t k e. refl;
 }
 

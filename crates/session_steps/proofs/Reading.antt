@@ -124,9 +124,11 @@ reading-begins o p lock s item left total committed t' standing' choices reply h
             reads = refl;
             has_spoken = refl;
             base = h.tables;
+            has_nothing = refl;
           });
       queued = λ t k. refl;
       holds = λ t k. refl;
+      prompt = λ t k e. e;
       stays = λ t k e. refl;
     }
 
@@ -183,9 +185,10 @@ reading-said o p lock s item left total committed start choices reply h stays re
       asks = rw h.asks (asks-none s lock.queue h.stands.queued);
       stands = stands-said o p (behind_line p s x l) lock lock s (member (item ∷ left) (Reading start) total) (member left (Reading start) total) (uttered_of item) h.stands
           refl refl (at-same s (p.said s + 1) p.said) h.stands.lives h.stands.queued h.stands.holds
-          (record { transaction = with_line l x; is_open = at-same s (Some (with_line l x)) p.transaction; reads = reads.reads; has_spoken = spoken-more x.lines l; base = reads.base });
+          (record { transaction = with_line l x; is_open = at-same s (Some (with_line l x)) p.transaction; reads = reads.reads; has_spoken = spoken-more x.lines l; base = reads.base; has_nothing = reads.has_nothing });
       queued = λ t k. refl;
       holds = λ t k. refl;
+      prompt = λ t k e. e;
       stays = λ t k e. refl;
     }
 

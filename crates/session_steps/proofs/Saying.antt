@@ -52,7 +52,7 @@ length-more (x ∷ xs) y = let h = length-more xs y in grind arith
 -- an item was said
 pub stands-said : (o : Opening) (p q : Place) (lock then : Lock) (s : ℕ) (m n : Member) (item : Uttered) → (h : Stands o p lock s m) →
     left_of m ≡ item ∷ left_of n → n.total ≡ m.total → q.said s ≡ p.said s + 1 → q.life s ≡ life_of n.state →
-    is_in s then.queue ≡ is_asking n.state → is_inside s then.inside ≡ is_writing n.state → StandsAs o q s n.left n.state → Stands o q then s n
+    is_in s then.queue ≡ is_asking n.state → is_inside s then.inside ≡ is_writing n.state → StandsAs o q then s n.left n.state → Stands o q then s n
 stands-said o p q lock then s m n item h left total said lives queued holds state = record {
   answered = h.answered ++ item ∷ [];
   script = h.script ∙ (ap (λ ys. h.answered ++ ys) left ∙ joined h.answered item (left_of n));
@@ -67,7 +67,7 @@ stands-said o p q lock then s m n item h left total said lives queued holds stat
 -- none was said
 pub stands-silent : (o : Opening) (p q : Place) (lock then : Lock) (s : ℕ) (m n : Member) → (h : Stands o p lock s m) →
     left_of m ≡ left_of n → n.total ≡ m.total → q.said s ≡ p.said s → q.life s ≡ life_of n.state →
-    is_in s then.queue ≡ is_asking n.state → is_inside s then.inside ≡ is_writing n.state → StandsAs o q s n.left n.state → Stands o q then s n
+    is_in s then.queue ≡ is_asking n.state → is_inside s then.inside ≡ is_writing n.state → StandsAs o q then s n.left n.state → Stands o q then s n
 stands-silent o p q lock then s m n h left total said lives queued holds state = record {
   answered = h.answered;
   script = h.script ∙ ap (λ ys. h.answered ++ ys) left;

@@ -1,6 +1,6 @@
 -- The lock is got: START_TRANSACTION is done, with a working copy, or refused, and then the lock is given up.
 use Rattle.std.proofs.Common.{◌≡◌, ℕ, ◌+◌, ◌++◌, ◌∷◌, [], ◌==◌, ◌&&◌, ◌||◌, Bool, true, false, List, length, refl, ◌∙◌, sym, ap, subst, arith, map, Option, Some, None, inr}
-use Rattle.std.specs.List.{list_any}
+use Rattle.std.specs.List.{list_all, list_any}
 use Rattle.rdb_types.specs.declared.keys.Dbkey.{Dbkey}
 use Rattle.rdo_ast.specs.declared.reply.Reply.{Reply}
 use Rattle.rdo_ast.specs.declared.reply.Standing.{Standing}
@@ -16,6 +16,8 @@ use Rattle.lock_needs.specs.declared.need.Need.{Need}
 use Rattle.rdb_account.specs.Events.{Got, Said, RolledBack}
 use Rattle.lock_needs.specs.Needs.{conflict}
 use Rattle.rdb_account.specs.Places.{Opening, Place, Transaction, Line, nothing, rolls_back, at, after, is_done, with_need, with_line, pairs_with, leaves_none, asks_of_others, fresh}
+use Rattle.rdb_account.specs.Lawful.{got_of, sessions}
+use Rattle.rdb_account.specs.AskedFor.{IsAskedFor, is_apart_from}
 use Rattle.rdb_account.specs.Legal.{May, MaySay, IsReply}
 use Rattle.session_steps.specs.declared.member.State.TheVariants.{Outside, Asking, Writing}
 use Rattle.session_steps.specs.Members.{member}
@@ -97,6 +99,26 @@ got-it (x ∷ xs) = or-true (conflict the_lock x) (list_any (conflict the_lock) 
     or-true : (a b : Bool) → b ≡ true → (a || b) ≡ true
     or-true a b h = grind arith
 
+-- it is still asked for
+lock-asked : (o : Opening) (p : Place) (lock : Lock) (s : ℕ) (start : Item) (left : List Item) (total : ℕ) (committed : Tables) →
+    Here o p lock s (member left (Asking start) total) committed → IsAskedFor o p s the_lock
+lock-asked o p lock s start left total committed h =
+    let asks = h.stands.state in
+    rw asks.is_open (rw asks.is_silent
+    (rw (next-is o p lock s (member left (Asking start) total) (uttered_of start) (map uttered_of left) h.stands refl)
+    ((writer-starts (uttered_of start) asks.transaction.kind asks.kind asks.writes).asks p.tables)))
+
+-- nobody has got anything
+apart-all : (p : Place) (s : ℕ) (n : Need) → ((t : ℕ) → got_of (p.transaction t) ≡ []) → (ts : List ℕ) → list_all (is_apart_from p s n) ts ≡ true
+apart-all p s n none [] = refl
+apart-all p s n none (t ∷ ts) = both (is_apart_from p s n t) (list_all (is_apart_from p s n) ts) (rw (none t) (or-true (t == s))) (apart-all p s n none ts)
+  where
+    or-true : (a : Bool) → (a || true) ≡ true
+    or-true a = grind arith
+
+    both : (a b : Bool) → a ≡ true → b ≡ true → (a && b) ≡ true
+    both a b h k = grind arith
+
 -- ---- what is said with the lock
 
 -- the first line of the transaction is answered as it means over the committed tables, or finds no memory
@@ -151,7 +173,7 @@ started o p lock s start left total committed t' standing' choices reply h first
     let open_there = at-same s (Some (first_line x l)) (at s (Some (got_in x)) p.transaction) in
     record {
       may = (
-        (ready p s h.awake h.free h.stands.lives, rw asks.is_open asks.writes),
+        (ready p s h.awake h.free h.stands.lives, rw asks.is_open asks.writes, lock-asked o p lock s start left total committed h, apart-all p s the_lock (λ t. h.empty_handed t (rw n.inside refl)) sessions),
         (
           subst (λ r. May o r (Said s (uttered_of start) choices reply)) (sym there)
               (first-said o p lock s start left total committed choices reply h (λ r. rw usual (rw m refl))),
@@ -182,6 +204,7 @@ started o p lock s start left total committed t' standing' choices reply h first
           });
       queued = λ t k. queue-next lock s t n k;
       holds = λ t k. inside-next lock s t n k;
+      prompt = λ t k e. e;
       stays = λ t k e. refl;
     }
 
@@ -216,7 +239,7 @@ not-started o p lock s start left total committed choices reply h n done replies
     let next_there = ap (λ r. after o r (Said s (uttered_of start) choices reply)) there ∙ refusal-place o p s x (uttered_of start) choices reply asks.is_silent starts.leaves done in
     record {
       may = (
-        (ready p s h.awake h.free h.stands.lives, rw asks.is_open asks.writes),
+        (ready p s h.awake h.free h.stands.lives, rw asks.is_open asks.writes, lock-asked o p lock s start left total committed h, apart-all p s the_lock (λ t. h.empty_handed t (rw n.inside refl)) sessions),
         (
           subst (λ r. May o r (Said s (uttered_of start) choices reply)) (sym there) (first-said o p lock s start left total committed choices reply h replies),
           (subst (λ r. May o r (RolledBack s)) (sym next_there) refl, tt),
@@ -238,8 +261,12 @@ not-started o p lock s start left total committed choices reply h n done replies
           refl refl (at-same s (p.said s + 1) p.said) h.stands.lives once.0 refl (at-same s None (at s (Some (first_line x l)) (at s (Some (got_in x)) p.transaction)));
       queued = λ t k. queue-next lock s t n k;
       holds = λ t k. rw n.inside refl;
+      prompt = λ t k e. other-first s t (ap first_of (sym (turns-next lock s n)) ∙ e) k;
       stays = λ t k e. refl;
     }
   where
+    other-first : {A : Type 0} (s t : ℕ) → Some s ≡ Some t → (t == s) ≡ false → A
+    other-first s t e h = absurd (grind arith)
+
     in-behind : (t s : ℕ) (ss : List ℕ) → is_in t ss ≡ true → is_in t (s ∷ ss) ≡ true
     in-behind t s ss h = grind arith

@@ -70,10 +70,10 @@ begins-reading word s turns item left total t t' standing keys reply kind usual 
     less n = grind arith
 
 pub asks : (word : List ℕ) (s : ℕ) (turns : List ℕ) (item : Item) (left : List Item) (total : ℕ) (t : Tables) (kind : Standing) →
-    begins (uttered_of item) ≡ Some kind → is_writer kind ≡ true →
+    begins (uttered_of item) ≡ Some kind → is_writer kind ≡ true → (never_sleeps kind ≡ true → turns ≡ []) →
     Comes word s (member (item ∷ left) Outside total) t turns (member left (Asking item) total) t (turns ++ s ∷ []) (outcome.Happened (happening.Asked kind))
-asks word s turns item left total t kind begins_so writes =
-    (λ o p lock e f h. rw f (asked o p lock s item left total t kind h begins_so writes), less (length left))
+asks word s turns item left total t kind begins_so writes alone =
+    (λ o p lock e f h. rw f (asked o p lock s item left total t kind h begins_so writes (λ never. sym f ∙ alone never)), less (length left))
   where
     less : (n : ℕ) → 3 * n + 2 < 3 * suc n
     less n = grind arith

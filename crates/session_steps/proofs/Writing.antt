@@ -92,6 +92,7 @@ writing-said o p lock s item left total committed copy t' standing standing' cho
           (works-on o p s copy t' standing standing' l works (tells works));
       queued = λ t k. refl;
       holds = λ t k. refl;
+      prompt = λ t k e. e;
       stays = λ t k e. refl;
     }
 

@@ -10,8 +10,9 @@ use Rattle.rdb_account.specs.declared.event.Event.{Event as Declared}
 use Rattle.rdb_account.specs.Events.{event_of}
 use Rattle.lock_needs.specs.Needs.{conflict}
 use Rattle.rdb_account.specs.Places.{Opening, Place, Transaction, Ask, some_reply, retold, is_writer, begins, place}
-use Rattle.rdb_account.specs.Lawful.{got_of}
+use Rattle.rdb_account.specs.Lawful.{got_of, never_sleeps}
 use Rattle.rdb_account.specs.Legal.{IsLegal}
+use Rattle.vms_queues.specs.Queues.{first_of}
 use Rattle.session_steps.specs.declared.member.Member.{Member}
 use Rattle.session_steps.specs.declared.member.State.{State}
 use Rattle.session_steps.specs.declared.member.State.TheVariants.{Outside, Asking, Writing, Reading, Over}
@@ -61,13 +62,15 @@ HasGot t = list_any (conflict the_lock) (got_of t) ≡ true
 
 -- ---- a session
 
--- the lock is asked: the transaction has begun and nothing is said in it
-pub record Asks (p : Place) (s : ℕ) (start : Item) : Type 0 where
+-- the lock is asked: the transaction has begun and nothing is said in it; where it never sleeps, it is the first
+pub record Asks (p : Place) (lock : Lock) (s : ℕ) (start : Item) : Type 0 where
   pub transaction : Transaction
   pub is_open : p.transaction s ≡ Some transaction
   pub kind : begins (uttered_of start) ≡ Some transaction.kind
   pub writes : is_writer transaction.kind ≡ true
   pub is_silent : transaction.lines ≡ []
+  pub has_nothing : transaction.got ≡ []
+  pub prompt : never_sleeps transaction.kind ≡ true → first_of (turns_of lock) ≡ Some s
 
 -- the working copy is what the items so far lead to, over the committed tables
 pub record Works (o : Opening) (p : Place) (s : ℕ) (t : Tables) (standing : Standing) : Type 0 where
@@ -85,13 +88,14 @@ pub record Reads (p : Place) (s : ℕ) (t : Tables) : Type 0 where
   pub reads : is_writer transaction.kind ≡ false
   pub has_spoken : (length transaction.lines == 0) ≡ false
   pub base : transaction.base ≡ t
+  pub has_nothing : transaction.got ≡ []
 
-abbrev pub StandsAs : Opening → Place → ℕ → List Item → State → Type 0
-StandsAs o p s left Outside = p.transaction s ≡ None
-StandsAs o p s left (Asking start) = Asks p s start
-StandsAs o p s left (Writing t standing) = Works o p s t standing
-StandsAs o p s left (Reading t) = Reads p s t
-StandsAs o p s left Over = (p.transaction s ≡ None) × (left ≡ [])
+abbrev pub StandsAs : Opening → Place → Lock → ℕ → List Item → State → Type 0
+StandsAs o p lock s left Outside = p.transaction s ≡ None
+StandsAs o p lock s left (Asking start) = Asks p lock s start
+StandsAs o p lock s left (Writing t standing) = Works o p s t standing
+StandsAs o p lock s left (Reading t) = Reads p s t
+StandsAs o p lock s left Over = (p.transaction s ≡ None) × (left ≡ [])
 
 -- what it was answered and what is left are its script, and it stands as its place has it
 pub record Stands (o : Opening) (p : Place) (lock : Lock) (s : ℕ) (m : Member) : Type 0 where
@@ -102,7 +106,7 @@ pub record Stands (o : Opening) (p : Place) (lock : Lock) (s : ℕ) (m : Member)
   pub lives : p.life s ≡ life_of m.state
   pub queued : is_in s lock.queue ≡ is_asking m.state
   pub holds : is_inside s lock.inside ≡ is_writing m.state
-  pub state : StandsAs o p s m.left m.state
+  pub state : StandsAs o p lock s m.left m.state
 
 -- ---- all of them
 
@@ -117,5 +121,7 @@ pub record IsRight (o : Opening) (c : Sessions) : Type 0 where
   pub turns : c.turns ≡ turns_of lock
   pub once : IsOnce c.turns
   pub asks : (place o (map event_of c.events)).asks ≡ map ask_of lock.queue
+  -- whoever isn't inside has got nothing
+  pub empty_handed : (t : ℕ) → is_inside t lock.inside ≡ false → got_of ((place o (map event_of c.events)).transaction t) ≡ []
   pub are_sessions : (s : ℕ) → is_in s c.turns ≡ true → (1 ≤ s) × (s ≤ length c.members)
   pub each : (i : ℕ) (m : Member) → slice_get c.members i ≡ Some m → Stands o (place o (map event_of c.events)) lock (suc i) m

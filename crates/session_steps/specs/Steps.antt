@@ -4,6 +4,7 @@ use Rattle.rdb_meaning.specs.declared.tables.Tables.{Tables}
 use Rattle.rdb_account.specs.Events.{Event, Began, Wanted, Got, Demoted, Said, Committed, RolledBack, Died, Recovered}
 use Rattle.rdb_account.specs.Places.{Opening, Place, nothing, place_from}
 use Rattle.rdb_account.specs.Legal.{MayFollow, is_free}
+use Rattle.rdb_account.specs.Lawful.{got_of}
 use Rattle.vms_queues.specs.Queues.{first_of}
 use Rattle.session_steps.specs.declared.member.Member.{Member}
 use Rattle.session_steps.specs.declared.happening.Outcome.{Outcome}
@@ -37,6 +38,7 @@ pub record Here (o : Opening) (p : Place) (lock : Lock) (s : ℕ) (m : Member) (
   pub asks : p.asks ≡ map ask_of lock.queue
   -- whoever is inside has got the lock
   pub has : (t : ℕ) → lock.inside ≡ Some t → HasGot (p.transaction t)
+  pub empty_handed : (t : ℕ) → is_inside t lock.inside ≡ false → got_of (p.transaction t) ≡ []
   pub stands : Stands o p lock s m
 
 -- The events of one step of s may follow at this place, and lead to one where s stands so, and the others as before.
@@ -57,6 +59,8 @@ pub record Steps (o : Opening) (p : Place) (lock : Lock) (s : ℕ) (m : Member) 
   pub stands : Stands o to lock_then s m
   pub queued : (t : ℕ) → (t == s) ≡ false → is_in t lock_then.queue ≡ is_in t lock.queue
   pub holds : (t : ℕ) → (t == s) ≡ false → is_inside t lock_then.inside ≡ is_inside t lock.inside
+  -- another that is the first stays so
+  pub prompt : (t : ℕ) → (t == s) ≡ false → first_of (turns_of lock) ≡ Some t → first_of turns ≡ Some t
   -- while another is inside the committed tables stay
   pub stays : (t : ℕ) → (t == s) ≡ false → lock.inside ≡ Some t → to.tables ≡ p.tables
 
