@@ -1,7 +1,7 @@
 -- A tree without a pair stands in the map in which its lines are written.
 use Rattle.std.proofs.Common.{◌≡◌, ℕ, zero, suc, true, false, cond, List, [], ◌∷◌, ◌++◌, Option, Some, None, refl, sym, ap, subst, ◌∙◌}
 use Rattle.std.specs.Ordering.{is_eq}
-use Rattle.std.specs.List.{AllByRecursion}
+use Rattle.std.specs.List.{AllByRecursion, flat_map}
 use Rattle.rdb_types.specs.declared.keys.Dbkey.{Dbkey}
 use Rattle.ordered_entries.specs.Order.{dbkey_order}
 use Rattle.index_node.specs.declared.entry.NodeEntry.{NodeEntry}
@@ -11,14 +11,14 @@ use Rattle.line_view.specs.declared.writes.Write.{Write}
 use Rattle.line_view.specs.Writes.{laid_all}
 use Rattle.line_view.proofs.Written.{WriteOn, written_last}
 use Rattle.sorted_index.specs.Tree.{Tree, place, node_of, pairs, places, Bears, AreParted, Stands, IsIndex, has_nothing}
-use Rattle.sorted_index.specs.Changes.{goes_on, without_pair, Leaves, ErasesOthers}
+use Rattle.sorted_index.specs.Changes.{goes_on, without_pair, chosen, has_line, path_below, path, Leaves, ErasesOthers}
 use Rattle.sorted_index.proofs.Frame.{IsApart, all_beside, stands_beside}
-use Rattle.sorted_index.proofs.Lines.{equal_eq, Distinct, all_front, all_rest, parts, flipped, head_apart, tail_distinct, stands_beside_all}
+use Rattle.sorted_index.proofs.Lines.{equal_eq, Distinct, all_front, all_rest, parts, flipped, head_apart, tail_distinct, none_distinct, one_distinct, keys_of, written_more, stands_beside_all}
 use Rattle.sorted_index.proofs.Ordered.{all_append, StandsBelow}
 use Rattle.sorted_index.specs.Removal.{keep, replaced, without, Choose, IsLeft, WroteIn, Wrote}
 use Rattle.sorted_index.proofs.Without.{same_place, Entries}
 use Rattle.sorted_index.proofs.Filled.{still_filled}
-use Rattle.sorted_index.proofs.Erased.{others_erased}
+use Rattle.sorted_index.proofs.Erased.{others_erased, lines_there, or_left}
 use Rattle.sorted_index.proofs.Removed.{PlacesOf, all_replaced, all_within, still_distinct, pairs_left, still_parted}
 
 -- ---- what is written
@@ -44,6 +44,29 @@ pub keys_within : (Q : Dbkey → Type 0) (pair : NodeEntry) (level : ℕ) (tree 
 keys_within Q pair zero tree writes h wrote = subst (WriteOn Q) (sym wrote) tt
 keys_within Q pair (suc level) tree writes h wrote = keys_in Q pair level (keys_within Q pair level) tree.entries writes h.1 wrote
 
+-- ---- they are on the way to the pair
+
+way_in : (Q : Dbkey → Type 0) (pair : NodeEntry) (level : ℕ) → ((tree : Tree level) (writes : List Write) → AllByRecursion Q (path_below pair level tree) → Wrote pair level tree writes → WriteOn Q writes)
+    → (children : List (NodeEntry × Tree level)) (writes : List Write) → AllByRecursion Q (flat_map (λ child. place level child ∷ path_below pair level child) (chosen pair children)) → WroteIn pair level (Wrote pair level) children writes → WriteOn Q writes
+way_in Q pair level inner [] writes h wrote = subst (WriteOn Q) (sym wrote) tt
+way_in Q pair level inner (child ∷ children) writes h wrote =
+    elim (goes_on pair (Entries level children)) as (λ b. AllByRecursion Q (flat_map (λ child. place level child ∷ path_below pair level child) (cond b (chosen pair children) (child.1 ∷ []))) → Choose b (WroteIn pair level (Wrote pair level) children writes)
+    ((before : List Write) × ((image : Option (List ℕ)) × ((writes ≡ before ++ record { key = place level child.1; image = image } ∷ []) × Wrote pair level child.1 before × IsLeft level (without pair level child.1) image))) → WriteOn Q writes) [
+      | true ↦ λ h w. way_in Q pair level inner children writes h w
+      | false ↦ λ h w. let on = all_front Q (place level child.1 ∷ path_below pair level child.1) [] h in with_own Q writes w.0 (place level child.1) w.1.0 w.1.1.0 (inner child.1 w.0 on.1 w.1.1.1) on.0
+    ] h wrote
+
+keys_on_way : (Q : Dbkey → Type 0) (pair : NodeEntry) (level : ℕ) (tree : Tree level) (writes : List Write) → AllByRecursion Q (path_below pair level tree) → Wrote pair level tree writes → WriteOn Q writes
+keys_on_way Q pair zero tree writes h wrote = subst (WriteOn Q) (sym wrote) tt
+keys_on_way Q pair (suc level) tree writes h wrote = way_in Q pair level (keys_on_way Q pair level) tree.entries writes h wrote
+
+-- with the root's line behind them
+pub lines_on_way : (root : Dbkey) (pair : NodeEntry) (level : ℕ) (tree : Tree level) (writes before : List Write) (image : Option (List ℕ)) → place level tree ≡ root → Wrote pair level tree before → writes ≡ before ++ record { key = root; image = image } ∷ [] → WriteOn (λ key. has_line (path pair level tree) key ≡ true) writes
+lines_on_way root pair level tree writes before image rooted wrote written =
+    let there = lines_there (path pair level tree) in
+    with_own (λ key. has_line (path pair level tree) key ≡ true) writes before root image written (keys_on_way (λ key. has_line (path pair level tree) key ≡ true) pair level tree before there.1 wrote)
+    (subst (λ (k : Dbkey). has_line (path pair level tree) k ≡ true) rooted there.0)
+
 -- ---- below a node
 
 abbrev pub Inner : Lines → ℕ → (level : ℕ) → Tree level → Type 0
@@ -53,6 +76,40 @@ Inner lines area (suc level) tree = AllByRecursion (StandsBelow lines area level
 abbrev pub inner_places : (level : ℕ) → Tree level → List Dbkey
 inner_places zero tree = []
 inner_places (suc level) tree = PlacesOf level tree.entries
+
+-- the lines that are written are each written once
+all_keys : (Q : Dbkey → Type 0) (writes : List Write) → WriteOn Q writes → AllByRecursion Q (keys_of writes)
+all_keys Q [] h = tt
+all_keys Q (w ∷ writes) h = (h.0, all_keys Q writes h.1)
+
+keys_inside : (Q : Dbkey → Type 0) (pair : NodeEntry) (level : ℕ) (tree : Tree level) (writes : List Write) → AllByRecursion Q (inner_places level tree) → Wrote pair level tree writes → WriteOn Q writes
+keys_inside Q pair zero tree writes h wrote = subst (WriteOn Q) (sym wrote) tt
+keys_inside Q pair (suc level) tree writes h wrote = keys_in Q pair level (keys_within Q pair level) tree.entries writes h wrote
+
+apart_inside : (level : ℕ) (tree : Tree level) → Distinct (places level tree) → IsApart (place level tree) (inner_places level tree)
+apart_inside zero tree h = tt
+apart_inside (suc level) tree h = head_apart tree.at (PlacesOf level tree.entries) h
+
+once_with_own : (pair : NodeEntry) (level : ℕ) (tree : Tree level) (writes before : List Write) (image : Option (List ℕ)) → Distinct (places level tree) → Wrote pair level tree before → writes ≡ before ++ record { key = place level tree; image = image } ∷ [] → Distinct (keys_of before) → Distinct (keys_of writes)
+once_with_own pair level tree writes before image distinct wrote is once =
+    let at = place level tree in
+    let apart : IsApart at (keys_of before) = all_keys (λ k. is_eq (dbkey_order k at) ≡ false) before (keys_inside (λ k. is_eq (dbkey_order k at) ≡ false) pair level tree before (apart_inside level tree distinct) wrote) in
+    subst (λ (ws : List Write). Distinct (keys_of ws)) (sym is) (written_more before (record { key = at; image = image } ∷ []) once (one_distinct at) (apart, tt))
+
+once_in : (pair : NodeEntry) (level : ℕ) → ((tree : Tree level) (writes : List Write) → Distinct (places level tree) → Wrote pair level tree writes → Distinct (keys_of writes))
+    → (children : List (NodeEntry × Tree level)) (writes : List Write) → Distinct (PlacesOf level children) → WroteIn pair level (Wrote pair level) children writes → Distinct (keys_of writes)
+once_in pair level inner [] writes distinct wrote = subst (λ (ws : List Write). Distinct (keys_of ws)) (sym wrote) none_distinct
+once_in pair level inner (child ∷ children) writes distinct wrote =
+    let both = parts (places level child.1) (PlacesOf level children) distinct in
+    elim (goes_on pair (Entries level children)) as (λ b. Choose b (WroteIn pair level (Wrote pair level) children writes)
+    ((before : List Write) × ((image : Option (List ℕ)) × ((writes ≡ before ++ record { key = place level child.1; image = image } ∷ []) × Wrote pair level child.1 before × IsLeft level (without pair level child.1) image))) → Distinct (keys_of writes)) [
+      | true ↦ λ w. once_in pair level inner children writes both.rest w
+      | false ↦ λ w. once_with_own pair level child.1 writes w.0 w.1.0 both.front w.1.1.1 w.1.1.0 (inner child.1 w.0 both.front w.1.1.1)
+    ] wrote
+
+written_once : (pair : NodeEntry) (level : ℕ) (tree : Tree level) (writes : List Write) → Distinct (places level tree) → Wrote pair level tree writes → Distinct (keys_of writes)
+written_once pair zero tree writes distinct wrote = subst (λ (ws : List Write). Distinct (keys_of ws)) (sym wrote) none_distinct
+written_once pair (suc level) tree writes distinct wrote = once_in pair level (written_once pair level) tree.entries writes (tail_distinct tree.at (PlacesOf level tree.entries) distinct) wrote
 
 pub stands_whole : (lines : Lines) (area level : ℕ) (tree : Tree level) → (place level tree).area ≡ area → Bears (line_in (place level tree) lines) (node_of level tree) → Inner lines area level tree → Stands lines area level tree
 stands_whole lines area zero tree a b i = (a, b)
@@ -146,6 +203,7 @@ index_left lines root pair level tree writes before image is wrote bears written
         };
         pairs_are = pairs_left lines root.area pair level tree is.stands;
         in_area = with_own (λ (k : Dbkey). k.area ≡ root.area) writes before root image written (keys_within (λ (k : Dbkey). k.area ≡ root.area) pair level tree before (areas lines root.area level tree is.stands) wrote) refl;
+        once = once_with_own pair level tree writes before image is.once wrote (written ∙ ap (λ (k : Dbkey). before ++ record { key = k; image = image } ∷ []) (sym is.rooted)) (written_once pair level tree before is.once wrote);
         filled = still_filled pair level tree;
       },
       others_erased pair level tree writes before root image wrote written,

@@ -75,7 +75,7 @@ stands_present all area (suc level) tree is = (bears_some (line_in tree.at all) 
 pub children_present : (all : Lines) (area level : ℕ) (children : List (NodeEntry × Tree level)) → AllByRecursion (StandsBelow all area level) children → AllByRecursion (IsPresent all) (PlacesOf level children)
 children_present all area level children is = all_present all area level (stands_present all area level) children is
 
-tied : (o : Ordering) → is_eq o ≡ true → o ≡ Equal
+pub tied : (o : Ordering) → is_eq o ≡ true → o ≡ Equal
 tied Less h = absurd (cc)
 tied Equal h = refl
 tied Greater h = absurd (cc)

@@ -59,14 +59,14 @@ erased_all Q pair (suc level) tree writes wrote left erased = (left.0, erased_in
 
 -- ---- lists
 
-or_left : (a b : Bool) → a ≡ true → (a || b) ≡ true
+pub or_left : (a b : Bool) → a ≡ true → (a || b) ≡ true
 or_left a b h = ap (λ a. a || b) h
 
-or_right : (a b : Bool) → b ≡ true → (a || b) ≡ true
+pub or_right : (a b : Bool) → b ≡ true → (a || b) ≡ true
 or_right true b h = refl
 or_right false b h = h
 
-lines_there : (keys : List Dbkey) → AllByRecursion (λ key. has_line keys key ≡ true) keys
+pub lines_there : (keys : List Dbkey) → AllByRecursion (λ key. has_line keys key ≡ true) keys
 lines_there [] = tt
 lines_there (k ∷ keys) = (
   or_left (is_eq (dbkey_order k k)) (has_line keys k) (equal_eq k),

@@ -120,6 +120,7 @@ pub record IsExchange (known : Knowledge) (all : Lines) (area from to : ℕ) (pa
   pub once : Distinct (PlacesOf level (first ∷ more))
   pub among : Among known area from to (places level child.1) (PlacesOf level (first ∷ more))
   pub written : Among known area from to (places level child.1) (map (λ w. w.key) writes)
+  pub written_once : Distinct (map (λ w. w.key) writes)
   pub with_it : AllPairs level (first ∷ more) ≡ with_pair pair (pairs level child.1)
   pub head : Unless before (first.0 ≡ child.0)
   pub filled : IsFilled level child.1 → AreFilled level (first ∷ more)
@@ -130,6 +131,7 @@ pub record HasChildren (known : Knowledge) (all : Lines) (area from to : ℕ) (p
   pub once : Distinct (PlacesOf level new)
   pub among : Among known area from to (PlacesOf level old) (PlacesOf level new)
   pub written : Among known area from to (PlacesOf level old) (map (λ w. w.key) writes)
+  pub written_once : Distinct (map (λ w. w.key) writes)
   pub with_it : AllPairs level new ≡ with_pair pair (AllPairs level old)
   pub filled : AreFilled level old → AreFilled level new
 
@@ -232,6 +234,7 @@ exchanged known all area from to pair level before child first behind more write
       once = subst Distinct (sym new) (distinct_mid known area from to pb pc (PlacesOf level mid) pd (subst Distinct old once) x.once x.among other_before other_behind);
       among = subst (λ ks. Among known area from to ks (PlacesOf level (before ++ (mid ++ behind)))) (sym old) (subst (λ ks. Among known area from to (pb ++ (pc ++ pd)) ks) (sym new) (among_mid known area from to pb pc (PlacesOf level mid) pd x.among));
       written = subst (λ ks. Among known area from to ks keys) (sym old) (among_in known area from to pb pc keys pd x.written);
+      written_once = x.written_once;
       with_it = new_pairs pair level before child behind mid (before_pair pair level before child goes (pairs_before level before child behind parted ascend)) (pairs_behind pair level child behind stays tail ups.1) x.with_it;
       filled = λ h. let rest = all_rest (IsFilledChild level) before (child ∷ behind) h in all_append (IsFilledChild level) before (mid ++ behind) (all_front (IsFilledChild level) before (child ∷ behind) h) (all_append (IsFilledChild level) mid behind (x.filled rest.0.1) rest.1);
     }

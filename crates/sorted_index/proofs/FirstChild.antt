@@ -20,7 +20,7 @@ use Rattle.sorted_index.specs.Search.{first_unknown}
 use Rattle.sorted_index.specs.Changes.{chosen, with_pair, path_below}
 use Rattle.sorted_index.specs.Insertion.{IsNew, IsFull, room_at, bound, AreTaken, StandBelow, places_below, Grows, PutsIn}
 use Rattle.sorted_index.proofs.Frame.{IsApart}
-use Rattle.sorted_index.proofs.Lines.{Distinct, none_distinct, distinct_more}
+use Rattle.sorted_index.proofs.Lines.{Distinct, none_distinct, distinct_more, keys_of, written_more, one_distinct}
 use Rattle.sorted_index.proofs.Ordered.{all_append}
 use Rattle.sorted_index.proofs.Without.{Entries}
 use Rattle.sorted_index.proofs.Filled.{put_some}
@@ -81,6 +81,8 @@ first_children known all area pair level child from to old between below image a
       among = λ q h rooms. all_append (λ k. q k ≡ true) (places level g.after) []
           (own_then (λ k. q k ≡ true) level g.after (subst (λ (k : Dbkey). q k ≡ true) (sym here) (rooms from child (omega arith) (let c = g.counted in omega (arith, c)) is_room)) (g.places q (subst (AllByRecursion (λ k. q k ≡ true)) (sym e.places) tt) (λ n k a b c. rooms n k (omega (arith, a)) b c))) tt;
       written = λ q h rooms. keys_more (λ k. q k ≡ true) g.writes own (g.written q (subst (AllByRecursion (λ k. q k ≡ true)) (sym e.places) tt) (λ n k a b c. rooms n k (omega (arith, a)) b c)) (rooms from child (omega arith) (let c = g.counted in omega (arith, c)) is_room, tt);
+      written_once = written_more g.writes own g.written_once (one_distinct child)
+          (among_one known area (from + 1) to (places_below level (empty level child)) (keys_of g.writes) child g.written (subst (IsApart child) (sym e.places) tt) (room_other known all area from (from + 1) to child agrees is_room (omega arith)), tt);
       with_it = append-nil (pairs level g.after) ∙ (g.with_it ∙ ap (with_pair pair) e.pairs);
       filled = λ h. ((put_some pair level g.after (pairs level (empty level child)) g.with_it, g.filled e.filled), tt);
     }
@@ -95,7 +97,9 @@ first_put known area pair node below_level child from to old between new below i
     let empty_here : tree.entries ≡ [] = no_children level tree.entries (ap (λ (n : IndexNode). n.entries) is ∙ none) in
     let h = subst (λ (cs : List (NodeEntry × Tree level)). HasChildren known all area from to pair level cs ((bound pair child, g.after) ∷ []) (g.writes ++ record { key = child; image = Some image } ∷ [])) (sym empty_here) (first_children known all area pair level child from to old between below image agrees is_room g is_image) in (
       grows_up known all area pair level tree from to old new (g.writes ++ record { key = child; image = Some image } ∷ []) ((bound pair child, g.after) ∷ []) entries node.level h (sym same) up (let c = g.counted in omega (arith, c)) (behind_all old between new g.writes (record { key = child; image = Some image } ∷ []) g.behind last)
-          (λ long. subst (λ (cs : List (NodeEntry × Tree level)). AllByRecursion (IsFull pair level) (chosen pair cs)) (sym empty_here) tt),
+          (λ long. subst (λ (cs : List (NodeEntry × Tree level)). AllByRecursion (IsFull pair level) (chosen pair cs)) (sym empty_here) tt)
+          (λ q k rooms. keys_more (λ y. q y ≡ true) g.writes (record { key = child; image = Some image } ∷ []) (g.on_way q (subst (AllByRecursion (λ y. q y ≡ true)) (sym (is_empty all area pair level child).path) tt) (λ n y a b c. rooms n y (omega (arith, a)) b c)) (rooms from child (omega arith) (let c = g.counted in omega (arith, c)) is_room, tt))
+          (λ more. subst (λ (cs : List (NodeEntry × Tree level)). AllByRecursion (IsFull pair level) (chosen pair cs)) (sym empty_here) tt),
       ap (λ (cs : List (NodeEntry × Tree level)). first_unknown known (flat_map (λ (c : Tree level). place level c ∷ path_below pair level c) (chosen pair cs))) empty_here,
       taken_first known area from to child is_room p.2,
     )

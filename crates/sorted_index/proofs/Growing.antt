@@ -28,7 +28,7 @@ use Rattle.sorted_index.specs.Insertion.IsKept.{whole, lower, upper}
 use Rattle.sorted_index.proofs.Walk.{known_as, level_of, bears}
 use Rattle.sorted_index.proofs.Below.{past_known}
 use Rattle.sorted_index.proofs.Frame.{IsApart}
-use Rattle.sorted_index.proofs.Lines.{Distinct, none_distinct, all_front, all_rest, parts, head_apart, tail_distinct, distinct_more}
+use Rattle.sorted_index.proofs.Lines.{Distinct, none_distinct, all_front, all_rest, parts, head_apart, tail_distinct, distinct_more, keys_of, written_more, one_distinct, other_way}
 use Rattle.sorted_index.proofs.Ordered.{Lt, UpTo, Ascend, StandsBelow, all_append}
 use Rattle.sorted_index.proofs.Without.{AllPairs, Entries}
 use Rattle.sorted_index.proofs.Removed.{PlacesOf}
@@ -65,6 +65,9 @@ leaf_put known area pair node entries from old leaf same all zero tree agrees st
         once = none_distinct;
         places = λ q h rooms. tt;
         written = λ q h rooms. tt;
+        on_way = λ q h rooms. tt;
+        written_once = none_distinct;
+        rooms_full = λ more. absurd (omega (arith, more));
         full = λ long. subst (λ (n : IndexNode). 430 < size (node_fields n)) (sym node_is) long;
         filled = λ h. tt;
       },
@@ -170,8 +173,8 @@ room_apart known all area from to level child after room agrees stands is among 
     (room_behind known all area to from to room agrees is (omega arith))
 
 one_exchange : (known : Knowledge) (all : Lines) (area from to : ℕ) (pair : NodeEntry) (level : ℕ) (before : List (NodeEntry × Tree level)) (child : NodeEntry × Tree level) (writes : List Write) (node : IndexNode) (image : Option (List ℕ)) → (s : Stays known all area from to pair level child.1 writes node) → Agrees known all → StandsBelow all area level child → Distinct (places level child.1) → Bears image node
-    → Among known area from to (places_below level child.1) (map (λ w. w.key) writes) → IsExchange known all area from to pair level before child (child.0, s.tree) [] (writes ++ record { key = place level child.1; image = image } ∷ [])
-one_exchange known all area from to pair level before child writes node image s agrees stands once is written =
+    → Among known area from to (places_below level child.1) (map (λ w. w.key) writes) → Distinct (map (λ w. w.key) writes) → IsExchange known all area from to pair level before child (child.0, s.tree) [] (writes ++ record { key = place level child.1; image = image } ∷ [])
+one_exchange known all area from to pair level before child writes node image s agrees stands once is written written_once =
     let at = place level child.1 in
     let apart = own_apart known all area from to level child.1 (places_below level s.tree) agrees stands.1 once s.places in
     let here = stand_written (laid_all writes all) at image area level s.tree s.same (area_of all area level child.1 stands.1) (subst (Bears image) (sym s.node_is) is) apart s.below in
@@ -183,6 +186,7 @@ one_exchange known all area from to pair level before child writes node image s 
       among = λ q h rooms. let own = own_first (λ k. q k ≡ true) level child.1 h in
           all_append (λ k. q k ≡ true) (places level s.tree) [] (own_then (λ k. q k ≡ true) level s.tree (subst (λ (k : Dbkey). q k ≡ true) (sym s.same) own.0) (s.places q own.1 rooms)) tt;
       written = λ q h rooms. let own = own_first (λ k. q k ≡ true) level child.1 h in keys_more (λ k. q k ≡ true) writes (record { key = at; image = image } ∷ []) (written q own.1 rooms) (own.0, tt);
+      written_once = written_more writes (record { key = at; image = image } ∷ []) written_once (one_distinct at) (own_apart known all area from to level child.1 (keys_of writes) agrees stands.1 once written, tt);
       with_it = append-nil (pairs level s.tree) ∙ s.with_it;
       head = unless_any before (child.0 ≡ child.0) refl;
       filled = λ h. ((put_some pair level s.tree (pairs level child.1) s.with_it, s.filled h), tt);
@@ -208,6 +212,8 @@ two_exchange known all area from to pair level before child own old new grown lo
           places_both (λ k. q k ≡ true) (laid_all g.writes all) area level g.after low_node.entries high_node.entries own high at room x o.0 (rooms to room g.counted (omega arith) is_room) (g.places q o.1 (λ n k a b c. rooms n k a (omega (arith, b)) c));
       written = λ q h rooms. let o = own_first (λ k. q k ≡ true) level child.1 h in
           keys_more (λ k. q k ≡ true) g.writes more (g.written q o.1 (λ n k a b c. rooms n k a (omega (arith, b)) c)) (o.0, (rooms to room g.counted (omega arith) is_room, tt));
+      written_once = written_more g.writes more g.written_once (distinct_more at (room ∷ []) (other_way room at ∙ apart, tt) (one_distinct room))
+          (own_apart known all area from to level child.1 (keys_of g.writes) agrees stands.1 once g.written, (room_apart known all area from to level child.1 (keys_of g.writes) room agrees stands.1 is_room g.written, tt));
       with_it = both.pairs ∙ g.with_it;
       head = head;
       filled = λ h. let halves_filled = x.filled (g.filled h) in (halves_filled.0, (halves_filled.1, tt));
@@ -368,8 +374,8 @@ child_unwritten known area pair node at key below grown from mid to old between 
 -- ---- the node behind it
 
 pub grows_up : (known : Knowledge) (all : Lines) (area : ℕ) (pair : NodeEntry) (level : ℕ) (tree : Tree (suc level)) (from to : ℕ) (old new writes : List Write) (children : List (NodeEntry × Tree level)) (entries : List NodeEntry) (node_level : ℕ) → HasChildren known all area from to pair level tree.entries children writes → Entries level children ≡ entries → suc level ≡ node_level → from ≤ to → new ≡ old ++ writes
-    → (430 < size (node_fields (record { level = node_level; entries = entries })) → IsFull pair (suc level) tree) → Grows known all area pair (suc level) tree from to old new (record { level = node_level; entries = entries })
-grows_up known all area pair level tree from to old new writes children entries node_level h same up counted behind full = record {
+    → (430 < size (node_fields (record { level = node_level; entries = entries })) → IsFull pair (suc level) tree) → Among known area from to (path_below pair (suc level) tree) (keys_of writes) → (from < to → IsFull pair (suc level) tree) → Grows known all area pair (suc level) tree from to old new (record { level = node_level; entries = entries })
+grows_up known all area pair level tree from to old new writes children entries node_level h same up counted behind full on_way rooms_full = record {
   after = record { at = tree.at; entries = children };
   counted = counted;
   node = λ i. record { level = up i; entries = same i };
@@ -381,6 +387,9 @@ grows_up known all area pair level tree from to old new writes children entries 
   once = h.once;
   places = h.among;
   written = h.written;
+  on_way = on_way;
+  written_once = h.written_once;
+  rooms_full = rooms_full;
   full = full;
   filled = h.filled;
 }
@@ -457,7 +466,7 @@ wrote_one known all area pair node level tree at key grown from mid to old betwe
     let behind = t.2 in
     let entries : Entries level tree.entries ≡ node.entries = ap (λ (n : IndexNode). n.entries) is in
     let s = kept_stays known all area from mid pair node level tree at key before child behind old between grown w.left stand t.3 g grown_ascend w.kept in
-    let x = one_exchange known all area from mid pair level before child g.writes w.left (Some w.image) s agrees t.3.stands distinct w.bears g.written in
+    let x = one_exchange known all area from mid pair level before child g.writes w.left (Some w.image) s agrees t.3.stands distinct w.bears g.written g.written_once in
     let own : List Write = record { key = place level child.1; image = Some w.image } ∷ [] in
     let h = changed known all area from mid pair node level tree at key before child (child.0, s.tree) behind [] (g.writes ++ own) agrees stand once (subst Ascend (sym entries) ascend) t.3 x in
     let last : new ≡ between ++ own = w.writes ∙ ap (λ (k : Dbkey). between ++ record { key = k; image = Some w.image } ∷ []) t.3.named in
@@ -465,7 +474,9 @@ wrote_one known all area pair node level tree at key grown from mid to old betwe
     let short : node.entries ≡ after = sym w.entries_are in
     subst (λ (n : ℕ). Grows known all area pair (suc level) tree from n old new (record { level = node.level; entries = after })) (sym w.rooms)
     (grows_up known all area pair level tree from mid old new (g.writes ++ own) (before ++ (child.0, s.tree) ∷ behind) after node.level h same (level_is node (suc level) tree is) g.counted (behind_all old between new g.writes own g.behind last)
-    (λ long. absurd (let bytes : size (node_fields node) ≡ size (node_fields (record { level = node.level; entries = after })) = ap (λ (es : List NodeEntry). size (node_fields (record { level = node.level; entries = es }))) short in omega (arith, small, long, bytes))))
+    (λ long. absurd (let bytes : size (node_fields node) ≡ size (node_fields (record { level = node.level; entries = after })) = ap (λ (es : List NodeEntry). size (node_fields (record { level = node.level; entries = es }))) short in omega (arith, small, long, bytes)))
+    (λ q k rooms. let on = subst (AllByRecursion (λ y. q y ≡ true)) t.3.path k in keys_more (λ y. q y ≡ true) g.writes own (g.on_way q on.1 rooms) (on.0, tt))
+    (λ more. full_up pair level tree child.1 t.3.way.one (g.rooms_full more)))
 
 wrote_two : (known : Knowledge) (all : Lines) (area : ℕ) (pair : NodeEntry) (node : IndexNode) (level : ℕ) (tree : Tree (suc level)) (at : ℕ) (key : Dbkey) (grown : IndexNode) (from mid to : ℕ) (old between new : List Write) (after : List NodeEntry) → Agrees known all → StandBelow all area (suc level) tree → Distinct (places_below (suc level) tree) → node_of (suc level) tree ≡ node → Ascend node.entries
     → Ascend grown.entries → (t : HasInto all area pair node level tree at key) → Distinct (places level t.1.1) → Grows known all area pair level t.1.1 from mid old between grown → WritesTwo known area node.entries at key grown mid to between new after → Grows known all area pair (suc level) tree from to old new (record { level = node.level; entries = after })
@@ -495,7 +506,10 @@ wrote_two known all area pair node level tree at key grown from mid to old betwe
     let same : Entries level children ≡ after = map-append (λ (c : NodeEntry × Tree level). c.0) before ((own, x.lower) ∷ (bound w.high w.room, x.upper) ∷ behind) ∙ sym (as_made ∙ made) in
     subst (λ (n : ℕ). Grows known all area pair (suc level) tree from n old new (record { level = node.level; entries = after })) (sym w.rooms)
     (grows_up known all area pair level tree from (mid + 1) old new (g.writes ++ more) children after node.level h same (level_is node (suc level) tree is) (let c = g.counted in omega (arith, c)) (behind_all old between new g.writes more g.behind last)
-    (λ long. full_up pair level tree child.1 t.3.way.one (g.full w.long)))
+    (λ long. full_up pair level tree child.1 t.3.way.one (g.full w.long))
+    (λ q k rooms. let on = subst (AllByRecursion (λ y. q y ≡ true)) t.3.path k in
+    keys_more (λ y. q y ≡ true) g.writes more (g.on_way q on.1 (λ n y a b c. rooms n y a (omega (arith, b)) c)) (on.0, (rooms mid w.room g.counted (omega arith) w.is_room, tt)))
+    (λ some. full_up pair level tree child.1 t.3.way.one (g.full w.long)))
 
 pub child_written : (known : Knowledge) (area : ℕ) (pair : NodeEntry) (node : IndexNode) (at : ℕ) (key : Dbkey) (below grown : IndexNode) (from mid to : ℕ) (old between new : List Write) (after : List NodeEntry) → node.level ≢ 0 → Ascend node.entries → size (node_fields node) ≤ 430 → Ascend grown.entries → at ≡ child_place pair node.entries → at < length node.entries → ((d : NodeEntry) → (get_or node.entries at d).child ≡ Some key)
     → IsKnownAs (known.line key) below → HasPut known area pair below from mid old between (Ok grown) → WritesChild known area node.entries at key grown mid to between new (Ok after) → HasPut known area pair node from to old new (Ok (record { level = node.level; entries = after }))

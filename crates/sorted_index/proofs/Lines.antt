@@ -1,5 +1,6 @@
 -- Lists of lines, none twice, and the lines that are written one after another.
-use Rattle.std.proofs.Common.{◌≡◌, ℕ, true, false, List, [], ◌∷◌, ◌++◌, refl, ap, ◌∙◌}
+use Rattle.std.proofs.Common.{◌≡◌, ℕ, true, false, List, [], ◌∷◌, ◌++◌, map, refl, sym, ap, subst, ◌∙◌}
+use Rattle.std.proofs.lemmas.List.{map-append}
 use Rattle.std.specs.declared.cmp.Ordering.{Ordering}
 use Rattle.std.specs.declared.cmp.Ordering.TheVariants.{Less, Equal, Greater}
 use Rattle.std.specs.Ordering.{is_eq, ordering_reverse}
@@ -119,3 +120,13 @@ stands_beside_all lines (w ∷ writes) area level tree apart is = stands_beside_
 pub none_distinct : Distinct []
 unfolding IsDistinct
 none_distinct = tt
+
+abbrev pub keys_of : List Write → List Dbkey
+keys_of writes = map (λ write. write.key) writes
+
+-- more writes, on other lines
+pub written_more : (writes more : List Write) → Distinct (keys_of writes) → Distinct (keys_of more) → AreApart (keys_of writes) (keys_of more) → Distinct (keys_of (writes ++ more))
+written_more writes more h k apart = subst Distinct (sym (map-append (λ (w : Write). w.key) writes more)) (joined (keys_of writes) (keys_of more) h k apart)
+
+pub one_distinct : (x : Dbkey) → Distinct (x ∷ [])
+one_distinct x = distinct_more x [] tt none_distinct

@@ -1,16 +1,18 @@
 -- A pair put into a whole index.
-use Rattle.std.proofs.Common.{◌≡◌, ℕ, suc, ◌+◌, ◌==◌, Bool, true, false, cond, not, ◌&&◌, T, List, [], ◌∷◌, ◌++◌, map, Option, Some, None, refl, sym, ap, subst, ◌∙◌, arith, inl, inr, eqb-true, rules}
-use Rattle.std.specs.Prelude.{is_none, option_map, Result, Ok, Err, ⊤, IsTrue, ◌↔◌}
+use Rattle.std.proofs.Common.{◌≡◌, ◌<◌, ℕ, zero, suc, ◌+◌, ◌==◌, Bool, true, false, cond, not, ◌&&◌, T, List, [], ◌∷◌, ◌++◌, map, Option, Some, None, refl, sym, ap, subst, ◌∙◌, arith, inl, inr, eqb-true, rules}
+use Rattle.std.specs.Prelude.{◌||◌, is_none, option_map, Result, Ok, Err, ⊤, IsTrue, ◌↔◌}
 use Rattle.std.specs.declared.cmp.Ordering.{Ordering}
 use Rattle.std.specs.declared.cmp.Ordering.TheVariants.{Less, Equal, Greater}
 use Rattle.std.specs.Ordering.{is_lt, is_gt, is_eq}
 use Rattle.std.specs.Option.{option_or}
 use Rattle.std.specs.List.{AllByRecursion}
 use Rattle.std.proofs.Math.Dec.{eqb_refl}
+use Rattle.std.proofs.lemmas.Bool.{cases_lt}
 use Rattle.std.proofs.lemmas.List.Folds.{find-append}
 use Rattle.rdb_types.specs.declared.keys.Dbkey.{Dbkey}
 use Rattle.rdb_types.specs.declared.values.Value.{Value}
 use Rattle.ordered_entries.specs.Order.{dbkey_order}
+use Rattle.ordered_entries.proofs.Laws.{same_dbkey}
 use Rattle.index_node.specs.declared.entry.NodeEntry.{NodeEntry}
 use Rattle.index_node.specs.declared.node.IndexNode.{IndexNode}
 use Rattle.index_node.specs.Order.{key_order}
@@ -25,17 +27,18 @@ use Rattle.sorted_index.specs.declared.stop.IndexStop.TheVariants.{Missing, Dupl
 use Rattle.sorted_index.specs.Keys.{only, is_within}
 use Rattle.sorted_index.specs.Tree.{Tree, place, node_of, pairs, Bears, Stands, IsIndex}
 use Rattle.sorted_index.specs.Search.{first_unknown, rows_within, reads, Answers}
-use Rattle.sorted_index.specs.Changes.{with_pair, has_key, path_below, path, Leaves}
+use Rattle.sorted_index.specs.Changes.{with_pair, has_key, has_line, path_below, path, Leaves}
 use Rattle.sorted_index.specs.Steps.{IsKnownAs, ReadsNode}
-use Rattle.sorted_index.specs.Insertion.{IsNew, room_at, bound, unbound, looked_at, Looks, lines_read, Among, AreTaken, places_below, Grows, PutsIn, WritesTop, WritesRoot, Inserts}
+use Rattle.sorted_index.specs.Insertion.{IsNew, IsFull, IsWrittenFor, room_at, bound, unbound, looked_at, Looks, lines_read, Among, AreTaken, places_below, Grows, PutsIn, WritesTop, WritesRoot, Inserts}
 use Rattle.sorted_index.proofs.Walk.{known_as, bears}
 use Rattle.sorted_index.proofs.Below.{past_known}
 use Rattle.sorted_index.proofs.Frame.{IsApart}
-use Rattle.sorted_index.proofs.Lines.{Distinct, distinct_more, map_all, other_way}
+use Rattle.sorted_index.proofs.Lines.{Distinct, distinct_more, map_all, other_way, equal_eq, keys_of, written_more, one_distinct}
+use Rattle.sorted_index.proofs.Erased.{lines_there, or_left, or_right}
 use Rattle.sorted_index.proofs.Ordered.{Ascend, all_append}
 use Rattle.sorted_index.proofs.After.{areas}
 use Rattle.sorted_index.proofs.TakenOut.{read_as}
-use Rattle.sorted_index.proofs.Apart.{IsPresent, of_map, stands_present, rooms_apart, free_apart, widen}
+use Rattle.sorted_index.proofs.Apart.{IsPresent, of_map, tied, stands_present, rooms_apart, free_apart, widen}
 use Rattle.sorted_index.proofs.Halves.{places_are, stand_written, stand_both, places_both}
 use Rattle.sorted_index.proofs.Growing.{HasPut, halves_of, level_grown, own_first, own_apart, room_apart, stands_inner, inner_distinct, taken_more, behind_all}
 
@@ -81,6 +84,56 @@ areas_of known all area from to old writes agrees among h =
 areas_below : (all : Lines) (root : Dbkey) (level : ℕ) (tree : Tree level) → IsIndex all root level tree → AllByRecursion (λ (k : Dbkey). k.area ≡ root.area) (places_below level tree)
 areas_below all root level tree is = (own_first (λ (k : Dbkey). k.area ≡ root.area) level tree (areas all root.area level tree is.stands)).1
 
+-- the room of one of the numbers below this
+abbrev is_held : Option Dbkey → Dbkey → Bool
+is_held None key = false
+is_held (Some room) key = is_eq (dbkey_order room key)
+
+abbrev is_room : Knowledge → ℕ → ℕ → Dbkey → Bool
+is_room known area zero key = false
+is_room known area (suc n) key = is_held (known.room (room_at area n)) key || is_room known area n key
+
+room_counted : (known : Knowledge) (area to n : ℕ) (key : Dbkey) → n < to → known.room (room_at area n) ≡ Some key → is_room known area to key ≡ true
+room_counted known area zero n key below is = absurd (omega (arith, below))
+room_counted known area (suc to) n key below is = elim (cases_lt n to) [
+  | inl down ↦ or_right (is_held (known.room (room_at area to)) key) (is_room known area to key) (room_counted known area to n key down is)
+  | inr up ↦ let same : n ≡ to = omega (arith, below, up) in
+      or_left (is_held (known.room (room_at area to)) key) (is_room known area to key) (ap (λ (k : ℕ). is_held (known.room (room_at area k)) key) (sym same) ∙ (ap (λ o. is_held o key) is ∙ equal_eq key))
+]
+
+held : (room : Option Dbkey) (key : Dbkey) → is_held room key ≡ true → room ≡ Some key
+held None key h = absurd (cc)
+held (Some room) key h = ap Some (same_dbkey room key (tied (dbkey_order room key) h))
+
+abbrev IsRoomBelow : Knowledge → ℕ → ℕ → Dbkey → Type 0
+IsRoomBelow known area to key = (nth : ℕ) × (nth < to) × (known.room (room_at area nth) ≡ Some key)
+
+room_found : (known : Knowledge) (area to : ℕ) (key : Dbkey) → is_room known area to key ≡ true → IsRoomBelow known area to key
+room_found known area zero key h = absurd (cc)
+room_found known area (suc to) key h = elim (is_held (known.room (room_at area to)) key) as (λ b. is_held (known.room (room_at area to)) key ≡ b → (b || is_room known area to key) ≡ true → IsRoomBelow known area (suc to) key) [
+  | true ↦ λ is h. (to, omega arith, held (known.room (room_at area to)) key is)
+  | false ↦ λ is h. let further = room_found known area to key h in (further.0, omega (arith, further.1), further.2)
+] refl h
+
+written_for : (known : Knowledge) (area to : ℕ) (pair : NodeEntry) (level : ℕ) (tree : Tree level) (key : Dbkey) → (0 < to → IsFull pair level tree) → (has_line (path pair level tree) key || is_room known area to key) ≡ true → IsWrittenFor known area pair level tree key
+written_for known area to pair level tree key full h = elim (has_line (path pair level tree) key) as (λ b. has_line (path pair level tree) key ≡ b → (b || is_room known area to key) ≡ true → IsWrittenFor known area pair level tree key) [
+  | true ↦ λ is h. inl is
+  | false ↦ λ is h. let room = room_found known area to key h in inr ((room.0, room.2), full (omega (arith, room.1)))
+] refl h
+
+-- the lines below the root are on the way to the pair, or rooms
+own_lines : (known : Knowledge) (area to : ℕ) (pair : NodeEntry) (level : ℕ) (tree : Tree level) (writes : List Write) → (0 < to → IsFull pair level tree) → Among known area 0 to (path_below pair level tree) (keys_of writes) → WriteOn (IsWrittenFor known area pair level tree) writes
+own_lines known area to pair level tree writes full among =
+    let way = path pair level tree in
+    let is_own : Dbkey → Bool = λ key. has_line way key || is_room known area to key in
+    of_map (IsWrittenFor known area pair level tree) writes
+    (map_all (λ key. is_own key ≡ true) (IsWrittenFor known area pair level tree) (λ key. written_for known area to pair level tree key full) (keys_of writes)
+    (among is_own (map_all (λ key. has_line way key ≡ true) (λ key. is_own key ≡ true) (λ key h. or_left (has_line way key) (is_room known area to key) h) (path_below pair level tree) (lines_there way).1)
+    (λ n key low high is. or_right (has_line way key) (is_room known area to key) (room_counted known area to n key high is))))
+
+own_root : (known : Knowledge) (area : ℕ) (root : Dbkey) (pair : NodeEntry) (level : ℕ) (tree : Tree level) → place level tree ≡ root → IsWrittenFor known area pair level tree root
+own_root known area root pair level tree rooted = inl (subst (λ (k : Dbkey). has_line (path pair level tree) k ≡ true) rooted (lines_there (path pair level tree)).0)
+
 -- ---- the root on its line
 
 root_apart : (known : Knowledge) (all : Lines) (root : Dbkey) (to level : ℕ) (tree : Tree level) (after : List Dbkey) → Agrees known all → IsIndex all root level tree → Among known root.area 0 to (places_below level tree) after → IsApart root after
@@ -103,6 +156,7 @@ root_one known all root pair level tree to between new grown image agrees is g i
         once = subst Distinct (sym (places_are level g.after)) (distinct_more (place level g.after) (places_below level g.after) (subst (λ (k : Dbkey). IsApart k (places_below level g.after)) (sym here) apart) g.once);
       };
       pairs_are = g.with_it;
+      once = subst (λ (ws : List Write). Distinct (keys_of ws)) (sym whole) (written_more g.writes own g.written_once (one_distinct root) (root_apart known all root to level tree (keys_of g.writes) agrees is g.written, tt));
       in_area = subst (WriteOn (λ k. k.area ≡ root.area)) (sym whole) (all_append (λ (w : Write). w.key.area ≡ root.area) g.writes own (areas_of known all root.area 0 to (places_below level tree) g.writes agrees g.written (areas_below all root level tree is)) (refl, tt));
       filled = g.filled;
     }
@@ -142,10 +196,35 @@ root_two known all root pair level tree to between new grown agrees is ascend g 
         once = distinct_more root (places_below (suc level) top) top_apart both.once;
       };
       pairs_are = both.pairs ∙ g.with_it;
+      once = subst (λ (ws : List Write). Distinct (keys_of ws)) (sym whole)
+          (written_more g.writes more g.written_once
+          (distinct_more w.lower_at (w.upper_at ∷ root ∷ []) (other_way w.upper_at w.lower_at ∙ apart, (other_way root w.lower_at ∙ other_low, tt)) (distinct_more w.upper_at (root ∷ []) (other_way root w.upper_at ∙ other_high, tt) (one_distinct root))) (
+            room_apart known all area 0 to level tree (keys_of g.writes) w.lower_at agrees is.stands w.is_lower g.written,
+            (
+              room_apart known all area 0 (to + 1) level tree (keys_of g.writes) w.upper_at agrees is.stands w.is_upper (widen known area 0 to 0 (to + 1) (places_below level tree) (keys_of g.writes) (omega arith) (omega arith) g.written),
+              (root_apart known all root to level tree (keys_of g.writes) agrees is g.written, tt),
+            ),
+          ));
       in_area = subst (WriteOn (λ k. k.area ≡ area)) (sym whole) (all_append (λ (v : Write). v.key.area ≡ area) g.writes more (areas_of known all area 0 to (places_below level tree) g.writes agrees g.written (areas_below all root level tree is))
           (agrees.within (room_at area to) w.lower_at w.is_lower, (agrees.within (room_at area (to + 1)) w.upper_at w.is_upper, (refl, tt))));
       filled = λ h. let halves_filled = x.filled (g.filled h) in (halves_filled.0, (halves_filled.1, tt));
     }
+
+-- ---- the lines that are written
+
+lines_one : (known : Knowledge) (all : Lines) (root : Dbkey) (pair : NodeEntry) (level : ℕ) (tree : Tree level) (to : ℕ) (between new : List Write) (grown : IndexNode) (image : Option (List ℕ)) → place level tree ≡ root → Grows known all root.area pair level tree 0 to [] between grown → new ≡ between ++ record { key = root; image = image } ∷ [] → WriteOn (IsWrittenFor known root.area pair level tree) new
+lines_one known all root pair level tree to between new grown image rooted g last =
+    let own : List Write = record { key = root; image = image } ∷ [] in
+    subst (WriteOn (IsWrittenFor known root.area pair level tree)) (sym (behind_all [] between new g.writes own g.behind last))
+    (all_append (λ (w : Write). IsWrittenFor known root.area pair level tree w.key) g.writes own (own_lines known root.area to pair level tree g.writes g.rooms_full g.on_way) (own_root known root.area root pair level tree rooted, tt))
+
+lines_two : (known : Knowledge) (all : Lines) (root : Dbkey) (pair : NodeEntry) (level : ℕ) (tree : Tree level) (to : ℕ) (between new : List Write) (grown : IndexNode) → place level tree ≡ root → Grows known all root.area pair level tree 0 to [] between grown → WritesTop known root.area root grown to between new → WriteOn (IsWrittenFor known root.area pair level tree) new
+lines_two known all root pair level tree to between new grown rooted g w =
+    let full = g.full w.long in
+    let more : List Write = record { key = w.lower_at; image = Some w.lower_image } ∷ record { key = w.upper_at; image = Some w.upper_image } ∷ record { key = root; image = Some w.image } ∷ [] in
+    subst (WriteOn (IsWrittenFor known root.area pair level tree)) (sym (behind_all [] between new g.writes more g.behind w.writes))
+    (all_append (λ (v : Write). IsWrittenFor known root.area pair level tree v.key) g.writes more (own_lines known root.area to pair level tree g.writes g.rooms_full g.on_way)
+    (inr ((to, w.is_lower), full), (inr ((to + 1, w.is_upper), full), (own_root known root.area root pair level tree rooted, tt))))
 
 -- ---- the whole insertion
 
@@ -232,8 +311,8 @@ inserted known root pair unique found node grown to between new done looked is_n
     let p = put_below_root known root pair node to between (Ok grown) all level tree agrees is is_new known_as_node put in
     let none = read_on known unique pair level tree l.1 ∙ (past_known known (place level tree) (path_below pair level tree) p.1 ∙ p.0.1) in
     elim wrote [
-      | inl w ↦ (root_one known all root pair level tree to between new grown w.0 agrees is p.0.0 w.1 w.2, none, sym l.0 ∙ is_not)
-      | inr w ↦ (root_two known all root pair level tree to between new grown agrees is ascend p.0.0 w, none, sym l.0 ∙ is_not)
+      | inl w ↦ (root_one known all root pair level tree to between new grown w.0 agrees is p.0.0 w.1 w.2, none, sym l.0 ∙ is_not, lines_one known all root pair level tree to between new grown (Some w.0) is.rooted p.0.0 w.2)
+      | inr w ↦ (root_two known all root pair level tree to between new grown agrees is ascend p.0.0 w, none, sym l.0 ∙ is_not, lines_two known all root pair level tree to between new grown is.rooted p.0.0 w)
     ]
 
 -- ---- looking for the key

@@ -19,7 +19,7 @@ use Rattle.sorted_index.specs.Removal.{replaced, without, Choose, IsLeft, Wrote,
 use Rattle.sorted_index.specs.Steps.{IsKnownAs, ReadsNode, child_place, Adds}
 use Rattle.sorted_index.proofs.Walk.{known_in, one_bears, is_known, level_of, bears}
 use Rattle.sorted_index.proofs.Below.{past_known, unknown_first, misses, stops}
-use Rattle.sorted_index.proofs.After.{index_left}
+use Rattle.sorted_index.proofs.After.{index_left, lines_on_way}
 use Rattle.sorted_index.proofs.Ordered.{StandsBelow}
 use Rattle.sorted_index.proofs.Filled.{nothing_is}
 use Rattle.sorted_index.proofs.Without.{Entries}
@@ -217,7 +217,9 @@ root_changed known pair root node left old between writes image none known_as_no
     let r = read_as known all root.area level tree root node agrees is.stands (sym is.rooted) known_as_node in
     let took = takes all root.area level tree agrees is.stands r.0 in
     let before = took.2.0 in
-    let same : between ≡ before = took.2.1.0 ∙ ap (λ (ws : List Write). ws ++ before) none in (
-      index_left all root pair level tree writes before (Some image) is took.2.1.1 (subst (IsNode image) (sym took.0) is_node) (written ∙ ap (λ (ws : List Write). ws ++ record { key = root; image = Some image } ∷ []) same),
+    let same : between ≡ before = took.2.1.0 ∙ ap (λ (ws : List Write). ws ++ before) none in
+    let last : writes ≡ before ++ record { key = root; image = Some image } ∷ [] = written ∙ ap (λ (ws : List Write). ws ++ record { key = root; image = Some image } ∷ []) same in (
+      index_left all root pair level tree writes before (Some image) is took.2.1.1 (subst (IsNode image) (sym took.0) is_node) last,
       past_known known (place level tree) (path_below pair level tree) r.1 ∙ took.1,
+      lines_on_way root pair level tree writes before (Some image) is.rooted took.2.1.1 last,
     )

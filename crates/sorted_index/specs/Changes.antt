@@ -1,7 +1,7 @@
 -- What a change of an index leaves.
 use Rattle.std.specs.Prelude.{◌≡◌, ℕ, zero, suc, Bool, false, true, not, ◌&&◌, ◌||◌, is_none, List, [], ◌∷◌, map, Some, None, option_map, Result, Ok, Err, if◌then◌else◌}
 use Rattle.std.specs.Ordering.{is_lt, is_le, is_eq}
-use Rattle.std.specs.List.{AllByRecursion, filter, flat_map, list_any}
+use Rattle.std.specs.List.{AllByRecursion, IsDistinct, filter, flat_map, list_any}
 use Rattle.rdb_types.specs.declared.keys.Dbkey.{Dbkey}
 use Rattle.rdb_types.specs.declared.values.Value.{Value}
 use Rattle.ordered_entries.specs.Order.{dbkey_order}
@@ -53,13 +53,14 @@ path pair level tree = place level tree ∷ path_below pair level tree
 
 -- ---- lines
 
--- What writes leave of the index of this root, which had this tree: it is in order, with these pairs. The writes are on lines of its logical area alone. If each node but the root had an entry, so it is behind them.
+-- What writes leave of the index of this root, which had this tree: it is in order, with these pairs. The writes are on lines of its logical area alone, on each once. If each node but the root had an entry, so it is behind them.
 pub record Leaves (lines : Lines) (root : Dbkey) (level_before : ℕ) (before : Tree level_before) (writes : List Write) (pairs_left : List NodeEntry) : Type 0 where
   pub level : ℕ
   pub tree : Tree level
   pub index : IsIndex (laid_all writes lines) root level tree
   pub pairs_are : pairs level tree ≡ pairs_left
   pub in_area : AllByRecursion (λ write. (write.key).area ≡ root.area) writes
+  pub once : IsDistinct (λ a b. is_eq (dbkey_order a b)) (map (λ write. write.key) writes)
   pub filled : IsFilled level_before before → IsFilled level tree
 
 abbrev pub has_line : List Dbkey → Dbkey → Bool
@@ -72,9 +73,9 @@ is_erased writes key = list_any (λ write. is_eq (dbkey_order write.key key) && 
 abbrev pub ErasesOthers : (level_before : ℕ) → Tree level_before → (level : ℕ) → Tree level → List Write → Type 0
 ErasesOthers level_before before level after writes = AllByRecursion (λ key. (has_line (places level after) key || is_erased writes key) ≡ true) (places level_before before)
 
--- A change that reads these lines: it leaves the index with these pairs, and no line of a node that is left out, where it knows all that it reads, and else names the first that it lacks.
+-- A change that reads these lines, and writes no others: it leaves the index with these pairs, and no line of a node that is left out, where it knows all that it reads, and else names the first that it lacks.
 abbrev pub Changes : Knowledge → Lines → Dbkey → (level : ℕ) → Tree level → List Dbkey → List NodeEntry → Result (List Write) IndexStop → Type 0
-Changes known lines root level tree read pairs_left (Ok writes) = ((left : Leaves lines root level tree writes pairs_left) × ErasesOthers level tree left.level left.tree writes) × (first_unknown known read ≡ None)
+Changes known lines root level tree read pairs_left (Ok writes) = ((left : Leaves lines root level tree writes pairs_left) × ErasesOthers level tree left.level left.tree writes) × (first_unknown known read ≡ None) × AllByRecursion (λ write. has_line read write.key ≡ true) writes
 Changes known lines root level tree read pairs_left (Err (Missing need)) = option_map Line (first_unknown known read) ≡ Some need
 Changes known lines root level tree read pairs_left (Err Duplicate) = ⊥
 Changes known lines root level tree read pairs_left (Err (Bad key)) = ⊥

@@ -21,7 +21,7 @@ use Rattle.sorted_index.specs.declared.stop.IndexStop.TheVariants.{Missing, Dupl
 use Rattle.sorted_index.specs.Keys.{only}
 use Rattle.sorted_index.specs.Tree.{Tree, place, node_of, pairs, places, AreParted, Stands, IsFilled}
 use Rattle.sorted_index.specs.Search.{first_unknown, reads}
-use Rattle.sorted_index.specs.Changes.{with_pair, has_key, goes_on, chosen, path_below, path, Leaves}
+use Rattle.sorted_index.specs.Changes.{with_pair, has_key, has_line, goes_on, chosen, path_below, path, Leaves}
 
 -- ---- what is asked for
 
@@ -64,6 +64,10 @@ AreTaken known area from to = (n : ℕ) → from ≤ n → n < to → known.room
 abbrev pub LacksRoom : Knowledge → ℕ → ℕ → Place → Type 0
 LacksRoom known area from room = (nth : ℕ) × (from ≤ nth) × (room ≡ room_at area nth) × (known.room room ≡ None) × AreTaken known area from nth
 
+-- a line that is written: that of a node on the way to the pair, or a known room, which is taken only where the leaf is full
+abbrev pub IsWrittenFor : Knowledge → ℕ → NodeEntry → (level : ℕ) → Tree level → Dbkey → Type 0
+IsWrittenFor known area pair level tree key = (has_line (path pair level tree) key ≡ true) ⊎ (((nth : ℕ) × (known.room (room_at area nth) ≡ Some key)) × IsFull pair level tree)
+
 -- Looking whether the index is unique and has the key.
 abbrev pub Looks : Knowledge → Bool → List Value → (level : ℕ) → Tree level → Result Bool IndexStop → Type 0
 Looks known unique key level tree (Ok found) = (found ≡ (unique && has_key key (pairs level tree))) × (first_unknown known (looked_at unique key level tree) ≡ None)
@@ -72,9 +76,10 @@ Looks known unique key level tree (Err Duplicate) = ⊥
 Looks known unique key level tree (Err (Bad bad)) = ⊥
 Looks known unique key level tree (Err NoMemory) = Unit {0}
 
--- A pair that isn't in the index is put into it. The index is left with it; Duplicate comes where the index is unique and has its key; a line or a room that is lacked is the next that is read or taken, and a room is taken only where the leaf is full; Bad comes where a root of level 255 would have to be split.
+-- A pair that isn't in the index is put into it. The index is left with it, by writes on the way to it and on rooms; Duplicate comes where the index is unique and has its key; a line or a room that is lacked is the next that is read or taken, and a room is taken only where the leaf is full; Bad comes where a root of level 255 would have to be split.
 abbrev pub Inserts : Knowledge → Lines → Dbkey → NodeEntry → Bool → (level : ℕ) → Tree level → Result (List Write) IndexStop → Type 0
 Inserts known lines root pair unique level tree (Ok writes) = Leaves lines root level tree writes (with_pair pair (pairs level tree)) × (first_unknown known (lines_read unique pair level tree) ≡ None) × ((unique && has_key pair.key (pairs level tree)) ≡ false)
+    × AllByRecursion (λ write. IsWrittenFor known root.area pair level tree write.key) writes
 Inserts known lines root pair unique level tree (Err (Missing (Line key))) = first_unknown known (lines_read unique pair level tree) ≡ Some key
 Inserts known lines root pair unique level tree (Err (Missing (Area area))) = ⊥
 Inserts known lines root pair unique level tree (Err (Missing (Room room))) = LacksRoom known root.area 0 room × (first_unknown known (lines_read unique pair level tree) ≡ None) × ((unique && has_key pair.key (pairs level tree)) ≡ false) × IsFull pair level tree
@@ -158,6 +163,9 @@ pub record Grows (known : Knowledge) (all : Lines) (area : ℕ) (pair : NodeEntr
   pub once : IsDistinct (λ a b. is_eq (dbkey_order a b)) (places_below level after)
   pub places : Among known area from to (places_below level tree) (places_below level after)
   pub written : Among known area from to (places_below level tree) (map (λ write. write.key) writes)
+  pub on_way : Among known area from to (path_below pair level tree) (map (λ write. write.key) writes)
+  pub written_once : IsDistinct (λ a b. is_eq (dbkey_order a b)) (map (λ write. write.key) writes)
+  pub rooms_full : from < to → IsFull pair level tree
   pub full : 430 < size (node_fields grown) → IsFull pair level tree
   pub filled : IsFilled level tree → IsFilled level after
 
@@ -226,6 +234,7 @@ pub record WritesTop (known : Knowledge) (area : ℕ) (root : Dbkey) (grown : In
   pub lower_bears : IsNode lower_image lower
   pub upper_bears : IsNode upper_image upper
   pub bears : IsNode image (record { level = grown.level + 1; entries = unbound low lower_at ∷ bound high upper_at ∷ [] })
+  pub long : 430 < size (node_fields grown)
   pub writes : new ≡ old ++ record { key = lower_at; image = Some lower_image } ∷ record { key = upper_at; image = Some upper_image } ∷ record { key = root; image = Some image } ∷ []
 
 abbrev pub WritesRoot : Knowledge → ℕ → Dbkey → IndexNode → ℕ → List Write → List Write → Result Unit IndexStop → Type 0
