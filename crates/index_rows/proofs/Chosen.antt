@@ -21,7 +21,8 @@ use Rattle.access_paths.specs.Equated.{key_at}
 use Rattle.access_paths.specs.Choice.{access_by_key, first_by_key, access_by_limits, first_limits, first_by_limits, choice}
 use Rattle.access_paths.specs.Reached.{IsOfRoot}
 use Rattle.access_paths.proofs.Rooted.{rooted}
-use Rattle.index_rows.specs.Indexed.{IsIndexOf, AreIndexesOf, fields_of_root, positions_in}
+use Rattle.relation_rows.specs.Indexed.{IsIndexOf}
+use Rattle.index_rows.specs.Indexed.{AreIndexesOf, fields_of_root, positions_in}
 use Rattle.index_rows.specs.Given.{Serves}
 
 -- ---- the choice for several indexes is that for one of them

@@ -23,7 +23,7 @@ use Rattle.sorted_index.specs.Nodes.{JudgesIndex}
 use Rattle.sorted_index.specs.declared.bounds.Bounds.{Bounds}
 use Rattle.access_paths.specs.declared.choice.Access.{Access}
 use Rattle.access_paths.specs.declared.choice.Access.TheVariants.{Scan, Find, Range}
-use Rattle.index_rows.specs.Indexed.{IsIndexOf}
+use Rattle.relation_rows.specs.Indexed.{IsIndexOf}
 use Rattle.index_rows.specs.Given.{is_keyed, Serves, lines_read, IsFirstNeed, Gives}
 use Rattle.index_rows.specs.Reading.{IsNextAmong, ReadsInOrder, ReadsIndexed, IsNoRowIn}
 use Rattle.index_rows.proofs.InTurn.{lines_known}

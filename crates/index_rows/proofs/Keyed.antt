@@ -15,7 +15,7 @@ use Rattle.index_node.specs.Order.{entry_order}
 use Rattle.sorted_index.specs.Keys.{Interval, is_within}
 use Rattle.sorted_index.specs.Search.{rows_within}
 use Rattle.sorted_index.specs.Changes.{pair_of, with_pair}
-use Rattle.index_rows.specs.Indexed.{pairs_of}
+use Rattle.relation_rows.specs.Indexed.{pairs_of}
 use Rattle.index_rows.specs.Given.{is_keyed}
 
 swapped : (a b c : Bool) → (a || (b || c)) ≡ (b || (a || c))

@@ -21,7 +21,8 @@ use Rattle.access_paths.specs.Choice.{choice}
 use Rattle.access_paths.specs.Reached.{IsWide, Reaches, IsOfRoot}
 use Rattle.access_paths.proofs.Reaching as access
 use Rattle.access_paths.proofs.Rooted.{rooted}
-use Rattle.index_rows.specs.Indexed.{IsIndexOf, HasPositions, AreIndexesOf}
+use Rattle.relation_rows.specs.Indexed.{IsIndexOf, HasPositions}
+use Rattle.index_rows.specs.Indexed.{AreIndexesOf}
 use Rattle.index_rows.specs.Given.{reached, Serves, LosesNone}
 use Rattle.index_rows.proofs.Chosen.{chosen_by_one}
 

@@ -19,7 +19,7 @@ use Rattle.sorted_index.specs.Tree.{pairs}
 use Rattle.sorted_index.proofs.OneTree.{one_tree}
 use Rattle.access_paths.specs.declared.choice.Access.{Access}
 use Rattle.access_paths.specs.declared.choice.Access.TheVariants.{Scan, Find, Range}
-use Rattle.index_rows.specs.Indexed.{pairs_of, IsIndexOf}
+use Rattle.relation_rows.specs.Indexed.{pairs_of, IsIndexOf}
 use Rattle.index_rows.specs.Given.{is_keyed, reached, Serves}
 use Rattle.index_rows.proofs.Keyed.{finds, keyed, keyed_first, found_keyed, below_left}
 use Rattle.index_rows.proofs.Standing.{rows_sorted}

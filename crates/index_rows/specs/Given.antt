@@ -19,7 +19,7 @@ use Rattle.sorted_index.specs.Keys.{Interval, only, between, is_within}
 use Rattle.sorted_index.specs.Search.{reads, first_unknown}
 use Rattle.access_paths.specs.declared.choice.Access.{Access}
 use Rattle.access_paths.specs.declared.choice.Access.TheVariants.{Scan, Find, Range}
-use Rattle.index_rows.specs.Indexed.{IsIndexOf}
+use Rattle.relation_rows.specs.Indexed.{IsIndexOf}
 
 -- ---- the rows
 
