@@ -45,10 +45,13 @@ values_length (f ∷ fs) (v ∷ vs) h =
     let parts = and_parts (is_value_of f.kind v) (are_values_of fs vs) h in
     omega (arith, value_length f.kind v parts.0, values_length fs vs parts.1, size_append (value_fields v) (values_fields vs), sum_by-cons (λ (f : Field). longest_value f.kind) f fs)
 
+abbrev class_if : Bool → ℕ
+class_if is_short = if is_short then 208 else 440
+
 lesser_class : (fields : List Field) → class_of fields ≡ 208 → 3 + sum_by (λ f. longest_value f.kind) fields ≤ 104
 lesser_class fields h =
     let bytes = 3 + sum_by (λ (f : Field). longest_value f.kind) fields in
-    elim (nat_le bytes 104) as (λ b. nat_le bytes 104 ≡ b → (if b then 208 else 440) ≡ 208 → bytes ≤ 104) [
+    elim (nat_le bytes 104) as (λ b. nat_le bytes 104 ≡ b → class_if b ≡ 208 → bytes ≤ 104) [
       | true ↦ λ is h. grind (arith, nat_tests, is)
       | false ↦ λ is h. absurd (omega (arith, h))
     ] refl h
