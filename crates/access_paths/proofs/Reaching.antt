@@ -14,7 +14,7 @@ use Rattle.rdb_meaning.specs.Contents.{Row, key_of}
 use Rattle.rdo_values.specs.Tree.{Conjunction}
 use Rattle.rdo_values.specs.Filled.{parts_at}
 use Rattle.index_node.specs.Order.{value_order}
-use Rattle.sorted_index.specs.Keys.{is_within, between}
+use Rattle.sorted_index_laws.specs.Keys.{is_within, between}
 use Rattle.access_paths.specs.declared.limits.End.{End}
 use Rattle.access_paths.specs.declared.limits.Limited.{Limited}
 use Rattle.access_paths.specs.declared.limits.Limited.TheVariants as limited

@@ -12,7 +12,7 @@ use rdb_types::{Copied, FieldType, Items, NoMemory, Row, Scaled, Value};
 use rdo_arithmetic::rank;
 use rdo_ast::syntax::Comparison;
 use rdo_values::{BoundExpression, BoundTest, Stop, value};
-use sorted_index::Bounds;
+use sorted_index_laws::Bounds;
 use std::alloc::Global;
 use std::cmp::Ordering;
 

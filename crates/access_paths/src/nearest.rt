@@ -31,8 +31,7 @@ fn nearest_number(digits: i64, scale: u8, to: u8) -> Result<Value, NoMemory>
         Ok(value) => Ok(value),
         Err(Misfit::Overflow) if digits < 0 => Ok(Value::Number(i64::MIN)),
         Err(Misfit::Overflow) => Ok(Value::Number(i64::MAX)),
-        Err(Misfit::TooLong) => unreachable!(),
-        Err(Misfit::Memory) => Err(NoMemory {}),
+        Err(Misfit::TooLong | Misfit::Memory) => Err(NoMemory {}),
     }
 }
 

@@ -12,8 +12,8 @@ use Rattle.ordered_entries.proofs.Laws.{same_dbkey}
 use Rattle.rdb_meaning.specs.Contents.{Row}
 use Rattle.rdo_values.specs.Tree.{Conjunction}
 use Rattle.line_view.specs.Knowledge.{Lines}
-use Rattle.sorted_index.specs.Nodes.{AnyByRecursion}
-use Rattle.sorted_index.proofs.Lines.{equal_eq}
+use Rattle.sorted_index_laws.specs.Nodes.{AnyByRecursion}
+use Rattle.sorted_index_laws.proofs.Lines.{equal_eq}
 use Rattle.access_paths.specs.declared.choice.IndexPath.{IndexPath}
 use Rattle.access_paths.specs.declared.choice.Access.{Access}
 use Rattle.access_paths.specs.declared.choice.Access.TheVariants.{Scan, Find, Range}

@@ -12,8 +12,8 @@ use Rattle.rdo_values.specs.Filled.{parts_at}
 use Rattle.index_node.specs.Order.{key_order}
 use Rattle.index_node.specs.OrderLaws.{keys_total}
 use Rattle.line_view.specs.Knowledge.{Lines}
-use Rattle.sorted_index.specs.Keys.{is_within, between}
-use Rattle.sorted_index.specs.Nodes.{AnyByRecursion}
+use Rattle.sorted_index_laws.specs.Keys.{is_within, between}
+use Rattle.sorted_index_laws.specs.Nodes.{AnyByRecursion}
 use Rattle.access_paths.specs.declared.choice.IndexPath.{IndexPath}
 use Rattle.access_paths.specs.declared.choice.Access.{Access}
 use Rattle.access_paths.specs.declared.choice.Access.TheVariants.{Scan, Find, Range}

@@ -5,8 +5,8 @@ use Rattle.rdb_types.specs.declared.keys.Dbkey.{Dbkey}
 use Rattle.rdb_meaning.specs.Contents.{Row, key_of}
 use Rattle.line_view.specs.Knowledge.{Lines}
 use Rattle.index_node.specs.declared.entry.NodeEntry.{NodeEntry}
-use Rattle.sorted_index.specs.Tree.{Tree, pairs, IsIndex}
-use Rattle.sorted_index.specs.Changes.{pair_of, with_pair}
+use Rattle.sorted_index_laws.specs.Tree.{Tree, pairs, IsIndex}
+use Rattle.sorted_index_laws.specs.Changes.{pair_of, with_pair}
 
 -- a pair for each row, of its key and its Dbkey, in the order of the pairs
 abbrev pub pairs_of : List ℕ → List (Dbkey × Row) → List NodeEntry

@@ -1,21 +1,13 @@
 // Which keys are in question.
 ghost use Rattle.std.specs.Prelude.{◌≡◌};
 ghost use Rattle.index_node.specs.Order.{key_order as key_order_of};
-ghost use Rattle.sorted_index.specs.Keys.{first_values_order as first_values_order_of, is_below_low as is_below_low_of, is_above_high as is_above_high_of, is_within as is_within_of};
+ghost use Rattle.sorted_index_laws.specs.Keys.{first_values_order as first_values_order_of, is_below_low as is_below_low_of, is_above_high as is_above_high_of, is_within as is_within_of};
 ghost use Rattle.sorted_index.specs.Wanted.{interval_of};
 
 use index_node::key_order;
 use rdb_types::{Row, Value};
+use sorted_index_laws::Bounds;
 use std::cmp::Ordering;
-
-/// The keys that a range has: none below the low bound, and none above the high one, where there is one. A key is compared with a bound by as many of its first values as the bound has; those that tie are in the range where `low_in` or `high_in` says so.
-#[derive(Debug, Drop)]
-pub struct Bounds {
-    pub low: Option<Row>,
-    pub low_in: bool,
-    pub high: Option<Row>,
-    pub high_in: bool,
-}
 
 /// The keys that a search is for: one key, or those within bounds.
 #[derive(Clone, Copy)]

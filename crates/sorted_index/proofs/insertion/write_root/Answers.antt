@@ -2,8 +2,8 @@ use Rattle.std.proofs.Common.{◌≡◌, ◌+◌, ◌++◌, ◌∷◌, [], ℕ, 
 use Rattle.index_node.specs.declared.entry.NodeEntry.{NodeEntry}
 use Rattle.index_node.specs.Node.{IsNode}
 use Rattle.line_view.specs.declared.writes.Write.{Write}
-use Rattle.sorted_index.specs.Insertion.{room_at}
-use Rattle.sorted_index.proofs.Cutting.{is_halved, top_laid, two_writes, three_writes, wrote_top}
+use Rattle.sorted_index_laws.specs.Insertion.{room_at}
+use Rattle.sorted_index_laws.proofs.Cutting.{is_halved, top_laid, two_writes, three_writes, wrote_top}
 use Rattle.sorted_index.proofs.insertion.write_root.Goals as goal
 
 pub write_node-requires-4 : goal.write_node-requires-4
