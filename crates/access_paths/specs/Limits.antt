@@ -13,7 +13,7 @@ use Rattle.rdb_types.specs.Order.{value_order as rank_of}
 use Rattle.rdb_meaning.specs.Contents.{Row}
 use Rattle.rdo_values.specs.Tree.{Conjunction}
 use Rattle.rdo_values.specs.Filled.{value_at}
-use Rattle.sorted_index.specs.declared.bounds.Bounds.{Bounds}
+use Rattle.sorted_index_laws.specs.declared.bounds.Bounds.{Bounds}
 use Rattle.access_paths.specs.declared.limits.End.{End}
 use Rattle.access_paths.specs.declared.limits.Limits.{Limits}
 use Rattle.access_paths.specs.declared.limits.Limited.{Limited}

@@ -5,8 +5,8 @@ use Rattle.rdb_types.specs.declared.values.Value.{Value}
 use Rattle.rdb_types.specs.declared.values.Value.TheVariants.{Missing, Number, Text}
 use Rattle.rdb_meaning.specs.Numbers.{fits_bits}
 use Rattle.rdb_meaning.specs.Contents.{Row, key_of}
-use Rattle.sorted_index.specs.Keys.{is_within, between}
-use Rattle.sorted_index.specs.Nodes.{AnyByRecursion}
+use Rattle.sorted_index_laws.specs.Keys.{is_within, between}
+use Rattle.sorted_index_laws.specs.Nodes.{AnyByRecursion}
 use Rattle.access_paths.specs.declared.choice.IndexPath.{IndexPath}
 use Rattle.access_paths.specs.declared.choice.Access.{Access}
 use Rattle.access_paths.specs.declared.choice.Access.TheVariants.{Scan, Find, Range}

@@ -7,7 +7,7 @@ use crate::equated::{EquatedKey, key_at};
 use crate::limits::{Limited, bounds_of, limits_at, nothing};
 use rdb_types::{Dbkey, NoMemory, Positions, Row, Value};
 use rdo_values::BoundTest;
-use sorted_index::Bounds;
+use sorted_index_laws::Bounds;
 use std::alloc::Global;
 
 /// An index of a relation: its root, and the positions of its fields among those of the relation.

@@ -11,7 +11,7 @@ use crate::nearest::{meets, nearest};
 use rdb_types::{Copied, FieldType, Items, NoMemory, Row, Scaled, Value, value_order};
 use rdo_ast::syntax::Comparison;
 use rdo_values::{BoundExpression, BoundTest, Stop, value};
-use sorted_index::Bounds;
+use sorted_index_laws::Bounds;
 use std::alloc::Global;
 use std::cmp::Ordering;
 

@@ -1,7 +1,7 @@
 // An index whose lines are in memory.
 ghost use Rattle.std.specs.Prelude.{IfOk, slice_get};
 ghost use Rattle.line_view.specs.Held.{knows as knows_of};
-ghost use Rattle.sorted_index.specs.Insertion.{IsKey};
+ghost use Rattle.sorted_index_laws.specs.Insertion.{IsKey};
 
 use index_node::{IndexNode, put_node, read_node};
 use line_view::{Known, Need, Room, Seen, View};

@@ -12,8 +12,8 @@ use Rattle.rdb_types.specs.OrderLaws.{same_dbkey}
 use Rattle.rdb_meaning.specs.Contents.{Row}
 use Rattle.rdo_values.specs.Tree.{Conjunction}
 use Rattle.line_view.specs.Knowledge.{Lines}
-use Rattle.sorted_index.specs.Nodes.{AnyByRecursion}
-use Rattle.sorted_index.proofs.Lines.{equal_eq}
+use Rattle.sorted_index_laws.specs.Nodes.{AnyByRecursion}
+use Rattle.sorted_index_laws.proofs.Lines.{equal_eq}
 use Rattle.access_paths.specs.declared.choice.IndexPath.{IndexPath}
 use Rattle.access_paths.specs.declared.choice.Access.{Access}
 use Rattle.access_paths.specs.declared.choice.Access.TheVariants.{Scan, Find, Range}
@@ -21,7 +21,8 @@ use Rattle.access_paths.specs.Equated.{key_at}
 use Rattle.access_paths.specs.Choice.{access_by_key, first_by_key, access_by_limits, first_limits, first_by_limits, choice}
 use Rattle.access_paths.specs.Reached.{IsOfRoot}
 use Rattle.access_paths.proofs.Rooted.{rooted}
-use Rattle.index_rows.specs.Indexed.{IsIndexOf, AreIndexesOf, fields_of_root, positions_in}
+use Rattle.relation_rows.specs.Indexed.{IsIndexOf}
+use Rattle.index_rows.specs.Indexed.{AreIndexesOf, fields_of_root, positions_in}
 use Rattle.index_rows.specs.Given.{Serves}
 
 -- ---- the choice for several indexes is that for one of them

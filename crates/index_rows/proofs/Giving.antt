@@ -14,16 +14,16 @@ use Rattle.relation_rows.specs.declared.stored.StoredRelation.{StoredRelation}
 use Rattle.relation_rows.specs.declared.stored.StoredRow.{StoredRow}
 use Rattle.relation_rows.specs.Stored.{AreRowsOf, IsAreaKnown, IsBadIn, IsLineKnown, IsNextNeed}
 use Rattle.relation_rows.specs.Relations.{stored_row, HasRows}
-use Rattle.sorted_index.specs.declared.stop.IndexStop.{IndexStop}
-use Rattle.sorted_index.specs.declared.stop.IndexStop.TheVariants as index
-use Rattle.sorted_index.specs.Keys.{Interval, only, between}
-use Rattle.sorted_index.specs.Tree.{Tree, pairs, IsIndex}
-use Rattle.sorted_index.specs.Search.{rows_within, reads, first_unknown, Answers}
-use Rattle.sorted_index.specs.Nodes.{JudgesIndex}
-use Rattle.sorted_index.specs.declared.bounds.Bounds.{Bounds}
+use Rattle.sorted_index_laws.specs.declared.stop.IndexStop.{IndexStop}
+use Rattle.sorted_index_laws.specs.declared.stop.IndexStop.TheVariants as index
+use Rattle.sorted_index_laws.specs.Keys.{Interval, only, between}
+use Rattle.sorted_index_laws.specs.Tree.{Tree, pairs, IsIndex}
+use Rattle.sorted_index_laws.specs.Search.{rows_within, reads, first_unknown, Answers}
+use Rattle.sorted_index_laws.specs.Nodes.{JudgesIndex}
+use Rattle.sorted_index_laws.specs.declared.bounds.Bounds.{Bounds}
 use Rattle.access_paths.specs.declared.choice.Access.{Access}
 use Rattle.access_paths.specs.declared.choice.Access.TheVariants.{Scan, Find, Range}
-use Rattle.index_rows.specs.Indexed.{IsIndexOf}
+use Rattle.relation_rows.specs.Indexed.{IsIndexOf}
 use Rattle.index_rows.specs.Given.{is_keyed, Serves, lines_read, IsFirstNeed, Gives}
 use Rattle.index_rows.specs.Reading.{IsNextAmong, ReadsInOrder, ReadsIndexed, IsNoRowIn}
 use Rattle.index_rows.proofs.InTurn.{lines_known}

@@ -15,7 +15,7 @@ use Rattle.line_view.specs.Knowledge.{Knowledge}
 use Rattle.relation_rows.specs.declared.stored.StoredRelation.{StoredRelation}
 use Rattle.relation_rows.specs.declared.stored.StoredRow.{StoredRow}
 use Rattle.relation_rows.specs.Stored.{IsRowAt, IsBadAt, IsLineKnown, IsNextLine}
-use Rattle.sorted_index.specs.declared.stop.IndexStop.{IndexStop}
+use Rattle.sorted_index_laws.specs.declared.stop.IndexStop.{IndexStop}
 use Rattle.index_rows.specs.Reading.{AreRowsAt, IsNoRow, IsNextAmong, ReadsRows, ReadsIndexed}
 
 -- these rows are read, and these Dbkeys are left

@@ -12,10 +12,10 @@ use Rattle.rdb_types.specs.OrderLaws.{dbkey_total, same_dbkey}
 use Rattle.rdb_meaning.specs.Contents.{Row, key_of}
 use Rattle.index_node.specs.declared.entry.NodeEntry.{NodeEntry}
 use Rattle.index_node.specs.Order.{entry_order}
-use Rattle.sorted_index.specs.Keys.{Interval, is_within}
-use Rattle.sorted_index.specs.Search.{rows_within}
-use Rattle.sorted_index.specs.Changes.{pair_of, with_pair}
-use Rattle.index_rows.specs.Indexed.{pairs_of}
+use Rattle.sorted_index_laws.specs.Keys.{Interval, is_within}
+use Rattle.sorted_index_laws.specs.Search.{rows_within}
+use Rattle.sorted_index_laws.specs.Changes.{pair_of, with_pair}
+use Rattle.relation_rows.specs.Indexed.{pairs_of}
 use Rattle.index_rows.specs.Given.{is_keyed}
 
 swapped : (a b c : Bool) → (a || (b || c)) ≡ (b || (a || c))

@@ -12,8 +12,8 @@ use Rattle.rdo_values.specs.Filled.{parts_at}
 use Rattle.rdb_types.specs.Order.{row_order as key_order}
 use Rattle.rdb_types.specs.OrderLaws.{row_total as keys_total}
 use Rattle.line_view.specs.Knowledge.{Lines}
-use Rattle.sorted_index.specs.Keys.{is_within, between}
-use Rattle.sorted_index.specs.Nodes.{AnyByRecursion}
+use Rattle.sorted_index_laws.specs.Keys.{is_within, between}
+use Rattle.sorted_index_laws.specs.Nodes.{AnyByRecursion}
 use Rattle.access_paths.specs.declared.choice.IndexPath.{IndexPath}
 use Rattle.access_paths.specs.declared.choice.Access.{Access}
 use Rattle.access_paths.specs.declared.choice.Access.TheVariants.{Scan, Find, Range}
@@ -21,7 +21,8 @@ use Rattle.access_paths.specs.Choice.{choice}
 use Rattle.access_paths.specs.Reached.{IsWide, Reaches, IsOfRoot}
 use Rattle.access_paths.proofs.Reaching as access
 use Rattle.access_paths.proofs.Rooted.{rooted}
-use Rattle.index_rows.specs.Indexed.{IsIndexOf, HasPositions, AreIndexesOf}
+use Rattle.relation_rows.specs.Indexed.{IsIndexOf, HasPositions}
+use Rattle.index_rows.specs.Indexed.{AreIndexesOf}
 use Rattle.index_rows.specs.Given.{reached, Serves, LosesNone}
 use Rattle.index_rows.proofs.Chosen.{chosen_by_one}
 

@@ -14,12 +14,12 @@ use Rattle.rdb_meaning.specs.Contents.{Row}
 use Rattle.line_view.specs.Knowledge.{Lines, IsInOrder}
 use Rattle.relation_rows.specs.declared.stored.StoredRelation.{StoredRelation}
 use Rattle.relation_rows.specs.Relations.{HasRows}
-use Rattle.sorted_index.specs.Keys.{Interval, only, between}
-use Rattle.sorted_index.specs.Tree.{pairs}
-use Rattle.sorted_index.proofs.OneTree.{one_tree}
+use Rattle.sorted_index_laws.specs.Keys.{Interval, only, between}
+use Rattle.sorted_index_laws.specs.Tree.{pairs}
+use Rattle.sorted_index_laws.proofs.OneTree.{one_tree}
 use Rattle.access_paths.specs.declared.choice.Access.{Access}
 use Rattle.access_paths.specs.declared.choice.Access.TheVariants.{Scan, Find, Range}
-use Rattle.index_rows.specs.Indexed.{pairs_of, IsIndexOf}
+use Rattle.relation_rows.specs.Indexed.{pairs_of, IsIndexOf}
 use Rattle.index_rows.specs.Given.{is_keyed, reached, Serves}
 use Rattle.index_rows.proofs.Keyed.{finds, keyed, keyed_first, found_keyed, below_left}
 use Rattle.index_rows.proofs.Standing.{rows_sorted}

@@ -13,19 +13,14 @@ use Rattle.rdb_types.specs.declared.keys.Dbkey.{Dbkey}
 use Rattle.rdb_types.specs.Order.{dbkey_order}
 use Rattle.rdb_types.specs.OrderLaws.{same_dbkey}
 use Rattle.rdb_meaning.specs.Contents.{Row}
-use Rattle.record_format.proofs.Rows.{one_row}
 use Rattle.line_view.specs.Knowledge.{Knowledge, Lines, IsInOrder, Agrees, line_in, lines_in, keys_of}
 use Rattle.line_view.proofs.Agreements.{Found, found_all, found_some}
 use Rattle.relation_rows.specs.declared.stored.StoredRelation.{StoredRelation}
 use Rattle.relation_rows.specs.declared.stored.StoredRow.{StoredRow}
 use Rattle.relation_rows.specs.Stored.{IsRowOf, AreRowsOf, IsBadIn, completed}
 use Rattle.relation_rows.specs.Relations.{stored_row}
+use Rattle.relation_rows.proofs.OneRow.{same_row}
 use Rattle.index_rows.specs.Reading.{AreRowsAt, IsNoRow, IsNoRowIn}
-
-pub same_row : (r : StoredRelation) (image : List ℕ) (a b : List Value) → IsRowOf r image a → IsRowOf r image b → a ≡ b
-same_row r image a b x y =
-    let values : x.values ≡ y.values = one_row image x.version y.version x.values y.values x.stands y.stands in
-    x.whole ∙ (ap (completed r.fields.now) values ∙ sym y.whole)
 
 pub same_rows : (r : StoredRelation) (lines : Lines) (xs ys : List StoredRow) → AreRowsOf r lines xs → AreRowsOf r lines ys → xs ≡ ys
 same_rows r [] [] [] a b = refl

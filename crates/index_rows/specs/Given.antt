@@ -15,11 +15,11 @@ use Rattle.access_paths.specs.Reached.{IsWide}
 use Rattle.relation_rows.specs.declared.stored.StoredRow.{StoredRow}
 use Rattle.relation_rows.specs.Stored.{IsAreaKnown, IsNextNeed}
 use Rattle.relation_rows.specs.Relations.{stored_row}
-use Rattle.sorted_index.specs.Keys.{Interval, only, between, is_within}
-use Rattle.sorted_index.specs.Search.{reads, first_unknown}
+use Rattle.sorted_index_laws.specs.Keys.{Interval, only, between, is_within}
+use Rattle.sorted_index_laws.specs.Search.{reads, first_unknown}
 use Rattle.access_paths.specs.declared.choice.Access.{Access}
 use Rattle.access_paths.specs.declared.choice.Access.TheVariants.{Scan, Find, Range}
-use Rattle.index_rows.specs.Indexed.{IsIndexOf}
+use Rattle.relation_rows.specs.Indexed.{IsIndexOf}
 
 -- ---- the rows
 

@@ -11,10 +11,10 @@ use Rattle.line_view.specs.Knowledge.{Knowledge, Lines, line_in}
 use Rattle.relation_rows.specs.declared.stored.StoredRelation.{StoredRelation}
 use Rattle.relation_rows.specs.declared.stored.StoredRow.{StoredRow}
 use Rattle.relation_rows.specs.Stored.{IsRowAt, IsBadAt, IsBadIn, IsNextLine}
-use Rattle.sorted_index.specs.declared.stop.IndexStop.{IndexStop}
-use Rattle.sorted_index.specs.declared.stop.IndexStop.TheVariants as index
-use Rattle.sorted_index.specs.Keys.{only, between}
-use Rattle.sorted_index.specs.Nodes.{JudgesIndex}
+use Rattle.sorted_index_laws.specs.declared.stop.IndexStop.{IndexStop}
+use Rattle.sorted_index_laws.specs.declared.stop.IndexStop.TheVariants as index
+use Rattle.sorted_index_laws.specs.Keys.{only, between}
+use Rattle.sorted_index_laws.specs.Nodes.{JudgesIndex}
 use Rattle.access_paths.specs.declared.choice.Access.{Access}
 use Rattle.access_paths.specs.declared.choice.Access.TheVariants.{Scan, Find, Range}
 

@@ -1,2 +1,4 @@
 pub mod Decoding
 pub mod Progress
+pub mod OneRow
+pub mod Lengths

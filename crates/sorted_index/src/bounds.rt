@@ -1,20 +1,13 @@
 // Which keys are in question.
 ghost use Rattle.std.specs.Prelude.{◌≡◌};
-ghost use Rattle.rdb_types.specs.Order.{row_order as row_order_of};
-ghost use Rattle.sorted_index.specs.Keys.{first_values_order as first_values_order_of, is_below_low as is_below_low_of, is_above_high as is_above_high_of, is_within as is_within_of};
+ghost use Rattle.rdb_types.specs.Order.{row_order as key_order_of};
+ghost use Rattle.sorted_index_laws.specs.Keys.{first_values_order as first_values_order_of, is_below_low as is_below_low_of, is_above_high as is_above_high_of, is_within as is_within_of};
 ghost use Rattle.sorted_index.specs.Wanted.{interval_of};
 
-use rdb_types::{Row, Value, row_order};
+use index_node::key_order;
+use rdb_types::{Row, Value};
+use sorted_index_laws::Bounds;
 use std::cmp::Ordering;
-
-/// The keys that a range has: none below the low bound, and none above the high one, where there is one. A key is compared with a bound by as many of its first values as the bound has; those that tie are in the range where `low_in` or `high_in` says so.
-#[derive(Debug, Drop)]
-pub struct Bounds {
-    pub low: Option<Row>,
-    pub low_in: bool,
-    pub high: Option<Row>,
-    pub high_in: bool,
-}
 
 /// The keys that a search is for: one key, or those within bounds.
 #[derive(Clone, Copy)]
@@ -27,7 +20,7 @@ fn first_values_order(key: &[Value], bound: &[Value]) -> Ordering
     ensures { result ≡ first_values_order_of key.now bound.now }
 {
     let length = key.len().min(bound.len());
-    row_order(&key[..length], bound)
+    key_order(&key[..length], bound)
 }
 
 fn is_below_low(low: &Option<Row>, low_in: bool, key: &[Value]) -> bool
@@ -60,7 +53,7 @@ impl<'a> Wanted<'a> {
         ensures { result ≡ (interval_of self.entry).is_below key.now }
     {
         match self {
-            Wanted::Key(wanted) => row_order(key, wanted).is_lt(),
+            Wanted::Key(wanted) => key_order(key, wanted).is_lt(),
             Wanted::Within(bounds) => is_below_low(&bounds.low, bounds.low_in, key),
         }
     }
@@ -70,7 +63,7 @@ impl<'a> Wanted<'a> {
         ensures { result ≡ (interval_of self.entry).is_above key.now }
     {
         match self {
-            Wanted::Key(wanted) => row_order(key, wanted).is_gt(),
+            Wanted::Key(wanted) => key_order(key, wanted).is_gt(),
             Wanted::Within(bounds) => is_above_high(&bounds.high, bounds.high_in, key),
         }
     }

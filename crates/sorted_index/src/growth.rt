@@ -3,9 +3,9 @@ ghost use Rattle.std.specs.Prelude.{◌≡◌, ◌≤◌, ◌<◌, ◌+◌, true
 ghost use Rattle.std.specs.List.{flat_map};
 ghost use Rattle.slot_fields.specs.Fields.{size};
 ghost use Rattle.index_node.specs.Node.{entry_fields};
-ghost use Rattle.sorted_index.specs.declared.stop.IndexStop.TheVariants.{NoMemory};
-ghost use Rattle.sorted_index.specs.Changes.{goes_on};
-ghost use Rattle.sorted_index.specs.Insertion.{IsGrown, bound as bound_of, unbound as unbound_of, lowered as lowered_of, is_up_to_own as is_up_to_own_of, WritesChild};
+ghost use Rattle.sorted_index_laws.specs.declared.stop.IndexStop.TheVariants.{NoMemory};
+ghost use Rattle.sorted_index_laws.specs.Changes.{goes_on};
+ghost use Rattle.sorted_index_laws.specs.Inner.Growth.{IsGrown, bound as bound_of, unbound as unbound_of, lowered as lowered_of, is_up_to_own as is_up_to_own_of, WritesChild};
 
 use crate::IndexStop;
 use crate::removal::write_node;

@@ -4,11 +4,12 @@ ghost use Rattle.std.specs.List.{IsDistinct};
 ghost use Rattle.std.specs.Ordering.{is_eq};
 ghost use Rattle.rdb_types.specs.Order.{dbkey_order};
 ghost use Rattle.line_view.specs.Knowledge.{Lines, Agrees};
-ghost use Rattle.sorted_index.specs.declared.stop.IndexStop.TheVariants.{NoMemory};
-ghost use Rattle.sorted_index.specs.Tree.{Tree, node_of, pairs, IsIndex};
-ghost use Rattle.sorted_index.specs.Changes.{pair_of};
-ghost use Rattle.sorted_index.specs.Steps.{IsLaid};
-ghost use Rattle.sorted_index.specs.Insertion.{IsKey, IsNodeKey, IsNew, IsGrown, StandBelow, places_below, PutsIn, Inserts, WritesRoot, Looks, with_new, bound as bound_of};
+ghost use Rattle.sorted_index_laws.specs.declared.stop.IndexStop.TheVariants.{NoMemory};
+ghost use Rattle.sorted_index_laws.specs.Tree.{Tree, node_of, pairs, IsIndex};
+ghost use Rattle.sorted_index_laws.specs.Changes.{pair_of};
+ghost use Rattle.sorted_index_laws.specs.Inner.Steps.{IsLaid};
+ghost use Rattle.sorted_index_laws.specs.Insertion.{IsKey, IsNew, Inserts};
+ghost use Rattle.sorted_index_laws.specs.Inner.Growth.{IsNodeKey, IsGrown, StandBelow, places_below, PutsIn, WritesRoot, Looks, with_new, bound as bound_of};
 
 use crate::growth::{bound, fits, unbound, write_child};
 use crate::nodes::{child_at, node_at};

@@ -4,19 +4,15 @@
 mod bounds;
 mod growth;
 mod insertion;
-mod laws;
 mod nodes;
 mod places;
 mod removal;
 mod search;
 mod splitting;
-mod stop;
 mod work;
 
-pub use bounds::Bounds;
 pub use insertion::insert;
-pub use laws::pairs_are_ordered;
 pub use line_view::Writes;
 pub use removal::remove;
 pub use search::{find, range};
-pub use stop::IndexStop;
+pub use sorted_index_laws::{Bounds, IndexStop, pairs_are_ordered, the_way_is_in_the_index};

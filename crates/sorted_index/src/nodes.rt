@@ -1,6 +1,6 @@
 // Nodes as a view shows them.
 ghost use Rattle.std.specs.Prelude.{◌≡◌, ⊤};
-ghost use Rattle.sorted_index.specs.Steps.{ReadsNode};
+ghost use Rattle.sorted_index_laws.specs.Inner.Steps.{ReadsNode};
 
 use crate::IndexStop;
 use index_node::{IndexNode, read_node};

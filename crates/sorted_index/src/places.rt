@@ -5,9 +5,9 @@ ghost use Rattle.std.specs.Ordering.{is_eq};
 ghost use Rattle.index_node.specs.Order.{entry_order as entry_order_of};
 ghost use Rattle.index_node.specs.declared.entry.NodeEntry.{NodeEntry as Entry};
 ghost use Rattle.index_node.specs.Node.{IsAscending};
-ghost use Rattle.sorted_index.specs.Changes.{pair_of, without_pair};
-ghost use Rattle.sorted_index.specs.Steps.{count_up_to as count_up_to_of, child_place as child_place_of};
-ghost use Rattle.sorted_index.specs.Insertion.{count_below as count_below_of};
+ghost use Rattle.sorted_index_laws.specs.Changes.{pair_of, without_pair};
+ghost use Rattle.sorted_index_laws.specs.Inner.Steps.{count_up_to as count_up_to_of, child_place as child_place_of};
+ghost use Rattle.sorted_index_laws.specs.Inner.Growth.{count_below as count_below_of};
 
 use index_node::NodeEntry;
 use rdb_types::{Dbkey, Items, Value, row_order};

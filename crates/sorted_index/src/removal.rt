@@ -2,11 +2,11 @@
 ghost use Rattle.std.specs.Prelude.{◌≡◌, ◌++◌, ◌∷◌, [], ℕ, Some, List, IfErr, OnOk, IfOk};
 ghost use Rattle.index_node.specs.Node.{IsNode};
 ghost use Rattle.line_view.specs.Knowledge.{Lines, Agrees};
-ghost use Rattle.sorted_index.specs.declared.stop.IndexStop.TheVariants.{NoMemory};
-ghost use Rattle.sorted_index.specs.Tree.{Tree, node_of, pairs, Stands, IsIndex};
-ghost use Rattle.sorted_index.specs.Changes.{pair_of, without_pair, path, Changes};
-ghost use Rattle.sorted_index.specs.Steps.{IsLaid};
-ghost use Rattle.sorted_index.specs.Removal.{TakesOut};
+ghost use Rattle.sorted_index_laws.specs.declared.stop.IndexStop.TheVariants.{NoMemory};
+ghost use Rattle.sorted_index_laws.specs.Tree.{Tree, node_of, pairs, Stands, IsIndex};
+ghost use Rattle.sorted_index_laws.specs.Changes.{pair_of, without_pair, path, Changes};
+ghost use Rattle.sorted_index_laws.specs.Inner.Steps.{IsLaid};
+ghost use Rattle.sorted_index_laws.specs.Inner.Removal.{TakesOut};
 
 use crate::IndexStop;
 use crate::nodes::{child_at, node_at};

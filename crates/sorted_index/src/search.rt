@@ -1,20 +1,21 @@
 // Searches of an index for its pairs.
 ghost use Rattle.std.specs.Prelude.{◌≡◌, ◌++◌, ℕ, IfErr, OnOk};
-ghost use Rattle.sorted_index.specs.declared.stop.IndexStop.TheVariants.{NoMemory};
+ghost use Rattle.sorted_index_laws.specs.declared.stop.IndexStop.TheVariants.{NoMemory};
 ghost use Rattle.line_view.specs.Knowledge.{Lines, Agrees};
-ghost use Rattle.sorted_index.specs.Keys.{only, between};
+ghost use Rattle.sorted_index_laws.specs.Keys.{only, between};
 ghost use Rattle.sorted_index.specs.Wanted.{interval_of};
-ghost use Rattle.sorted_index.specs.Tree.{Tree, node_of, pairs, Stands, IsIndex};
-ghost use Rattle.sorted_index.specs.Search.{rows_within, may_hold as may_hold_of, reads_below, reads, Answers};
-ghost use Rattle.sorted_index.specs.Nodes.{Judges, JudgesIndex};
-ghost use Rattle.sorted_index.specs.Steps.{Adds};
+ghost use Rattle.sorted_index_laws.specs.Tree.{Tree, node_of, pairs, Stands, IsIndex};
+ghost use Rattle.sorted_index_laws.specs.Search.{rows_within, may_hold as may_hold_of, reads_below, reads, Answers};
+ghost use Rattle.sorted_index_laws.specs.Nodes.{Judges, JudgesIndex};
+ghost use Rattle.sorted_index_laws.specs.Inner.Steps.{Adds};
 
 use crate::IndexStop;
-use crate::bounds::{Bounds, Wanted};
+use crate::bounds::Wanted;
 use crate::nodes::{child_at, node_at};
 use index_node::{IndexNode, NodeEntry};
 use line_view::View;
 use rdb_types::{Dbkey, Keys, Value};
+use sorted_index_laws::Bounds;
 use std::alloc::Global;
 
 fn add_rows(entries: &[NodeEntry], wanted: Wanted<'_>, found: &mut Keys) -> Result<(), IndexStop>

@@ -1,8 +1,8 @@
 // What an insertion writes and takes.
 ghost use Rattle.std.specs.Prelude.{◌≡◌, ◌+◌, ◌<◌, None, Some, IfOk, IfErr, OnOk};
 ghost use Rattle.line_view.specs.declared.need.Need.TheVariants.{Room as RoomNeed};
-ghost use Rattle.sorted_index.specs.declared.stop.IndexStop.TheVariants.{Missing};
-ghost use Rattle.sorted_index.specs.Insertion.{room_at};
+ghost use Rattle.sorted_index_laws.specs.declared.stop.IndexStop.TheVariants.{Missing};
+ghost use Rattle.sorted_index_laws.specs.Insertion.{room_at};
 
 use crate::IndexStop;
 use line_view::{Need, Room, View, Writes};

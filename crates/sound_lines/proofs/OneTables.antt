@@ -11,7 +11,7 @@ use Rattle.catalog.proofs.Agreements.{one_catalog}
 use Rattle.relation_rows.specs.declared.stored.StoredRelation.{StoredRelation}
 use Rattle.relation_rows.specs.Stored.{AreRowsOf}
 use Rattle.relation_rows.specs.Relations.{stored_row, HasRows}
-use Rattle.index_rows.proofs.Standing.{same_row}
+use Rattle.relation_rows.proofs.OneRow.{same_row}
 use Rattle.sound_lines.specs.Contents.{versions_in, version_of, stored, HaveRows, AreTablesWith, AreTablesOf}
 
 pub same_rows : (r : StoredRelation) (lines : Lines) (a b : List (Dbkey × Row)) → AreRowsOf r lines (map stored_row a) → AreRowsOf r lines (map stored_row b) → a ≡ b

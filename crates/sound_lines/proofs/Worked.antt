@@ -20,7 +20,7 @@ use Rattle.relation_rows.specs.Stored.{IsRowOf}
 use Rattle.index_node.specs.declared.entry.NodeEntry.{NodeEntry}
 use Rattle.index_node.specs.Node.{IsEntry, IsNode}
 use Rattle.index_node.proofs.Nodes.{ascends_none, ascends_more}
-use Rattle.sorted_index.specs.Tree.{Tree, IsIndex}
+use Rattle.sorted_index_laws.specs.Tree.{Tree, IsIndex}
 use Rattle.sound_lines.specs.Contents.{stored, AreTablesWith, AreTablesOf}
 use Rattle.sound_lines.specs.Sound.{IsSoundIndex, IsSoundRelation, IsSound}
 use Rattle.sound_lines.specs.Worked.{at_page, row_bytes, relation_bytes, field_bytes, index_bytes, root_bytes, worked_lines, worked_field, worked_tables}

@@ -15,7 +15,7 @@ use Rattle.catalog_lines.specs.declared.line.CatalogLine.{CatalogLine}
 use Rattle.catalog_lines.specs.declared.line.CatalogLine.TheVariants.{Relation, Global, Field as FieldOf, Index}
 use Rattle.catalog.specs.declared.reading.Catalog.{Catalog}
 use Rattle.catalog.specs.Reading.{IsCatalogOf}
-use Rattle.index_rows.specs.Indexed.{IsIndexOf}
+use Rattle.relation_rows.specs.Indexed.{IsIndexOf}
 use Rattle.sound_lines.specs.Contents.{AreTablesWith}
 
 -- the relation of a logical area

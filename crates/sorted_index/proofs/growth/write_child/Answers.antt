@@ -1,9 +1,9 @@
 use Rattle.std.proofs.Common.{◌+◌, List, get_or, drop, Some, arith, sym, ap, ◌∙◌, inl}
 use Rattle.index_node.specs.declared.entry.NodeEntry.{NodeEntry}
-use Rattle.sorted_index.specs.Changes.{goes_on, with_pair}
-use Rattle.sorted_index.specs.Insertion.{is_up_to_own}
-use Rattle.sorted_index.specs.Insertion.IsKept.{lower, upper}
-use Rattle.sorted_index.proofs.Cutting.{is_halved, first_again, two_writes, wrote_two}
+use Rattle.sorted_index_laws.specs.Changes.{goes_on, with_pair}
+use Rattle.sorted_index_laws.specs.Inner.Growth.{is_up_to_own}
+use Rattle.sorted_index_laws.specs.Inner.Growth.IsKept.{lower, upper}
+use Rattle.sorted_index_laws.proofs.Cutting.{is_halved, first_again, two_writes, wrote_two}
 use Rattle.sorted_index.proofs.growth.write_child.Goals as goal
 
 pub returns-then-is_up_to_own-clause-writes : goal.returns-then-is_up_to_own-clause-writes

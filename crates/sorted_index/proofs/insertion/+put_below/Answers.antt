@@ -6,15 +6,15 @@ use Rattle.index_node.specs.declared.entry.NodeEntry.{NodeEntry}
 use Rattle.index_node.specs.declared.node.IndexNode.{IndexNode}
 use Rattle.line_view.specs.Knowledge.{Knowledge}
 use Rattle.line_view.specs.declared.writes.Write.{Write}
-use Rattle.sorted_index.specs.declared.stop.IndexStop.{IndexStop}
-use Rattle.sorted_index.specs.Changes.{pair_of}
-use Rattle.sorted_index.specs.Steps.{child_place, IsLaid}
-use Rattle.sorted_index.specs.Insertion.{IsGrown, WritesChild}
-use Rattle.sorted_index.proofs.Laid.{laid_known}
-use Rattle.sorted_index.proofs.Ordered.{ascend}
-use Rattle.sorted_index.proofs.Fits.{leaf_grown, leaf_small, first_laid, laid_grown, no_entries, two_grown}
-use Rattle.sorted_index.proofs.FirstChild.{first_put, first_stopped, first_unroomed}
-use Rattle.sorted_index.proofs.Growing.{HasPut, leaf_put, child_missed, child_stopped, child_unwritten, child_written}
+use Rattle.sorted_index_laws.specs.declared.stop.IndexStop.{IndexStop}
+use Rattle.sorted_index_laws.specs.Changes.{pair_of}
+use Rattle.sorted_index_laws.specs.Inner.Steps.{child_place, IsLaid}
+use Rattle.sorted_index_laws.specs.Inner.Growth.{IsGrown, WritesChild}
+use Rattle.sorted_index_laws.proofs.Laid.{laid_known}
+use Rattle.sorted_index_laws.proofs.Ordered.{ascend}
+use Rattle.sorted_index_laws.proofs.Fits.{leaf_grown, leaf_small, first_laid, laid_grown, no_entries, two_grown}
+use Rattle.sorted_index_laws.proofs.FirstChild.{first_put, first_stopped, first_unroomed}
+use Rattle.sorted_index_laws.proofs.Growing.{HasPut, leaf_put, child_missed, child_stopped, child_unwritten, child_written}
 use Rattle.sorted_index.proofs.insertion.+put_below.Goals as goal
 
 within : (entries nodes : List NodeEntry) (at : ℕ) → entries ≡ nodes → at < length entries → at < length nodes

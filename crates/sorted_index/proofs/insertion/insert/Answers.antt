@@ -2,12 +2,12 @@ use Rattle.std.proofs.Common.{ℕ, List, subst}
 use Rattle.std.specs.Prelude.{Ok, Err}
 use Rattle.std.proofs.lemmas.Result.{err_from_is_err_and}
 use Rattle.line_view.specs.declared.writes.Write.{Write}
-use Rattle.sorted_index.specs.Changes.{pair_of}
-use Rattle.sorted_index.specs.Insertion.{WritesRoot}
-use Rattle.sorted_index.proofs.Laid.{laid_known}
-use Rattle.sorted_index.proofs.Ordered.{ascend}
-use Rattle.sorted_index.proofs.Growing.{HasPut}
-use Rattle.sorted_index.proofs.Rooted.{looked_stopped, inserted_missed, inserted_stopped, inserted_unwritten, inserted}
+use Rattle.sorted_index_laws.specs.Changes.{pair_of}
+use Rattle.sorted_index_laws.specs.Inner.Growth.{WritesRoot}
+use Rattle.sorted_index_laws.proofs.Laid.{laid_known}
+use Rattle.sorted_index_laws.proofs.Ordered.{ascend}
+use Rattle.sorted_index_laws.proofs.Growing.{HasPut}
+use Rattle.sorted_index_laws.proofs.Rooted.{looked_stopped, inserted_missed, inserted_stopped, inserted_unwritten, inserted}
 use Rattle.sorted_index.proofs.insertion.insert.Goals as goal
 
 pub returns-in_err-is_taken : goal.returns-in_err-is_taken

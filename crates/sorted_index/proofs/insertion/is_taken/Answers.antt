@@ -1,5 +1,5 @@
 use Rattle.std.proofs.Common.{rules, ◌≡◌, true}
-use Rattle.sorted_index.proofs.Rooted.{looked}
+use Rattle.sorted_index_laws.proofs.Rooted.{looked}
 use Rattle.sorted_index.proofs.insertion.is_taken.Goals as goal
 
 pub returns : goal.returns

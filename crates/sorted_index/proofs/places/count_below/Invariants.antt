@@ -1,6 +1,6 @@
 use Rattle.std.proofs.Common.{◌≡◌, ◌+◌, drop}
-use Rattle.sorted_index.specs.Changes.{pair_of}
-use Rattle.sorted_index.specs.Insertion.{count_below}
+use Rattle.sorted_index_laws.specs.Changes.{pair_of}
+use Rattle.sorted_index_laws.specs.Inner.Growth.{count_below}
 use Rattle.sorted_index.proofs.places.count_below.Given as goal
 
 abbrev pub invariant-loop-at : goal.invariant-loop-at

@@ -1,5 +1,5 @@
-use Rattle.sorted_index.specs.Changes.{pair_of}
-use Rattle.sorted_index.proofs.PlacesIn.{KeptFrom}
+use Rattle.sorted_index_laws.specs.Changes.{pair_of}
+use Rattle.sorted_index_laws.proofs.PlacesIn.{KeptFrom}
 use Rattle.sorted_index.proofs.places.pair_place.Given as goal
 
 abbrev pub invariant-loop-at : goal.invariant-loop-at

@@ -2,9 +2,9 @@ use Rattle.std.proofs.Common.{◌≡◌, ◌<◌, length, get_or, List, subst, �
 use Rattle.std.specs.Ordering.{is_eq}
 use Rattle.index_node.specs.declared.entry.NodeEntry.{NodeEntry}
 use Rattle.index_node.specs.Order.{entry_order}
-use Rattle.sorted_index.specs.Changes.{pair_of}
-use Rattle.sorted_index.proofs.Ordered.{ascend}
-use Rattle.sorted_index.proofs.PlacesIn.{taken_out}
+use Rattle.sorted_index_laws.specs.Changes.{pair_of}
+use Rattle.sorted_index_laws.proofs.Ordered.{ascend}
+use Rattle.sorted_index_laws.proofs.PlacesIn.{taken_out}
 use Rattle.sorted_index.proofs.places.take_pair.Goals as goal
 
 pub returns-in-Some : goal.returns-in-Some

@@ -3,10 +3,10 @@ use Rattle.std.specs.Prelude.{Option}
 use Rattle.std.proofs.lemmas.Result.{err_from_is_err_and}
 use Rattle.rdb_types.specs.declared.keys.Dbkey.{Dbkey}
 use Rattle.index_node.specs.declared.entry.NodeEntry.{NodeEntry}
-use Rattle.sorted_index.specs.Changes.{pair_of}
-use Rattle.sorted_index.specs.Steps.{child_place}
-use Rattle.sorted_index.proofs.Laid.{AreOf, all_of, without_of, remove_of, laid_fewer, laid_known}
-use Rattle.sorted_index.proofs.TakenOut.{leaf_taken, nothing_taken, child_misses, child_stops, child_taken, empty_true, empty_false}
+use Rattle.sorted_index_laws.specs.Changes.{pair_of}
+use Rattle.sorted_index_laws.specs.Inner.Steps.{child_place}
+use Rattle.sorted_index_laws.proofs.Laid.{AreOf, all_of, without_of, remove_of, laid_fewer, laid_known}
+use Rattle.sorted_index_laws.proofs.TakenOut.{leaf_taken, nothing_taken, child_misses, child_stops, child_taken, empty_true, empty_false}
 use Rattle.sorted_index.proofs.removal.+take_out.Goals.{then-is_empty+in_ok-push, else-is_empty+in_ok-write_node}
 use Rattle.sorted_index.proofs.removal.+take_out.Goals as goal
 

@@ -1,7 +1,7 @@
 use Rattle.std.proofs.lemmas.Result.{err_from_is_err_and}
-use Rattle.sorted_index.specs.Changes.{pair_of}
-use Rattle.sorted_index.proofs.Laid.{laid_known}
-use Rattle.sorted_index.proofs.TakenOut.{root_misses, root_stops, root_changed}
+use Rattle.sorted_index_laws.specs.Changes.{pair_of}
+use Rattle.sorted_index_laws.proofs.Laid.{laid_known}
+use Rattle.sorted_index_laws.proofs.TakenOut.{root_misses, root_stops, root_changed}
 use Rattle.sorted_index.proofs.removal.remove.Goals as goal
 
 pub returns-in_err-node : goal.returns-in_err-node

@@ -3,12 +3,12 @@ use Rattle.std.specs.Prelude.{nat_eq}
 use Rattle.std.proofs.lemmas.List.{take_rest}
 use Rattle.std.proofs.lemmas.Result.{err_from_is_err_and}
 use Rattle.index_node.specs.declared.entry.NodeEntry.{NodeEntry}
-use Rattle.sorted_index.specs.Keys.{Interval}
+use Rattle.sorted_index_laws.specs.Keys.{Interval}
 use Rattle.sorted_index.specs.Wanted.{interval_of}
-use Rattle.sorted_index.specs.Search.{may_hold as may_hold_of}
-use Rattle.sorted_index.proofs.Intervals.{convex}
-use Rattle.sorted_index.proofs.Children.{is_first}
-use Rattle.sorted_index.proofs.Below.{HasWalked, first_is, leaf_adds, entry_there, walk_passed, walk_childless, walk_visited, walk_stopped, walk_misses, walk_ended, judged_visited, judged_over, judged_childless, judged_misses, judged_stopped, judged_ended}
+use Rattle.sorted_index_laws.specs.Search.{may_hold as may_hold_of}
+use Rattle.sorted_index.proofs.Convex.{convex}
+use Rattle.sorted_index_laws.proofs.Children.{is_first}
+use Rattle.sorted_index_laws.proofs.Below.{HasWalked, first_is, leaf_adds, entry_there, walk_passed, walk_childless, walk_visited, walk_stopped, walk_misses, walk_ended, judged_visited, judged_over, judged_childless, judged_misses, judged_stopped, judged_ended}
 use Rattle.sorted_index.proofs.search.+search_below.Goals.{then-may_hold+in_ok-below+in_ok-search_below, else-may_hold}
 use Rattle.sorted_index.proofs.search.+search_below.Goals as goal
 

@@ -1,7 +1,7 @@
 use Rattle.line_view.specs.Knowledge.{Lines, Agrees}
 use Rattle.sorted_index.specs.Wanted.{interval_of}
-use Rattle.sorted_index.proofs.Below.{HasWalked}
-use Rattle.sorted_index.proofs.Judged.{Judged}
+use Rattle.sorted_index_laws.proofs.Below.{HasWalked}
+use Rattle.sorted_index_laws.proofs.Judged.{Judged}
 use Rattle.sorted_index.proofs.search.+search_below.Given as goal
 
 abbrev pub decreases-search_below : goal.decreases-search_below

@@ -1,6 +1,6 @@
 use Rattle.std.proofs.lemmas.Result.{err_from_is_err_and}
 use Rattle.sorted_index.specs.Wanted.{interval_of}
-use Rattle.sorted_index.proofs.Whole.{root_misses, root_stopped, root_found, judged_root, judged_below, judged_found}
+use Rattle.sorted_index_laws.proofs.Whole.{root_misses, root_stopped, root_found, judged_root, judged_below, judged_found}
 use Rattle.sorted_index.proofs.search.search.Goals as goal
 
 pub returns-in_err-node-clause-answers : goal.returns-in_err-node-clause-answers

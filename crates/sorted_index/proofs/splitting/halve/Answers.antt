@@ -3,7 +3,7 @@ use Rattle.std.specs.List.{flat_map}
 use Rattle.slot_fields.specs.Fields.{size}
 use Rattle.index_node.specs.declared.entry.NodeEntry.{NodeEntry}
 use Rattle.index_node.specs.Node.{entry_fields}
-use Rattle.sorted_index.proofs.Cutting.{halves_laid}
+use Rattle.sorted_index_laws.proofs.Cutting.{halves_laid}
 use Rattle.sorted_index.proofs.splitting.halve.Goals as goal
 
 pub returns-clause-laid : goal.returns-clause-laid

@@ -1,8 +1,8 @@
 use Rattle.std.proofs.Common.{◌++◌, ◌∷◌, [], List, ap, ◌∙◌, arith, append_assoc}
 use Rattle.rdb_types.specs.declared.values.Value.{Value}
-use Rattle.sorted_index.specs.Changes.{pair_of}
-use Rattle.sorted_index.specs.Insertion.{count_below}
-use Rattle.sorted_index.proofs.Cutting.{count_inside, count_as, put_at}
+use Rattle.sorted_index_laws.specs.Changes.{pair_of}
+use Rattle.sorted_index_laws.specs.Inner.Growth.{count_below}
+use Rattle.sorted_index_laws.proofs.Cutting.{count_inside, count_as, put_at}
 use Rattle.sorted_index.proofs.splitting.put_in_order.Goals as goal
 
 pub split_off-requires : goal.split_off-requires

@@ -1,0 +1,7 @@
+pub mod Keys
+pub mod Tree
+pub mod Search
+pub mod Nodes
+pub mod Changes
+pub mod Insertion
+pub mod Inner
