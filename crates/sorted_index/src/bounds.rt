@@ -1,11 +1,10 @@
 // Which keys are in question.
 ghost use Rattle.std.specs.Prelude.{◌≡◌};
-ghost use Rattle.rdb_types.specs.Order.{row_order as key_order_of};
+ghost use Rattle.rdb_types.specs.Order.{row_order as row_order_of};
 ghost use Rattle.sorted_index_laws.specs.Keys.{first_values_order as first_values_order_of, is_below_low as is_below_low_of, is_above_high as is_above_high_of, is_within as is_within_of};
 ghost use Rattle.sorted_index.specs.Wanted.{interval_of};
 
-use index_node::key_order;
-use rdb_types::{Row, Value};
+use rdb_types::{Row, Value, row_order};
 use sorted_index_laws::Bounds;
 use std::cmp::Ordering;
 
@@ -20,7 +19,7 @@ fn first_values_order(key: &[Value], bound: &[Value]) -> Ordering
     ensures { result ≡ first_values_order_of key.now bound.now }
 {
     let length = key.len().min(bound.len());
-    key_order(&key[..length], bound)
+    row_order(&key[..length], bound)
 }
 
 fn is_below_low(low: &Option<Row>, low_in: bool, key: &[Value]) -> bool
@@ -53,7 +52,7 @@ impl<'a> Wanted<'a> {
         ensures { result ≡ (interval_of self.entry).is_below key.now }
     {
         match self {
-            Wanted::Key(wanted) => key_order(key, wanted).is_lt(),
+            Wanted::Key(wanted) => row_order(key, wanted).is_lt(),
             Wanted::Within(bounds) => is_below_low(&bounds.low, bounds.low_in, key),
         }
     }
@@ -63,7 +62,7 @@ impl<'a> Wanted<'a> {
         ensures { result ≡ (interval_of self.entry).is_above key.now }
     {
         match self {
-            Wanted::Key(wanted) => key_order(key, wanted).is_gt(),
+            Wanted::Key(wanted) => row_order(key, wanted).is_gt(),
             Wanted::Within(bounds) => is_above_high(&bounds.high, bounds.high_in, key),
         }
     }
