@@ -2,12 +2,13 @@
 #![tactic(auto)]
 
 mod known;
-mod need;
+pub mod need;
+mod stop;
 mod view;
 mod writes;
 
 pub use known::{Known, PresentLine};
-pub use need::{Need, Room, Stop};
+pub use need::{Need, Room};
+pub use stop::{Never, Stop};
 pub use view::{Seen, View};
 pub use writes::{Write, Writes};
-
