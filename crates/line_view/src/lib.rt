@@ -1,6 +1,7 @@
 //! What is known of the lines of a database, for work that stops where it lacks one.
 #![tactic(auto)]
 
+mod image_bytes;
 mod known;
 pub mod need;
 mod stop;
