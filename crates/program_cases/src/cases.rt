@@ -76,6 +76,24 @@ fn run_long<R: Print + AllocGlobal + Threads + Wait + Sync>(
     Ok(())
 }
 
+// A condition of so many links. No link takes stack, in reading and in letting go.
+fn say_chain<R: Print + AllocGlobal + Threads + Wait + Sync>(
+    rt: &R,
+    links: &str,
+) -> Result<(), NoMemory> {
+    let alloc = rt.alloc();
+    let mut script = script_of(alloc, "FOR X IN T WITH X.A = 1")?;
+    for _ in 0..links.parse::<u32>().unwrap_or(0) {
+        add_text(&mut script, "+1*2 OR X.B=1 AND NOT X.C=2*3")?;
+    }
+    add_text(&mut script, " PRINT X.A END_FOR")?;
+    let mut scripts = Vec::new(alloc);
+    scripts.push(script)?;
+    let words = words_in(alloc, "RDO PERS s1")?;
+    tell(rt, &run_failing(rt, words.as_slice(), scripts, NONE)?);
+    Ok(())
+}
+
 // A line as `3 NEW P`, whose first word is the number of the call that fails.
 fn failing<R: Print + AllocGlobal + Threads + Wait + Sync>(
     rt: &R,
@@ -117,6 +135,7 @@ pub fn say<R: Print + AllocGlobal + Threads + Wait + Sync>(
         "say" => say_text(rt, world.head.as_slice(), rest),
         "run" => run(rt, rest, NONE),
         "run-long" => run_long(rt, rest),
+        "say-chain" => say_chain(rt, rest),
         "failing-source" | "failing-sink" | "failing-disk" => failing(rt, about, rest),
         "again" => tell_again(rt, rest),
         "stopped" => tell_stopped(rt, rest),
