@@ -73,17 +73,26 @@ pub fn read_as(alloc: Global, kind: Kind, bytes: &[u8]) -> Result<Read, NoMemory
     }
 }
 
+// The bytes of an image, one of them changed by a mask, and zeros.
+fn changed(image: &Image, at: usize, mask: u8) -> [u8; 440] {
+    let mut bytes = [0; 440];
+    for (place, byte) in bytes.iter_mut().zip(image.bytes()) {
+        *place = *byte;
+    }
+    if let Some(place) = bytes.get_mut(at) {
+        *place ^= mask;
+    }
+    bytes
+}
+
 /// What they are read as where one byte is changed.
 pub fn flipped(alloc: Global, kind: Kind, image: &Image) -> Result<Counts, NoMemory> {
     let mut counts = NONE;
-    let size = image.bytes().len();
-    let mut bytes = [0; 440];
-    bytes[..size].copy_from_slice(image.bytes());
+    let size = image.bytes().len().min(440);
     for at in 0..size {
         for mask in [1, 128, 255] {
-            bytes[at] ^= mask;
+            let bytes = changed(image, at, mask);
             counts.add(read_as(alloc, kind, &bytes[..size])?);
-            bytes[at] ^= mask;
         }
     }
     Ok(counts)

@@ -42,9 +42,9 @@ fn put(page: &mut [u8], number: u16, value: &Line)
     put_line(page, number, value);
 }
 
-// Tells the state, the TSN and the first byte of the image of a line of a page of class 208.
+// Tells the head of line 3 of a page of class 208, or of line 0, and the first bytes of its image.
 fn tell_line(rt: &HostRuntime, page: &[u8; 1024], number: usize) {
-    let at = 24 + number % 4 * 224;
+    let at = if number == 3 { 24 + 3 * 224 } else { 24 };
     let _ = print!(rt; " ");
     put_bytes(rt, &page[at..at + 18]);
     let _ = println!(rt; "");

@@ -10,8 +10,8 @@ pub fn fill(alloc: Global, world: &mut World, order: &str, count: u32) -> Result
     for n in 0..count {
         let number = match order {
             "rising" => n,
-            "falling" => count - 1 - n,
-            _ => n.wrapping_mul(1_777) % count,
+            "falling" => count.wrapping_sub(n).wrapping_sub(1),
+            _ => n.wrapping_mul(1_777) % count.max(1),
         };
         put_number(alloc, world, number)?;
     }
