@@ -2,4 +2,3 @@ pub mod Boards
 pub mod Steps
 pub mod Orders
 pub mod Turns
-pub mod Talk

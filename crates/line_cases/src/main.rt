@@ -1,0 +1,30 @@
+//! Cases of views of lines, and of sorted indexes in them, as text. Each line of standard input names a call and what it is given; it is echoed on standard output, and below it stands what the call answers. A line that begins with `-` begins with a view that knows nothing. The index is the one whose root is 17:2:0; a row is named by its page in area 16.
+#![tactic(auto)]
+
+mod index;
+mod rows;
+mod said;
+mod telling;
+mod world;
+
+use said::say;
+use std::process::ExitCode;
+use telling::tell;
+use world::World;
+
+fn main(rt: HostRuntime) -> ExitCode {
+    let mut world = World::new(rt.alloc());
+    for line in rt.lines(rt.alloc()) {
+        let Ok(line) = line else {
+            return ExitCode::from(3);
+        };
+        let text = line.as_str();
+        let _ = println!(rt; "{text}");
+        if text.starts_with("-") {
+            world = World::new(rt.alloc());
+        } else if say(&rt, &mut world, text).is_err() {
+            tell(&rt, "NO MEMORY");
+        }
+    }
+    ExitCode::from(0)
+}

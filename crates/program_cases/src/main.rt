@@ -1,0 +1,28 @@
+//! Cases of the program as text, run over objects in memory. Each line of standard input names a command line and what the scripts say; it is echoed on standard output, and below it stands what the program writes, and its status where that isn't 0. In scripts `\n` ends a line, `\r` and `\t` are these characters, and `\1` is a byte that is no character of RDO. Scripts stand behind bars.
+#![tactic(auto)]
+
+mod cases;
+mod making;
+mod meeting;
+mod runs;
+mod texts;
+
+use cases::{World, say};
+use std::process::ExitCode;
+
+fn main(rt: HostRuntime) -> ExitCode {
+    let Ok(mut world) = World::new(rt.alloc()) else {
+        return ExitCode::from(5);
+    };
+    for line in rt.lines(rt.alloc()) {
+        let Ok(line) = line else {
+            return ExitCode::from(3);
+        };
+        let text = line.as_str();
+        let _ = println!(rt; "{text}");
+        if say(&rt, &mut world, text).is_err() {
+            return ExitCode::from(5);
+        }
+    }
+    ExitCode::from(0)
+}
