@@ -18,7 +18,7 @@ use Rattle.session_steps.proofs.Kept.{stepped, here, holder-has, set-length, pla
 use Rattle.session_steps.proofs.Turns.{swapped}
 use Rattle.session_steps.proofs.Asking.{waits-for, want-among}
 use Rattle.session_steps.proofs.Saying.{next-none}
-use Rattle.cluster.specs.Boards.{board_of, RestsAt, RestsBehind, marks_of, mark_of, member_of, has_ended, is_asleep}
+use Rattle.cluster.specs.Boards.{board_of, SleepsFor, RestsAt, RestsBehind, marks_of, mark_of, member_of, has_ended, is_asleep}
 use Rattle.cluster.specs.Turns.{HasMoved, HasSlept, HasEnded}
 use Rattle.cluster.proofs.Marks.{marks-grown, marks-of, length-marks, one-answer, take-grown, take-all}
 use Rattle.cluster.proofs.Weights.{falls, none-left, asking-weighs}
@@ -93,7 +93,7 @@ rests-now : (o : Opening) (c : Sessions) (s : ℕ) → RestsAt o (place_in o c) 
 rests-now o c s h = rw (length-marks c.events) (rw (take-all (events_in c)) h)
 
 -- who asks waits for the first
-pub sleeper-waits : (o : Opening) (c : Sessions) (i t : ℕ) (m : Member) → IsRight o c → slice_get c.members i ≡ Some m → is_asking m.state ≡ true → first_of c.turns ≡ Some t → (t == suc i) ≡ false →
+sleeper-waits : (o : Opening) (c : Sessions) (i t : ℕ) (m : Member) → IsRight o c → slice_get c.members i ≡ Some m → is_asking m.state ≡ true → first_of c.turns ≡ Some t → (t == suc i) ≡ false →
     waits (place_in o c) (suc i) t ≡ true
 sleeper-waits o c i t m r found asks first other =
     let stands = r.each i m found in
@@ -117,10 +117,12 @@ never-late o p lock s t left (Asking start) asks h first other = rw h.is_open (b
     by false e = e
     by true e = clash t s (sym first ∙ h.prompt e) other
 
-pub sleeper-may : (o : Opening) (c : Sessions) (i t : ℕ) (m : Member) → IsRight o c → slice_get c.members i ≡ Some m → is_asking m.state ≡ true → first_of c.turns ≡ Some t → (t == suc i) ≡ false →
-    is_nowait ((place_in o c).transaction (suc i)) ≡ false
-sleeper-may o c i t m r found asks first other =
-    never-late o (place_in o c) r.lock (suc i) t m.left m.state asks (r.each i m found).state (ap first_of (sym r.turns) ∙ first) other
+pub sleeper-sleeps : (o : Opening) (c : Sessions) (i t : ℕ) (m : Member) → IsRight o c → slice_get c.members i ≡ Some m → is_asking m.state ≡ true → first_of c.turns ≡ Some t → (t == suc i) ≡ false →
+    SleepsFor (place_in o c) (suc i) t
+sleeper-sleeps o c i t m r found asks first other = (
+  sleeper-waits o c i t m r found asks first other,
+  never-late o (place_in o c) r.lock (suc i) t m.left m.state asks (r.each i m found).state (ap first_of (sym r.turns) ∙ first) other,
+)
 
 quiet : (s : ℕ) (b : Board) → IsQuiet s b b
 quiet s b = record { asleep = λ t k h. h; ended = λ t k. refl; measure = inl refl }
@@ -135,7 +137,7 @@ slept-step o old new i t n r count h = rw h.same (record {
   goes = record { marks = sym (append-none (marks_of old.events)); rests = λ k s within rests. rests; ended = λ u e. e };
   of_s = tt;
   tells = (
-    rests-now o old (suc i) (inl (t, sleeper-waits o old i t h.before r h.found h.asks h.first h.other)),
+    rests-now o old (suc i) (inl (t, sleeper-sleeps o old i t h.before r h.found h.asks h.first h.other)),
     rw h.found (asleep-now (suc i) t old.turns h.before h.asks h.first h.other),
     rw h.found (asking-weighs h.before h.asks),
     quiet (suc i) (board_of o old),

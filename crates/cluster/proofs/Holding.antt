@@ -24,7 +24,7 @@ use Rattle.cluster.specs.Turns.{IsKept, Fits, Came, step_of, NamesBlocker, fresh
 use Rattle.cluster.proofs.Marks.{said-count}
 use Rattle.cluster.proofs.Weights.{none-left}
 use Rattle.cluster.proofs.Awake.{awake}
-use Rattle.cluster.proofs.Comings.{moved-right, moved-count, moved-step, slept-step, ended-step, stopped-step, halted-right, sleeper-waits}
+use Rattle.cluster.proofs.Comings.{moved-right, moved-count, moved-step, slept-step, ended-step, stopped-step, halted-right, sleeper-sleeps}
 
 -- ---- the start
 
@@ -118,10 +118,7 @@ turn-step word scripts old new i turn.OutOfMemory k w h = stopped-step (opening 
 
 pub turn-blocker : (word : List ℕ) (scripts : List (List Item)) (old new : Sessions) (i : ℕ) (t : Turn) → IsKept word scripts old → Came i old new t → NamesBlocker (opening word scripts) old (suc i) t
 turn-blocker word scripts old new i turn.Moved k h = tt
-turn-blocker word scripts old new i (turn.Asleep t) k h = (
-  sleeper-waits (opening word scripts) old i t.number h.before k.right h.found h.asks h.first h.other,
-  sleeper-may (opening word scripts) old i t.number h.before k.right h.found h.asks h.first h.other,
-)
+turn-blocker word scripts old new i (turn.Asleep t) k h = sleeper-sleeps (opening word scripts) old i t.number h.before k.right h.found h.asks h.first h.other
 turn-blocker word scripts old new i turn.Ended k h = tt
 turn-blocker word scripts old new i turn.OutOfMemory k h = tt
 

@@ -3,7 +3,7 @@ use Rattle.std.specs.Prelude.{◌≡◌, ℕ, zero, suc, Bool, true, false, not,
 use Rattle.rdb_account.specs.declared.event.Event.{Event as Declared}
 use Rattle.rdb_account.specs.Events.{Event, Began, Wanted, Got, Demoted, Said, Committed, RolledBack, Died, Recovered, event_of}
 use Rattle.rdb_account.specs.Places.{Opening, Place, place, next_item}
-use Rattle.rdb_account.specs.Lawful.{waits}
+use Rattle.rdb_account.specs.Lawful.{waits, is_nowait}
 use Rattle.vms_queues.specs.Queues.{first_of}
 use Rattle.rdb_drive.specs.Boards.{Board, Mark, Says, Does, Other}
 use Rattle.session_steps.specs.declared.member.Member.{Member}
@@ -25,9 +25,13 @@ mark_of (Recovered s committed moment) = Other
 abbrev pub marks_of : List Declared → List Mark
 marks_of events = map (λ e. mark_of (event_of e)) events
 
+-- s waits for t, and its transaction isn't one under NOWAIT
+abbrev pub SleepsFor : Place → ℕ → ℕ → Type 0
+SleepsFor p s t = (waits p s t ≡ true) × (is_nowait (p.transaction s) ≡ false)
+
 -- s waits for some session, or has said its whole script
 abbrev pub RestsAt : Opening → Place → ℕ → Type 0
-RestsAt o p s = ((t : ℕ) × (waits p s t ≡ true)) ⊎ (next_item o p s ≡ None)
+RestsAt o p s = ((t : ℕ) × SleepsFor p s t) ⊎ (next_item o p s ≡ None)
 
 -- behind so many of the events
 abbrev pub RestsBehind : Opening → List Declared → ℕ → ℕ → Type 0

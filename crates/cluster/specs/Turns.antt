@@ -4,7 +4,6 @@ use Rattle.rdo_ast.specs.declared.syntax.Item.{Item}
 use Rattle.vms_queues.specs.Queues.{first_of}
 use Rattle.rdb_account.specs.Events.{event_of}
 use Rattle.rdb_account.specs.Places.{Opening, place}
-use Rattle.rdb_account.specs.Lawful.{waits, is_nowait}
 use Rattle.rdb_account.specs.declared.event.Event.{Event as Declared}
 use Rattle.rdb_drive.specs.Orders.{AreParts, rounds}
 use Rattle.rdb_drive.specs.declared.driven.Step.{Step}
@@ -22,7 +21,7 @@ use Rattle.session_steps.specs.Steps.{Moves}
 use Rattle.cluster.specs.declared.sessions.Core.{Core}
 use Rattle.cluster.specs.declared.sessions.Turn.{Turn}
 use Rattle.cluster.specs.declared.sessions.Turn.TheVariants as turn
-use Rattle.cluster.specs.Boards.{RestsBehind, marks_of}
+use Rattle.cluster.specs.Boards.{SleepsFor, RestsBehind, marks_of}
 
 abbrev pub sessions_of : Core → Sessions
 sessions_of c = record { word = c.word; committed = c.committed; members = c.members.items; turns = c.lock; events = c.events.items; halted = c.halted }
@@ -84,11 +83,10 @@ step_of (turn.Asleep t) = step.Asleep
 step_of turn.Ended = step.Ended
 step_of turn.OutOfMemory = step.Stopped
 
--- who sleeps waits for the session that is named, and not under NOWAIT
+-- who sleeps waits for the session that is named
 abbrev pub NamesBlocker : Opening → Sessions → ℕ → Turn → Type 0
 NamesBlocker o c s turn.Moved = Unit {0}
-NamesBlocker o c s (turn.Asleep t) =
-    (waits (place o (map event_of c.events)) s t.number ≡ true) × (is_nowait ((place o (map event_of c.events)).transaction s) ≡ false)
+NamesBlocker o c s (turn.Asleep t) = SleepsFor (place o (map event_of c.events)) s t.number
 NamesBlocker o c s turn.Ended = Unit {0}
 NamesBlocker o c s turn.OutOfMemory = Unit {0}
 

@@ -1,8 +1,9 @@
 //! A session that has no transaction open.
-ghost use Rattle.std.specs.Prelude.{◌≡◌, ℕ, List, ◌∷◌, false, true, None, Some};
+ghost use Rattle.std.specs.Prelude.{◌≡◌, ℕ, List, [], ◌∷◌, false, true, None, Some};
 ghost use Rattle.rdo_ast.specs.Views.{uttered_of};
 ghost use Rattle.rdo_ast.specs.declared.syntax.Item.{Item as Syntax};
 ghost use Rattle.rdb_account.specs.Places.{begins, is_writer};
+ghost use Rattle.rdb_account.specs.Lawful.{never_sleeps};
 ghost use Rattle.session_steps.specs.Members.{member};
 ghost use Rattle.session_steps.specs.Right.{is_in};
 ghost use Rattle.session_steps.specs.Steps.{Comes};
@@ -54,7 +55,27 @@ fn begin_reading(alloc: Global, word: &Word, committed: &Tables, item: Item) -> 
     }
 }
 
-/// Begins a read-write transaction, which asks for the lock.
+/// Begins a read-write transaction that asks for the lock, and awaits it where it may.
+fn queue_up(alloc: Global, lock: &mut WriterLock, s: Session, item: Item, kind: Standing) -> Stepped
+    requires absent { is_in s.number lock.old ≡ false }
+    requires kind { begins (uttered_of item) ≡ Some kind }
+    requires writes { is_writer kind ≡ true }
+    requires alone { never_sleeps kind ≡ true → lock.old ≡ [] }
+    ensures { (word : List ℕ) (committed : Tables) (left : List Syntax) (total : ℕ) → Comes word s.number (member (item ∷ left) State.Outside total) committed lock.old (member left result.state total) committed lock.new (Outcome.Happened result.happening) }
+{
+    match lock.ask(s) {
+        Ok(()) => Stepped {
+            state: State::Asking(item),
+            happening: Happening::Asked(kind),
+        },
+        Err(_) => Stepped {
+            state: State::Outside,
+            happening: Happening::Answered(out_of_memory(alloc, item)),
+        },
+    }
+}
+
+/// Begins a read-write transaction, which asks for the lock, or is refused where it would wait and may not.
 fn ask(alloc: Global, lock: &mut WriterLock, s: Session, item: Item, kind: Standing) -> Stepped
     requires absent { is_in s.number lock.old ≡ false }
     requires kind { begins (uttered_of item) ≡ Some kind }
@@ -62,27 +83,24 @@ fn ask(alloc: Global, lock: &mut WriterLock, s: Session, item: Item, kind: Stand
     ensures { (word : List ℕ) (committed : Tables) (left : List Syntax) (total : ℕ) → Comes word s.number (member (item ∷ left) State.Outside total) committed lock.old (member left result.state total) committed lock.new (Outcome.Happened result.happening) }
 {
     match lock.holder() {
-        Some(holder) if is_nowait(&kind) => Stepped {
-            state: State::Outside,
-            happening: Happening::Refused(
-                kind,
-                Answer {
-                    item,
-                    keys: Items::new(alloc),
-                    reply: Reply::LockConflict(holder.number),
-                },
-            ),
-        },
-        _ => match lock.ask(s) {
-            Ok(()) => Stepped {
-                state: State::Asking(item),
-                happening: Happening::Asked(kind),
-            },
-            Err(_) => Stepped {
-                state: State::Outside,
-                happening: Happening::Answered(out_of_memory(alloc, item)),
-            },
-        },
+        None => queue_up(alloc, lock, s, item, kind),
+        Some(holder) => {
+            if is_nowait(&kind) {
+                Stepped {
+                    state: State::Outside,
+                    happening: Happening::Refused(
+                        kind,
+                        Answer {
+                            item,
+                            keys: Items::new(alloc),
+                            reply: Reply::LockConflict(holder.number),
+                        },
+                    ),
+                }
+            } else {
+                queue_up(alloc, lock, s, item, kind)
+            }
+        }
     }
 }
 

@@ -9,3 +9,4 @@ pub mod Writing
 pub mod Asking
 pub mod Starting
 pub mod Whole
+pub mod Refused
