@@ -15,12 +15,11 @@ const NO_KEY: Dbkey = Dbkey {
     line: 0,
 };
 
-/// The first words of a line, and the rest.
+/// The first word of a line, as a number and as a Dbkey, and the rest.
 #[derive(Clone, Copy, Debug)]
 struct Words<'a> {
     number: u32,
     key: Dbkey,
-
     rest: &'a str,
 }
 
