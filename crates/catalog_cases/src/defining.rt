@@ -106,7 +106,7 @@ fn lay_defined(
     match defined {
         Ok(writes) => {
             tell_writes(rt, writes.as_slice());
-            world.lay(&writes)
+            world.lay(rt.alloc(), &writes)
         }
         Err(stop) => {
             tell_undefined(rt, stop);
@@ -123,7 +123,7 @@ fn erase_deleted(
     match deleted {
         Ok(keys) => {
             tell_keys(rt, "erases", keys.as_slice());
-            world.erase(keys.as_slice())
+            world.erase(rt.alloc(), keys.as_slice())
         }
         Err(rdb_checks::Stop::Refused(reply)) => {
             tell_reply(rt, &reply);
