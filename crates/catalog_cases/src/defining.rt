@@ -5,12 +5,12 @@ use crate::telling::{tell, tell_keys, tell_need, tell_reply, tell_stop, tell_wri
 use crate::world::World;
 use catalog::{Catalog, delete_index, delete_relation, read_catalog};
 use catalog_definitions::{
-    DefineStop, define_field, define_index, define_relation, is_index_definition,
-    is_relation_definition,
+    define_field, define_index, define_relation, is_index_definition, is_relation_definition,
 };
 use catalog_lines::{is_name, is_type};
-use line_view::{View, Writes};
+use line_view::{Stop, View, Writes};
 use rdb_types::{Chars, FieldType, Keys, NoMemory};
+use rdo_ast::reply::Reply;
 use rdo_ast::syntax::{FieldDefinition, IndexDefinition, Statement};
 use std::alloc::Global;
 
@@ -20,11 +20,11 @@ fn field<V: View>(
     catalog: &Catalog,
     name: &Chars,
     kind: &FieldType,
-) -> Result<Writes, DefineStop>
+) -> Result<Writes, Stop<Reply>>
     requires { IsWhole catalog.now }
 {
     if !is_name(name.as_slice()) || !is_type(*kind) {
-        return Err(DefineStop::NoMemory);
+        return Err(Stop::NoMemory);
     }
     define_field(alloc, view, catalog, name, kind)
 }
@@ -35,11 +35,11 @@ fn relation<V: View>(
     catalog: &Catalog,
     name: &Chars,
     fields: &[FieldDefinition],
-) -> Result<Writes, DefineStop>
+) -> Result<Writes, Stop<Reply>>
     requires { IsWhole catalog.now }
 {
     if !is_relation_definition(name, fields) {
-        return Err(DefineStop::NoMemory);
+        return Err(Stop::NoMemory);
     }
     define_relation(alloc, view, catalog, name, fields)
 }
@@ -49,11 +49,11 @@ fn index<V: View>(
     view: &V,
     catalog: &Catalog,
     definition: &IndexDefinition,
-) -> Result<Writes, DefineStop>
+) -> Result<Writes, Stop<Reply>>
     requires { IsWhole catalog.now }
 {
     if !is_index_definition(definition) {
-        return Err(DefineStop::NoMemory);
+        return Err(Stop::NoMemory);
     }
     define_index(alloc, view, catalog, definition)
 }
@@ -64,7 +64,7 @@ fn defined<V: View>(
     view: &V,
     catalog: &Catalog,
     statement: &Statement,
-) -> Option<Result<Writes, DefineStop>>
+) -> Option<Result<Writes, Stop<Reply>>>
     requires { IsWhole catalog.now }
 {
     match statement {
@@ -90,23 +90,24 @@ fn deleted(
     }
 }
 
-fn tell_undefined(rt: &HostRuntime, stop: DefineStop) {
+fn tell_undefined(rt: &HostRuntime, stop: Stop<Reply>) {
     match stop {
-        DefineStop::Missing(need) => tell_need(rt, need),
-        DefineStop::Refused(reply) => tell_reply(rt, &reply),
-        DefineStop::NoMemory => tell(rt, "NO MEMORY"),
+        Stop::Missing(need) => tell_need(rt, need),
+        Stop::Bad(key) => tell_keys(rt, "bad line", &[key]),
+        Stop::Own(reply) => tell_reply(rt, &reply),
+        Stop::NoMemory => tell(rt, "NO MEMORY"),
     }
 }
 
 fn lay_defined(
     rt: &HostRuntime,
     world: &mut World,
-    defined: Result<Writes, DefineStop>,
+    defined: Result<Writes, Stop<Reply>>,
 ) -> Result<(), NoMemory> {
     match defined {
         Ok(writes) => {
             tell_writes(rt, writes.as_slice());
-            world.lay(&writes)
+            world.lay(rt.alloc(), &writes)
         }
         Err(stop) => {
             tell_undefined(rt, stop);
@@ -123,7 +124,7 @@ fn erase_deleted(
     match deleted {
         Ok(keys) => {
             tell_keys(rt, "erases", keys.as_slice());
-            world.erase(keys.as_slice())
+            world.erase(rt.alloc(), keys.as_slice())
         }
         Err(rdb_checks::Stop::Refused(reply)) => {
             tell_reply(rt, &reply);

@@ -48,7 +48,7 @@ fn say(rt: &HostRuntime, world: &mut World, text: &str) -> Result<(), NoMemory> 
             world.forget(rt.alloc());
             Ok(())
         }
-        "put" => world.put(rest),
+        "put" => world.put(rt.alloc(), rest),
         "lines" => show_area(rt, world, rest),
         "tables" => show_tables(rt, world),
         "longest-key" => show_longest_key(rt, world, rest),

@@ -1,6 +1,6 @@
 // What is answered, as text.
 use case_words::{put_bytes, put_key, put_text};
-use line_view::{Need, Stop, Write};
+use line_view::{Need, Never, Stop, Write};
 use rdb_types::Dbkey;
 use rdo_ast::reply::Reply;
 
@@ -23,7 +23,7 @@ pub fn tell_need(rt: &HostRuntime, need: Need) {
     let _ = println!(rt; "");
 }
 
-pub fn tell_stop(rt: &HostRuntime, stop: Stop) {
+pub fn tell_stop(rt: &HostRuntime, stop: Stop<Never>) {
     match stop {
         Stop::Missing(need) => tell_need(rt, need),
         Stop::Bad(key) => tell_keys(rt, "bad line", &[key]),

@@ -70,29 +70,29 @@ impl World {
     }
 
     /// Lays a line as `1:2:0 0102`, or takes it away.
-    pub fn put(&mut self, words: &str) -> Result<(), NoMemory> {
+    pub fn put(&mut self, alloc: Global, words: &str) -> Result<(), NoMemory> {
         let (key, image) = words.split_once(' ').unwrap_or((words, ""));
         match key_of(key) {
-            Some(key) => self.known.put(key, image_of(image)),
+            Some(key) => self.known.put(alloc, key, image_of(image)),
             None => Ok(()),
         }
     }
 
     /// Lays the writes of a definition.
-    pub fn lay(&mut self, writes: &Writes) -> Result<(), NoMemory> {
+    pub fn lay(&mut self, alloc: Global, writes: &Writes) -> Result<(), NoMemory> {
         for write in writes.as_slice() {
             let image = write.image.as_ref();
             let image = image.map(|image| Image::from_bytes(image.bytes()));
-            self.known.put(write.key, image)?;
+            self.known.put(alloc, write.key, image)?;
         }
         self.turn = self.turn.wrapping_add(1);
         Ok(())
     }
 
     /// Takes lines away.
-    pub fn erase(&mut self, keys: &[Dbkey]) -> Result<(), NoMemory> {
+    pub fn erase(&mut self, alloc: Global, keys: &[Dbkey]) -> Result<(), NoMemory> {
         for key in keys {
-            self.known.put(*key, None)?;
+            self.known.put(alloc, *key, None)?;
         }
         Ok(())
     }

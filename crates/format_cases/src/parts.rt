@@ -1,8 +1,7 @@
 // Parts of images: values, Dbkeys, the order of values, names and types.
 use case_words::{key_of, number_of, put_bytes, put_key, row_of};
 use catalog_lines::{is_name, is_type};
-use index_node::{key_order, value_order};
-use rdb_types::{DataType, Dbkey, FieldType, NoMemory, Value};
+use rdb_types::{DataType, Dbkey, FieldType, NoMemory, Value, row_order, value_order};
 use record_format::{are_storable, dbkey_at, put_dbkey, put_values, read_values, values_size};
 use std::cmp::Ordering;
 
@@ -60,7 +59,7 @@ fn tell_orders(rt: &HostRuntime, values: &[Value]) {
         let _ = println!(rt; "");
     }
     for length in 0..values.len() {
-        tell_order(rt, key_order(&values[..length], values));
+        tell_order(rt, row_order(&values[..length], values));
     }
 }
 

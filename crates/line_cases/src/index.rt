@@ -1,6 +1,6 @@
 // Work on the index.
 ghost use Rattle.std.specs.Prelude.{◌≡◌, true};
-ghost use Rattle.sorted_index.specs.Insertion.{IsKey};
+ghost use Rattle.sorted_index_laws.specs.Insertion.{IsKey};
 
 use crate::world::World;
 use case_words::row_of;
@@ -47,7 +47,7 @@ fn insert_key(
     for _ in 0..MAX_TRIES {
         match insert(alloc, world, ROOT, key, row_at(page), unique) {
             Ok(writes) => {
-                world.lay(&writes)?;
+                world.lay(alloc, &writes)?;
                 return Ok(());
             }
             Err(IndexStop::Missing(Need::Room(room))) => world.add_room(room.area)?,
@@ -80,7 +80,7 @@ pub fn put_number(alloc: Global, world: &mut World, number: u32) -> Result<(), I
 pub fn take_out(alloc: Global, world: &mut World, words: &str, page: u32) -> Result<(), IndexStop> {
     let key = row_of(alloc, words)?;
     let writes = remove(alloc, world, ROOT, key.as_slice(), row_at(page))?;
-    world.lay(&writes)?;
+    world.lay(alloc, &writes)?;
     Ok(())
 }
 

@@ -44,14 +44,14 @@ impl World {
     }
 
     /// Lays writes over the lines.
-    pub fn lay(&mut self, writes: &Writes) -> Result<(), NoMemory> {
+    pub fn lay(&mut self, alloc: Global, writes: &Writes) -> Result<(), NoMemory> {
         for write in writes.as_slice() {
             let image = write.image.as_ref();
             if image.is_none() {
                 self.gone = self.gone.wrapping_add(1);
             }
             let image = image.map(|image| Image::from_bytes(image.bytes()));
-            self.known.put(write.key, image)?;
+            self.known.put(alloc, write.key, image)?;
         }
         Ok(())
     }
