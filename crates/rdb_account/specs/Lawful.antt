@@ -6,10 +6,10 @@ use Rattle.rdo_ast.specs.declared.reply.Reply.{Reply}
 use Rattle.rdo_ast.specs.declared.reply.Reply.TheVariants as r
 use Rattle.rdo_ast.specs.declared.reply.Standing.{Standing}
 use Rattle.rdo_ast.specs.declared.reply.Standing.TheVariants.{ReadWrite}
-use Rattle.rdo_ast.specs.Tree.{Uttered, said, syntax_fault, invoke, start_read_only, start_read_write, commit, rollback, finish, perform, define_field, define_relation, define_index, delete_relation, delete_index}
+use Rattle.rdo_ast.specs.Tree.{Uttered, said, syntax_fault, invoke, commit, rollback, finish, perform, define_field, define_relation, define_index, delete_relation, delete_index}
 use Rattle.rdb_meaning.specs.declared.tables.Tables.{Tables}
 use Rattle.rdb_meaning.specs.Checks.{Refusal, is_retrieval}
-use Rattle.rdb_meaning.specs.Meaning.{Meaning, means, meaningless, meaning, needs_closed, needs_open, needs_read_write, act_standing_refusal}
+use Rattle.rdb_meaning.specs.Meaning.{Meaning, means, meaningless, meaning, standing_refusal}
 use Rattle.lock_needs.specs.declared.need.Need.{Need}
 use Rattle.lock_needs.specs.declared.party.Asked.{Asked}
 use Rattle.lock_needs.specs.Waits.{is_behind}
@@ -125,18 +125,7 @@ never_waits _ = false
 -- the refusals that come before any need is wanted: by syntax and by the standing
 abbrev pub first_refusal : Standing → Uttered → Refusal
 first_refusal standing (syntax_fault line column) = Some (r.Syntax line column)
-first_refusal standing (said (invoke text)) = None
-first_refusal standing (said start_read_only) = needs_closed standing
-first_refusal standing (said (start_read_write wait rs)) = needs_closed standing
-first_refusal standing (said commit) = needs_open standing
-first_refusal standing (said rollback) = needs_open standing
-first_refusal standing (said finish) = needs_closed standing
-first_refusal standing (said (perform a)) = act_standing_refusal a standing
-first_refusal standing (said (define_field n type)) = needs_read_write standing
-first_refusal standing (said (define_relation n fs)) = needs_read_write standing
-first_refusal standing (said (define_index d)) = needs_read_write standing
-first_refusal standing (said (delete_relation n)) = needs_read_write standing
-first_refusal standing (said (delete_index n)) = needs_read_write standing
+first_refusal standing (said command) = standing_refusal command standing
 
 abbrev pub is_refused_in_work : Reply → Bool
 is_refused_in_work r.Overflow = true

@@ -1,6 +1,5 @@
 -- What an answer says of a refusal. Want of memory says nothing.
 use Rattle.std.specs.Prelude.{◌≡◌, Result, Ok, Err, Some, None}
-use Rattle.rdo_ast.specs.Tree.{Ranging, ranging, With}
 use Rattle.rdb_meaning.specs.Checks.{Refusal}
 use Rattle.rdb_checks.specs.declared.stop.Stop.{Stop}
 use Rattle.rdb_checks.specs.declared.stop.Stop.TheVariants.{Refused, Memory}
@@ -10,7 +9,3 @@ abbrev pub Finds : {A : Type 0} → Result A Stop → Refusal → Type 0
 Finds (Ok _) refusal = refusal ≡ None
 Finds (Err (Refused reply)) refusal = refusal ≡ Some reply
 Finds (Err Memory) refusal = Unit {0}
-
--- the WITH behind the ranges of a selection
-abbrev pub with_behind : Ranging → With
-with_behind (ranging first ss c) = c

@@ -16,4 +16,5 @@ pub use refusal::{check_action, is_retrieval};
 pub use reservations::{
     check_change_reserved, check_index_reserved, check_reserved_names, reservations_of,
 };
+pub use scopes::scope_with_ranges;
 pub use stop::{Stop, exists, no_such, not_reserved};

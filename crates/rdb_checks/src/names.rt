@@ -1,12 +1,11 @@
 ghost use Rattle.std.specs.Prelude.{◌≡◌, map, IfOk};
 ghost use Rattle.rdo_ast.specs.Views.{expression_of, applied_of, operations_of, testing_of, conjunction_of, condition_of, ranging_of};
-ghost use Rattle.rdb_meaning.specs.Evaluation.{bound_as, bind_sources};
+ghost use Rattle.rdb_meaning.specs.Evaluation.{bound_as, bind_sources, with_behind};
 ghost use Rattle.rdb_meaning.specs.Checks.{needs_some, reference_names, source_names, sources_names, expression_names, operations_names, testing_names, conjunction_names, condition_names, with_names, ranging_names};
-ghost use Rattle.rdb_checks.specs.Answers.{Finds, with_behind};
+ghost use Rattle.rdb_checks.specs.Answers.{Finds};
 
-use crate::scopes::rowless_binding;
 use crate::stop::{Stop, exists, no_such};
-use rdb_meaning::{FieldAt, Scope, Tables, binding_of, field_of};
+use rdb_meaning::{Binding, FieldAt, Scope, Tables, binding_of, field_of};
 use rdb_types::{Chars, Copied};
 use rdo_ast::syntax::{
     Condition, Conjunction, Expression, Inner, Operation, Range, Reference, Test,
@@ -75,7 +74,7 @@ pub fn checked_scope(
     let mut bound = scope.copied(alloc)?;
     for range in ranges {
         check_range_names(alloc, tables, &bound, range)?;
-        bound.push(rowless_binding(alloc, range)?)?;
+        bound.push(Binding::of(alloc, range, None)?)?;
     }
     Ok(bound)
 }

@@ -1,8 +1,7 @@
 ghost use Rattle.std.specs.Prelude.{◌≡◌, ◌&&◌, ◌||◌, map, IfOk};
 ghost use Rattle.rdo_ast.specs.Views.{expression_of, applied_of, operations_of, testing_of, conjunction_of, condition_of, ranging_of};
-ghost use Rattle.rdb_meaning.specs.Evaluation.{referred};
+ghost use Rattle.rdb_meaning.specs.Evaluation.{referred, with_behind};
 ghost use Rattle.rdb_meaning.specs.Checks.{is_text_place, is_textual, differ, expression_clashes, operations_clash, testing_clashes, conjunction_clashes, condition_clashes, with_clashes, ranging_clashes};
-ghost use Rattle.rdb_checks.specs.Answers.{with_behind};
 
 use crate::scopes::scope_with_ranges;
 use rdb_meaning::{FieldAt, Scope, Tables, binding_of, field_of};

@@ -1,7 +1,8 @@
 ghost use Rattle.std.specs.Prelude.{◌≡◌, map, false};
 ghost use Rattle.rdo_ast.specs.Views.{expression_of, applied_of, operations_of, testing_of, conjunction_of, condition_of, ranging_of};
+ghost use Rattle.rdb_meaning.specs.Evaluation.{with_behind};
 ghost use Rattle.rdb_meaning.specs.Checks.{use_of, reserved_for};
-ghost use Rattle.rdb_checks.specs.Answers.{Finds, with_behind};
+ghost use Rattle.rdb_checks.specs.Answers.{Finds};
 ghost use Rattle.rdb_checks.specs.Unreserved.{use_unreserved, ranges_unreserved, expression_unreserved, operations_unreserved, testing_unreserved, conjunction_unreserved, condition_unreserved, with_unreserved, ranging_unreserved};
 
 use crate::stop::{Stop, not_reserved};

@@ -1,4 +1,4 @@
-ghost use Rattle.std.specs.Prelude.{◌≡◌, length, IfOk};
+ghost use Rattle.std.specs.Prelude.{◌≡◌, ◌+◌, length, IfOk};
 ghost use Rattle.rdb_meaning.specs.Contents.{is_used, first_free, relation_named, new_relation_area, new_index_area};
 ghost use Rattle.rdb_meaning.specs.Execution.{area_of};
 
@@ -12,7 +12,14 @@ fn is_used(area: u32, used: &[u32]) -> bool
     used.iter().any(|other| area == *other)
 }
 
-// The first of every second area that isn't used. One that doesn't fit 32 bits is answered as want of memory, which as many areas would meet long before.
+// The area behind the next one. One that doesn't fit 32 bits is answered as want of memory, which as many areas would meet long before.
+fn area_behind(area: u32) -> Result<u32, NoMemory>
+    ensures { IfOk result (λ next. next ≡ area + 2) }
+{
+    area.checked_add(2).ok_or(NoMemory {})
+}
+
+// The first of every second area that isn't used.
 #[tactic(auto, using(crate::proofs::FreeArea::first_free_more))]
 fn first_free(first: u32, used: &[u32]) -> Result<u32, NoMemory>
     ensures { IfOk result (λ area. area ≡ first_free (length used.now) first used.now) }
@@ -22,10 +29,7 @@ fn first_free(first: u32, used: &[u32]) -> Result<u32, NoMemory>
         if !is_used(area, used) {
             return Ok(area);
         }
-        let Some(next) = area.checked_add(2) else {
-            return Err(NoMemory {});
-        };
-        area = next;
+        area = area_behind(area)?;
     }
     Ok(area)
 }

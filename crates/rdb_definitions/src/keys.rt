@@ -32,17 +32,24 @@ pub fn is_key_too_long(fields: &[Field], names: &[Chars]) -> bool
     false
 }
 
-/// The places of the named fields. One that doesn't fit 16 bits is answered as want of memory.
+// The place of a field in a key. One that doesn't fit 16 bits is answered as want of memory: a relation that is defined by a statement has fewer fields.
+fn key_place(place: usize) -> Result<u16, NoMemory>
+    ensures { IfOk result (λ n. n ≡ place) }
+{
+    match u16::try_from(place) {
+        Ok(place) => Ok(place),
+        Err(_) => Err(NoMemory {}),
+    }
+}
+
+/// The places of the named fields.
 pub fn positions_of(alloc: Global, fields: &[Field], names: &[Chars]) -> Result<Positions, NoMemory>
     ensures { IfOk result (λ places. places ≡ positions_of names.now fields.now) }
 {
     let mut places = Items::new(alloc);
     for name in names {
         if let Some(FieldAt { place, field: _ }) = field_of(fields, name) {
-            let Ok(place) = u16::try_from(place) else {
-                return Err(NoMemory {});
-            };
-            places.push(place)?;
+            places.push(key_place(place)?)?;
         }
     }
     Ok(places)

@@ -1,3 +1,5 @@
-mod Rows
 mod More
+pub mod Refusals
+mod Rows
+pub mod Spelled
 pub mod Unchanged

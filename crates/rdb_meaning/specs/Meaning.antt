@@ -77,12 +77,14 @@ abbrev pub clash : Bool → Refusal
 clash true = Some r.TypeClash
 clash false = None
 
--- the standing, then names in the order of the text, then reservations, then types
+-- names in the order of the text, then reservations, then types
+abbrev pub act_later_refusal : Act → Standing → Tables → Refusal
+act_later_refusal a standing t =
+    or_else (act_names a t [])
+    (or_else (reservation_refusal (reservations_of standing) (act_uses a [])) (clash (act_clashes a t [])))
+
 abbrev pub act_refusal : Act → Standing → Tables → Refusal
-act_refusal a standing t =
-    or_else (act_standing_refusal a standing)
-    (or_else (act_names a t [])
-    (or_else (reservation_refusal (reservations_of standing) (act_uses a [])) (clash (act_clashes a t []))))
+act_refusal a standing t = or_else (act_standing_refusal a standing) (act_later_refusal a standing t)
 
 abbrev pub act_meaning : Act → Standing → List Dbkey → Tables → Meaning
 act_meaning a standing choices t =
@@ -113,31 +115,62 @@ reserved_names before (x ∷ xs) t =
 abbrev pub is_word : List ℕ → List ℕ → Refusal
 is_word word text = if str_eq_ignore_ascii_case word text then None else Some (r.NoSuch text)
 
+-- What comes first: the refusal by the transaction that is open.
+abbrev pub standing_refusal : Command → Standing → Refusal
+standing_refusal (invoke text) standing = None
+standing_refusal start_read_only standing = needs_closed standing
+standing_refusal (start_read_write wait rs) standing = needs_closed standing
+standing_refusal commit standing = needs_open standing
+standing_refusal rollback standing = needs_open standing
+standing_refusal finish standing = needs_closed standing
+standing_refusal (perform a) standing = act_standing_refusal a standing
+standing_refusal (define_field n type) standing = needs_read_write standing
+standing_refusal (define_relation n fs) standing = needs_read_write standing
+standing_refusal (define_index d) standing = needs_read_write standing
+standing_refusal (delete_relation n) standing = needs_read_write standing
+standing_refusal (delete_index n) standing = needs_read_write standing
+
+-- Then names, reservations, types, and the keys of an index. Where an action's run refuses it, that comes after these.
+abbrev pub later_refusal : List ℕ → Command → Standing → Tables → Refusal
+later_refusal word (invoke text) standing t = is_word word text
+later_refusal word (start_read_write wait rs) standing t = reserved_names [] rs t
+later_refusal word (perform a) standing t = act_later_refusal a standing t
+later_refusal word (define_field n type) standing t = field_names n t
+later_refusal word (define_relation n fs) standing t = relation_names n fs t
+later_refusal word (define_index d) standing t =
+    or_else (index_names d t)
+    (or_else (reservation_refusal (reservations_of standing) (use_of true d.relation ∷ [])) (index_refusal d t))
+later_refusal word (delete_relation n) standing t =
+    or_else (needs_some n (relation_named n t)) (reservation_refusal (reservations_of standing) (use_of true n ∷ []))
+later_refusal word (delete_index n) standing t =
+    or_else (needs_some n (find name_order n t.indexes))
+    (reservation_refusal (reservations_of standing) (index_uses (find name_order n t.indexes) t))
+later_refusal word _ standing t = None
+
+abbrev pub command_refusal : List ℕ → Command → Standing → Tables → Refusal
+command_refusal word c standing t = or_else (standing_refusal c standing) (later_refusal word c standing t)
+
+-- the tables that a definition or a deletion leaves
+abbrev pub after : Command → Tables → Tables
+after (define_field n type) t = with_field n type t
+after (define_relation n fs) t = with_relation n fs t
+after (define_index d) t = with_index d t
+after (delete_relation n) t = without_relation n t
+after (delete_index n) t = without_index n t
+after _ t = t
+
+-- the standing that a statement leaves which is done
+abbrev pub standing_after : Command → Standing → Standing
+standing_after start_read_only standing = ReadOnly
+standing_after (start_read_write wait rs) standing = ReadWrite wait rs
+standing_after commit standing = Closed
+standing_after rollback standing = Closed
+standing_after _ standing = standing
+
 abbrev pub command_meaning : List ℕ → Command → Standing → List Dbkey → Tables → Meaning
-command_meaning word (invoke text) standing choices t = unless (is_word word text) t standing choices (doing t standing choices)
-command_meaning word start_read_only standing choices t = unless (needs_closed standing) t standing choices (doing t ReadOnly choices)
-command_meaning word (start_read_write wait rs) standing choices t =
-    unless (or_else (needs_closed standing) (reserved_names [] rs t)) t standing choices (doing t (ReadWrite wait rs) choices)
-command_meaning word commit standing choices t = unless (needs_open standing) t standing choices (doing t Closed choices)
-command_meaning word rollback standing choices t = unless (needs_open standing) t standing choices (doing t Closed choices)
-command_meaning word finish standing choices t = unless (needs_closed standing) t standing choices (doing t standing choices)
 command_meaning word (perform a) standing choices t = act_meaning a standing choices t
-command_meaning word (define_field n type) standing choices t =
-    unless (or_else (needs_read_write standing) (field_names n t)) t standing choices (doing (with_field n type t) standing choices)
-command_meaning word (define_relation n fs) standing choices t =
-    unless (or_else (needs_read_write standing) (relation_names n fs t)) t standing choices (doing (with_relation n fs t) standing choices)
-command_meaning word (define_index d) standing choices t =
-    unless (or_else (needs_read_write standing) (or_else (index_names d t)
-    (or_else (reservation_refusal (reservations_of standing) (use_of true d.relation ∷ [])) (index_refusal d t)))) t standing choices
-    (doing (with_index d t) standing choices)
-command_meaning word (delete_relation n) standing choices t =
-    unless (or_else (needs_read_write standing) (or_else (needs_some n (relation_named n t))
-    (reservation_refusal (reservations_of standing) (use_of true n ∷ [])))) t standing choices
-    (doing (without_relation n t) standing choices)
-command_meaning word (delete_index n) standing choices t =
-    unless (or_else (needs_read_write standing) (or_else (needs_some n (find name_order n t.indexes))
-    (reservation_refusal (reservations_of standing) (index_uses (find name_order n t.indexes) t)))) t standing choices
-    (doing (without_index n t) standing choices)
+command_meaning word c standing choices t =
+    unless (command_refusal word c standing t) t standing choices (doing (after c t) (standing_after c standing) choices)
 
 abbrev pub meaning : List ℕ → Standing → Uttered → List Dbkey → Tables → Meaning
 meaning word standing (syntax_fault line column) choices t = refusing (r.Syntax line column) t standing choices

@@ -16,6 +16,21 @@ pub struct Binding {
     pub key: Option<Dbkey>,
 }
 
+impl Binding {
+    /// The binding of a range's variable to the row of a Dbkey, or to none.
+    pub fn of(alloc: Global, range: &Range, key: Option<Dbkey>) -> Result<Binding, NoMemory>
+        ensures { IfOk result (λ made. made ≡ bind_source range.now key) }
+    {
+        let variable = range.variable.copied(alloc)?;
+        let relation = range.relation.copied(alloc)?;
+        Ok(Binding {
+            variable,
+            relation,
+            key,
+        })
+    }
+}
+
 /// Bound variables, the outermost first.
 pub type Scope = Items<Binding>;
 
@@ -43,7 +58,8 @@ pub fn binding_of<'a>(scope: &'a [Binding], variable: &Chars) -> Option<&'a Bind
     None
 }
 
-fn copied_scope(alloc: Global, scope: &[Binding]) -> Result<Scope, NoMemory>
+/// A copy of a scope.
+pub fn copied_scope(alloc: Global, scope: &[Binding]) -> Result<Scope, NoMemory>
     ensures { IfOk result (λ made. made ≡ scope.now) }
 {
     let mut copy = Items::new(alloc);
@@ -63,12 +79,6 @@ pub fn extended(
     ensures { IfOk result (λ made. made ≡ scope.now ++ bind_source range.now key ∷ []) }
 {
     let mut copy = copied_scope(alloc, scope)?;
-    let variable = range.variable.copied(alloc)?;
-    let relation = range.relation.copied(alloc)?;
-    copy.push(Binding {
-        variable,
-        relation,
-        key,
-    })?;
+    copy.push(Binding::of(alloc, range, key)?)?;
     Ok(copy)
 }
