@@ -6,7 +6,8 @@ ghost use Rattle.catalog.specs.Reading.{IsBad, IsCatalogOf, IsWhole, IsKnown, Re
 use crate::directory::{PlacedLine, directory_of};
 use crate::schema::{misfit, tables_of};
 use catalog_lines::{CatalogLine, read_catalog_line};
-use line_view::{Need, Seen, Stop, View};
+use line_view::need::Stop;
+use line_view::{Need, Seen, View};
 use rdb_meaning::Tables;
 use rdb_types::{Dbkey, Items};
 use std::alloc::Global;

@@ -81,7 +81,7 @@ impl Index {
         let Ok(image) = put_node(&root) else {
             return Err(IndexStop::Bad(ROOT));
         };
-        known.learn_line(ROOT, Some(image))?;
+        known.learn_line(alloc, ROOT, Some(image))?;
         Ok(Index {
             known,
             rooms: Vec::new(alloc),
@@ -95,10 +95,11 @@ impl Index {
         self.visits.get()
     }
 
-    fn lay(&mut self, writes: &Writes) -> Result<(), IndexStop> {
+    fn lay(&mut self, alloc: Global, writes: &Writes) -> Result<(), IndexStop> {
         for write in writes.as_slice() {
             let image = write.image.as_ref();
             self.known.put(
+                alloc,
                 write.key,
                 image.map(|image| Image::from_bytes(image.bytes())),
             )?;
@@ -121,7 +122,7 @@ impl Index {
         self.rooms.clear();
         for _ in 0..MAX_TRIES {
             match insert(alloc, self, ROOT, key.as_slice(), row_at(number), true) {
-                Ok(writes) => return self.lay(&writes),
+                Ok(writes) => return self.lay(alloc, &writes),
                 Err(IndexStop::Missing(Need::Room(_))) => self.add_room()?,
                 Err(stop) => return Err(stop),
             }

@@ -9,7 +9,8 @@ ghost use Rattle.index_rows.specs.Reading.{IsBadFor};
 
 use crate::reading::rows_found;
 use access_paths::Access;
-use line_view::{Stop, View};
+use line_view::View;
+use line_view::need::Stop;
 use relation_rows::{Rows, StoredRelation, rows};
 use sorted_index::{find, range};
 use std::alloc::Global;

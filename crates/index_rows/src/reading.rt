@@ -4,7 +4,8 @@ ghost use Rattle.std.specs.BTreeSet.{IsFromIterResult};
 ghost use Rattle.ordered_entries.specs.Order.{dbkey_order};
 ghost use Rattle.index_rows.specs.Reading.{ReadsRows, ReadsIndexed, stop_of_index};
 
-use line_view::{Stop, View};
+use line_view::View;
+use line_view::need::Stop;
 use rdb_types::{Dbkey, Keys};
 use relation_rows::{Rows, StoredRelation, StoredRow, row};
 use sorted_index::IndexStop;

@@ -1,5 +1,5 @@
 -- What is held goes on agreeing with the full map.
-use Rattle.std.proofs.Common.{◌≡◌, ℕ, Bool, true, false, cond, ◌&&◌, ◌==◌, List, [], ◌∷◌, ◌++◌, map, Option, Some, None, ◌⊎◌, inl, inr, T, refl, sym, ap, subst, ◌∙◌, arith}
+use Rattle.std.proofs.Common.{◌≡◌, ◌<◌, ℕ, zero, suc, Bool, true, false, cond, ◌==◌, length, List, [], ◌∷◌, ◌++◌, map, get_or, Option, Some, None, ◌⊎◌, inl, inr, T, refl, sym, ap, subst, ◌∙◌, arith}
 use Rattle.std.specs.Prelude.{is_some}
 use Rattle.std.specs.declared.cmp.Ordering.{Ordering}
 use Rattle.std.specs.declared.cmp.Ordering.TheVariants.{Less, Equal, Greater}
@@ -17,10 +17,11 @@ use Rattle.std.proofs.lemmas.Option.{none-some, same_Some}
 use Rattle.std.proofs.lemmas.Cmp.{ranked}
 use Rattle.rdb_types.specs.declared.keys.Dbkey.{Dbkey}
 use Rattle.ordered_entries.specs.Order.{dbkey_order}
-use Rattle.ordered_entries.proofs.Laws.{dbkey_total, same_dbkey, find-put_same}
+use Rattle.ordered_entries.proofs.Laws.{dbkey_total, same_dbkey}
 use Rattle.line_view.specs.declared.need.Room.{Room}
 use Rattle.line_view.specs.Knowledge.{Lines, Agrees, line_in, lines_in, keys_of, laid}
-use Rattle.line_view.specs.Held.{Held, AreRooms, knows, usable, unless_present, with_line, with_lines, with_keys, with_area, with_room, with_write, written, with_written, areas_written, ordered, ordered_from, room_order}
+use Rattle.line_view.specs.declared.known.PresentLine.{PresentLine}
+use Rattle.line_view.specs.Held.{Held, AreRooms, entry_of, knows, usable, unless_present, with_line, with_lines, with_area, with_room, without_rooms, with_write, written, with_written, ordered, ordered_from, room_order}
 use Rattle.line_view.proofs.Entries.{found_behind}
 use Rattle.line_view.proofs.Steps.{LineEntries, room_total, same_room}
 use Rattle.line_view.proofs.FullMap.{laid_found, other_area, keys_written}
@@ -95,6 +96,15 @@ room_agrees h room key are all agrees none = agreeing (with_room room key h) all
       | inl e ↦ ap (λ k. line_in k all) e.1 ∙ none
       | inr e ↦ room_free h all agrees r k e unknown
     ])
+
+pub no_room_agrees : (h : Held) (all : Lines) → Agrees (knows h) all → Agrees (knows (without_rooms h)) all
+no_room_agrees h all agrees = record {
+  line = agrees.line;
+  area = agrees.area;
+  within = λ r k found. absurd (none-some k found);
+  free = λ r k found. absurd (none-some k found);
+  apart = λ a b k p q. absurd (none-some k p);
+}
 
 -- ---- a write
 
@@ -184,6 +194,15 @@ found_some all (e ∷ es) p found = elim (p e) as (λ b. Found all (cond b (e �
   | false ↦ found_some all es p found.1
 ]
 
+pub found_in_area : (all : Lines) (area : ℕ) (es : Lines) → is_sorted dbkey_order all ≡ true → es ≡ lines_in area all → Found all es
+found_in_area all area es sorted is = subst (λ l. Found all l) (sym is) (found_some all all (λ e. e.0.area == area) (found_all all sorted))
+
+-- the line at this place
+pub found_at : (all : Lines) (lines : List PresentLine) (i : ℕ) (line : PresentLine) → i < length lines → line ≡ get_or lines i line → Found all (map entry_of lines) → Some line.image ≡ line_in line.key all
+found_at all [] i line inside is found = absurd (omega (arith, inside))
+found_at all (x ∷ xs) zero line inside is found = sym (subst (λ (l : PresentLine). line_in l.key all ≡ Some l.image) (sym is) found.0)
+found_at all (x ∷ xs) (suc i) line inside is found = found_at all xs i line (omega (arith, inside)) is found.1
+
 lines_agree : (es : Lines) (h : Held) → AreRooms h.rooms → (all : Lines) → Agrees (knows h) all → Found all es → Agrees (knows (with_lines es h)) all
 lines_agree [] h are all agrees found = agrees
 lines_agree (e ∷ es) h are all agrees found = lines_agree es (with_line e.0 (Some e.1) h) are all (line_agrees h e.0 (Some e.1) are all agrees (sym found.0)) found.1
@@ -234,7 +253,7 @@ area_known h area es are all sorted agrees is = agreeing (with_area area es h) a
   are' = subst AreRooms (sym (same_rooms es h)) are
 
   known : Agrees (knows (with_lines es h)) all
-  known = lines_agree es h are all agrees (subst (λ l. Found all l) (sym is) (found_some all all (λ e. e.0.area == area) (found_all all sorted)))
+  known = lines_agree es h are all agrees (found_in_area all area es sorted is)
 
   keys_are : ordered (keys_of es) ≡ keys_of (lines_in area all)
   keys_are = ap (λ l. ordered (keys_of l)) is ∙ in_order [] (lines_in area all) (sorted_part area all sorted) (none_below (lines_in area all))

@@ -1,12 +1,11 @@
 -- A write laid over a full map: what is found then, and the keys of its areas.
-use Rattle.std.proofs.Common.{◌≡◌, ℕ, Bool, true, false, cond, not, ◌&&◌, ◌==◌, List, [], ◌∷◌, map, Option, Some, None, T, refl, sym, ap, subst, ◌∙◌, arith}
+use Rattle.std.proofs.Common.{◌≡◌, ℕ, Bool, true, false, cond, not, ◌&&◌, ◌==◌, List, [], ◌∷◌, Option, Some, None, T, refl, sym, ap, ◌∙◌}
 use Rattle.std.specs.Prelude.{is_some}
 use Rattle.std.specs.declared.cmp.Ordering.{Ordering}
 use Rattle.std.specs.declared.cmp.Ordering.TheVariants.{Less, Equal, Greater}
 use Rattle.std.specs.Ordering.{is_eq, is_lt, ordering_reverse, match_ordering}
-use Rattle.std.specs.Cmp.{IsTotalOrder, tied_itself, tied_back}
-use Rattle.std.specs.List.{filter, AllByRecursion}
-use Rattle.std.specs.FinMap.Entries.{find, put, by_order, below_all, is_sorted, find-put, find-where_key}
+use Rattle.std.specs.Cmp.{IsTotalOrder, tied_back}
+use Rattle.std.specs.FinMap.Entries.{put, by_order, below_all, is_sorted, find-put, find-where_key}
 use Rattle.std.specs.Set.{remove_key}
 use Rattle.std.specs.BTreeMap.{is_at}
 use Rattle.std.specs.BTreeSet.{insert_key}
@@ -17,7 +16,7 @@ use Rattle.rdb_types.specs.declared.keys.Dbkey.{Dbkey}
 use Rattle.ordered_entries.specs.Order.{dbkey_order}
 use Rattle.ordered_entries.proofs.Laws.{dbkey_total, same_dbkey}
 use Rattle.line_view.specs.Knowledge.{Lines, line_in, lines_in, keys_of, laid}
-use Rattle.line_view.specs.Held.{written, ordered_from, ordered}
+use Rattle.line_view.specs.Held.{written}
 
 abbrev R : Dbkey → Dbkey → Ordering
 R = dbkey_order

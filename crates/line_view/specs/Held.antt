@@ -51,6 +51,9 @@ with_line key image h = record h { lines = put dbkey_order key image h.lines }
 abbrev pub with_room : Room → Dbkey → Held → Held
 with_room room key h = record h { rooms = put room_order room key h.rooms }
 
+abbrev pub without_rooms : Held → Held
+without_rooms h = record h { rooms = [] }
+
 -- these lines are present
 abbrev pub with_lines : Lines → Held → Held
 with_lines [] h = h

@@ -1,3 +1,4 @@
 pub mod Knowledge
 pub mod Held
 pub mod Writes
+pub mod Stops

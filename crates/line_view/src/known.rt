@@ -1,10 +1,11 @@
 ghost use Rattle.std.specs.Prelude.{◌≡◌, ℕ, None, Some, map, take, IfOk, OnOk, OnErr};
 ghost use Rattle.std.specs.FinMap.Entries.{find};
 ghost use Rattle.line_view.specs.Knowledge.{Lines, IsInOrder, Agrees, keys_of, line_in, lines_in, laid};
-ghost use Rattle.line_view.specs.Held.{nothing, knows, ordered, key_sets, entry_of, TakesBack, with_line, with_lines, with_area, with_room, with_write, areas_written, room_order};
+ghost use Rattle.line_view.specs.Held.{nothing, knows, ordered, key_sets, entry_of, TakesBack, with_line, with_lines, with_area, with_room, without_rooms, with_write, areas_written, room_order};
 
+use crate::image_bytes::ImageBytes;
 use crate::{Room, Seen, View};
-use rdb_types::{Dbkey, Image, NoMemory};
+use rdb_types::{Copied, Dbkey, Image, NoMemory};
 use std::alloc::Global;
 use std::collections::{BTreeMap, BTreeSet};
 use std::marker::Model;
@@ -37,7 +38,11 @@ fn write_key(
 }
 
 // What was known of the line before it was laid over, which wants no memory.
-fn take_back(lines: &mut BTreeMap<Dbkey, Option<Image>>, key: Dbkey, before: Option<Option<Image>>)
+fn take_back(
+    lines: &mut BTreeMap<Dbkey, Option<ImageBytes>>,
+    key: Dbkey,
+    before: Option<Option<ImageBytes>>,
+)
     ensures { TakesBack key before lines.old.entries lines.new.entries }
 {
     match before {
@@ -60,10 +65,19 @@ fn key_set(alloc: Global, lines: &[PresentLine]) -> Result<BTreeSet<Dbkey>, NoMe
     Ok(keys)
 }
 
-/// What is known of lines, areas and rooms. A look-up takes time in the logarithm of what is known.
+fn bytes_of(alloc: Global, image: Option<Image>) -> Result<Option<ImageBytes>, NoMemory>
+    ensures { IfOk result (λ bytes. bytes ≡ image) }
+{
+    match image {
+        Some(image) => Ok(Some(ImageBytes::of(alloc, &image)?)),
+        None => Ok(None),
+    }
+}
+
+/// What is known of lines, areas and rooms. A look-up takes time in the logarithm of what is known. A known line takes the memory of its bytes and a few words.
 #[derive(Drop)]
 pub struct Known {
-    lines: BTreeMap<Dbkey, Option<Image>>,
+    lines: BTreeMap<Dbkey, Option<ImageBytes>>,
     areas: BTreeMap<u32, BTreeSet<Dbkey>>,
     rooms: BTreeMap<Room, Dbkey>,
 }
@@ -91,17 +105,23 @@ impl Known {
     }
 
     /// Takes the answer to the need of a line.
-    pub fn learn_line(&mut self, key: Dbkey, image: Option<Image>) -> Result<(), NoMemory>
+    pub fn learn_line(
+        &mut self,
+        alloc: Global,
+        key: Dbkey,
+        image: Option<Image>,
+    ) -> Result<(), NoMemory>
         ensures ok { OnOk result (self.new ≡ with_line key image self.old) }
         ensures agrees { OnOk result ((all : Lines) → Agrees (knows self.old) all
             → image ≡ line_in key all → Agrees (knows self.new) all) }
         ensures err { OnErr result (self.new ≡ self.old) }
     {
-        let _before = self.lines.insert(key, image)?;
+        let bytes = bytes_of(alloc, image)?;
+        let _before = self.lines.insert(key, bytes)?;
         Ok(())
     }
 
-    /// Takes the answer to the need of an area: its present lines. Where memory fails some of the lines may be known.
+    /// Takes the answer to the need of an area: its present lines. Where memory fails some of the lines may be known, but nothing that isn't so.
     pub fn learn_area(
         &mut self,
         alloc: Global,
@@ -109,13 +129,13 @@ impl Known {
         lines: &[PresentLine],
     ) -> Result<(), NoMemory>
         ensures ok { OnOk result (self.new ≡ with_area area (map entry_of lines.now) self.old) }
-        ensures agrees { OnOk result ((all : Lines) → IsInOrder all → Agrees (knows self.old) all
-            → map entry_of lines.now ≡ lines_in area all → Agrees (knows self.new) all) }
+        ensures agrees { (all : Lines) → IsInOrder all → Agrees (knows self.old) all
+            → map entry_of lines.now ≡ lines_in area all → Agrees (knows self.new) all }
         ensures err { OnErr result ((n : ℕ) × (self.new ≡ with_lines (take n (map entry_of lines.now)) self.old)) }
     {
         let keys = key_set(alloc, lines)?;
         for line in lines {
-            self.learn_line(line.key, Some(Image::from_bytes(line.image.bytes())))?;
+            self.learn_line(alloc, line.key, Some(Image::from_bytes(line.image.bytes())))?;
         }
         let _before = self.areas.insert(area, keys)?;
         Ok(())
@@ -134,20 +154,42 @@ impl Known {
         Ok(())
     }
 
+    /// Forgets all rooms, which wants no memory.
+    pub fn forget_rooms(&mut self)
+        ensures rooms { self.new ≡ without_rooms self.old }
+        ensures agrees { (all : Lines) → Agrees (knows self.old) all → Agrees (knows self.new) all }
+    {
+        self.rooms.clear();
+    }
+
     /// Lays a write over what is known: the line is present with this image, or it isn't.
-    pub fn put(&mut self, key: Dbkey, image: Option<Image>) -> Result<(), NoMemory>
+    pub fn put(&mut self, alloc: Global, key: Dbkey, image: Option<Image>) -> Result<(), NoMemory>
         ensures ok { OnOk result (self.new ≡ with_write key image self.old) }
         ensures agrees { OnOk result ((all : Lines) → IsInOrder all → Agrees (knows self.old) all
             → Agrees (knows self.new) (laid key image all)) }
         ensures err { OnErr result (self.new ≡ self.old) }
     {
         let is_present = image.is_some();
-        let before = self.lines.insert(key, image)?;
+        let bytes = bytes_of(alloc, image)?;
+        let before = self.lines.insert(key, bytes)?;
         if let Err(stop) = write_key(&mut self.areas, key, is_present) {
             take_back(&mut self.lines, key, before);
             return Err(stop);
         }
         Ok(())
+    }
+}
+
+impl Copied for Known {
+    fn copied(&self, _alloc: Global) -> Result<Known, NoMemory> {
+        let lines = self.lines.clone()?;
+        let areas = self.areas.clone()?;
+        let rooms = self.rooms.clone()?;
+        Ok(Known {
+            lines,
+            areas,
+            rooms,
+        })
     }
 }
 
@@ -158,7 +200,7 @@ impl View for Known {
         match self.lines.get(&key) {
             None => Seen::Unknown,
             Some(None) => Seen::Absent,
-            Some(Some(image)) => Seen::Present(image.bytes()),
+            Some(Some(image)) => Seen::Present(image.as_slice()),
         }
     }
 

@@ -1,7 +1,8 @@
 ghost use Rattle.std.specs.Prelude.{◌≡◌};
 ghost use Rattle.rdo_select.specs.Stops.{stop_of_view, stop_of_value};
 
-use line_view::{Need, Stop};
+use line_view::Need;
+use line_view::need::Stop;
 use rdb_types::{Dbkey, NoMemory};
 use rdo_values::Stop as ValueStop;
 use std::alloc::AllocError;

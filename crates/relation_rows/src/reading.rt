@@ -6,7 +6,8 @@ ghost use Rattle.line_view.specs.declared.need.Need.TheVariants as needs;
 ghost use Rattle.relation_rows.specs.Stored.{IsRowAt, IsBadAt, AreRowsOf, IsBadIn, IsNextNeed, IsAreaKnown};
 
 use crate::stored::{Rows, StoredRelation, StoredRow, row_of};
-use line_view::{Need, Seen, Stop, View};
+use line_view::need::Stop;
+use line_view::{Need, Seen, View};
 use rdb_types::{Dbkey, Row};
 use std::alloc::Global;
 

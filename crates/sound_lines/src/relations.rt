@@ -6,7 +6,8 @@ ghost use Rattle.sound_lines.specs.Reading.{StopsRelations};
 
 use crate::rows::read_relation;
 use crate::versions::version_of;
-use line_view::{Stop, View};
+use line_view::View;
+use line_view::need::Stop;
 use ordered_entries::Entries;
 use rdb_meaning::Relation;
 use rdb_types::{Chars, Copied};

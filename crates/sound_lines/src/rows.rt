@@ -6,7 +6,8 @@ ghost use Rattle.relation_rows.specs.Relations.{stored_row, HasRows};
 ghost use Rattle.sound_lines.specs.Contents.{stored};
 ghost use Rattle.sound_lines.specs.Reading.{StopsRows};
 
-use line_view::{Need, Stop, View};
+use line_view::need::Stop;
+use line_view::{Need, View};
 use ordered_entries::Entries;
 use rdb_meaning::Relation;
 use rdb_types::{Copied, Dbkey, Row};

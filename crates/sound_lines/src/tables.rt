@@ -7,7 +7,8 @@ ghost use Rattle.sound_lines.specs.Reading.{StopsTables};
 use crate::relations::read_relations;
 use crate::versions::versions_of;
 use catalog::{Catalog, read_catalog};
-use line_view::{Stop, View};
+use line_view::View;
+use line_view::need::Stop;
 use rdb_meaning::Tables;
 use std::alloc::Global;
 

@@ -1,6 +1,6 @@
-use Rattle.std.proofs.Common.{rules, ◌≡◌, None, Some, map, OnOk, OnErr, IsTrue, ℕ, ◌+◌, ◌-◌, ◌*◌, ◌<◌, ◌≤◌, length, take, drop, Bool, true, false, List, [], ◌∷◌, ◌++◌, refl, sym, ap, subst, ◌∙◌}
+use Rattle.std.proofs.Common.{sym, ap, subst, ◌∙◌}
 use Rattle.std.specs.FinMap.Entries.{find}
-use Rattle.line_view.specs.Knowledge.{Agrees, laid}
+use Rattle.line_view.specs.Knowledge.{Agrees}
 use Rattle.line_view.specs.Held.{AreRooms, knows, room_order}
 use Rattle.line_view.proofs.Agreements.{room_agrees}
 use Rattle.line_view.proofs.Steps.{room_learnt, are_rooms}

@@ -1,5 +1,5 @@
 use Rattle.line_view.proofs.Steps.{room_shown, not_shown, is_shown}
-use Rattle.std.proofs.Common.{rules, ◌≡◌, None, Some, refl, sym, ap, ◌∙◌}
+use Rattle.std.proofs.Common.{rules, refl, sym, ap, ◌∙◌}
 use Rattle.line_view.proofs.known.KnownView.room.Goals as goal
 
 pub returns-in-Present : goal.returns-in-Present
