@@ -6,8 +6,9 @@ use Rattle.std.proofs.lemmas.List.Elements.{All-head, All-tail, All-push, All-we
 use Rattle.rdb_types.specs.declared.keys.Dbkey.{Dbkey}
 use Rattle.rdb_meaning.specs.declared.tables.Tables.{Tables}
 use Rattle.rdb_meaning.specs.Contents.{no_tables}
-use Rattle.line_view.specs.declared.need.Stop.{Stop}
-use Rattle.line_view.specs.declared.need.Stop.TheVariants.{Missing, Bad, NoMemory}
+use Rattle.line_view.specs.declared.stop.Stop.{Stop}
+use Rattle.line_view.specs.declared.stop.Stop.TheVariants.{Missing, Bad, NoMemory, Own}
+use Rattle.line_view.specs.declared.stop.Never.{Never}
 use Rattle.line_view.specs.Knowledge.{Knowledge, Lines, line_in, Agrees}
 use Rattle.catalog_lines.specs.declared.line.CatalogLine.{CatalogLine}
 use Rattle.catalog_lines.specs.Lines.{IsAllowedLine, IsCatalogLine}
@@ -120,7 +121,8 @@ misfit_is ps a b e d t r same_a same_b same_e made built is =
 
 -- ---- the next line
 
-pub stops : (known : Knowledge) (ps : List PlacedLine) (key : Dbkey) (rest : List Dbkey) (stop : Stop) → known.area catalog_area ≡ Some (line_keys ps ++ key ∷ rest) → AreKnown known ps → StopsAt known key stop → StopsReading known stop
+pub stops : (known : Knowledge) (ps : List PlacedLine) (key : Dbkey) (rest : List Dbkey) (stop : Stop Never) → known.area catalog_area ≡ Some (line_keys ps ++ key ∷ rest) → AreKnown known ps → StopsAt known key stop → StopsReading known stop
 stops known ps key rest (Missing need) keys lines at = subst (IsNext known) (sym at.0) (record { before = ps; behind = rest; keys = keys; lines = lines }, at.1)
 stops known ps key rest (Bad bad) keys lines at = subst (λ k. ReadsTo known k × IsSpoiled known k) (sym at.0) (record { before = ps; behind = rest; keys = keys; lines = lines }, at.1)
 stops known ps key rest NoMemory keys lines at = tt
+stops known ps key rest (Own never) keys lines at = at

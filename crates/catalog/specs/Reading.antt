@@ -4,9 +4,10 @@ use Rattle.std.specs.List.{All, AllByRecursion}
 use Rattle.rdb_types.specs.declared.keys.Dbkey.{Dbkey}
 use Rattle.line_view.specs.declared.need.Need.{Need}
 use Rattle.line_view.specs.declared.need.Need.TheVariants.{Line, Area, Room}
-use Rattle.line_view.specs.declared.need.Stop.{Stop}
-use Rattle.line_view.specs.declared.need.Stop.TheVariants.{Missing, Bad, NoMemory}
+use Rattle.line_view.specs.declared.stop.Stop.{Stop}
+use Rattle.line_view.specs.declared.stop.Never.{Never}
 use Rattle.line_view.specs.Knowledge.{Knowledge, Lines, line_in, lines_in, keys_of}
+use Rattle.line_view.specs.Stops.{Stops}
 use Rattle.catalog_lines.specs.declared.line.CatalogLine.{CatalogLine}
 use Rattle.catalog_lines.specs.Lines.{IsAllowedLine, IsCatalogLine}
 use Rattle.catalog.specs.declared.directory.PlacedLine.{PlacedLine}
@@ -79,16 +80,12 @@ abbrev pub IsSpoiled : Knowledge → Dbkey → Type 0
 IsSpoiled known key = IsSome (known.line key) × ((line : CatalogLine) → IsKnown known key line → ⊥)
 
 -- this is why one line can't be read
-abbrev pub StopsAt : Knowledge → Dbkey → Stop → Type 0
-StopsAt known key (Missing need) = (need ≡ Line key) × (known.line key ≡ None)
-StopsAt known key (Bad bad) = (bad ≡ key) × IsSpoiled known key
-StopsAt known key NoMemory = Unit {0}
+abbrev pub StopsAt : Knowledge → Dbkey → Stop Never → Type 0
+StopsAt known key = Stops (λ need. (need ≡ Line key) × (known.line key ≡ None)) (λ bad. (bad ≡ key) × IsSpoiled known key) (λ never. ⊥)
 
 -- this is why the lines can't be read
-abbrev pub StopsReading : Knowledge → Stop → Type 0
-StopsReading known (Missing need) = IsNext known need
-StopsReading known (Bad key) = ReadsTo known key × IsSpoiled known key
-StopsReading known NoMemory = Unit {0}
+abbrev pub StopsReading : Knowledge → Stop Never → Type 0
+StopsReading known = Stops (IsNext known) (λ key. ReadsTo known key × IsSpoiled known key) (λ never. ⊥)
 
 -- the first line of which the bytes are none of the catalog, or where all are, the first misfit
 pub data IsBad (known : Knowledge) (key : Dbkey) : Type 0 where
@@ -96,7 +93,5 @@ pub data IsBad (known : Knowledge) (key : Dbkey) : Type 0 where
   unfit : (ps : List PlacedLine) → ReadsAll known ps → misfit ps ≡ Some key → IsBad known key
 
 -- this is why the catalog can't be read
-abbrev pub StopsCatalog : Knowledge → Stop → Type 0
-StopsCatalog known (Missing need) = IsNext known need
-StopsCatalog known (Bad key) = IsBad known key
-StopsCatalog known NoMemory = Unit {0}
+abbrev pub StopsCatalog : Knowledge → Stop Never → Type 0
+StopsCatalog known = Stops (IsNext known) (IsBad known) (λ never. ⊥)

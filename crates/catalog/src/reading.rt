@@ -6,8 +6,7 @@ ghost use Rattle.catalog.specs.Reading.{IsBad, IsCatalogOf, IsWhole, IsKnown, Re
 use crate::directory::{PlacedLine, directory_of};
 use crate::schema::{misfit, tables_of};
 use catalog_lines::{CatalogLine, read_catalog_line};
-use line_view::need::Stop;
-use line_view::{Need, Seen, View};
+use line_view::{Need, Never, Seen, Stop, View};
 use rdb_meaning::Tables;
 use rdb_types::{Dbkey, Items};
 use std::alloc::Global;
@@ -22,22 +21,21 @@ pub struct Catalog {
     pub tables: Tables,
 }
 
-fn read_line<V: View>(alloc: Global, view: &V, key: Dbkey) -> Result<CatalogLine, Stop>
+fn read_line<V: View>(alloc: Global, view: &V, key: Dbkey) -> Result<CatalogLine, Stop<Never>>
     ensures line { IfOk result (IsKnown (V.knows view.now) key) }
     ensures stop { IfErr result (StopsAt (V.knows view.now) key) }
 {
     match view.line(key) {
         Seen::Unknown => Err(Stop::Missing(Need::Line(key))),
         Seen::Absent => Err(Stop::Bad(key)),
-        Seen::Present(image) => match read_catalog_line(alloc, image) {
-            Ok(Some(line)) => Ok(line),
-            Ok(None) => Err(Stop::Bad(key)),
-            Err(_) => Err(Stop::NoMemory),
+        Seen::Present(image) => match read_catalog_line(alloc, image)? {
+            Some(line) => Ok(line),
+            None => Err(Stop::Bad(key)),
         },
     }
 }
 
-fn read_lines<V: View>(alloc: Global, view: &V) -> Result<Items<PlacedLine>, Stop>
+fn read_lines<V: View>(alloc: Global, view: &V) -> Result<Items<PlacedLine>, Stop<Never>>
     ensures lines { IfOk result (ReadsAll (V.knows view.now)) }
     ensures stop { IfErr result (StopsReading (V.knows view.now)) }
 {
@@ -47,15 +45,13 @@ fn read_lines<V: View>(alloc: Global, view: &V) -> Result<Items<PlacedLine>, Sto
     let mut lines = Items::new(alloc);
     for key in keys {
         let line = read_line(alloc, view, *key)?;
-        let Ok(()) = lines.push(PlacedLine { key: *key, line }) else {
-            return Err(Stop::NoMemory);
-        };
+        lines.push(PlacedLine { key: *key, line })?;
     }
     Ok(lines)
 }
 
 /// The catalog that a view shows. Where the view doesn't know the keys of the catalog's area, or a line of it, the need is answered; where a line's bytes are no line of the catalog, or a line doesn't go with the others, its Dbkey. The lines are read in the order of their Dbkeys, and compared once all are read.
-pub fn read_catalog<V: View>(alloc: Global, view: &V) -> Result<Catalog, Stop>
+pub fn read_catalog<V: View>(alloc: Global, view: &V) -> Result<Catalog, Stop<Never>>
     ensures catalog { IfOk result (λ catalog. (all : Lines) → Agrees (V.knows view.now) all → IsCatalogOf all catalog) }
     ensures whole { IfOk result IsWhole }
     ensures stop { IfErr result (StopsCatalog (V.knows view.now)) }

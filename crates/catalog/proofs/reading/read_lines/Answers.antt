@@ -19,4 +19,4 @@ loop-key-preserved g c =
     let rest = c.next.new.self in
     let next = rest_more deref l.key-iterator rest c.next.result c.in-Some-key.key c.in-Some-key.is c.next.ensures.steps in
     let p : PlacedLine = record { key = c.in-Some-key.key.now; line = c.in_ok-line.line } in
-    rw c.in-Ok.ensures.ok (tt, tt, l.invariant.2 ∙ ap (λ ks. Some (line_keys l.lines ++ ks)) next ∙ ap Some (sym (keys_more l.lines p rest)), known_more (g.V.View.knows c.args.view.now) l.lines p l.invariant.3 c.in_ok-line.ensures.line)
+    rw c.in_ok-push.ensures.ok (tt, tt, l.invariant.2 ∙ ap (λ ks. Some (line_keys l.lines ++ ks)) next ∙ ap Some (sym (keys_more l.lines p rest)), known_more (g.V.View.knows c.args.view.now) l.lines p l.invariant.3 c.in_ok-line.ensures.line)
