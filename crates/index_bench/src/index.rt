@@ -4,7 +4,7 @@ ghost use Rattle.line_view.specs.Held.{knows as knows_of};
 ghost use Rattle.sorted_index_laws.specs.Insertion.{IsKey};
 
 use index_node::{IndexNode, put_node, read_node};
-use line_view::{Known, Need, Room, Seen, View};
+use line_view::{Known, Need, Room, Seen, Stop, View};
 use rdb_types::{Dbkey, Image, Items, NoMemory, Row, Value};
 use sorted_index::{IndexStop, Writes, find, insert};
 use std::alloc::Global;
@@ -79,7 +79,7 @@ impl Index {
             entries: Items::new(alloc),
         };
         let Ok(image) = put_node(&root) else {
-            return Err(IndexStop::Bad(ROOT));
+            return Err(Stop::Bad(ROOT));
         };
         known.learn_line(alloc, ROOT, Some(image))?;
         Ok(Index {
@@ -110,7 +110,7 @@ impl Index {
     fn add_room(&mut self) -> Result<(), IndexStop> {
         let page = self.next_page;
         let Ok(()) = self.rooms.push(node_at(page)) else {
-            return Err(IndexStop::NoMemory);
+            return Err(Stop::NoMemory);
         };
         self.next_page = page.wrapping_add(1);
         Ok(())
@@ -123,11 +123,11 @@ impl Index {
         for _ in 0..MAX_TRIES {
             match insert(alloc, self, ROOT, key.as_slice(), row_at(number), true) {
                 Ok(writes) => return self.lay(alloc, &writes),
-                Err(IndexStop::Missing(Need::Room(_))) => self.add_room()?,
+                Err(Stop::Missing(Need::Room(_))) => self.add_room()?,
                 Err(stop) => return Err(stop),
             }
         }
-        Err(IndexStop::Bad(ROOT))
+        Err(Stop::Bad(ROOT))
     }
 
     /// How many rows the number has.
@@ -145,7 +145,7 @@ impl Index {
         };
         match read_node(alloc, image)? {
             Some(node) => Ok(node.entries.len()),
-            None => Err(IndexStop::Bad(at)),
+            None => Err(Stop::Bad(at)),
         }
     }
 }

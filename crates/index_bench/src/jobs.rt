@@ -1,5 +1,6 @@
 // The jobs, and the words for them.
 use crate::index::Index;
+use line_view::Stop;
 use sorted_index::IndexStop;
 use std::alloc::Global;
 use std::collections::BTreeMap;
@@ -102,7 +103,7 @@ fn map_all(alloc: Global, keys: u32, rounds: u32) -> Result<Work, IndexStop> {
     let mut map = BTreeMap::new(alloc);
     for n in 0..keys {
         let Ok(_before) = map.insert(i64::from(nth_key(n, keys)), n) else {
-            return Err(IndexStop::NoMemory);
+            return Err(Stop::NoMemory);
         };
     }
     let mut found = 0_u64;

@@ -5,16 +5,17 @@ mod index;
 mod jobs;
 
 use jobs::{Work, do_job, job_of};
-use sorted_index::IndexStop;
+use line_view::Stop;
+use sorted_index::{Duplicate, IndexStop};
 use std::process::ExitCode;
 
 /// The status for a job that wasn't done.
 fn status_of(stop: IndexStop) -> u8 {
     match stop {
-        IndexStop::Missing(_) => 2,
-        IndexStop::Duplicate => 3,
-        IndexStop::Bad(_) => 4,
-        IndexStop::NoMemory => 5,
+        Stop::Missing(_) => 2,
+        Stop::Own(Duplicate {}) => 3,
+        Stop::Bad(_) => 4,
+        Stop::NoMemory => 5,
     }
 }
 

@@ -5,14 +5,14 @@ use Rattle.rdb_types.specs.Order.{dbkey_order}
 use Rattle.std.specs.BTreeSet.{BTreeSet, IsFromIterResult}
 use Rattle.line_view.specs.declared.need.Need.{Need}
 use Rattle.line_view.specs.declared.need.Need.TheVariants.{Line, Area, Room}
-use Rattle.line_view.specs.declared.need.Stop.{Stop}
-use Rattle.line_view.specs.declared.need.Stop.TheVariants.{Missing, Bad, NoMemory}
+use Rattle.line_view.specs.declared.stop.Stop.{Stop}
+use Rattle.line_view.specs.declared.stop.Never.{Never}
+use Rattle.line_view.specs.declared.stop.Stop.TheVariants.{Missing, Bad, NoMemory, Own}
 use Rattle.line_view.specs.Knowledge.{Knowledge, Lines, line_in}
 use Rattle.relation_rows.specs.declared.stored.StoredRelation.{StoredRelation}
 use Rattle.relation_rows.specs.declared.stored.StoredRow.{StoredRow}
 use Rattle.relation_rows.specs.Stored.{IsRowAt, IsBadAt, IsBadIn, IsNextLine}
-use Rattle.sorted_index_laws.specs.declared.stop.IndexStop.{IndexStop}
-use Rattle.sorted_index_laws.specs.declared.stop.IndexStop.TheVariants as index
+use Rattle.sorted_index_laws.specs.Stop.{IndexStop}
 use Rattle.sorted_index_laws.specs.Keys.{only, between}
 use Rattle.sorted_index_laws.specs.Nodes.{JudgesIndex}
 use Rattle.access_paths.specs.declared.choice.Access.{Access}
@@ -41,34 +41,36 @@ IsNextAmong known keys (Area area) = ⊥
 IsNextAmong known keys (Room room) = ⊥
 
 -- The rows at these Dbkeys are read in turn.
-abbrev pub ReadsRows : Knowledge → StoredRelation → List Dbkey → Result (List StoredRow) Stop → Type 0
+abbrev pub ReadsRows : Knowledge → StoredRelation → List Dbkey → Result (List StoredRow) (Stop Never) → Type 0
 ReadsRows known r keys (Ok rows) = AreRowsAt known r keys rows
 ReadsRows known r keys (Err (Missing need)) = IsNextAmong known keys need
 ReadsRows known r keys (Err (Bad at)) = IsNoRow known r keys at
 ReadsRows known r keys (Err NoMemory) = Unit {0}
+ReadsRows known r keys (Err (Own never)) = ⊥
 
 -- ---- rows of an index
 
 -- The index of this root is asked for keys, so that a key that repeats is no answer.
-abbrev pub stop_of_index : Dbkey → IndexStop → Stop
-stop_of_index root (index.Missing need) = Missing need
-stop_of_index root index.Duplicate = Bad root
-stop_of_index root (index.Bad at) = Bad at
-stop_of_index root index.NoMemory = NoMemory
+abbrev pub stop_of_index : Dbkey → IndexStop → Stop Never
+stop_of_index root (Missing need) = Missing need
+stop_of_index root (Own duplicate) = Bad root
+stop_of_index root (Bad at) = Bad at
+stop_of_index root NoMemory = NoMemory
 
 -- The rows at the Dbkeys that were found are read in the order of the Dbkeys.
-pub record ReadsInOrder (known : Knowledge) (r : StoredRelation) (found : List Dbkey) (given : Result (List StoredRow) Stop) : Type 0 where
+pub record ReadsInOrder (known : Knowledge) (r : StoredRelation) (found : List Dbkey) (given : Result (List StoredRow) (Stop Never)) : Type 0 where
   pub set : BTreeSet Dbkey
   pub has : IsFromIterResult dbkey_order found set
   pub reads : ReadsRows known r set.keys given
 
-abbrev pub ReadsFound : Knowledge → StoredRelation → List Dbkey → Result (List StoredRow) Stop → Type 0
+abbrev pub ReadsFound : Knowledge → StoredRelation → List Dbkey → Result (List StoredRow) (Stop Never) → Type 0
 ReadsFound known r found (Ok rows) = ReadsInOrder known r found (Ok rows)
 ReadsFound known r found (Err (Missing need)) = ReadsInOrder known r found (Err (Missing need))
 ReadsFound known r found (Err (Bad at)) = ReadsInOrder known r found (Err (Bad at))
 ReadsFound known r found (Err NoMemory) = Unit {0}
+ReadsFound known r found (Err (Own never)) = ⊥
 
-abbrev pub ReadsIndexed : Knowledge → StoredRelation → Dbkey → Result (List Dbkey) IndexStop → Result (List StoredRow) Stop → Type 0
+abbrev pub ReadsIndexed : Knowledge → StoredRelation → Dbkey → Result (List Dbkey) IndexStop → Result (List StoredRow) (Stop Never) → Type 0
 ReadsIndexed known r root (Ok found) given = ReadsFound known r found given
 ReadsIndexed known r root (Err stop) given = given ≡ Err (stop_of_index root stop)
 
@@ -81,8 +83,8 @@ IsNoRowIn r at all = (line_in at all ≡ None) ⊎ IsBadIn r at all
 -- this line of the map isn't the node that a search of the index reads there
 abbrev pub IsNoNodeIn : Access → Dbkey → Lines → Type 0
 IsNoNodeIn Scan at all = ⊥
-IsNoNodeIn (Find root key) at all = JudgesIndex {T = List Dbkey} all (only key) root (Err (index.Bad at))
-IsNoNodeIn (Range root bounds) at all = JudgesIndex {T = List Dbkey} all (between bounds) root (Err (index.Bad at))
+IsNoNodeIn (Find root key) at all = JudgesIndex {T = List Dbkey} all (only key) root (Err (Bad at))
+IsNoNodeIn (Range root bounds) at all = JudgesIndex {T = List Dbkey} all (between bounds) root (Err (Bad at))
 
 -- this line of the map is bad for the access
 abbrev pub IsBadFor : StoredRelation → Access → Dbkey → Lines → Type 0

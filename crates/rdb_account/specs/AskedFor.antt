@@ -10,7 +10,8 @@ use Rattle.rdo_ast.specs.declared.syntax.Share.TheVariants.{Shared, Protected, E
 use Rattle.rdo_ast.specs.Tree.{Command, Uttered, said, syntax_fault, invoke, start_read_only, start_read_write, commit, rollback, finish, perform, define_field, define_relation, define_index, delete_relation, delete_index}
 use Rattle.rdb_meaning.specs.declared.tables.Relation.{Relation}
 use Rattle.rdb_meaning.specs.declared.tables.Tables.{Tables}
-use Rattle.rdb_meaning.specs.Contents.{name_order, relation_named, indexes_on, new_index_area}
+use Rattle.rdb_types.specs.Order.{chars_order as name_order}
+use Rattle.rdb_meaning.specs.Contents.{relation_named, indexes_on, new_index_area}
 use Rattle.rdb_meaning.specs.Checks.{Refusal, Use, use_of, act_uses}
 use Rattle.rdb_meaning.specs.Meaning.{index_uses}
 use Rattle.vms_queues.specs.declared.lock_mode.Mode.{Mode}

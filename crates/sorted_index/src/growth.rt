@@ -3,7 +3,7 @@ ghost use Rattle.std.specs.Prelude.{◌≡◌, ◌≤◌, ◌<◌, ◌+◌, true
 ghost use Rattle.std.specs.List.{flat_map};
 ghost use Rattle.slot_fields.specs.Fields.{size};
 ghost use Rattle.index_node.specs.Node.{entry_fields};
-ghost use Rattle.sorted_index_laws.specs.declared.stop.IndexStop.TheVariants.{NoMemory};
+ghost use Rattle.line_view.specs.declared.stop.Stop.TheVariants.{NoMemory};
 ghost use Rattle.sorted_index_laws.specs.Changes.{goes_on};
 ghost use Rattle.sorted_index_laws.specs.Inner.Growth.{IsGrown, bound as bound_of, unbound as unbound_of, lowered as lowered_of, is_up_to_own as is_up_to_own_of, WritesChild};
 

@@ -4,7 +4,7 @@ ghost use Rattle.std.specs.List.{IsDistinct};
 ghost use Rattle.std.specs.Ordering.{is_eq};
 ghost use Rattle.rdb_types.specs.Order.{dbkey_order};
 ghost use Rattle.line_view.specs.Knowledge.{Lines, Agrees};
-ghost use Rattle.sorted_index_laws.specs.declared.stop.IndexStop.TheVariants.{NoMemory};
+ghost use Rattle.line_view.specs.declared.stop.Stop.TheVariants.{NoMemory};
 ghost use Rattle.sorted_index_laws.specs.Tree.{Tree, node_of, pairs, IsIndex};
 ghost use Rattle.sorted_index_laws.specs.Changes.{pair_of};
 ghost use Rattle.sorted_index_laws.specs.Inner.Steps.{IsLaid};
@@ -17,9 +17,9 @@ use crate::places::{child_of, child_place, has_pair};
 use crate::removal::write_node;
 use crate::splitting::{Halves, halve, put_in_order};
 use crate::work::{Work, take_room};
-use crate::{IndexStop, find};
+use crate::{Duplicate, IndexStop, find};
 use index_node::{IndexNode, NodeEntry};
-use line_view::{View, Writes};
+use line_view::{Stop, View, Writes};
 use rdb_types::{Copied, Dbkey, Items, Row, Value};
 use record_format::are_storable;
 use std::alloc::Global;
@@ -149,7 +149,7 @@ fn write_root<V: View>(
         return write_node(root, &grown, &mut work.writes);
     }
     if grown.level == 255 {
-        return Err(IndexStop::Bad(root));
+        return Err(Stop::Bad(root));
     }
     let level = grown.level + 1;
     let Halves { lower, upper } = halve(alloc, grown)?;
@@ -197,7 +197,7 @@ pub fn insert<V: View>(
 {
     prove!(are_storable(key));
     if is_taken(alloc, view, root, key, unique)? {
-        return Err(IndexStop::Duplicate);
+        return Err(Stop::Own(Duplicate {}));
     }
     let node = node_at(alloc, view, root)?;
     let mut work = Work {

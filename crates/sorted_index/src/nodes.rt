@@ -4,7 +4,7 @@ ghost use Rattle.sorted_index_laws.specs.Inner.Steps.{ReadsNode};
 
 use crate::IndexStop;
 use index_node::{IndexNode, read_node};
-use line_view::{Need, Seen, View};
+use line_view::{Need, Seen, Stop, View};
 use rdb_types::Dbkey;
 use std::alloc::Global;
 
@@ -13,9 +13,9 @@ pub(crate) fn node_at<V: View>(alloc: Global, view: &V, at: Dbkey) -> Result<Ind
     ensures { ReadsNode (V.knows view.now) at (λ node. ⊤) result }
 {
     match view.line(at) {
-        Seen::Unknown => Err(IndexStop::Missing(Need::Line(at))),
-        Seen::Absent => Err(IndexStop::Bad(at)),
-        Seen::Present(image) => read_node(alloc, image)?.ok_or(IndexStop::Bad(at)),
+        Seen::Unknown => Err(Stop::Missing(Need::Line(at))),
+        Seen::Absent => Err(Stop::Bad(at)),
+        Seen::Present(image) => read_node(alloc, image)?.ok_or(Stop::Bad(at)),
     }
 }
 
@@ -32,6 +32,6 @@ pub(crate) fn child_at<V: View>(
     if node.level == level {
         Ok(node)
     } else {
-        Err(IndexStop::Bad(at))
+        Err(Stop::Bad(at))
     }
 }

@@ -2,7 +2,7 @@
 ghost use Rattle.std.specs.Prelude.{◌≡◌, ◌++◌, ◌∷◌, [], ℕ, Some, List, IfErr, OnOk, IfOk};
 ghost use Rattle.index_node.specs.Node.{IsNode};
 ghost use Rattle.line_view.specs.Knowledge.{Lines, Agrees};
-ghost use Rattle.sorted_index_laws.specs.declared.stop.IndexStop.TheVariants.{NoMemory};
+ghost use Rattle.line_view.specs.declared.stop.Stop.TheVariants.{NoMemory};
 ghost use Rattle.sorted_index_laws.specs.Tree.{Tree, node_of, pairs, Stands, IsIndex};
 ghost use Rattle.sorted_index_laws.specs.Changes.{pair_of, without_pair, path, Changes};
 ghost use Rattle.sorted_index_laws.specs.Inner.Steps.{IsLaid};
@@ -12,7 +12,7 @@ use crate::IndexStop;
 use crate::nodes::{child_at, node_at};
 use crate::places::{child_of, child_place, take_pair};
 use index_node::{IndexNode, put_node};
-use line_view::{View, Write, Writes};
+use line_view::{Stop, View, Write, Writes};
 use rdb_types::{Dbkey, Value};
 use std::alloc::Global;
 
@@ -22,7 +22,7 @@ pub(crate) fn write_node(at: Dbkey, node: &IndexNode, writes: &mut Writes) -> Re
     ensures err { IfErr result (λ stop. stop ≡ NoMemory) }
 {
     let Ok(image) = put_node(node) else {
-        return Err(IndexStop::Bad(at));
+        return Err(Stop::Bad(at));
     };
     writes.push(Write {
         key: at,

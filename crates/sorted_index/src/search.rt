@@ -1,6 +1,6 @@
 // Searches of an index for its pairs.
 ghost use Rattle.std.specs.Prelude.{◌≡◌, ◌++◌, ℕ, IfErr, OnOk};
-ghost use Rattle.sorted_index_laws.specs.declared.stop.IndexStop.TheVariants.{NoMemory};
+ghost use Rattle.line_view.specs.declared.stop.Stop.TheVariants.{NoMemory};
 ghost use Rattle.line_view.specs.Knowledge.{Lines, Agrees};
 ghost use Rattle.sorted_index_laws.specs.Keys.{only, between};
 ghost use Rattle.sorted_index.specs.Wanted.{interval_of};

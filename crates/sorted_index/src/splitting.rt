@@ -5,7 +5,7 @@ ghost use Rattle.slot_fields.specs.Fields.{size};
 ghost use Rattle.record_format.specs.Values.{values_fields};
 ghost use Rattle.index_node.specs.declared.entry.NodeEntry.{NodeEntry as Entry};
 ghost use Rattle.index_node.specs.Node.{entry_fields};
-ghost use Rattle.sorted_index_laws.specs.declared.stop.IndexStop.TheVariants.{NoMemory};
+ghost use Rattle.line_view.specs.declared.stop.Stop.TheVariants.{NoMemory};
 ghost use Rattle.sorted_index_laws.specs.Changes.{with_pair};
 ghost use Rattle.sorted_index_laws.specs.Inner.Steps.{IsLaid};
 ghost use Rattle.sorted_index_laws.specs.Inner.Growth.{IsGrown};

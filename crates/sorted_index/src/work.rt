@@ -1,11 +1,11 @@
 // What an insertion writes and takes.
 ghost use Rattle.std.specs.Prelude.{◌≡◌, ◌+◌, ◌<◌, None, Some, IfOk, IfErr, OnOk};
 ghost use Rattle.line_view.specs.declared.need.Need.TheVariants.{Room as RoomNeed};
-ghost use Rattle.sorted_index_laws.specs.declared.stop.IndexStop.TheVariants.{Missing};
+ghost use Rattle.line_view.specs.declared.stop.Stop.TheVariants.{Missing};
 ghost use Rattle.sorted_index_laws.specs.Insertion.{room_at};
 
 use crate::IndexStop;
-use line_view::{Need, Room, View, Writes};
+use line_view::{Need, Room, Stop, View, Writes};
 use rdb_types::Dbkey;
 
 /// The logical area of an index, the lines of it that an insertion writes, and how many rooms it has taken for new nodes.
@@ -31,7 +31,7 @@ pub(crate) fn take_room<V: View>(view: &V, work: &mut Work) -> Result<Dbkey, Ind
         nth: work.rooms,
     };
     let Some(at) = view.room(room) else {
-        return Err(IndexStop::Missing(Need::Room(room)));
+        return Err(Stop::Missing(Need::Room(room)));
     };
     work.rooms += 1;
     Ok(at)

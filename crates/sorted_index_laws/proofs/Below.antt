@@ -7,8 +7,8 @@ use Rattle.index_node.specs.declared.entry.NodeEntry.{NodeEntry}
 use Rattle.index_node.specs.declared.node.IndexNode.{IndexNode}
 use Rattle.line_view.specs.declared.need.Need.TheVariants.{Line}
 use Rattle.line_view.specs.Knowledge.{Lines, Knowledge, Agrees, line_in}
-use Rattle.sorted_index_laws.specs.declared.stop.IndexStop.{IndexStop}
-use Rattle.sorted_index_laws.specs.declared.stop.IndexStop.TheVariants.{Missing, Duplicate, Bad, NoMemory}
+use Rattle.sorted_index_laws.specs.Stop.{IndexStop}
+use Rattle.line_view.specs.declared.stop.Stop.TheVariants.{Missing, Own, Bad, NoMemory}
 use Rattle.sorted_index_laws.specs.Keys.{Interval}
 use Rattle.sorted_index_laws.specs.Tree.{Tree, place, node_of, pairs, Stands}
 use Rattle.sorted_index_laws.specs.Search.{rows_within, may_hold, reads_below, first_unknown}
@@ -117,7 +117,7 @@ stops known own below rows inner old found new (Missing need) passes adds = elim
   | None ↦ λ is h. absurd (cc)
   | Some key ↦ λ is h. ap (option_map Line) (passes key is) ∙ h
 ] refl adds
-stops known own below rows inner old found new Duplicate passes adds = adds
+stops known own below rows inner old found new (Own duplicate) passes adds = adds
 stops known own below rows inner old found new (Bad key) passes adds = adds
 stops known own below rows inner old found new NoMemory passes adds = tt
 
@@ -138,7 +138,7 @@ walk_stopped known s node i old found new entry at below e inner was inside behi
 -- a node that stands in the map is missed only where it isn't known
 pub misses : (known : Knowledge) (all : Lines) (area level : ℕ) (tree : Tree level) (Allowed : IndexNode → Type 0) (rows old new : List Dbkey) (e : IndexStop) → Agrees known all → Stands all area level tree → Allowed (node_of level tree) → ReadsNode known (place level tree) Allowed (Err e) → Adds known (place level tree ∷ []) rows old new (Err e)
 misses known all area level tree Allowed rows old new (Missing need) agrees stands allowed is = ap (λ o. option_map Line (cond (is_none o) (Some (place level tree)) None)) is.1 ∙ ap Some (sym is.0)
-misses known all area level tree Allowed rows old new Duplicate agrees stands allowed is = is
+misses known all area level tree Allowed rows old new (Own duplicate) agrees stands allowed is = is
 misses known all area level tree Allowed rows old new (Bad key) agrees stands allowed is = is.2 (node_of level tree) (known_as known all (place level tree) (node_of level tree) agrees is.1 (bears all area level tree stands)) allowed
 misses known all area level tree Allowed rows old new NoMemory agrees stands allowed is = tt
 
@@ -194,7 +194,7 @@ judged_childless s node i below_level entry all behind none was = rw (add-one i)
 pub judged_misses : (known : Knowledge) (s : Interval) (node : IndexNode) (i below_level : ℕ) (entry : NodeEntry) (at : Dbkey) (e : IndexStop) → node.level ≢ 0 → below_level ≡ node.level - 1 → drop i node.entries ≡ entry ∷ drop (suc i) node.entries → may_hold s (is_first i) (drop i node.entries) ≡ true → entry.child ≡ Some at
     → ReadsNode known at (λ below. below.level ≡ below_level) (Err e) → (all : Lines) → Agrees known all → Judged all s below_level node.entries i → Judges {T = Unit} all s node.level node.entries (Err e)
 judged_misses known s node i below_level entry at (Missing need) inner down behind holds some reading all agrees was = tt
-judged_misses known s node i below_level entry at Duplicate inner down behind holds some reading all agrees was = reading
+judged_misses known s node i below_level entry at (Own duplicate) inner down behind holds some reading all agrees was = reading
 judged_misses known s node i below_level entry at (Bad key) inner down behind holds some reading all agrees was =
     subst (λ (n : ℕ). Lacks all s n node.entries key) (sym (up_from node.level below_level inner down))
     (found_lacked all s below_level node.entries i entry at key was behind holds some (inl (reading.0, λ n is level. reading.2 n (known_as known all at n agrees reading.1 is) level)))
@@ -203,7 +203,7 @@ judged_misses known s node i below_level entry at NoMemory inner down behind hol
 pub judged_stopped : (known : Knowledge) (s : Interval) (node : IndexNode) (i below_level : ℕ) (entry : NodeEntry) (at : Dbkey) (below : IndexNode) (e : IndexStop) → node.level ≢ 0 → below_level ≡ node.level - 1 → drop i node.entries ≡ entry ∷ drop (suc i) node.entries → may_hold s (is_first i) (drop i node.entries) ≡ true → entry.child ≡ Some at
     → ReadsNode known at (λ below. below.level ≡ below_level) (Ok below) → (all : Lines) → Agrees known all → Judges {T = Unit} all s below.level below.entries (Err e) → Judged all s below_level node.entries i → Judges {T = Unit} all s node.level node.entries (Err e)
 judged_stopped known s node i below_level entry at below (Missing need) inner down behind holds some reading all agrees judges was = tt
-judged_stopped known s node i below_level entry at below Duplicate inner down behind holds some reading all agrees judges was = judges
+judged_stopped known s node i below_level entry at below (Own duplicate) inner down behind holds some reading all agrees judges was = judges
 judged_stopped known s node i below_level entry at below (Bad key) inner down behind holds some reading all agrees judges was =
     subst (λ (n : ℕ). Lacks all s n node.entries key) (sym (up_from node.level below_level inner down))
     (found_lacked all s below_level node.entries i entry at key was behind holds some

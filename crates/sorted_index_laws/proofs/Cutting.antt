@@ -17,8 +17,8 @@ use Rattle.index_node.specs.Order.{entry_order}
 use Rattle.index_node.specs.Node.{entry_fields, IsEntry}
 use Rattle.line_view.specs.Knowledge.{Knowledge}
 use Rattle.line_view.specs.declared.writes.Write.{Write}
-use Rattle.sorted_index_laws.specs.declared.stop.IndexStop.{IndexStop}
-use Rattle.sorted_index_laws.specs.declared.stop.IndexStop.TheVariants.{NoMemory}
+use Rattle.sorted_index_laws.specs.Stop.{IndexStop}
+use Rattle.line_view.specs.declared.stop.Stop.TheVariants.{NoMemory}
 use Rattle.sorted_index_laws.specs.Changes.{with_pair, pair_of}
 use Rattle.sorted_index_laws.specs.Inner.Steps.{IsLaid}
 use Rattle.sorted_index_laws.specs.Inner.Growth.{IsGrown, IsHalved, count_below, bound, unbound, WritesTwo, WritesChild, WritesTop, WritesRoot}

@@ -13,8 +13,8 @@ use Rattle.line_view.specs.Knowledge.{Lines, Knowledge, Agrees}
 use Rattle.line_view.specs.declared.writes.Write.{Write}
 use Rattle.line_view.specs.Writes.{laid_all}
 use Rattle.line_view.proofs.Written.{laid_in_turn}
-use Rattle.sorted_index_laws.specs.declared.stop.IndexStop.{IndexStop}
-use Rattle.sorted_index_laws.specs.declared.stop.IndexStop.TheVariants.{Missing, Duplicate, Bad, NoMemory}
+use Rattle.sorted_index_laws.specs.Stop.{IndexStop}
+use Rattle.line_view.specs.declared.stop.Stop.TheVariants.{Missing, Own, Bad, NoMemory}
 use Rattle.sorted_index_laws.specs.Tree.{Tree, place, node_of, pairs, places, Stands, IsFilled}
 use Rattle.sorted_index_laws.specs.Search.{first_unknown}
 use Rattle.sorted_index_laws.specs.Changes.{chosen, with_pair, path_below}
@@ -113,7 +113,7 @@ first_lacks known all area pair level tree child from to old new (Missing (Room 
   ap (λ (cs : List (NodeEntry × Tree level)). first_unknown known (flat_map (λ (c : Tree level). place level c ∷ path_below pair level c) (chosen pair cs))) none,
   subst (λ (cs : List (NodeEntry × Tree level)). AllByRecursion (IsFull pair level) (chosen pair cs)) (sym none) tt,
 )
-first_lacks known all area pair level tree child from to old new Duplicate is_room none h = h
+first_lacks known all area pair level tree child from to old new (Own duplicate) is_room none h = h
 first_lacks known all area pair level tree child from to old new (Bad key) is_room none h = h
 first_lacks known all area pair level tree child from to old new NoMemory is_room none h = tt
 

@@ -17,8 +17,8 @@ use Rattle.line_view.specs.Knowledge.{Lines, Knowledge, Agrees}
 use Rattle.line_view.specs.declared.writes.Write.{Write}
 use Rattle.line_view.specs.Writes.{laid_all}
 use Rattle.line_view.proofs.Written.{laid_in_turn}
-use Rattle.sorted_index_laws.specs.declared.stop.IndexStop.{IndexStop}
-use Rattle.sorted_index_laws.specs.declared.stop.IndexStop.TheVariants.{Missing, Duplicate, Bad, NoMemory}
+use Rattle.sorted_index_laws.specs.Stop.{IndexStop}
+use Rattle.line_view.specs.declared.stop.Stop.TheVariants.{Missing, Own, Bad, NoMemory}
 use Rattle.sorted_index_laws.specs.Tree.{Tree, place, node_of, pairs, places, Bears, AreParted, Stands, IsFilled}
 use Rattle.sorted_index_laws.specs.Search.{first_unknown}
 use Rattle.sorted_index_laws.specs.Changes.{goes_on, chosen, with_pair, path_below}
@@ -296,7 +296,7 @@ missed : (known : Knowledge) (all : Lines) (area : ℕ) (pair : NodeEntry) (leve
     → ReadsNode known (place level child) (λ below. below.level ≡ below_level) (Err e) → PutsIn known all area pair (suc level) tree from to old new (Err e)
 missed known all area pair level tree child from to old new below_level (Missing need) agrees stands path same reading =
     subst (λ n. PutsIn known all area pair (suc level) tree from to old new (Err (Missing n))) (sym reading.0) (ap (first_unknown known) path ∙ unknown_there known (place level child) (path_below pair level child) reading.1)
-missed known all area pair level tree child from to old new below_level Duplicate agrees stands path same reading = reading
+missed known all area pair level tree child from to old new below_level (Own duplicate) agrees stands path same reading = reading
 missed known all area pair level tree child from to old new below_level (Bad key) agrees stands path same reading =
     reading.2 (node_of level child) (known_as known all (place level child) (node_of level child) agrees reading.1 (bears all area level child stands)) (level_of level child ∙ same)
 missed known all area pair level tree child from to old new below_level NoMemory agrees stands path same reading = tt
@@ -319,7 +319,7 @@ stopped : (known : Knowledge) (all : Lines) (area : ℕ) (pair : NodeEntry) (lev
 stopped known all area pair level tree child from to old new (Missing (Line key)) path one some h = ap (first_unknown known) path ∙ (past_known known (place level child) (path_below pair level child) some ∙ h)
 stopped known all area pair level tree child from to old new (Missing (Area a)) path one some h = h
 stopped known all area pair level tree child from to old new (Missing (Room room)) path one some h = (h.0, ap (first_unknown known) path ∙ (past_known known (place level child) (path_below pair level child) some ∙ h.1), full_up pair level tree child one h.2)
-stopped known all area pair level tree child from to old new Duplicate path one some h = h
+stopped known all area pair level tree child from to old new (Own duplicate) path one some h = h
 stopped known all area pair level tree child from to old new (Bad key) path one some h = h
 stopped known all area pair level tree child from to old new NoMemory path one some h = tt
 
@@ -360,7 +360,7 @@ room_lacked known all area pair level tree child from mid to old new between ent
 room_lacked known all area pair level tree child from mid to old new between entries at key grown (Missing (Area a)) path one some put wrote = wrote
 room_lacked known all area pair level tree child from mid to old new between entries at key grown (Missing (Room room)) path one some put wrote =
     ((mid, put.0.counted, wrote.0, wrote.1, put.2), ap (first_unknown known) path ∙ (past_known known (place level child) (path_below pair level child) some ∙ put.1), full_up pair level tree child one (put.0.full wrote.2))
-room_lacked known all area pair level tree child from mid to old new between entries at key grown Duplicate path one some put wrote = wrote
+room_lacked known all area pair level tree child from mid to old new between entries at key grown (Own duplicate) path one some put wrote = wrote
 room_lacked known all area pair level tree child from mid to old new between entries at key grown (Bad k) path one some put wrote = wrote
 room_lacked known all area pair level tree child from mid to old new between entries at key grown NoMemory path one some put wrote = tt
 

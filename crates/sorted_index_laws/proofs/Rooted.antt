@@ -21,8 +21,8 @@ use Rattle.line_view.specs.Knowledge.{Lines, Knowledge, Agrees, line_in, laid}
 use Rattle.line_view.specs.declared.writes.Write.{Write}
 use Rattle.line_view.specs.Writes.{laid_all}
 use Rattle.line_view.proofs.Written.{WriteOn, laid_in_turn}
-use Rattle.sorted_index_laws.specs.declared.stop.IndexStop.{IndexStop}
-use Rattle.sorted_index_laws.specs.declared.stop.IndexStop.TheVariants.{Missing, Duplicate, Bad, NoMemory}
+use Rattle.sorted_index_laws.specs.Stop.{IndexStop}
+use Rattle.line_view.specs.declared.stop.Stop.TheVariants.{Missing, Own, Bad, NoMemory}
 use Rattle.sorted_index_laws.specs.Keys.{only, is_within}
 use Rattle.sorted_index_laws.specs.Tree.{Tree, place, node_of, pairs, Bears, Stands, IsIndex}
 use Rattle.sorted_index_laws.specs.Search.{first_unknown, rows_within, reads, Answers}
@@ -240,15 +240,12 @@ look_stopped known all root pair unique level tree (Missing need) h = elim (firs
   | Some key ↦ λ is h. let same : Line key ≡ need = cc in subst (λ n. Inserts known all root pair unique level tree (Err (Missing n))) same
       (find-append (λ key. is_none (known.line key)) (looked_at unique pair.key level tree) (path pair level tree) ∙ ap (λ o. option_or o (first_unknown known (path pair level tree))) is)
 ] refl h
-look_stopped known all root pair unique level tree Duplicate h = absurd h
+look_stopped known all root pair unique level tree (Own duplicate) h = absurd h
 look_stopped known all root pair unique level tree (Bad key) h = absurd h
 look_stopped known all root pair unique level tree NoMemory h = tt
 
 pub looked_stopped : (known : Knowledge) (root : Dbkey) (pair : NodeEntry) (unique : Bool) (e : IndexStop) → HasLooked known root unique pair.key (Err e) → HasInserted known root pair unique (Err e)
 looked_stopped known root pair unique e looked all level tree agrees is new = look_stopped known all root pair unique level tree e (looked all level tree agrees is)
-
-pub looked_taken : (known : Knowledge) (root : Dbkey) (pair : NodeEntry) (unique found : Bool) → HasLooked known root unique pair.key (Ok found) → found ≡ true → HasInserted known root pair unique (Err Duplicate)
-looked_taken known root pair unique found looked is_so all level tree agrees is new = sym (looked all level tree agrees is).0 ∙ is_so
 
 read_on : (known : Knowledge) (unique : Bool) (pair : NodeEntry) (level : ℕ) (tree : Tree level) → first_unknown known (looked_at unique pair.key level tree) ≡ None → first_unknown known (lines_read unique pair level tree) ≡ first_unknown known (path pair level tree)
 read_on known unique pair level tree none = find-append (λ key. is_none (known.line key)) (looked_at unique pair.key level tree) (path pair level tree) ∙ ap (λ o. option_or o (first_unknown known (path pair level tree))) none
@@ -260,7 +257,7 @@ root_missed : (known : Knowledge) (all : Lines) (root : Dbkey) (pair : NodeEntry
 root_missed known all root pair unique level tree (Missing need) agrees is none reading =
     subst (λ n. Inserts known all root pair unique level tree (Err (Missing n))) (sym reading.0)
     (read_on known unique pair level tree none ∙ (ap (λ (k : Dbkey). first_unknown known (k ∷ path_below pair level tree)) is.rooted ∙ unknown_root known root (path_below pair level tree) reading.1))
-root_missed known all root pair unique level tree Duplicate agrees is none reading = absurd reading
+root_missed known all root pair unique level tree (Own duplicate) agrees is none reading = absurd reading
 root_missed known all root pair unique level tree (Bad key) agrees is none reading =
     absurd (reading.2 (node_of level tree) (known_as known all root (node_of level tree) agrees reading.1 (subst (λ (k : Dbkey). Bears (line_in k all) (node_of level tree)) is.rooted (bears all root.area level tree is.stands))) tt)
 root_missed known all root pair unique level tree NoMemory agrees is none reading = tt
@@ -279,7 +276,7 @@ root_stopped : (known : Knowledge) (all : Lines) (root : Dbkey) (pair : NodeEntr
 root_stopped known all root pair unique level tree to new (Missing (Line key)) none free some h = read_on known unique pair level tree none ∙ (past_known known (place level tree) (path_below pair level tree) some ∙ h)
 root_stopped known all root pair unique level tree to new (Missing (Area a)) none free some h = h
 root_stopped known all root pair unique level tree to new (Missing (Room room)) none free some h = (h.0, read_on known unique pair level tree none ∙ (past_known known (place level tree) (path_below pair level tree) some ∙ h.1), free, h.2)
-root_stopped known all root pair unique level tree to new Duplicate none free some h = absurd h
+root_stopped known all root pair unique level tree to new (Own duplicate) none free some h = absurd h
 root_stopped known all root pair unique level tree to new (Bad key) none free some h = absurd h
 root_stopped known all root pair unique level tree to new NoMemory none free some h = tt
 
@@ -294,7 +291,7 @@ root_unwritten known all root pair unique level tree to between new grown (Missi
 root_unwritten known all root pair unique level tree to between new grown (Missing (Area a)) none free g taken h = h
 root_unwritten known all root pair unique level tree to between new grown (Missing (Room room)) none free g taken h =
     ((h.0.0, omega arith, h.0.2, h.0.3, taken_more known root.area 0 to h.0.0 taken h.0.4), none, free, g.full h.1)
-root_unwritten known all root pair unique level tree to between new grown Duplicate none free g taken h = absurd h
+root_unwritten known all root pair unique level tree to between new grown (Own duplicate) none free g taken h = absurd h
 root_unwritten known all root pair unique level tree to between new grown (Bad key) none free g taken h = (h.0, level_grown known all root.area 0 to pair level tree [] between grown g ∙ h.1, free, g.full h.2)
 root_unwritten known all root pair unique level tree to between new grown NoMemory none free g taken h = tt
 
@@ -319,7 +316,7 @@ inserted known root pair unique found node grown to between new done looked is_n
 
 looks : (known : Knowledge) (key : List Value) (level : ℕ) (tree : Tree level) (e : IndexStop) → Answers known (reads (only key) level tree) (rows_within (only key) (pairs level tree)) (Err e) → Looks known true key level tree (Err e)
 looks known key level tree (Missing need) h = h
-looks known key level tree Duplicate h = h
+looks known key level tree (Own duplicate) h = h
 looks known key level tree (Bad bad) h = h
 looks known key level tree NoMemory h = tt
 

@@ -10,8 +10,8 @@ use Rattle.index_node.specs.Node.{IsNode}
 use Rattle.line_view.specs.declared.need.Need.TheVariants.{Line}
 use Rattle.line_view.specs.Knowledge.{Lines, Knowledge, Agrees, line_in}
 use Rattle.line_view.specs.declared.writes.Write.{Write}
-use Rattle.sorted_index_laws.specs.declared.stop.IndexStop.{IndexStop}
-use Rattle.sorted_index_laws.specs.declared.stop.IndexStop.TheVariants.{Missing, Duplicate, Bad, NoMemory}
+use Rattle.sorted_index_laws.specs.Stop.{IndexStop}
+use Rattle.line_view.specs.declared.stop.Stop.TheVariants.{Missing, Own, Bad, NoMemory}
 use Rattle.sorted_index_laws.specs.Tree.{Tree, place, node_of, pairs, Bears, Stands, IsIndex, is_empty, has_nothing}
 use Rattle.sorted_index_laws.specs.Search.{first_unknown}
 use Rattle.sorted_index_laws.specs.Changes.{without_pair, chosen, path_below, path, Changes}
@@ -97,13 +97,13 @@ takes_stop known pair level tree old new lines (Missing need) passes h = elim (f
   | None ↦ λ is h. absurd (cc)
   | Some key ↦ λ is h. ap (option_map Line) (passes key is) ∙ h
 ] refl h
-takes_stop known pair level tree old new lines Duplicate passes h = h
+takes_stop known pair level tree old new lines (Own duplicate) passes h = h
 takes_stop known pair level tree old new lines (Bad key) passes h = h
 takes_stop known pair level tree old new lines NoMemory passes h = tt
 
 as_added : (known : Knowledge) (pair : NodeEntry) (level : ℕ) (tree : Tree level) (old new : List Write) (e : IndexStop) → TakesOut known pair level tree old new (Err e) → Adds known (path_below pair level tree) [] [] [] (Err e)
 as_added known pair level tree old new (Missing need) h = h
-as_added known pair level tree old new Duplicate h = h
+as_added known pair level tree old new (Own duplicate) h = h
 as_added known pair level tree old new (Bad key) h = h
 as_added known pair level tree old new NoMemory h = tt
 
@@ -192,7 +192,7 @@ empty_false (x ∷ xs) r iff is = refl
 
 as_changed : (known : Knowledge) (all : Lines) (root : Dbkey) (level : ℕ) (tree : Tree level) (read : List Dbkey) (left : List NodeEntry) (e : IndexStop) → Adds known read [] [] [] (Err e) → Changes known all root level tree read left (Err e)
 as_changed known all root level tree read left (Missing need) h = h
-as_changed known all root level tree read left Duplicate h = h
+as_changed known all root level tree read left (Own duplicate) h = h
 as_changed known all root level tree read left (Bad key) h = h
 as_changed known all root level tree read left NoMemory h = tt
 

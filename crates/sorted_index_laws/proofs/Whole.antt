@@ -4,8 +4,8 @@ use Rattle.std.specs.Prelude.{is_none, Ok, Err, ⊤}
 use Rattle.rdb_types.specs.declared.keys.Dbkey.{Dbkey}
 use Rattle.index_node.specs.declared.node.IndexNode.{IndexNode}
 use Rattle.line_view.specs.Knowledge.{Lines, Knowledge, Agrees, line_in}
-use Rattle.sorted_index_laws.specs.declared.stop.IndexStop.{IndexStop}
-use Rattle.sorted_index_laws.specs.declared.stop.IndexStop.TheVariants.{Missing, Duplicate, Bad, NoMemory}
+use Rattle.sorted_index_laws.specs.Stop.{IndexStop}
+use Rattle.line_view.specs.declared.stop.Stop.TheVariants.{Missing, Own, Bad, NoMemory}
 use Rattle.sorted_index_laws.specs.Keys.{Interval}
 use Rattle.sorted_index_laws.specs.Tree.{Tree, place, node_of, pairs, Bears, IsIndex}
 use Rattle.sorted_index_laws.specs.Search.{rows_within, reads_below, reads, Answers}
@@ -16,7 +16,7 @@ use Rattle.sorted_index_laws.proofs.Below.{HasAdded, stops, past_known, unknown_
 
 answered : (known : Knowledge) (lines rows old new : List Dbkey) (e : IndexStop) → Adds known lines rows old new (Err e) → Answers known lines rows (Err e)
 answered known lines rows old new (Missing need) h = h
-answered known lines rows old new Duplicate h = h
+answered known lines rows old new (Own duplicate) h = h
 answered known lines rows old new (Bad key) h = h
 answered known lines rows old new NoMemory h = tt
 
@@ -50,13 +50,13 @@ root_found known s root node old new done none known_as_node adds all level tree
 
 pub judged_root : (known : Knowledge) (s : Interval) (root : Dbkey) (e : IndexStop) → ReadsNode known root (λ node. ⊤) (Err e) → (all : Lines) → Agrees known all → JudgesIndex {T = List Dbkey} all s root (Err e)
 judged_root known s root (Missing need) reading all agrees = tt
-judged_root known s root Duplicate reading all agrees = reading
+judged_root known s root (Own duplicate) reading all agrees = reading
 judged_root known s root (Bad key) reading all agrees = inl (reading.0, λ node is. reading.2 node (known_as known all root node agrees reading.1 is) tt)
 judged_root known s root NoMemory reading all agrees = tt
 
 pub judged_below : (known : Knowledge) (s : Interval) (root : Dbkey) (node : IndexNode) (e : IndexStop) → IsKnownAs (known.line root) node → ((all : Lines) → Agrees known all → Judges {T = Unit} all s node.level node.entries (Err e)) → (all : Lines) → Agrees known all → JudgesIndex {T = List Dbkey} all s root (Err e)
 judged_below known s root node (Missing need) known_as_node judges all agrees = tt
-judged_below known s root node Duplicate known_as_node judges all agrees = judges all agrees
+judged_below known s root node (Own duplicate) known_as_node judges all agrees = judges all agrees
 judged_below known s root node (Bad key) known_as_node judges all agrees = inr (node, (known_in known all root node agrees known_as_node, judges all agrees))
 judged_below known s root node NoMemory known_as_node judges all agrees = tt
 

@@ -11,8 +11,8 @@ use Rattle.line_view.specs.declared.need.Need.TheVariants.{Line}
 use Rattle.line_view.specs.Knowledge.{Knowledge, Lines}
 use Rattle.line_view.specs.declared.writes.Write.{Write}
 use Rattle.line_view.specs.Writes.{laid_all}
-use Rattle.sorted_index_laws.specs.declared.stop.IndexStop.{IndexStop}
-use Rattle.sorted_index_laws.specs.declared.stop.IndexStop.TheVariants.{Missing, Duplicate, Bad, NoMemory}
+use Rattle.sorted_index_laws.specs.Stop.{IndexStop}
+use Rattle.line_view.specs.declared.stop.Stop.TheVariants.{Missing, Own, Bad, NoMemory}
 use Rattle.sorted_index_laws.specs.Tree.{Tree, place, pairs, places, IsIndex, IsFilled}
 use Rattle.sorted_index_laws.specs.Search.{first_unknown}
 
@@ -77,6 +77,6 @@ ErasesOthers level_before before level after writes = AllByRecursion (λ key. (h
 abbrev pub Changes : Knowledge → Lines → Dbkey → (level : ℕ) → Tree level → List Dbkey → List NodeEntry → Result (List Write) IndexStop → Type 0
 Changes known lines root level tree read pairs_left (Ok writes) = ((left : Leaves lines root level tree writes pairs_left) × ErasesOthers level tree left.level left.tree writes) × (first_unknown known read ≡ None) × AllByRecursion (λ write. has_line read write.key ≡ true) writes
 Changes known lines root level tree read pairs_left (Err (Missing need)) = option_map Line (first_unknown known read) ≡ Some need
-Changes known lines root level tree read pairs_left (Err Duplicate) = ⊥
+Changes known lines root level tree read pairs_left (Err (Own duplicate)) = ⊥
 Changes known lines root level tree read pairs_left (Err (Bad key)) = ⊥
 Changes known lines root level tree read pairs_left (Err NoMemory) = Unit {0}

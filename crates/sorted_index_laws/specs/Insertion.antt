@@ -13,8 +13,8 @@ use Rattle.line_view.specs.declared.need.Need.TheVariants.{Line, Area, Room}
 use Rattle.line_view.specs.declared.need.Room.{Room as Place}
 use Rattle.line_view.specs.Knowledge.{Knowledge, Lines}
 use Rattle.line_view.specs.declared.writes.Write.{Write}
-use Rattle.sorted_index_laws.specs.declared.stop.IndexStop.{IndexStop}
-use Rattle.sorted_index_laws.specs.declared.stop.IndexStop.TheVariants.{Missing, Duplicate, Bad, NoMemory}
+use Rattle.sorted_index_laws.specs.Stop.{IndexStop}
+use Rattle.line_view.specs.declared.stop.Stop.TheVariants.{Missing, Own, Bad, NoMemory}
 use Rattle.sorted_index_laws.specs.Keys.{only}
 use Rattle.sorted_index_laws.specs.Tree.{Tree, pairs}
 use Rattle.sorted_index_laws.specs.Search.{first_unknown, reads}
@@ -67,6 +67,6 @@ Inserts known lines root pair unique level tree (Ok writes) = Leaves lines root 
 Inserts known lines root pair unique level tree (Err (Missing (Line key))) = first_unknown known (lines_read unique pair level tree) ≡ Some key
 Inserts known lines root pair unique level tree (Err (Missing (Area area))) = ⊥
 Inserts known lines root pair unique level tree (Err (Missing (Room room))) = LacksRoom known root.area 0 room × (first_unknown known (lines_read unique pair level tree) ≡ None) × ((unique && has_key pair.key (pairs level tree)) ≡ false) × IsFull pair level tree
-Inserts known lines root pair unique level tree (Err Duplicate) = (unique && has_key pair.key (pairs level tree)) ≡ true
+Inserts known lines root pair unique level tree (Err (Own duplicate)) = (unique && has_key pair.key (pairs level tree)) ≡ true
 Inserts known lines root pair unique level tree (Err (Bad key)) = (key ≡ root) × (level ≡ 255) × ((unique && has_key pair.key (pairs level tree)) ≡ false) × IsFull pair level tree
 Inserts known lines root pair unique level tree (Err NoMemory) = Unit {0}

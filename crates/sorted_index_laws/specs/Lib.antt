@@ -1,3 +1,4 @@
+pub mod Stop
 pub mod Keys
 pub mod Tree
 pub mod Search

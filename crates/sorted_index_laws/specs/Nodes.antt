@@ -5,8 +5,8 @@ use Rattle.rdb_types.specs.declared.keys.Dbkey.{Dbkey}
 use Rattle.index_node.specs.declared.entry.NodeEntry.{NodeEntry}
 use Rattle.index_node.specs.declared.node.IndexNode.{IndexNode}
 use Rattle.line_view.specs.Knowledge.{Lines, line_in}
-use Rattle.sorted_index_laws.specs.declared.stop.IndexStop.{IndexStop}
-use Rattle.sorted_index_laws.specs.declared.stop.IndexStop.TheVariants.{Missing, Duplicate, Bad, NoMemory}
+use Rattle.sorted_index_laws.specs.Stop.{IndexStop}
+use Rattle.line_view.specs.declared.stop.Stop.TheVariants.{Missing, Own, Bad, NoMemory}
 use Rattle.sorted_index_laws.specs.Keys.{Interval}
 use Rattle.sorted_index_laws.specs.Tree.{Bears}
 use Rattle.sorted_index_laws.specs.Search.{may_hold}
@@ -38,7 +38,7 @@ Lacks lines interval (suc level) entries bad =
 abbrev pub Judges : {T : Type 0} → Lines → Interval → ℕ → List NodeEntry → Result T IndexStop → Type 0
 Judges lines interval level entries (Ok done) = AreThere lines interval level entries
 Judges lines interval level entries (Err (Missing need)) = Unit {0}
-Judges lines interval level entries (Err Duplicate) = ⊥
+Judges lines interval level entries (Err (Own duplicate)) = ⊥
 Judges lines interval level entries (Err (Bad key)) = Lacks lines interval level entries key
 Judges lines interval level entries (Err NoMemory) = Unit {0}
 
@@ -46,7 +46,7 @@ Judges lines interval level entries (Err NoMemory) = Unit {0}
 abbrev pub JudgesIndex : {T : Type 0} → Lines → Interval → Dbkey → Result T IndexStop → Type 0
 JudgesIndex lines interval root (Ok done) = (node : IndexNode) × (Bears (line_in root lines) node × AreThere lines interval node.level node.entries)
 JudgesIndex lines interval root (Err (Missing need)) = Unit {0}
-JudgesIndex lines interval root (Err Duplicate) = ⊥
+JudgesIndex lines interval root (Err (Own duplicate)) = ⊥
 JudgesIndex lines interval root (Err (Bad key)) = ((key ≡ root) × ((node : IndexNode) → Bears (line_in root lines) node → ⊥))
     ⊎ ((node : IndexNode) × (Bears (line_in root lines) node × Lacks lines interval node.level node.entries key))
 JudgesIndex lines interval root (Err NoMemory) = Unit {0}

@@ -5,8 +5,8 @@ use Rattle.rdb_types.specs.declared.keys.Dbkey.{Dbkey}
 use Rattle.index_node.specs.declared.entry.NodeEntry.{NodeEntry}
 use Rattle.line_view.specs.declared.need.Need.TheVariants.{Line}
 use Rattle.line_view.specs.Knowledge.{Knowledge}
-use Rattle.sorted_index_laws.specs.declared.stop.IndexStop.{IndexStop}
-use Rattle.sorted_index_laws.specs.declared.stop.IndexStop.TheVariants.{Missing, Duplicate, Bad, NoMemory}
+use Rattle.sorted_index_laws.specs.Stop.{IndexStop}
+use Rattle.line_view.specs.declared.stop.Stop.TheVariants.{Missing, Own, Bad, NoMemory}
 use Rattle.sorted_index_laws.specs.Keys.{Interval, is_within}
 use Rattle.sorted_index_laws.specs.Tree.{Tree, place}
 
@@ -52,6 +52,6 @@ first_unknown known = find (λ key. is_none (known.line key))
 abbrev pub Answers : Knowledge → List Dbkey → List Dbkey → Result (List Dbkey) IndexStop → Type 0
 Answers known lines rows (Ok found) = (found ≡ rows) × (first_unknown known lines ≡ None)
 Answers known lines rows (Err (Missing need)) = option_map Line (first_unknown known lines) ≡ Some need
-Answers known lines rows (Err Duplicate) = ⊥
+Answers known lines rows (Err (Own duplicate)) = ⊥
 Answers known lines rows (Err (Bad key)) = ⊥
 Answers known lines rows (Err NoMemory) = Unit {0}

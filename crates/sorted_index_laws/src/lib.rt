@@ -7,4 +7,4 @@ mod stop;
 
 pub use bounds::Bounds;
 pub use laws::{pairs_are_ordered, the_way_is_in_the_index};
-pub use stop::IndexStop;
+pub use stop::{Duplicate, IndexStop};

@@ -15,8 +15,8 @@ use Rattle.line_view.specs.declared.need.Need.TheVariants.{Line, Area, Room}
 use Rattle.line_view.specs.Knowledge.{Knowledge, Lines}
 use Rattle.line_view.specs.declared.writes.Write.{Write}
 use Rattle.line_view.specs.Writes.{laid_all}
-use Rattle.sorted_index_laws.specs.declared.stop.IndexStop.{IndexStop}
-use Rattle.sorted_index_laws.specs.declared.stop.IndexStop.TheVariants.{Missing, Duplicate, Bad, NoMemory}
+use Rattle.sorted_index_laws.specs.Stop.{IndexStop}
+use Rattle.line_view.specs.declared.stop.Stop.TheVariants.{Missing, Own, Bad, NoMemory}
 use Rattle.sorted_index_laws.specs.Tree.{Tree, place, node_of, pairs, places, AreParted, Stands, IsFilled}
 use Rattle.sorted_index_laws.specs.Search.{first_unknown}
 use Rattle.sorted_index_laws.specs.Changes.{with_pair, has_key, goes_on, path_below}
@@ -31,7 +31,7 @@ pub record IsNodeKey (key : List Value) : Type 0 where
 abbrev pub Looks : Knowledge → Bool → List Value → (level : ℕ) → Tree level → Result Bool IndexStop → Type 0
 Looks known unique key level tree (Ok found) = (found ≡ (unique && has_key key (pairs level tree))) × (first_unknown known (looked_at unique key level tree) ≡ None)
 Looks known unique key level tree (Err (Missing need)) = option_map Line (first_unknown known (looked_at unique key level tree)) ≡ Some need
-Looks known unique key level tree (Err Duplicate) = ⊥
+Looks known unique key level tree (Err (Own duplicate)) = ⊥
 Looks known unique key level tree (Err (Bad bad)) = ⊥
 Looks known unique key level tree (Err NoMemory) = Unit {0}
 
@@ -123,7 +123,7 @@ PutsIn known all area pair level tree from to old new (Ok grown) = Grows known a
 PutsIn known all area pair level tree from to old new (Err (Missing (Line key))) = first_unknown known (path_below pair level tree) ≡ Some key
 PutsIn known all area pair level tree from to old new (Err (Missing (Area a))) = ⊥
 PutsIn known all area pair level tree from to old new (Err (Missing (Room room))) = LacksRoom known area from room × (first_unknown known (path_below pair level tree) ≡ None) × IsFull pair level tree
-PutsIn known all area pair level tree from to old new (Err Duplicate) = ⊥
+PutsIn known all area pair level tree from to old new (Err (Own duplicate)) = ⊥
 PutsIn known all area pair level tree from to old new (Err (Bad key)) = ⊥
 PutsIn known all area pair level tree from to old new (Err NoMemory) = Unit {0}
 
@@ -161,7 +161,7 @@ WritesChild known area entries at child grown from to old new (Ok after) = Write
 WritesChild known area entries at child grown from to old new (Err (Missing (Line key))) = ⊥
 WritesChild known area entries at child grown from to old new (Err (Missing (Area a))) = ⊥
 WritesChild known area entries at child grown from to old new (Err (Missing (Room room))) = (room ≡ room_at area from) × (known.room room ≡ None) × (430 < size (node_fields grown))
-WritesChild known area entries at child grown from to old new (Err Duplicate) = ⊥
+WritesChild known area entries at child grown from to old new (Err (Own duplicate)) = ⊥
 WritesChild known area entries at child grown from to old new (Err (Bad key)) = ⊥
 WritesChild known area entries at child grown from to old new (Err NoMemory) = Unit {0}
 
@@ -190,6 +190,6 @@ WritesRoot known area root grown from old new (Ok done) = ((image : List ℕ) ×
 WritesRoot known area root grown from old new (Err (Missing (Line key))) = ⊥
 WritesRoot known area root grown from old new (Err (Missing (Area a))) = ⊥
 WritesRoot known area root grown from old new (Err (Missing (Room room))) = LacksRoom known area from room × (430 < size (node_fields grown))
-WritesRoot known area root grown from old new (Err Duplicate) = ⊥
+WritesRoot known area root grown from old new (Err (Own duplicate)) = ⊥
 WritesRoot known area root grown from old new (Err (Bad key)) = (key ≡ root) × (grown.level ≡ 255) × (430 < size (node_fields grown))
 WritesRoot known area root grown from old new (Err NoMemory) = Unit {0}

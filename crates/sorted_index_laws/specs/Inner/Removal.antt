@@ -5,8 +5,8 @@ use Rattle.index_node.specs.declared.node.IndexNode.{IndexNode}
 use Rattle.line_view.specs.declared.need.Need.TheVariants.{Line}
 use Rattle.line_view.specs.Knowledge.{Knowledge}
 use Rattle.line_view.specs.declared.writes.Write.{Write}
-use Rattle.sorted_index_laws.specs.declared.stop.IndexStop.{IndexStop}
-use Rattle.sorted_index_laws.specs.declared.stop.IndexStop.TheVariants.{Missing, Duplicate, Bad, NoMemory}
+use Rattle.sorted_index_laws.specs.Stop.{IndexStop}
+use Rattle.line_view.specs.declared.stop.Stop.TheVariants.{Missing, Own, Bad, NoMemory}
 use Rattle.sorted_index_laws.specs.Tree.{Tree, place, node_of, Bears, has_nothing}
 use Rattle.sorted_index_laws.specs.Search.{first_unknown}
 use Rattle.sorted_index_laws.specs.Changes.{goes_on, without_pair, path_below}
@@ -48,6 +48,6 @@ abbrev pub TakesOut : Knowledge → NodeEntry → (level : ℕ) → Tree level �
 TakesOut known pair level tree old new (Ok left) = (node_of level (without pair level tree) ≡ left) × (first_unknown known (path_below pair level tree) ≡ None)
     × ((writes : List Write) × ((new ≡ old ++ writes) × Wrote pair level tree writes))
 TakesOut known pair level tree old new (Err (Missing need)) = option_map Line (first_unknown known (path_below pair level tree)) ≡ Some need
-TakesOut known pair level tree old new (Err Duplicate) = ⊥
+TakesOut known pair level tree old new (Err (Own duplicate)) = ⊥
 TakesOut known pair level tree old new (Err (Bad key)) = ⊥
 TakesOut known pair level tree old new (Err NoMemory) = Unit {0}

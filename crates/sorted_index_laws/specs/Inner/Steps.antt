@@ -9,8 +9,8 @@ use Rattle.index_node.specs.Order.{entry_order}
 use Rattle.index_node.specs.Node.{IsNode, IsAllowedNode, node_fields}
 use Rattle.line_view.specs.declared.need.Need.TheVariants.{Line}
 use Rattle.line_view.specs.Knowledge.{Knowledge}
-use Rattle.sorted_index_laws.specs.declared.stop.IndexStop.{IndexStop}
-use Rattle.sorted_index_laws.specs.declared.stop.IndexStop.TheVariants.{Missing, Duplicate, Bad, NoMemory}
+use Rattle.sorted_index_laws.specs.Stop.{IndexStop}
+use Rattle.line_view.specs.declared.stop.Stop.TheVariants.{Missing, Own, Bad, NoMemory}
 use Rattle.sorted_index_laws.specs.Search.{first_unknown}
 
 -- what is known of the line is that it is present and has the image of this node
@@ -23,7 +23,7 @@ IsKnownAs None node = ⊥
 abbrev pub ReadsNode : Knowledge → Dbkey → (IndexNode → Type 0) → Result IndexNode IndexStop → Type 0
 ReadsNode known at Allowed (Ok node) = IsKnownAs (known.line at) node × Allowed node
 ReadsNode known at Allowed (Err (Missing need)) = (need ≡ Line at) × (known.line at ≡ None)
-ReadsNode known at Allowed (Err Duplicate) = ⊥
+ReadsNode known at Allowed (Err (Own duplicate)) = ⊥
 ReadsNode known at Allowed (Err (Bad key)) = (key ≡ at) × (known.line at ≢ None) × ((node : IndexNode) → IsKnownAs (known.line at) node → Allowed node → ⊥)
 ReadsNode known at Allowed (Err NoMemory) = Unit {0}
 
@@ -31,7 +31,7 @@ ReadsNode known at Allowed (Err NoMemory) = Unit {0}
 abbrev pub Adds : Knowledge → List Dbkey → List Dbkey → List Dbkey → List Dbkey → Result Unit IndexStop → Type 0
 Adds known lines rows old new (Ok done) = (new ≡ old ++ rows) × (first_unknown known lines ≡ None)
 Adds known lines rows old new (Err (Missing need)) = option_map Line (first_unknown known lines) ≡ Some need
-Adds known lines rows old new (Err Duplicate) = ⊥
+Adds known lines rows old new (Err (Own duplicate)) = ⊥
 Adds known lines rows old new (Err (Bad key)) = ⊥
 Adds known lines rows old new (Err NoMemory) = Unit {0}
 

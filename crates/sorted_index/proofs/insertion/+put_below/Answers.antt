@@ -6,7 +6,7 @@ use Rattle.index_node.specs.declared.entry.NodeEntry.{NodeEntry}
 use Rattle.index_node.specs.declared.node.IndexNode.{IndexNode}
 use Rattle.line_view.specs.Knowledge.{Knowledge}
 use Rattle.line_view.specs.declared.writes.Write.{Write}
-use Rattle.sorted_index_laws.specs.declared.stop.IndexStop.{IndexStop}
+use Rattle.sorted_index_laws.specs.Stop.{IndexStop}
 use Rattle.sorted_index_laws.specs.Changes.{pair_of}
 use Rattle.sorted_index_laws.specs.Inner.Steps.{child_place, IsLaid}
 use Rattle.sorted_index_laws.specs.Inner.Growth.{IsGrown, WritesChild}
