@@ -4,17 +4,20 @@ use Rattle.line_view.specs.declared.need.Room.{Room}
 use Rattle.line_view.specs.declared.need.Need.TheVariants.{Room as RoomOf}
 use Rattle.line_view.specs.Knowledge.{Knowledge}
 use Rattle.rdb_meaning.specs.Checks.{Refusal}
-use Rattle.rdb_checks.specs.declared.stop.Stop.{Stop}
-use Rattle.rdb_checks.specs.declared.stop.Stop.TheVariants.{Refused as RefusedBy, Memory}
+use Rattle.rdo_ast.specs.declared.reply.Reply.{Reply}
+use Rattle.line_view.specs.declared.stop.Stop.{Stop}
+use Rattle.line_view.specs.declared.stop.Stop.TheVariants.{NoMemory, Own}
+use Rattle.line_view.specs.declared.need.Need.{Need}
+use Rattle.line_view.specs.Stops.{Stops}
+use Rattle.rdb_checks.specs.declared.stop.Stop.{Stop as CheckStop}
+use Rattle.rdb_checks.specs.declared.stop.Stop.TheVariants.{Refused, Memory}
 use Rattle.catalog_lines.specs.declared.line.CatalogLine.{CatalogLine}
 use Rattle.catalog.specs.Reading.{catalog_area}
-use Rattle.catalog_definitions.specs.declared.stop.DefineStop.{DefineStop}
-use Rattle.catalog_definitions.specs.declared.stop.DefineStop.TheVariants.{Missing, Refused, NoMemory}
 
 -- the stop of a check
-abbrev pub IsStopOf : Stop → DefineStop → Type 0
-IsStopOf (RefusedBy reply) stop = stop ≡ Refused reply
-IsStopOf Memory stop = stop ≡ NoMemory
+abbrev pub stop_of_check : CheckStop → Stop Reply
+stop_of_check (Refused reply) = Own reply
+stop_of_check Memory = NoMemory
 
 -- ---- rooms
 
@@ -33,14 +36,14 @@ first_unknown_room known (room ∷ rooms) = if is_some (known.room room) then fi
 
 -- ---- causes
 
--- What is read are these rooms alone, in their order: the first that isn't known is needed.
-abbrev pub Lacks : Knowledge → List Room → DefineStop → Type 0
-Lacks known rooms (Missing need) = option_map RoomOf (first_unknown_room known rooms) ≡ Some need
-Lacks known rooms (Refused reply) = ⊥
-Lacks known rooms NoMemory = Unit {0}
+-- this is the first of the rooms that isn't known
+abbrev pub IsNextRoom : Knowledge → List Room → Need → Type 0
+IsNextRoom known rooms need = option_map RoomOf (first_unknown_room known rooms) ≡ Some need
+
+-- What is read are these rooms alone, in their order. Nothing is refused.
+abbrev pub LacksRoom : Knowledge → List Room → Stop Reply → Type 0
+LacksRoom known rooms = Stops (IsNextRoom known rooms) (λ key. ⊥) (λ reply. ⊥)
 
 -- A refusal comes before all needs.
-abbrev pub Stops : Knowledge → Refusal → List Room → DefineStop → Type 0
-Stops known refusal rooms (Refused reply) = refusal ≡ Some reply
-Stops known refusal rooms (Missing need) = (refusal ≡ None) × (option_map RoomOf (first_unknown_room known rooms) ≡ Some need)
-Stops known refusal rooms NoMemory = Unit {0}
+abbrev pub StopsDefining : Knowledge → Refusal → List Room → Stop Reply → Type 0
+StopsDefining known refusal rooms = Stops (λ need. (refusal ≡ None) × IsNextRoom known rooms need) (λ key. ⊥) (λ reply. refusal ≡ Some reply)

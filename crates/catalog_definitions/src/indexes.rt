@@ -9,18 +9,19 @@ ghost use Rattle.rdb_definitions.specs.Answers.{Defines};
 ghost use Rattle.rdb_definitions.specs.NewIndex.{new_index};
 ghost use Rattle.catalog_lines.specs.Lines.{IsAllowedLine};
 ghost use Rattle.catalog.specs.Reading.{IsWhole};
-ghost use Rattle.catalog_definitions.specs.Causes.{Lacks, Stops};
+ghost use Rattle.catalog_definitions.specs.Causes.{LacksRoom, StopsDefining};
 ghost use Rattle.catalog_definitions.specs.Written.{IsIndexDefinition, IsIndexWritten, index_line, index_rooms};
 ghost use Rattle.catalog_definitions.specs.Leaving.{Turns};
 
-use crate::stop::DefineStop;
+use crate::stop::from_check;
 use crate::writing::{room_key, write_lines};
 use catalog::Catalog;
 use catalog_lines::{CatalogLine, IndexLine};
-use line_view::{Room, View, Writes};
+use line_view::{Room, Stop, View, Writes};
 use rdb_definitions::check_index_names;
 use rdb_meaning::{Index, Tables};
 use rdb_types::{Chars, Copied, Dbkey, NoMemory};
+use rdo_ast::reply::Reply;
 use rdo_ast::syntax::IndexDefinition;
 use std::alloc::Global;
 
@@ -60,10 +61,10 @@ fn write_index<V: View>(
     view: &V,
     name: &Chars,
     index: &Index,
-) -> Result<Writes, DefineStop>
+) -> Result<Writes, Stop<Reply>>
     requires { (root : Dbkey) → IsAllowedLine (index_line name.now index.now root) }
     ensures line { IfOk result (IsIndexWritten (V.knows view.now) name.now index.now) }
-    ensures stop { IfErr result (Lacks (V.knows view.now) (index_rooms index.now.area)) }
+    ensures stop { IfErr result (LacksRoom (V.knows view.now) (index_rooms index.now.area)) }
 {
     let room = Room {
         area: index.area,
@@ -96,16 +97,19 @@ pub fn define_index<V: View>(
     view: &V,
     catalog: &Catalog,
     definition: &IndexDefinition,
-) -> Result<Writes, DefineStop>
+) -> Result<Writes, Stop<Reply>>
     requires catalog { IsWhole catalog.now }
     requires definition { IsIndexDefinition definition.now }
-    ensures stop { IfErr result (Stops (V.knows view.now) (or_else (index_names definition.now catalog.now.tables) (index_refusal definition.now catalog.now.tables)) (index_rooms (new_index_area catalog.now.tables))) }
+    ensures stop { IfErr result (StopsDefining (V.knows view.now) (or_else (index_names definition.now catalog.now.tables) (index_refusal definition.now catalog.now.tables)) (index_rooms (new_index_area catalog.now.tables))) }
     ensures taken { IfOk result (λ _. or_else (index_names definition.now catalog.now.tables) (index_refusal definition.now catalog.now.tables) ≡ None) }
     ensures line { IfOk result (IsIndexWritten (V.knows view.now) definition.now.name (new_index definition.now catalog.now.tables)) }
     ensures tables { IfOk result (Turns (V.knows view.now) catalog.now (with_index definition.now catalog.now.tables)) }
 {
     let mut tables = catalog.tables.copied(alloc)?;
-    add_index(&mut tables, alloc, definition)?;
+    match add_index(&mut tables, alloc, definition) {
+        Ok(()) => {}
+        Err(stop) => return Err(from_check(stop)),
+    }
     let index = index_named(&tables, &definition.name);
     write_index(alloc, view, &definition.name, index)
 }

@@ -14,4 +14,3 @@ pub use deletions::{index_goes, relation_goes};
 pub use fields::define_field;
 pub use indexes::define_index;
 pub use relations::define_relation;
-pub use stop::DefineStop;

@@ -2,17 +2,18 @@ ghost use Rattle.std.specs.Prelude.{◌≡◌, ◌≤◌, ◌++◌, length, Some
 ghost use Rattle.rdb_meaning.specs.Contents.{relation_named};
 ghost use Rattle.rdb_meaning.specs.Defining.{relation_names, with_relation};
 ghost use Rattle.catalog.specs.Reading.{IsWhole};
-ghost use Rattle.catalog_definitions.specs.Causes.{rooms_from, Stops};
+ghost use Rattle.catalog_definitions.specs.Causes.{rooms_from, StopsDefining};
 ghost use Rattle.catalog_definitions.specs.Written.{AreWritten, IsRelationDefinition, field_lines, lines_of_relation, relation_lines};
 ghost use Rattle.catalog_definitions.specs.Leaving.{Turns};
 
-use crate::stop::DefineStop;
+use crate::stop::from_check;
 use crate::writing::write_lines;
 use catalog::Catalog;
 use catalog_lines::{CatalogLine, FieldLine, RelationLine};
-use line_view::{View, Writes};
+use line_view::{Stop, View, Writes};
 use rdb_meaning::{Relation, Tables};
 use rdb_types::{Chars, Copied, Field, Items, NoMemory};
+use rdo_ast::reply::Reply;
 use rdo_ast::syntax::FieldDefinition;
 use row_sizes::class_of;
 use std::alloc::Global;
@@ -73,16 +74,19 @@ pub fn define_relation<V: View>(
     catalog: &Catalog,
     name: &Chars,
     fields: &[FieldDefinition],
-) -> Result<Writes, DefineStop>
+) -> Result<Writes, Stop<Reply>>
     requires catalog { IsWhole catalog.now }
     requires definition { IsRelationDefinition name.now fields.now }
-    ensures stop { IfErr result (Stops (V.knows view.now) (relation_names name.now fields.now catalog.now.tables) (rooms_from 0 (relation_lines name.now fields.now catalog.now.tables))) }
+    ensures stop { IfErr result (StopsDefining (V.knows view.now) (relation_names name.now fields.now catalog.now.tables) (rooms_from 0 (relation_lines name.now fields.now catalog.now.tables))) }
     ensures taken { IfOk result (λ _. relation_names name.now fields.now catalog.now.tables ≡ None) }
     ensures lines { IfOk result (AreWritten (V.knows view.now) 0 (relation_lines name.now fields.now catalog.now.tables)) }
     ensures tables { IfOk result (Turns (V.knows view.now) catalog.now (with_relation name.now fields.now catalog.now.tables)) }
 {
     let mut tables = catalog.tables.copied(alloc)?;
-    rdb_definitions::define_relation(&mut tables, alloc, name, fields)?;
+    match rdb_definitions::define_relation(&mut tables, alloc, name, fields) {
+        Ok(()) => {}
+        Err(stop) => return Err(from_check(stop)),
+    }
     let lines = lines_of_relation(alloc, name, relation_named(&tables, name))?;
     write_lines(alloc, view, lines.as_slice())
 }

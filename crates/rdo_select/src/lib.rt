@@ -1,7 +1,6 @@
 //! What bound selections select, over a view of the lines that the rows stand on.
 #![tactic(auto)]
 
-mod any;
 mod asking;
 mod crossing;
 mod judging;
@@ -16,7 +15,6 @@ mod sources;
 mod stop;
 mod tuples;
 
-pub use any::any_selected;
 pub use crossing::{Found, FoundTuples};
 pub use laws::a_join_asks_the_index_for_each_row;
 pub use selection::select;
