@@ -7,8 +7,9 @@ use Rattle.rdb_meaning.specs.declared.tables.Relation.{Relation}
 use Rattle.rdb_meaning.specs.Contents.{Row}
 use Rattle.line_view.specs.declared.need.Need.{Need}
 use Rattle.line_view.specs.declared.need.Need.TheVariants.{Line, Area, Room}
-use Rattle.line_view.specs.declared.need.Stop.{Stop}
-use Rattle.line_view.specs.declared.need.Stop.TheVariants.{Missing, Bad, NoMemory}
+use Rattle.line_view.specs.declared.stop.Stop.{Stop}
+use Rattle.line_view.specs.declared.stop.Never.{Never}
+use Rattle.line_view.specs.declared.stop.Stop.TheVariants.{Missing, Bad, NoMemory, Own}
 use Rattle.line_view.specs.Knowledge.{Knowledge, Lines, IsInOrder, Agrees, lines_in}
 use Rattle.relation_rows.specs.declared.stored.StoredRelation.{StoredRelation}
 use Rattle.relation_rows.specs.declared.stored.StoredRow.{StoredRow}
@@ -70,7 +71,7 @@ module _ (known : Knowledge) where
 -- ---- in a map with the rows
 
 -- what is said of the rows of a relation's logical area
-pub record ScansRows (known : Knowledge) (r : StoredRelation) (given : Result (List StoredRow) Stop) : Type 0 where
+pub record ScansRows (known : Knowledge) (r : StoredRelation) (given : Result (List StoredRow) (Stop Never)) : Type 0 where
   pub rows : IfOk given (λ rows. (all : Lines) → IsInOrder all → Agrees known all → AreRowsOf r (lines_in r.area all) rows)
   pub whole : IfOk given (λ _. IsAreaKnown known r.area)
   pub missing : (need : Need) → given ≡ Err (Missing need) → IsNextNeed known r.area need
@@ -81,29 +82,31 @@ every_row [] = refl
 every_row (e ∷ es) = ap (λ l. e ∷ l) (every_row es)
 
 module _ (known : Knowledge) (r : StoredRelation) (all : Lines) (positions : List ℕ) (rows : List (Dbkey × Row)) (sorted : IsInOrder all) (agrees : Agrees known all) (are : AreRowsOf r (lines_in r.area all) (map stored_row rows)) where
-  pub scan_gives : (given : Result (List StoredRow) Stop) → ScansRows known r given → Gives known r.area all positions rows Scan tt given
+  pub scan_gives : (given : Result (List StoredRow) (Stop Never)) → ScansRows known r given → Gives known r.area all positions rows Scan tt given
   scan_gives (Ok xs) scans = (same_rows r (lines_in r.area all) xs (map stored_row rows) (scans.rows all sorted agrees) are ∙ ap (map stored_row) (sym (every_row rows)), scans.whole)
   scan_gives (Err (Missing need)) scans = scans.missing need refl
   scan_gives (Err (Bad at)) scans =
       let bad = scans.bad at refl all agrees in
       absurd (none_bad all r (map stored_row rows) at bad.0 bad.1 are)
   scan_gives (Err NoMemory) scans = tt
+  scan_gives (Err (Own never)) scans = elim never [ ]
 
   module _ (root : Dbkey) (interval : Interval) (of : IsIndexOf all root positions rows) where
     -- what is given by way of the index
-    abbrev pub GivesBy : Result (List StoredRow) Stop → Type 0
+    abbrev pub GivesBy : Result (List StoredRow) (Stop Never) → Type 0
     GivesBy (Ok given) = (given ≡ map stored_row (filter (is_keyed positions interval) rows)) × (first_unknown known (lines_read all root positions rows interval of) ≡ None)
     GivesBy (Err (Missing need)) = IsFirstNeed known (lines_read all root positions rows interval of) need
     GivesBy (Err (Bad at)) = ⊥
     GivesBy (Err NoMemory) = Unit {0}
+    GivesBy (Err (Own never)) = ⊥
 
     abbrev keyed : List (Dbkey × Row)
     keyed = filter (is_keyed positions interval) rows
 
-    in_order : (found : List Dbkey) (given : Result (List StoredRow) Stop) (read : ReadsInOrder known r found given) → found ≡ rows_within interval (pairs of.level of.tree) → (read.set).keys ≡ map (λ e. e.0) keyed
+    in_order : (found : List Dbkey) (given : Result (List StoredRow) (Stop Never)) (read : ReadsInOrder known r found given) → found ≡ rows_within interval (pairs of.level of.tree) → (read.set).keys ≡ map (λ e. e.0) keyed
     in_order found given read is = keys_in_order interval positions rows found read.set (rows_sorted r all rows sorted are) (is ∙ ap (rows_within interval) of.holds) read.has
 
-    from_found : (found : List Dbkey) (given : Result (List StoredRow) Stop) → found ≡ rows_within interval (pairs of.level of.tree) → first_unknown known (reads interval of.level of.tree) ≡ None → ReadsIndexed known r root (Ok found) given → GivesBy given
+    from_found : (found : List Dbkey) (given : Result (List StoredRow) (Stop Never)) → found ≡ rows_within interval (pairs of.level of.tree) → first_unknown known (reads interval of.level of.tree) ≡ None → ReadsIndexed known r root (Ok found) given → GivesBy given
     from_found found (Ok xs) is whole read = (
       rows_match all r known agrees (read.set).keys keyed xs (in_order found (Ok xs) read is) (stand_left all r (is_keyed positions interval) rows (rows_stand all r rows sorted are)) read.reads,
       unknown_behind known (reads interval of.level of.tree) (map (λ e. e.0) keyed) whole
@@ -115,37 +118,40 @@ module _ (known : Knowledge) (r : StoredRelation) (all : Lines) (positions : Lis
     from_found found (Err (Bad at)) is whole read =
         no_fault all r known agrees (read.set).keys keyed at (in_order found (Err (Bad at)) read is) (stand_left all r (is_keyed positions interval) rows (rows_stand all r rows sorted are)) read.reads
     from_found found (Err NoMemory) is whole read = tt
+    from_found found (Err (Own never)) is whole read = elim never [ ]
 
-    index_gives : (found : Result (List Dbkey) IndexStop) (given : Result (List StoredRow) Stop) → Answers known (reads interval of.level of.tree) (rows_within interval (pairs of.level of.tree)) found → ReadsIndexed known r root found given → GivesBy given
+    index_gives : (found : Result (List Dbkey) IndexStop) (given : Result (List StoredRow) (Stop Never)) → Answers known (reads interval of.level of.tree) (rows_within interval (pairs of.level of.tree)) found → ReadsIndexed known r root found given → GivesBy given
     index_gives (Ok found) given answers read = from_found found given answers.0 answers.1 read
     index_gives (Err (index.Missing need)) given answers read = subst GivesBy (sym read) (unknown_front known (reads interval of.level of.tree) (map (λ e. e.0) keyed) need answers)
     index_gives (Err index.Duplicate) given answers read = absurd answers
     index_gives (Err (index.Bad at)) given answers read = absurd answers
     index_gives (Err index.NoMemory) given answers read = subst GivesBy (sym read) tt
 
-  by_key : (root : Dbkey) (key : Row) (of : IsIndexOf all root positions rows) (given : Result (List StoredRow) Stop) → GivesBy root (only key) of given → Gives known r.area all positions rows (Find root key) of given
+  by_key : (root : Dbkey) (key : Row) (of : IsIndexOf all root positions rows) (given : Result (List StoredRow) (Stop Never)) → GivesBy root (only key) of given → Gives known r.area all positions rows (Find root key) of given
   by_key root key of (Ok given) gives = gives
   by_key root key of (Err (Missing need)) gives = gives
   by_key root key of (Err (Bad at)) gives = absurd gives
   by_key root key of (Err NoMemory) gives = tt
+  by_key root key of (Err (Own never)) gives = absurd gives
 
-  by_bounds : (root : Dbkey) (bounds : Bounds) (of : IsIndexOf all root positions rows) (given : Result (List StoredRow) Stop) → GivesBy root (between bounds) of given → Gives known r.area all positions rows (Range root bounds) of given
+  by_bounds : (root : Dbkey) (bounds : Bounds) (of : IsIndexOf all root positions rows) (given : Result (List StoredRow) (Stop Never)) → GivesBy root (between bounds) of given → Gives known r.area all positions rows (Range root bounds) of given
   by_bounds root bounds of (Ok given) gives = gives
   by_bounds root bounds of (Err (Missing need)) gives = gives
   by_bounds root bounds of (Err (Bad at)) gives = absurd gives
   by_bounds root bounds of (Err NoMemory) gives = tt
+  by_bounds root bounds of (Err (Own never)) gives = absurd gives
 
-  pub find_gives : (root : Dbkey) (key : Row) (of : IsIndexOf all root positions rows) (found : Result (List Dbkey) IndexStop) (given : Result (List StoredRow) Stop) →
+  pub find_gives : (root : Dbkey) (key : Row) (of : IsIndexOf all root positions rows) (found : Result (List Dbkey) IndexStop) (given : Result (List StoredRow) (Stop Never)) →
       Answers known (reads (only key) of.level of.tree) (rows_within (only key) (pairs of.level of.tree)) found → ReadsIndexed known r root found given → Gives known r.area all positions rows (Find root key) of given
   find_gives root key of found given answers read = by_key root key of given (index_gives root (only key) of found given answers read)
 
-  pub range_gives : (root : Dbkey) (bounds : Bounds) (of : IsIndexOf all root positions rows) (found : Result (List Dbkey) IndexStop) (given : Result (List StoredRow) Stop) →
+  pub range_gives : (root : Dbkey) (bounds : Bounds) (of : IsIndexOf all root positions rows) (found : Result (List Dbkey) IndexStop) (given : Result (List StoredRow) (Stop Never)) →
       Answers known (reads (between bounds) of.level of.tree) (rows_within (between bounds) (pairs of.level of.tree)) found → ReadsIndexed known r root found given → Gives known r.area all positions rows (Range root bounds) of given
   range_gives root bounds of found given answers read = by_bounds root bounds of given (index_gives root (between bounds) of found given answers read)
 
 -- ---- by the form of the access
 
-module _ (known : Knowledge) (r : StoredRelation) (given : Result (List StoredRow) Stop) (access : Access) where
+module _ (known : Knowledge) (r : StoredRelation) (given : Result (List StoredRow) (Stop Never)) (access : Access) where
   -- whatever map agrees, the access gives what it is to give there
   abbrev GivesEverywhere : Type 0
   GivesEverywhere = (all : Lines) (table : Relation) (positions : List ℕ) → IsInOrder all → Agrees known all → HasRows all r table → (served : Serves all positions table.rows access) → Gives known r.area all positions table.rows access served given
@@ -154,16 +160,16 @@ module _ (known : Knowledge) (r : StoredRelation) (given : Result (List StoredRo
   abbrev Searches : Dbkey → Interval → Result (List Dbkey) IndexStop → Type 0
   Searches root interval found = (all : Lines) (level : ℕ) (tree : Tree level) → Agrees known all → IsIndex all root level tree → Answers known (reads interval level tree) (rows_within interval (pairs level tree)) found
 
-pub scan_everywhere : (known : Knowledge) (r : StoredRelation) (given : Result (List StoredRow) Stop) (access : Access) → access ≡ Scan → ScansRows known r given → GivesEverywhere known r given access
+pub scan_everywhere : (known : Knowledge) (r : StoredRelation) (given : Result (List StoredRow) (Stop Never)) (access : Access) → access ≡ Scan → ScansRows known r given → GivesEverywhere known r given access
 scan_everywhere known r given access is scans =
     subst (GivesEverywhere known r given) (sym is) (λ all table positions sorted agrees has served. scan_gives known r all positions table.rows sorted agrees has.rows given scans)
 
-pub find_everywhere : (known : Knowledge) (r : StoredRelation) (given : Result (List StoredRow) Stop) (access : Access) (root : Dbkey) (key : Row) (found : Result (List Dbkey) IndexStop) →
+pub find_everywhere : (known : Knowledge) (r : StoredRelation) (given : Result (List StoredRow) (Stop Never)) (access : Access) (root : Dbkey) (key : Row) (found : Result (List Dbkey) IndexStop) →
     access ≡ Find root key → Searches known r given access root (only key) found → ReadsIndexed known r root found given → GivesEverywhere known r given access
 find_everywhere known r given access root key found is searches read =
     subst (GivesEverywhere known r given) (sym is) (λ all table positions sorted agrees has served. find_gives known r all positions table.rows sorted agrees has.rows root key served found given (searches all served.level served.tree agrees served.is) read)
 
-pub range_everywhere : (known : Knowledge) (r : StoredRelation) (given : Result (List StoredRow) Stop) (access : Access) (root : Dbkey) (bounds : Bounds) (found : Result (List Dbkey) IndexStop) →
+pub range_everywhere : (known : Knowledge) (r : StoredRelation) (given : Result (List StoredRow) (Stop Never)) (access : Access) (root : Dbkey) (bounds : Bounds) (found : Result (List Dbkey) IndexStop) →
     access ≡ Range root bounds → Searches known r given access root (between bounds) found → ReadsIndexed known r root found given → GivesEverywhere known r given access
 range_everywhere known r given access root bounds found is searches read =
     subst (GivesEverywhere known r given) (sym is) (λ all table positions sorted agrees has served. range_gives known r all positions table.rows sorted agrees has.rows root bounds served found given (searches all served.level served.tree agrees served.is) read)

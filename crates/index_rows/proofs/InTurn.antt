@@ -9,8 +9,9 @@ use Rattle.rdb_types.specs.declared.keys.Dbkey.{Dbkey}
 use Rattle.ordered_entries.specs.Order.{dbkey_order}
 use Rattle.line_view.specs.declared.need.Need.{Need}
 use Rattle.line_view.specs.declared.need.Need.TheVariants.{Line}
-use Rattle.line_view.specs.declared.need.Stop.{Stop}
-use Rattle.line_view.specs.declared.need.Stop.TheVariants.{Missing, Bad, NoMemory}
+use Rattle.line_view.specs.declared.stop.Stop.{Stop}
+use Rattle.line_view.specs.declared.stop.Never.{Never}
+use Rattle.line_view.specs.declared.stop.Stop.TheVariants.{Missing, Bad, NoMemory, Own}
 use Rattle.line_view.specs.Knowledge.{Knowledge}
 use Rattle.relation_rows.specs.declared.stored.StoredRelation.{StoredRelation}
 use Rattle.relation_rows.specs.declared.stored.StoredRow.{StoredRow}
@@ -55,11 +56,11 @@ next_line known r keys left key rows read unknown = record { before = read.front
 pub no_row : (known : Knowledge) (r : StoredRelation) (keys left : List Dbkey) (key : Dbkey) (rows : List StoredRow) → AreRead known r keys (key ∷ left) rows → (known.line key ≡ Some None) ⊎ IsBadAt known r key → IsNoRow known r keys key
 no_row known r keys left key rows read fault = record { before = read.front; behind = left; stands = read.stands; fault = fault }
 
-abbrev stopped : Stop → Result (Option (List Value)) Stop
+abbrev stopped : Stop Never → Result (Option (List Value)) (Stop Never)
 stopped stop = Err stop
 
 -- this is why the row of the next Dbkey isn't read
-pub stop_read : (known : Knowledge) (r : StoredRelation) (keys left : List Dbkey) (key : Dbkey) (rows : List StoredRow) (stop : Stop) → AreRead known r keys (key ∷ left) rows →
+pub stop_read : (known : Knowledge) (r : StoredRelation) (keys left : List Dbkey) (key : Dbkey) (rows : List StoredRow) (stop : Stop Never) → AreRead known r keys (key ∷ left) rows →
     ((need : Need) → stopped stop ≡ Err (Missing need) → (need ≡ Line key) × (known.line key ≡ None)) →
     ((at : Dbkey) → stopped stop ≡ Err (Bad at) → (at ≡ key) × IsBadAt known r key) → ReadsRows known r keys (Err stop)
 stop_read known r keys left key rows (Missing need) read missing bad =
@@ -69,12 +70,14 @@ stop_read known r keys left key rows (Bad at) read missing bad =
     let wrong = bad at refl in
     subst (IsNoRow known r keys) (sym wrong.0) (no_row known r keys left key rows read (inr wrong.1))
 stop_read known r keys left key rows NoMemory read missing bad = tt
+stop_read known r keys left key rows (Own never) read missing bad = elim never [ ]
 
-pub found_read : (known : Knowledge) (r : StoredRelation) (root : Dbkey) (all : Result (List Dbkey) IndexStop) (found : List Dbkey) (set : BTreeSet Dbkey) (given : Result (List StoredRow) Stop) →
+pub found_read : (known : Knowledge) (r : StoredRelation) (root : Dbkey) (all : Result (List Dbkey) IndexStop) (found : List Dbkey) (set : BTreeSet Dbkey) (given : Result (List StoredRow) (Stop Never)) →
     all ≡ Ok found → IsFromIterResult dbkey_order found set → ReadsRows known r set.keys given → ReadsIndexed known r root all given
 found_read known r root all found set given is has reads = subst (λ all. ReadsIndexed known r root all given) (sym is) (each given reads) where
-  each : (given : Result (List StoredRow) Stop) → ReadsRows known r set.keys given → ReadsIndexed known r root (Ok found) given
+  each : (given : Result (List StoredRow) (Stop Never)) → ReadsRows known r set.keys given → ReadsIndexed known r root (Ok found) given
   each (Ok rows) reads = record { set = set; has = has; reads = reads }
   each (Err (Missing need)) reads = record { set = set; has = has; reads = reads }
   each (Err (Bad at)) reads = record { set = set; has = has; reads = reads }
   each (Err NoMemory) reads = tt
+  each (Err (Own never)) reads = elim never [ ]

@@ -8,8 +8,9 @@ use Rattle.rdo_values.specs.Tree.{Conjunction}
 use Rattle.rdo_values.specs.Filled.{parts_at}
 use Rattle.line_view.specs.declared.need.Need.{Need}
 use Rattle.line_view.specs.declared.need.Need.TheVariants.{Line}
-use Rattle.line_view.specs.declared.need.Stop.{Stop}
-use Rattle.line_view.specs.declared.need.Stop.TheVariants.{Missing, Bad, NoMemory}
+use Rattle.line_view.specs.declared.stop.Stop.{Stop}
+use Rattle.line_view.specs.declared.stop.Never.{Never}
+use Rattle.line_view.specs.Stops.{Stops}
 use Rattle.line_view.specs.Knowledge.{Knowledge, Lines}
 use Rattle.access_paths.specs.Reached.{IsWide}
 use Rattle.relation_rows.specs.declared.stored.StoredRow.{StoredRow}
@@ -64,11 +65,9 @@ IsReadOfAccess known area all positions rows (Range root bounds) served = first_
 -- ---- what is answered
 
 -- Where these are the rows of the relation and the index is right, those that are come by are given in the order of their Dbkeys, and all that is read is known; or what is read next is named. No line is bad.
-abbrev pub Gives : (known : Knowledge) (area : ℕ) (all : Lines) (positions : List ℕ) (rows : List (Dbkey × Row)) (access : Access) → Serves all positions rows access → Result (List StoredRow) Stop → Type 0
+abbrev pub Gives : (known : Knowledge) (area : ℕ) (all : Lines) (positions : List ℕ) (rows : List (Dbkey × Row)) (access : Access) → Serves all positions rows access → Result (List StoredRow) (Stop Never) → Type 0
 Gives known area all positions rows access served (Ok given) = (given ≡ map stored_row (filter (reached positions access) rows)) × IsReadOfAccess known area all positions rows access served
-Gives known area all positions rows access served (Err (Missing need)) = IsNextOfAccess known area all positions rows access served need
-Gives known area all positions rows access served (Err (Bad at)) = ⊥
-Gives known area all positions rows access served (Err NoMemory) = Unit {0}
+Gives known area all positions rows access served (Err stop) = Stops (IsNextOfAccess known area all positions rows access served) (λ at. ⊥) (λ never. ⊥) stop
 
 -- ---- what is left out
 

@@ -5,8 +5,10 @@ use Rattle.ordered_entries.specs.Order.{dbkey_order}
 use Rattle.std.specs.BTreeSet.{BTreeSet, IsFromIterResult}
 use Rattle.line_view.specs.declared.need.Need.{Need}
 use Rattle.line_view.specs.declared.need.Need.TheVariants.{Line, Area, Room}
-use Rattle.line_view.specs.declared.need.Stop.{Stop}
-use Rattle.line_view.specs.declared.need.Stop.TheVariants.{Missing, Bad, NoMemory}
+use Rattle.line_view.specs.declared.stop.Stop.{Stop}
+use Rattle.line_view.specs.declared.stop.Never.{Never}
+use Rattle.line_view.specs.declared.stop.Stop.TheVariants.{Missing, Bad, NoMemory}
+use Rattle.line_view.specs.Stops.{Stops}
 use Rattle.line_view.specs.Knowledge.{Knowledge, Lines, line_in}
 use Rattle.relation_rows.specs.declared.stored.StoredRelation.{StoredRelation}
 use Rattle.relation_rows.specs.declared.stored.StoredRow.{StoredRow}
@@ -41,34 +43,30 @@ IsNextAmong known keys (Area area) = ⊥
 IsNextAmong known keys (Room room) = ⊥
 
 -- The rows at these Dbkeys are read in turn.
-abbrev pub ReadsRows : Knowledge → StoredRelation → List Dbkey → Result (List StoredRow) Stop → Type 0
+abbrev pub ReadsRows : Knowledge → StoredRelation → List Dbkey → Result (List StoredRow) (Stop Never) → Type 0
 ReadsRows known r keys (Ok rows) = AreRowsAt known r keys rows
-ReadsRows known r keys (Err (Missing need)) = IsNextAmong known keys need
-ReadsRows known r keys (Err (Bad at)) = IsNoRow known r keys at
-ReadsRows known r keys (Err NoMemory) = Unit {0}
+ReadsRows known r keys (Err stop) = Stops (IsNextAmong known keys) (IsNoRow known r keys) (λ never. ⊥) stop
 
 -- ---- rows of an index
 
 -- The index of this root is asked for keys, so that a key that repeats is no answer.
-abbrev pub stop_of_index : Dbkey → IndexStop → Stop
+abbrev pub stop_of_index : Dbkey → IndexStop → Stop Never
 stop_of_index root (index.Missing need) = Missing need
 stop_of_index root index.Duplicate = Bad root
 stop_of_index root (index.Bad at) = Bad at
 stop_of_index root index.NoMemory = NoMemory
 
 -- The rows at the Dbkeys that were found are read in the order of the Dbkeys.
-pub record ReadsInOrder (known : Knowledge) (r : StoredRelation) (found : List Dbkey) (given : Result (List StoredRow) Stop) : Type 0 where
+pub record ReadsInOrder (known : Knowledge) (r : StoredRelation) (found : List Dbkey) (given : Result (List StoredRow) (Stop Never)) : Type 0 where
   pub set : BTreeSet Dbkey
   pub has : IsFromIterResult dbkey_order found set
   pub reads : ReadsRows known r set.keys given
 
-abbrev pub ReadsFound : Knowledge → StoredRelation → List Dbkey → Result (List StoredRow) Stop → Type 0
+abbrev pub ReadsFound : Knowledge → StoredRelation → List Dbkey → Result (List StoredRow) (Stop Never) → Type 0
 ReadsFound known r found (Ok rows) = ReadsInOrder known r found (Ok rows)
-ReadsFound known r found (Err (Missing need)) = ReadsInOrder known r found (Err (Missing need))
-ReadsFound known r found (Err (Bad at)) = ReadsInOrder known r found (Err (Bad at))
-ReadsFound known r found (Err NoMemory) = Unit {0}
+ReadsFound known r found (Err stop) = Stops (λ need. ReadsInOrder known r found (Err (Missing need))) (λ at. ReadsInOrder known r found (Err (Bad at))) (λ never. ⊥) stop
 
-abbrev pub ReadsIndexed : Knowledge → StoredRelation → Dbkey → Result (List Dbkey) IndexStop → Result (List StoredRow) Stop → Type 0
+abbrev pub ReadsIndexed : Knowledge → StoredRelation → Dbkey → Result (List Dbkey) IndexStop → Result (List StoredRow) (Stop Never) → Type 0
 ReadsIndexed known r root (Ok found) given = ReadsFound known r found given
 ReadsIndexed known r root (Err stop) given = given ≡ Err (stop_of_index root stop)
 

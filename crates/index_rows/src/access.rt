@@ -2,15 +2,14 @@
 ghost use Rattle.std.specs.Prelude.{◌≡◌, ℕ, List, Err};
 ghost use Rattle.rdb_meaning.specs.declared.tables.Relation.{Relation as Table};
 ghost use Rattle.line_view.specs.Knowledge.{Lines, IsInOrder, Agrees};
-ghost use Rattle.line_view.specs.declared.need.Stop.TheVariants as stop;
+ghost use Rattle.line_view.specs.declared.stop.Stop.TheVariants as stop;
 ghost use Rattle.relation_rows.specs.Relations.{HasRows};
 ghost use Rattle.index_rows.specs.Given.{Serves, Gives};
 ghost use Rattle.index_rows.specs.Reading.{IsBadFor};
 
 use crate::reading::rows_found;
 use access_paths::Access;
-use line_view::View;
-use line_view::need::Stop;
+use line_view::{Never, Stop, View};
 use relation_rows::{Rows, StoredRelation, rows};
 use sorted_index::{find, range};
 use std::alloc::Global;
@@ -21,7 +20,7 @@ pub fn accessed<V: View>(
     view: &V,
     relation: &StoredRelation<'_>,
     access: &Access,
-) -> Result<Rows, Stop>
+) -> Result<Rows, Stop<Never>>
     ensures gives { (all : Lines) (table : Table) (positions : List ℕ) → IsInOrder all → Agrees (V.knows view.now) all
         → HasRows all relation.now table → (served : Serves all positions table.rows access.now)
         → Gives (V.knows view.now) relation.now.area all positions table.rows access.now served result }

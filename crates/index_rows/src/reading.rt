@@ -4,8 +4,7 @@ ghost use Rattle.std.specs.BTreeSet.{IsFromIterResult};
 ghost use Rattle.ordered_entries.specs.Order.{dbkey_order};
 ghost use Rattle.index_rows.specs.Reading.{ReadsRows, ReadsIndexed, stop_of_index};
 
-use line_view::View;
-use line_view::need::Stop;
+use line_view::{Never, Stop, View};
 use rdb_types::{Dbkey, Keys};
 use relation_rows::{Rows, StoredRelation, StoredRow, row};
 use sorted_index::IndexStop;
@@ -18,7 +17,7 @@ fn rows_at<V: View>(
     view: &V,
     relation: &StoredRelation<'_>,
     keys: &BTreeSet<Dbkey>,
-) -> Result<Rows, Stop>
+) -> Result<Rows, Stop<Never>>
     ensures { ReadsRows (V.knows view.now) relation.now keys.now.keys result }
 {
     let mut rows = Rows::new(alloc);
@@ -31,7 +30,7 @@ fn rows_at<V: View>(
     Ok(rows)
 }
 
-fn from_index(root: Dbkey, stop: IndexStop) -> Stop
+fn from_index(root: Dbkey, stop: IndexStop) -> Stop<Never>
     ensures { result ≡ stop_of_index root stop }
 {
     match stop {
@@ -56,7 +55,7 @@ pub(crate) fn rows_found<V: View>(
     relation: &StoredRelation<'_>,
     root: Dbkey,
     found: Result<Keys, IndexStop>,
-) -> Result<Rows, Stop>
+) -> Result<Rows, Stop<Never>>
     ensures { ReadsIndexed (V.knows view.now) relation.now root found result }
 {
     let found = match found {

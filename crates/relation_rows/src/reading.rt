@@ -1,13 +1,12 @@
 // Rows over a view.
 ghost use Rattle.std.specs.Prelude.{◌≡◌, Some, None, IfOk, IfSome, IfNone, Err};
 ghost use Rattle.line_view.specs.Knowledge.{Lines, IsInOrder, Agrees, line_in, lines_in};
-ghost use Rattle.line_view.specs.declared.need.Stop.TheVariants as stop;
+ghost use Rattle.line_view.specs.declared.stop.Stop.TheVariants as stop;
 ghost use Rattle.line_view.specs.declared.need.Need.TheVariants as needs;
 ghost use Rattle.relation_rows.specs.Stored.{IsRowAt, IsBadAt, AreRowsOf, IsBadIn, IsNextNeed, IsAreaKnown};
 
 use crate::stored::{Rows, StoredRelation, StoredRow, row_of};
-use line_view::need::Stop;
-use line_view::{Need, Seen, View};
+use line_view::{Need, Never, Seen, Stop, View};
 use rdb_types::{Dbkey, Row};
 use std::alloc::Global;
 
@@ -17,7 +16,7 @@ pub fn row<V: View>(
     view: &V,
     relation: &StoredRelation<'_>,
     key: Dbkey,
-) -> Result<Option<Row>, Stop>
+) -> Result<Option<Row>, Stop<Never>>
     ensures found { IfOk result (λ read. IfSome read (IsRowAt (V.knows view.now) relation.now key)) }
     ensures absent { IfOk result (λ read. IfNone read ((V.knows view.now).line key ≡ Some None)) }
     ensures missing { (need : _) → result ≡ Err (stop.Missing need) → (need ≡ needs.Line key) × ((V.knows view.now).line key ≡ None) }
@@ -34,7 +33,7 @@ pub fn row<V: View>(
 }
 
 /// The rows of a relation, in the order of their Dbkeys. They are answered only where all that is read is known.
-pub fn rows<V: View>(alloc: Global, view: &V, relation: &StoredRelation<'_>) -> Result<Rows, Stop>
+pub fn rows<V: View>(alloc: Global, view: &V, relation: &StoredRelation<'_>) -> Result<Rows, Stop<Never>>
     ensures rows { IfOk result (λ rows. (all : Lines) → IsInOrder all → Agrees (V.knows view.now) all → AreRowsOf relation.now (lines_in relation.now.area all) rows) }
     ensures known { IfOk result (λ _. IsAreaKnown (V.knows view.now) relation.now.area) }
     ensures missing { (need : _) → result ≡ Err (stop.Missing need) → IsNextNeed (V.knows view.now) relation.now.area need }

@@ -7,8 +7,9 @@ use Rattle.rdo_ast.specs.Tree.{Name}
 use Rattle.rdb_meaning.specs.declared.tables.Relation.{Relation}
 use Rattle.rdb_meaning.specs.Contents.{name_order}
 use Rattle.ordered_entries.proofs.Laws.{chars_total}
-use Rattle.line_view.specs.declared.need.Stop.{Stop}
-use Rattle.line_view.specs.declared.need.Stop.TheVariants.{Missing, Bad, NoMemory}
+use Rattle.line_view.specs.declared.stop.Stop.{Stop}
+use Rattle.line_view.specs.declared.stop.Never.{Never}
+use Rattle.line_view.specs.declared.stop.Stop.TheVariants.{Missing, Bad, NoMemory, Own}
 use Rattle.line_view.specs.Knowledge.{Knowledge, Lines, IsInOrder, Agrees}
 use Rattle.relation_rows.specs.Relations.{HasRows}
 use Rattle.sound_lines.specs.Gathered.{put_all}
@@ -74,7 +75,7 @@ all_found known versions relations found sorted are all in_order agrees =
     subst (λ (l : List (Name × Relation)). HaveRows all versions l found) (sym same)
     (subst (λ (l : List (Name × Relation)). HaveRows all versions are.done l) (sym whole) (are.rows all in_order agrees))
 
-stops_at : (known : Knowledge) (versions : List (Name × ℕ)) (relations left found : List (Name × Relation)) (b : Name × Relation) (stop : Stop) →
+stops_at : (known : Knowledge) (versions : List (Name × ℕ)) (relations left found : List (Name × Relation)) (b : Name × Relation) (stop : Stop Never) →
     AreFound known versions relations (b ∷ left) found → StopsRows known (stored (version_of b.0 versions) b.1) stop → StopsAt known versions relations stop
 stops_at known versions relations left found b stop are stops = record {
   at = b;
@@ -82,8 +83,9 @@ stops_at known versions relations left found b stop are stops = record {
   stops = stops;
 }
 
-pub relation_stops : (known : Knowledge) (versions : List (Name × ℕ)) (relations left found : List (Name × Relation)) (b : Name × Relation) (stop : Stop) →
+pub relation_stops : (known : Knowledge) (versions : List (Name × ℕ)) (relations left found : List (Name × Relation)) (b : Name × Relation) (stop : Stop Never) →
     AreFound known versions relations (b ∷ left) found → StopsRows known (stored (version_of b.0 versions) b.1) stop → StopsRelations known versions relations stop
 relation_stops known versions relations left found b (Missing need) are stops = stops_at known versions relations left found b (Missing need) are stops
 relation_stops known versions relations left found b (Bad key) are stops = stops_at known versions relations left found b (Bad key) are stops
 relation_stops known versions relations left found b NoMemory are stops = tt
+relation_stops known versions relations left found b (Own never) are stops = elim never [ ]

@@ -10,8 +10,9 @@ use Rattle.ordered_entries.specs.Order.{dbkey_order}
 use Rattle.ordered_entries.proofs.Laws.{dbkey_total}
 use Rattle.rdb_meaning.specs.Contents.{Row}
 use Rattle.line_view.specs.declared.need.Need.TheVariants.{Line}
-use Rattle.line_view.specs.declared.need.Stop.{Stop}
-use Rattle.line_view.specs.declared.need.Stop.TheVariants.{Missing, Bad, NoMemory}
+use Rattle.line_view.specs.declared.stop.Stop.{Stop}
+use Rattle.line_view.specs.declared.stop.Never.{Never}
+use Rattle.line_view.specs.declared.stop.Stop.TheVariants.{Missing, Bad, NoMemory, Own}
 use Rattle.line_view.specs.declared.need.Need.{Need}
 use Rattle.line_view.specs.Knowledge.{Knowledge, Lines, IsInOrder, Agrees, lines_in}
 use Rattle.relation_rows.specs.declared.stored.StoredRelation.{StoredRelation}
@@ -47,7 +48,7 @@ rows_alike r s (e ∷ es) (x ∷ xs) version fields are = (are.0, row_alike r s 
 bad_alike : (known : Knowledge) (r s : StoredRelation) (key : Dbkey) → r.version ≡ s.version → r.fields.now ≡ s.fields.now → IsBadAt known r key → IsBadAt known s key
 bad_alike known r s key version fields bad = (bad.0, bad.1, λ row is. bad.2 row (row_alike s r bad.0 row (sym version) (sym fields) is))
 
-pub stops_alike : (known : Knowledge) (r s : StoredRelation) (stop : Stop) → r.area ≡ s.area → r.version ≡ s.version → r.fields.now ≡ s.fields.now → StopsRows known r stop → StopsRows known s stop
+pub stops_alike : (known : Knowledge) (r s : StoredRelation) (stop : Stop Never) → r.area ≡ s.area → r.version ≡ s.version → r.fields.now ≡ s.fields.now → StopsRows known r stop → StopsRows known s stop
 stops_alike known r s (Missing need) area version fields stops = subst (λ (a : ℕ). IsNextNeed known a need) area stops
 stops_alike known r s (Bad key) area version fields stops = record {
   before = stops.before;
@@ -57,6 +58,7 @@ stops_alike known r s (Bad key) area version fields stops = record {
   bad = bad_alike known r s key version fields stops.bad;
 }
 stops_alike known r s NoMemory area version fields stops = tt
+stops_alike known r s (Own never) area version fields stops = stops
 
 -- ---- gathering the rows
 
@@ -118,7 +120,7 @@ rows_are known r keys rows reads all sorted agrees =
 pub area_known : (known : Knowledge) (r : StoredRelation) (keys : List Dbkey) (rows : List (Dbkey × Row)) → known.area r.area ≡ Some keys → Reads known r keys [] rows → IsAreaKnown known r.area
 area_known known r keys rows told reads = (keys, told, subst (AllByRecursion (IsLineKnown known)) (sym (reads.are.stands ∙ append-nil reads.are.front)) reads.are.lines)
 
-pub row_stops : (known : Knowledge) (r : StoredRelation) (keys left : List Dbkey) (key : Dbkey) (rows : List (Dbkey × Row)) (stop : Stop) →
+pub row_stops : (known : Knowledge) (r : StoredRelation) (keys left : List Dbkey) (key : Dbkey) (rows : List (Dbkey × Row)) (stop : Stop Never) →
     known.area r.area ≡ Some keys → Reads known r keys (key ∷ left) rows →
     ((need : Need) → stop ≡ Missing need → (need ≡ Line key) × (known.line key ≡ None)) → ((at : Dbkey) → stop ≡ Bad at → (at ≡ key) × IsBadAt known r key) → StopsRows known r stop
 row_stops known r keys left key rows (Missing need) told reads missing bad =
@@ -128,3 +130,4 @@ row_stops known r keys left key rows (Bad at) told reads missing bad =
     let why = bad at refl in
     subst (IsBadRow known r) (sym why.0) (record { before = reads.are.front; behind = left; told = told ∙ ap Some reads.are.stands; lines = reads.are.lines; bad = why.1 })
 row_stops known r keys left key rows NoMemory told reads missing bad = tt
+row_stops known r keys left key rows (Own never) told reads missing bad = elim never [ ]

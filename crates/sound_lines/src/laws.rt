@@ -3,7 +3,7 @@ ghost use Rattle.std.specs.Prelude.{◌≡◌, ℕ, not, List, [], map, filter, 
 ghost use Rattle.std.specs.Ordering.{is_eq};
 ghost use Rattle.std.specs.FinMap.Entries.{put};
 ghost use Rattle.line_view.specs.Knowledge.{Knowledge, Lines, IsInOrder, Agrees, lines_in, laid};
-ghost use Rattle.line_view.specs.declared.need.Stop.TheVariants.{Bad};
+ghost use Rattle.line_view.specs.declared.stop.Stop.TheVariants.{Bad};
 ghost use Rattle.rdb_types.specs.declared.keys.Dbkey.{Dbkey as Place};
 ghost use Rattle.rdb_meaning.specs.declared.tables.Tables.{Tables as Kept};
 ghost use Rattle.rdb_meaning.specs.Contents.{Row, key_order, no_tables};

@@ -6,8 +6,7 @@ ghost use Rattle.sound_lines.specs.Reading.{StopsRelations};
 
 use crate::rows::read_relation;
 use crate::versions::version_of;
-use line_view::View;
-use line_view::need::Stop;
+use line_view::{Never, Stop, View};
 use ordered_entries::Entries;
 use rdb_meaning::Relation;
 use rdb_types::{Chars, Copied};
@@ -18,7 +17,7 @@ pub(crate) fn read_relations<V: View>(
     view: &V,
     versions: &Entries<Chars, u16>,
     relations: &Entries<Chars, Relation>,
-) -> Result<Entries<Chars, Relation>, Stop>
+) -> Result<Entries<Chars, Relation>, Stop<Never>>
     ensures rows { IfOk result (λ whole. (all : Lines) → IsInOrder all → Agrees (V.knows view.now) all
         → HaveRows all versions.now relations.now whole) }
     ensures stop { IfErr result (StopsRelations (V.knows view.now) versions.now relations.now) }

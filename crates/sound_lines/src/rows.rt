@@ -6,8 +6,7 @@ ghost use Rattle.relation_rows.specs.Relations.{stored_row, HasRows};
 ghost use Rattle.sound_lines.specs.Contents.{stored};
 ghost use Rattle.sound_lines.specs.Reading.{StopsRows};
 
-use line_view::need::Stop;
-use line_view::{Need, View};
+use line_view::{Need, Never, Stop, View};
 use ordered_entries::Entries;
 use rdb_meaning::Relation;
 use rdb_types::{Copied, Dbkey, Row};
@@ -18,7 +17,7 @@ fn read_rows<V: View>(
     alloc: Global,
     view: &V,
     relation: &StoredRelation<'_>,
-) -> Result<Entries<Dbkey, Row>, Stop>
+) -> Result<Entries<Dbkey, Row>, Stop<Never>>
     ensures rows { IfOk result (λ rows. (all : Lines) → IsInOrder all → Agrees (V.knows view.now) all
         → AreRowsOf relation.now (lines_in relation.now.area all) (map stored_row rows)) }
     ensures known { IfOk result (λ _. IsAreaKnown (V.knows view.now) relation.now.area) }
@@ -43,7 +42,7 @@ pub(crate) fn read_relation<V: View>(
     view: &V,
     version: u16,
     relation: &Relation,
-) -> Result<Relation, Stop>
+) -> Result<Relation, Stop<Never>>
     ensures rows { IfOk result (λ whole. (all : Lines) → IsInOrder all → Agrees (V.knows view.now) all
         → HasRows all (stored version relation.now) whole) }
     ensures known { IfOk result (λ _. IsAreaKnown (V.knows view.now) relation.now.area) }
