@@ -3,7 +3,7 @@
 
 mod image_bytes;
 mod known;
-pub mod need;
+mod need;
 mod stop;
 mod view;
 mod writes;

@@ -1,7 +1,4 @@
-ghost use Rattle.std.specs.Prelude.{◌≡◌};
-
-use rdb_types::{Dbkey, NoMemory};
-use std::alloc::AllocError;
+use rdb_types::Dbkey;
 
 /// The nth line, from 0, that may be taken for a new row of a logical area on pages of a class.
 #[derive(Clone, Copy, Debug, PartialEq, Eq, PartialOrd, Ord)]
@@ -18,34 +15,4 @@ pub enum Need {
     /// All present lines of a logical area.
     Area(u32),
     Room(Room),
-}
-
-/// Why work over a view stops.
-#[derive(Clone, Copy, Debug, PartialEq, Eq)]
-pub enum Stop {
-    /// The view lacks what the work reads next.
-    Missing(Need),
-    /// This line's bytes are none of its kind.
-    Bad(Dbkey),
-    NoMemory,
-}
-
-impl From<NoMemory> for Stop {
-    ghost use Rattle.line_view.specs.declared.need.Stop.TheVariants as stops;
-
-    ghost from_gives = { λ _ e. e ≡ stops.NoMemory };
-
-    fn from(_: NoMemory) -> Self {
-        Stop::NoMemory
-    }
-}
-
-impl From<AllocError> for Stop {
-    ghost use Rattle.line_view.specs.declared.need.Stop.TheVariants as stops;
-
-    ghost from_gives = { λ _ e. e ≡ stops.NoMemory };
-
-    fn from(_: AllocError) -> Self {
-        Stop::NoMemory
-    }
 }

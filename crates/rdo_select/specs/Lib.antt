@@ -1,3 +1,4 @@
+pub mod SelectStop
 pub mod Readings
 pub mod Sources
 pub mod Work

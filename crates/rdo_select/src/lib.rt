@@ -20,4 +20,4 @@ pub use laws::a_join_asks_the_index_for_each_row;
 pub use selection::select;
 pub use settling::{holds_in, matching, selected, value_in};
 pub use source::{Source, Sources};
-pub use stop::SelectStop;
+pub use stop::{Overflow, SelectStop};
