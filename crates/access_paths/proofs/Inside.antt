@@ -14,9 +14,9 @@ use Rattle.rdo_ast.specs.declared.syntax.Comparison.{Comparison}
 use Rattle.rdo_ast.specs.declared.syntax.Comparison.TheVariants as by
 use Rattle.rdb_meaning.specs.Numbers.{Computed, is, overflow, fits_bits, fitted_value}
 use Rattle.rdb_meaning.specs.Comparison.{holds, weighed, order_of_values, passes, judged, compared, passed_over, verdict_of}
-use Rattle.rdb_types.specs.Order.{value_order as rank_of}
+use Rattle.rdb_types.specs.Order.{value_order}
 use Rattle.rdb_meaning.specs.Evaluation.{scaled_by}
-use Rattle.rdb_types.specs.OrderLaws.{same_value as values_exact}
+use Rattle.rdb_types.specs.OrderLaws.{same_value}
 use Rattle.access_paths.specs.declared.limits.End.{End}
 use Rattle.access_paths.specs.declared.limits.Limits.{Limits}
 use Rattle.access_paths.specs.declared.limits.Limited.{Limited}
@@ -34,17 +34,17 @@ use Rattle.access_paths.proofs.Clamped.{near_number}
 -- ---- values within limits
 
 abbrev pub is_above_end : End → Value → Bool
-is_above_end e v = is_from e.included (rank_of v e.value)
+is_above_end e v = is_from e.included (value_order v e.value)
 
 abbrev pub is_below_end : Option End → Value → Bool
-is_below_end (Some e) v = is_up_to e.included (rank_of v e.value)
+is_below_end (Some e) v = is_up_to e.included (value_order v e.value)
 is_below_end None v = true
 
 pub record IsIn (limits : Limits) (v : Value) : Type 0 where
   pub low : is_above_end limits.low v ≡ true
   pub high : is_below_end limits.high v ≡ true
 
-in_limits : (op : Comparison) (v : Value) (e : End) → is_above_end open_end v ≡ true → IsInEnd op e.included (rank_of v e.value) → IsIn (limits_by op e) v
+in_limits : (op : Comparison) (v : Value) (e : End) → is_above_end open_end v ≡ true → IsInEnd op e.included (value_order v e.value) → IsIn (limits_by op e) v
 in_limits by.Equal v e present h = record { low = h.0; high = h.1 }
 in_limits by.NotEqual v e present h = record { low = present; high = refl }
 in_limits by.Greater v e present h = record { low = h; high = refl }
@@ -63,10 +63,10 @@ is_holding-weighed true = refl
 is_holding-weighed false = refl
 
 -- the limits by an end, where the value compares as the end's and then as that does
-by_end : (op : Comparison) (kind : FieldType) (v f : Value) (other : Scaled) (e w : Ordering) → is_above_end open_end v ≡ true → meets op kind f other ≡ passes op e → w ≡ ordering_then (rank_of v f) e → weighed (passes op w) ≡ holds → IsIn (limits_to op kind other (Some f)) v
+by_end : (op : Comparison) (kind : FieldType) (v f : Value) (other : Scaled) (e w : Ordering) → is_above_end open_end v ≡ true → meets op kind f other ≡ passes op e → w ≡ ordering_then (value_order v f) e → weighed (passes op w) ≡ holds → IsIn (limits_to op kind other (Some f)) v
 by_end op kind v f other e w present m c h =
-    let pass : passes op (ordering_then (rank_of v f) e) ≡ true = ap (passes op) (sym c) ∙ holding (passes op w) h in
-    in_limits op v (record { value = f; included = meets op kind f other }) present (subst (λ (b : Bool). IsInEnd op b (rank_of v f)) (sym m) (ends op (rank_of v f) e pass))
+    let pass : passes op (ordering_then (value_order v f) e) ≡ true = ap (passes op) (sym c) ∙ holding (passes op w) h in
+    in_limits op v (record { value = f; included = meets op kind f other }) present (subst (λ (b : Bool). IsInEnd op b (value_order v f)) (sym m) (ends op (value_order v f) e pass))
 
 number_inside : (op : Comparison) (kind : FieldType) (n m : ℤ) (other : Scaled) → other.value ≡ Number m → fits_bits 63 n ≡ true → weighed (passes op (order_at n kind.scale m other.scale)) ≡ holds → IsIn (limits_to op kind other (Some (nearest_number m (fitted_value (quadword kind.scale) (Number m) other.scale)))) (Number n)
 number_inside op kind n m other e wide h =
@@ -114,10 +114,10 @@ only_end false Greater h k = absurd (cc)
 
 equal_found : (kind : FieldType) (v : Value) (other : Scaled) (near : Option Value) → IsIn (limits_to by.Equal kind other near) v → equal_to kind other near ≡ to.To v
 equal_found kind v other None h =
-    let only = only_end false (rank_of v Missing) h.low h.high in absurd (cc)
+    let only = only_end false (value_order v Missing) h.low h.high in absurd (cc)
 equal_found kind v other (Some f) h =
-    let only = only_end (meets by.Equal kind f other) (rank_of v f) h.low h.high in
-    ap (λ b. if b then to.To f else to.Never) only.0 ∙ ap to.To (sym (values_exact v f only.1))
+    let only = only_end (meets by.Equal kind f other) (value_order v f) h.low h.high in
+    ap (λ b. if b then to.To f else to.Never) only.0 ∙ ap to.To (sym (same_value v f only.1))
 
 -- ---- with what an expression gives
 
@@ -152,12 +152,12 @@ lowest_below Greater a b v h k = k
 lowest_high_below : (a b : Option End) (v : Value) → is_below_end a v ≡ true → is_below_end b v ≡ true → is_below_end (lowest_high a b) v ≡ true
 lowest_high_below None b v h k = k
 lowest_high_below (Some a) None v h k = h
-lowest_high_below (Some a) (Some b) v h k = lowest_below (rank_of a.value b.value) a b v h k
+lowest_high_below (Some a) (Some b) v h k = lowest_below (value_order a.value b.value) a b v h k
 
 narrowed_limited : (l : Limited) (limits : Limits) (v : Value) → IsLimited l v → IsIn limits v → IsLimited (narrowed l limits) v
 narrowed_limited limited.Nothing limits v h k = k
 narrowed_limited (limited.Within before) limits v h k = record {
-  low = highest_above (rank_of before.low.value limits.low.value) before.low limits.low v h.low k.low;
+  low = highest_above (value_order before.low.value limits.low.value) before.low limits.low v h.low k.low;
   high = lowest_high_below before.high limits.high v h.high k.high;
 }
 narrowed_limited limited.Lost limits v h k = tt

@@ -9,7 +9,7 @@ use Rattle.std.proofs.lemmas.List.{get_or-append-add}
 use Rattle.rdb_types.specs.declared.keys.Dbkey.{Dbkey}
 use Rattle.rdb_types.specs.declared.values.Value.{Value}
 use Rattle.rdb_types.specs.declared.values.Value.TheVariants.{Missing}
-use Rattle.rdb_types.specs.Order.{value_order as rank_of, value_order}
+use Rattle.rdb_types.specs.Order.{value_order}
 use Rattle.rdb_meaning.specs.Comparison.{passed_over}
 use Rattle.rdb_meaning.specs.Contents.{Row, key_of}
 use Rattle.rdo_values.specs.Tree.{Conjunction}
@@ -31,7 +31,7 @@ use Rattle.access_paths.specs.Equated.{first_equated, with_equated, key_from, ke
 use Rattle.access_paths.specs.Choice.{access_by_key, first_by_key, access_by_limits, first_limits, first_by_limits, choice}
 use Rattle.access_paths.specs.Reached.{IsWide, Reaches}
 use Rattle.access_paths.proofs.Ends.{is_from, is_up_to}
-use Rattle.access_paths.proofs.Inside.{rank_is, is_above_end, is_below_end, IsLimited, IsEquated}
+use Rattle.access_paths.proofs.Inside.{is_above_end, is_below_end, IsLimited, IsEquated}
 use Rattle.access_paths.proofs.Served.{limited_by_tests, equated_by_tests}
 
 -- ---- the field at a position
@@ -94,8 +94,8 @@ then_equal Less = refl
 then_equal Equal = refl
 then_equal Greater = refl
 
-first_order : (v w : Value) → rank_of v w ≡ ordering_then (value_order v w) Equal
-first_order v w = rank_is v w ∙ sym (then_equal (value_order v w))
+first_order : (v w : Value) → value_order v w ≡ ordering_then (value_order v w) Equal
+first_order v w = sym (then_equal (value_order v w))
 
 both_hold : (a b : Bool) → a ≡ true → b ≡ true → (a && b) ≡ true
 both_hold true b h k = k

@@ -9,7 +9,7 @@ use Rattle.rdb_types.specs.declared.values.FieldType.{FieldType}
 use Rattle.rdo_ast.specs.declared.syntax.Comparison.{Comparison}
 use Rattle.rdo_ast.specs.declared.syntax.Comparison.TheVariants as by
 use Rattle.rdb_meaning.specs.Numbers.{Computed, is, overflow}
-use Rattle.rdb_types.specs.Order.{value_order as rank_of}
+use Rattle.rdb_types.specs.Order.{value_order}
 use Rattle.rdb_meaning.specs.Contents.{Row}
 use Rattle.rdo_values.specs.Tree.{Conjunction}
 use Rattle.rdo_values.specs.Filled.{value_at}
@@ -55,7 +55,7 @@ highest_by Equal a b = if a.included then b else a
 highest_by Greater a b = a
 
 abbrev pub highest : End → End → End
-highest a b = highest_by (rank_of a.value b.value) a b
+highest a b = highest_by (value_order a.value b.value) a b
 
 abbrev pub lowest_by : Ordering → End → End → End
 lowest_by Less a b = a
@@ -63,7 +63,7 @@ lowest_by Equal a b = if a.included then b else a
 lowest_by Greater a b = b
 
 abbrev pub lowest : End → End → End
-lowest a b = lowest_by (rank_of a.value b.value) a b
+lowest a b = lowest_by (value_order a.value b.value) a b
 
 abbrev pub lowest_high : Option End → Option End → Option End
 lowest_high None b = b

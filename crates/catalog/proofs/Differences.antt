@@ -9,7 +9,7 @@ use Rattle.std.specs.FinMap.Entries.{find}
 use Rattle.std.proofs.lemmas.Bool.{and_parts}
 use Rattle.std.proofs.lemmas.Bool.Decides.{nat_tests}
 use Rattle.rdb_types.specs.declared.keys.Dbkey.{Dbkey}
-use Rattle.rdb_types.specs.Order.{dbkey_order, chars_order as name_order}
+use Rattle.rdb_types.specs.Order.{dbkey_order, chars_order}
 use Rattle.rdb_types.specs.OrderLaws.{same_dbkey}
 use Rattle.rdb_meaning.specs.declared.tables.Tables.{Tables}
 use Rattle.rdb_meaning.specs.Contents.{relation_named, fields_of}
@@ -76,10 +76,10 @@ relation_parts d t key r stood =
     let two = first_two_of_5 (area_of (relation_named r.name t) == r.area) (is_key key (find area_order (numbered r.area) d.areas)) (has_field r.area d 0) (not (has_field r.area d max_fields)) (differ same_field (fields_of (relation_named r.name t))) stood in
     (number_is (area_of (relation_named r.name t)) r.area two.0, two.1)
 
-pub index_parts : (d : Directory) (t : Tables) (key : Dbkey) (x : IndexLine) → stands d t key (Index x) ≡ true → (index_area (find name_order x.name t.indexes) ≡ x.area) × (is_key key (find area_order (numbered x.area) d.areas) ≡ true)
+pub index_parts : (d : Directory) (t : Tables) (key : Dbkey) (x : IndexLine) → stands d t key (Index x) ≡ true → (index_area (find chars_order x.name t.indexes) ≡ x.area) × (is_key key (find area_order (numbered x.area) d.areas) ≡ true)
 index_parts d t key x stood =
-    let two = first_two_of_6 (index_area (find name_order x.name t.indexes) == x.area) (is_key key (find area_order (numbered x.area) d.areas)) (has_area x.relation d) (differ nat_eq x.fields) (list_all (has_field x.relation d) x.fields) (x.root.area == x.area) stood in
-    (number_is (index_area (find name_order x.name t.indexes)) x.area two.0, two.1)
+    let two = first_two_of_6 (index_area (find chars_order x.name t.indexes) == x.area) (is_key key (find area_order (numbered x.area) d.areas)) (has_area x.relation d) (differ nat_eq x.fields) (list_all (has_field x.relation d) x.fields) (x.root.area == x.area) stood in
+    (number_is (index_area (find chars_order x.name t.indexes)) x.area two.0, two.1)
 
 same_area : (d : Directory) (a b : ℕ) (key other : Dbkey) → is_key key (find area_order (numbered a) d.areas) ≡ true → is_key other (find area_order (numbered b) d.areas) ≡ true → a ≡ b → key ≡ other
 same_area d a b key other is too same = one_key key other (find area_order (numbered a) d.areas) (find area_order (numbered b) d.areas) is too (ap (λ n. find area_order (numbered n) d.areas) same)
@@ -110,11 +110,11 @@ index_names ps fit i j p q x y at also is too same =
     let d = directory ps in let t = catalog_tables ps in
     let here = index_parts d t p.key x (stands_as ps i p (Index x) fit at is) in
     let there = index_parts d t q.key y (stands_as ps j q (Index y) fit also too) in
-    same_area d x.area y.area p.key q.key here.1 there.1 (sym here.0 ∙ ap (λ n. index_area (find name_order n t.indexes)) same ∙ there.0)
+    same_area d x.area y.area p.key q.key here.1 there.1 (sym here.0 ∙ ap (λ n. index_area (find chars_order n t.indexes)) same ∙ there.0)
 
 global_names : (ps : List PlacedLine) → misfit ps ≡ None → OnePer Global (λ g h. g.name ≡ h.name) ps
 global_names ps fit i j p q g h at also is too same =
-    one_key p.key q.key _ _ (stands_as ps i p (Global g) fit at is) (stands_as ps j q (Global h) fit also too) (ap (λ n. find name_order n (directory ps).globals) same)
+    one_key p.key q.key _ _ (stands_as ps i p (Global g) fit at is) (stands_as ps j q (Global h) fit also too) (ap (λ n. find chars_order n (directory ps).globals) same)
 
 pub field_part : (d : Directory) (t : Tables) (key : Dbkey) (f : FieldLine) → stands d t key (FieldOf f) ≡ true → is_field_key key (find place_order (place f.relation f.position) d.fields) ≡ true
 field_part d t key f stood =

@@ -5,7 +5,7 @@ use Rattle.std.specs.Ordering.{is_eq}
 use Rattle.std.specs.FinMap.Entries.{find, put}
 use Rattle.rdb_types.specs.declared.keys.Dbkey.{Dbkey}
 use Rattle.rdb_types.specs.declared.values.Field.{Field}
-use Rattle.rdb_types.specs.Order.{dbkey_order, chars_order as name_order}
+use Rattle.rdb_types.specs.Order.{dbkey_order, chars_order}
 use Rattle.rdb_meaning.specs.declared.tables.Tables.{Tables}
 use Rattle.rdb_meaning.specs.declared.tables.Index.{Index as IndexOf}
 use Rattle.rdb_meaning.specs.Contents.{same_name, no_tables, relation_named, fields_of}
@@ -41,10 +41,10 @@ relation_fields relation d = fields_from max_fields relation 0 d.fields
 
 -- A relation has no rows here. Where two lines give one name, the later one counts.
 abbrev pub with_thing : Directory → CatalogLine → Tables → Tables
-with_thing d (Relation r) t = record t { relations = put name_order r.name (record { area = r.area; fields = relation_fields r.area d; rows = [] }) t.relations }
-with_thing d (Global g) t = record t { globals = put name_order g.name g.kind t.globals }
+with_thing d (Relation r) t = record t { relations = put chars_order r.name (record { area = r.area; fields = relation_fields r.area d; rows = [] }) t.relations }
+with_thing d (Global g) t = record t { globals = put chars_order g.name g.kind t.globals }
 with_thing d (FieldOf f) t = t
-with_thing d (Index x) t = record t { indexes = put name_order x.name (record { area = x.area; relation = x.relation; unique = x.unique; fields = x.fields }) t.indexes }
+with_thing d (Index x) t = record t { indexes = put chars_order x.name (record { area = x.area; relation = x.relation; unique = x.unique; fields = x.fields }) t.indexes }
 
 abbrev pub tables_from : Directory → Tables → List PlacedLine → Tables
 tables_from d t [] = t
@@ -93,7 +93,7 @@ relation_stands d t key r =
 
 -- It is the global field of its name.
 abbrev pub global_stands : Directory → Dbkey → GlobalLine → Bool
-global_stands d key g = is_key key (find name_order g.name d.globals)
+global_stands d key g = is_key key (find chars_order g.name d.globals)
 
 -- It is the field of its place, its relation is there, and the position before its own has a field.
 abbrev pub field_stands : Directory → Dbkey → FieldLine → Bool
@@ -105,7 +105,7 @@ field_stands d key f =
 -- It is the index of its name and of its area, its relation is there, its positions differ and have fields, and its root is in its area.
 abbrev pub index_stands : Directory → Tables → Dbkey → IndexLine → Bool
 index_stands d t key x =
-    index_area (find name_order x.name t.indexes) == x.area
+    index_area (find chars_order x.name t.indexes) == x.area
     && is_key key (find area_order (numbered x.area) d.areas)
     && has_area x.relation d
     && differ nat_eq x.fields

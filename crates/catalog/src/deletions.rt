@@ -2,7 +2,7 @@
 ghost use Rattle.std.specs.Prelude.{◌≡◌, IfOk};
 ghost use Rattle.std.specs.FinMap.Entries.{find};
 ghost use Rattle.rdb_meaning.specs.Contents.{relation_named};
-ghost use Rattle.rdb_types.specs.Order.{chars_order as name_order};
+ghost use Rattle.rdb_types.specs.Order.{chars_order};
 ghost use Rattle.rdb_meaning.specs.Checks.{needs_some};
 ghost use Rattle.rdb_meaning.specs.Execution.{area_of};
 ghost use Rattle.rdb_checks.specs.Answers.{Finds};
@@ -75,7 +75,7 @@ pub fn delete_relation(alloc: Global, catalog: &Catalog, name: &Chars) -> Result
 
 /// DELETE INDEX in the catalog: the Dbkey of the line that it erases. It is refused where there is no such index.
 pub fn delete_index(alloc: Global, catalog: &Catalog, name: &Chars) -> Result<Keys, Stop>
-    ensures refusal { Finds result (needs_some name.now (find name_order name.now catalog.now.tables.indexes)) }
+    ensures refusal { Finds result (needs_some name.now (find chars_order name.now catalog.now.tables.indexes)) }
     ensures keys { IfOk result (λ keys. keys ≡ keys_where (is_index_named name.now) catalog.now.lines) }
 {
     check_index_exists(alloc, &catalog.tables, name)?;

@@ -3,7 +3,7 @@ ghost use Rattle.std.specs.Prelude.{◌≡◌, List, None, nat_eq, OnOk, IfOk};
 ghost use Rattle.std.specs.List.{list_any, list_all};
 ghost use Rattle.std.specs.FinMap.Entries.{find};
 ghost use Rattle.rdb_meaning.specs.Contents.{relation_named, fields_of as fields_of_relation};
-ghost use Rattle.rdb_types.specs.Order.{chars_order as name_order};
+ghost use Rattle.rdb_types.specs.Order.{chars_order};
 ghost use Rattle.rdb_meaning.specs.Execution.{area_of};
 ghost use Rattle.catalog.specs.Directory.{directory};
 ghost use Rattle.catalog.specs.Schema.{fields_from, relation_fields, with_thing, tables_from, differ, same_field, index_area, has_field, relation_stands, global_stands, field_stands, index_stands, stands, misfit_from, misfit as misfit_of};
@@ -159,7 +159,7 @@ fn fields_named<'a>(tables: &'a Tables, name: &Chars) -> &'a [Field]
 }
 
 fn index_area_named(tables: &Tables, name: &Chars) -> u32
-    ensures { result ≡ index_area (find name_order name.now tables.now.indexes) }
+    ensures { result ≡ index_area (find chars_order name.now tables.now.indexes) }
 {
     match tables.indexes.find(name) {
         Some(index) => index.area,

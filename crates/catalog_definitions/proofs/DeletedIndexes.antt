@@ -9,7 +9,7 @@ use Rattle.rdb_types.specs.OrderLaws.{chars_total}
 use Rattle.rdo_ast.specs.Tree.{Name}
 use Rattle.rdb_meaning.specs.declared.tables.Tables.{Tables}
 use Rattle.rdb_meaning.specs.Contents.{no_tables}
-use Rattle.rdb_types.specs.Order.{chars_order as name_order}
+use Rattle.rdb_types.specs.Order.{chars_order}
 use Rattle.rdb_meaning.specs.Defining.{without, without_index}
 use Rattle.line_view.specs.Knowledge.{Lines, IsInOrder}
 use Rattle.catalog_lines.specs.declared.line.CatalogLine.{CatalogLine}
@@ -32,35 +32,35 @@ use Rattle.catalog_definitions.proofs.Basics.{equal}
 -- ---- entries of a name
 
 module _ {V : Type 0} where
-  pub without_tied : (n : Name) (es : List (Name × V)) → without n es ≡ filter (λ e. not (is_eq (name_order n e.0))) es
+  pub without_tied : (n : Name) (es : List (Name × V)) → without n es ≡ filter (λ e. not (is_eq (chars_order n e.0))) es
   without_tied n es = λ i. filter (λ e. not (sym (is_eq-slice_cmp n e.0) i)) es
 
   abbrev untied : Name → List (Name × V) → List (Name × V)
-  untied n es = filter (λ e. not (is_eq (name_order n e.0))) es
+  untied n es = filter (λ e. not (is_eq (chars_order n e.0))) es
 
-  untied_put : (n m : Name) (v : V) (es : List (Name × V)) → name_order n m ≡ Equal → untied n (put name_order m v es) ≡ untied n es
+  untied_put : (n m : Name) (v : V) (es : List (Name × V)) → chars_order n m ≡ Equal → untied n (put chars_order m v es) ≡ untied n es
   untied_put n m v [] tie = ap (λ r. cond (not (is_eq r)) ((m, v) ∷ []) []) tie
   untied_put n m v (e ∷ es) tie =
-      elim (name_order m e.0) as (λ r. name_order m e.0 ≡ r → untied n (by_order r ((m, v) ∷ e ∷ es) ((e.0, v) ∷ es) (e ∷ put name_order m v es)) ≡ untied n (e ∷ es)) [
+      elim (chars_order m e.0) as (λ r. chars_order m e.0 ≡ r → untied n (by_order r ((m, v) ∷ e ∷ es) ((e.0, v) ∷ es) (e ∷ put chars_order m v es)) ≡ untied n (e ∷ es)) [
         | Less ↦ λ p. ap (λ r. cond (not (is_eq r)) ((m, v) ∷ untied n (e ∷ es)) (untied n (e ∷ es))) tie
         | Equal ↦ λ p.
-            let own : name_order n e.0 ≡ Equal = chars_total.congr n m e.0 tie ∙ p in
+            let own : chars_order n e.0 ≡ Equal = chars_total.congr n m e.0 tie ∙ p in
             ap (λ r. cond (not (is_eq r)) ((e.0, v) ∷ untied n es) (untied n es)) own ∙ sym (ap (λ r. cond (not (is_eq r)) (e ∷ untied n es) (untied n es)) own)
-        | Greater ↦ λ p. ap (λ l. cond (not (is_eq (name_order n e.0))) (e ∷ l) l) (untied_put n m v es tie)
+        | Greater ↦ λ p. ap (λ l. cond (not (is_eq (chars_order n e.0))) (e ∷ l) l) (untied_put n m v es tie)
       ] refl
 
-  untied_none : (n : Name) (es : List (Name × V)) → find name_order n es ≡ None → untied n es ≡ es
+  untied_none : (n : Name) (es : List (Name × V)) → find chars_order n es ≡ None → untied n es ≡ es
   untied_none n [] none = refl
   untied_none n (e ∷ es) none =
-      elim (is_eq (name_order n e.0)) as (λ b. cond b (Some e.1) (find name_order n es) ≡ None → cond (not b) (e ∷ untied n es) (untied n es) ≡ e ∷ es) [
+      elim (is_eq (chars_order n e.0)) as (λ b. cond b (Some e.1) (find chars_order n es) ≡ None → cond (not b) (e ∷ untied n es) (untied n es) ≡ e ∷ es) [
         | true ↦ λ h. let bad : ⊥ = cc in absurd bad
         | false ↦ λ h. ap (λ l. e ∷ l) (untied_none n es h)
       ] none
 
-  pub without_put : (n m : Name) (v : V) (es : List (Name × V)) → is_eq (name_order n m) ≡ true → without n (put name_order m v es) ≡ without n es
-  without_put n m v es tie = without_tied n (put name_order m v es) ∙ untied_put n m v es (equal (name_order n m) tie) ∙ sym (without_tied n es)
+  pub without_put : (n m : Name) (v : V) (es : List (Name × V)) → is_eq (chars_order n m) ≡ true → without n (put chars_order m v es) ≡ without n es
+  without_put n m v es tie = without_tied n (put chars_order m v es) ∙ untied_put n m v es (equal (chars_order n m) tie) ∙ sym (without_tied n es)
 
-  pub without_none : (n : Name) (es : List (Name × V)) → find name_order n es ≡ None → without n es ≡ es
+  pub without_none : (n : Name) (es : List (Name × V)) → find chars_order n es ≡ None → without n es ≡ es
   without_none n es none = without_tied n es ∙ untied_none n es none
 
 -- ---- which lines are away
@@ -115,7 +115,7 @@ index_goes all c name sorted is =
     let u = catalog_tables left in
     let r = remains all c holds (away name) sorted is in
     let same = same_lines all (directory ps) (catalog_tables ps) (directory ps) name (gone holds ps) u r.go in
-    let none : find name_order name u.indexes ≡ None = indexes_past (directory left) name left no_tables (none_named all (directory ps) (catalog_tables ps) name left r.stay) in
+    let none : find chars_order name u.indexes ≡ None = indexes_past (directory left) name left no_tables (none_named all (directory ps) (catalog_tables ps) name left r.stay) in
     let globals = ap (λ (t : Tables). t.globals) r.tables ∙ same.globals in
     let relations = ap (λ (t : Tables). t.relations) r.tables ∙ same.relations in
     let indexes = ap (λ (t : Tables). without name t.indexes) r.tables ∙ same.indexes ∙ without_none name u.indexes none in

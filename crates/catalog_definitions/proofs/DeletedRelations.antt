@@ -6,7 +6,7 @@ use Rattle.std.specs.Ordering.{is_eq, nat_cmp}
 use Rattle.std.specs.Cmp.{tied_itself}
 use Rattle.std.specs.FinMap.Entries.{find, put, by_order, find-put}
 use Rattle.rdb_types.specs.declared.keys.Dbkey.{Dbkey}
-use Rattle.rdb_types.specs.Order.{dbkey_order, chars_order as name_order}
+use Rattle.rdb_types.specs.Order.{dbkey_order, chars_order}
 use Rattle.rdb_types.specs.OrderLaws.{chars_total, dbkey_total}
 use Rattle.rdo_ast.specs.Tree.{Name}
 use Rattle.rdb_meaning.specs.declared.tables.Relation.{Relation as RelationOf}
@@ -66,20 +66,20 @@ record NamedLine (all : Lines) (d : Directory) (t : Tables) (n : Name) (rel : Re
   pub r : RelationLine
   pub fits : Fits all d t q
   pub line : q.line ≡ Relation r
-  pub name : is_eq (name_order n r.name) ≡ true
+  pub name : is_eq (chars_order n r.name) ≡ true
   pub area : rel.area ≡ r.area
 
-named_line : (all : Lines) (e d : Directory) (s : Tables) (n : Name) (rel : RelationOf) (q : PlacedLine) (line : CatalogLine) (t : Tables) → q.line ≡ line → Fits all d s q → find name_order n (with_thing e line t).relations ≡ Some rel → (find name_order n t.relations ≡ Some rel) ⊎ NamedLine all d s n rel
+named_line : (all : Lines) (e d : Directory) (s : Tables) (n : Name) (rel : RelationOf) (q : PlacedLine) (line : CatalogLine) (t : Tables) → q.line ≡ line → Fits all d s q → find chars_order n (with_thing e line t).relations ≡ Some rel → (find chars_order n t.relations ≡ Some rel) ⊎ NamedLine all d s n rel
 named_line all e d s n rel q (Relation r) t is fits found =
-    elim (is_eq (name_order n r.name)) as (λ b. is_eq (name_order n r.name) ≡ b → cond b (Some (let v : RelationOf = record { area = r.area; fields = relation_fields r.area e; rows = [] } in v)) (find name_order n t.relations) ≡ Some rel → (find name_order n t.relations ≡ Some rel) ⊎ NamedLine all d s n rel) [
+    elim (is_eq (chars_order n r.name)) as (λ b. is_eq (chars_order n r.name) ≡ b → cond b (Some (let v : RelationOf = record { area = r.area; fields = relation_fields r.area e; rows = [] } in v)) (find chars_order n t.relations) ≡ Some rel → (find chars_order n t.relations ≡ Some rel) ⊎ NamedLine all d s n rel) [
       | true ↦ λ tie h. inr (record { q = q; r = r; fits = fits; line = is; name = tie; area = (let v : record { area = r.area; fields = relation_fields r.area e; rows = [] } ≡ rel = cc in ap (λ (x : RelationOf). x.area) (sym v)) })
       | false ↦ λ tie h. inl h
-    ] refl (sym (find-put name_order chars_total n r.name _ t.relations) ∙ found)
+    ] refl (sym (find-put chars_order chars_total n r.name _ t.relations) ∙ found)
 named_line all e d s n rel q (Global g) t is fits found = inl found
 named_line all e d s n rel q (FieldOf f) t is fits found = inl found
 named_line all e d s n rel q (Index x) t is fits found = inl found
 
-named_lines : (all : Lines) (e d : Directory) (s : Tables) (n : Name) (rel : RelationOf) (ps : List PlacedLine) (t : Tables) → AllByRecursion (Fits all d s) ps → find name_order n (tables_from e t ps).relations ≡ Some rel → (find name_order n t.relations ≡ Some rel) ⊎ NamedLine all d s n rel
+named_lines : (all : Lines) (e d : Directory) (s : Tables) (n : Name) (rel : RelationOf) (ps : List PlacedLine) (t : Tables) → AllByRecursion (Fits all d s) ps → find chars_order n (tables_from e t ps).relations ≡ Some rel → (find chars_order n t.relations ≡ Some rel) ⊎ NamedLine all d s n rel
 named_lines all e d s n rel [] t fits found = inl found
 named_lines all e d s n rel (q ∷ ps) t fits found =
     elim (named_lines all e d s n rel ps (with_thing e q.line t) fits.1 found) [
@@ -91,7 +91,7 @@ named_lines all e d s n rel (q ∷ ps) t fits found =
 
 -- a relation that goes has the name, and an index that goes is on the area
 abbrev Goes : Name → ℕ → CatalogLine → Type 0
-Goes n area (Relation r) = is_eq (name_order n r.name) ≡ true
+Goes n area (Relation r) = is_eq (chars_order n r.name) ≡ true
 Goes n area (Global g) = ⊥
 Goes n area (FieldOf f) = Unit {0}
 Goes n area (Index x) = (x.relation == area) ≡ true
@@ -107,7 +107,7 @@ goes all d t n rel named area q (Relation s) on is fits does =
     let key : named.q.key ≡ q.key = one_key named.q.key q.key _ _ here.1 there.1 (ap (λ (a : ℕ). find area_order (numbered a) d.areas) own) in
     let tie : is_eq (dbkey_order named.q.key q.key) ≡ true = ap (λ k. is_eq (dbkey_order named.q.key k)) (sym key) ∙ ap is_eq (tied_itself dbkey_total named.q.key) in
     let same : named.r ≡ s = same_relation named.r s named.q.line q.line named.line is (same_there all named.q q named.fits.present fits.present tie) in
-    ap (λ (r : RelationLine). is_eq (name_order n r.name)) (sym same) ∙ named.name
+    ap (λ (r : RelationLine). is_eq (chars_order n r.name)) (sym same) ∙ named.name
 goes all d t n rel named area q (Global g) on is fits does = let bad : ⊥ = cc in bad
 goes all d t n rel named area q (FieldOf f) on is fits does = tt
 goes all d t n rel named area q (Index x) on is fits does = does
@@ -142,10 +142,10 @@ all_relations e n area (q ∷ ns) t go = all_relations e n area ns (with_thing e
 abbrev elsewhere : ℕ → List (Name × IndexOf) → List (Name × IndexOf)
 elsewhere area es = filter (λ e. not (e.1.relation == area)) es
 
-elsewhere_put : (area : ℕ) (m : Name) (v : IndexOf) (es : List (Name × IndexOf)) → (v.relation == area) ≡ true → find name_order m es ≡ None → elsewhere area (put name_order m v es) ≡ elsewhere area es
+elsewhere_put : (area : ℕ) (m : Name) (v : IndexOf) (es : List (Name × IndexOf)) → (v.relation == area) ≡ true → find chars_order m es ≡ None → elsewhere area (put chars_order m v es) ≡ elsewhere area es
 elsewhere_put area m v [] on none = ap (λ b. cond (not b) ((m, v) ∷ []) []) on
 elsewhere_put area m v (e ∷ es) on none =
-    elim (name_order m e.0) as (λ r. cond (is_eq r) (Some e.1) (find name_order m es) ≡ None → elsewhere area (by_order r ((m, v) ∷ e ∷ es) ((e.0, v) ∷ es) (e ∷ put name_order m v es)) ≡ elsewhere area (e ∷ es)) [
+    elim (chars_order m e.0) as (λ r. cond (is_eq r) (Some e.1) (find chars_order m es) ≡ None → elsewhere area (by_order r ((m, v) ∷ e ∷ es) ((e.0, v) ∷ es) (e ∷ put chars_order m v es)) ≡ elsewhere area (e ∷ es)) [
       | Less ↦ λ h. ap (λ b. cond (not b) ((m, v) ∷ elsewhere area (e ∷ es)) (elsewhere area (e ∷ es))) on
       | Equal ↦ λ h. let bad : ⊥ = cc in absurd bad
       | Greater ↦ λ h. ap (λ l. cond (not (e.1.relation == area)) (e ∷ l) l) (elsewhere_put area m v es on h)
@@ -156,7 +156,7 @@ abbrev IsNewIndex : Tables → CatalogLine → Type 0
 IsNewIndex t (Relation r) = Unit {0}
 IsNewIndex t (Global g) = Unit {0}
 IsNewIndex t (FieldOf f) = Unit {0}
-IsNewIndex t (Index x) = find name_order x.name t.indexes ≡ None
+IsNewIndex t (Index x) = find chars_order x.name t.indexes ≡ None
 
 index_elsewhere : (e : Directory) (n : Name) (area : ℕ) (line : CatalogLine) (t : Tables) → Goes n area line → IsNewIndex t line → elsewhere area (with_thing e line t).indexes ≡ elsewhere area t.indexes
 index_elsewhere e n area (Relation r) t go new = refl
@@ -171,7 +171,7 @@ still_new e line (FieldOf f) t apart new = tt
 still_new e (Relation r) (Index y) t apart new = new
 still_new e (Global g) (Index y) t apart new = new
 still_new e (FieldOf f) (Index y) t apart new = new
-still_new e (Index x) (Index y) t apart new = find-put_other name_order chars_total y.name x.name _ t.indexes apart.0 ∙ new
+still_new e (Index x) (Index y) t apart new = find-put_other chars_order chars_total y.name x.name _ t.indexes apart.0 ∙ new
 
 all_still_new : (e : Directory) (line : CatalogLine) (ns : List PlacedLine) (t : Tables) → AllByRecursion (λ q. Apart q.line line) ns → AllByRecursion (λ q. IsNewIndex t q.line) ns → AllByRecursion (λ q. IsNewIndex (with_thing e line t) q.line) ns
 all_still_new e line [] t apart new = tt
@@ -203,7 +203,7 @@ index_other : (name : Name) (y x : CatalogLine) → Apart y x → IsIndexOf name
 index_other name (Relation r) x apart is = tt
 index_other name (Global g) x apart is = tt
 index_other name (FieldOf f) x apart is = tt
-index_other name (Index y) (Index x) apart is = subst (λ n. DifferentNames n y.name) (sym is) (untied_back name_order chars_total y.name x.name apart.0)
+index_other name (Index y) (Index x) apart is = subst (λ n. DifferentNames n y.name) (sym is) (untied_back chars_order chars_total y.name x.name apart.0)
 index_other name (Index y) (Relation s) apart is = absurd is
 index_other name (Index y) (Global h) apart is = absurd is
 index_other name (Index y) (FieldOf f) apart is = absurd is
@@ -225,7 +225,7 @@ all_new all d t holds e qs (n ∷ ns) stay go = (new_line e qs n.line (apart_eac
 -- a relation that stays has another name
 relation_other : (d : Directory) (t : Tables) (n : Name) (area : ℕ) (key : Dbkey) (line : CatalogLine) → area_of (relation_named n t) ≡ area → stands d t key line ≡ true → is_of_relation area line ≡ false → IsNoRelation n line
 relation_other d t n area key (Relation r) on stood isnt =
-    elim (is_eq (name_order n r.name)) as (λ b. is_eq (name_order n r.name) ≡ b → b ≡ false) [
+    elim (is_eq (chars_order n r.name)) as (λ b. is_eq (chars_order n r.name) ≡ b → b ≡ false) [
       | true ↦ λ tie.
           let own : r.area ≡ area = sym (relation_parts d t key r stood).0 ∙ ap (λ m. area_of (relation_named m t)) (sym (name_is n r.name tie)) ∙ on in
           let here : (r.area == area) ≡ true = ap (λ (a : ℕ). a == area) own ∙ eq_itself area in
@@ -245,10 +245,10 @@ all_relations_other all d t n area (q ∷ qs) on stay = (relation_other d t n ar
 abbrev IsElsewhere : ℕ → Name × IndexOf → Type 0
 IsElsewhere area e = (e.1.relation == area) ≡ false
 
-put_elsewhere : (area : ℕ) (m : Name) (v : IndexOf) (es : List (Name × IndexOf)) → (v.relation == area) ≡ false → AllByRecursion (IsElsewhere area) es → AllByRecursion (IsElsewhere area) (put name_order m v es)
+put_elsewhere : (area : ℕ) (m : Name) (v : IndexOf) (es : List (Name × IndexOf)) → (v.relation == area) ≡ false → AllByRecursion (IsElsewhere area) es → AllByRecursion (IsElsewhere area) (put chars_order m v es)
 put_elsewhere area m v [] off each = (off, tt)
 put_elsewhere area m v (e ∷ es) off each =
-    elim (name_order m e.0) as (λ r. AllByRecursion (IsElsewhere area) (by_order r ((m, v) ∷ e ∷ es) ((e.0, v) ∷ es) (e ∷ put name_order m v es))) [
+    elim (chars_order m e.0) as (λ r. AllByRecursion (IsElsewhere area) (by_order r ((m, v) ∷ e ∷ es) ((e.0, v) ∷ es) (e ∷ put chars_order m v es))) [
       | Less ↦ (off, each)
       | Equal ↦ (off, each.1)
       | Greater ↦ (each.0, put_elsewhere area m v es off each.1)
@@ -294,7 +294,7 @@ relation_goes all c n sorted is none =
     let found : relation_named n t ≡ Some rel = ap (relation_named n) (sym is.tables) ∙ some.1 in
     let go = all_go all d t n rel (the_line all c n rel r.fits found) area (gone holds ps) on r.go in
     let globals = ap (λ (v : Tables). v.globals) r.tables ∙ all_globals d n area (gone holds ps) u go in
-    let same_name : find name_order n u.relations ≡ None = relations_past e n left no_tables (all_relations_other all d t n area left (ap (λ v. area_of (relation_named n v)) (sym is.tables)) r.stay) in
+    let same_name : find chars_order n u.relations ≡ None = relations_past e n left no_tables (all_relations_other all d t n area left (ap (λ v. area_of (relation_named n v)) (sym is.tables)) r.stay) in
     let relations = ap (λ (v : Tables). without n v.relations) r.tables ∙ all_relations d n area (gone holds ps) u go ∙ without_none n u.relations same_name in
     let new = all_new all d t holds e left (gone holds ps) r.stay r.go in
     let indexes = ap (λ (v : Tables). elsewhere area v.indexes) r.tables ∙ all_elsewhere d n area (gone holds ps) u go (chosen_pairs (λ p. holds p.line) ps r.pairs) new ∙ elsewhere_all area u.indexes (lines_elsewhere all d t e area left no_tables r.stay tt) in

@@ -4,7 +4,7 @@ use Rattle.std.specs.List.{AllByRecursion}
 use Rattle.rdb_types.specs.declared.keys.Dbkey.{Dbkey}
 use Rattle.rdb_meaning.specs.declared.tables.Tables.{Tables}
 use Rattle.rdb_meaning.specs.Contents.{no_tables}
-use Rattle.rdb_types.specs.Order.{chars_order as name_order}
+use Rattle.rdb_types.specs.Order.{chars_order}
 use Rattle.line_view.specs.Knowledge.{Lines}
 use Rattle.catalog_lines.specs.declared.line.CatalogLine.{CatalogLine}
 use Rattle.catalog_lines.specs.declared.line.CatalogLine.TheVariants.{Relation, Global, Field as FieldOf, Index}
@@ -54,7 +54,7 @@ HasFields d e (Index x) = Unit {0}
 
 thing_on : (d e : Directory) (line : CatalogLine) (t : Tables) → HasFields d e line → with_thing d line t ≡ with_thing e line t
 thing_on d e (Relation r) t same =
-    ap (λ fs. let u : Tables = record t { relations = put name_order r.name (record { area = r.area; fields = fs; rows = [] }) t.relations } in u) same
+    ap (λ fs. let u : Tables = record t { relations = put chars_order r.name (record { area = r.area; fields = fs; rows = [] }) t.relations } in u) same
 thing_on d e (Global g) t same = refl
 thing_on d e (FieldOf f) t same = refl
 thing_on d e (Index x) t same = refl

@@ -7,7 +7,7 @@ use Rattle.std.specs.FinMap.Entries.{put}
 use Rattle.rdb_types.specs.declared.keys.Dbkey.{Dbkey}
 use Rattle.rdb_types.specs.OrderLaws.{chars_total}
 use Rattle.rdb_meaning.specs.declared.tables.Tables.{Tables}
-use Rattle.rdb_types.specs.Order.{chars_order as name_order}
+use Rattle.rdb_types.specs.Order.{chars_order}
 use Rattle.catalog_lines.specs.declared.line.CatalogLine.{CatalogLine}
 use Rattle.catalog_lines.specs.declared.line.CatalogLine.TheVariants.{Relation, Global, Field as FieldOf, Index}
 use Rattle.catalog.specs.declared.directory.LogicalArea.{LogicalArea}
@@ -27,7 +27,7 @@ place_total = then_total (on_total (λ (p : FieldPlace). p.relation) nat_cmp_tot
 -- ---- lines of different things
 
 abbrev pub DifferentNames : List ℕ → List ℕ → Type 0
-DifferentNames m n = is_eq (name_order m n) ≡ false
+DifferentNames m n = is_eq (chars_order m n) ≡ false
 
 abbrev pub DifferentAreas : ℕ → ℕ → Type 0
 DifferentAreas a b = is_eq (area_order (numbered a) (numbered b)) ≡ false
@@ -60,7 +60,7 @@ noted_either k l (Relation r) (Relation s) d apart = areas_either k l r.area s.a
 noted_either k l (Relation r) (Index y) d apart = areas_either k l r.area y.area d apart
 noted_either k l (Relation r) (Global h) d apart = refl
 noted_either k l (Relation r) (FieldOf f) d apart = refl
-noted_either k l (Global g) (Global h) d apart = ap (λ m. let e : Directory = record d { globals = m } in e) (put_either name_order chars_total g.name h.name k l d.globals apart)
+noted_either k l (Global g) (Global h) d apart = ap (λ m. let e : Directory = record d { globals = m } in e) (put_either chars_order chars_total g.name h.name k l d.globals apart)
 noted_either k l (Global g) (Relation s) d apart = refl
 noted_either k l (Global g) (FieldOf f) d apart = refl
 noted_either k l (Global g) (Index y) d apart = refl
@@ -76,16 +76,16 @@ noted_either k l (Index x) (Global h) d apart = refl
 noted_either k l (Index x) (FieldOf f) d apart = refl
 
 thing_either : (d : Directory) (a b : CatalogLine) (t : Tables) → Apart a b → with_thing d a (with_thing d b t) ≡ with_thing d b (with_thing d a t)
-thing_either d (Relation r) (Relation s) t apart = ap (λ m. let u : Tables = record t { relations = m } in u) (put_either name_order chars_total r.name s.name _ _ t.relations apart.0)
+thing_either d (Relation r) (Relation s) t apart = ap (λ m. let u : Tables = record t { relations = m } in u) (put_either chars_order chars_total r.name s.name _ _ t.relations apart.0)
 thing_either d (Relation r) (Index y) t apart = refl
 thing_either d (Relation r) (Global h) t apart = refl
 thing_either d (Relation r) (FieldOf f) t apart = refl
-thing_either d (Global g) (Global h) t apart = ap (λ m. let u : Tables = record t { globals = m } in u) (put_either name_order chars_total g.name h.name _ _ t.globals apart)
+thing_either d (Global g) (Global h) t apart = ap (λ m. let u : Tables = record t { globals = m } in u) (put_either chars_order chars_total g.name h.name _ _ t.globals apart)
 thing_either d (Global g) (Relation s) t apart = refl
 thing_either d (Global g) (FieldOf f) t apart = refl
 thing_either d (Global g) (Index y) t apart = refl
 thing_either d (FieldOf e) b t apart = refl
-thing_either d (Index x) (Index y) t apart = ap (λ m. let u : Tables = record t { indexes = m } in u) (put_either name_order chars_total x.name y.name _ _ t.indexes apart.0)
+thing_either d (Index x) (Index y) t apart = ap (λ m. let u : Tables = record t { indexes = m } in u) (put_either chars_order chars_total x.name y.name _ _ t.indexes apart.0)
 thing_either d (Index x) (Relation s) t apart = refl
 thing_either d (Index x) (Global h) t apart = refl
 thing_either d (Index x) (FieldOf f) t apart = refl

@@ -13,7 +13,7 @@ use Rattle.rdb_meaning.specs.declared.tables.Relation.{Relation as RelationOf}
 use Rattle.rdb_meaning.specs.declared.tables.Index.{Index as IndexOf}
 use Rattle.rdb_meaning.specs.declared.tables.Tables.{Tables}
 use Rattle.rdb_meaning.specs.Contents.{relation_named, fields_of}
-use Rattle.rdb_types.specs.Order.{chars_order as name_order}
+use Rattle.rdb_types.specs.Order.{chars_order}
 use Rattle.rdb_meaning.specs.Execution.{area_of}
 use Rattle.catalog_lines.specs.declared.line.FieldLine.{FieldLine}
 use Rattle.catalog_lines.specs.declared.line.IndexLine.{IndexLine}
@@ -33,17 +33,17 @@ abbrev pub noted_index : Dbkey → IndexLine → Directory → Directory
 noted_index k x d = noted k (Index x) d
 
 abbrev pub with_index_line : IndexLine → Tables → Tables
-with_index_line x t = record t { indexes = put name_order x.name (record { area = x.area; relation = x.relation; unique = x.unique; fields = x.fields }) t.indexes }
+with_index_line x t = record t { indexes = put chars_order x.name (record { area = x.area; relation = x.relation; unique = x.unique; fields = x.fields }) t.indexes }
 
 -- ---- another name and another area
 
-line_apart : (d : Directory) (x : IndexLine) (line : CatalogLine) (t : Tables) → find name_order x.name (with_thing d line t).indexes ≡ None → IsOff x.area line → (find name_order x.name t.indexes ≡ None) × Apart (Index x) line
+line_apart : (d : Directory) (x : IndexLine) (line : CatalogLine) (t : Tables) → find chars_order x.name (with_thing d line t).indexes ≡ None → IsOff x.area line → (find chars_order x.name t.indexes ≡ None) × Apart (Index x) line
 line_apart d x (Relation r) t none off = (none, off)
 line_apart d x (Global g) t none off = (none, tt)
 line_apart d x (FieldOf f) t none off = (none, tt)
-line_apart d x (Index y) t none off = let parts = none_put name_order chars_total x.name y.name _ t.indexes none in (parts.1, (parts.0, off))
+line_apart d x (Index y) t none off = let parts = none_put chars_order chars_total x.name y.name _ t.indexes none in (parts.1, (parts.0, off))
 
-pub lines_apart : (d : Directory) (k : Dbkey) (x : IndexLine) (ps : List PlacedLine) (t : Tables) → find name_order x.name (tables_from d t ps).indexes ≡ None → AllByRecursion (λ q. IsOff x.area q.line) ps → (find name_order x.name t.indexes ≡ None) × AllApart (record { key = k; line = Index x }) ps
+pub lines_apart : (d : Directory) (k : Dbkey) (x : IndexLine) (ps : List PlacedLine) (t : Tables) → find chars_order x.name (tables_from d t ps).indexes ≡ None → AllByRecursion (λ q. IsOff x.area q.line) ps → (find chars_order x.name t.indexes ≡ None) × AllApart (record { key = k; line = Index x }) ps
 lines_apart d k x [] t none off = (none, tt)
 lines_apart d k x (q ∷ ps) t none off =
     let rest = lines_apart d k x ps (with_thing d q.line t) none off.1 in
@@ -63,7 +63,7 @@ three_of_6 a b c d e f is = (and_parts (a && b) c (and_parts (a && b && c) d (an
 
 pub index_relation : (d : Directory) (t : Tables) (key : Dbkey) (y : IndexLine) → stands d t key (Index y) ≡ true → has_area y.relation d ≡ true
 index_relation d t key y stood =
-    three_of_6 (index_area (find name_order y.name t.indexes) == y.area) (is_key key (find area_order (numbered y.area) d.areas)) (has_area y.relation d) (differ nat_eq y.fields) (list_all (has_field y.relation d) y.fields) (y.root.area == y.area) stood
+    three_of_6 (index_area (find chars_order y.name t.indexes) == y.area) (is_key key (find area_order (numbered y.area) d.areas)) (has_area y.relation d) (differ nat_eq y.fields) (list_all (has_field y.relation d) y.fields) (y.root.area == y.area) stood
 
 same_area : (d : Directory) (k : Dbkey) (a new : ℕ) → DifferentAreas a new → find area_order (numbered a) (put area_order (numbered new) k d.areas) ≡ find area_order (numbered a) d.areas
 same_area d k a new other = find-put_other area_order area_total (numbered a) (numbered new) k d.areas other
@@ -77,7 +77,7 @@ still_stands d t k key x (FieldOf f) none apart stood =
     let found = same_area d k f.relation x.area (other_area d f.relation x.area none (field_area d t key f stood)) in
     ap (λ o. is_field_key key (find place_order (place f.relation f.position) d.fields) && is_some o && (f.position == 0 || has_field f.relation d (f.position - 1))) found ∙ stood
 still_stands d t k key x (Index y) none apart stood =
-    let named = find-put_other name_order chars_total y.name x.name (let v : IndexOf = record { area = x.area; relation = x.relation; unique = x.unique; fields = x.fields } in v) t.indexes (untied_back name_order chars_total x.name y.name apart.0) in
+    let named = find-put_other chars_order chars_total y.name x.name (let v : IndexOf = record { area = x.area; relation = x.relation; unique = x.unique; fields = x.fields } in v) t.indexes (untied_back chars_order chars_total x.name y.name apart.0) in
     let own = same_area d k y.area x.area (untied_back area_order area_total (numbered x.area) (numbered y.area) apart.1) in
     let on = same_area d k y.relation x.area (other_area d y.relation x.area none (index_relation d t key y stood)) in
     (λ i. index_area (named i) == y.area && is_key key (own i) && is_some (on i) && differ nat_eq y.fields && list_all (has_field y.relation d) y.fields && y.root.area == y.area) ∙ stood
@@ -106,8 +106,8 @@ new_stands d t k x rel none from on places within root =
     let found = same_area d k x.relation x.area (other_area d x.relation x.area none there) in
     let fields : (i : ℕ) → i < length rel.fields → has_field x.relation d i ≡ true =
     λ i h. ap (λ (a : ℕ). has_field a d i) relation ∙ field_of_relation d from.r.area i (omega (arith, h, count)) in
-    six (index_area (find name_order x.name (put name_order x.name v t.indexes)) == x.area) (is_key k (find area_order (numbered x.area) (put area_order (numbered x.area) k d.areas))) (is_some (find area_order (numbered x.relation) (put area_order (numbered x.area) k d.areas))) (differ nat_eq x.fields) (list_all (has_field x.relation d) x.fields) (x.root.area == x.area)
-    (ap (λ o. index_area o == x.area) (find-put_same name_order chars_total x.name v t.indexes) ∙ eq_itself x.area)
+    six (index_area (find chars_order x.name (put chars_order x.name v t.indexes)) == x.area) (is_key k (find area_order (numbered x.area) (put area_order (numbered x.area) k d.areas))) (is_some (find area_order (numbered x.relation) (put area_order (numbered x.area) k d.areas))) (differ nat_eq x.fields) (list_all (has_field x.relation d) x.fields) (x.root.area == x.area)
+    (ap (λ o. index_area o == x.area) (find-put_same chars_order chars_total x.name v t.indexes) ∙ eq_itself x.area)
     (ap (is_key k) (find-put_same area_order area_total (numbered x.area) k d.areas) ∙ ap is_eq (tied_itself dbkey_total k))
     (ap is_some found ∙ there)
     places

@@ -11,7 +11,7 @@ use Rattle.rdo_ast.specs.Tree.{Name}
 use Rattle.rdb_types.specs.OrderLaws.{same_chars, chars_total}
 use Rattle.std.specs.Cmp.{tied_itself}
 use Rattle.rdb_meaning.specs.Contents.{same_name, place_from, place_of}
-use Rattle.rdb_types.specs.Order.{chars_order as name_order}
+use Rattle.rdb_types.specs.Order.{chars_order}
 use Rattle.rdb_meaning.specs.Checks.{Refusal, or_else, needs_some}
 use Rattle.rdb_meaning.specs.Defining.{is_among, index_fields_names, positions_of}
 use Rattle.catalog.specs.Schema.{differ}
@@ -19,7 +19,7 @@ use Rattle.catalog_definitions.proofs.FreeAreas.{eq_is}
 use Rattle.catalog_definitions.proofs.Basics.{equal, or_true}
 
 pub names_are : (m n : Name) → same_name m n ≡ true → m ≡ n
-names_are m n is = same_chars m n (equal (name_order m n) (is_eq-slice_cmp m n ∙ is))
+names_are m n is = same_chars m n (equal (chars_order m n) (is_eq-slice_cmp m n ∙ is))
 
 pub name_itself : (n : Name) → same_name n n ≡ true
 name_itself n = sym (is_eq-slice_cmp n n) ∙ ap is_eq (tied_itself chars_total n)

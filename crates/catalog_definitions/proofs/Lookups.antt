@@ -10,7 +10,7 @@ use Rattle.rdb_meaning.specs.declared.tables.Relation.{Relation as RelationOf}
 use Rattle.rdb_meaning.specs.declared.tables.Index.{Index as IndexOf}
 use Rattle.rdb_meaning.specs.declared.tables.Tables.{Tables}
 use Rattle.rdb_meaning.specs.Contents.{no_tables, relation_named, is_used}
-use Rattle.rdb_types.specs.Order.{chars_order as name_order}
+use Rattle.rdb_types.specs.Order.{chars_order}
 use Rattle.rdb_meaning.specs.Execution.{area_of}
 use Rattle.catalog_lines.specs.declared.line.RelationLine.{RelationLine}
 use Rattle.catalog_lines.specs.declared.line.IndexLine.{IndexLine}
@@ -47,17 +47,17 @@ pub record RelationFrom (e d : Directory) (t : Tables) (rel : RelationOf) : Type
   pub stood : stands d t key (Relation r) ≡ true
   pub same : rel ≡ record { area = r.area; fields = relation_fields r.area e; rows = [] }
 
-from_line : (e d : Directory) (u : Tables) (n : List ℕ) (rel : RelationOf) (key : Dbkey) (line : CatalogLine) (t : Tables) → IsAllowedLine line → stands d u key line ≡ true → find name_order n (with_thing e line t).relations ≡ Some rel → (find name_order n t.relations ≡ Some rel) ⊎ RelationFrom e d u rel
+from_line : (e d : Directory) (u : Tables) (n : List ℕ) (rel : RelationOf) (key : Dbkey) (line : CatalogLine) (t : Tables) → IsAllowedLine line → stands d u key line ≡ true → find chars_order n (with_thing e line t).relations ≡ Some rel → (find chars_order n t.relations ≡ Some rel) ⊎ RelationFrom e d u rel
 from_line e d u n rel key (Relation r) t allowed stood found =
-    elim (is_eq (name_order n r.name)) as (λ b. cond b (Some (let v : RelationOf = record { area = r.area; fields = relation_fields r.area e; rows = [] } in v)) (find name_order n t.relations) ≡ Some rel → (find name_order n t.relations ≡ Some rel) ⊎ RelationFrom e d u rel) [
+    elim (is_eq (chars_order n r.name)) as (λ b. cond b (Some (let v : RelationOf = record { area = r.area; fields = relation_fields r.area e; rows = [] } in v)) (find chars_order n t.relations) ≡ Some rel → (find chars_order n t.relations ≡ Some rel) ⊎ RelationFrom e d u rel) [
       | true ↦ λ h. inr (record { key = key; r = r; allowed = allowed; stood = stood; same = (let v : rel ≡ record { area = r.area; fields = relation_fields r.area e; rows = [] } = cc in v) })
       | false ↦ λ h. inl h
-    ] (sym (find-put name_order chars_total n r.name _ t.relations) ∙ found)
+    ] (sym (find-put chars_order chars_total n r.name _ t.relations) ∙ found)
 from_line e d u n rel key (Global g) t allowed stood found = inl found
 from_line e d u n rel key (FieldOf f) t allowed stood found = inl found
 from_line e d u n rel key (Index x) t allowed stood found = inl found
 
-from_lines : (e d : Directory) (u : Tables) (n : List ℕ) (rel : RelationOf) (ps : List PlacedLine) (t : Tables) → AllByRecursion (Good d u) ps → find name_order n (tables_from e t ps).relations ≡ Some rel → (find name_order n t.relations ≡ Some rel) ⊎ RelationFrom e d u rel
+from_lines : (e d : Directory) (u : Tables) (n : List ℕ) (rel : RelationOf) (ps : List PlacedLine) (t : Tables) → AllByRecursion (Good d u) ps → find chars_order n (tables_from e t ps).relations ≡ Some rel → (find chars_order n t.relations ≡ Some rel) ⊎ RelationFrom e d u rel
 from_lines e d u n rel [] t good found = inl found
 from_lines e d u n rel (q ∷ ps) t good found =
     elim (from_lines e d u n rel ps (with_thing e q.line t) good.1 found) [
@@ -100,13 +100,13 @@ key_there key (Some k) is = refl
 
 -- ---- areas that are given out
 
-index_used : (t : Tables) (x : IndexLine) (found : Option IndexOf) → find name_order x.name t.indexes ≡ found → index_area found ≡ x.area → (x.area ≡ 0 → ⊥) → is_used x.area (map (λ e. e.1.area) t.indexes) ≡ true
+index_used : (t : Tables) (x : IndexLine) (found : Option IndexOf) → find chars_order x.name t.indexes ≡ found → index_area found ≡ x.area → (x.area ≡ 0 → ⊥) → is_used x.area (map (λ e. e.1.area) t.indexes) ≡ true
 index_used t x None is area positive = absurd (positive (sym area))
-index_used t x (Some v) is area positive = subst (λ (a : ℕ). is_used a (map (λ e. e.1.area) t.indexes) ≡ true) area (used_found name_order (λ (v : IndexOf). v.area) x.name v t.indexes is)
+index_used t x (Some v) is area positive = subst (λ (a : ℕ). is_used a (map (λ e. e.1.area) t.indexes) ≡ true) area (used_found chars_order (λ (v : IndexOf). v.area) x.name v t.indexes is)
 
 relation_used : (t : Tables) (r : RelationLine) (found : Option RelationOf) → relation_named r.name t ≡ found → area_of found ≡ r.area → (r.area ≡ 0 → ⊥) → is_used r.area (map (λ e. e.1.area) t.relations) ≡ true
 relation_used t r None is area positive = absurd (positive (sym area))
-relation_used t r (Some v) is area positive = subst (λ (a : ℕ). is_used a (map (λ e. e.1.area) t.relations) ≡ true) area (used_found name_order (λ (v : RelationOf). v.area) r.name v t.relations is)
+relation_used t r (Some v) is area positive = subst (λ (a : ℕ). is_used a (map (λ e. e.1.area) t.relations) ≡ true) area (used_found chars_order (λ (v : RelationOf). v.area) r.name v t.relations is)
 
 used_differ : (a b : ℕ) (us : List ℕ) → is_used a us ≡ false → is_used b us ≡ true → a ≡ b → ⊥
 used_differ a b us unused used same = let moved = ap (λ (n : ℕ). is_used n us) same in cc

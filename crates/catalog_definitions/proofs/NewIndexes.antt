@@ -9,7 +9,7 @@ use Rattle.rdo_ast.specs.declared.syntax.IndexDefinition.{IndexDefinition}
 use Rattle.rdb_meaning.specs.declared.tables.Relation.{Relation as RelationOf}
 use Rattle.rdb_meaning.specs.declared.tables.Tables.{Tables}
 use Rattle.rdb_meaning.specs.Contents.{no_tables, relation_named, fields_of, is_used, new_index_area}
-use Rattle.rdb_types.specs.Order.{chars_order as name_order}
+use Rattle.rdb_types.specs.Order.{chars_order}
 use Rattle.rdb_meaning.specs.Checks.{needs_some, needs_none}
 use Rattle.rdb_meaning.specs.Defining.{index_names, index_fields_names, positions_of, with_index}
 use Rattle.rdb_meaning.specs.Execution.{area_of}
@@ -45,18 +45,18 @@ use Rattle.catalog_definitions.proofs.Basics.{none_named, some_named}
 -- ---- what isn't refused
 
 pub record Sound (d : IndexDefinition) (t : Tables) : Type 0 where
-  pub new : find name_order d.name t.indexes ≡ None
+  pub new : find chars_order d.name t.indexes ≡ None
   pub rel : RelationOf
   pub there : relation_named d.relation t ≡ Some rel
   pub places : index_fields_names [] d.fields rel.fields ≡ None
 
 pub sound : (d : IndexDefinition) (t : Tables) → index_names d t ≡ None → Sound d t
 sound d t none =
-    let parts = first_none (needs_none d.name (find name_order d.name t.indexes)) _ none in
+    let parts = first_none (needs_none d.name (find chars_order d.name t.indexes)) _ none in
     let others = first_none (needs_some d.relation (relation_named d.relation t)) _ parts.1 in
     let some = some_named d.relation (relation_named d.relation t) others.0 in
     record {
-      new = none_named d.name (find name_order d.name t.indexes) parts.0;
+      new = none_named d.name (find chars_order d.name t.indexes) parts.0;
       rel = some.0;
       there = some.1;
       places = subst (λ r. index_fields_names [] d.fields (fields_of r) ≡ None) some.1 others.1;
@@ -115,7 +115,7 @@ index_leaves all writes c d root laid is s at =
     subst (λ u. is_used x.area (map (λ e. e.1.area) u.indexes) ≡ false) is.tables (unused (length c.tables.indexes) 17 (map (λ e. e.1.area) c.tables.indexes) (sym (length-map c.tables.indexes (λ e. e.1.area)))) in
     let off = odd_offs dir t x.area ps (area_bounds c.tables).1 free good in
     let none : find area_order (numbered x.area) dir.areas ≡ None = off_lines x.area ps no_directory off in
-    let apart : AllApart n ps = (lines_apart dir one.key x ps no_tables (ap (λ u. find name_order x.name u.indexes) (sym is.tables) ∙ s.new) off).1 in
+    let apart : AllApart n ps = (lines_apart dir one.key x ps no_tables (ap (λ u. find chars_order x.name u.indexes) (sym is.tables) ∙ s.new) off).1 in
     let from = from_catalog c d.relation s.rel whole s.there in
     let e = noted_index one.key x dir in
     let u = with_index_line x t in
@@ -137,10 +137,10 @@ turns known c d writes written s all sorted agrees is =
     (agrees.within (index_room (new_index_area c.tables)) root written.room)
 
 -- the index that is found behind the definition
-pub index_is : (d : IndexDefinition) (t u : Tables) (index : IndexOf) → u ≡ with_index d t → find name_order d.name u.indexes ≡ Some index → index ≡ new_index d t
+pub index_is : (d : IndexDefinition) (t u : Tables) (index : IndexOf) → u ≡ with_index d t → find chars_order d.name u.indexes ≡ Some index → index ≡ new_index d t
 index_is d t u index made found =
-    same_Some index (new_index d t) (sym found ∙ ap (λ (v : Tables). find name_order d.name v.indexes) made ∙ find-put_same name_order chars_total d.name (new_index d t) t.indexes)
+    same_Some index (new_index d t) (sym found ∙ ap (λ (v : Tables). find chars_order d.name v.indexes) made ∙ find-put_same chars_order chars_total d.name (new_index d t) t.indexes)
 
-pub index_found : (d : IndexDefinition) (t u : Tables) → u ≡ with_index d t → IsSome (find name_order d.name u.indexes)
+pub index_found : (d : IndexDefinition) (t u : Tables) → u ≡ with_index d t → IsSome (find chars_order d.name u.indexes)
 index_found d t u made =
-    subst IsSome (sym (ap (λ (v : Tables). find name_order d.name v.indexes) made ∙ find-put_same name_order chars_total d.name (new_index d t) t.indexes)) refl
+    subst IsSome (sym (ap (λ (v : Tables). find chars_order d.name v.indexes) made ∙ find-put_same chars_order chars_total d.name (new_index d t) t.indexes)) refl

@@ -20,7 +20,7 @@ use Rattle.rdo_ast.specs.declared.reply.Reply.TheVariants.{Exists}
 use Rattle.rdb_meaning.specs.declared.tables.Relation.{Relation as RelationOf}
 use Rattle.rdb_meaning.specs.declared.tables.Tables.{Tables}
 use Rattle.rdb_meaning.specs.Contents.{same_name, no_tables, relation_named, is_used, longest_value, class_of, new_relation_area}
-use Rattle.rdb_types.specs.Order.{chars_order as name_order}
+use Rattle.rdb_types.specs.Order.{chars_order}
 use Rattle.rdb_meaning.specs.Checks.{or_else, needs_some, needs_none}
 use Rattle.rdb_meaning.specs.Defining.{is_among, type_names, fields_names, relation_names, copied_type, type_of, new_field, with_relation}
 use Rattle.line_view.specs.Knowledge.{Knowledge, Lines}
@@ -93,17 +93,17 @@ names_differ before (f ∷ fs) t none =
 
 -- ---- types of global fields
 
-type_line : (e : Directory) (g : Name) (kind : FieldType) (line : CatalogLine) (t : Tables) → IsAllowedLine line → find name_order g (with_thing e line t).globals ≡ Some kind → (find name_order g t.globals ≡ Some kind) ⊎ IsType kind
+type_line : (e : Directory) (g : Name) (kind : FieldType) (line : CatalogLine) (t : Tables) → IsAllowedLine line → find chars_order g (with_thing e line t).globals ≡ Some kind → (find chars_order g t.globals ≡ Some kind) ⊎ IsType kind
 type_line e g kind (Relation r) t allowed found = inl found
 type_line e g kind (Global h) t allowed found =
-    elim (is_eq (name_order g h.name)) as (λ b. cond b (Some h.kind) (find name_order g t.globals) ≡ Some kind → (find name_order g t.globals ≡ Some kind) ⊎ IsType kind) [
+    elim (is_eq (chars_order g h.name)) as (λ b. cond b (Some h.kind) (find chars_order g t.globals) ≡ Some kind → (find chars_order g t.globals ≡ Some kind) ⊎ IsType kind) [
       | true ↦ λ s. let same : h.kind ≡ kind = cc in inr (subst IsType same allowed.kind)
       | false ↦ λ s. inl s
-    ] (sym (find-put name_order chars_total g h.name h.kind t.globals) ∙ found)
+    ] (sym (find-put chars_order chars_total g h.name h.kind t.globals) ∙ found)
 type_line e g kind (FieldOf f) t allowed found = inl found
 type_line e g kind (Index x) t allowed found = inl found
 
-type_lines : (e : Directory) (g : Name) (kind : FieldType) (ps : List PlacedLine) (t : Tables) → AllByRecursion (λ p. IsAllowedLine p.line) ps → find name_order g (tables_from e t ps).globals ≡ Some kind → (find name_order g t.globals ≡ Some kind) ⊎ IsType kind
+type_lines : (e : Directory) (g : Name) (kind : FieldType) (ps : List PlacedLine) (t : Tables) → AllByRecursion (λ p. IsAllowedLine p.line) ps → find chars_order g (tables_from e t ps).globals ≡ Some kind → (find chars_order g t.globals ≡ Some kind) ⊎ IsType kind
 type_lines e g kind [] t allowed found = inl found
 type_lines e g kind (q ∷ ps) t allowed found =
     elim (type_lines e g kind ps (with_thing e q.line t) allowed.1 found) [
@@ -111,17 +111,17 @@ type_lines e g kind (q ∷ ps) t allowed found =
       | inr h ↦ inr h
     ]
 
-global_type : (c : Catalog) (g : Name) (found : Option FieldType) → IsWhole c → find name_order g c.tables.globals ≡ found → needs_some g found ≡ None → IsType (copied_type found)
+global_type : (c : Catalog) (g : Name) (found : Option FieldType) → IsWhole c → find chars_order g c.tables.globals ≡ found → needs_some g found ≡ None → IsType (copied_type found)
 global_type c g None whole is none = let bad : ⊥ = cc in absurd bad
 global_type c g (Some kind) whole is none =
-    elim (type_lines (directory c.lines) g kind c.lines no_tables whole.allowed (ap (λ t. find name_order g t.globals) (sym whole.tables) ∙ is)) [
+    elim (type_lines (directory c.lines) g kind c.lines no_tables whole.allowed (ap (λ t. find chars_order g t.globals) (sym whole.tables) ∙ is)) [
       | inl h ↦ let bad : ⊥ = cc in absurd bad
       | inr h ↦ h
     ]
 
 type_allowed : (c : Catalog) (kind : DefinedType) → IsWhole c → type_names kind c.tables ≡ None → IsOwnType kind → IsType (type_of kind c.tables)
 type_allowed c (Own kind) whole none own = own
-type_allowed c (BasedOn g) whole none own = global_type c g (find name_order g c.tables.globals) whole refl none
+type_allowed c (BasedOn g) whole none own = global_type c g (find chars_order g c.tables.globals) whole refl none
 
 -- ---- the lines
 
@@ -201,7 +201,7 @@ fresh all c r k is new area =
       off = off;
       none = none;
       fields = fields_off d t r.area ps none stood;
-      apart = (lines_apart d k r ps no_tables (ap (λ u. find name_order r.name u.relations) (sym is.tables) ∙ new) off).1;
+      apart = (lines_apart d k r ps no_tables (ap (λ u. find chars_order r.name u.relations) (sym is.tables) ∙ new) off).1;
     }
 
 has_more : (ps : List PlacedLine) (r : RelationLine) (k : Dbkey) (keys : List Dbkey) (fs : List Field) → HasMore r.area k (directory ps) (directory_from (noted k (Relation r) (directory ps)) (at_keys r.area 0 keys fs))
@@ -274,7 +274,7 @@ abbrev pub new_relation : List FieldDefinition → Tables → RelationOf
 new_relation fs t = record { area = new_relation_area t; fields = map (new_field t) fs; rows = [] }
 
 found_new : (n : Name) (fs : List FieldDefinition) (t u : Tables) → u ≡ with_relation n fs t → relation_named n u ≡ Some (new_relation fs t)
-found_new n fs t u made = ap (λ (v : Tables). find name_order n v.relations) made ∙ find-put_same name_order chars_total n (new_relation fs t) t.relations
+found_new n fs t u made = ap (λ (v : Tables). find chars_order n v.relations) made ∙ find-put_same chars_order chars_total n (new_relation fs t) t.relations
 
 pub relation_found_behind : (n : Name) (fs : List FieldDefinition) (t u : Tables) → u ≡ with_relation n fs t → IsSome (relation_named n u)
 relation_found_behind n fs t u made = subst IsSome (sym (found_new n fs t u made)) refl

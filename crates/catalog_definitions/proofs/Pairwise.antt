@@ -9,7 +9,7 @@ use Rattle.std.specs.FinMap.Entries.{find, is_sorted, below_all, is_sorted-where
 use Rattle.std.proofs.lemmas.Bool.{and_parts}
 use Rattle.std.proofs.lemmas.Cmp.{ranked}
 use Rattle.rdb_types.specs.declared.keys.Dbkey.{Dbkey}
-use Rattle.rdb_types.specs.Order.{dbkey_order, chars_order as name_order}
+use Rattle.rdb_types.specs.Order.{dbkey_order, chars_order}
 use Rattle.rdb_types.specs.OrderLaws.{same_chars, dbkey_total}
 use Rattle.rdb_meaning.specs.declared.tables.Tables.{Tables}
 use Rattle.rdb_meaning.specs.Contents.{relation_named}
@@ -36,8 +36,8 @@ differs a b true apart same =
     let tie : is_eq (dbkey_order a b) ≡ true = ap (λ k. is_eq (dbkey_order a k)) (sym (same refl)) ∙ ap is_eq (tied_itself dbkey_total a) in
     let bad : ⊥ = cc in absurd bad
 
-pub name_is : (m n : List ℕ) → is_eq (name_order m n) ≡ true → m ≡ n
-name_is m n is = same_chars m n (equal (name_order m n) is)
+pub name_is : (m n : List ℕ) → is_eq (chars_order m n) ≡ true → m ≡ n
+name_is m n is = same_chars m n (equal (chars_order m n) is)
 
 number_is : (m n : ℕ) → is_eq (nat_cmp m n) ≡ true → m ≡ n
 number_is m n is = ranked m n Equal (sym (equal (nat_cmp m n) is))
@@ -55,13 +55,13 @@ module _ (d : Directory) (t : Tables) (a b : Dbkey) (apart : is_eq (dbkey_order 
   lines_apart (Relation r) (Relation s) here there =
       let p = relation_parts d t a r here in
       let q = relation_parts d t b s there in (
-        differs a b (is_eq (name_order r.name s.name)) apart (λ tie. one_key a b _ _ p.1 q.1 (ap (λ (x : ℕ). find area_order (numbered x) d.areas) (sym p.0 ∙ ap (λ n. area_of (relation_named n t)) (name_is r.name s.name tie) ∙ q.0))),
+        differs a b (is_eq (chars_order r.name s.name)) apart (λ tie. one_key a b _ _ p.1 q.1 (ap (λ (x : ℕ). find area_order (numbered x) d.areas) (sym p.0 ∙ ap (λ n. area_of (relation_named n t)) (name_is r.name s.name tie) ∙ q.0))),
         one_area r.area s.area p.1 q.1,
       )
   lines_apart (Relation r) (Index y) here there = one_area r.area y.area (relation_parts d t a r here).1 (index_parts d t b y there).1
   lines_apart (Relation r) (Global h) here there = tt
   lines_apart (Relation r) (FieldOf f) here there = tt
-  lines_apart (Global g) (Global h) here there = differs a b (is_eq (name_order g.name h.name)) apart (λ tie. one_key a b _ _ here there (ap (λ n. find name_order n d.globals) (name_is g.name h.name tie)))
+  lines_apart (Global g) (Global h) here there = differs a b (is_eq (chars_order g.name h.name)) apart (λ tie. one_key a b _ _ here there (ap (λ n. find chars_order n d.globals) (name_is g.name h.name tie)))
   lines_apart (Global g) (Relation s) here there = tt
   lines_apart (Global g) (FieldOf f) here there = tt
   lines_apart (Global g) (Index y) here there = tt
@@ -77,7 +77,7 @@ module _ (d : Directory) (t : Tables) (a b : Dbkey) (apart : is_eq (dbkey_order 
   lines_apart (Index x) (Index y) here there =
       let p = index_parts d t a x here in
       let q = index_parts d t b y there in (
-        differs a b (is_eq (name_order x.name y.name)) apart (λ tie. one_key a b _ _ p.1 q.1 (ap (λ (n : ℕ). find area_order (numbered n) d.areas) (sym p.0 ∙ ap (λ n. index_area (find name_order n t.indexes)) (name_is x.name y.name tie) ∙ q.0))),
+        differs a b (is_eq (chars_order x.name y.name)) apart (λ tie. one_key a b _ _ p.1 q.1 (ap (λ (n : ℕ). find area_order (numbered n) d.areas) (sym p.0 ∙ ap (λ n. index_area (find chars_order n t.indexes)) (name_is x.name y.name tie) ∙ q.0))),
         one_area x.area y.area p.1 q.1,
       )
   lines_apart (Index x) (Relation s) here there = one_area x.area s.area (index_parts d t a x here).1 (relation_parts d t b s there).1

@@ -10,7 +10,7 @@ use Rattle.rdb_types.specs.OrderLaws.{chars_total}
 use Rattle.rdb_meaning.specs.declared.tables.Relation.{Relation as RelationOf}
 use Rattle.rdb_meaning.specs.declared.tables.Tables.{Tables}
 use Rattle.rdb_meaning.specs.Contents.{fields_of}
-use Rattle.rdb_types.specs.Order.{chars_order as name_order}
+use Rattle.rdb_types.specs.Order.{chars_order}
 use Rattle.rdb_meaning.specs.Execution.{area_of}
 use Rattle.catalog_lines.specs.declared.line.RelationLine.{RelationLine}
 use Rattle.catalog_lines.specs.declared.line.CatalogLine.{CatalogLine}
@@ -30,13 +30,13 @@ use Rattle.catalog_definitions.proofs.Basics.{or_true, itself}
 
 -- ---- another name and another area
 
-line_apart : (d : Directory) (r : RelationLine) (line : CatalogLine) (t : Tables) → find name_order r.name (with_thing d line t).relations ≡ None → IsOff r.area line → (find name_order r.name t.relations ≡ None) × Apart (Relation r) line
-line_apart d r (Relation s) t none off = let parts = none_put name_order chars_total r.name s.name _ t.relations none in (parts.1, (parts.0, off))
+line_apart : (d : Directory) (r : RelationLine) (line : CatalogLine) (t : Tables) → find chars_order r.name (with_thing d line t).relations ≡ None → IsOff r.area line → (find chars_order r.name t.relations ≡ None) × Apart (Relation r) line
+line_apart d r (Relation s) t none off = let parts = none_put chars_order chars_total r.name s.name _ t.relations none in (parts.1, (parts.0, off))
 line_apart d r (Global g) t none off = (none, tt)
 line_apart d r (FieldOf f) t none off = (none, tt)
 line_apart d r (Index y) t none off = (none, off)
 
-pub lines_apart : (d : Directory) (k : Dbkey) (r : RelationLine) (ps : List PlacedLine) (t : Tables) → find name_order r.name (tables_from d t ps).relations ≡ None → AllByRecursion (λ q. IsOff r.area q.line) ps → (find name_order r.name t.relations ≡ None) × AllApart (record { key = k; line = Relation r }) ps
+pub lines_apart : (d : Directory) (k : Dbkey) (r : RelationLine) (ps : List PlacedLine) (t : Tables) → find chars_order r.name (tables_from d t ps).relations ≡ None → AllByRecursion (λ q. IsOff r.area q.line) ps → (find chars_order r.name t.relations ≡ None) × AllApart (record { key = k; line = Relation r }) ps
 lines_apart d k r [] t none off = (none, tt)
 lines_apart d k r (q ∷ ps) t none off =
     let rest = lines_apart d k r ps (with_thing d q.line t) none off.1 in
@@ -130,20 +130,20 @@ pub record HasMore (area : ℕ) (k : Dbkey) (d e : Directory) : Type 0 where
   pub fields : (a q : ℕ) → DifferentAreas a area → find place_order (place a q) e.fields ≡ find place_order (place a q) d.fields
 
 abbrev pub with_relation_named : List ℕ → RelationOf → Tables → Tables
-with_relation_named n rel t = record t { relations = put name_order n rel t.relations }
+with_relation_named n rel t = record t { relations = put chars_order n rel t.relations }
 
 found_area : (area a : ℕ) (k : Dbkey) (d e : Directory) → HasMore area k d e → DifferentAreas a area → find area_order (numbered a) e.areas ≡ find area_order (numbered a) d.areas
 found_area area a k d e more apart = ap (find area_order (numbered a)) more.areas ∙ find-put_other area_order area_total (numbered a) (numbered area) k d.areas apart
 
 pub still_stands : (d e : Directory) (t : Tables) (k key : Dbkey) (r : RelationLine) (rel : RelationOf) (line : CatalogLine) → HasMore r.area k d e → find area_order (numbered r.area) d.areas ≡ None → Apart (Relation r) line → stands d t key line ≡ true → stands e (with_relation_named r.name rel t) key line ≡ true
 still_stands d e t k key r rel (Relation s) more none apart stood =
-    let named = find-put_other name_order chars_total s.name r.name rel t.relations (untied_back name_order chars_total r.name s.name apart.0) in
+    let named = find-put_other chars_order chars_total s.name r.name rel t.relations (untied_back chars_order chars_total r.name s.name apart.0) in
     let other = untied_back area_order area_total (numbered r.area) (numbered s.area) apart.1 in
     let own = found_area r.area s.area k d e more other in
     let first = more.fields s.area 0 other in
     let last = more.fields s.area max_fields other in
     (λ i. area_of (named i) == s.area && is_key key (own i) && is_some (first i) && not (is_some (last i)) && differ same_field (fields_of (named i))) ∙ stood
-still_stands d e t k key r rel (Global g) more none apart stood = ap (λ m. is_key key (find name_order g.name m)) more.globals ∙ stood
+still_stands d e t k key r rel (Global g) more none apart stood = ap (λ m. is_key key (find chars_order g.name m)) more.globals ∙ stood
 still_stands d e t k key r rel (FieldOf f) more none apart stood =
     let other = other_area d f.relation r.area none (field_area d t key f stood) in
     let on = found_area r.area f.relation k d e more other in
@@ -155,7 +155,7 @@ still_stands d e t k key r rel (Index y) more none apart stood =
     let other = other_area d y.relation r.area none (index_relation d t key y stood) in
     let on = found_area r.area y.relation k d e more other in
     let fields = λ (q : ℕ). more.fields y.relation q other in
-    (λ i. index_area (find name_order y.name t.indexes) == y.area && is_key key (own i) && is_some (on i) && differ nat_eq y.fields && list_all (λ (q : ℕ). is_some (fields q i)) y.fields && y.root.area == y.area) ∙ stood
+    (λ i. index_area (find chars_order y.name t.indexes) == y.area && is_key key (own i) && is_some (on i) && differ nat_eq y.fields && list_all (λ (q : ℕ). is_some (fields q i)) y.fields && y.root.area == y.area) ∙ stood
 
 -- ---- the new lines
 
@@ -170,8 +170,8 @@ area_found area k d e more = ap (find area_order (numbered area)) more.areas ∙
 
 pub relation_stands : (d e : Directory) (t : Tables) (k : Dbkey) (r : RelationLine) (rel : RelationOf) → HasMore r.area k d e → rel.area ≡ r.area → has_field r.area e 0 ≡ true → has_field r.area e max_fields ≡ false → differ same_field rel.fields ≡ true → stands e (with_relation_named r.name rel t) k (Relation r) ≡ true
 relation_stands d e t k r rel more area first last differs =
-    let named = find-put_same name_order chars_total r.name rel t.relations in
-    five (area_of (find name_order r.name (put name_order r.name rel t.relations)) == r.area) (is_key k (find area_order (numbered r.area) e.areas)) (has_field r.area e 0) (not (has_field r.area e max_fields)) (differ same_field (fields_of (find name_order r.name (put name_order r.name rel t.relations))))
+    let named = find-put_same chars_order chars_total r.name rel t.relations in
+    five (area_of (find chars_order r.name (put chars_order r.name rel t.relations)) == r.area) (is_key k (find area_order (numbered r.area) e.areas)) (has_field r.area e 0) (not (has_field r.area e max_fields)) (differ same_field (fields_of (find chars_order r.name (put chars_order r.name rel t.relations))))
     (ap (λ o. area_of o == r.area) named ∙ ap (λ (a : ℕ). a == r.area) area ∙ eq_itself r.area)
     (ap (is_key k) (area_found r.area k d e more) ∙ itself k)
     first

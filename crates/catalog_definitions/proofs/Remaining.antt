@@ -7,7 +7,7 @@ use Rattle.rdb_types.specs.declared.keys.Dbkey.{Dbkey}
 use Rattle.rdb_types.specs.OrderLaws.{chars_total}
 use Rattle.rdb_meaning.specs.declared.tables.Tables.{Tables}
 use Rattle.rdb_meaning.specs.Contents.{fields_of}
-use Rattle.rdb_types.specs.Order.{chars_order as name_order}
+use Rattle.rdb_types.specs.Order.{chars_order}
 use Rattle.rdb_meaning.specs.Execution.{area_of}
 use Rattle.catalog_lines.specs.declared.line.CatalogLine.{CatalogLine}
 use Rattle.catalog_lines.specs.declared.line.CatalogLine.TheVariants.{Relation, Global, Field as FieldOf, Index}
@@ -42,23 +42,23 @@ IsNoGlobal (Global g) = ⊥
 IsNoGlobal (FieldOf f) = Unit {0}
 IsNoGlobal (Index x) = Unit {0}
 
-relation_past : (e : Directory) (name : List ℕ) (line : CatalogLine) (t : Tables) → IsNoRelation name line → find name_order name (with_thing e line t).relations ≡ find name_order name t.relations
-relation_past e name (Relation r) t other = find-put_other name_order chars_total name r.name _ t.relations other
+relation_past : (e : Directory) (name : List ℕ) (line : CatalogLine) (t : Tables) → IsNoRelation name line → find chars_order name (with_thing e line t).relations ≡ find chars_order name t.relations
+relation_past e name (Relation r) t other = find-put_other chars_order chars_total name r.name _ t.relations other
 relation_past e name (Global g) t other = refl
 relation_past e name (FieldOf f) t other = refl
 relation_past e name (Index x) t other = refl
 
-pub relations_past : (e : Directory) (name : List ℕ) (news : List PlacedLine) (t : Tables) → AllByRecursion (λ n. IsNoRelation name n.line) news → find name_order name (tables_from e t news).relations ≡ find name_order name t.relations
+pub relations_past : (e : Directory) (name : List ℕ) (news : List PlacedLine) (t : Tables) → AllByRecursion (λ n. IsNoRelation name n.line) news → find chars_order name (tables_from e t news).relations ≡ find chars_order name t.relations
 relations_past e name [] t other = refl
 relations_past e name (n ∷ news) t other = relations_past e name news (with_thing e n.line t) other.1 ∙ relation_past e name n.line t other.0
 
-index_past : (e : Directory) (name : List ℕ) (line : CatalogLine) (t : Tables) → IsNoIndex name line → find name_order name (with_thing e line t).indexes ≡ find name_order name t.indexes
+index_past : (e : Directory) (name : List ℕ) (line : CatalogLine) (t : Tables) → IsNoIndex name line → find chars_order name (with_thing e line t).indexes ≡ find chars_order name t.indexes
 index_past e name (Relation r) t other = refl
 index_past e name (Global g) t other = refl
 index_past e name (FieldOf f) t other = refl
-index_past e name (Index x) t other = find-put_other name_order chars_total name x.name _ t.indexes other
+index_past e name (Index x) t other = find-put_other chars_order chars_total name x.name _ t.indexes other
 
-pub indexes_past : (e : Directory) (name : List ℕ) (news : List PlacedLine) (t : Tables) → AllByRecursion (λ n. IsNoIndex name n.line) news → find name_order name (tables_from e t news).indexes ≡ find name_order name t.indexes
+pub indexes_past : (e : Directory) (name : List ℕ) (news : List PlacedLine) (t : Tables) → AllByRecursion (λ n. IsNoIndex name n.line) news → find chars_order name (tables_from e t news).indexes ≡ find chars_order name t.indexes
 indexes_past e name [] t other = refl
 indexes_past e name (n ∷ news) t other = indexes_past e name news (with_thing e n.line t) other.1 ∙ index_past e name n.line t other.0
 
@@ -94,7 +94,7 @@ still_stands news d e t key (Relation r) away stood =
     let first = no_fields r.area 0 news d off in
     let last = no_fields r.area max_fields news d off in
     sym (λ i. area_of (named i) == r.area && is_key key (own i) && is_some (first i) && not (is_some (last i)) && differ same_field (fields_of (named i))) ∙ stood
-still_stands news d e t key (Global g) away stood = sym (ap (λ m. is_key key (find name_order g.name m)) (globals_past news d away)) ∙ stood
+still_stands news d e t key (Global g) away stood = sym (ap (λ m. is_key key (find chars_order g.name m)) (globals_past news d away)) ∙ stood
 still_stands news d e t key (FieldOf f) away stood =
     let on = off_lines f.relation news d (parts (IsAway (FieldOf f)) (IsOff f.relation) (λ l a. a.0) news away) in
     let off = parts (IsAway (FieldOf f)) (IsFieldOff f.relation) (λ l a. a.1) news away in

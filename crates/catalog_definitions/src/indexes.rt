@@ -2,7 +2,7 @@ ghost use Rattle.std.specs.Prelude.{◌≡◌, Some, None, IsSome, IfOk, IfErr};
 ghost use Rattle.std.specs.FinMap.Entries.{find};
 ghost use Rattle.rdb_types.specs.declared.keys.Dbkey.{Dbkey};
 ghost use Rattle.rdb_meaning.specs.Contents.{new_index_area};
-ghost use Rattle.rdb_types.specs.Order.{chars_order as name_order};
+ghost use Rattle.rdb_types.specs.Order.{chars_order};
 ghost use Rattle.rdb_meaning.specs.Checks.{or_else};
 ghost use Rattle.rdb_meaning.specs.Defining.{index_names, index_refusal, with_index};
 ghost use Rattle.rdb_definitions.specs.Answers.{Defines};
@@ -29,8 +29,8 @@ use std::alloc::Global;
 const NODE_CLASS: u16 = 440;
 
 fn index_named<'a>(tables: &'a Tables, name: &Chars) -> &'a Index
-    requires { IsSome (find name_order name.now tables.now.indexes) }
-    ensures { find name_order name.now tables.now.indexes ≡ Some result.now }
+    requires { IsSome (find chars_order name.now tables.now.indexes) }
+    ensures { find chars_order name.now tables.now.indexes ≡ Some result.now }
 {
     match tables.indexes.find(name) {
         Some(index) => index,

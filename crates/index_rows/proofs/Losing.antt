@@ -9,8 +9,8 @@ use Rattle.rdb_meaning.specs.Comparison.{Verdict, chosen, passed_over, undecided
 use Rattle.rdb_meaning.specs.Contents.{Row, key_of}
 use Rattle.rdo_values.specs.Tree.{Conjunction}
 use Rattle.rdo_values.specs.Filled.{parts_at}
-use Rattle.rdb_types.specs.Order.{row_order as key_order}
-use Rattle.rdb_types.specs.OrderLaws.{row_total as keys_total}
+use Rattle.rdb_types.specs.Order.{row_order}
+use Rattle.rdb_types.specs.OrderLaws.{row_total}
 use Rattle.line_view.specs.Knowledge.{Lines}
 use Rattle.sorted_index_laws.specs.Keys.{is_within, between}
 use Rattle.sorted_index_laws.specs.Nodes.{AnyByRecursion}
@@ -35,8 +35,8 @@ module _ (before : Row) (tests : Conjunction) where
 
     -- ---- a row that is left out
 
-    within_own : (k wanted : Row) → k ≡ wanted → (not (is_lt (key_order k wanted)) && not (is_gt (key_order k wanted))) ≡ true
-    within_own k wanted same = ap (λ o. not (is_lt o) && not (is_gt o)) (ap (λ k. key_order k wanted) same ∙ tied_itself keys_total wanted)
+    within_own : (k wanted : Row) → k ≡ wanted → (not (is_lt (row_order k wanted)) && not (is_gt (row_order k wanted))) ≡ true
+    within_own k wanted same = ap (λ o. not (is_lt o) && not (is_gt o)) (ap (λ k. row_order k wanted) same ∙ tied_itself row_total wanted)
 
     value_there : (row behind : Row) (p : ℕ) → p < length row → slice_index_or (row ++ behind) p Missing ≡ slice_index_or row p Missing
     value_there [] behind p h = absurd (omega arith)

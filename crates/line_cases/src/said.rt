@@ -130,9 +130,13 @@ pub fn say(rt: &HostRuntime, world: &mut World, text: &str) -> Result<(), NoMemo
     let words = words_of(rest);
     match call {
         "begin-with-room" => begin_with_room(rt.alloc(), world, &words)?,
-        "learn-line" => world.known.learn_line(rt.alloc(), words.key, image_of(words.rest))?,
+        "learn-line" => world
+            .known
+            .learn_line(rt.alloc(), words.key, image_of(words.rest))?,
         "learn-area" => learn_area(rt.alloc(), world, &words)?,
-        "put" => world.known.put(rt.alloc(), words.key, image_of(words.rest))?,
+        "put" => world
+            .known
+            .put(rt.alloc(), words.key, image_of(words.rest))?,
         "line" => tell_line(rt, world.known.line(words.key)),
         "area" => tell_area(rt, world, words.number),
         "room" => tell_room(rt, world, room_of(rest)),

@@ -10,7 +10,7 @@ use Rattle.rdo_ast.specs.declared.syntax.Share.TheVariants.{Shared, Protected, E
 use Rattle.rdo_ast.specs.Tree.{Command, Uttered, said, syntax_fault, invoke, start_read_only, start_read_write, commit, rollback, finish, perform, define_field, define_relation, define_index, delete_relation, delete_index}
 use Rattle.rdb_meaning.specs.declared.tables.Relation.{Relation}
 use Rattle.rdb_meaning.specs.declared.tables.Tables.{Tables}
-use Rattle.rdb_types.specs.Order.{chars_order as name_order}
+use Rattle.rdb_types.specs.Order.{chars_order}
 use Rattle.rdb_meaning.specs.Contents.{relation_named, indexes_on, new_index_area}
 use Rattle.rdb_meaning.specs.Checks.{Refusal, Use, use_of, act_uses}
 use Rattle.rdb_meaning.specs.Meaning.{index_uses}
@@ -91,7 +91,7 @@ command_asks t n (define_field name type) = definition_asks t n []
 command_asks t n (define_relation name fs) = definition_asks t n []
 command_asks t n (define_index d) = is_on_line_of (new_index_area t) EX n || definition_asks t n (use_of false d.relation ∷ [])
 command_asks t n (delete_relation name) = definition_asks t n (use_of true name ∷ [])
-command_asks t n (delete_index name) = definition_asks t n (index_uses (find name_order name t.indexes) t)
+command_asks t n (delete_index name) = definition_asks t n (index_uses (find chars_order name t.indexes) t)
 command_asks t n (invoke text) = false
 command_asks t n start_read_only = false
 command_asks t n rollback = false

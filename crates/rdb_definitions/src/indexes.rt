@@ -3,7 +3,7 @@ ghost use Rattle.std.specs.List.{list_any};
 ghost use Rattle.std.specs.Ordering.{is_eq};
 ghost use Rattle.std.specs.FinMap.Entries.{find};
 ghost use Rattle.rdb_meaning.specs.Contents.{relation_named, fields_of, new_index_area};
-ghost use Rattle.rdb_types.specs.Order.{chars_order as name_order};
+ghost use Rattle.rdb_types.specs.Order.{chars_order};
 ghost use Rattle.rdb_meaning.specs.Checks.{needs_some};
 ghost use Rattle.rdb_meaning.specs.Defining.{is_among, index_fields_names, index_names, index_refusal, with_index, without_index};
 ghost use Rattle.rdb_checks.specs.Answers.{Finds};
@@ -123,7 +123,7 @@ pub fn define_index(
 
 /// Refuses an index that isn't there.
 pub fn check_index_exists(alloc: Global, tables: &Tables, name: &Chars) -> Result<(), Stop>
-    ensures { Finds result (needs_some name.now (find name_order name.now tables.now.indexes)) }
+    ensures { Finds result (needs_some name.now (find chars_order name.now tables.now.indexes)) }
 {
     match tables.indexes.find(name) {
         Some(_) => Ok(()),
@@ -157,7 +157,7 @@ fn names_of_indexes(
 
 fn remove_named(indexes: &mut Entries<Chars, Index>, names: &[Chars])
     ensures { indexes.new
-        ≡ filter (λ e. not (list_any (λ n. is_eq (name_order n e.0)) names.now)) indexes.old }
+        ≡ filter (λ e. not (list_any (λ n. is_eq (chars_order n e.0)) names.now)) indexes.old }
 {
     for name in names {
         let _ = indexes.remove(name);

@@ -1,6 +1,6 @@
 ghost use Rattle.std.specs.Prelude.{◌≡◌, nat_lt, slice_index_or, IfOk};
 ghost use Rattle.std.specs.Ordering.{is_eq};
-ghost use Rattle.rdb_types.specs.Order.{value_order as rank_of, row_order as row_rank};
+ghost use Rattle.rdb_types.specs.Order.{value_order, row_order};
 ghost use Rattle.rdb_meaning.specs.Contents.{key_of, has_key};
 ghost use Rattle.rdb_meaning.specs.Defining.{positions_of, longest_at, longest_key, keys_repeat};
 
@@ -65,7 +65,7 @@ fn value_at<'a>(row: &'a [Value], place: u16, absent: &'a Value) -> &'a Value
 }
 
 fn is_same_value(left: &Value, right: &Value) -> bool
-    ensures { result ≡ is_eq (rank_of left.now right.now) }
+    ensures { result ≡ is_eq (value_order left.now right.now) }
 {
     match (left, right) {
         (Value::Missing, Value::Missing) => true,
@@ -77,7 +77,7 @@ fn is_same_value(left: &Value, right: &Value) -> bool
 
 fn is_same_at(left: &[Value], right: &[Value], place: u16) -> bool
     ensures { result
-        ≡ is_eq (rank_of (slice_index_or left.now place Value.Missing) (slice_index_or right.now place Value.Missing)) }
+        ≡ is_eq (value_order (slice_index_or left.now place Value.Missing) (slice_index_or right.now place Value.Missing)) }
 {
     let absent = Value::Missing;
     is_same_value(
@@ -89,7 +89,7 @@ fn is_same_at(left: &[Value], right: &[Value], place: u16) -> bool
 #[tactic(auto, using(crate::proofs::SameKey::same_key_more))]
 fn is_same_key(positions: &[u16], left: &[Value], right: &[Value]) -> bool
     ensures { result
-        ≡ is_eq (row_rank (key_of positions.now left.now) (key_of positions.now right.now)) }
+        ≡ is_eq (row_order (key_of positions.now left.now) (key_of positions.now right.now)) }
 {
     for place in positions {
         if !is_same_at(left, right, *place) {

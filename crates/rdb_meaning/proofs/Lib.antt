@@ -3,3 +3,4 @@ pub mod Refusals
 mod Rows
 pub mod Spelled
 pub mod Unchanged
+mod WorkedTies

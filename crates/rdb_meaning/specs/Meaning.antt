@@ -13,7 +13,7 @@ use Rattle.rdb_meaning.specs.declared.tables.Relation.{Relation}
 use Rattle.rdb_meaning.specs.declared.tables.Index.{Index}
 use Rattle.rdb_meaning.specs.declared.tables.Tables.{Tables}
 use Rattle.rdb_meaning.specs.Contents.{relation_named}
-use Rattle.rdb_types.specs.Order.{chars_order as name_order}
+use Rattle.rdb_types.specs.Order.{chars_order}
 use Rattle.rdb_meaning.specs.Checks.{Refusal, or_else, needs_some, Use, use_of, reservation_refusal, act_names, act_uses, act_clashes, is_retrieval}
 use Rattle.rdb_meaning.specs.Execution.{world, Ran, ran, refused, astray, done}
 use Rattle.rdb_meaning.specs.Defining.{is_among, field_names, with_field, relation_names, with_relation, index_names, index_refusal, with_index, without_relation, without_index}
@@ -143,8 +143,8 @@ later_refusal word (define_index d) standing t =
 later_refusal word (delete_relation n) standing t =
     or_else (needs_some n (relation_named n t)) (reservation_refusal (reservations_of standing) (use_of true n ∷ []))
 later_refusal word (delete_index n) standing t =
-    or_else (needs_some n (find name_order n t.indexes))
-    (reservation_refusal (reservations_of standing) (index_uses (find name_order n t.indexes) t))
+    or_else (needs_some n (find chars_order n t.indexes))
+    (reservation_refusal (reservations_of standing) (index_uses (find chars_order n t.indexes) t))
 later_refusal word _ standing t = None
 
 abbrev pub command_refusal : List ℕ → Command → Standing → Tables → Refusal

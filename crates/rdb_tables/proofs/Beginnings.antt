@@ -17,7 +17,7 @@ use Rattle.rdo_ast.specs.Tree.{Name}
 use Rattle.rdb_meaning.specs.declared.tables.Relation.{Relation}
 use Rattle.rdb_meaning.specs.declared.tables.Tables.{Tables}
 use Rattle.rdb_meaning.specs.Contents.{Row, same_name, with_rows, relation_named, change_rows, rows_changed}
-use Rattle.rdb_types.specs.Order.{chars_order as name_order, dbkey_order as key_order}
+use Rattle.rdb_types.specs.Order.{chars_order, dbkey_order}
 use Rattle.rdb_tables.specs.declared.undo.Change.{Change}
 use Rattle.rdb_tables.specs.declared.undo.Saved.{Saved}
 use Rattle.rdb_tables.specs.declared.undo.Undo.{Undo}
@@ -25,21 +25,21 @@ use Rattle.rdb_tables.specs.Undoing.{Rows, put_where, undo_row, undo_in, undone,
 
 -- ---- names
 
-pub names_total : IsTotalOrder name_order
+pub names_total : IsTotalOrder chars_order
 names_total = lists_total nat_cmp_total
 
-pub keys_total : IsTotalOrder key_order
+pub keys_total : IsTotalOrder dbkey_order
 keys_total = then_total (on_total (λ k. k.area) nat_cmp_total) (then_total (on_total (λ k. k.page) nat_cmp_total) (on_total (λ k. k.line) nat_cmp_total))
 
 pub same_is : (m n : Name) → same_name m n ≡ true → m ≡ n
-same_is m n e = exact_bytes m n (equal (name_order m n) (is_eq-slice_cmp m n ∙ e))
+same_is m n e = exact_bytes m n (equal (chars_order m n) (is_eq-slice_cmp m n ∙ e))
 
 pub same_itself : (n : Name) → same_name n n ≡ true
 same_itself n = sym (is_eq-slice_cmp n n) ∙ ap is_eq (tied_itself names_total n)
 
 -- names that the order tells apart are not the same, whichever is first
-apart : (n m : Name) → is_eq (name_order n m) ≡ false → same_name m n ≡ false
-apart n m e = sym (is_eq-slice_cmp m n) ∙ turned (name_order n m) (name_order m n) (names_total.antisymm m n) e
+apart : (n m : Name) → is_eq (chars_order n m) ≡ false → same_name m n ≡ false
+apart n m e = sym (is_eq-slice_cmp m n) ∙ turned (chars_order n m) (chars_order m n) (names_total.antisymm m n) e
   where
     turned : (r s : Ordering) → s ≡ ordering_reverse r → is_eq r ≡ false → is_eq s ≡ false
     turned Less s e h = ap is_eq e
@@ -53,40 +53,40 @@ seen F es = map (λ e. (e.0, F e.0 e.1)) es
 
 -- two functions that differ at one name alone
 module _ (F G : Name → Relation → Relation) (n : Name) (off : (m : Name) (r : Relation) → same_name m n ≡ false → F m r ≡ G m r) where
-  seen_above : (x : Name) (es : List (Name × Relation)) → ((m : Name) → name_order x m ≡ Less → name_order n m ≡ Less) → below_all name_order x es ≡ true → seen F es ≡ seen G es
+  seen_above : (x : Name) (es : List (Name × Relation)) → ((m : Name) → chars_order x m ≡ Less → chars_order n m ≡ Less) → below_all chars_order x es ≡ true → seen F es ≡ seen G es
   seen_above x [] up h = refl
   seen_above x (e ∷ es) up h =
       let parts = and_parts _ _ h in
       let here : F e.0 e.1 ≡ G e.0 e.1 = off e.0 e.1 (apart n e.0 (ap is_eq (up e.0 (less _ parts.0)))) in
       ap (λ (r : Relation). (e.0, r) ∷ seen F es) here ∙ ap (λ l. (e.0, G e.0 e.1) ∷ l) (seen_above x es up parts.1)
 
-  seen_none : (es : List (Name × Relation)) → find name_order n es ≡ None → seen F es ≡ seen G es
+  seen_none : (es : List (Name × Relation)) → find chars_order n es ≡ None → seen F es ≡ seen G es
   seen_none [] h = refl
   seen_none (e ∷ es) h =
-      elim (is_eq (name_order n e.0)) as (λ b. is_eq (name_order n e.0) ≡ b → cond b (Some e.1) (find name_order n es) ≡ None → seen F (e ∷ es) ≡ seen G (e ∷ es)) [
+      elim (is_eq (chars_order n e.0)) as (λ b. is_eq (chars_order n e.0) ≡ b → cond b (Some e.1) (find chars_order n es) ≡ None → seen F (e ∷ es) ≡ seen G (e ∷ es)) [
         | true ↦ λ p h. absurd (cc)
         | false ↦ λ p h. ap (λ (r : Relation). (e.0, r) ∷ seen F es) (off e.0 e.1 (apart n e.0 p)) ∙ ap (λ l. (e.0, G e.0 e.1) ∷ l) (seen_none es h)
       ] refl h
 
-  seen_put : (x x' : Relation) (es : List (Name × Relation)) → is_sorted name_order es ≡ true → find name_order n es ≡ Some x → F n x' ≡ G n x → seen F (put name_order n x' es) ≡ seen G es
+  seen_put : (x x' : Relation) (es : List (Name × Relation)) → is_sorted chars_order es ≡ true → find chars_order n es ≡ Some x → F n x' ≡ G n x → seen F (put chars_order n x' es) ≡ seen G es
   seen_put x x' [] sorted is on = absurd (cc)
   seen_put x x' (e ∷ es) sorted is on =
       let parts = and_parts _ _ sorted in
-      elim (name_order n e.0) as (λ o. name_order n e.0 ≡ o → cond (is_eq o) (Some e.1) (find name_order n es) ≡ Some x → seen F (by_order o ((n, x') ∷ e ∷ es) ((e.0, x') ∷ es) (e ∷ put name_order n x' es)) ≡ seen G (e ∷ es)) [
-        | Less ↦ λ p h. absurd (none-some x (sym (none_below name_order names_total e.0 n es p parts.0) ∙ h))
+      elim (chars_order n e.0) as (λ o. chars_order n e.0 ≡ o → cond (is_eq o) (Some e.1) (find chars_order n es) ≡ Some x → seen F (by_order o ((n, x') ∷ e ∷ es) ((e.0, x') ∷ es) (e ∷ put chars_order n x' es)) ≡ seen G (e ∷ es)) [
+        | Less ↦ λ p h. absurd (none-some x (sym (none_below chars_order names_total e.0 n es p parts.0) ∙ h))
         | Equal ↦ λ p h.
             let one : n ≡ e.0 = exact_bytes n e.0 p in
             let here : F e.0 x' ≡ G e.0 e.1 = ap (λ m. F m x') (sym one) ∙ on ∙ ap (λ m. G m x) one ∙ ap (G e.0) (sym (same_Some _ _ h)) in
             ap (λ (r : Relation). (e.0, r) ∷ seen F es) here
-            ∙ ap (λ l. (e.0, G e.0 e.1) ∷ l) (seen_above e.0 es (λ m l. ap (λ k. name_order k m) one ∙ l) parts.0)
+            ∙ ap (λ l. (e.0, G e.0 e.1) ∷ l) (seen_above e.0 es (λ m l. ap (λ k. chars_order k m) one ∙ l) parts.0)
         | Greater ↦ λ p h.
-            ap (λ (r : Relation). (e.0, r) ∷ seen F (put name_order n x' es)) (off e.0 e.1 (apart n e.0 (ap is_eq p)))
+            ap (λ (r : Relation). (e.0, r) ∷ seen F (put chars_order n x' es)) (off e.0 e.1 (apart n e.0 (ap is_eq p)))
             ∙ ap (λ l. (e.0, G e.0 e.1) ∷ l) (seen_put x x' es parts.1 h on)
       ] refl is
 
 -- ---- the start of a statement
 
-module _ (n : Name) (t : Tables) (undo undo' : Undo) (sorted : is_sorted name_order t.relations ≡ true) (off : (m : Name) (r : Relation) → same_name m n ≡ false → start_of m undo' r ≡ start_of m undo r) where
+module _ (n : Name) (t : Tables) (undo undo' : Undo) (sorted : is_sorted chars_order t.relations ≡ true) (off : (m : Name) (r : Relation) → same_name m n ≡ false → start_of m undo' r ≡ start_of m undo r) where
   abbrev now_start : Name → Relation → Relation
   now_start m r = start_of m undo' r
 
@@ -94,7 +94,7 @@ module _ (n : Name) (t : Tables) (undo undo' : Undo) (sorted : is_sorted name_or
   then_start m r = start_of m undo r
 
   -- another relation stands at the name
-  pub beginning_put : (x x' : Relation) → relation_named n t ≡ Some x → start_of n undo' x' ≡ start_of n undo x → beginning (record t { relations = put name_order n x' t.relations }) undo' ≡ beginning t undo
+  pub beginning_put : (x x' : Relation) → relation_named n t ≡ Some x → start_of n undo' x' ≡ start_of n undo x → beginning (record t { relations = put chars_order n x' t.relations }) undo' ≡ beginning t undo
   beginning_put x x' is on =
       ap (λ (es : List (Name × Relation)). record t { relations = es }) (seen_put now_start then_start n off x x' t.relations sorted is on)
 
@@ -115,7 +115,7 @@ module _ (n : Name) (t : Tables) (undo undo' : Undo) (sorted : is_sorted name_or
   beginning_same on =
       elim (relation_named n t) as (λ o. relation_named n t ≡ o → beginning t undo' ≡ beginning t undo) [
         | None ↦ λ p. beginning_none p
-        | Some x ↦ λ p. ap (λ (es : List (Name × Relation)). beginning (record t { relations = es }) undo') (sym (put_found name_order names_total n x t.relations sorted p)) ∙ beginning_put x x p (on x p)
+        | Some x ↦ λ p. ap (λ (es : List (Name × Relation)). beginning (record t { relations = es }) undo') (sym (put_found chars_order names_total n x t.relations sorted p)) ∙ beginning_put x x p (on x p)
       ] refl
 
 -- ---- changes and saved relations
@@ -153,19 +153,19 @@ saved_push m (x ∷ ss) s =
 -- ---- rows
 
 -- a row that is written and taken back
-pub undo_put : (k : Dbkey) (row : Row) (rows : Rows) → is_sorted key_order rows ≡ true → undo_row k (find key_order k rows) (put key_order k row rows) ≡ rows
+pub undo_put : (k : Dbkey) (row : Row) (rows : Rows) → is_sorted dbkey_order rows ≡ true → undo_row k (find dbkey_order k rows) (put dbkey_order k row rows) ≡ rows
 undo_put k row rows sorted =
-    elim (find key_order k rows) as (λ o. find key_order k rows ≡ o → undo_row k o (put key_order k row rows) ≡ rows) [
-      | None ↦ λ p. filter-put key_order keys_total k row rows p
+    elim (find dbkey_order k rows) as (λ o. find dbkey_order k rows ≡ o → undo_row k o (put dbkey_order k row rows) ≡ rows) [
+      | None ↦ λ p. filter-put dbkey_order keys_total k row rows p
       | Some before ↦ λ p.
-          ap (λ (o : Option Row). put_where o k before (put key_order k row rows)) (find-put_same key_order keys_total k row rows)
-          ∙ put-put key_order keys_total k row before rows ∙ put_found key_order keys_total k before rows sorted p
+          ap (λ (o : Option Row). put_where o k before (put dbkey_order k row rows)) (find-put_same dbkey_order keys_total k row rows)
+          ∙ put-put dbkey_order keys_total k row before rows ∙ put_found dbkey_order keys_total k before rows sorted p
     ] refl
 
 -- one that was not written
-pub undo_unwritten : (k : Dbkey) (rows : Rows) → is_sorted key_order rows ≡ true → undo_row k (find key_order k rows) rows ≡ rows
+pub undo_unwritten : (k : Dbkey) (rows : Rows) → is_sorted dbkey_order rows ≡ true → undo_row k (find dbkey_order k rows) rows ≡ rows
 undo_unwritten k rows sorted =
-    elim (find key_order k rows) as (λ o. find key_order k rows ≡ o → undo_row k o rows ≡ rows) [
-      | None ↦ λ p. without_none key_order keys_total k rows p
-      | Some before ↦ λ p. ap (λ (o : Option Row). put_where o k before rows) p ∙ put_found key_order keys_total k before rows sorted p
+    elim (find dbkey_order k rows) as (λ o. find dbkey_order k rows ≡ o → undo_row k o rows ≡ rows) [
+      | None ↦ λ p. without_none dbkey_order keys_total k rows p
+      | Some before ↦ λ p. ap (λ (o : Option Row). put_where o k before rows) p ∙ put_found dbkey_order keys_total k before rows sorted p
     ] refl

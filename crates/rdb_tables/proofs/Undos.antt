@@ -10,7 +10,7 @@ use Rattle.rdo_ast.specs.Tree.{Name}
 use Rattle.rdb_meaning.specs.declared.tables.Relation.{Relation}
 use Rattle.rdb_meaning.specs.declared.tables.Tables.{Tables}
 use Rattle.rdb_meaning.specs.Contents.{Row, same_name, with_rows, relation_named, row_at, change_rows, with_row, without_row}
-use Rattle.rdb_types.specs.Order.{chars_order as name_order, dbkey_order as key_order}
+use Rattle.rdb_types.specs.Order.{chars_order, dbkey_order}
 use Rattle.rdb_tables.specs.declared.undo.Change.{Change}
 use Rattle.rdb_tables.specs.declared.undo.Saved.{Saved}
 use Rattle.rdb_tables.specs.declared.undo.Undo.{Undo}
@@ -27,7 +27,7 @@ module _ (n : Name) (k : Dbkey) (t : Tables) (undo : Undo) (ordered : IsInOrder 
   pushed = record undo { changes = undo.changes ++ record { relation = n; key = k; before = before } ∷ [] }
 
   -- rows that come back by what was logged
-  on_pushed : (f : Rows → Rows) → saved_as n undo.saved ≡ None → (x : Relation) → relation_named n t ≡ Some x → undo_row k (find key_order k x.rows) (f x.rows) ≡ x.rows → start_of n pushed (with_rows (f x.rows) x) ≡ start_of n undo x
+  on_pushed : (f : Rows → Rows) → saved_as n undo.saved ≡ None → (x : Relation) → relation_named n t ≡ Some x → undo_row k (find dbkey_order k x.rows) (f x.rows) ≡ x.rows → start_of n pushed (with_rows (f x.rows) x) ≡ start_of n undo x
   on_pushed f free x is back =
       on_change n k before undo (with_rows (f x.rows) x)
       ∙ ap (λ (o : Option Relation). began o (undone n undo.changes (undo_row k before (f x.rows))) (with_rows (f x.rows) x)) free
@@ -38,10 +38,10 @@ module _ (n : Name) (k : Dbkey) (t : Tables) (undo : Undo) (ordered : IsInOrder 
   pub write_kept : (row : Row) → beginning (with_row n k row t) (logged n k before undo) ≡ beginning t undo
   write_kept row =
       elim (saved_as n undo.saved) as (λ o. saved_as n undo.saved ≡ o → beginning (with_row n k row t) (cond (is_some o) undo pushed) ≡ beginning t undo) [
-        | Some r ↦ λ p. beginning_changed n t undo undo ordered.relations (λ m r h. refl) (put key_order k row)
-            (λ x is. ap (λ (o : Option Relation). began o (undone n undo.changes (put key_order k row x.rows)) (with_rows (put key_order k row x.rows) x)) p ∙ ap (λ (o : Option Relation). began o (undone n undo.changes x.rows) x) (sym p))
-        | None ↦ λ p. beginning_changed n t undo pushed ordered.relations (λ m r h. off_change n m k before undo r h) (put key_order k row)
-            (λ x is. on_pushed (put key_order k row) p x is (undo_put k row x.rows (ordered.rows x is)))
+        | Some r ↦ λ p. beginning_changed n t undo undo ordered.relations (λ m r h. refl) (put dbkey_order k row)
+            (λ x is. ap (λ (o : Option Relation). began o (undone n undo.changes (put dbkey_order k row x.rows)) (with_rows (put dbkey_order k row x.rows) x)) p ∙ ap (λ (o : Option Relation). began o (undone n undo.changes x.rows) x) (sym p))
+        | None ↦ λ p. beginning_changed n t undo pushed ordered.relations (λ m r h. off_change n m k before undo r h) (put dbkey_order k row)
+            (λ x is. on_pushed (put dbkey_order k row) p x is (undo_put k row x.rows (ordered.rows x is)))
       ] refl
 
   pub unwritten_kept : beginning t (logged n k before undo) ≡ beginning t undo
@@ -59,7 +59,7 @@ module _ (n : Name) (k : Dbkey) (t : Tables) (undo : Undo) (ordered : IsInOrder 
 
 -- ---- a relation is saved, and a row erased
 
-pub save_kept : (n : Name) (t : Tables) (undo : Undo) (x before : Relation) (ss' : List Saved) → is_sorted name_order t.relations ≡ true → relation_named n t ≡ Some x → is_some (saved_as n undo.saved) ≡ false → before ≡ with_rows (undone n undo.changes x.rows) x → ss' ≡ undo.saved ++ record { relation = n; before = before } ∷ [] → beginning t (record undo { saved = ss' }) ≡ beginning t undo
+pub save_kept : (n : Name) (t : Tables) (undo : Undo) (x before : Relation) (ss' : List Saved) → is_sorted chars_order t.relations ≡ true → relation_named n t ≡ Some x → is_some (saved_as n undo.saved) ≡ false → before ≡ with_rows (undone n undo.changes x.rows) x → ss' ≡ undo.saved ++ record { relation = n; before = before } ∷ [] → beginning t (record undo { saved = ss' }) ≡ beginning t undo
 save_kept n t undo x before ss' sorted is unsaved made added =
     let free : saved_as n undo.saved ≡ None = nothing (saved_as n undo.saved) unsaved in
     let s : Saved = record { relation = n; before = before } in
@@ -95,10 +95,10 @@ is_saved n ss ss' before e =
     or_some (Some r) = refl
     or_some None = refl
 
-pub erase_kept : (n : Name) (k : Dbkey) (t : Tables) (undo : Undo) → is_sorted name_order t.relations ≡ true → (IsSome (relation_named n t) → IsSome (saved_as n undo.saved)) → beginning (without_row n k t) undo ≡ beginning t undo
+pub erase_kept : (n : Name) (k : Dbkey) (t : Tables) (undo : Undo) → is_sorted chars_order t.relations ≡ true → (IsSome (relation_named n t) → IsSome (saved_as n undo.saved)) → beginning (without_row n k t) undo ≡ beginning t undo
 erase_kept n k t undo sorted saved =
-    beginning_changed n t undo undo sorted (λ m r h. refl) (filter (λ e. not (is_eq (key_order k e.0))))
-    (λ x is. whole (saved_as n undo.saved) (undone n undo.changes (filter (λ e. not (is_eq (key_order k e.0))) x.rows)) (undone n undo.changes x.rows) (with_rows (filter (λ e. not (is_eq (key_order k e.0))) x.rows) x) x (saved (ap is_some is)))
+    beginning_changed n t undo undo sorted (λ m r h. refl) (filter (λ e. not (is_eq (dbkey_order k e.0))))
+    (λ x is. whole (saved_as n undo.saved) (undone n undo.changes (filter (λ e. not (is_eq (dbkey_order k e.0))) x.rows)) (undone n undo.changes x.rows) (with_rows (filter (λ e. not (is_eq (dbkey_order k e.0))) x.rows) x) x (saved (ap is_some is)))
   where
     whole : (o : Option Relation) (rows rows' : Rows) (r r' : Relation) → is_some o ≡ true → began o rows r ≡ began o rows' r'
     whole (Some s) rows rows' r r' h = refl
@@ -128,7 +128,7 @@ abbrev pub undo_with : List Change → List Saved → Undo
 undo_with cs ss = record { changes = cs; saved = ss }
 
 -- the last change is undone
-pub change_undone : (c : Change) (cs cs' : List Change) (ss : List Saved) (t t' : Tables) → is_sorted name_order t.relations ≡ true → cs' ≡ cs ++ c ∷ [] → t' ≡ change_rows c.relation (undo_row c.key c.before) t → beginning t' (undo_with cs ss) ≡ beginning t (undo_with cs' ss)
+pub change_undone : (c : Change) (cs cs' : List Change) (ss : List Saved) (t t' : Tables) → is_sorted chars_order t.relations ≡ true → cs' ≡ cs ++ c ∷ [] → t' ≡ change_rows c.relation (undo_row c.key c.before) t → beginning t' (undo_with cs ss) ≡ beginning t (undo_with cs' ss)
 change_undone c cs cs' ss t t' sorted last is =
     ap (λ (x : Tables). beginning x (undo_with cs ss)) is
     ∙ beginning_changed c.relation t (undo_with (cs ++ c ∷ []) ss) (undo_with cs ss) sorted
@@ -141,7 +141,7 @@ change_undone c cs cs' ss t t' sorted last is =
     same_rows None rows rows' r = refl
 
 -- the last relation that was saved stands again
-pub relation_back : (s : Saved) (ss ss' : List Saved) (t : Tables) (es : List (Name × Relation)) (found : Option Relation) → is_sorted name_order t.relations ≡ true → ss' ≡ ss ++ s ∷ [] → found ≡ relation_named s.relation t → OnSome found (es ≡ put name_order s.relation s.before t.relations) → (IsNone found → es ≡ t.relations) → beginning (record t { relations = es }) (undo_with [] ss) ≡ beginning t (undo_with [] ss')
+pub relation_back : (s : Saved) (ss ss' : List Saved) (t : Tables) (es : List (Name × Relation)) (found : Option Relation) → is_sorted chars_order t.relations ≡ true → ss' ≡ ss ++ s ∷ [] → found ≡ relation_named s.relation t → OnSome found (es ≡ put chars_order s.relation s.before t.relations) → (IsNone found → es ≡ t.relations) → beginning (record t { relations = es }) (undo_with [] ss) ≡ beginning t (undo_with [] ss')
 relation_back s ss ss' t es found sorted last is some none =
     stands found is some none ∙ ap (λ (l : List Saved). beginning t (undo_with [] l)) (sym last)
   where
@@ -164,7 +164,7 @@ relation_back s ss ss' t es found sorted last is some none =
         ∙ sym (ap (λ (o : Option Relation). began o x.rows x)
         (saved_push s.relation ss s ∙ ap (λ b. or_saved (saved_as s.relation ss) (cond b (Some s.before) None)) (same_itself s.relation)))
 
-    stands : (found : Option Relation) → found ≡ relation_named s.relation t → OnSome found (es ≡ put name_order s.relation s.before t.relations) → (IsNone found → es ≡ t.relations) → beginning (record t { relations = es }) (undo_with [] ss) ≡ beginning t (undo_with [] (ss ++ s ∷ []))
+    stands : (found : Option Relation) → found ≡ relation_named s.relation t → OnSome found (es ≡ put chars_order s.relation s.before t.relations) → (IsNone found → es ≡ t.relations) → beginning (record t { relations = es }) (undo_with [] ss) ≡ beginning t (undo_with [] (ss ++ s ∷ []))
     stands (Some x) is some none =
         ap (λ (l : List (Name × Relation)). beginning (record t { relations = l }) (undo_with [] ss)) some
         ∙ beginning_put s.relation t (undo_with [] (ss ++ s ∷ [])) (undo_with [] ss) sorted off x s.before (sym is) (on_start x)

@@ -11,7 +11,7 @@ use Rattle.std.proofs.lemmas.List.{at_drop_more}
 use Rattle.std.proofs.lemmas.Map.Text.{is_eq-slice_cmp}
 use Rattle.rdb_types.specs.declared.values.Value.{Value}
 use Rattle.rdb_types.specs.declared.values.Value.TheVariants.{Missing, Text}
-use Rattle.rdb_types.specs.Order.{value_order as rank_of, row_order as row_rank}
+use Rattle.rdb_types.specs.Order.{value_order, row_order}
 use Rattle.rdb_meaning.specs.declared.tables.Tables.{Tables}
 use Rattle.rdo_ast.specs.Tree.{Name}
 use Rattle.rdb_meaning.specs.declared.tables.Index.{Index}
@@ -60,19 +60,19 @@ read_or [] i d = refl
 read_or (x ∷ xs) zero d = refl
 read_or (x ∷ xs) (suc i) d = read_or xs i d
 
-pub texts_rank : (a b : Value) (s t s' t' : List ℕ) (r : Bool) → a ≡ Text s → b ≡ Text t → s' ≡ s → t' ≡ t → r ≡ bytes_eq s' t' → r ≡ is_eq (rank_of a b)
+pub texts_rank : (a b : Value) (s t s' t' : List ℕ) (r : Bool) → a ≡ Text s → b ≡ Text t → s' ≡ s → t' ≡ t → r ≡ bytes_eq s' t' → r ≡ is_eq (value_order a b)
 texts_rank a b s t s' t' r is-a is-b same-s same-t e =
     e ∙ ap (λ x. bytes_eq x t') same-s ∙ ap (bytes_eq s) same-t ∙ sym (is_eq-slice_cmp s t)
-    ∙ ap (λ x. is_eq (rank_of x (Text t))) (sym is-a) ∙ ap (λ x. is_eq (rank_of a x)) (sym is-b)
+    ∙ ap (λ x. is_eq (value_order x (Text t))) (sym is-a) ∙ ap (λ x. is_eq (value_order a x)) (sym is-b)
 
 abbrev same_at : Row → Row → List ℕ → Bool
-same_at row other places = is_eq (row_rank (key_of places row) (key_of places other))
+same_at row other places = is_eq (row_order (key_of places row) (key_of places other))
 
 -- keys of which one more pair of values ties
-pub keys_tie_on : (places : List ℕ) (row other : Row) (i : ℕ) → i < length places → is_eq (rank_of (slice_index_or row (get_or places i 0) Missing) (slice_index_or other (get_or places i 0) Missing)) ≡ true → same_at row other (drop i places) ≡ same_at row other (drop (i + 1) places)
+pub keys_tie_on : (places : List ℕ) (row other : Row) (i : ℕ) → i < length places → is_eq (value_order (slice_index_or row (get_or places i 0) Missing) (slice_index_or other (get_or places i 0) Missing)) ≡ true → same_at row other (drop i places) ≡ same_at row other (drop (i + 1) places)
 keys_tie_on places row other i within tie =
     at_drop_more (same_at row other) places i 0 within
-    ∙ tied_then (rank_of (slice_index_or row (get_or places i 0) Missing) (slice_index_or other (get_or places i 0) Missing)) (row_rank (key_of (drop (i + 1) places) row) (key_of (drop (i + 1) places) other))
+    ∙ tied_then (value_order (slice_index_or row (get_or places i 0) Missing) (slice_index_or other (get_or places i 0) Missing)) (row_order (key_of (drop (i + 1) places) row) (key_of (drop (i + 1) places) other))
     ∙ ap (λ b. b && same_at row other (drop (i + 1) places)) tie
 
 abbrev on_area : ℕ → Name × Index → Bool

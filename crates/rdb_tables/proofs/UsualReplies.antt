@@ -19,7 +19,7 @@ use Rattle.rdo_ast.specs.declared.syntax.IndexDefinition.{IndexDefinition}
 use Rattle.rdo_ast.specs.declared.syntax.DefinedType.{DefinedType}
 use Rattle.rdo_ast.specs.declared.syntax.DefinedType.TheVariants.{Own, BasedOn}
 use Rattle.rdb_meaning.specs.Contents.{same_name, relation_named, rows_of, fields_of, place_of}
-use Rattle.rdb_types.specs.Order.{chars_order as name_order}
+use Rattle.rdb_types.specs.Order.{chars_order}
 use Rattle.rdb_meaning.specs.Evaluation.{Scope, bound_as, referred, bind_source, bind_sources, sources_of}
 use Rattle.rdb_meaning.specs.Checks.{Refusal, or_else, first_refusal, needs_some, needs_none, reference_names, source_names, sources_names, expression_names, operations_names, testing_names, conjunction_names, condition_names, with_names, ranging_names, clause_names, assignment_names, shown_names, act_names, acts_names, Use, reserved_for, use_of, reservation_refusal, act_uses, act_clashes, is_retrieval}
 use Rattle.rdb_meaning.specs.Defining.{is_among, type_names, fields_names, index_fields_names, index_names, index_refusal, longest_key, keys_repeat, positions_of}
@@ -163,7 +163,7 @@ usual_names rs t reply e = subst Usually e (usual_reserved [] rs t)
 
 usual_type : (kind : DefinedType) (t : Tables) → Usually (type_names kind t)
 usual_type (Own type) t = tt
-usual_type (BasedOn g) t = usual_some g (find name_order g t.globals)
+usual_type (BasedOn g) t = usual_some g (find chars_order g t.globals)
 
 usual_fields : (before : List Name) (fs : List FieldDefinition) (t : Tables) → Usually (fields_names before fs t)
 usual_fields before [] t = tt
@@ -177,7 +177,7 @@ usual_key before (n ∷ ns) fields =
 
 usual_index : (d : IndexDefinition) (t : Tables) → Usually (index_names d t)
 usual_index d t =
-    usual_or _ _ (usual_none d.name (find name_order d.name t.indexes))
+    usual_or _ _ (usual_none d.name (find chars_order d.name t.indexes))
     (usual_or _ _ (usual_some d.relation (relation_named d.relation t)) (usual_key [] d.fields (fields_of (relation_named d.relation t))))
 
 -- whether rows repeat a key that is to be unique
@@ -195,7 +195,7 @@ usual_key_length d t =
     usual_if (nat_lt 120 (longest_key d.fields (fields_of (relation_named d.relation t)))) (Some r.TooLong) (repeated d t) refl (usual_repeated d t)
 
 usual_definition_of : (c : Command) (s : Standing) (t : Tables) → Usually (refusal_of c s t)
-usual_definition_of (define_field n type) s t = usual_or _ _ (usual_standing s) (usual_none n (find name_order n t.globals))
+usual_definition_of (define_field n type) s t = usual_or _ _ (usual_standing s) (usual_none n (find chars_order n t.globals))
 usual_definition_of (define_relation n fs) s t =
     usual_or _ _ (usual_standing s) (usual_or _ _ (usual_none n (relation_named n t)) (usual_fields [] fs t))
 usual_definition_of (define_index d) s t =
@@ -204,7 +204,7 @@ usual_definition_of (define_index d) s t =
 usual_definition_of (delete_relation n) s t =
     usual_or _ _ (usual_standing s) (usual_or _ _ (usual_some n (relation_named n t)) (usual_reservations (reservations_of s) (use_of true n ∷ [])))
 usual_definition_of (delete_index n) s t =
-    usual_or _ _ (usual_standing s) (usual_or _ _ (usual_some n (find name_order n t.indexes)) (usual_reservations (reservations_of s) (index_uses (find name_order n t.indexes) t)))
+    usual_or _ _ (usual_standing s) (usual_or _ _ (usual_some n (find chars_order n t.indexes)) (usual_reservations (reservations_of s) (index_uses (find chars_order n t.indexes) t)))
 usual_definition_of (invoke x) s t = tt
 usual_definition_of start_read_only s t = tt
 usual_definition_of (start_read_write w rs) s t = tt

@@ -7,7 +7,7 @@ use Rattle.rdo_ast.specs.declared.reply.Standing.{Standing}
 use Rattle.rdo_ast.specs.Tree.{Command, define_field, define_relation, define_index, delete_relation, delete_index}
 use Rattle.rdb_meaning.specs.declared.tables.Tables.{Tables}
 use Rattle.rdb_meaning.specs.Contents.{relation_named}
-use Rattle.rdb_types.specs.Order.{chars_order as name_order}
+use Rattle.rdb_types.specs.Order.{chars_order}
 use Rattle.rdb_meaning.specs.Checks.{Refusal, or_else, needs_some, use_of, reservation_refusal}
 use Rattle.rdb_meaning.specs.Defining.{field_names, with_field, relation_names, with_relation, index_names, index_refusal, with_index, without_relation, without_index}
 use Rattle.rdb_meaning.specs.Meaning.{Meaning, means, needs_read_write, reservations_of, index_uses}
@@ -30,8 +30,8 @@ refusal_of (define_index d) s t =
 refusal_of (delete_relation n) s t =
     or_else (needs_read_write s) (or_else (needs_some n (relation_named n t)) (reservation_refusal (reservations_of s) (use_of true n ∷ [])))
 refusal_of (delete_index n) s t =
-    or_else (needs_read_write s) (or_else (needs_some n (find name_order n t.indexes))
-    (reservation_refusal (reservations_of s) (index_uses (find name_order n t.indexes) t)))
+    or_else (needs_read_write s) (or_else (needs_some n (find chars_order n t.indexes))
+    (reservation_refusal (reservations_of s) (index_uses (find chars_order n t.indexes) t)))
 refusal_of _ s t = None
 
 abbrev pub after_of : Command → Tables → Tables

@@ -7,7 +7,7 @@ use Rattle.rdo_ast.specs.Tree.{Name}
 use Rattle.rdb_meaning.specs.declared.tables.Relation.{Relation}
 use Rattle.rdb_meaning.specs.declared.tables.Tables.{Tables}
 use Rattle.rdb_meaning.specs.Contents.{Row, same_name, with_rows, relation_named}
-use Rattle.rdb_types.specs.Order.{chars_order as name_order, dbkey_order as key_order}
+use Rattle.rdb_types.specs.Order.{chars_order, dbkey_order}
 use Rattle.rdb_tables.specs.declared.undo.Change.{Change}
 use Rattle.rdb_tables.specs.declared.undo.Saved.{Saved}
 use Rattle.rdb_tables.specs.declared.undo.Undo.{Undo}
@@ -17,13 +17,13 @@ Rows = List (Dbkey × Row)
 
 -- a row in the place of one that is there
 abbrev pub put_where : Option Row → Dbkey → Row → Rows → Rows
-put_where (Some now) k row rows = put key_order k row rows
+put_where (Some now) k row rows = put dbkey_order k row rows
 put_where None k row rows = rows
 
 -- what stood at the Dbkey stands there again, if it isn't erased
 abbrev pub undo_row : Dbkey → Option Row → Rows → Rows
-undo_row k (Some row) rows = put_where (find key_order k rows) k row rows
-undo_row k None rows = filter (λ e. not (is_eq (key_order k e.0))) rows
+undo_row k (Some row) rows = put_where (find dbkey_order k rows) k row rows
+undo_row k None rows = filter (λ e. not (is_eq (dbkey_order k e.0))) rows
 
 abbrev pub undo_in : Name → Change → Rows → Rows
 undo_in n c rows = if same_name n c.relation then undo_row c.key c.before rows else rows
@@ -56,5 +56,5 @@ logged n k before undo =
 
 -- relations stand in the order of their names, and the relation's rows in that of their Dbkeys
 pub record IsInOrder (n : Name) (t : Tables) : Type 0 where
-  pub relations : IsTrue (is_sorted name_order t.relations)
-  pub rows : (r : Relation) → relation_named n t ≡ Some r → IsTrue (is_sorted key_order r.rows)
+  pub relations : IsTrue (is_sorted chars_order t.relations)
+  pub rows : (r : Relation) → relation_named n t ≡ Some r → IsTrue (is_sorted dbkey_order r.rows)

@@ -3,7 +3,7 @@ ghost use Rattle.std.specs.Prelude.{◌≡◌, [], ◌∷◌, true, false, IfOk}
 ghost use Rattle.std.specs.FinMap.Entries.{find};
 ghost use Rattle.rdo_ast.specs.Views.{command_of};
 ghost use Rattle.rdb_meaning.specs.Contents.{relation_named};
-ghost use Rattle.rdb_types.specs.Order.{chars_order as name_order};
+ghost use Rattle.rdb_types.specs.Order.{chars_order};
 ghost use Rattle.rdb_meaning.specs.Checks.{or_else, needs_some, use_of, reservation_refusal};
 ghost use Rattle.rdb_meaning.specs.Defining.{field_names, with_field, relation_names, with_relation, index_names, index_refusal, with_index, without_relation, without_index};
 ghost use Rattle.rdb_meaning.specs.Meaning.{command_meaning, needs_read_write, reservations_of, index_uses};
@@ -104,8 +104,8 @@ fn check_no_index(
     standing: &Standing,
     name: &Chars,
 ) -> Result<(), CheckStop>
-    ensures { Finds result (or_else (needs_some name.now (find name_order name.now tables.now.indexes))
-        (reservation_refusal (reservations_of standing.now) (index_uses (find name_order name.now tables.now.indexes) tables.now))) }
+    ensures { Finds result (or_else (needs_some name.now (find chars_order name.now tables.now.indexes))
+        (reservation_refusal (reservations_of standing.now) (index_uses (find chars_order name.now tables.now.indexes) tables.now))) }
 {
     match tables.indexes.find(name) {
         Some(index) => check_index_reserved(alloc, tables, reservations_of(standing), index),
@@ -120,8 +120,8 @@ fn no_index(
     name: &Chars,
 ) -> Result<(), CheckStop>
     ensures { Defines result
-        (or_else (needs_read_write standing.now) (or_else (needs_some name.now (find name_order name.now tables.old.indexes))
-        (reservation_refusal (reservations_of standing.now) (index_uses (find name_order name.now tables.old.indexes) tables.old))))
+        (or_else (needs_read_write standing.now) (or_else (needs_some name.now (find chars_order name.now tables.old.indexes))
+        (reservation_refusal (reservations_of standing.now) (index_uses (find chars_order name.now tables.old.indexes) tables.old))))
         tables.old tables.new (without_index name.now tables.old) }
 {
     check_writing(standing)?;

@@ -2,7 +2,7 @@
 ghost use Rattle.std.specs.Prelude.{◌≡◌, ◌==◌, IfOk, filter, slice_index_or};
 ghost use Rattle.rdb_types.specs.declared.values.Value.TheVariants.{Missing};
 ghost use Rattle.std.specs.Ordering.{is_eq};
-ghost use Rattle.rdb_types.specs.Order.{value_order as rank_of, row_order as row_rank};
+ghost use Rattle.rdb_types.specs.Order.{value_order, row_order};
 ghost use Rattle.rdb_meaning.specs.Contents.{key_of, is_taken as taken_in, by_area, indexes_on as indexes_of, first_taken};
 ghost use Rattle.rdb_tables.specs.Indexes.{seen_at, with_some};
 
@@ -15,7 +15,7 @@ use std::alloc::Global;
 
 // Whether two values stand at the same place in the order of indexes.
 fn same_rank(a: &Value, b: &Value) -> bool
-    ensures { result ≡ is_eq (rank_of a.now b.now) }
+    ensures { result ≡ is_eq (value_order a.now b.now) }
 {
     match (a, b) {
         (Value::Missing, Value::Missing) => true,
@@ -28,7 +28,7 @@ fn same_rank(a: &Value, b: &Value) -> bool
 #[tactic(auto, using(crate::proofs::UniqueKeys::read_or))]
 // The same of the values at a place of two rows, where a value past a row's end is missing.
 fn same_rank_at(place: u16, row: &[Value], other: &[Value]) -> bool
-    ensures { result ≡ is_eq (rank_of (slice_index_or row.now place Missing) (slice_index_or other.now place Missing)) }
+    ensures { result ≡ is_eq (value_order (slice_index_or row.now place Missing) (slice_index_or other.now place Missing)) }
 {
     match (at(row, place as usize), at(other, place as usize)) {
         (Some(a), Some(b)) => same_rank(a, b),
@@ -41,7 +41,7 @@ fn same_rank_at(place: u16, row: &[Value], other: &[Value]) -> bool
 // Whether two rows have the same key.
 #[tactic(auto, using(crate::proofs::UniqueKeys::tied_then))]
 fn same_key(places: &[u16], row: &[Value], other: &[Value]) -> bool
-    ensures { result ≡ is_eq (row_rank (key_of places.now row.now) (key_of places.now other.now)) }
+    ensures { result ≡ is_eq (row_order (key_of places.now row.now) (key_of places.now other.now)) }
 {
     for place in places {
         if !same_rank_at(*place, row, other) {

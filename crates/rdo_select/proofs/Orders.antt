@@ -5,7 +5,7 @@ use Rattle.std.proofs.lemmas.Cmp.{on_total, then_total}
 use Rattle.std.specs.Cmp.{IsTotalOrder}
 use Rattle.std.specs.declared.cmp.Ordering.{Ordering}
 use Rattle.std.specs.Ordering.{is_ne, ordering_then}
-use Rattle.rdb_types.specs.Order.{value_order as rank_of}
+use Rattle.rdb_types.specs.Order.{value_order}
 use Rattle.rdb_meaning.specs.Contents.{Row}
 use Rattle.rdb_meaning.specs.Selecting.{turned}
 use Rattle.rdo_arithmetic.proofs.Directions.{turned_total, equal_total, then_ne, then_not_ne}
@@ -30,17 +30,17 @@ found_total cs = on_total (λ (p : Found). p.row) (rows_total cs)
 
 -- ---- a key more
 
-key_step : (keys : List BoundSortKey) (a b : Row) (i : ℕ) (k : BoundSortKey) (r o : Ordering) → i < length keys → k ≡ get_or keys i k → order_by_keys keys a b ≡ order_by_keys (drop i keys) a b → r ≡ rank_of (value_in a k.reference) (value_in b k.reference) → o ≡ turned k.descending r → order_by_keys keys a b ≡ ordering_then o (order_by_keys (drop (i + 1) keys) a b)
+key_step : (keys : List BoundSortKey) (a b : Row) (i : ℕ) (k : BoundSortKey) (r o : Ordering) → i < length keys → k ≡ get_or keys i k → order_by_keys keys a b ≡ order_by_keys (drop i keys) a b → r ≡ value_order (value_in a k.reference) (value_in b k.reference) → o ≡ turned k.descending r → order_by_keys keys a b ≡ ordering_then o (order_by_keys (drop (i + 1) keys) a b)
 key_step keys a b i k r o h e inv f g =
     let rest = order_by_keys (drop (i + 1) keys) a b in
     inv ∙ at_drop_more (λ ks. order_by_keys ks a b) keys i k h
-    ∙ ap (λ (k : BoundSortKey). ordering_then (turned k.descending (rank_of (value_in a k.reference) (value_in b k.reference))) rest) (sym e)
+    ∙ ap (λ (k : BoundSortKey). ordering_then (turned k.descending (value_order (value_in a k.reference) (value_in b k.reference))) rest) (sym e)
     ∙ ap (λ o. ordering_then o rest) (sym (g ∙ ap (turned k.descending) f))
 
-pub key_decides : (keys : List BoundSortKey) (a b : Row) (i : ℕ) (k : BoundSortKey) (r o : Ordering) → i < length keys → k ≡ get_or keys i k → order_by_keys keys a b ≡ order_by_keys (drop i keys) a b → r ≡ rank_of (value_in a k.reference) (value_in b k.reference) → o ≡ turned k.descending r → is_ne o ≡ true → o ≡ order_by_keys keys a b
+pub key_decides : (keys : List BoundSortKey) (a b : Row) (i : ℕ) (k : BoundSortKey) (r o : Ordering) → i < length keys → k ≡ get_or keys i k → order_by_keys keys a b ≡ order_by_keys (drop i keys) a b → r ≡ value_order (value_in a k.reference) (value_in b k.reference) → o ≡ turned k.descending r → is_ne o ≡ true → o ≡ order_by_keys keys a b
 key_decides keys a b i k r o h e inv f g n = sym (key_step keys a b i k r o h e inv f g ∙ then_ne o (order_by_keys (drop (i + 1) keys) a b) n)
 
-pub key_more : (keys : List BoundSortKey) (a b : Row) (i : ℕ) (k : BoundSortKey) (r o : Ordering) → i < length keys → k ≡ get_or keys i k → order_by_keys keys a b ≡ order_by_keys (drop i keys) a b → r ≡ rank_of (value_in a k.reference) (value_in b k.reference) → o ≡ turned k.descending r → is_ne o ≡ false → order_by_keys keys a b ≡ order_by_keys (drop (i + 1) keys) a b
+pub key_more : (keys : List BoundSortKey) (a b : Row) (i : ℕ) (k : BoundSortKey) (r o : Ordering) → i < length keys → k ≡ get_or keys i k → order_by_keys keys a b ≡ order_by_keys (drop i keys) a b → r ≡ value_order (value_in a k.reference) (value_in b k.reference) → o ≡ turned k.descending r → is_ne o ≡ false → order_by_keys keys a b ≡ order_by_keys (drop (i + 1) keys) a b
 key_more keys a b i k r o h e inv f g n = key_step keys a b i k r o h e inv f g ∙ then_not_ne o (order_by_keys (drop (i + 1) keys) a b) n
 
 -- ---- a clause more

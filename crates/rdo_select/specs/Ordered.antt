@@ -5,7 +5,7 @@ use Rattle.std.specs.declared.cmp.Ordering.TheVariants.{Equal}
 use Rattle.std.specs.Ordering.{is_eq, ordering_then}
 use Rattle.rdb_types.specs.declared.values.Value.{Value}
 use Rattle.rdb_types.specs.declared.values.Value.TheVariants.{Missing}
-use Rattle.rdb_types.specs.Order.{value_order as rank_of, row_order as row_rank}
+use Rattle.rdb_types.specs.Order.{value_order, row_order}
 use Rattle.rdb_meaning.specs.Contents.{Row}
 use Rattle.rdb_meaning.specs.Selecting.{turned, stably_sorted, without_repeats, is_reduced}
 use Rattle.rdo_values.specs.declared.bound.BoundReference.{BoundReference}
@@ -22,7 +22,7 @@ value_in row r = slice_index_or row r.place Missing
 -- the order of two rows by the keys, the first key that tells them apart deciding
 abbrev pub order_by_keys : List BoundSortKey → Row → Row → Ordering
 order_by_keys [] a b = Equal
-order_by_keys (k ∷ ks) a b = ordering_then (turned k.descending (rank_of (value_in a k.reference) (value_in b k.reference))) (order_by_keys ks a b)
+order_by_keys (k ∷ ks) a b = ordering_then (turned k.descending (value_order (value_in a k.reference) (value_in b k.reference))) (order_by_keys ks a b)
 
 -- the same by the keys of all clauses
 abbrev pub order_by : List BoundClause → Row → Row → Ordering
@@ -43,7 +43,7 @@ abbrev pub reduced_values : List BoundClause → Found → Row
 reduced_values cs p = reduced_row cs p.row
 
 abbrev pub found_alike : List BoundClause → Found → Found → Bool
-found_alike cs p q = is_eq (row_rank (reduced_values cs p) (reduced_values cs q))
+found_alike cs p q = is_eq (row_order (reduced_values cs p) (reduced_values cs q))
 
 abbrev pub sorted_found : List BoundClause → List Found → List Found
 sorted_found cs = stably_sorted (found_order cs)

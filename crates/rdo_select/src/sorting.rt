@@ -1,6 +1,6 @@
 //! SORTED BY: found tuples sorted stably by the values at the places of the keys.
 ghost use Rattle.std.specs.Prelude.{◌≡◌, reverse, IfOk};
-ghost use Rattle.rdb_types.specs.Order.{value_order as rank_of};
+ghost use Rattle.rdb_types.specs.Order.{value_order as value_order_of};
 ghost use Rattle.rdb_meaning.specs.Selecting.{turned as turned_order};
 ghost use Rattle.rdo_select.specs.Ordered.{value_in, order_by_keys, order_by, sorted_found};
 
@@ -18,7 +18,7 @@ fn turned(descending: bool, order: Ordering) -> Ordering
 
 /// The order of the values at a place, a missing one where there is none.
 fn order_at(reference: &BoundReference, a: &[Value], b: &[Value]) -> Ordering
-    ensures { result ≡ rank_of (value_in a.now reference.now) (value_in b.now reference.now) }
+    ensures { result ≡ value_order_of (value_in a.now reference.now) (value_in b.now reference.now) }
 {
     match (a.get(reference.place), b.get(reference.place)) {
         (Some(x), Some(y)) => value_order(x, y),

@@ -33,7 +33,11 @@ pub fn row<V: View>(
 }
 
 /// The rows of a relation, in the order of their Dbkeys. They are answered only where all that is read is known.
-pub fn rows<V: View>(alloc: Global, view: &V, relation: &StoredRelation<'_>) -> Result<Rows, Stop<Never>>
+pub fn rows<V: View>(
+    alloc: Global,
+    view: &V,
+    relation: &StoredRelation<'_>,
+) -> Result<Rows, Stop<Never>>
     ensures rows { IfOk result (λ rows. (all : Lines) → IsInOrder all → Agrees (V.knows view.now) all → AreRowsOf relation.now (lines_in relation.now.area all) rows) }
     ensures known { IfOk result (λ _. IsAreaKnown (V.knows view.now) relation.now.area) }
     ensures missing { (need : _) → result ≡ Err (stop.Missing need) → IsNextNeed (V.knows view.now) relation.now.area need }

@@ -15,4 +15,6 @@ pub use insertion::insert;
 pub use line_view::Writes;
 pub use removal::remove;
 pub use search::{find, range};
-pub use sorted_index_laws::{Bounds, Duplicate, IndexStop, pairs_are_ordered, the_way_is_in_the_index};
+pub use sorted_index_laws::{
+    Bounds, Duplicate, IndexStop, pairs_are_ordered, the_way_is_in_the_index,
+};

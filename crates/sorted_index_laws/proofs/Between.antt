@@ -6,7 +6,7 @@ use Rattle.std.specs.Ordering.{is_eq, ordering_then, ordering_reverse}
 use Rattle.std.specs.List.{AllByRecursion}
 use Rattle.rdb_types.specs.declared.keys.Dbkey.{Dbkey}
 use Rattle.rdb_types.specs.declared.values.Value.{Value}
-use Rattle.rdb_types.specs.Order.{dbkey_order, row_order as key_order}
+use Rattle.rdb_types.specs.Order.{dbkey_order, row_order}
 use Rattle.index_node.specs.declared.entry.NodeEntry.{NodeEntry}
 use Rattle.index_node.specs.Order.{entry_order}
 use Rattle.index_node.specs.OrderLaws.{entries_total}
@@ -22,7 +22,7 @@ first_of [] a b = a
 first_of (x ∷ xs) a b = b
 
 -- an entry without its key is lower still
-keyless : (key other : List Value) (row at : Dbkey) → ordering_then (key_order key other) (dbkey_order row at) ≡ Less → ordering_then (key_order [] other) (dbkey_order row at) ≡ Less
+keyless : (key other : List Value) (row at : Dbkey) → ordering_then (row_order key other) (dbkey_order row at) ≡ Less → ordering_then (row_order [] other) (dbkey_order row at) ≡ Less
 keyless [] [] row at h = h
 keyless [] (y ∷ ys) row at h = h
 keyless (x ∷ xs) [] row at h = absurd (cc)

@@ -7,7 +7,7 @@ use Rattle.std.specs.List.{AllByRecursion, filter}
 use Rattle.std.proofs.lemmas.List.{map-append}
 use Rattle.std.proofs.lemmas.List.Elements.{filter-append}
 use Rattle.index_node.specs.declared.entry.NodeEntry.{NodeEntry}
-use Rattle.rdb_types.specs.Order.{row_order as key_order, dbkey_order}
+use Rattle.rdb_types.specs.Order.{row_order, dbkey_order}
 use Rattle.index_node.specs.Order.{entry_order}
 use Rattle.sorted_index_laws.specs.Keys.{Interval, is_within}
 use Rattle.sorted_index_laws.specs.Tree.{Tree, pairs, IsPartedFrom, AreParted}
@@ -49,11 +49,11 @@ upto_keys Greater t h = absurd (h refl)
 
 all_below : (s : Interval) → IsConvex s → (next : NodeEntry) (ps : List NodeEntry) → AllByRecursion (λ p. entry_order p next ≡ Less) ps → s.is_below next.key ≡ true → AllByRecursion (λ p. s.is_below p.key ≡ true) ps
 all_below s is next [] h below = tt
-all_below s is next (p ∷ ps) h below = (is.lower p.key next.key (less_keys (key_order p.key next.key) (dbkey_order p.row next.row) h.0) below, all_below s is next ps h.1 below)
+all_below s is next (p ∷ ps) h below = (is.lower p.key next.key (less_keys (row_order p.key next.key) (dbkey_order p.row next.row) h.0) below, all_below s is next ps h.1 below)
 
 all_above : (s : Interval) → IsConvex s → (own : NodeEntry) (ps : List NodeEntry) → AllByRecursion (λ p. entry_order own p ≢ Greater) ps → s.is_above own.key ≡ true → AllByRecursion (λ p. s.is_above p.key ≡ true) ps
 all_above s is own [] h above = tt
-all_above s is own (p ∷ ps) h above = (is.higher own.key p.key (upto_keys (key_order own.key p.key) (dbkey_order own.row p.row) h.0) above, all_above s is own ps h.1 above)
+all_above s is own (p ∷ ps) h above = (is.higher own.key p.key (upto_keys (row_order own.key p.key) (dbkey_order own.row p.row) h.0) above, all_above s is own ps h.1 above)
 
 -- ---- where children begin and end
 

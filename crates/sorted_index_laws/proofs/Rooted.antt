@@ -11,7 +11,7 @@ use Rattle.std.proofs.lemmas.Bool.{cases_lt}
 use Rattle.std.proofs.lemmas.List.Folds.{find-append}
 use Rattle.rdb_types.specs.declared.keys.Dbkey.{Dbkey}
 use Rattle.rdb_types.specs.declared.values.Value.{Value}
-use Rattle.rdb_types.specs.Order.{dbkey_order, row_order as key_order}
+use Rattle.rdb_types.specs.Order.{dbkey_order, row_order}
 use Rattle.rdb_types.specs.OrderLaws.{same_dbkey}
 use Rattle.index_node.specs.declared.entry.NodeEntry.{NodeEntry}
 use Rattle.index_node.specs.declared.node.IndexNode.{IndexNode}
@@ -56,10 +56,10 @@ nothing_in (x ∷ xs) = false
 key_found : (key : List Value) (ps : List NodeEntry) → has_key key ps ≡ not (nothing_in (rows_within (only key) ps))
 key_found key [] = refl
 key_found key (p ∷ ps) =
-    elim (is_eq (key_order p.key key)) as (λ b. is_eq (key_order p.key key) ≡ b → has_key key (p ∷ ps) ≡ not (nothing_in (rows_within (only key) (p ∷ ps)))) [
-      | true ↦ λ is. let within : is_within (only key) p.key ≡ true = one_key (key_order p.key key) ∙ is in
+    elim (is_eq (row_order p.key key)) as (λ b. is_eq (row_order p.key key) ≡ b → has_key key (p ∷ ps) ≡ not (nothing_in (rows_within (only key) (p ∷ ps)))) [
+      | true ↦ λ is. let within : is_within (only key) p.key ≡ true = one_key (row_order p.key key) ∙ is in
           rw is (rw within refl)
-      | false ↦ λ is. let within : is_within (only key) p.key ≡ false = one_key (key_order p.key key) ∙ is in
+      | false ↦ λ is. let within : is_within (only key) p.key ≡ false = one_key (row_order p.key key) ∙ is in
           rw is (rw within (key_found key ps))
     ] refl
 

@@ -4,7 +4,7 @@ use Rattle.std.specs.Ordering.{is_lt, is_le, is_eq}
 use Rattle.std.specs.List.{AllByRecursion, IsDistinct, filter, flat_map, list_any}
 use Rattle.rdb_types.specs.declared.keys.Dbkey.{Dbkey}
 use Rattle.rdb_types.specs.declared.values.Value.{Value}
-use Rattle.rdb_types.specs.Order.{dbkey_order, row_order as key_order}
+use Rattle.rdb_types.specs.Order.{dbkey_order, row_order}
 use Rattle.index_node.specs.declared.entry.NodeEntry.{NodeEntry}
 use Rattle.index_node.specs.Order.{entry_order}
 use Rattle.line_view.specs.declared.need.Need.TheVariants.{Line}
@@ -31,7 +31,7 @@ abbrev pub without_pair : NodeEntry → List NodeEntry → List NodeEntry
 without_pair pair = filter (λ p. not (is_eq (entry_order p pair)))
 
 abbrev pub has_key : List Value → List NodeEntry → Bool
-has_key key = list_any (λ p. is_eq (key_order p.key key))
+has_key key = list_any (λ p. is_eq (row_order p.key key))
 
 -- a pair at or behind the next child's entry belongs further on
 abbrev pub goes_on : NodeEntry → List NodeEntry → Bool

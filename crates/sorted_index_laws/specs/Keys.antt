@@ -3,7 +3,7 @@ use Rattle.std.specs.Prelude.{Bool, false, not, ◌&&◌, List, length, take, Op
 use Rattle.std.specs.declared.cmp.Ordering.{Ordering}
 use Rattle.std.specs.Ordering.{is_lt, is_le, is_gt, is_ge}
 use Rattle.rdb_types.specs.declared.values.Value.{Value}
-use Rattle.rdb_types.specs.Order.{row_order as key_order}
+use Rattle.rdb_types.specs.Order.{row_order}
 use Rattle.sorted_index_laws.specs.declared.bounds.Bounds.{Bounds}
 
 -- Keys that follow one another in the order of keys: those that are neither below nor above.
@@ -16,11 +16,11 @@ is_within interval key = not (interval.is_below key) && not (interval.is_above k
 
 -- one key
 abbrev pub only : List Value → Interval
-only wanted = record { is_below = λ key. is_lt (key_order key wanted); is_above = λ key. is_gt (key_order key wanted) }
+only wanted = record { is_below = λ key. is_lt (row_order key wanted); is_above = λ key. is_gt (row_order key wanted) }
 
 -- a key is compared with a bound by as many of its first values as the bound has
 abbrev pub first_values_order : List Value → List Value → Ordering
-first_values_order key bound = key_order (take (length bound) key) bound
+first_values_order key bound = row_order (take (length bound) key) bound
 
 abbrev pub is_below_low : Option (List Value) → Bool → List Value → Bool
 is_below_low None low_in key = false

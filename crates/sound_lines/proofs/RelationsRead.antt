@@ -5,7 +5,7 @@ use Rattle.std.specs.FinMap.Entries.{put, is_sorted}
 use Rattle.std.proofs.lemmas.List.{append-nil, append_assoc}
 use Rattle.rdo_ast.specs.Tree.{Name}
 use Rattle.rdb_meaning.specs.declared.tables.Relation.{Relation}
-use Rattle.rdb_types.specs.Order.{chars_order as name_order}
+use Rattle.rdb_types.specs.Order.{chars_order}
 use Rattle.rdb_types.specs.OrderLaws.{chars_total}
 use Rattle.line_view.specs.declared.stop.Stop.{Stop}
 use Rattle.line_view.specs.declared.stop.Never.{Never}
@@ -26,7 +26,7 @@ pub record AreFound (known : Knowledge) (versions : List (Name × ℕ)) (relatio
   pub done : List (Name × Relation)
   pub whole : List (Name × Relation)
   pub stands : relations ≡ done ++ left
-  pub gathers : found ≡ put_all name_order [] whole
+  pub gathers : found ≡ put_all chars_order [] whole
   pub names : keys done ≡ keys whole
   pub rows : (all : Lines) → IsInOrder all → Agrees known all → HaveRows all versions done whole
   pub read : AllByRecursion (IsRead known) done
@@ -55,23 +55,23 @@ one_whole all versions (d ∷ ds) (x ∷ xs) b w have name has = (have.0, have.1
 
 pub one_more_found : (known : Knowledge) (versions : List (Name × ℕ)) (relations left found new : List (Name × Relation)) (b : Name × Relation) (whole : Relation) →
     AreFound known versions relations (b ∷ left) found → ((all : Lines) → IsInOrder all → Agrees known all → HasRows all (stored (version_of b.0 versions) b.1) whole) → IsAreaKnown known b.1.area →
-    new ≡ put name_order b.0 whole found → AreFound known versions relations left new
+    new ≡ put chars_order b.0 whole found → AreFound known versions relations left new
 one_more_found known versions relations left found new b whole are rows read made = record {
   done = are.done ++ b ∷ [];
   whole = are.whole ++ (b.0, whole) ∷ [];
   stands = are.stands ∙ sym (append_assoc are.done (b ∷ []) left);
-  gathers = made ∙ ap (λ l. put name_order b.0 whole l) are.gathers ∙ sym (put_all_more name_order [] are.whole b.0 whole);
+  gathers = made ∙ ap (λ l. put chars_order b.0 whole l) are.gathers ∙ sym (put_all_more chars_order [] are.whole b.0 whole);
   names = one_name are.done are.whole b (b.0, whole) are.names refl;
   rows = λ all sorted agrees. one_whole all versions are.done are.whole b (b.0, whole) (are.rows all sorted agrees) refl (rows all sorted agrees);
   read = one_read known are.done b are.read read;
 }
 
-pub all_found : (known : Knowledge) (versions : List (Name × ℕ)) (relations found : List (Name × Relation)) → is_sorted name_order relations ≡ true → AreFound known versions relations [] found →
+pub all_found : (known : Knowledge) (versions : List (Name × ℕ)) (relations found : List (Name × Relation)) → is_sorted chars_order relations ≡ true → AreFound known versions relations [] found →
     (all : Lines) → IsInOrder all → Agrees known all → HaveRows all versions relations found
 all_found known versions relations found sorted are all in_order agrees =
     let same : relations ≡ are.done = are.stands ∙ append-nil are.done in
-    let ordered : is_sorted name_order are.whole ≡ true = sym (same_sorted name_order are.done are.whole are.names) ∙ (ap (is_sorted name_order) (sym same) ∙ sorted) in
-    let whole : found ≡ are.whole = are.gathers ∙ gathered name_order chars_total are.whole ordered in
+    let ordered : is_sorted chars_order are.whole ≡ true = sym (same_sorted chars_order are.done are.whole are.names) ∙ (ap (is_sorted chars_order) (sym same) ∙ sorted) in
+    let whole : found ≡ are.whole = are.gathers ∙ gathered chars_order chars_total are.whole ordered in
     subst (λ (l : List (Name × Relation)). HaveRows all versions l found) (sym same)
     (subst (λ (l : List (Name × Relation)). HaveRows all versions are.done l) (sym whole) (are.rows all in_order agrees))
 

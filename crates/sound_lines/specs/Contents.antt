@@ -5,7 +5,7 @@ use Rattle.std.specs.FinMap.Entries.{find, put}
 use Rattle.rdo_ast.specs.Tree.{Name}
 use Rattle.rdb_meaning.specs.declared.tables.Relation.{Relation as Rows}
 use Rattle.rdb_meaning.specs.declared.tables.Tables.{Tables}
-use Rattle.rdb_types.specs.Order.{chars_order as name_order}
+use Rattle.rdb_types.specs.Order.{chars_order}
 use Rattle.line_view.specs.Knowledge.{Lines}
 use Rattle.catalog_lines.specs.declared.line.CatalogLine.{CatalogLine}
 use Rattle.catalog_lines.specs.declared.line.CatalogLine.TheVariants.{Relation, Global, Field, Index}
@@ -18,7 +18,7 @@ use Rattle.relation_rows.specs.Relations.{HasRows}
 -- ---- the version of each relation
 
 abbrev pub with_version : CatalogLine → List (Name × ℕ) → List (Name × ℕ)
-with_version (Relation r) versions = put name_order r.name r.version versions
+with_version (Relation r) versions = put chars_order r.name r.version versions
 with_version (Global g) versions = versions
 with_version (Field f) versions = versions
 with_version (Index x) versions = versions
@@ -32,7 +32,7 @@ versions_in = versions_from []
 
 -- 0 where no relation has the name
 abbrev pub version_of : Name → List (Name × ℕ) → ℕ
-version_of name versions = unwrap_or (find name_order name versions) 0
+version_of name versions = unwrap_or (find chars_order name versions) 0
 
 -- ---- the rows of each relation
 

@@ -7,7 +7,7 @@ ghost use Rattle.line_view.specs.declared.stop.Stop.TheVariants.{Bad};
 ghost use Rattle.rdb_types.specs.declared.keys.Dbkey.{Dbkey as Place};
 ghost use Rattle.rdb_meaning.specs.declared.tables.Tables.{Tables as Kept};
 ghost use Rattle.rdb_meaning.specs.Contents.{Row, no_tables};
-ghost use Rattle.rdb_types.specs.Order.{dbkey_order as key_order};
+ghost use Rattle.rdb_types.specs.Order.{dbkey_order};
 ghost use Rattle.relation_rows.specs.declared.stored.StoredRelation.{StoredRelation as Stored};
 ghost use Rattle.relation_rows.specs.Stored.{IsRowOf, AreRowsOf};
 ghost use Rattle.relation_rows.specs.Relations.{stored_row};
@@ -51,10 +51,10 @@ pub fn worked_is_sound()
 pub fn rows_follow_lines()
     ensures put { (r : Stored) (all : Lines) (rows : List (Place × Row)) (key : Place) (image : List ℕ) (row : Row)
         → IsInOrder all → key.area ≡ r.area → AreRowsOf r (lines_in r.area all) (map stored_row rows) → IsRowOf r image row
-        → AreRowsOf r (lines_in r.area (laid key (Some image) all)) (map stored_row (put key_order key row rows)) }
+        → AreRowsOf r (lines_in r.area (laid key (Some image) all)) (map stored_row (put dbkey_order key row rows)) }
     ensures erase { (r : Stored) (all : Lines) (rows : List (Place × Row)) (key : Place)
         → AreRowsOf r (lines_in r.area all) (map stored_row rows)
-        → AreRowsOf r (lines_in r.area (laid key None all)) (map stored_row (filter (λ e. not (is_eq (key_order key e.0))) rows)) }
+        → AreRowsOf r (lines_in r.area (laid key None all)) (map stored_row (filter (λ e. not (is_eq (dbkey_order key e.0))) rows)) }
     ensures apart { (all : Lines) (key : Place) (what : Option (List ℕ)) (area : ℕ) → (key.area ≡ area → ⊥)
         → lines_in area (laid key what all) ≡ lines_in area all }
 {}

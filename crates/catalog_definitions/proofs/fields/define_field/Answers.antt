@@ -1,6 +1,6 @@
 use Rattle.std.proofs.Common.{ap, sym, subst, ◌∙◌, ◌≡◌, ◌∷◌, [], None}
 use Rattle.std.specs.FinMap.Entries.{find}
-use Rattle.rdb_types.specs.Order.{chars_order as name_order}
+use Rattle.rdb_types.specs.Order.{chars_order}
 use Rattle.rdb_meaning.specs.Defining.{field_names, with_field}
 use Rattle.catalog_definitions.specs.Causes.{rooms_from, StopsDefining}
 use Rattle.catalog_definitions.specs.Written.{AreWritten, global_line}
@@ -26,7 +26,7 @@ returns-clause-tables g c =
     let name = c.args.name.now in
     let before = c.args.catalog.now in
     let refusal : field_names name before.tables ≡ None = ap (λ t. field_names name t) (sym c.in_ok-tables.ensures) ∙ c.in-Ok.ensures.0 in
-    let none : find name_order name before.tables.globals ≡ None = none_named name (find name_order name before.tables.globals) refusal in
+    let none : find chars_order name before.tables.globals ≡ None = none_named name (find chars_order name before.tables.globals) refusal in
     if_ok (AreWritten known 0 (global_line c.in_ok-copied.field-0 c.args.kind.now ∷ [])) (Turns known before (with_field name c.args.kind.now before.tables)) c.write_lines.result
     (λ writes written. turns known before (record { kind = c.args.kind.now; name = name }) writes (subst (λ n. AreWritten known 0 (global_line n c.args.kind.now ∷ []) writes) c.in_ok-copied.ensures written) none)
     c.write_lines.ensures.writes
