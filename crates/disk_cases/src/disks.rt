@@ -54,6 +54,13 @@ fn tell_done(rt: &HostRuntime, done: Result<(), Failed>) {
     }
 }
 
+// Writes a slot whose bytes are all this one.
+fn put(disk: &mut HostDisk<HostRuntime>, file: FileId, slot: u32, byte: u8) -> Result<(), Failed> {
+    let bytes = [byte; 1024];
+    let from = &bytes[..file.slot_bytes()];
+    disk.write(file, slot, from)
+}
+
 // Reads a slot whose bytes are all one.
 fn tell_slot(rt: &HostRuntime, disk: &mut HostDisk<HostRuntime>, file: FileId, slot: u32) {
     let mut bytes = [9; 1024];
@@ -87,9 +94,8 @@ fn say_of_disk(
     let file = file_of(words.next().unwrap_or(""));
     let slot = number_of(words.next());
     let byte = u8::try_from(number_of(words.next())).unwrap_or(0);
-    let bytes = [byte; 1024];
     match about {
-        "write" => tell_done(rt, disk.write(file, slot, &bytes[..file.slot_bytes()])),
+        "write" => tell_done(rt, put(disk, file, slot, byte)),
         "read" => tell_slot(rt, disk, file, slot),
         "length" => tell_length(rt, disk, file),
         "barrier" => tell_done(rt, disk.barrier()),
