@@ -18,7 +18,7 @@ pub enum Stop<E> {
 }
 
 /// What work has of its own that has no reason of its own to stop.
-#[derive(Clone, Copy, Debug, PartialEq, Eq)]
+#[derive(Clone, Copy)]
 pub enum Never {}
 
 impl<E> From<NoMemory> for Stop<E> {

@@ -20,7 +20,7 @@ use Rattle.rdo_tokens.specs.Lex.{Text, same_kind, max_number}
 use Rattle.rdo_tokens.specs.Input.{Parser, ◌>>=◌, pure, peek, sees}
 use Rattle.rdo_grammar.specs.Ahead.{LooksAhead}
 use Rattle.rdo_grammar.specs.Grammar as g
-use Rattle.rdo_grammar.specs.Grammar.{Level, level_at, operation, chained, crossed, ranges, range, first, open_level, with, inner, count, statistic, minus, parenthesized, statistic_of, statistic_by, prim_by, prim, products_from, products, term_after, term, signed_term, sums_from, sums, expr_after, expr, expr_with, compared, between, compare_by, compare_op, compare_after, compare, negated, grouped, any, test_by, test, tests, conj, conjunctions, cond_at, test_at, expr_at, operator, ref_from, reference, assign, assigns_from, assigns, printed_ref, printed_name, printed_by, printed, order_by, order, key, keys, references, sorted, reduced, sorted_only, reduced_only, shape_by, shape, selection, store, modify, print, printed_list, point, begins_action, body_from, body, for_action, action_by, action, action_at}
+use Rattle.rdo_grammar.specs.Grammar.{Level, level_at, operation, chained, crossed, ranges, range, first, open_level, with, inner, count, statistic, minus, parenthesized, statistic_of, statistic_by, prim_by, prim, products_from, products, term_after, term, signed_term, sums_from, sums, expr_after, expr, expr_with, compared, between, compare_by, compare_op, compare_after, compare, negated, grouped, any, test_by, one_test, tests, conj, conjunctions, cond_at, test_at, expr_at, operator, ref_from, reference, assign, assigns_from, assigns, printed_ref, printed_name, printed_by, printed, order_by, order, key, keys, references, sorted, reduced, sorted_only, reduced_only, shape_by, shape, selection, store, modify, print, printed_list, point, begins_action, body_from, body, for_action, action_by, action, action_at}
 use Rattle.rdo_grammar.proofs.TakesLaws.{TakesToken, takes_refuse, takes_first, takes_peek, takes_if, takes_bind}
 use Rattle.rdo_grammar.proofs.AheadLaws.{law_pure, law_refuse, law_bind, law_peek, law_take, law_expect, law_name, law_eat, law_sized, law_if, law_text, law_number, law_whole, law_separated}
 
@@ -166,13 +166,13 @@ module _ (v : Level) (lc : LooksAhead v.next_cond) (lt : LooksAhead v.next_test)
   law_test_by k.Any = law_bind _ _ law_open (λ _. law_bind _ _ (law_inner false) (λ x. law_pure (t.Any x)))
   law_test_by _ = law_compare
 
-  law_test : LooksAhead (test v)
-  unfolding test
+  law_test : LooksAhead (one_test v)
+  unfolding one_test
   law_test = law_bind _ _ law_peek law_test_by
 
   law_conj : LooksAhead (conj v)
   unfolding conj tests
-  law_conj = law_bind _ _ (law_separated k.And (test v) law_test) (λ all. law_pure _)
+  law_conj = law_bind _ _ (law_separated k.And (one_test v) law_test) (λ all. law_pure _)
 
   law_cond : LooksAhead (g.cond v)
   unfolding g.cond conjunctions

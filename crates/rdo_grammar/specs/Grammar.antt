@@ -271,12 +271,12 @@ module _ (level : Level) where
   test_by k.Any = any
   test_by _ = compare
 
-  unfoldable pub test : Parser Test
-  test = peek >>= test_by
+  unfoldable pub one_test : Parser Test
+  one_test = peek >>= test_by
 
   -- test { AND test }
   unfoldable pub tests : Parser (List Test)
-  tests = separated k.And test
+  tests = separated k.And one_test
 
   -- conj := test { AND test }
   unfoldable pub conj : Parser Conjunction
@@ -298,7 +298,7 @@ unfoldable mutual
 
   pub test_at : ℕ → Parser Test
   test_at zero = refuse
-  test_at (suc depth) = test (record { depth = depth; next_cond = cond_at depth; next_test = test_at depth; next_expr = expr_at depth })
+  test_at (suc depth) = one_test (record { depth = depth; next_cond = cond_at depth; next_test = test_at depth; next_expr = expr_at depth })
 
   pub expr_at : ℕ → Alone → Plain → Parser Expression
   expr_at zero alone plain = refuse

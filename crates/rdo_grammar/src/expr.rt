@@ -474,12 +474,12 @@ impl<
     }
 
     /// `test := NOT test | "(" cond ")" | ANY inner | compare`
-    #[tactic(auto, unfolding(crate::specs::Grammar::test))]
+    #[tactic(auto, unfolding(crate::specs::Grammar::one_test))]
     pub fn test(&self, tokens: &mut Tokens<'_>) -> Result<Test, Stop>
         requires cond { ParsesCond self.now.depth (C.pre self.now.cond) (C.post self.now.cond) }
         requires test { ParsesTest self.now.depth (T.pre self.now.test) (T.post self.now.test) }
         requires expr { ParsesExpr self.now.depth (E.pre self.now.expr) (E.post self.now.expr) }
-        ensures { Reads (spec.test (spec.level_at self.now.depth) tokens.old) result tokens.new }
+        ensures { Reads (spec.one_test (spec.level_at self.now.depth) tokens.old) result tokens.new }
     {
         match tokens.peek() {
             Kind::Not => self.negated(tokens),

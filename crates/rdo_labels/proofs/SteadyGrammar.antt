@@ -19,7 +19,7 @@ use Rattle.rdo_tokens.specs.declared.token.Kind.TheVariants as k
 use Rattle.rdo_tokens.specs.Lex.{Text, same_kind, max_number}
 use Rattle.rdo_tokens.specs.Input.{Parser, ◌>>=◌, pure, eat, sees, after, kind}
 use Rattle.rdo_grammar.specs.Grammar as g
-use Rattle.rdo_grammar.specs.Grammar.{Level, level_at, operation, chained, crossed, ranges, range, first, open_level, with, inner, count, statistic, minus, parenthesized, statistic_of, statistic_by, prim_by, prim, products_from, products, term_after, term, signed_term, sums_from, sums, expr_after, expr, expr_with, compared, between, compare_by, compare_op, compare_after, compare, negated, grouped, any, test_by, test, tests, conj, conjunctions, cond_at, test_at, expr_at, operator, ref_from, reference, assign, assigns_from, assigns, printed_ref, printed_name, printed_by, printed, order_by, order, key, keys, references, sorted, reduced, sorted_only, reduced_only, shape_by, shape, selection, store, modify, print, printed_list, point, begins_action, body_from, body, for_action, action_by, action, action_at}
+use Rattle.rdo_grammar.specs.Grammar.{Level, level_at, operation, chained, crossed, ranges, range, first, open_level, with, inner, count, statistic, minus, parenthesized, statistic_of, statistic_by, prim_by, prim, products_from, products, term_after, term, signed_term, sums_from, sums, expr_after, expr, expr_with, compared, between, compare_by, compare_op, compare_after, compare, negated, grouped, any, test_by, one_test, tests, conj, conjunctions, cond_at, test_at, expr_at, operator, ref_from, reference, assign, assigns_from, assigns, printed_ref, printed_name, printed_by, printed, order_by, order, key, keys, references, sorted, reduced, sorted_only, reduced_only, shape_by, shape, selection, store, modify, print, printed_list, point, begins_action, body_from, body, for_action, action_by, action, action_at}
 use Rattle.rdo_labels.proofs.Pairs.{Pair, Steady, Shrinks, pair_bind, pair_takes, pair_pure, pair_if, law_pure, law_refuse, law_bind, law_if, law_loop}
 use Rattle.rdo_labels.proofs.Steps.{law_peek, law_take, law_expect, law_name, law_eat, law_text, law_number, law_whole, law_separated, and_apart, or_apart, comma_apart, cross_apart, takes_refuse, takes_first, takes_peek, takes_if, takes_bind, takes_name, pair_peek, pair_eat}
 
@@ -191,13 +191,13 @@ module _ (v : Level) (lc : Steady v.next_cond) (lt : Steady v.next_test) (le : (
   law_test_by k.Any = law_bind _ _ law_open (λ _. law_bind _ _ (law_inner false) (λ x. law_pure (t.Any x)))
   law_test_by _ = law_compare
 
-  law_test : Steady (test v)
-  unfolding test
+  law_test : Steady (one_test v)
+  unfolding one_test
   law_test = law_bind _ _ law_peek law_test_by
 
   law_conj : Steady (conj v)
   unfolding conj tests
-  law_conj = law_bind _ _ (law_separated k.And and_apart (test v) law_test) (λ all. law_pure _)
+  law_conj = law_bind _ _ (law_separated k.And and_apart (one_test v) law_test) (λ all. law_pure _)
 
   law_cond : Steady (g.cond v)
   unfolding g.cond conjunctions

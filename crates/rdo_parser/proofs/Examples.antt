@@ -26,7 +26,7 @@ use Rattle.rdo_ast.specs.declared.syntax.Item.{Item}
 use Rattle.rdo_ast.specs.declared.syntax.Item.TheVariants as i
 use Rattle.rdo_tokens.specs.Lex.{Text, word_kind, text_value, symbol, token, tokens, same_kind}
 use Rattle.rdo_tokens.specs.Input.{kind, spelling, next, left, sees, after, expect, upper, name, same_name, text, number_value, number, whole_number, more_from, separated}
-use Rattle.rdo_grammar.specs.Grammar.{ref_from, reference, range, crossed, ranges, first, open_level, with, inner, count, statistic, minus, parenthesized, statistic_by, prim, products_from, products, term_after, term, signed_term, sums_from, sums, expr_after, expr, expr_with, compared, between, compare_after, compare, negated, grouped, any, test, tests, conj, conjunctions, cond, cond_at, test_at, expr_at, assign, assigns_from, assigns, printed_ref, printed_name, printed, order, key, keys, references, sorted, reduced, sorted_only, reduced_only, shape, selection, printed_list, point, store, modify, print, body_from, body, for_action, action, action_at}
+use Rattle.rdo_grammar.specs.Grammar.{ref_from, reference, range, crossed, ranges, first, open_level, with, inner, count, statistic, minus, parenthesized, statistic_by, prim, products_from, products, term_after, term, signed_term, sums_from, sums, expr_after, expr, expr_with, compared, between, compare_after, compare, negated, grouped, any, one_test, tests, conj, conjunctions, cond, cond_at, test_at, expr_at, assign, assigns_from, assigns, printed_ref, printed_name, printed, order, key, keys, references, sorted, reduced, sorted_only, reduced_only, shape, selection, printed_list, point, store, modify, print, body_from, body, for_action, action, action_at}
 use Rattle.rdo_parser.specs.Statements.{share_mode, writes, reservation, reservations, wait, reserving, read_write, start_transaction, integer_type, scale, text_type, signed_type, field_type, field_kind, field_definition, pointed_field, fields_from, fields, define_relation, duplicates, index_type, pointed_name, index_fields_from, index_fields, index_head, define_index, define_field, define, delete, invoke, statement, pointed}
 use Rattle.rdo_parser.specs.Script.{parsed_at, syntax_at, next_statement, item_at, items_from, script_items}
 
@@ -117,5 +117,5 @@ items =
     (i.Statement (s.DefineIndex (record { name = codes "I"; relation = codes "T"; unique = true; fields = codes "A" ∷ codes "B" ∷ [] })) ∷ i.SyntaxAt 2 47 ∷ []) ∷ []
 
 items_of_texts : map script_items texts ≡ items
-unfolding texts items word_kind text_value symbol token tokens same_kind kind spelling next left sees after expect upper name same_name text number_value number whole_number more_from separated ref_from reference range crossed ranges first open_level with inner count statistic minus parenthesized statistic_by prim products_from products term_after term signed_term sums_from sums expr_after expr expr_with compared between compare_after compare negated grouped any test tests conj conjunctions cond cond_at test_at expr_at assign assigns_from assigns printed_ref printed_name printed order key keys references sorted reduced sorted_only reduced_only shape selection printed_list point store modify print body_from body for_action action action_at share_mode writes reservation reservations wait reserving read_write start_transaction integer_type scale text_type signed_type field_type field_kind field_definition pointed_field fields_from fields define_relation duplicates index_type pointed_name index_fields_from index_fields index_head define_index define_field define delete invoke statement pointed parsed_at syntax_at next_statement item_at items_from
+unfolding texts items word_kind text_value symbol token tokens same_kind kind spelling next left sees after expect upper name same_name text number_value number whole_number more_from separated ref_from reference range crossed ranges first open_level with inner count statistic minus parenthesized statistic_by prim products_from products term_after term signed_term sums_from sums expr_after expr expr_with compared between compare_after compare negated grouped any one_test tests conj conjunctions cond cond_at test_at expr_at assign assigns_from assigns printed_ref printed_name printed order key keys references sorted reduced sorted_only reduced_only shape selection printed_list point store modify print body_from body for_action action action_at share_mode writes reservation reservations wait reserving read_write start_transaction integer_type scale text_type signed_type field_type field_kind field_definition pointed_field fields_from fields define_relation duplicates index_type pointed_name index_fields_from index_fields index_head define_index define_field define delete invoke statement pointed parsed_at syntax_at next_statement item_at items_from
 items_of_texts = refl
