@@ -2,7 +2,7 @@
 use case_words::{put_bytes, put_key};
 use line_view::{Need, Seen};
 use rdb_types::Dbkey;
-use sorted_index::IndexStop;
+use sorted_index::{Duplicate, IndexStop};
 
 /// Writes the line of an answer.
 pub fn tell(rt: &HostRuntime, answer: &str) {
@@ -56,7 +56,7 @@ fn tell_need(rt: &HostRuntime, need: Need) {
 pub fn tell_stop(rt: &HostRuntime, stop: IndexStop) {
     match stop {
         IndexStop::Missing(need) => tell_need(rt, need),
-        IndexStop::Duplicate => tell(rt, "duplicate"),
+        IndexStop::Own(Duplicate {}) => tell(rt, "duplicate"),
         IndexStop::Bad(key) => tell_keys(rt, "bad line", &[key]),
         IndexStop::NoMemory => tell(rt, "NO MEMORY"),
     }
