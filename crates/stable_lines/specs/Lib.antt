@@ -1,0 +1,11 @@
+pub mod Slots
+pub mod Journal
+pub mod Image
+pub mod Kept
+pub mod Progress
+pub mod Facts
+pub mod Steps
+pub mod Opening
+pub mod Written
+pub mod History
+pub mod Rolling

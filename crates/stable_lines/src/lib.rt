@@ -1,0 +1,8 @@
+//! What the images of a disk stand for, and the facts on the pending contents of its slots from which it follows.
+#![tactic(auto)]
+
+mod laws;
+mod steps;
+
+pub use laws::{each_image_stands, new_is_kept, one_journal, one_map, opening_finds};
+pub use steps::{a_barrier_gains, a_write_keeps_the_facts, beginnings_keep_the_facts};
