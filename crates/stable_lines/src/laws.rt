@@ -1,7 +1,7 @@
 // What follows from the definitions and from the facts.
 ghost use Rattle.std.specs.Prelude.{◌≡◌, ℕ, List, [], Option};
 ghost use Rattle.rdb_types.specs.declared.keys.Limits.{Limits};
-ghost use Rattle.rdb_outside.specs.Disk.{Image, LeftNow, Pending, IsStable, Keeps as Reads};
+ghost use Rattle.rdb_outside.specs.Disk.{Image, LeftNow, Pending, IsStable};
 ghost use Rattle.journal_scan.specs.declared.group.Group.{Group};
 ghost use Rattle.new_database.specs.New.{IsNewDatabase};
 ghost use Rattle.line_view.specs.Knowledge.{Lines};

@@ -1,5 +1,5 @@
 // Each step keeps the facts: a slot written, a barrier that answered Ok.
-ghost use Rattle.std.specs.Prelude.{◌≡◌, ◌≢◌, ◌≤◌, ◌<◌, ◌+◌, ◌-◌, ℕ, List, length, slice_get, Option, Some, None};
+ghost use Rattle.std.specs.Prelude.{◌≡◌, ◌≢◌, ◌≤◌, ◌<◌, ◌+◌, ◌-◌, ℕ, List, length, slice_get, Some, None};
 ghost use Rattle.rdb_types.specs.declared.file.FileId.{FileId};
 ghost use Rattle.rdb_types.specs.declared.file.FileKind.TheVariants.{Root as RootKind, Area, Ruj, Aij};
 ghost use Rattle.rdb_outside.specs.Disk.{Adds, Pending, IsStable};
