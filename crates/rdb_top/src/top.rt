@@ -299,6 +299,9 @@ where
     ensures unread { (result.status ≡ 2) ⊎ (result.status ≡ 10) → result.account.events ≡ [] }
     // The statuses of scripts.
     ensures statuses { (given : GivenScripts) → command_for words.now ≡ Some (Command.Rdo given) → is_script_status result.status ≡ true }
+    // The statuses of NEW.
+    ensures new_statuses { (limits : Limits) → command_for words.now ≡ Some (Command.New limits) →
+        (result.status ≡ 0) ⊎ (result.status ≡ 3) ⊎ (result.status ≡ 9) }
 {
     match command_of(words) {
         None => ended_with(alloc, unsaid(alloc, 1), disk),
