@@ -214,21 +214,21 @@ expression_begins (statistic of.Total x r) = (refl, refl)
 expression_begins (statistic of.Minimum x r) = (refl, refl)
 expression_begins (statistic of.Maximum x r) = (refl, refl)
 
-test_compares : (level : Level) (ws vs : List Spelled) → ComparesFrom ws → BeginsNoTest ws → (behind : ℕ) (other : Input) → g.test level (labelled (ws ++ vs) behind other) ≡ g.compare level (labelled (ws ++ vs) behind other)
-unfolding g.test kind
+test_compares : (level : Level) (ws vs : List Spelled) → ComparesFrom ws → BeginsNoTest ws → (behind : ℕ) (other : Input) → g.one_test level (labelled (ws ++ vs) behind other) ≡ g.compare level (labelled (ws ++ vs) behind other)
+unfolding g.one_test kind
 test_compares level [] vs c b behind other = absurd c
 test_compares level (w ∷ ws) vs c b behind other = rw (compares level w.kind b.0 c b.1) refl
 
 -- a left operand, before what is compared with it
 left_read : (a : Expression) → ReadsWell a → (levels : ℕ) → FitsExpression a levels false → ComparesFrom (expression_words a) → (vs : List Spelled) (behind : ℕ) (other : Input) →
-    AfterCondition (kind (labelled vs behind other)) → g.test (level_at levels) (labelled (expression_words a ++ vs) behind other) ≡ compare_after (level_at levels) (built a) (labelled vs behind other)
+    AfterCondition (kind (labelled vs behind other)) → g.one_test (level_at levels) (labelled (expression_words a ++ vs) behind other) ≡ compare_after (level_at levels) (built a) (labelled vs behind other)
 unfolding g.compare
 left_read a h levels fits from vs behind other f =
     test_compares (level_at levels) (expression_words a) vs from (expression_begins a) behind other
     ∙ rw (in_front (expr (level_at levels) false) (expression_words a) (built a) (Behind (is_open a) AfterExpr) (whole_of a h levels false fits) vs behind other (after_literal (kind (labelled vs behind other)) f (is_open a))) refl
 
 abbrev pub TestRead : Testing → Type 0
-TestRead t = (levels : ℕ) (last : Bool) → FitsTest t levels last → Reads (g.test (level_at levels)) (test_words t) (built_test t) (Behind last AfterExpr)
+TestRead t = (levels : ℕ) (last : Bool) → FitsTest t levels last → Reads (g.one_test (level_at levels)) (test_words t) (built_test t) (Behind last AfterExpr)
 
 closed_after : (last : Bool) (kind : Kind) → Behind last AfterExpr kind → AfterExpr kind
 closed_after true kind a = a.0
@@ -272,7 +272,7 @@ any_after false true kind ends a = false-true ends
 any_after false false kind ends a = a.0.0
 
 pub any_read : (r : Ranging) → RangingRead r → TestRead (any r)
-unfolding g.test any_inner kind same_kind
+unfolding g.one_test any_inner kind same_kind
 any_read r h zero last fits = absurd fits.1
 any_read r h (suc levels) last fits = λ behind other a.
     let e = h levels false tt fits.1 behind other (any_after last (has_condition r) (kind other) fits.0 a) in
@@ -280,7 +280,7 @@ any_read r h (suc levels) last fits = λ behind other a.
     rw o (rw e refl)
 
 pub negated_read : (t : Testing) → TestRead t → TestRead (negated t)
-unfolding g.test negated_test test_at kind same_kind
+unfolding g.one_test negated_test test_at kind same_kind
 negated_read t h zero last fits = absurd fits
 negated_read t h (suc levels) last fits = λ behind other a.
     let e = h levels last fits behind other a in
@@ -288,7 +288,7 @@ negated_read t h (suc levels) last fits = λ behind other a.
     rw o (rw e refl)
 
 pub group_read : (c : Condition) → ConditionRead c → TestRead (group c)
-unfolding g.test grouped cond_at kind same_kind expect sees next
+unfolding g.one_test grouped cond_at kind same_kind expect sees next
 group_read c h zero last fits = absurd fits
 group_read c h (suc levels) last fits = λ behind other a.
     let e = in_front (g.cond (level_at levels)) (condition_words c) (built_condition c) AfterCondition (h levels fits) (word k.Close ∷ []) behind other ((((refl, refl), refl), refl, refl), refl, refl) in
@@ -310,7 +310,7 @@ after_test false (test t ts) behind other a = (((refl, refl), refl), refl, refl)
 
 abbrev pub TestsRead : Conjunction → Type 0
 TestsRead ts = (levels : ℕ) (last : Bool) → FitsTests ts levels last → (turns : ℕ) (found : List declared_test.Test) (behind : ℕ) (other : Input) → length (built_tests ts) ≤ turns → AfterConjunction last (kind other) →
-    more_from k.And (g.test (level_at levels)) turns found (labelled (tests_words ts) behind other) ≡ Ok (found ++ built_tests ts, other)
+    more_from k.And (g.one_test (level_at levels)) turns found (labelled (tests_words ts) behind other) ≡ Ok (found ++ built_tests ts, other)
 
 pub no_more_tests : TestsRead no_test
 unfolding more_from sees after kind
@@ -321,7 +321,7 @@ pub more_tests : (t : Testing) (ts : Conjunction) → TestRead t → TestsRead t
 unfolding more_from sees after kind next same_kind
 more_tests t ts h more levels last fits zero found behind other l a = absurd (omega arith)
 more_tests t ts h more levels last fits (suc turns) found behind other l a =
-    let one = in_front (g.test (level_at levels)) (test_words t) (built_test t) (Behind (last && is_last_test ts) AfterExpr) (h levels (last && is_last_test ts) fits.0) (tests_words ts) behind other (after_test last ts behind other a) in
+    let one = in_front (g.one_test (level_at levels)) (test_words t) (built_test t) (Behind (last && is_last_test ts) AfterExpr) (h levels (last && is_last_test ts) fits.0) (tests_words ts) behind other (after_test last ts behind other a) in
     let l2 : length (built_tests ts) ≤ turns = omega arith in
     rw one (more levels last fits.1 turns (found ++ built_test t ∷ []) behind other l2 a ∙ ap (λ (v : List declared_test.Test). Ok (v, other)) (append_assoc found (built_test t ∷ []) (built_tests ts)))
 
@@ -344,7 +344,7 @@ ConjunctionRead c = (levels : ℕ) (last : Bool) → FitsConjunction c levels la
 pub conjunction_read : (t : Testing) (ts : Conjunction) → TestRead t → TestsRead ts → ConjunctionRead (test t ts)
 unfolding conj tests separated
 conjunction_read t ts h more levels last fits behind other a =
-    let one = in_front (g.test (level_at levels)) (test_words t) (built_test t) (Behind (last && is_last_test ts) AfterExpr) (h levels (last && is_last_test ts) fits.0) (tests_words ts) behind other (after_test last ts behind other a) in
+    let one = in_front (g.one_test (level_at levels)) (test_words t) (built_test t) (Behind (last && is_last_test ts) AfterExpr) (h levels (last && is_last_test ts) fits.0) (tests_words ts) behind other (after_test last ts behind other a) in
     let all = more levels last fits.1 (left (labelled (tests_words ts) behind other)) (built_test t ∷ []) behind other (test_turns_left ts behind other) a in
     rw one (rw all refl)
 
