@@ -66,20 +66,6 @@ fn status_of<
     Ok(finish.status)
 }
 
-/// What a status says, as README's table has it.
-fn meaning_of(status: u8) -> &'static str {
-    match status {
-        1 => "the words are in no row of the table",
-        2 => "a script couldn't be read",
-        3 => "a file couldn't be read, written or made stable",
-        5 => "no memory",
-        6 => "the output couldn't be written",
-        9 => "there is a database already",
-        10 => "a script is too long",
-        _ => "done",
-    }
-}
-
 fn main(rt: HostRuntime) -> ExitCode {
     let status = match words_of(&rt, rt.alloc()) {
         Err(_) => 5,
@@ -94,10 +80,8 @@ fn main(rt: HostRuntime) -> ExitCode {
             },
         },
     };
-    // 7 and 8 are told on the output itself, by commands that come later.
     if status != 0 && status != 7 && status != 8 {
-        let meaning = meaning_of(status);
-        let _ = eprintln!(&rt; "rdb: status {status} ({meaning})");
+        let _ = eprintln!(&rt; "rdb: status {status}");
     }
     ExitCode::from(status)
 }
