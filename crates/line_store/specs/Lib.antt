@@ -1,0 +1,4 @@
+pub mod Seats
+pub mod Shelves
+pub mod Rooms
+pub mod Calls

@@ -1,0 +1,110 @@
+-- Where a session stands with its store of lines.
+use Rattle.std.specs.Prelude.{◌≡◌, ◌≤◌, ◌+◌, ◌||◌, ℕ, Bool, true, false, if◌then◌else◌, List, [], ◌∷◌, Option, Some, None}
+use Rattle.std.specs.List.{list_any}
+use Rattle.std.specs.Ordering.{is_eq}
+use Rattle.rdb_types.specs.declared.keys.Dbkey.{Dbkey}
+use Rattle.rdb_types.specs.Order.{dbkey_order}
+use Rattle.line_view.specs.declared.writes.Write.{Write}
+use Rattle.line_view.specs.Knowledge.{Lines, IsInOrder}
+use Rattle.line_view.specs.Writes.{laid_all}
+
+-- A session has no transaction open, a read-write one with what it wrote, or a read-only one with the lines that were committed at its start. Beside that stands what is under way for it.
+pub data Seat : Type 0 where
+  outside : Seat
+  -- a read-write transaction begins
+  beginning : Seat
+  writing : List Write → Seat
+  -- the last statement's writes, which are among these, are laid
+  changing : List Write → Seat
+  committing : List Write → Seat
+  rolling_back : List Write → Seat
+  -- the transaction is committed, and what its commit left is put away
+  closing : Seat
+  reading : Lines → Seat
+  -- it died with these writes, and awaits its recovery. Whether its commit was under way
+  dead : Bool → List Write → Seat
+
+-- sessions are numbered from 1 to 16
+pub record IsMember (s : ℕ) : Type 0 where
+  pub first : 1 ≤ s
+  pub last : s ≤ 16
+
+abbrev pub writes_of : Seat → List Write
+writes_of (writing ws) = ws
+writes_of (changing ws) = ws
+writes_of (committing ws) = ws
+writes_of (rolling_back ws) = ws
+writes_of (dead commits ws) = ws
+writes_of _ = []
+
+-- ---- which calls a seat allows
+
+abbrev pub IsWriting : Seat → Type 0
+IsWriting (writing ws) = Unit {0}
+IsWriting _ = ⊥
+
+abbrev pub IsReader : Seat → Type 0
+IsReader (reading start) = Unit {0}
+IsReader _ = ⊥
+
+-- a transaction is open, and nothing is under way
+abbrev pub IsAtRest : Seat → Type 0
+IsAtRest (writing ws) = Unit {0}
+IsAtRest (reading start) = Unit {0}
+IsAtRest _ = ⊥
+
+abbrev pub IsUnderWay : Seat → Type 0
+IsUnderWay outside = ⊥
+IsUnderWay (writing ws) = ⊥
+IsUnderWay (reading start) = ⊥
+IsUnderWay _ = Unit {0}
+
+abbrev pub IsAlive : Seat → Type 0
+IsAlive (dead commits ws) = ⊥
+IsAlive _ = Unit {0}
+
+abbrev pub is_committing : Seat → Bool
+is_committing (committing ws) = true
+is_committing _ = false
+
+-- the writes of a commit that is under way, also of one that has died
+abbrev pub in_flight : Seat → Option (List Write)
+in_flight (committing ws) = Some ws
+in_flight (dead true ws) = Some ws
+in_flight _ = None
+
+-- ---- what a call makes of a seat
+
+abbrev pub committing_by : Seat → Seat
+committing_by (writing ws) = committing ws
+committing_by seat = seat
+
+abbrev pub rolled_back : Seat → Seat
+rolled_back (writing ws) = rolling_back ws
+rolled_back seat = seat
+
+abbrev pub died : Seat → Seat
+died seat = dead (is_committing seat) (writes_of seat)
+
+-- the seat behind what is under way, where that is told to be done
+abbrev pub done_at : Seat → Option Seat
+done_at beginning = Some (writing [])
+done_at (changing ws) = Some (writing ws)
+done_at (rolling_back ws) = Some outside
+done_at closing = Some outside
+done_at _ = None
+
+-- ---- writes
+
+abbrev pub is_written : Dbkey → List Write → Bool
+is_written key ws = list_any (λ w. is_eq (dbkey_order key w.key)) ws
+
+-- how many lines are written
+abbrev pub lines_written : List Write → ℕ
+lines_written [] = 0
+lines_written (w ∷ ws) = (if is_written w.key ws then 0 else 1) + lines_written ws
+
+-- These are the writes before, and behind them more: over each map they come to the same, and they are on the same lines.
+pub record Adds (more before behind : List Write) : Type 0 where
+  pub laid : (all : Lines) → IsInOrder all → laid_all behind all ≡ laid_all more (laid_all before all)
+  pub keys : (key : Dbkey) → is_written key behind ≡ (is_written key before || is_written key more)

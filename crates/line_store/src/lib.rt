@@ -1,0 +1,9 @@
+//! The store of lines that sessions stand on, as a trait. Who keeps lines in memory or on a disk implements it; who steps sessions
+//! stands on the trait alone.
+#![tactic(auto)]
+
+mod answers;
+mod store;
+
+pub use answers::{ChangeStop, CommitStop, Fault, Progress, ReadStop, Stepped};
+pub use store::LineStore;
