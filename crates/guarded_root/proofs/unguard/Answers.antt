@@ -1,0 +1,56 @@
+use Rattle.std.proofs.Common.{IsTrue, sym, subst, refl, inl, arith}
+use Rattle.rdb_outside.specs.Moments.{each_slot}
+use Rattle.new_database.specs.Maker.{root_file}
+use Rattle.guarded_root.specs.Guarded.{InOrEnd, IsRootIn}
+use Rattle.guarded_root.proofs.Stages.{begins, call, keeps_guarded, in_state, ending, in_or_end, ended}
+use Rattle.guarded_root.proofs.unguard.Goals as goal
+
+pub returns-in_err-barrier-clause-any_moment : goal.returns-in_err-barrier-clause-any_moment
+returns-in_err-barrier-clause-any_moment g c = λ state t guarded.
+    let v = g.D.Disk.view in let old = v c.args.disk.now in
+    let P = InOrEnd state old.content c.args.root.now in
+    let first = begins P old t (λ image left. inl (in_state state old guarded image left)) in
+    let second = call P old old (v c.barrier.new.self) c.barrier.result t first c.barrier.ensures.counts (λ image left. inl (in_state state (v c.barrier.new.self) (keeps_guarded state old (v c.barrier.new.self) (c.barrier.ensures.kept t) guarded) image left)) in
+    second.leaves
+
+pub returns-in_err-write-clause-any_moment : goal.returns-in_err-write-clause-any_moment
+returns-in_err-write-clause-any_moment g c = λ state t guarded.
+    let v = g.D.Disk.view in let old = v c.args.disk.now in
+    let P = InOrEnd state old.content c.args.root.now in
+    let first = begins P old t (λ image left. inl (in_state state old guarded image left)) in
+    let second = call P old old (v c.barrier.new.self) c.barrier.result t first c.barrier.ensures.counts (λ image left. inl (in_state state (v c.barrier.new.self) (keeps_guarded state old (v c.barrier.new.self) (c.barrier.ensures.kept t) guarded) image left)) in
+    let there : IsRootIn state (old.content root_file 0) = guarded (old.content root_file 0) (each_slot old old.content (g.met.D.Disk.content_left c.args.disk.now old.moment t (omega arith)) root_file 0) in
+    let on_its_way = ending old.content c.put_root.new.slot (v c.barrier.new.self) (v c.write.new.self) (λ f i. (c.barrier.ensures.kept t).content f i) (c.in_ok-barrier.ensures.stable t) (c.write.ensures.pending second.tells) in
+    let third = call P old (v c.barrier.new.self) (v c.write.new.self) c.write.result t second c.write.ensures.counts (in_or_end state old.content c.put_root.new.slot c.args.root.now (v c.write.new.self) c.put_root.ensures there on_its_way) in
+    third.leaves
+
+pub returns-in_err-barrier-2-clause-any_moment : goal.returns-in_err-barrier-2-clause-any_moment
+returns-in_err-barrier-2-clause-any_moment g c = λ state t guarded.
+    let v = g.D.Disk.view in let old = v c.args.disk.now in
+    let P = InOrEnd state old.content c.args.root.now in
+    let first = begins P old t (λ image left. inl (in_state state old guarded image left)) in
+    let second = call P old old (v c.barrier.new.self) c.barrier.result t first c.barrier.ensures.counts (λ image left. inl (in_state state (v c.barrier.new.self) (keeps_guarded state old (v c.barrier.new.self) (c.barrier.ensures.kept t) guarded) image left)) in
+    let there : IsRootIn state (old.content root_file 0) = guarded (old.content root_file 0) (each_slot old old.content (g.met.D.Disk.content_left c.args.disk.now old.moment t (omega arith)) root_file 0) in
+    let on_its_way = ending old.content c.put_root.new.slot (v c.barrier.new.self) (v c.write.new.self) (λ f i. (c.barrier.ensures.kept t).content f i) (c.in_ok-barrier.ensures.stable t) (c.write.ensures.pending second.tells) in
+    let third = call P old (v c.barrier.new.self) (v c.write.new.self) c.write.result t second c.write.ensures.counts (in_or_end state old.content c.put_root.new.slot c.args.root.now (v c.write.new.self) c.put_root.ensures there on_its_way) in
+    let fourth = call P old (v c.write.new.self) (v c.barrier-2.new.self) c.barrier-2.result t third c.barrier-2.ensures.counts (in_or_end state old.content c.put_root.new.slot c.args.root.now (v c.barrier-2.new.self) c.put_root.ensures there (λ f i x p. on_its_way f i x ((c.barrier-2.ensures.kept third.tells).pending f i x p))) in
+    fourth.leaves
+
+pub returns-clause-ended : goal.returns-clause-ended
+returns-clause-ended g c = λ t image left.
+    let v = g.D.Disk.view in let old = v c.args.disk.now in
+    let now = subst (λ b. IsTrue b) (sym c.barrier.ensures.counts.told) t in
+    let later = subst (λ b. IsTrue b) (sym c.write.ensures.counts.told) now in
+    ended old.content c.put_root.new.slot c.args.root.now old (v c.barrier.new.self) (v c.write.new.self) (v c.barrier-2.new.self) c.put_root.ensures (c.barrier.ensures.kept t) (λ f i. refl) (c.in_ok-write.ensures.written now) (c.barrier-2.ensures.kept later) (c.in_ok-barrier-2.ensures.stable later) image left
+
+pub returns-clause-any_moment : goal.returns-clause-any_moment
+returns-clause-any_moment g c = λ state t guarded.
+    let v = g.D.Disk.view in let old = v c.args.disk.now in
+    let P = InOrEnd state old.content c.args.root.now in
+    let first = begins P old t (λ image left. inl (in_state state old guarded image left)) in
+    let second = call P old old (v c.barrier.new.self) c.barrier.result t first c.barrier.ensures.counts (λ image left. inl (in_state state (v c.barrier.new.self) (keeps_guarded state old (v c.barrier.new.self) (c.barrier.ensures.kept t) guarded) image left)) in
+    let there : IsRootIn state (old.content root_file 0) = guarded (old.content root_file 0) (each_slot old old.content (g.met.D.Disk.content_left c.args.disk.now old.moment t (omega arith)) root_file 0) in
+    let on_its_way = ending old.content c.put_root.new.slot (v c.barrier.new.self) (v c.write.new.self) (λ f i. (c.barrier.ensures.kept t).content f i) (c.in_ok-barrier.ensures.stable t) (c.write.ensures.pending second.tells) in
+    let third = call P old (v c.barrier.new.self) (v c.write.new.self) c.write.result t second c.write.ensures.counts (in_or_end state old.content c.put_root.new.slot c.args.root.now (v c.write.new.self) c.put_root.ensures there on_its_way) in
+    let fourth = call P old (v c.write.new.self) (v c.barrier-2.new.self) c.barrier-2.result t third c.barrier-2.ensures.counts (in_or_end state old.content c.put_root.new.slot c.args.root.now (v c.barrier-2.new.self) c.put_root.ensures there (λ f i x p. on_its_way f i x ((c.barrier-2.ensures.kept third.tells).pending f i x p))) in
+    fourth.leaves
