@@ -1,0 +1,12 @@
+pub mod Frame
+pub mod Common
+pub mod Kept
+pub mod Taking
+pub mod Saying
+pub mod Wants
+pub mod Starting
+pub mod Outside
+pub mod Ending
+pub mod Reading
+pub mod Dying
+pub mod Crashes

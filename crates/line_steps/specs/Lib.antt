@@ -1,0 +1,4 @@
+pub mod Members
+pub mod Right
+pub mod Steps
+pub mod Images
