@@ -18,7 +18,8 @@ use Rattle.rdb_tables.specs.declared.told.Told.{Told}
 use Rattle.rdb_tables.specs.declared.stop.Stop.{Stop}
 use Rattle.rdb_tables.specs.declared.stop.Stop.TheVariants as stop
 use Rattle.rdb_tables.specs.Stages.{stage, Goes, Runs, refusing}
-use Rattle.rdb_tables.specs.Answers.{Answers, Tells, reply_to}
+use Rattle.rdb_tables.specs.Answers.{Answers, Says, Tells, TakesFirst, reply_to}
+use Rattle.rdb_tables.specs.Redefining.{Redefines}
 use Rattle.rdb_tables.specs.declared.undo.Undo.{Undo}
 use Rattle.rdb_tables.specs.declared.work.Work.{Work}
 use Rattle.rdb_tables.specs.Undoing.{beginning}
@@ -120,23 +121,23 @@ usual_answer (Err e) end lines h = tt
 pub does_so : (m : List Dbkey → Meaning) (choices : List Dbkey) (d : Told) (t : Tables) → Tells m choices d t → m d.taken ≡ means d.reply t d.standing []
 does_so m choices d t tells = ap m (sym (append-nil d.taken)) ∙ tells.means []
 
-pub chosen_so : (m : List Dbkey → Meaning) (choices : List Dbkey) (d : Told) (t : Tables) → Tells m choices d t → (reply : Reply) (t' : Tables) (s : Standing) → m choices ≡ means reply t' s [] → d.taken ≡ choices
-chosen_so m choices d t tells reply t' s e =
-    elim tells.follows [
-      | inl none ↦ absurd (cc)
-      | inr found ↦
-          let (more, is) = found in
-          let ends : means d.reply t d.standing more ≡ means reply t' s [] = sym (tells.means more) ∙ ap m (sym is) ∙ e in
-          let nothing : more ≡ [] = cc in
-          sym (is ∙ ap (λ ks. d.taken ++ ks) nothing ∙ append-nil d.taken)
-    ]
+pub takes_nothing : (m : Meaning) (choices taken : List Dbkey) → taken ≡ [] → TakesFirst m choices taken
+takes_nothing m choices taken none = inr (choices, ap (λ (ks : List Dbkey). ks ++ choices) (sym none))
+
+pub says_first : (res : Result Told NoMemory) (m : List Dbkey → Meaning) (t : Tables) (whole : Meaning) (choices : List Dbkey) → Says res m t → IfOk res (λ d. TakesFirst whole choices d.taken)
+says_first (Ok d) m t whole choices says = takes_nothing whole choices d.taken says.1
+says_first (Err e) m t whole choices says = tt
+
+pub redefines_first : (res : Result Told NoMemory) (m : List Dbkey → Meaning) (old new : Tables) (whole : Meaning) (choices : List Dbkey) → Redefines res m old new → IfOk res (λ d. TakesFirst whole choices d.taken)
+redefines_first (Ok d) m old new whole choices says = takes_nothing whole choices d.taken says.1
+redefines_first (Err e) m old new whole choices says = tt
 
 pub does_act : (res : Result Told NoMemory) (word : List ℕ) (s : Standing) (u : Uttered) (a : Act) (choices : List Dbkey) (t t' : Tables) → u ≡ said (perform a) → Answers res (λ ks. act_meaning a s ks t) choices t' → IfOk res (λ d. Does word s u d.taken t d.reply t' d.standing)
 does_act (Ok d) word s u a choices t t' is tells = ap (λ (x : Uttered). meaning word s x d.taken t) is ∙ does_so (λ ks. act_meaning a s ks t) choices d t' tells
 does_act (Err e) word s u a choices t t' is tells = tt
 
-pub chosen_act : (res : Result Told NoMemory) (word : List ℕ) (s : Standing) (u : Uttered) (a : Act) (choices : List Dbkey) (t t' : Tables) → u ≡ said (perform a) → Answers res (λ ks. act_meaning a s ks t) choices t' → IfOk res (λ d. (reply : Reply) (t'' : Tables) (s' : Standing) → meaning word s u choices t ≡ means reply t'' s' [] → d.taken ≡ choices)
-chosen_act (Ok d) word s u a choices t t' is tells = λ reply t'' s' e. chosen_so (λ ks. act_meaning a s ks t) choices d t' tells reply t'' s' (sym (ap (λ (x : Uttered). meaning word s x choices t) is) ∙ e)
+pub chosen_act : (res : Result Told NoMemory) (word : List ℕ) (s : Standing) (u : Uttered) (a : Act) (choices : List Dbkey) (t t' : Tables) → u ≡ said (perform a) → Answers res (λ ks. act_meaning a s ks t) choices t' → IfOk res (λ d. TakesFirst (meaning word s u choices t) choices d.taken)
+chosen_act (Ok d) word s u a choices t t' is tells = subst (λ (x : Uttered). TakesFirst (meaning word s x choices t) choices d.taken) (sym is) tells.follows
 chosen_act (Err e) word s u a choices t t' is tells = tt
 
 -- an action that is refused before it is done

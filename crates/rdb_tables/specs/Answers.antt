@@ -52,10 +52,14 @@ abbrev pub Says : Result Told NoMemory → (List Dbkey → Meaning) → Tables �
 Says (Ok d) m t = ((left : List Dbkey) → m left ≡ means d.reply t d.standing left) × (d.taken ≡ [])
 Says (Err e) m t = Unit {0}
 
+-- Choices are taken first: those that were to be given are the taken ones and then others, which no row was given; or the statement has no meaning with them.
+abbrev pub TakesFirst : Meaning → List Dbkey → List Dbkey → Type 0
+TakesFirst m choices taken = (m ≡ meaningless) ⊎ ((more : List Dbkey) × (choices ≡ taken ++ more))
+
 -- The answer is the meaning where the rows are given the Dbkeys that it took, whatever others are left; those that were to be chosen are among these, or the statement has no meaning with them.
 pub record Tells (m : List Dbkey → Meaning) (choices : List Dbkey) (d : Told) (t : Tables) : Type 0 where
   pub means : (left : List Dbkey) → m (d.taken ++ left) ≡ means d.reply t d.standing left
-  pub follows : (m choices ≡ meaningless) ⊎ ((more : List Dbkey) × (choices ≡ d.taken ++ more))
+  pub follows : TakesFirst (m choices) choices d.taken
 
 abbrev pub Answers : Result Told NoMemory → (List Dbkey → Meaning) → List Dbkey → Tables → Type 0
 Answers (Ok d) m choices t = Tells m choices d t

@@ -136,6 +136,7 @@ fn redefine(
     standing: &Standing,
     statement: &Statement,
 ) -> Result<(), CheckStop>
+    requires { is_definition (command_of statement.now) ≡ true }
     ensures { Defines result (refusal_of (command_of statement.now) standing.now tables.old) tables.old tables.new (after_of (command_of statement.now) tables.old) }
 {
     match statement {
@@ -146,7 +147,7 @@ fn redefine(
         Statement::DefineIndex(definition) => new_index(tables, alloc, standing, definition),
         Statement::DeleteRelation(name) => no_relation(tables, alloc, standing, name),
         Statement::DeleteIndex(name) => no_index(tables, alloc, standing, name),
-        _ => Err(CheckStop::Memory),
+        _ => unreachable!(),
     }
 }
 

@@ -10,7 +10,7 @@ use crate::stop::Stop;
 use rdb_evaluation::value_of;
 use rdb_meaning::{Binding, Tables, binding_of};
 use rdb_types::{Chars, Field, Items, NoMemory, Printed, Scaled, Value};
-use rdo_arithmetic::scaled;
+use rdo_arithmetic::{Stop as EvaluationStop, scaled};
 use rdo_ast::syntax::PrintItem;
 use std::alloc::Global;
 
@@ -20,7 +20,8 @@ fn value_at(alloc: Global, field: &Field, row: &[Value], at: usize) -> Result<Sc
     match row.get(at) {
         Some(value) => match scaled(alloc, &field.kind, value) {
             Ok(scaled) => Ok(scaled),
-            Err(_) => Err(NoMemory {}),
+            Err(EvaluationStop::Memory) => Err(NoMemory {}),
+            Err(EvaluationStop::Overflow) => unreachable!(),
         },
         None => Ok(Scaled {
             value: Value::Missing,

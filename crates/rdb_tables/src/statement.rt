@@ -1,12 +1,11 @@
 //! Does an item of a script.
 ghost use Rattle.std.specs.Prelude.{◌≡◌, [], false, Some, IfOk, OnOk, OnErr};
-ghost use Rattle.rdo_ast.specs.declared.reply.Reply.{Reply};
 ghost use Rattle.rdo_ast.specs.declared.reply.Standing.{Standing};
 ghost use Rattle.rdo_ast.specs.Views.{act_of, uttered_of};
 ghost use Rattle.rdb_meaning.specs.declared.tables.Tables.{Tables};
-ghost use Rattle.rdb_meaning.specs.Meaning.{Does, act_meaning, meaning as meaning_of, means, standing_for};
+ghost use Rattle.rdb_meaning.specs.Meaning.{Does, act_meaning, meaning as meaning_of, standing_for};
 ghost use Rattle.rdb_meaning.specs.Usual.{is_refusal_of_means};
-ghost use Rattle.rdb_tables.specs.Answers.{Answers, reply_to};
+ghost use Rattle.rdb_tables.specs.Answers.{Answers, TakesFirst, reply_to};
 ghost use Rattle.rdb_tables.specs.Undoing.{beginning};
 
 use crate::definition::definition;
@@ -101,7 +100,7 @@ pub fn does(
     ensures meaning { IfOk result
         (λ d. Does word.now standing.now (uttered_of item.now) d.taken tables.old d.reply tables.new d.standing) }
     ensures chosen { IfOk result
-        (λ d. (r : Reply) (t : Tables) (s : Standing) → meaning_of word.now standing.now (uttered_of item.now) choices.now tables.old ≡ means r t s [] → d.taken ≡ choices.now) }
+        (λ d. TakesFirst (meaning_of word.now standing.now (uttered_of item.now) choices.now tables.old) choices.now d.taken) }
     ensures usual { IfOk result (λ d. is_refusal_of_means d.reply ≡ false) }
     ensures refused { OnErr result (tables.new ≡ tables.old) }
 {
@@ -121,6 +120,13 @@ pub fn does(
             | Statement::DeleteRelation(_)
             | Statement::DeleteIndex(_)),
         ) => definition(tables, alloc, word, standing, statement),
-        Item::Statement(statement) => transaction(alloc, tables, word, standing, statement),
+        Item::Statement(
+            statement @ (Statement::Invoke(_)
+            | Statement::StartReadOnly
+            | Statement::StartReadWrite { .. }
+            | Statement::Commit
+            | Statement::Rollback
+            | Statement::Finish),
+        ) => transaction(alloc, tables, word, standing, statement),
     }
 }

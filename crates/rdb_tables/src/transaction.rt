@@ -1,10 +1,11 @@
 //! Statements about the transaction and the database, which change no table.
-ghost use Rattle.std.specs.Prelude.{◌≡◌, [], false, IfOk};
+ghost use Rattle.std.specs.Prelude.{◌≡◌, [], true, false, IfOk};
 ghost use Rattle.std.specs.Str.{str_eq_ignore_ascii_case};
 ghost use Rattle.rdo_ast.specs.Views.{command_of};
 ghost use Rattle.rdb_meaning.specs.Meaning.{command_meaning, is_word, reserved_names};
 ghost use Rattle.rdb_meaning.specs.Usual.{is_refusal_of_means};
 ghost use Rattle.rdb_tables.specs.Answers.{Says, reply_or_done, closed_or};
+ghost use Rattle.rdb_tables.specs.Redefining.{leaves_tables};
 
 use crate::told::Told;
 use rdb_checks::{Stop as CheckStop, check_reserved_names};
@@ -14,7 +15,7 @@ use rdo_ast::reply::{Reply, Standing};
 use rdo_ast::syntax::{Reservations, Statement};
 use std::alloc::Global;
 
-/// Does a statement that changes no table: INVOKE, START_TRANSACTION, COMMIT, ROLLBACK and FINISH. Others are not done yet.
+/// Does a statement that changes no table: INVOKE, START_TRANSACTION, COMMIT, ROLLBACK and FINISH.
 #[tactic(auto, using(crate::proofs::Commands::invoke_means, crate::proofs::Commands::start_means))]
 pub fn transaction(
     alloc: Global,
@@ -23,6 +24,7 @@ pub fn transaction(
     standing: &Standing,
     statement: &Statement,
 ) -> Result<Told, NoMemory>
+    requires { leaves_tables (command_of statement.now) ≡ true }
     ensures meaning { Says result
         (λ ks. command_meaning word.now (command_of statement.now) standing.now ks tables.now) tables.now }
     ensures usual { IfOk result (λ d. is_refusal_of_means d.reply ≡ false) }
@@ -45,7 +47,7 @@ pub fn transaction(
             Standing::Closed => Ok(Told::done(alloc, Standing::Closed)),
             _ => in_transaction(alloc, standing),
         },
-        _ => Err(NoMemory {}),
+        _ => unreachable!(),
     }
 }
 
