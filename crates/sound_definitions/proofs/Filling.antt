@@ -1,10 +1,11 @@
 -- An index that isn't in the catalog yet is filled.
-use Rattle.std.proofs.Common.{◌≡◌, ℕ, cond, List, [], ◌∷◌, Some, None, refl, sym, ap, subst, ◌∙◌}
+use Rattle.std.proofs.Common.{◌≡◌, ℕ, cond, List, [], ◌∷◌, Some, None, refl, sym, ap, subst, ◌∙◌, true, ◌++◌}
 use Rattle.std.specs.List.{AllByRecursion}
-use Rattle.std.specs.Ordering.{is_eq}
+use Rattle.std.specs.declared.cmp.Ordering.TheVariants.{Less, Greater}
+use Rattle.std.specs.Ordering.{is_eq, is_lt, ordering_reverse}
 use Rattle.std.specs.Cmp.{tied_itself}
-use Rattle.std.specs.FinMap.Entries.{find, put}
-use Rattle.std.proofs.lemmas.Bool.{ne_eqb}
+use Rattle.std.specs.FinMap.Entries.{find, put, by_order, is_sorted, below_all}
+use Rattle.std.proofs.lemmas.Bool.{and_parts, ne_eqb}
 use Rattle.rdb_types.specs.declared.keys.Dbkey.{Dbkey}
 use Rattle.rdb_types.specs.Order.{dbkey_order}
 use Rattle.rdb_meaning.specs.declared.tables.Tables.{Tables}
@@ -25,6 +26,7 @@ use Rattle.sorted_index_laws.specs.Tree.{Tree, pairs, Bears}
 use Rattle.sorted_index_laws.specs.Changes.{pair_of, with_pair, Leaves}
 use Rattle.sorted_index_laws.proofs.Lines.{none_distinct, distinct_more}
 use Rattle.sound_lines.specs.Sound.{relation_in, IsSoundLine}
+use Rattle.sound_changes.proofs.Basics.{less}
 use Rattle.sound_changes.specs.Standing.{IsSoundAs}
 use Rattle.sound_definitions.specs.Apart.{IsNoIndexIn}
 use Rattle.sound_changes.proofs.Named.{Fits, all_fit, root_area}
@@ -79,3 +81,21 @@ index_grows all root positions rows key row writes old none left = record {
   is = left.index;
   holds = left.pairs_are ∙ ap (with_pair (pair_of (key_of positions row) key)) old.holds ∙ sym (pairs_put positions key row rows none);
 }
+
+-- ---- row by row
+
+below_next : (x : Dbkey) (before behind : List (Dbkey × Row)) (key : Dbkey) (row : Row) → below_all dbkey_order x (before ++ (key, row) ∷ behind) ≡ true → dbkey_order x key ≡ Less
+below_next x [] behind key row below = less _ (and_parts (is_lt (dbkey_order x key)) (below_all dbkey_order x behind) below).0
+below_next x (e ∷ es) behind key row below = below_next x es behind key row (and_parts (is_lt (dbkey_order x e.0)) (below_all dbkey_order x (es ++ (key, row) ∷ behind)) below).1
+
+-- the next row in their order is none of those before, and comes last among them
+pub next_row : (before behind : List (Dbkey × Row)) (key : Dbkey) (row : Row) → is_sorted dbkey_order (before ++ (key, row) ∷ behind) ≡ true →
+    (find dbkey_order key before ≡ None) × (put dbkey_order key row before ≡ before ++ (key, row) ∷ [])
+next_row [] behind key row sorted = (refl, refl)
+next_row (e ∷ es) behind key row sorted =
+    let parts = and_parts (below_all dbkey_order e.0 (es ++ (key, row) ∷ behind)) (is_sorted dbkey_order (es ++ (key, row) ∷ behind)) sorted in
+    let rest = next_row es behind key row parts.1 in
+    let above : dbkey_order key e.0 ≡ Greater = dbkey_total.antisymm key e.0 ∙ ap ordering_reverse (below_next e.0 es behind key row parts.0) in (
+      ap (λ r. cond (is_eq r) (Some e.1) (find dbkey_order key es)) above ∙ rest.0,
+      ap (λ r. by_order r ((key, row) ∷ e ∷ es) ((e.0, row) ∷ es) (e ∷ put dbkey_order key row es)) above ∙ ap (λ l. e ∷ l) rest.1,
+    )

@@ -1,8 +1,8 @@
 // Laws of sound maps behind definitions.
-ghost use Rattle.std.specs.Prelude.{◌≡◌, ◌==◌, ℕ, ◌≤◌, ◌%◌, true, false, not, filter, List, [], Some, None};
+ghost use Rattle.std.specs.Prelude.{◌≡◌, ◌==◌, ℕ, ◌≤◌, ◌%◌, true, false, not, filter, List, [], ◌∷◌, ◌++◌, Some, None};
 ghost use Rattle.rdb_meaning.specs.declared.tables.Relation.{Relation as Rows};
 ghost use Rattle.std.specs.List.{AllByRecursion};
-ghost use Rattle.std.specs.FinMap.Entries.{find, put};
+ghost use Rattle.std.specs.FinMap.Entries.{find, put, is_sorted};
 ghost use Rattle.rdb_types.specs.declared.keys.Dbkey.{Dbkey as Place};
 ghost use Rattle.rdo_ast.specs.Tree.{Name};
 ghost use Rattle.rdb_meaning.specs.declared.tables.Tables.{Tables as Kept};
@@ -54,6 +54,8 @@ pub fn an_index_is_filled()
     ensures grows { (all : Lines) (root : Place) (positions : List ℕ) (rows : List (Place × Row)) (key : Place) (row : Row) (writes : List Write) (old : IsIndexOf all root positions rows)
         → find dbkey_order key rows ≡ None → Leaves all root old.level old.tree writes (with_pair (pair_of (key_of positions row) key) (pairs old.level old.tree))
         → IsIndexOf (laid_all writes all) root positions (put dbkey_order key row rows) }
+    ensures next { (before behind : List (Place × Row)) (key : Place) (row : Row) → is_sorted dbkey_order (before ++ (key, row) ∷ behind) ≡ true
+        → (find dbkey_order key before ≡ None) × (put dbkey_order key row before ≡ before ++ (key, row) ∷ []) }
 {}
 
 /// Behind the erasing of an index's line in the catalog the map is sound, without the index. Its nodes may stay or go.
