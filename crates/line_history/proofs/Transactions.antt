@@ -77,6 +77,13 @@ module _ (M : Model) (orderly : IsOrderly M) (word : List ℕ) where
         stands = before.stands;
       }
 
+  -- what was written is kept as other writes that come to the same
+  pub holds-relaid : (got : List Need) (now : Lines) (lines : List Line) (writes others : List Write) (standing : Standing) → ((all : Lines) → IsInOrder all → laid_all others all ≡ laid_all writes all) →
+      Holds M word got now lines writes standing → Holds M word got now lines others standing
+  holds-relaid got now lines writes others standing same h all t alike m =
+      let before = h all t alike m in
+      record { then = before.then; folded = before.folded; stands = subst (λ (x : Lines). M x before.then) (sym (same all (orderly all t m))) before.stands }
+
   -- others committed
   pub holds-beside : (got : List Need) (now then : Lines) (lines : List Line) (writes : List Write) (standing : Standing) → AreAlike got now then →
       Holds M word got now lines writes standing → Holds M word got then lines writes standing

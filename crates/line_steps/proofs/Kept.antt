@@ -1,5 +1,5 @@
 -- One step of a session keeps what is true of all of them.
-use Rattle.std.proofs.Common.{◌≡◌, ℕ, zero, suc, ◌++◌, ◌∷◌, [], ◌==◌, true, false, List, refl, ◌∙◌, sym, ap, subst, arith, Some, slice_get, slice_set, ◌⊎◌, inl, inr}
+use Rattle.std.proofs.Common.{◌≡◌, ◌≤◌, ℕ, zero, suc, ◌++◌, ◌∷◌, [], ◌==◌, true, false, List, refl, ◌∙◌, sym, ap, subst, arith, Some, slice_get, slice_set, ◌⊎◌, inl, inr}
 use Rattle.rdo_ast.specs.Tree.{Uttered}
 use Rattle.lock_needs.specs.declared.need.Need.{Need}
 use Rattle.line_view.specs.Knowledge.{Lines, IsInOrder}
@@ -15,11 +15,11 @@ use Rattle.kept_apart.proofs.Alike.{alike-refl, alike-trans, alike-laid-all, ali
 use Rattle.session_jobs.specs.Records.{Model, IsOrderly}
 use Rattle.line_history.specs.Transactions.{IsWriting, IsReading}
 use Rattle.line_history.proofs.Transactions.{holds-beside}
-use Rattle.line_steps.specs.Members.{State, outside, writing, reading, ended, fallen, recovered, Member}
+use Rattle.line_steps.specs.Members.{State, outside, writing, reading, ended, fallen, recovered, Member, member}
 use Rattle.lock_ties.specs.Ties.{needs_at, AskForOne}
 use Rattle.lock_ties.proofs.Single.{legal-one, place-one}
 use Rattle.line_steps.specs.Right.{Desk, Ground, StandsAs, Stands, IsFit, AreRight}
-use Rattle.line_steps.specs.Steps.{AreOf, Here, Steps}
+use Rattle.line_steps.specs.Steps.{AreOf, Found, Here, Steps}
 use Rattle.line_steps.proofs.Frame.{Same, place-same}
 
 module _ (M : Model) (orderly : IsOrderly M) where
@@ -149,3 +149,26 @@ module _ (M : Model) (orderly : IsOrderly M) where
     alike = λ t other. alike-trans (needs_at p t) g.now h.now k.now (a.alike t other)
         (subst (λ x. AreAlike (got_of x) h.now k.now) ((subst (λ (q : Place). Same p q t) a.leads (place-same o p es s t a.own other)).transaction) (b.alike t other));
   }
+
+  -- time goes on
+  pub elapses : (o : Opening) (p : Place) (g : Ground) (s : ℕ) (left : List Uttered) (state : State) (total time : ℕ) → (h : Found M o p g s (member left state total)) → g.time ≤ time → Steps M o p g s (member left state total) (record g { time = time }) []
+  elapses o p g s left state total time h later =
+      let k : Ground = record g { time = time } in
+      record {
+        may = tt;
+        own = tt;
+        to = p;
+        leads = refl;
+        settled = h.free;
+        fit = record { dead = h.fit.dead; past = omega (arith, h.fit.past, later); order = h.fit.order; stands = h.fit.stands; apart = h.fit.apart };
+        stands = record {
+          answered = h.stands.answered;
+          script = h.stands.script;
+          total = h.stands.total;
+          count = h.stands.count;
+          lives = h.stands.lives;
+          state = stands-on o p p g k s left state refl refl h.fit.order h.fit.order (alike-refl (needs_at p s) g.now) h.stands.state;
+        };
+        desks = λ t other. refl;
+        alike = λ t other. alike-refl (needs_at p t) g.now;
+      }

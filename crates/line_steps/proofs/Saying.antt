@@ -8,20 +8,20 @@ use Rattle.rdo_ast.specs.Tree.{Uttered}
 use Rattle.rdb_meaning.specs.declared.tables.Tables.{Tables}
 use Rattle.rdb_meaning.specs.Meaning.{meaning, means}
 use Rattle.rdb_meaning.specs.Usual.{is_refusal_of_means}
-use Rattle.line_view.specs.Knowledge.{Knowledge, Agrees}
+use Rattle.line_view.specs.Knowledge.{Knowledge, Lines, IsInOrder, Agrees}
 use Rattle.line_view.specs.declared.writes.Write.{Write}
 use Rattle.line_view.specs.Writes.{laid_all}
+use Rattle.line_view.proofs.Written.{laid_in_turn}
 use Rattle.rdb_account.specs.Events.{Said}
 use Rattle.rdb_account.specs.Places.{Opening, Place, Transaction, Line, nothing, living, at, after, begins, leaves_none, with_line, is_writer, is_done, is_first_refused, asks_of_others, retold, some_reply}
 use Rattle.rdb_account.specs.Lawful.{got_of, has_cause, IsExcused}
 use Rattle.rdb_account.specs.Legal.{MaySay, ends_by, IsAnsweredIn, standing_of_reader}
-use Rattle.lock_needs.specs.declared.need.Need.{Need}
 use Rattle.kept_apart.specs.Guards.{AreOwn}
 use Rattle.kept_apart.specs.Alike.{IsGuarded}
 use Rattle.kept_apart.proofs.Alike.{alike-refl}
 use Rattle.session_jobs.specs.Records.{Model, IsOrderly, Worked, DoesSo, IsRight}
 use Rattle.line_history.specs.Transactions.{line_of, Leads, IsWriting}
-use Rattle.line_history.proofs.Transactions.{holds-now, holds-said, holds-excused, stands-told, stands-answered, stands-excused, reader-answered, reader-excused}
+use Rattle.line_history.proofs.Transactions.{holds-now, holds-said, holds-relaid, holds-excused, stands-told, stands-answered, stands-excused, reader-answered, reader-excused}
 use Rattle.line_history.proofs.Standings.{stays-writer, starts-writer, starts-leaves, excused-undone}
 use Rattle.line_steps.specs.Members.{writing, reading, Member, member, left_of, life_of}
 use Rattle.lock_ties.specs.Ties.{needs_at}
@@ -89,10 +89,6 @@ module _ (M : Model) (orderly : IsOrderly M) where
   under-left : (item : Uttered) (left : List Uttered) (total : ℕ) (standing : Standing) → left_of (member left (writing standing (Some item)) total) ≡ item ∷ left
   under-left item left total standing = refl
 
-  own-append : (got : List Need) (xs ys : List Write) → AreOwn got xs → AreOwn got ys → AreOwn got (xs ++ ys)
-  own-append got [] ys a b = b
-  own-append got (x ∷ xs) ys a b = (a.0, own-append got xs ys a.1 b)
-
   -- the first statement is said over nothing, and begins the transaction
   pub first-said : (word : List ℕ) (t then : Tables) (x : Transaction) (standing : Standing) (item : Uttered) → HasSpoken (Some item) x → (length x.lines == 0) ≡ true →
       retold word t x.lines ≡ record { tables = then; standing = standing; replies = map some_reply x.lines } → (standing ≡ Closed) × (begins item ≡ Some x.kind)
@@ -136,16 +132,17 @@ module _ (M : Model) (orderly : IsOrderly M) where
           let begun = subst (λ (i : Uttered). begins i ≡ Some x.kind) (sym (same_Some under b.0 b.1) ∙ is) b.2 in
           absurd (clash (length x.lines == 0) (leaves_none l.item) (is_done l.reply) e (starts-leaves l.item x.kind begun writes) (excused-undone l.reply refused) stays)
 
-  -- The statement was worked over what the session knew, and its writes were made.
-  pub answers-writing : (o : Opening) (p : Place) (g : Ground) (s : ℕ) (left : List Uttered) (total : ℕ) (standing : Standing) (r : Worked) (new : Knowledge) (time : ℕ) →
-      (h : Here M o p g s (member left (writing standing (Some r.item)) total)) → IsRight M o.word standing (g.desk s).known r → AreOwn (needs_at p s) r.writes →
+  -- The statement was worked over what the session knew, and its writes were made: those behind it come to the same as its own laid over those before.
+  pub answers-writing : (o : Opening) (p : Place) (g : Ground) (s : ℕ) (left : List Uttered) (total : ℕ) (standing : Standing) (r : Worked) (behind : List Write) (new : Knowledge) (time : ℕ) →
+      (h : Here M o p g s (member left (writing standing (Some r.item)) total)) → IsRight M o.word standing (g.desk s).known r → AreOwn (needs_at p s) behind →
+      ((all : Lines) → IsInOrder all → laid_all behind all ≡ laid_all r.writes (laid_all (g.desk s).writes all)) →
       is_first_refused (p.transaction s) r.item r.reply ≡ false → (ends_by r.item && is_done r.reply) ≡ false → g.time ≤ time →
-      IsGuarded (needs_at p s) new → Agrees new (laid_all ((g.desk s).writes ++ r.writes) g.now) →
-      Steps M o p g s (member left (writing r.behind None) total) (record (with_desk s (record { known = new; writes = (g.desk s).writes ++ r.writes; start = (g.desk s).start }) g) { time = time }) (Said s r.item r.choices r.reply ∷ [])
-  answers-writing o p g s left total standing r new time h right own stays ends later guarded agrees =
+      IsGuarded (needs_at p s) new → Agrees new (laid_all behind g.now) →
+      Steps M o p g s (member left (writing r.behind None) total) (record (with_desk s (record { known = new; writes = behind; start = (g.desk s).start }) g) { time = time }) (Said s r.item r.choices r.reply ∷ [])
+  answers-writing o p g s left total standing r behind new time h right own same stays ends later guarded agrees =
       let w = h.stands.state in
       let x = w.transaction in
-      let d : Desk = record { known = new; writes = (g.desk s).writes ++ r.writes; start = (g.desk s).start } in
+      let d : Desk = record { known = new; writes = behind; start = (g.desk s).start } in
       let l = line_of r in
       said-in o p g (record (with_desk s d g) { time = time }) s (member left (writing standing (Some r.item)) total) (member left (writing r.behind None) total) x l h
       w.is_open refl refl refl (subst (λ (y : Option Transaction). is_first_refused y r.item r.reply ≡ false) w.is_open stays) ends h.stands.lives
@@ -161,8 +158,9 @@ module _ (M : Model) (orderly : IsOrderly M) where
         spoken = has-spoken None l x;
         remains = λ some. said-remains o p g s standing r w h.fit.stands right (subst (λ (y : Option Transaction). is_first_refused y r.item r.reply ≡ false) w.is_open stays) ends;
         is = subst (λ (e : Desk). IsWriting M o.word x.got g.now (x.lines ++ l ∷ []) e.writes r.behind e.known) (sym (desk-same s d g)) (record {
-          holds = holds-said M orderly o.word x.got x.got g.now x.lines (g.desk s).writes standing (g.desk s).known r h.fit.order w.is.holds (λ n e. e) right w.is.guarded w.is.agrees;
-          own = own-append x.got (g.desk s).writes r.writes w.is.own (subst (λ (y : Option Transaction). AreOwn (got_of y) r.writes) w.is_open own);
+          holds = holds-relaid M orderly o.word x.got g.now (x.lines ++ l ∷ []) ((g.desk s).writes ++ r.writes) behind r.behind (λ all order. same all order ∙ sym (laid_in_turn (g.desk s).writes r.writes all))
+              (holds-said M orderly o.word x.got x.got g.now x.lines (g.desk s).writes standing (g.desk s).known r h.fit.order w.is.holds (λ n e. e) right w.is.guarded w.is.agrees);
+          own = subst (λ (y : Option Transaction). AreOwn (got_of y) behind) w.is_open own;
           guarded = subst (λ (y : Option Transaction). IsGuarded (got_of y) new) w.is_open guarded;
           agrees = agrees;
         });

@@ -9,7 +9,7 @@ use Rattle.rdo_ast.specs.Tree.{Uttered}
 use Rattle.line_view.specs.Knowledge.{Knowledge, Lines, Agrees}
 use Rattle.line_view.specs.Writes.{laid_all}
 use Rattle.rdb_account.specs.Events.{Began, Demoted}
-use Rattle.rdb_account.specs.Places.{Opening, Place, Transaction, living, at, begins, begun, is_writer}
+use Rattle.rdb_account.specs.Places.{Opening, Place, Transaction, at, begins, begun, is_writer}
 use Rattle.rdb_account.specs.Lawful.{got_of}
 use Rattle.rdb_account.specs.Legal.{is_ready, has_writer}
 use Rattle.kept_apart.specs.Alike.{IsGuarded}
@@ -19,7 +19,7 @@ use Rattle.line_history.specs.Transactions.{IsWriting}
 use Rattle.line_history.proofs.Transactions.{holds-fresh, writing-learns}
 use Rattle.line_steps.specs.Members.{outside, writing, Member, member}
 use Rattle.lock_ties.specs.Ties.{needs_at}
-use Rattle.line_steps.specs.Right.{Desk, Ground, with_desk}
+use Rattle.line_steps.specs.Right.{Desk, Ground, with_desk, Stands}
 use Rattle.line_steps.specs.Steps.{Here, Steps}
 use Rattle.lock_ties.proofs.Places.{at-same}
 use Rattle.line_steps.proofs.Common.{ready, none-begun, next-is, stands-silent, apart-none, fit-with, desk-same, desk-other}
@@ -76,9 +76,10 @@ module _ (M : Model) (orderly : IsOrderly M) where
       }
 
   -- a notice brought down a lock of a read-write transaction
-  pub notice-served : (o : Opening) (p : Place) (g : Ground) (s : ℕ) (m : Member) (u : ℕ) (n : Node) (from to : Mode) → Here M o p g s m → p.life u ≡ living → has_writer (p.transaction u) ≡ true → Steps M o p g s m g (Demoted u n from to ∷ [])
-  notice-served o p g s m u n from to h lives writes = record {
-    may = (and_from (is_ready p u) (has_writer (p.transaction u)) (ready p u h.awake h.free lives) writes, tt);
+  pub notice-served : (o : Opening) (p : Place) (g : Ground) (s : ℕ) (m : Member) (u : ℕ) (n : Node) (from to : Mode) (left : List Uttered) (total : ℕ) (standing : Standing) (under : Option Uttered) → Here M o p g s m → Stands M o p g u (member left (writing standing under) total) →
+      Steps M o p g s m g (Demoted u n from to ∷ [])
+  notice-served o p g s m u n from to left total standing under h k = record {
+    may = (and_from (is_ready p u) (has_writer (p.transaction u)) (ready p u h.awake h.free k.lives) (rw k.state.is_open k.state.writes), tt);
     own = (tt, tt);
     to = p;
     leads = refl;

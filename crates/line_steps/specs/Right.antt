@@ -79,7 +79,7 @@ pub record Stands (M : Model) (o : Opening) (p : Place) (g : Ground) (s : ℕ) (
   pub lives : p.life s ≡ life_of m.state
   pub state : StandsAs M o p g s m.left m.state
 
--- what is true of the place and the ground
+-- what is true of the place and of what the engine has
 pub record IsFit (M : Model) (p : Place) (g : Ground) : Type 0 where
   pub dead : p.frozen ≡ g.dead
   pub past : p.moment ≤ g.time

@@ -5,16 +5,17 @@ ghost use Rattle.kept_apart.specs.Alike.{IsGuarded};
 ghost use Rattle.kept_apart.specs.Guards.{AreOwn};
 ghost use Rattle.line_history.specs.Transactions.{IsAskedOver};
 ghost use Rattle.line_steps.specs.Members.{Member, ended, left_of, member, outside, writing};
-ghost use Rattle.line_steps.specs.Right.{Desk, Ground, Writes, at_end, with_desk};
+ghost use Rattle.line_steps.specs.Right.{Desk, Ground, Stands, Writes, at_end, with_desk};
 ghost use Rattle.line_steps.specs.Steps.{Here, Steps};
-ghost use Rattle.line_view.specs.Knowledge.{Agrees, Knowledge};
+ghost use Rattle.line_view.specs.Knowledge.{Agrees, IsInOrder, Knowledge, Lines};
 ghost use Rattle.line_view.specs.Writes.{laid_all};
+ghost use Rattle.line_view.specs.declared.writes.Write.{Write};
 ghost use Rattle.lock_needs.specs.Nodes.{is_on};
 ghost use Rattle.lock_needs.specs.declared.need.Need.{Need};
 ghost use Rattle.lock_ties.specs.Ties.{Apart, MayWant, needs_at, wanted_at};
 ghost use Rattle.rdb_account.specs.Events.{Began, Committed, Demoted, Got, RolledBack, Said};
 ghost use Rattle.rdb_account.specs.Lawful.{IsExcused, has_cause};
-ghost use Rattle.rdb_account.specs.Legal.{IsAnsweredIn, ends_by, has_none, has_writer};
+ghost use Rattle.rdb_account.specs.Legal.{IsAnsweredIn, ends_by, has_none};
 ghost use Rattle.rdb_account.specs.Places.{Line, Opening, Place, Transaction, begins, is_done, is_first_refused, is_writer, living, start};
 ghost use Rattle.rdb_meaning.specs.Usual.{is_refusal_of_means};
 ghost use Rattle.rdb_meaning.specs.declared.tables.Tables.{Tables};
@@ -35,7 +36,7 @@ pub fn writers_begin_and_learn<S: Statements>()
     ensures begins { (o : Opening) (p : Place) (g : Ground) (s : ℕ) (item : Uttered) (left : List Uttered) (total : ℕ) (kind : Standing) (known : Knowledge) → Here S.stands o p g s (member (item ∷ left) outside total) → begins item ≡ Some kind → is_writer kind ≡ true → IsGuarded [] known → Agrees known g.now → Steps S.stands o p g s (member left (writing Closed (Some item)) total) (with_desk s (record { known = known; writes = []; start = g.now }) g) (Began s kind ∷ []) }
     ensures takes_up { (o : Opening) (p : Place) (g : Ground) (s : ℕ) (item : Uttered) (left : List Uttered) (total : ℕ) (standing : Standing) → Here S.stands o p g s (member (item ∷ left) (writing standing None) total) → Steps S.stands o p g s (member left (writing standing (Some item)) total) g [] }
     ensures learns { (o : Opening) (p : Place) (g : Ground) (s : ℕ) (left : List Uttered) (total : ℕ) (standing : Standing) (under : Option Uttered) (new : Knowledge) → Here S.stands o p g s (member left (writing standing under) total) → IsGuarded (needs_at p s) new → Agrees new (laid_all (g.desk s).writes g.now) → Steps S.stands o p g s (member left (writing standing under) total) (with_desk s (record { known = new; writes = (g.desk s).writes; start = (g.desk s).start }) g) [] }
-    ensures notice { (o : Opening) (p : Place) (g : Ground) (s : ℕ) (m : Member) (u : ℕ) (n : Node) (from to : Mode) → Here S.stands o p g s m → p.life u ≡ living → has_writer (p.transaction u) ≡ true → Steps S.stands o p g s m g (Demoted u n from to ∷ []) }
+    ensures notice { (o : Opening) (p : Place) (g : Ground) (s : ℕ) (m : Member) (u : ℕ) (n : Node) (from to : Mode) (left : List Uttered) (total : ℕ) (standing : Standing) (under : Option Uttered) → Here S.stands o p g s m → Stands S.stands o p g u (member left (writing standing under) total) → Steps S.stands o p g s m g (Demoted u n from to ∷ []) }
 {}
 
 /// A session wants what its statement under way asks for over all that agrees with what it knows, at nodes on the way to the need's, and
@@ -47,10 +48,10 @@ pub fn writers_get_what_they_ask_for<S: Statements>()
     ensures got { (o : Opening) (p : Place) (g : Ground) (s : ℕ) (left : List Uttered) (total : ℕ) (standing : Standing) (item : Uttered) (n : Need) (nodes : List Node) → g.dead ≡ 0 → (h : Here S.stands o p g s (member left (writing standing (Some item)) total)) → AllByRecursion (λ asked. is_on asked n.node ≡ true) nodes → MayWant p s n → IsAskedOver S.stands standing (Some item) (g.desk s).known n → ((t : ℕ) → (t == s) ≡ false → Apart (needs_at p s ++ n ∷ []) (needs_at p t)) → Steps S.stands o p g s (member left (writing standing (Some item)) total) g (wanted_at s n nodes ++ Got s n ∷ []) }
 {}
 
-/// A statement is answered as it was worked over what the session knew, once all that it writes is the session's own; or it is refused
-/// for a lock, a limit or memory that has its cause, and writes nothing. A refused START_TRANSACTION leaves no transaction.
+/// A statement is answered as it was worked over what the session knew, once all that it writes is the session's own, as the store keeps
+/// it; or it is refused for a lock, a limit or memory that has its cause, and writes nothing. A refused START_TRANSACTION leaves no transaction.
 pub fn writers_are_answered<S: Statements>()
-    ensures answered { (o : Opening) (p : Place) (g : Ground) (s : ℕ) (left : List Uttered) (total : ℕ) (standing : Standing) (r : Worked) (new : Knowledge) (time : ℕ) → (h : Here S.stands o p g s (member left (writing standing (Some r.item)) total)) → IsRight S.stands o.word standing (g.desk s).known r → AreOwn (needs_at p s) r.writes → is_first_refused (p.transaction s) r.item r.reply ≡ false → (ends_by r.item && is_done r.reply) ≡ false → g.time ≤ time → IsGuarded (needs_at p s) new → Agrees new (laid_all ((g.desk s).writes ++ r.writes) g.now) → Steps S.stands o p g s (member left (writing r.behind None) total) (record (with_desk s (record { known = new; writes = (g.desk s).writes ++ r.writes; start = (g.desk s).start }) g) { time = time }) (Said s r.item r.choices r.reply ∷ []) }
+    ensures answered { (o : Opening) (p : Place) (g : Ground) (s : ℕ) (left : List Uttered) (total : ℕ) (standing : Standing) (r : Worked) (behind : List Write) (new : Knowledge) (time : ℕ) → (h : Here S.stands o p g s (member left (writing standing (Some r.item)) total)) → IsRight S.stands o.word standing (g.desk s).known r → AreOwn (needs_at p s) behind → ((all : Lines) → IsInOrder all → laid_all behind all ≡ laid_all r.writes (laid_all (g.desk s).writes all)) → is_first_refused (p.transaction s) r.item r.reply ≡ false → (ends_by r.item && is_done r.reply) ≡ false → g.time ≤ time → IsGuarded (needs_at p s) new → Agrees new (laid_all behind g.now) → Steps S.stands o p g s (member left (writing r.behind None) total) (record (with_desk s (record { known = new; writes = behind; start = (g.desk s).start }) g) { time = time }) (Said s r.item r.choices r.reply ∷ []) }
     ensures refused { (o : Opening) (p : Place) (g : Ground) (s : ℕ) (left : List Uttered) (total : ℕ) (standing : Standing) (l : Line) → (h : Here S.stands o p g s (member left (writing standing (Some l.item)) total)) → is_refusal_of_means l.reply ≡ true → ((t : Tables) → S.stands (laid_all (g.desk s).writes g.now) t → IsExcused l.reply o.word standing t l.item) → has_cause o p s l.reply ≡ true → is_first_refused (p.transaction s) l.item l.reply ≡ false → (ends_by l.item && is_done l.reply) ≡ false → Steps S.stands o p g s (member left (writing standing None) total) g (Said s l.item l.choices l.reply ∷ []) }
     ensures start_refused { (o : Opening) (p : Place) (g : Ground) (s : ℕ) (m : Member) (left : List Uttered) (x : Transaction) (l : Line) (d : Desk) (time : ℕ) → g.time ≤ time → (h : Here S.stands o p g s m) → p.transaction s ≡ Some x → left_of m ≡ l.item ∷ left → p.life s ≡ living → is_first_refused (Some x) l.item l.reply ≡ true → (ends_by l.item && is_done l.reply) ≡ false → IsAnsweredIn o p s (is_writer x.kind) x l → Steps S.stands o p g s (member left outside m.total) (record (with_desk s d g) { time = time }) (Said s l.item l.choices l.reply ∷ RolledBack s ∷ []) }
 {}

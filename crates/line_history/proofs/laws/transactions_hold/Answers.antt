@@ -1,4 +1,4 @@
-use Rattle.line_history.proofs.Transactions.{holds-fresh, holds-said, holds-excused, writing-beside, stands-told, stands-answered, stands-excused, commit-stands}
+use Rattle.line_history.proofs.Transactions.{holds-fresh, holds-said, holds-excused, holds-relaid, writing-beside, stands-told, stands-answered, stands-excused, commit-stands}
 use Rattle.line_history.proofs.laws.transactions_hold.Goals as goal
 
 pub returns-clause-fresh : goal.returns-clause-fresh
@@ -24,3 +24,6 @@ returns-clause-excused g c = stands-excused g.S.Statements.stands g.met.S.Statem
 
 pub returns-clause-commits : goal.returns-clause-commits
 returns-clause-commits g c = commit-stands g.S.Statements.stands g.met.S.Statements.orderly
+
+pub returns-clause-relaid : goal.returns-clause-relaid
+returns-clause-relaid g c = holds-relaid g.S.Statements.stands g.met.S.Statements.orderly

@@ -1,4 +1,4 @@
-use Rattle.line_steps.proofs.Kept.{here, stepped, arrives, in-turn, rests}
+use Rattle.line_steps.proofs.Kept.{here, stepped, arrives, in-turn, rests, elapses}
 use Rattle.line_steps.proofs.sessions.sessions_go_on.Goals as goal
 
 pub returns-clause-found : goal.returns-clause-found
@@ -15,3 +15,6 @@ returns-clause-in_turn g c = in-turn g.S.Statements.stands g.met.S.Statements.or
 
 pub returns-clause-nothing : goal.returns-clause-nothing
 returns-clause-nothing g c = rests g.S.Statements.stands g.met.S.Statements.orderly
+
+pub returns-clause-elapses : goal.returns-clause-elapses
+returns-clause-elapses g c = elapses g.S.Statements.stands g.met.S.Statements.orderly
