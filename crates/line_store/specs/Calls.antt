@@ -1,5 +1,5 @@
 -- What the calls of a store of lines do.
-use Rattle.std.specs.Prelude.{◌≡◌, ◌≤◌, ◌<◌, ◌+◌, ◌==◌, ◌⊎◌, ℕ, Bool, true, false, List, ◌++◌, take, Some, Result, Ok, Err}
+use Rattle.std.specs.Prelude.{◌≡◌, ◌≤◌, ◌<◌, ◌+◌, ◌==◌, ◌⊎◌, ℕ, Bool, true, false, List, take, Some, Result, Ok, Err}
 use Rattle.rdb_outside.specs.Causes.{Rose}
 use Rattle.line_view.specs.declared.writes.Write.{Write}
 use Rattle.line_view.specs.Knowledge.{Lines}
@@ -17,7 +17,7 @@ use Rattle.line_store.specs.declared.answers.CommitStop.{CommitStop}
 use Rattle.line_store.specs.declared.answers.CommitStop.TheVariants as commit
 use Rattle.line_store.specs.declared.answers.Stepped.{Stepped}
 use Rattle.line_store.specs.declared.answers.Stepped.TheVariants.{More, Done, Committed, Recovered}
-use Rattle.line_store.specs.Seats.{Seat, outside, changing, committing, closing, dead, in_flight, done_at, writes_of, lines_written, is_written, Adds}
+use Rattle.line_store.specs.Seats.{Seat, outside, changing, committing, closing, dead, in_flight, done_at, writes_of, lines_added, lines_written, is_written, Adds}
 use Rattle.line_store.specs.Shelves.{Space, Clock, Shelf, Elapses}
 
 -- ---- seats
@@ -70,11 +70,11 @@ Learns lines old new = (n : ℕ) × (new ≡ with_lines (take n lines) old)
 
 -- ---- changing
 
--- the lines that are written for the first time take at most one slot each of the snapshot files
+-- Each line that the transaction wrote for the first time takes at most one slot of the snapshot files.
 pub record TakesSlots (more before : List Write) (old new : Space) : Type 0 where
   pub limits : new.limits ≡ old.limits
   pub taken : (file page : ℕ) → new.taken file page ≡ old.taken file page
-  pub snaps : new.snaps + lines_written before ≤ old.snaps + lines_written (before ++ more)
+  pub snaps : new.snaps ≤ old.snaps + lines_added before more
   pub slots : new.slots ≡ old.slots
 
 pub record Changes (s : ℕ) (more : List Write) (old new : Shelf) : Type 0 where
@@ -87,8 +87,8 @@ pub record Changes (s : ℕ) (more : List Write) (old new : Shelf) : Type 0 wher
 
 -- a limit is told where the writes want more than there may be
 abbrev pub MayStopChange : Shelf → ℕ → List Write → ChangeStop → Type 0
-MayStopChange h s more (change.RujFull limit) = (limit ≡ h.space.limits.entries) × (limit < lines_written (writes_of (h.seat s) ++ more))
-MayStopChange h s more (change.SnapFull limit) = (limit ≡ h.space.limits.snaps) × (limit + lines_written (writes_of (h.seat s)) < h.space.snaps + lines_written (writes_of (h.seat s) ++ more))
+MayStopChange h s more (change.RujFull limit) = (limit ≡ h.space.limits.entries) × (limit < lines_written (writes_of (h.seat s)) + lines_added (writes_of (h.seat s)) more)
+MayStopChange h s more (change.SnapFull limit) = (limit ≡ h.space.limits.snaps) × (limit < h.space.snaps + lines_added (writes_of (h.seat s)) more)
 MayStopChange h s more (change.Unfit key) = is_written key more ≡ true
 MayStopChange h s more change.NoMemory = Unit {0}
 

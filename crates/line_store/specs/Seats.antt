@@ -99,10 +99,14 @@ done_at _ = None
 abbrev pub is_written : Dbkey → List Write → Bool
 is_written key ws = list_any (λ w. is_eq (dbkey_order key w.key)) ws
 
+-- how many lines these writes are on, beside those of the writes before
+abbrev pub lines_added : (before ws : List Write) → ℕ
+lines_added before [] = 0
+lines_added before (w ∷ ws) = (if is_written w.key before then 0 else 1) + lines_added (w ∷ before) ws
+
 -- how many lines are written
 abbrev pub lines_written : List Write → ℕ
-lines_written [] = 0
-lines_written (w ∷ ws) = (if is_written w.key ws then 0 else 1) + lines_written ws
+lines_written = lines_added []
 
 -- These are the writes before, and behind them more: over each map they come to the same, and they are on the same lines.
 pub record Adds (more before behind : List Write) : Type 0 where

@@ -1,9 +1,9 @@
 -- What a store of lines holds.
-use Rattle.std.specs.Prelude.{◌≡◌, ◌≤◌, ◌==◌, ℕ, Bool, false}
+use Rattle.std.specs.Prelude.{◌≡◌, ◌≤◌, ◌==◌, ℕ, Bool, false, None}
 use Rattle.rdb_types.specs.declared.keys.Limits.{Limits}
 use Rattle.line_view.specs.Knowledge.{Lines}
 use Rattle.line_view.specs.Writes.{laid_all}
-use Rattle.line_store.specs.Seats.{Seat, outside, beginning, writing, changing, committing, rolling_back, closing, reading, dead, is_committing}
+use Rattle.line_store.specs.Seats.{Seat, outside, beginning, writing, changing, committing, rolling_back, closing, reading, dead, in_flight}
 
 -- The room that there is: the limits, which pages of the area files are taken, and at most how many slots of the snapshot files and of the after-image journal are in use.
 pub record Space : Type 0 where
@@ -41,9 +41,9 @@ seen_from (dead commits ws) now = laid_all ws now
 abbrev pub seen_by : ℕ → Shelf → Lines
 seen_by s h = seen_from (h.seat s) h.now
 
--- no other session commits
+-- no other session's commit is under way
 abbrev pub IsAlone : ℕ → Shelf → Type 0
-IsAlone s h = (t : ℕ) → (t == s) ≡ false → is_committing (h.seat t) ≡ false
+IsAlone s h = (t : ℕ) → (t == s) ≡ false → in_flight (h.seat t) ≡ None
 
 -- time goes on, and faults are counted
 pub record Elapses (old new : Clock) : Type 0 where

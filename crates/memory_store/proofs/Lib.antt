@@ -1,0 +1,3 @@
+pub mod Laying
+pub mod Seating
+pub mod Stepping

@@ -1,0 +1,93 @@
+-- What steps come to.
+use Rattle.std.proofs.Common.{◌≡◌, ◌++◌, ℕ, true, false, List, Some, Ok, refl, sym, ap, subst, ◌∙◌, arith}
+use Rattle.std.specs.Prelude.{slice_get}
+use Rattle.std.specs.Ordering.{is_eq}
+use Rattle.std.proofs.lemmas.Bool.{true≢false}
+use Rattle.std.proofs.lemmas.List.Folds.{list_any-append}
+use Rattle.rdb_types.specs.Order.{dbkey_order}
+use Rattle.line_view.specs.declared.writes.Write.{Write}
+use Rattle.line_view.specs.Knowledge.{Lines}
+use Rattle.line_view.specs.Writes.{laid_all}
+use Rattle.line_view.proofs.Written.{laid_in_turn}
+use Rattle.line_store.specs.declared.answers.Stepped.{Stepped}
+use Rattle.line_store.specs.declared.answers.Stepped.TheVariants.{More, Done, Committed, Recovered}
+use Rattle.line_store.specs.Seats.{Seat, outside, beginning, writing, changing, committing, rolling_back, closing, reading, dead, IsWriting, writes_of, done_at, Adds}
+use Rattle.line_store.specs.Shelves.{seen_from}
+use Rattle.line_store.specs.Calls.{Moves, Changes, Comes, IsCommitted}
+use Rattle.memory_store.specs.declared.seat.Seat.{Seat as Held}
+use Rattle.memory_store.specs.declared.seat.Seat.TheVariants as held
+use Rattle.memory_store.specs.Kept.{Kept, StepsTo, seat_of, seat_at, shelf_of, with_seat, with_lines}
+use Rattle.memory_store.proofs.Seating.{seat-here, others-stay, twice, moves-twice}
+
+-- ---- seen
+
+pub seen-written : (seat : Seat) (now : Lines) → IsWriting seat → seen_from seat now ≡ laid_all (writes_of seat) now
+seen-written outside now h = absurd h
+seen-written beginning now h = absurd h
+seen-written (writing ws) now h = refl
+seen-written (changing ws) now h = absurd h
+seen-written (committing ws) now h = absurd h
+seen-written (rolling_back ws) now h = absurd h
+seen-written closing now h = absurd h
+seen-written (reading start) now h = absurd h
+seen-written (dead commits ws) now h = absurd h
+
+-- ---- changes
+
+adds : (before more : List Write) → Adds more before (before ++ more)
+adds before more = record {
+  laid = λ all ordered. laid_in_turn before more all;
+  keys = λ key. list_any-append (λ (w : Write). is_eq (dbkey_order key w.key)) before more;
+}
+
+pub changed : (k new : Kept) (s : ℕ) (more : List Write) → Moves s (changing (writes_of (seat_at k.seats s) ++ more)) (shelf_of k) (shelf_of new) → Changes s more (shelf_of k) (shelf_of new)
+changed k new s more moves = record {
+  behind = writes_of (seat_at k.seats s) ++ more;
+  adds = adds (writes_of (seat_at k.seats s)) more;
+  now = moves.now;
+  mine = moves.mine;
+  others = moves.others;
+  space = record { limits = moves.space.limits; taken = moves.space.taken; snaps = omega arith; slots = refl };
+}
+
+-- ---- steps
+
+pub committed : (k mid landed new : Kept) (s : ℕ) (was : Held) (ws : List Write) (lines : Lines) →
+    slice_get k.seats s ≡ Some was → seat_of was ≡ committing ws → lines ≡ laid_all ws k.lines →
+    mid ≡ with_seat s held.Outside k → landed ≡ with_lines lines mid → new ≡ with_seat s held.Closing landed → slice_get new.seats s ≡ Some held.Closing →
+    IsCommitted s 0 (shelf_of k) (shelf_of new)
+committed k mid landed new s was ws lines had was-is behind first second third here =
+    let total : new ≡ with_lines lines (with_seat s held.Closing k) =
+    third
+    ∙ (ap (λ (n : Kept). with_seat s held.Closing n) second
+    ∙ (ap (λ (n : Kept). with_seat s held.Closing (with_lines lines n)) first
+    ∙ ap (λ (n : Kept). with_lines lines n) (twice k s held.Outside held.Closing))) in
+    subst (λ (n : Kept). IsCommitted s 0 (shelf_of k) (shelf_of n)) (sym total) (record {
+      writes = ws;
+      was = seat-here k.seats s was had ∙ was-is;
+      commits = record {
+        now = behind;
+        mine = ap (λ (n : Kept). seat_at n.seats s) (sym total) ∙ seat-here new.seats s held.Closing here;
+        others = others-stay k s held.Closing lines;
+        space = record { limits = refl; taken = λ file page. refl; snaps = omega arith; slots = omega arith };
+        at = refl;
+      };
+    })
+
+pub stepped : (k mid new : Kept) (s : ℕ) (was h : Held) (answer : Stepped) → slice_get k.seats s ≡ Some was → StepsTo (seat_of was) (seat_of h) answer →
+    mid ≡ with_seat s held.Outside k → new ≡ with_seat s h mid → slice_get new.seats s ≡ Some h → Comes s (shelf_of k) (shelf_of new) (Ok answer)
+stepped k mid new s was h More had steps first then here = absurd steps
+stepped k mid new s was h Done had steps first then here = record {
+  seat = seat_of h;
+  comes = ap done_at (seat-here k.seats s was had) ∙ steps;
+  moves = moves-twice k mid new s h (seat_of h) first then here refl;
+}
+stepped k mid new s was h (Committed moment) had steps first then here = absurd steps
+stepped k mid new s was h (Recovered true moment) had steps first then here = absurd (true≢false steps.0)
+stepped k mid new s was h (Recovered false moment) had steps first then here = record {
+  commits = steps.3.0;
+  writes = steps.3.1;
+  was = seat-here k.seats s was had ∙ steps.3.2;
+  moves = moves-twice k mid new s h outside first then here steps.2;
+  at = steps.1;
+}

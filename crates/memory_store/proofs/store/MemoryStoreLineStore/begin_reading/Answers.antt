@@ -1,0 +1,11 @@
+use Rattle.std.proofs.Common.{◌∙◌, ap}
+use Rattle.line_store.specs.Seats.{reading}
+use Rattle.memory_store.specs.declared.seat.Seat.TheVariants.{Reading}
+use Rattle.memory_store.specs.Kept.{Kept}
+use Rattle.memory_store.proofs.Seating.{moves}
+use Rattle.memory_store.proofs.store.MemoryStoreLineStore.begin_reading.Goals as goal
+
+pub returns-clause-ok : goal.returns-clause-ok
+returns-clause-ok c =
+    moves c.args.self.now c.put.new.self c.args.s.number (Reading c.in_ok-start.start) (reading c.args.self.now.lines) c.put.ensures.now c.put.ensures.here
+    (ap reading (c.in_ok-start.ensures ∙ ap (λ (k : Kept). k.lines) c.self.view_is))

@@ -1,0 +1,121 @@
+-- What a store in memory holds.
+use Rattle.std.specs.Prelude.{◌≡◌, ◌≢◌, ◌≤◌, ◌⊎◌, ◌==◌, ◌&&◌, ◌++◌, ℕ, Bool, true, false, List, [], ◌∷◌, length, Option, Some, None, slice_get, slice_set, replicate}
+use Rattle.std.specs.List.{list_any}
+use Rattle.rdb_types.specs.declared.keys.Dbkey.{Dbkey}
+use Rattle.rdb_types.specs.declared.keys.Limits.{Limits}
+use Rattle.area_files.specs.Areas.{IsSpacePage}
+use Rattle.line_view.specs.declared.writes.Write.{Write}
+use Rattle.line_view.specs.Knowledge.{Lines, line_in}
+use Rattle.line_view.specs.Writes.{laid_all}
+use Rattle.line_store.specs.declared.answers.Stepped.{Stepped}
+use Rattle.line_store.specs.declared.answers.Stepped.TheVariants.{More, Done, Committed, Recovered}
+use Rattle.line_store.specs.Seats.{Seat, outside, beginning, writing, changing, committing, rolling_back, closing, reading, dead, is_committing, done_at}
+use Rattle.line_store.specs.Shelves.{Shelf, seen_by}
+use Rattle.line_store.specs.Rooms.{IsBehind, first_line}
+use Rattle.memory_store.specs.declared.seat.Seat.{Seat as Held}
+use Rattle.memory_store.specs.declared.seat.Seat.TheVariants as held
+use Rattle.memory_store.specs.declared.store.PageUse.{PageUse}
+
+-- ---- seats
+
+abbrev pub seat_of : Held → Seat
+seat_of held.Outside = outside
+seat_of held.Beginning = beginning
+seat_of (held.Writing ws) = writing ws.items
+seat_of (held.Changing ws) = changing ws.items
+seat_of (held.Committing ws lines) = committing ws.items
+seat_of (held.RollingBack ws) = rolling_back ws.items
+seat_of held.Closing = closing
+seat_of (held.Reading start) = reading start
+seat_of (held.Dead commits ws) = dead commits ws.items
+
+abbrev pub seat_or : Option Held → Seat
+seat_or (Some h) = seat_of h
+seat_or None = outside
+
+abbrev pub seat_at : List Held → ℕ → Seat
+seat_at seats s = seat_or (slice_get seats s)
+
+abbrev pub empty_seats : List Held
+empty_seats = replicate 17 held.Outside
+
+-- the lines that are held for a commit are those behind it
+abbrev pub Foresees : Lines → Held → Type 0
+Foresees now (held.Committing ws lines) = lines ≡ laid_all ws.items now
+Foresees now _ = Unit {0}
+
+-- nobody commits
+abbrev pub AreQuiet : List Held → Type 0
+AreQuiet seats = (s : ℕ) → is_committing (seat_at seats s) ≡ false
+
+-- There is a seat for each session. Each commit has its lines, and one at most is under way.
+pub record AreKept (now : Lines) (seats : List Held) : Type 0 where
+  pub count : length seats ≡ 17
+  pub foresee : (s : ℕ) (h : Held) → slice_get seats s ≡ Some h → Foresees now h
+  pub one : (s t : ℕ) → is_committing (seat_at seats s) ≡ true → is_committing (seat_at seats t) ≡ true → s ≡ t
+
+-- what a step makes of a seat where nothing is committed
+abbrev pub StepsTo : Seat → Seat → Stepped → Type 0
+StepsTo old new More = ⊥
+StepsTo old new Done = done_at old ≡ Some new
+StepsTo old new (Committed moment) = ⊥
+StepsTo old new (Recovered is_committed moment) = (is_committed ≡ false) × (moment.number ≡ 0) × (new ≡ outside) × ((commits : Bool) × (ws : List Write) × (old ≡ dead commits ws))
+
+-- ---- the store
+
+pub record Kept : Type 0 where
+  pub limits : Limits
+  pub lines : Lines
+  pub seats : List Held
+  pub pages : List PageUse
+
+abbrev pub is_taken : List PageUse → ℕ → ℕ → Bool
+is_taken pages file page = list_any (λ u. (u.file == file) && (u.page == page)) pages
+
+-- as its users see it: no journal and no snapshot file is in use, and no time goes by
+abbrev pub shelf_of : Kept → Shelf
+shelf_of k = record {
+  now = k.lines;
+  seat = seat_at k.seats;
+  steps = λ s. 0;
+  space = record { limits = k.limits; taken = is_taken k.pages; snaps = 0; slots = 0 };
+  clock = record { time = 0; faults = 0 };
+}
+
+-- a crash leaves nothing
+abbrev pub left_of : Kept → ℕ → Lines → Type 0
+left_of k t lines = ⊥
+
+abbrev pub with_seat : ℕ → Held → Kept → Kept
+with_seat s h k = record k { seats = slice_set k.seats s h }
+
+abbrev pub with_lines : Lines → Kept → Kept
+with_lines lines k = record k { lines = lines }
+
+abbrev pub with_page : PageUse → Kept → Kept
+with_page page k = record k { pages = k.pages ++ page ∷ [] }
+
+-- it is no commit, or the only one, with its lines
+abbrev pub MayHave : Kept → ℕ → Held → Type 0
+MayHave k s h = (is_committing (seat_of h) ≡ false) ⊎ (AreQuiet k.seats × Foresees k.lines h)
+
+-- ---- rooms
+
+-- a line of the page, behind another, that s doesn't see
+pub record IsFree (k : Kept) (s : ℕ) (page : PageUse) (from : Option Dbkey) (key : Dbkey) : Type 0 where
+  pub area_is : key.area ≡ page.area
+  pub page_is : key.page ≡ page.page
+  pub behind : IsBehind from key
+  pub free : line_in key (seen_by s (shelf_of k)) ≡ None
+
+-- a page that isn't taken, has no first line and may hold lines
+pub record IsNew (k : Kept) (s file area page : ℕ) : Type 0 where
+  pub plain : IsSpacePage page → ⊥
+  pub free : is_taken k.pages file page ≡ false
+  pub empty : line_in (first_line area page) (seen_by s (shelf_of k)) ≡ None
+
+abbrev pub IsUsed : Kept → (s file area page : ℕ) → Type 0
+IsUsed k s file area page = IsSpacePage page ⊎ ((is_taken k.pages file page ≡ true) ⊎ (line_in (first_line area page) (seen_by s (shelf_of k)) ≢ None))
+
+abbrev pub AreUsed : Kept → (s file area last : ℕ) → Type 0
+AreUsed k s file area last = (page : ℕ) → 1 ≤ page → page ≤ last → IsUsed k s file area page

@@ -1,0 +1,230 @@
+// The store, and its calls.
+ghost use Rattle.std.specs.Prelude.{◌≡◌, [], IfOk};
+ghost use Rattle.memory_store.specs.Kept.{empty_seats};
+
+use crate::lines::{LineMap, copy_writes, lines_of};
+use crate::seat::Seat;
+use area_files::{AreaFull, storage_area};
+use line_store::{ChangeStop, CommitStop, Fault, LineStore, Progress, ReadStop, Stepped};
+use line_view::{Known, Write};
+use ordered_entries::Entries;
+use rdb_types::{Copied, Dbkey, Limits, Moment, NoMemory, Session};
+use std::alloc::Global;
+use std::marker::Model;
+
+/// Seats are numbered as the sessions are, from 1 to 16.
+const SEATS: usize = 17;
+
+/// A page of an area file that holds lines.
+#[derive(Clone, Copy)]
+pub(crate) struct PageUse {
+    pub(crate) file: u32,
+    pub(crate) page: u32,
+    pub(crate) area: u32,
+    pub(crate) class: u16,
+}
+
+/// Lines in memory. A line is read in time that grows with the logarithm of their count and with the writes of its transaction; a
+/// scan, a commit and a reader's start take a copy of all lines, and a room is looked for page by page.
+#[derive(Drop)]
+pub struct MemoryStore {
+    pub(crate) alloc: Global,
+    pub(crate) limits: Limits,
+    pub(crate) lines: LineMap,
+    pub(crate) seats: Vec<Seat>,
+    pub(crate) pages: Vec<PageUse>,
+}
+
+impl Model for MemoryStore {
+    ghost use Rattle.memory_store.specs.Kept.{Kept, AreKept};
+
+    ghost Value = { Kept };
+
+    ghost view = { λ m. record { limits = m.limits; lines = m.lines; seats = m.seats.items; pages = m.pages.items } };
+
+    ghost invariant = { λ m. AreKept m.lines m.seats.items };
+}
+
+fn seats(alloc: Global) -> Result<Vec<Seat>, NoMemory>
+    ensures { IfOk result (λ made. made.items ≡ empty_seats) }
+{
+    let mut seats = Vec::new(alloc);
+    for _place in 0..SEATS {
+        seats.push(Seat::Outside)?;
+    }
+    Ok(seats)
+}
+
+impl MemoryStore {
+    /// A store without lines, whose area files may have as many pages as the limits say.
+    pub fn new(alloc: Global, limits: Limits) -> Result<MemoryStore, NoMemory>
+        ensures lines { IfOk result (λ m. m.lines ≡ []) }
+        ensures seats { IfOk result (λ m. m.seats ≡ empty_seats) }
+        ensures pages { IfOk result (λ m. m.pages ≡ []) }
+        ensures limits { IfOk result (λ m. m.limits ≡ limits) }
+    {
+        let seats = seats(alloc)?;
+        Ok(MemoryStore {
+            alloc,
+            limits,
+            lines: Entries::new(alloc),
+            seats,
+            pages: Vec::new(alloc),
+        })
+    }
+}
+
+impl LineStore for MemoryStore {
+    ghost use Rattle.memory_store.specs.Kept.{shelf_of, left_of};
+
+    ghost shelf = { shelf_of };
+
+    ghost left = { left_of };
+
+    fn begin(&mut self, s: Session) {
+        self.put(s, Seat::Beginning);
+    }
+
+    fn begin_reading(&mut self, s: Session) -> Result<(), NoMemory> {
+        let start = self.lines.copied(self.alloc)?;
+        self.put(s, Seat::Reading(start));
+        Ok(())
+    }
+
+    fn end_reading(&mut self, s: Session) {
+        self.put(s, Seat::Outside);
+    }
+
+    fn learn_line(
+        &mut self,
+        s: Session,
+        key: Dbkey,
+        known: &mut Known,
+    ) -> Result<Progress, ReadStop> {
+        let image = self.line_seen(s, key);
+        match known.learn_line(self.alloc, key, image) {
+            Ok(()) => Ok(Progress::Done),
+            Err(_) => Err(ReadStop::NoMemory),
+        }
+    }
+
+    fn learn_area(
+        &mut self,
+        s: Session,
+        area: u32,
+        known: &mut Known,
+    ) -> Result<Progress, ReadStop> {
+        let Ok(lines) = self.seen(s) else {
+            return Err(ReadStop::NoMemory);
+        };
+        let Ok(found) = lines_of(self.alloc, lines.as_slice(), area) else {
+            return Err(ReadStop::NoMemory);
+        };
+        match known.learn_area(self.alloc, area, &found) {
+            Ok(()) => Ok(Progress::Done),
+            Err(_) => Err(ReadStop::NoMemory),
+        }
+    }
+
+    fn room(
+        &self,
+        s: Session,
+        area: u32,
+        class: u16,
+        from: Option<Dbkey>,
+    ) -> Result<Dbkey, AreaFull> {
+        let Some(file) = storage_area(area) else {
+            unreachable!()
+        };
+        if let Some(key) = self.next_room(s, file, area, class, from) {
+            return Ok(key);
+        }
+        match self.new_page(s, file, area) {
+            Some(page) => Ok(Dbkey {
+                area,
+                page,
+                line: 0,
+            }),
+            None => Err(AreaFull {
+                limit: self.limits.pages,
+            }),
+        }
+    }
+
+    fn take_room(&mut self, _s: Session, key: Dbkey, class: u16) -> Result<bool, NoMemory> {
+        let Some(file) = storage_area(key.area) else {
+            unreachable!()
+        };
+        if self.is_taken(file, key.page) {
+            return Ok(self.has_page(file, key, class));
+        }
+        self.take_page(PageUse {
+            file,
+            page: key.page,
+            area: key.area,
+            class,
+        })?;
+        Ok(true)
+    }
+
+    fn change(&mut self, s: Session, writes: &[Write]) -> Result<(), ChangeStop> {
+        let Ok(more) = copy_writes(self.alloc, writes) else {
+            return Err(ChangeStop::NoMemory);
+        };
+        match self.take(s).changing(more) {
+            Ok(seat) => {
+                self.put(s, seat);
+                Ok(())
+            }
+            Err(seat) => {
+                self.put(s, seat);
+                Err(ChangeStop::NoMemory)
+            }
+        }
+    }
+
+    fn commit(&mut self, s: Session) -> Result<(), CommitStop> {
+        let Ok(behind) = self.seen(s) else {
+            return Err(CommitStop::NoMemory);
+        };
+        let seat = self.take(s).committing(behind);
+        self.put(s, seat);
+        Ok(())
+    }
+
+    fn roll_back(&mut self, s: Session) {
+        let seat = self.take(s).rolling_back();
+        self.put(s, seat);
+    }
+
+    fn die(&mut self, s: Session) {
+        let seat = self.take(s).died(self.alloc);
+        self.put(s, seat);
+    }
+
+    fn step(&mut self, s: Session) -> Result<Stepped, Fault> {
+        match self.take(s) {
+            Seat::Committing(_, behind) => {
+                self.land(behind);
+                self.put(s, Seat::Closing);
+                Ok(Stepped::Committed(Moment { number: 0 }))
+            }
+            seat => {
+                let (next, stepped) = seat.stepped(self.alloc);
+                self.put(s, next);
+                Ok(stepped)
+            }
+        }
+    }
+
+    fn is_at_barrier(&self, s: Session) -> bool {
+        matches!(
+            self.seats.get(s.number as usize),
+            Some(Seat::Committing(_, _))
+        )
+    }
+
+    fn moment(&self) -> Moment {
+        Moment { number: 0 }
+    }
+}
