@@ -45,7 +45,7 @@ module _ (image : Image) (file : FileId) where
   abbrev stand : ℕ → ℕ → List (Option AijPart)
   stand = standing image file
 
-  stand-more : (slot count k : ℕ) → stand slot (count + k) ≡ stand slot count ++ stand (slot + count) k
+  pub stand-more : (slot count k : ℕ) → stand slot (count + k) ≡ stand slot count ++ stand (slot + count) k
   stand-more slot zero k = ap (stand slot) (zero-add k) ∙ ap (λ s. stand s k) (sym (add-zero slot))
   stand-more slot (suc count) k =
       let next : slot + 1 + count ≡ slot + suc count = omega arith in
@@ -95,7 +95,7 @@ module _ (image : Image) (file : FileId) (is_journal : slot_bytes file ≡ 512) 
       subst (λ s. FindsAs s scan) (sym same) (record { groups = rest.groups; slot = rest.slot; number = rest.number })
 
   -- of two readings, the one that goes further does so in the zeros
-  further : (scan : Scan) (slot count k : ℕ) → EndsBy image file (slot + count) → FindsAs (read_all scan (stands slot (count + k))) (read_all scan (stands slot count))
+  pub further : (scan : Scan) (slot count k : ℕ) → EndsBy image file (slot + count) → FindsAs (read_all scan (stands slot (count + k))) (read_all scan (stands slot count))
   further scan slot count k ends =
       let same : read_all scan (stands slot (count + k)) ≡ read_all (read_all scan (stands slot count)) (stands (slot + count) k) =
       ap (read_all scan) (stand-more image file slot count k) ∙ in_pieces scan (stands slot count) (stands (slot + count) k) in
@@ -110,7 +110,7 @@ module _ (image : Image) (file : FileId) (is_journal : slot_bytes file ≡ 512) 
   ]
 
   -- a scan that ended finds no more
-  ended_before : (scan : Scan) (slot a k : ℕ) → (read_all scan (stands slot a)).stage ≡ Ended → read_all scan (stands slot (a + k)) ≡ read_all scan (stands slot a)
+  pub ended_before : (scan : Scan) (slot a k : ℕ) → (read_all scan (stands slot a)).stage ≡ Ended → read_all scan (stands slot (a + k)) ≡ read_all scan (stands slot a)
   ended_before scan slot a k end =
       ap (read_all scan) (stand-more image file slot a k)
       ∙ in_pieces scan (stands slot a) (stands (slot + a) k)

@@ -1,8 +1,10 @@
 //! The whole groups of an after-image journal, read from any disk.
 #![tactic(auto)]
 
+mod one_group;
 mod reading;
 #[cfg(test)]
 mod tests;
 
-pub use reading::{AijFault, scan};
+pub use one_group::group_at;
+pub use reading::{AijFault, first_number, scan};

@@ -84,8 +84,8 @@ pub fn scan<D: Disk>(alloc: Global, disk: &mut D, file: FileId) -> Result<Scan, 
     }
 }
 
-// The number of the first group, which the header says.
-fn first_number<D: Disk>(disk: &mut D, file: FileId) -> Result<u64, AijFault>
+/// The number of the first group, which the header says.
+pub fn first_number<D: Disk>(disk: &mut D, file: FileId) -> Result<u64, AijFault>
     requires { slot_bytes file ≡ 512 }
     ensures header { IfOk result (λ first. IsTrue (D.view disk.old).tells
         → IsHeader ((D.view disk.old).content file 0) first) }

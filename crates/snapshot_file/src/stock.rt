@@ -69,7 +69,7 @@ impl Stock {
                 self.aside -= 1;
                 slot
             }
-            Err(_) => 0,
+            Err(_) => unreachable!(),
         }
     }
 

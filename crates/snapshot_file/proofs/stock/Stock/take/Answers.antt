@@ -11,20 +11,11 @@ invariant_of-self c =
     let long = c.self.invariant.1 in
     (omega (arith, less, was), c.in-Ok.ensures.taken.limit ∙ long)
 
-pub returns-in-Err-clause-taken : goal.returns-in-Err-clause-taken
-returns-in-Err-clause-taken c =
+pub unreachable-requires : goal.unreachable-requires
+unreachable-requires c =
     let i = c.self.inside in
     let none : left_in i.free ≡ 0 = none_left i.free c.in-Err.ensures.full in
     let was = c.self.invariant.0 in
     let some : 1 ≤ c.args.self.now.aside = c.requires in
     let same : i.aside ≡ c.args.self.now.aside = ap (λ (s : Store). s.aside) c.self.view_is in
-    absurd (omega (arith, none, was, some, same))
-
-pub returns-in-Err-clause-fewer : goal.returns-in-Err-clause-fewer
-returns-in-Err-clause-fewer c =
-    let i = c.self.inside in
-    let none : left_in i.free ≡ 0 = none_left i.free c.in-Err.ensures.full in
-    let was = c.self.invariant.0 in
-    let some : 1 ≤ c.args.self.now.aside = c.requires in
-    let same : i.aside ≡ c.args.self.now.aside = ap (λ (s : Store). s.aside) c.self.view_is in
-    absurd (omega (arith, none, was, some, same))
+    omega (arith, none, was, some, same)
