@@ -27,7 +27,8 @@ use Rattle.sound_changes.proofs.Basics.{keys_apart, all_of, both_of}
 
 -- ---- the catalog
 
-keys_in : (a : ℕ) (es : Lines) → AllByRecursion (λ (k : Dbkey). (k.area == a) ≡ true) (keys_of (lines_in a es))
+-- the keys of the lines in an area are of it
+pub keys_in : (a : ℕ) (es : Lines) → AllByRecursion (λ (k : Dbkey). (k.area == a) ≡ true) (keys_of (lines_in a es))
 keys_in a [] = tt
 keys_in a (e ∷ es) =
     elim (e.0.area == a) as (λ b. e.0.area == a ≡ b → AllByRecursion (λ (k : Dbkey). (k.area == a) ≡ true) (keys_of (cond b (e ∷ lines_in a es) (lines_in a es)))) [

@@ -1,14 +1,15 @@
 -- DELETE RELATION.
 use Rattle.std.proofs.Common.{◌≡◌, ◌==◌, ℕ, ◌≤◌, ◌%◌, Bool, true, false, cond, not, List, [], ◌∷◌, ◌++◌, Option, Some, None, inl, inr, refl, sym, ap, subst, ◌∙◌, arith}
-use Rattle.std.specs.Prelude.{option_map}
+use Rattle.std.specs.Prelude.{◌||◌, option_map}
 use Rattle.std.specs.List.{AllByRecursion, filter, slice_get}
 use Rattle.std.specs.Ordering.{is_eq}
+use Rattle.std.specs.Cmp.{tied_itself}
 use Rattle.std.proofs.lemmas.Bool.{eq-eqb, ne_eqb}
 use Rattle.std.proofs.lemmas.Option.{same_Some}
 use Rattle.std.proofs.lemmas.List.Elements.{recursion_from_All}
 use Rattle.rdb_types.specs.declared.keys.Dbkey.{Dbkey}
 use Rattle.rdb_types.specs.Order.{dbkey_order}
-use Rattle.rdb_types.specs.OrderLaws.{same_dbkey}
+use Rattle.rdb_types.specs.OrderLaws.{dbkey_total, same_dbkey}
 use Rattle.rdo_ast.specs.Tree.{Name}
 use Rattle.rdb_meaning.specs.declared.tables.Relation.{Relation as Rows}
 use Rattle.rdb_meaning.specs.declared.tables.Index.{Index as IndexOf}
@@ -17,7 +18,7 @@ use Rattle.rdb_meaning.specs.Contents.{relation_named}
 use Rattle.rdb_meaning.specs.Checks.{needs_some}
 use Rattle.rdb_meaning.specs.Execution.{area_of}
 use Rattle.rdb_meaning.specs.Defining.{without, without_relation}
-use Rattle.line_view.specs.Knowledge.{Lines, lines_in, keys_of}
+use Rattle.line_view.specs.Knowledge.{Lines, lines_in, keys_of, laid}
 use Rattle.line_view.specs.declared.writes.Write.{Write}
 use Rattle.line_view.specs.Writes.{laid_all}
 use Rattle.line_view.proofs.Written.{laid_in_turn}
@@ -34,10 +35,11 @@ use Rattle.catalog.specs.Deletions.{is_of_relation, keys_where}
 use Rattle.catalog.specs.Reading.{catalog_area, line_keys, IsPresent, IsCatalogOf}
 use Rattle.catalog_definitions.specs.Leaving.{Leaves, erasures}
 use Rattle.catalog_definitions.proofs.DeletedRelations.{relation_goes}
-use Rattle.catalog_definitions.proofs.Erasing.{kept, erased_lines}
+use Rattle.catalog_definitions.proofs.Erasing.{is_among, kept, erased_lines}
+use Rattle.catalog_definitions.proofs.Basics.{or_true}
 use Rattle.sound_changes.specs.Standing.{IsSoundAs}
 use Rattle.sound_changes.proofs.Basics.{all_of, both_of, fails, equal, number_is}
-use Rattle.sound_changes.proofs.Frames.{in_area}
+use Rattle.sound_changes.proofs.Frames.{keys_in, in_area}
 use Rattle.sound_changes.proofs.Named.{Fits, all_fit, root_area}
 use Rattle.sound_changes.proofs.IndexLaid.{at_place, same_index}
 use Rattle.sound_changes.proofs.Listed.{one_placed, listed}
@@ -47,7 +49,7 @@ use Rattle.schema_alone.specs.Schema.{bare}
 use Rattle.sound_definitions.specs.Apart.{IsLeft}
 use Rattle.sound_definitions.proofs.Behind.{AreOff, AreErased, lines_apart, old_all}
 use Rattle.sound_definitions.proofs.GoneRelation.{without_all, relation_deleted as lines_deleted}
-use Rattle.sound_statements.specs.Owned.{IsOfRelation}
+use Rattle.sound_statements.specs.Owned.{IsOfIndex, IsOfRelation}
 use Rattle.sound_statements.proofs.Common.{are_erased, writes_of, none_kept, same_line, catalog_alike}
 
 -- ---- erasures
@@ -186,3 +188,71 @@ module _ (all : Lines) (c : Catalog) (t : Tables) (n : Name) (rel : Rows) (keys 
       area_there : (o : Option Rows) → option_map bare o ≡ Some (bare rel) → area_of o ≡ rel.area
       area_there None same = let bad : ⊥ = cc in absurd bad
       area_there (Some r) same = ap (λ (x : Rows). x.area) (same_Some (bare r) (bare rel) same)
+
+-- ---- all lines of the relation's area are erased
+
+filter_turn : {X : Type 0} (p q : X → Bool) (xs : List X) → filter p (filter q xs) ≡ filter q (filter p xs)
+filter_turn p q [] = refl
+filter_turn p q (x ∷ xs) =
+    let rest = filter_turn p q xs in
+    elim (p x) as (λ b. p x ≡ b → filter p (cond (q x) (x ∷ filter q xs) (filter q xs)) ≡ filter q (cond b (x ∷ filter p xs) (filter p xs))) [
+      | true ↦ λ is. elim (q x) as (λ c. filter p (cond c (x ∷ filter q xs) (filter q xs)) ≡ cond c (x ∷ filter q (filter p xs)) (filter q (filter p xs))) [
+        | true ↦ ap (λ b. cond b (x ∷ filter p (filter q xs)) (filter p (filter q xs))) is ∙ ap (λ l. x ∷ l) rest
+        | false ↦ rest
+      ]
+      | false ↦ λ is. elim (q x) as (λ c. filter p (cond c (x ∷ filter q xs) (filter q xs)) ≡ filter q (filter p xs)) [
+        | true ↦ ap (λ b. cond b (x ∷ filter p (filter q xs)) (filter p (filter q xs))) is ∙ rest
+        | false ↦ rest
+      ]
+    ] refl
+
+left_in : (a : ℕ) (keys : List Dbkey) (cur : Lines) → lines_in a (laid_all (erasures keys) cur) ≡ laid_all (erasures keys) (lines_in a cur)
+left_in a [] cur = refl
+left_in a (k ∷ ks) cur = left_in a ks (laid k None cur) ∙ ap (laid_all (erasures ks)) (filter_turn (λ (e : Dbkey × List ℕ). e.0.area == a) (λ (e : Dbkey × List ℕ). not (is_eq (dbkey_order k e.0))) cur)
+
+abbrev AreAmong : List Dbkey → Lines → Type 0
+AreAmong keys = AllByRecursion (λ (e : Dbkey × List ℕ). is_among keys e.0 ≡ true)
+
+among_others : (k : Dbkey) (ks : List Dbkey) (cur : Lines) → AreAmong (k ∷ ks) cur → AreAmong ks (laid k None cur)
+among_others k ks [] each = tt
+among_others k ks (e ∷ es) each =
+    let rest = among_others k ks es each.1 in
+    elim (is_eq (dbkey_order k e.0)) as (λ b. (b || is_among ks e.0) ≡ true → AreAmong ks (cond (not b) (e ∷ laid k None es) (laid k None es))) [
+      | true ↦ λ h. rest
+      | false ↦ λ h. (h, rest)
+    ] each.0
+
+all_gone : (keys : List Dbkey) (cur : Lines) → AreAmong keys cur → laid_all (erasures keys) cur ≡ []
+all_gone [] [] each = refl
+all_gone [] (e ∷ es) each = let first = each.0 in let bad : ⊥ = cc in absurd bad
+all_gone (k ∷ ks) cur each = all_gone ks (laid k None cur) (among_others k ks cur each)
+
+among_own : (cur : Lines) (others : List Dbkey) → AreAmong (keys_of cur ++ others) cur
+among_own [] others = tt
+among_own (e ∷ es) others = (
+  ap (λ r. is_eq r || is_among (keys_of es ++ others) e.0) (tied_itself dbkey_total e.0),
+  all_of (λ (x : Dbkey × List ℕ). is_among (keys_of es ++ others) x.0 ≡ true) (λ (x : Dbkey × List ℕ). is_among (e.0 ∷ (keys_of es ++ others)) x.0 ≡ true)
+      (λ x h. ap (λ b. is_eq (dbkey_order e.0 x.0) || b) h ∙ or_true (is_eq (dbkey_order e.0 x.0))) es (among_own es others),
+)
+
+all_append : (P : Dbkey → Type 0) (xs ys : List Dbkey) → AllByRecursion P xs → AllByRecursion P ys → AllByRecursion P (xs ++ ys)
+all_append P [] ys each also = also
+all_append P (x ∷ xs) ys each also = (each.0, all_append P xs ys each.1 also)
+
+pub relation_deleted_whole : (all : Lines) (c : Catalog) (t : Tables) (n : Name) (rel : Rows) (nodes : List Dbkey) → IsSoundAs all c t → relation_named n t ≡ Some rel → AllByRecursion (IsOfIndex c rel.area) nodes →
+    (after : Catalog) × IsSoundAs (laid_all (erasures (keys_where (is_of_relation rel.area) c.lines) ++ erasures (keys_of (lines_in rel.area all) ++ nodes)) all) after (without_relation n t)
+relation_deleted_whole all c t n rel nodes sound named own =
+    let keys = keys_of (lines_in rel.area all) in
+    let rows : AllByRecursion (IsOfRelation c rel.area) keys = all_of (λ (k : Dbkey). (k.area == rel.area) ≡ true) (IsOfRelation c rel.area) (λ k is. inl (number_is k.area rel.area is)) keys (keys_in rel.area all) in
+    let owned = all_append (IsOfRelation c rel.area) keys nodes rows (all_of (IsOfIndex c rel.area) (IsOfRelation c rel.area) (λ k is. inr is) nodes own) in
+    let gone = keys_where (is_of_relation rel.area) c.lines in
+    let mid = laid_all (erasures gone) all in
+    let bounds : IsRelationArea rel.area = (found all c t n rel sound.decodes sound.are named).area in
+    let inside = all_of (λ (p : PlacedLine). (p.key.area == catalog_area) ≡ true) (λ (p : PlacedLine). (p.key.area == rel.area) ≡ false) (λ p is. ne_eqb p.key.area rel.area (λ same. omega (arith, same, number_is p.key.area catalog_area is, bounds.0))) c.lines (in_area all c sound.decodes) in
+    let off : AreOff rel.area (erasures gone) = writes_of (λ (k : Dbkey). (k.area == rel.area) ≡ false) gone (keys_of_all (is_of_relation rel.area) (λ (p : PlacedLine). (p.key.area == rel.area) ≡ false) (λ (k : Dbkey). (k.area == rel.area) ≡ false) (λ p is other. other) c.lines inside) in
+    let empty : lines_in rel.area (laid_all (erasures gone ++ erasures (keys ++ nodes)) all) ≡ [] =
+    ap (lines_in rel.area) (laid_in_turn (erasures gone) (erasures (keys ++ nodes)) all)
+    ∙ left_in rel.area (keys ++ nodes) mid
+    ∙ ap (laid_all (erasures (keys ++ nodes))) (lines_apart rel.area (erasures gone) all off)
+    ∙ all_gone (keys ++ nodes) (lines_in rel.area all) (among_own (lines_in rel.area all) nodes) in
+    relation_deleted all c t n rel (keys ++ nodes) sound named owned empty

@@ -11,7 +11,7 @@ ghost use Rattle.rdb_meaning.specs.declared.tables.Tables.{Tables as Kept};
 ghost use Rattle.rdb_meaning.specs.Contents.{relation_named, rows_of, new_index_area};
 ghost use Rattle.rdb_meaning.specs.Defining.{with_field, relation_names, with_relation, index_names, index_refusal, with_index, without_index, without_relation};
 ghost use Rattle.rdb_definitions.specs.NewIndex.{new_index};
-ghost use Rattle.line_view.specs.Knowledge.{Knowledge, Lines, Agrees, lines_in};
+ghost use Rattle.line_view.specs.Knowledge.{Knowledge, Lines, Agrees, lines_in, keys_of};
 ghost use Rattle.line_view.specs.declared.writes.Write.{Write};
 ghost use Rattle.line_view.specs.Writes.{laid_all};
 ghost use Rattle.catalog.specs.declared.reading.Catalog.{Catalog as Directory};
@@ -23,7 +23,7 @@ ghost use Rattle.catalog_definitions.specs.Written.{AreWritten, global_line, rel
 ghost use Rattle.catalog_definitions.specs.Leaving.{Leaves, erasures};
 ghost use Rattle.relation_rows.specs.Indexed.{IsIndexOf};
 ghost use Rattle.sound_changes.specs.Standing.{IsSoundAs};
-ghost use Rattle.sound_statements.specs.Owned.{IsOfRelation};
+ghost use Rattle.sound_statements.specs.Owned.{IsOfIndex, IsOfRelation};
 
 /// Behind what `catalog_definitions::define_field` writes, the map is sound with the tables of the meaning.
 pub fn define_field_stays_sound()
@@ -57,10 +57,13 @@ pub fn delete_index_stays_sound()
         → (after : Directory) × IsSoundAs (laid_all (erasures (keys_where (is_index_named n) c.lines) ++ erasures keys) all) after (without_index n t) }
 {}
 
-/// Behind the erasing of a relation's lines in the catalog and of its rows, the map is sound with the tables of the meaning. Nodes of its indexes may be erased too.
+/// Behind the erasing of a relation's lines in the catalog and of all lines in its area, the map is sound with the tables of the meaning. Nodes of its indexes may be erased too.
 pub fn delete_relation_stays_sound()
-    ensures { (all : Lines) (c : Directory) (t : Kept) (n : Name) (rel : Rows) (keys : List Place) → IsSoundAs all c t → relation_named n t ≡ Some rel
+    ensures emptied { (all : Lines) (c : Directory) (t : Kept) (n : Name) (rel : Rows) (keys : List Place) → IsSoundAs all c t → relation_named n t ≡ Some rel
         → AllByRecursion (IsOfRelation c rel.area) keys
         → lines_in rel.area (laid_all (erasures (keys_where (is_of_relation rel.area) c.lines) ++ erasures keys) all) ≡ []
         → (after : Directory) × IsSoundAs (laid_all (erasures (keys_where (is_of_relation rel.area) c.lines) ++ erasures keys) all) after (without_relation n t) }
+    ensures rows { (all : Lines) (c : Directory) (t : Kept) (n : Name) (rel : Rows) (nodes : List Place) → IsSoundAs all c t → relation_named n t ≡ Some rel
+        → AllByRecursion (IsOfIndex c rel.area) nodes
+        → (after : Directory) × IsSoundAs (laid_all (erasures (keys_where (is_of_relation rel.area) c.lines) ++ erasures (keys_of (lines_in rel.area all) ++ nodes)) all) after (without_relation n t) }
 {}
