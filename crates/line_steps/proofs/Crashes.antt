@@ -1,80 +1,100 @@
--- The images go on standing for what was committed.
-use Rattle.std.proofs.Common.{◌≡◌, ◌≤◌, ℕ, zero, suc, ◌++◌, ◌∷◌, [], ◌==◌, Bool, true, false, List, length, refl, ◌∙◌, sym, ap, subst, arith, Some, slice_get, ◌⊎◌, inl, inr, append_assoc, append-nil}
-use Rattle.std.specs.Prelude.{IsTrue, Result}
+-- What a crash may leave goes on standing for what was committed.
+use Rattle.std.proofs.Common.{◌≡◌, ◌≤◌, ℕ, zero, suc, ◌++◌, ◌∷◌, [], ◌==◌, Bool, true, false, List, length, refl, ◌∙◌, sym, ap, subst, arith, Option, Some, slice_get, ◌⊎◌, inl, inr, append_assoc, append-nil}
 use Rattle.std.proofs.lemmas.Option.{none-some}
-use Rattle.rdb_outside.specs.Disk.{Image, View, LeftNow, Counts}
-use Rattle.rdb_outside.specs.Moments.{since_goes_on, since_weaker}
-use Rattle.rdb_meaning.specs.declared.tables.Tables.{Tables}
+use Rattle.line_view.specs.Knowledge.{Lines}
+use Rattle.line_view.specs.Writes.{laid_all}
 use Rattle.rdb_account.specs.Events.{Event}
-use Rattle.rdb_account.specs.Places.{Opening, Place, Commit, place}
+use Rattle.rdb_account.specs.Places.{Opening, Place, Transaction, Commit, place, retold}
+use Rattle.rdb_account.specs.Lawful.{got_of}
+use Rattle.lock_ties.specs.Ties.{needs_at}
+use Rattle.lock_ties.proofs.Places.{number}
 use Rattle.kept_apart.specs.Guards.{may_write}
 use Rattle.kept_apart.proofs.Apart.{guarded-apart, write-guards}
-use Rattle.session_jobs.specs.Records.{Model}
-use Rattle.lock_ties.specs.Ties.{needs_at}
+use Rattle.session_jobs.specs.Records.{Model, IsOrderly}
+use Rattle.line_history.proofs.Transactions.{commit-stands}
+use Rattle.line_store.specs.Shelves.{Shelf}
+use Rattle.line_store.specs.Calls.{MayStand, Lasts}
 use Rattle.line_steps.specs.Right.{Ground, IsFit}
-use Rattle.line_steps.specs.Images.{journal_node, MayStand, Reading, IsLeft, AreLeft, IsNow}
-
-may-grown : (o : Opening) (events es : List Event) (k : ℕ) (t : Tables) → MayStand o events k t → MayStand o (events ++ es) k t
-may-grown o events es k t h = record {
-  before = h.before;
-  behind = h.behind ++ es;
-  is = ap (λ l. l ++ es) h.is ∙ append_assoc h.before h.behind es;
-  enough = h.enough;
-  stands = h.stands;
-}
+use Rattle.line_steps.specs.Images.{journal_node, IsNow, IsLeft, AreLeft, IsStored}
 
 within : (cs : List Commit) (k : ℕ) (c : Commit) → slice_get cs k ≡ Some c → suc k ≤ length cs
 within [] k c found = absurd (none-some c found)
 within (x ∷ xs) zero c found = omega arith
 within (x ∷ xs) (suc k) c found = let h = within xs k c found in omega (arith, h)
 
-module _ (R : Reading) (M : Model) (o : Opening) where
-  left-grown : (events es : List Event) (k : ℕ) (image : Image) → IsLeft R M o events k image → IsLeft R M o (events ++ es) k image
-  left-grown events es k image h = record { lines = h.lines; tables = h.tables; reads = h.reads; stands = h.stands; may = may-grown o events es k h.tables h.may }
-
-  now-left : (events : List Event) (k : ℕ) (image : Image) → k ≤ length (place o events).commits → IsNow R M o (place o events) image → IsLeft R M o events k image
-  now-left events k image enough h = record {
-    lines = h.lines;
-    tables = h.tables;
-    reads = h.reads;
-    stands = h.stands;
-    may = record { before = events; behind = []; is = sym (append-nil events); enough = enough; stands = h.at };
+module _ (M : Model) (orderly : IsOrderly M) where
+  left-grown : (o : Opening) (events es : List Event) (k : ℕ) (lines : Lines) → IsLeft M o events k lines → IsLeft M o (events ++ es) k lines
+  left-grown o events es k lines h = record {
+    before = h.before;
+    behind = h.behind ++ es;
+    is = ap (λ l. l ++ es) h.is ∙ append_assoc h.before h.behind es;
+    enough = h.enough;
+    stood = h.stood;
   }
 
-  -- events alone
-  pub left-more : (events es : List Event) (v : View) → (place o (events ++ es)).commits ≡ (place o events).commits → AreLeft R M o events v → AreLeft R M o (events ++ es) v
-  left-more events es v same h = record {
-    opening = since_weaker v o.moment (IsLeft R M o events 0) (IsLeft R M o (events ++ es) 0) (left-grown events es 0) h.opening;
-    each = λ k c found. since_weaker v c.moment (IsLeft R M o events (suc k)) (IsLeft R M o (events ++ es) (suc k)) (left-grown events es (suc k)) (h.each k c (ap (λ cs. slice_get cs k) (sym same) ∙ found));
-  }
+  now-left : (o : Opening) (events : List Event) (k : ℕ) (lines : Lines) → k ≤ length (place o events).commits → IsNow M o (place o events) lines → IsLeft M o events k lines
+  now-left o events k lines enough h = record { before = events; behind = []; is = sym (append-nil events); enough = enough; stood = h }
 
-  -- A device call, and events behind it: what a crash may leave now stands at the place behind them, and a commit among them bears this moment.
-  pub left-goes-on : {T E : Type 0} (events es : List Event) (old new : View) (result : Result T E) → IsTrue old.tells → Counts old new result →
-      ((k : ℕ) (c : Commit) → slice_get (place o (events ++ es)).commits k ≡ Some c → (slice_get (place o events).commits k ≡ Some c) ⊎ (c.moment ≡ new.moment)) →
-      ((image : Image) → LeftNow new image → IsNow R M o (place o (events ++ es)) image) →
-      AreLeft R M o events old → AreLeft R M o (events ++ es) new
-  left-goes-on events es old new result tells counts grown now h = record {
-    opening = since_goes_on old new o.moment (IsLeft R M o (events ++ es) 0) result tells
-        (since_weaker old o.moment (IsLeft R M o events 0) (IsLeft R M o (events ++ es) 0) (left-grown events es 0) h.opening) counts
-        (λ image left. now-left (events ++ es) 0 image (omega arith) (now image left));
-    each = λ k c found. elim (grown k c found) [
-      | inl was ↦ since_goes_on old new c.moment (IsLeft R M o (events ++ es) (suc k)) result tells
-          (since_weaker old c.moment (IsLeft R M o events (suc k)) (IsLeft R M o (events ++ es) (suc k)) (left-grown events es (suc k)) (h.each k c was)) counts
-          (λ image left. now-left (events ++ es) (suc k) image (within (place o (events ++ es)).commits k c found) (now image left))
-      | inr is ↦ record {
-        past = rw is (omega arith);
-        each = λ image left. now-left (events ++ es) (suc k) image (within (place o (events ++ es)).commits k c found) (now image (subst (λ t. new.left_since t image) is left));
+  -- What may stand now, the account has at its place: the committed lines, or those with the writes of who has the journal.
+  pub stands-now : (o : Opening) (p : Place) (g : Ground) (h : Shelf) (lines : Lines) → IsFit M p g → IsStored M o p g h → MayStand h lines → IsNow M o p lines
+  stands-now o p g h lines fit stored (inl is) = record { tables = p.tables; stands = subst (λ (x : Lines). M x p.tables) (sym (is ∙ stored.now)) fit.stands; among = inl refl }
+  stands-now o p g h lines fit stored (inr (s, ws, flies, is)) =
+      let c = stored.flies s ws flies in
+      let x = c.writes.transaction in
+      record {
+        tables = (retold o.word p.tables x.lines).tables;
+        stands = subst (λ (y : Lines). M y (retold o.word p.tables x.lines).tables) (sym (is ∙ (ap (laid_all ws) stored.now ∙ ap (λ vs. laid_all vs g.now) (sym c.are))))
+            (commit-stands M orderly o.word x.got g.now x.lines (g.desk s).writes c.standing p.tables fit.stands c.writes.is.holds);
+        among = inr (
+          s,
+          record {
+            transaction = x;
+            is_open = c.writes.is_open;
+            writes = c.writes.writes;
+            has_journal = subst (λ (y : Option Transaction). may_write (got_of y) journal_node ≡ true) c.writes.is_open c.has_journal;
+            tables = refl;
+          },
+        );
       }
+
+  -- events alone, with no commit
+  pub left-more : (o : Opening) (events es : List Event) (left : ℕ → Lines → Type 0) (time : ℕ) → (place o (events ++ es)).commits ≡ (place o events).commits → AreLeft M o events left time → AreLeft M o (events ++ es) left time
+  left-more o events es left time same h = record {
+    opened = h.opened;
+    opening = λ lines l. left-grown o events es 0 lines (h.opening lines l);
+    past = λ k c found. h.past k c (ap (λ cs. slice_get cs k) (sym same) ∙ found);
+    each = λ k c found lines l. left-grown o events es (suc k) lines (h.each k c (ap (λ cs. slice_get cs k) (sym same) ∙ found) lines l);
+  }
+
+  -- A call of the store, and events behind it: what may stand before it and behind it stands at the places before and behind the events, and a commit among them bears this moment.
+  pub left-goes-on : (o : Opening) (events es : List Event) (before behind : ℕ → Lines → Type 0) (old new : Shelf) → Lasts before behind old new → old.clock.time ≤ new.clock.time →
+      ((lines : Lines) → MayStand old lines → IsNow M o (place o events) lines) → ((lines : Lines) → MayStand new lines → IsNow M o (place o (events ++ es)) lines) →
+      ((k : ℕ) (c : Commit) → slice_get (place o (events ++ es)).commits k ≡ Some c → (slice_get (place o events).commits k ≡ Some c) ⊎ (c.moment ≡ new.clock.time)) →
+      length (place o events).commits ≤ length (place o (events ++ es)).commits →
+      AreLeft M o events before old.clock.time → AreLeft M o (events ++ es) behind new.clock.time
+  left-goes-on o events es before behind old new lasts later was now grown more h = record {
+    opened = omega (arith, h.opened, later);
+    opening = λ lines l. since 0 o.moment h.opened (omega arith) lines (h.opening lines) (lasts.since o.moment lines h.opened l);
+    past = λ k c found. elim (grown k c found) [
+      | inl e ↦ let p = h.past k c e in omega (arith, p, later)
+      | inr e ↦ rw e (omega arith)
+    ];
+    each = λ k c found lines l. elim (grown k c found) [
+      | inl e ↦ since (suc k) c.moment (h.past k c e) (within (place o events).commits k c e) lines (h.each k c e lines) (lasts.since c.moment lines (h.past k c e) l)
+      | inr e ↦ now-left o (events ++ es) (suc k) lines (within (place o (events ++ es)).commits k c found) (now lines (lasts.now lines (subst (λ t. behind t lines) e l)))
     ];
   }
+    where
+      since : (k t : ℕ) → t ≤ old.clock.time → k ≤ length (place o events).commits → (lines : Lines) → (before t lines → IsLeft M o events k lines) →
+          before t lines ⊎ (MayStand old lines ⊎ MayStand new lines) → IsLeft M o (events ++ es) k lines
+      since k t le enough lines left (inl b) = left-grown o events es k lines (left b)
+      since k t le enough lines left (inr (inl a)) = left-grown o events es k lines (now-left o events k lines enough (was lines a))
+      since k t le enough lines left (inr (inr a)) = now-left o (events ++ es) k lines (omega (arith, enough, more)) (now lines a)
 
 -- at most one has the journal
 pub one-in-flight : (M : Model) (p : Place) (g : Ground) → IsFit M p g → (a b : ℕ) → may_write (needs_at p a) journal_node ≡ true → may_write (needs_at p b) journal_node ≡ true → a ≡ b
 one-in-flight M p g fit a b mine theirs = by (a == b) refl
   where
-    number : (a b : ℕ) → (a == b) ≡ true → a ≡ b
-    number a b e = grind arith
-
     by : (t : Bool) → (a == b) ≡ t → a ≡ b
     by true e = number a b e
     by false e = absurd (guarded-apart (needs_at p a) (needs_at p b) journal_node (fit.apart a b e) (write-guards (needs_at p a) journal_node mine) theirs)

@@ -1,31 +1,25 @@
-// What the images that a crash may leave stand for.
-ghost use Rattle.std.specs.Prelude.{IsTrue, Result, ◌≡◌, ◌++◌, ◌⊎◌, ℕ, true, List, Some, slice_get};
-ghost use Rattle.kept_apart.specs.Guards.{may_write};
-ghost use Rattle.line_steps.specs.Images.{AreLeft, IsNow, journal_node};
-ghost use Rattle.line_steps.specs.Right.{Ground, IsFit};
-ghost use Rattle.lock_ties.specs.Ties.{needs_at};
+// What the maps of lines stand for that a crash may leave.
+ghost use Rattle.std.specs.Prelude.{◌≡◌, ◌≤◌, ◌++◌, ◌⊎◌, ℕ, true, List, length, Some, slice_get};
+ghost use Rattle.line_view.specs.Knowledge.{Lines};
 ghost use Rattle.rdb_account.specs.Events.{Event};
 ghost use Rattle.rdb_account.specs.Places.{Commit, Opening, Place, place};
-ghost use Rattle.rdb_outside.specs.Disk.{Counts, Image, LeftNow};
+ghost use Rattle.kept_apart.specs.Guards.{may_write};
+ghost use Rattle.line_store.specs.Shelves.{Shelf};
+ghost use Rattle.line_store.specs.Calls.{Lasts, MayStand};
+ghost use Rattle.lock_ties.specs.Ties.{needs_at};
+ghost use Rattle.line_steps.specs.Images.{AreLeft, IsNow, IsStored, journal_node};
+ghost use Rattle.line_steps.specs.Right.{Ground, IsFit};
 
-use rdb_outside::Disk;
+use line_store::LineStore;
 use session_jobs::Statements;
 
-/// How the lines of a database are read from an image of its disk.
-pub trait ReadsLines {
-    ghost use Rattle.rdb_outside.specs.Disk.{Image};
-    ghost use Rattle.line_view.specs.Knowledge.{Lines};
-
-    /// Which lines an image has.
-    ghost reads: { Image → Lines → Type 0 };
-}
-
-/// Each image that a crash may leave since a commit stands for the tables of that commit, of a later one, or of the one in flight. It
-/// stays so behind events that commit nothing, and behind a device call with the events behind it, where what a crash may leave now
-/// stands at the place behind them.
-pub fn images_stand_for_commits<S: Statements, R: ReadsLines, D: Disk, T, E>()
-    ensures events { (o : Opening) (events es : List Event) (disk : D) → (place o (events ++ es)).commits ≡ (place o events).commits → AreLeft R.reads S.stands o events (D.view disk) → AreLeft R.reads S.stands o (events ++ es) (D.view disk) }
-    ensures call { (o : Opening) (events es : List Event) (old new : D) (result : Result T E) → IsTrue (D.view old).tells → Counts (D.view old) (D.view new) result → ((k : ℕ) (c : Commit) → slice_get (place o (events ++ es)).commits k ≡ Some c → (slice_get (place o events).commits k ≡ Some c) ⊎ (c.moment ≡ (D.view new).moment)) → ((image : Image) → LeftNow (D.view new) image → IsNow R.reads S.stands o (place o (events ++ es)) image) → AreLeft R.reads S.stands o events (D.view old) → AreLeft R.reads S.stands o (events ++ es) (D.view new) }
+/// Each map of lines that a crash since a commit may leave stands for the tables of that commit, of a later one, or of the one in
+/// flight. It stays so behind events that commit nothing, and behind a call of the store with the events behind it: what the store
+/// says may stand now is the committed lines, or those with the writes of who has the journal.
+pub fn crashes_leave_commits<S: Statements, L: LineStore>()
+    ensures now { (o : Opening) (p : Place) (g : Ground) (h : Shelf) (lines : Lines) → IsFit S.stands p g → IsStored S.stands o p g h → MayStand h lines → IsNow S.stands o p lines }
+    ensures events { (o : Opening) (events es : List Event) (store : L) (time : ℕ) → (place o (events ++ es)).commits ≡ (place o events).commits → AreLeft S.stands o events (L.left store) time → AreLeft S.stands o (events ++ es) (L.left store) time }
+    ensures call { (o : Opening) (events es : List Event) (old new : L) → Lasts (L.left old) (L.left new) (L.shelf old) (L.shelf new) → (L.shelf old).clock.time ≤ (L.shelf new).clock.time → ((lines : Lines) → MayStand (L.shelf old) lines → IsNow S.stands o (place o events) lines) → ((lines : Lines) → MayStand (L.shelf new) lines → IsNow S.stands o (place o (events ++ es)) lines) → ((k : ℕ) (c : Commit) → slice_get (place o (events ++ es)).commits k ≡ Some c → (slice_get (place o events).commits k ≡ Some c) ⊎ (c.moment ≡ (L.shelf new).clock.time)) → length (place o events).commits ≤ length (place o (events ++ es)).commits → AreLeft S.stands o events (L.left old) (L.shelf old).clock.time → AreLeft S.stands o (events ++ es) (L.left new) (L.shelf new).clock.time }
 {}
 
 /// At most one session has the journal.

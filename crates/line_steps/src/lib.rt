@@ -9,7 +9,7 @@ mod sessions;
 mod writers;
 
 pub use deaths::the_dead_are_recovered;
-pub use images::{ReadsLines, images_stand_for_commits, one_commit_is_in_flight};
+pub use images::{crashes_leave_commits, one_commit_is_in_flight};
 pub use readers::{readers_step, statements_stand_outside};
 pub use sessions::sessions_go_on;
 pub use writers::{
