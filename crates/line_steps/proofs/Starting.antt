@@ -1,18 +1,24 @@
 -- A START_TRANSACTION is refused, and leaves no transaction.
-use Rattle.std.proofs.Common.{◌≡◌, ◌≤◌, ℕ, ◌+◌, ◌∷◌, [], ◌&&◌, true, false, List, refl, ◌∙◌, sym, ap, subst, arith, Some, None}
+use Rattle.std.proofs.Common.{◌≡◌, ◌≤◌, ℕ, ◌+◌, ◌∷◌, [], ◌&&◌, true, false, List, refl, ◌∙◌, sym, ap, subst, arith, Option, Some, None}
+use Rattle.rdo_ast.specs.declared.reply.Standing.{Standing}
 use Rattle.rdo_ast.specs.Tree.{Uttered}
+use Rattle.rdb_meaning.specs.declared.tables.Tables.{Tables}
+use Rattle.rdb_meaning.specs.Usual.{is_refusal_of_means}
+use Rattle.line_view.specs.Writes.{laid_all}
 use Rattle.rdb_account.specs.Events.{Said, RolledBack}
 use Rattle.rdb_account.specs.Places.{Opening, Place, Transaction, Line, nothing, rolls_back, living, at, after, with_line, is_writer, is_done, is_first_refused, asks_of_others}
 use Rattle.rdb_account.specs.Legal.{May, MaySay, ends_by, IsAnsweredIn}
 use Rattle.kept_apart.proofs.Alike.{alike-refl}
-use Rattle.session_jobs.specs.Records.{Model, IsOrderly}
-use Rattle.line_steps.specs.Members.{outside, Member, member, left_of}
+use Rattle.session_jobs.specs.Records.{Model, IsOrderly, Worked, IsRight}
+use Rattle.line_history.specs.Transactions.{line_of}
+use Rattle.line_history.proofs.Transactions.{stands-told, stands-answered, stands-excused}
+use Rattle.line_steps.specs.Members.{outside, writing, Member, member, left_of}
 use Rattle.lock_ties.specs.Ties.{needs_at}
 use Rattle.line_steps.specs.Right.{Desk, Ground, with_desk}
 use Rattle.line_steps.specs.Steps.{Here, Steps}
 use Rattle.lock_ties.proofs.Places.{at-same}
 use Rattle.line_steps.proofs.Common.{ready, next-is, stands-said, apart-none, apart-with, desk-other}
-use Rattle.rdb_account.specs.Lawful.{got_of}
+use Rattle.rdb_account.specs.Lawful.{got_of, IsExcused, has_cause}
 use Rattle.lock_ties.proofs.Places.{at-other}
 
 abbrev pub behind_refusal : Place → ℕ → Transaction → Line → Place
@@ -71,3 +77,34 @@ module _ (M : Model) (orderly : IsOrderly M) where
         desks = desk-other s d g;
         alike = λ t other. alike-refl (needs_at p t) g.now;
       }
+
+  -- its record says so
+  pub start-worked : (o : Opening) (p : Place) (g : Ground) (s : ℕ) (left : List Uttered) (total : ℕ) (standing : Standing) (r : Worked) (d : Desk) (time : ℕ) → g.time ≤ time →
+      (h : Here M o p g s (member left (writing standing (Some r.item)) total)) → IsRight M o.word standing (g.desk s).known r →
+      is_first_refused (p.transaction s) r.item r.reply ≡ true → (ends_by r.item && is_done r.reply) ≡ false →
+      Steps M o p g s (member left outside total) (record (with_desk s d g) { time = time }) (Said s r.item r.choices r.reply ∷ RolledBack s ∷ [])
+  start-worked o p g s left total standing r d time later h right first ends =
+      let w = h.stands.state in
+      let x = w.transaction in
+      start-refused o p g s (member left (writing standing (Some r.item)) total) left x (line_of r) d time later h w.is_open refl h.stands.lives
+      (subst (λ (y : Option Transaction). is_first_refused y r.item r.reply ≡ true) w.is_open first) ends
+      (rw w.writes (
+        stands-told M orderly o.word x.got g.now x.lines (g.desk s).writes standing p.tables h.fit.stands w.is.holds,
+        stands-answered M orderly o.word o p s x.got g.now x.lines (g.desk s).writes standing (g.desk s).known r h.fit.stands refl w.is.holds right w.is.agrees,
+      ))
+
+  -- a lock, a limit or memory refuses it
+  pub start-excused : (o : Opening) (p : Place) (g : Ground) (s : ℕ) (left : List Uttered) (total : ℕ) (standing : Standing) (l : Line) (d : Desk) (time : ℕ) → g.time ≤ time →
+      (h : Here M o p g s (member left (writing standing (Some l.item)) total)) → is_refusal_of_means l.reply ≡ true →
+      ((t : Tables) → M (laid_all (g.desk s).writes g.now) t → IsExcused l.reply o.word standing t l.item) → has_cause o p s l.reply ≡ true →
+      is_first_refused (p.transaction s) l.item l.reply ≡ true → (ends_by l.item && is_done l.reply) ≡ false →
+      Steps M o p g s (member left outside total) (record (with_desk s d g) { time = time }) (Said s l.item l.choices l.reply ∷ RolledBack s ∷ [])
+  start-excused o p g s left total standing l d time later h refused excused cause first ends =
+      let w = h.stands.state in
+      let x = w.transaction in
+      start-refused o p g s (member left (writing standing (Some l.item)) total) left x l d time later h w.is_open refl h.stands.lives
+      (subst (λ (y : Option Transaction). is_first_refused y l.item l.reply ≡ true) w.is_open first) ends
+      (rw w.writes (
+        stands-told M orderly o.word x.got g.now x.lines (g.desk s).writes standing p.tables h.fit.stands w.is.holds,
+        stands-excused M orderly o.word o p s x.got g.now x.lines (g.desk s).writes standing l h.fit.stands refl w.is.holds refused excused cause,
+      ))
