@@ -10,8 +10,8 @@ use std::alloc::Global;
 /// by `step`, with one write or barrier a step at most, until it is told to be done. Whoever commits is alone in that.
 pub trait LineStore {
     ghost use Rattle.std.specs.Prelude.{◌≡◌, ℕ, Ok, IfOk, IfErr, OnOk, OnErr, true, false};
-    ghost use Rattle.line_view.specs.Knowledge.{Lines, line_in, lines_in};
-    ghost use Rattle.line_view.specs.Held.{with_line, with_area};
+    ghost use Rattle.line_view.specs.Knowledge.{Lines, IsInOrder, Agrees, line_in, lines_in};
+    ghost use Rattle.line_view.specs.Held.{knows, with_line, with_area};
     ghost use Rattle.rdb_page.specs.Page.{IsOwner, IsClass};
     ghost use Rattle.line_store.specs.declared.answers.Progress.TheVariants.{Done};
     ghost use Rattle.line_store.specs.Seats.{outside, beginning, committing, reading, IsMember, IsWriting, IsAtRest, IsReader, IsUnderWay, IsAlive, writes_of, committing_by, rolled_back, died};
@@ -58,6 +58,8 @@ pub trait LineStore {
         requires seat { IsAtRest ((shelf self.old).seat s.number) }
         ensures done { result ≡ Ok Done → known.new ≡ with_line key (line_in key (seen_by s.number (shelf self.old))) known.old }
         ensures not_yet { (result ≡ Ok Done → ⊥) → known.new ≡ known.old }
+        ensures agrees { IsInOrder (seen_by s.number (shelf self.old)) → Agrees (knows known.old) (seen_by s.number (shelf self.old))
+            → Agrees (knows known.new) (seen_by s.number (shelf self.old)) }
         ensures read { IsRead s.number (shelf self.old) (shelf self.new) result }
         ensures lasts { Lasts (left self.old) (left self.new) (shelf self.old) (shelf self.new) };
 
@@ -67,6 +69,8 @@ pub trait LineStore {
         requires seat { IsAtRest ((shelf self.old).seat s.number) }
         ensures done { result ≡ Ok Done → known.new ≡ with_area area (lines_in area (seen_by s.number (shelf self.old))) known.old }
         ensures not_yet { (result ≡ Ok Done → ⊥) → Learns (lines_in area (seen_by s.number (shelf self.old))) known.old known.new }
+        ensures agrees { IsInOrder (seen_by s.number (shelf self.old)) → Agrees (knows known.old) (seen_by s.number (shelf self.old))
+            → Agrees (knows known.new) (seen_by s.number (shelf self.old)) }
         ensures read { IsRead s.number (shelf self.old) (shelf self.new) result }
         ensures lasts { Lasts (left self.old) (left self.new) (shelf self.old) (shelf self.new) };
 
