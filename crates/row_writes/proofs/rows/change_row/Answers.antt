@@ -1,0 +1,10 @@
+use Rattle.row_writes.proofs.Lines.{no_image_changed, row_changed}
+use Rattle.row_writes.proofs.rows.change_row.Goals as goal
+
+pub returns-in-Err-clause-changes : goal.returns-in-Err-clause-changes
+returns-in-Err-clause-changes c = no_image_changed c.args.view.now c.args.view.now c.args.relation.now c.args.row.now c.in-Err.reason c.in-Err.ensures.misfit c.in-Err.ensures.long c.args.at c.args.was.now
+
+pub returns-clause-changes : goal.returns-clause-changes
+returns-clause-changes c =
+    row_changed c.args.view.now c.put.new.self c.change_pairs.new.view c.args.relation.now c.args.row.now c.in-Ok.image c.in-Ok.ensures.image c.in-Ok.ensures.fits c.in-Ok.ensures.short
+    c.args.at c.in_ok-put.ensures.stands c.in_ok-put.ensures.laid c.put.ensures.known c.args.was.now c.change_pairs.result c.change_pairs.ensures.changes

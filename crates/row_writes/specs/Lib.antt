@@ -1,0 +1,5 @@
+pub mod Stop
+pub mod Target
+pub mod Pairs
+pub mod Changes
+pub mod Rows

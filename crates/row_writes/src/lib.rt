@@ -1,0 +1,12 @@
+//! One row written over the view of a statement, with its pairs in the indexes of its relation.
+#![tactic(auto)]
+
+mod changes;
+mod pairs;
+mod rows;
+mod stop;
+mod target;
+
+pub use rows::{change_row, erase_row, store_row};
+pub use stop::{PairRefusal, RowRefusal, RowStop};
+pub use target::TargetRelation;
