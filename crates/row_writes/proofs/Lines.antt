@@ -11,7 +11,6 @@ use Rattle.rdb_meaning.specs.declared.tables.Relation.{Relation as Rows}
 use Rattle.rdb_meaning.specs.declared.tables.Tables.{Tables}
 use Rattle.rdb_meaning.specs.Contents.{Row, relation_named, is_too_long}
 use Rattle.rdb_meaning.specs.Execution.{nowhere}
-use Rattle.line_view.specs.declared.need.Room.{Room}
 use Rattle.line_view.specs.declared.stop.Stop.TheVariants.{Missing, Bad, NoMemory, Own}
 use Rattle.line_view.specs.Knowledge.{Lines, line_in, laid}
 use Rattle.line_view.specs.Held.{Held, knows}
@@ -31,7 +30,7 @@ use Rattle.sound_changes.proofs.Versions.{versions_rise_to}
 use Rattle.sound_changes.proofs.RowsInOrder.{rows_in_order}
 use Rattle.sound_changes.proofs.PairPut.{own_relation}
 use Rattle.sound_changes.proofs.Given.{no_row, nowhere_is_other}
-use Rattle.statement_view.specs.Over.{Over, Stands, laid_over, knows_over, all_rooms, AreRoomsKnown}
+use Rattle.statement_view.specs.Over.{Over, Stands, laid_over, knows_over, room_at, all_rooms, AreRoomsKnown}
 use Rattle.statement_view.proofs.Rooms.{left_room}
 use Rattle.row_writes.specs.declared.target.TargetRelation.{TargetRelation}
 use Rattle.row_writes.specs.declared.stop.PairRefusal.{PairRefusal}
@@ -112,15 +111,15 @@ module _ (old mid new : Over) (r : TargetRelation) (row : Row) (image : List ℕ
       IsSoundFor (laid key (Some image) (laid_over old.lines first)) c (tables_to n key (Some row) t) (tables_for rel.area [] t (tables_to n key (Some row) t))
   line_sound c n rel t first view named target area = row_written (laid_over old.lines first) c t n rel key image row view.sound named area (row_fits (laid_over old.lines first) c t n rel r image row view.sound named target image_is fits)
 
-  module _ (room : Room) (is_room : (knows_over old).room room ≡ Some key) (in_area : room.area ≡ r.stored.area) (c : Catalog) (n : Name) (rel : Rows) (t : Tables) (first : Lines) (view : IsSoundView old c t first) (named : relation_named n t ≡ Some rel) (target : IsTarget c n rel r) where
+  module _ (is_room : (knows_over old).room (room_at r.stored.area r.class 0) ≡ Some key) (c : Catalog) (n : Name) (rel : Rows) (t : Tables) (first : Lines) (view : IsSoundView old c t first) (named : relation_named n t ≡ Some rel) (target : IsTarget c n rel r) where
     area : key.area ≡ rel.area
-    area = view.stands.agrees.within room key is_room ∙ in_area ∙ sym target.area
+    area = view.stands.agrees.within (room_at r.stored.area r.class 0) key is_room ∙ sym target.area
 
     free : line_in key (laid_over old.lines first) ≡ None
-    free = view.stands.agrees.free room key is_room
+    free = view.stands.agrees.free (room_at r.stored.area r.class 0) key is_room
 
     unused : line_in key first ≡ None
-    unused = let known = left_room (knows old.base) old.lines room.area room.class room.nth key is_room in view.stands.base.free _ key known.0.is
+    unused = let known = left_room (knows old.base) old.lines r.stored.area r.class 0 key is_room in view.stands.base.free _ key known.0.is
 
     fresh : find dbkey_order key rel.rows ≡ None
     fresh = no_row (laid_over old.lines first) c t n rel (λ l. t) key view.sound named free
@@ -131,23 +130,24 @@ module _ (old mid new : Over) (r : TargetRelation) (row : Row) (image : List ℕ
     for_new : taken_in (is_key_taken rel key (Some row)) r.indexes.now ≡ taken_by_another rel r.indexes.now nowhere row
     for_new = λ i. taken_in (λ positions. sym (nowhere_is_other (laid_over old.lines first) c t n rel positions row key view.sound named fresh) i) r.indexes.now
 
-  pub row_stored : (room : Room) → (knows_over old).room room ≡ Some key → room.area ≡ r.stored.area → ChangesPairs mid new r.indexes.now None (Some row) key (Ok tt) → StoresRow old new r row (Ok key)
-  row_stored room is_room in_area changes = λ c n rel t first view named target.
-      let done = changes c n rel t first (starts room is_room in_area c n rel t first view named target) target.indexes in
+  pub row_stored : (knows_over old).room (room_at r.stored.area r.class 0) ≡ Some key → ChangesPairs mid new r.indexes.now None (Some row) key (Ok tt) → StoresRow old new r row (Ok key)
+  row_stored is_room changes = λ c n rel t first view named target.
+      let done = changes c n rel t first (starts is_room c n rel t first view named target) target.indexes in
       record {
         behind = record { stands = done.stands; sound = done.sound };
         short = short_here c n rel r row false target short;
-        untaken = sym (for_new room is_room in_area c n rel t first view named target) ∙ done.untaken;
-        area = area room is_room in_area c n rel t first view named target;
-        unused = unused room is_room in_area c n rel t first view named target;
-        free = free room is_room in_area c n rel t first view named target;
+        untaken = sym (for_new is_room c n rel t first view named target) ∙ done.untaken;
+        room = is_room;
+        area = area is_room c n rel t first view named target;
+        unused = unused is_room c n rel t first view named target;
+        free = free is_room c n rel t first view named target;
       }
 
-  pub storing_stops : (room : Room) (stop : RowStop) → (knows_over old).room room ≡ Some key → room.area ≡ r.stored.area → ChangesPairs mid new r.indexes.now None (Some row) key (Err stop) → StoresRow old new r row (Err stop)
-  storing_stops room stop is_room in_area changes = λ c n rel t first view named target.
-      let stopped = subst (λ (h : Held). Stops (Lacks (knows h)) (λ at. ⊥) (IsRefused h rel key (Some row) r.indexes.now) stop) base (changes c n rel t first (starts room is_room in_area c n rel t first view named target) target.indexes) in
+  pub storing_stops : (stop : RowStop) → (knows_over old).room (room_at r.stored.area r.class 0) ≡ Some key → ChangesPairs mid new r.indexes.now None (Some row) key (Err stop) → StoresRow old new r row (Err stop)
+  storing_stops stop is_room changes = λ c n rel t first view named target.
+      let stopped = subst (λ (h : Held). Stops (Lacks (knows h)) (λ at. ⊥) (IsRefused h rel key (Some row) r.indexes.now) stop) base (changes c n rel t first (starts is_room c n rel t first view named target) target.indexes) in
       stops_for (Lacks (knows old.base)) (λ at. ⊥) (IsRefused old.base rel key (Some row) r.indexes.now) (IsNotStored old.base rel r row)
-      (pair_refused old.base rel key row r.indexes.now (taken_by_another rel r.indexes.now nowhere row) (short_here c n rel r row false target short) (for_new room is_room in_area c n rel t first view named target)
+      (pair_refused old.base rel key row r.indexes.now (taken_by_another rel r.indexes.now nowhere row) (short_here c n rel r row false target short) (for_new is_room c n rel t first view named target)
       (IsNotStored old.base rel r row) (λ at refusal said. said)) stop stopped
 
   -- ---- a row changed

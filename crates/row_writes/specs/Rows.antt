@@ -18,7 +18,7 @@ use Rattle.sound_changes.specs.Standing.{IsSoundAs}
 use Rattle.stored_rows.specs.declared.images.Unstored.{Unstored}
 use Rattle.stored_rows.specs.declared.images.Unstored.TheVariants.{Misfit, TooLong}
 use Rattle.stored_rows.specs.Fitting.{IsRowFor}
-use Rattle.statement_view.specs.Over.{Over, Stands, laid_over, all_rooms, AreRoomsKnown}
+use Rattle.statement_view.specs.Over.{Over, Stands, laid_over, knows_over, room_at, all_rooms, AreRoomsKnown}
 use Rattle.row_writes.specs.declared.target.TargetRelation.{TargetRelation}
 use Rattle.row_writes.specs.declared.stop.PairRefusal.{PairRefusal}
 use Rattle.row_writes.specs.declared.stop.RowRefusal.{RowRefusal}
@@ -52,11 +52,12 @@ pub record IsPairRefused (base : Held) (rel : Rows) (xs : List IndexLine) (taken
 abbrev pub taken_by_another : Rows → List IndexLine → Dbkey → Row → Option Name
 taken_by_another rel xs own row = taken_in (λ positions. is_taken positions row own rel.rows) xs
 
--- The row has this Dbkey, whose line was absent at the start of the statement and until now.
+-- The row has this Dbkey, the first room of the view, whose line was absent at the start of the statement and until now.
 pub record IsStored (old new : Over) (c : Catalog) (n : Name) (rel : Rows) (t : Tables) (first : Lines) (r : TargetRelation) (row : Row) (key : Dbkey) : Type 0 where
   pub behind : IsSoundView new c (with_row n key row t) first
   pub short : is_too_long rel.fields row ≡ false
   pub untaken : taken_by_another rel r.indexes.now nowhere row ≡ None
+  pub room : (knows_over old).room (room_at r.stored.area r.class 0) ≡ Some key
   pub area : key.area ≡ rel.area
   pub unused : line_in key first ≡ None
   pub free : line_in key (laid_over old.lines first) ≡ None

@@ -190,7 +190,7 @@ impl Changed {
         Ok(self.known.room(Room { nth, ..room }))
     }
 
-    /// The first room of an area and a class that isn't known, which is what to learn where the view has too few of them. All are known only where as many are as there are numbers.
+    /// The first room of an area and a class that isn't known: what to learn where the view has too few of them. None is answered only where the rooms of all numbers are known.
     pub fn lacks(&self, area: u32, class: u16) -> Option<Room>
         ensures of { IfSome result (λ room. room ≡ room_at area class room.nth) }
         ensures unknown { IfSome result (λ room. (knows self.now.base).room room ≡ None) }

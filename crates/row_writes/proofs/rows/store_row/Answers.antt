@@ -1,6 +1,6 @@
 use Rattle.std.proofs.lemmas.Result.{err_from_is_err_and}
 use Rattle.std.proofs.Common.{rules, Some, refl, sym, ap, subst, ◌∙◌}
-use Rattle.statement_view.specs.Over.{Over, room_at}
+use Rattle.statement_view.specs.Over.{Over}
 use Rattle.row_writes.specs.Rows.{TellsNoRoom}
 use Rattle.row_writes.proofs.Lines.{Laid, no_image_stored, no_room, row_stored, storing_stops}
 use Rattle.row_writes.proofs.Trees.{Stays}
@@ -19,10 +19,10 @@ returns-in_err-change_pairs-clause-stores c =
     let p = err_from_is_err_and c.from_residual-in_err-change_pairs.result c.from_residual-in_err-change_pairs.ensures.1 in
     rw (p.1, p.2) (storing_stops c.args.view.now c.put.new.self c.change_pairs.new.view c.args.relation.now c.args.row.now c.in-Ok.image c.in-Ok.ensures.image c.in-Ok.ensures.fits c.in-Ok.ensures.short
     c.in-Some.at (subst (λ (o : Over). Stays o c.put.new.self) c.first_room.ensures.view c.in_ok-put.ensures.stands) (subst (λ (o : Over). Laid o c.put.new.self c.in-Some.at (Some c.in-Ok.image)) c.first_room.ensures.view c.in_ok-put.ensures.laid)
-    (c.put.ensures.known ∙ ap (λ (o : Over). o.base) c.first_room.ensures.view) (room_at c.args.relation.now.stored.area c.args.relation.now.class 0) c.in_err-change_pairs.field-0.0 (sym (search rules)) refl c.in_err-change_pairs.ensures.changes)
+    (c.put.ensures.known ∙ ap (λ (o : Over). o.base) c.first_room.ensures.view) c.in_err-change_pairs.field-0.0 (sym (search rules)) c.in_err-change_pairs.ensures.changes)
 
 pub returns-clause-stores : goal.returns-clause-stores
 returns-clause-stores c =
     row_stored c.args.view.now c.put.new.self c.change_pairs.new.view c.args.relation.now c.args.row.now c.in-Ok.image c.in-Ok.ensures.image c.in-Ok.ensures.fits c.in-Ok.ensures.short
     c.in-Some.at (subst (λ (o : Over). Stays o c.put.new.self) c.first_room.ensures.view c.in_ok-put.ensures.stands) (subst (λ (o : Over). Laid o c.put.new.self c.in-Some.at (Some c.in-Ok.image)) c.first_room.ensures.view c.in_ok-put.ensures.laid)
-    (c.put.ensures.known ∙ ap (λ (o : Over). o.base) c.first_room.ensures.view) (room_at c.args.relation.now.stored.area c.args.relation.now.class 0) (sym (search rules)) refl c.in_ok-change_pairs.ensures.changes
+    (c.put.ensures.known ∙ ap (λ (o : Over). o.base) c.first_room.ensures.view) (sym (search rules)) c.in_ok-change_pairs.ensures.changes
