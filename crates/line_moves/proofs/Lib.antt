@@ -1,0 +1,17 @@
+pub mod Runs
+pub mod KeyPlaces
+pub mod PageWrite
+pub mod LinePut
+pub mod Reading
+pub mod Putting
+pub mod Spots
+pub mod Placed
+pub mod SurePages
+pub mod FilledPages
+pub mod FirstLines
+pub mod Undoes
+pub mod Bearing
+pub mod Commits
+pub mod EveryMoment
+pub mod Entering
+pub mod Journalled

@@ -1,0 +1,17 @@
+use Rattle.std.proofs.Common.{refl}
+use Rattle.rdb_outside.specs.Disk.{Pending}
+use Rattle.rdb_outside.specs.Runs.{no_calls}
+use Rattle.new_database.specs.Maker.{root_file}
+use Rattle.line_moves.proofs.Runs.{writes_now, more_behind}
+use Rattle.line_moves.proofs.Journalled.{roots}
+use Rattle.line_moves.proofs.images.write_root.Goals as goal
+
+pub returns-clause-writes : goal.returns-clause-writes
+returns-clause-writes g c = let v = g.D.Disk.view in
+    writes_now (v c.args.disk.now) (v c.write.new.self) c.root_file.result root_file 0 0 c.put_root.new.slot c.write.result c.root_file.ensures refl c.write.ensures.counts c.write.ensures.pending c.write.ensures.written c.write.ensures.failed
+
+pub returns-clause-keeps : goal.returns-clause-keeps
+returns-clause-keeps g c = let v = g.D.Disk.view in λ t now was limits ceiling.
+    let old = v c.args.disk.now in let new = v c.write.new.self in
+    let more = more_behind old old new c.root_file.result root_file 0 0 c.put_root.new.slot c.root_file.ensures refl t (no_calls old) (c.write.ensures.pending t) in
+    roots (Pending old) (Pending new) now c.put_root.new.slot c.args.root.now more was c.put_root.ensures limits c.requires.whole ceiling

@@ -1,0 +1,106 @@
+use Rattle.std.proofs.Common.{rules, arith, ◌≡◌, ◌≢◌, ◌-◌, ◌∙◌, ℕ, List, inr, ap, sym, subst}
+use Rattle.rdb_types.specs.declared.keys.Line.{Line}
+use Rattle.rdb_outside.specs.Disk.{Pending}
+use Rattle.stable_lines.specs.Slots.{area_file, line_on}
+use Rattle.line_moves.proofs.Runs.{reads_once, facts_read, writes_none, writes_one, more_behind, read_pends, here_at, still_tells}
+use Rattle.line_moves.proofs.KeyPlaces.{area_is, place_content}
+use Rattle.rdb_page.specs.Whole.{IsPageOf}
+use Rattle.line_moves.specs.Changes.{Fits}
+use Rattle.line_moves.proofs.LinePut.{line_changed, other_line}
+use Rattle.line_moves.proofs.pages.change_line.Goals as goal
+
+pub returns-in_err-read-clause-writes : goal.returns-in_err-read-clause-writes
+returns-in_err-read-clause-writes g c = let v = g.D.Disk.view in let old = v c.args.disk.now in let mid = v c.read.new.self in
+    let reads = reads_once old mid c.read.result c.read.ensures.counts c.read.ensures.kept in
+    let f = area_file c.args.place.file in let at = c.args.place.page - 1 in
+    writes_none f at old mid reads
+
+pub returns-in_err-read-clause-keeps : goal.returns-in_err-read-clause-keeps
+returns-in_err-read-clause-keeps g c = let v = g.D.Disk.view in let old = v c.args.disk.now in let mid = v c.read.new.self in
+    let reads = reads_once old mid c.read.result c.read.ensures.counts c.read.ensures.kept in
+    let f = area_file c.args.place.file in let at = c.args.place.page - 1 in
+    λ t now was may. facts_read old mid reads t now was
+
+pub returns-in_default-clause-writes : goal.returns-in_default-clause-writes
+returns-in_default-clause-writes g c = let v = g.D.Disk.view in let old = v c.args.disk.now in let mid = v c.read.new.self in
+    let reads = reads_once old mid c.read.result c.read.ensures.counts c.read.ensures.kept in
+    let f = area_file c.args.place.file in let at = c.args.place.page - 1 in
+    writes_none f at old mid reads
+
+pub returns-in_default-clause-keeps : goal.returns-in_default-clause-keeps
+returns-in_default-clause-keeps g c = let v = g.D.Disk.view in let old = v c.args.disk.now in let mid = v c.read.new.self in
+    let reads = reads_once old mid c.read.result c.read.ensures.counts c.read.ensures.kept in
+    let f = area_file c.args.place.file in let at = c.args.place.page - 1 in
+    λ t now was may. facts_read old mid reads t now was
+
+pub returns-in_err-write-clause-writes : goal.returns-in_err-write-clause-writes
+returns-in_err-write-clause-writes g c = let v = g.D.Disk.view in let old = v c.args.disk.now in let mid = v c.read.new.self in
+    let reads = reads_once old mid c.read.result c.read.ensures.counts c.read.ensures.kept in
+    let f = area_file c.args.place.file in let at = c.args.place.page - 1 in
+    let new = v c.write.new.self in let told = still_tells old mid reads.told in
+    writes_one old mid new c.area_file-file.result f c.slot_of-slot.result at c.put_on.new.page c.write.result c.area_file-file.ensures c.slot_of-slot.ensures reads c.write.ensures.counts c.write.ensures.pending c.in_err-write.ensures.failed
+
+pub returns-in_err-write-clause-keeps : goal.returns-in_err-write-clause-keeps
+returns-in_err-write-clause-keeps g c = let v = g.D.Disk.view in let old = v c.args.disk.now in let mid = v c.read.new.self in
+    let reads = reads_once old mid c.read.result c.read.ensures.counts c.read.ensures.kept in
+    let f = area_file c.args.place.file in let at = c.args.place.page - 1 in
+    let new = v c.write.new.self in let told = still_tells old mid reads.told in
+    λ t now was may.
+    let left = g.met.D.Disk.content_left c.args.disk.now old.moment t (omega arith) in
+    let there = read_pends old left c.area_file-file.result f c.slot_of-slot.result at c.read.new.into c.area_file-file.ensures c.slot_of-slot.ensures (c.in_ok-read.ensures.bytes t) in
+    let is_page = was.pages.page c.args.place.file c.args.place.page c.read.new.into (area_is c.args.key c.args.place c.requires.place) c.requires.place.is_data there in
+    let more = more_behind old mid new c.area_file-file.result f c.slot_of-slot.result at c.put_on.new.page c.area_file-file.ensures c.slot_of-slot.ensures t reads (c.write.ensures.pending (told t)) in
+    line_changed (Pending old) (Pending new) now c.args.key c.args.place c.read.new.into c.put_on.new.page c.args.value.now c.requires.place more was there (c.in-Ok.ensures.puts is_page) (c.in-Ok.ensures.here is_page) may
+
+pub returns-clause-writes : goal.returns-clause-writes
+returns-clause-writes g c = let v = g.D.Disk.view in let old = v c.args.disk.now in let mid = v c.read.new.self in
+    let reads = reads_once old mid c.read.result c.read.ensures.counts c.read.ensures.kept in
+    let f = area_file c.args.place.file in let at = c.args.place.page - 1 in
+    let new = v c.write.new.self in let told = still_tells old mid reads.told in
+    writes_one old mid new c.area_file-file.result f c.slot_of-slot.result at c.put_on.new.page c.write.result c.area_file-file.ensures c.slot_of-slot.ensures reads c.write.ensures.counts c.write.ensures.pending (λ t. inr (c.in_ok-write.ensures.written t))
+
+pub returns-clause-keeps : goal.returns-clause-keeps
+returns-clause-keeps g c = let v = g.D.Disk.view in let old = v c.args.disk.now in let mid = v c.read.new.self in
+    let reads = reads_once old mid c.read.result c.read.ensures.counts c.read.ensures.kept in
+    let f = area_file c.args.place.file in let at = c.args.place.page - 1 in
+    let new = v c.write.new.self in let told = still_tells old mid reads.told in
+    λ t now was may.
+    let left = g.met.D.Disk.content_left c.args.disk.now old.moment t (omega arith) in
+    let there = read_pends old left c.area_file-file.result f c.slot_of-slot.result at c.read.new.into c.area_file-file.ensures c.slot_of-slot.ensures (c.in_ok-read.ensures.bytes t) in
+    let is_page = was.pages.page c.args.place.file c.args.place.page c.read.new.into (area_is c.args.key c.args.place c.requires.place) c.requires.place.is_data there in
+    let more = more_behind old mid new c.area_file-file.result f c.slot_of-slot.result at c.put_on.new.page c.area_file-file.ensures c.slot_of-slot.ensures t reads (c.write.ensures.pending (told t)) in
+    line_changed (Pending old) (Pending new) now c.args.key c.args.place c.read.new.into c.put_on.new.page c.args.value.now c.requires.place more was there (c.in-Ok.ensures.puts is_page) (c.in-Ok.ensures.here is_page) may
+
+pub returns-clause-stands : goal.returns-clause-stands
+returns-clause-stands g c = let v = g.D.Disk.view in let old = v c.args.disk.now in let mid = v c.read.new.self in
+    let reads = reads_once old mid c.read.result c.read.ensures.counts c.read.ensures.kept in
+    let f = area_file c.args.place.file in let at = c.args.place.page - 1 in
+    let new = v c.write.new.self in let told = still_tells old mid reads.told in
+    λ t now was.
+    let left = g.met.D.Disk.content_left c.args.disk.now old.moment t (omega arith) in
+    let there = read_pends old left c.area_file-file.result f c.slot_of-slot.result at c.read.new.into c.area_file-file.ensures c.slot_of-slot.ensures (c.in_ok-read.ensures.bytes t) in
+    let is_page = was.pages.page c.args.place.file c.args.place.page c.read.new.into (area_is c.args.key c.args.place c.requires.place) c.requires.place.is_data there in
+    let here : new.content f at ≡ c.put_on.new.page = here_at new c.area_file-file.result f c.slot_of-slot.result at c.put_on.new.page c.area_file-file.ensures c.slot_of-slot.ensures (c.in_ok-write.ensures.written (told t)).here in
+    ap (λ (b : List ℕ). line_on c.args.key b) (sym (place_content new.content c.args.key c.args.place c.requires.place) ∙ here) ∙ c.in-Ok.ensures.here is_page
+
+pub returns-clause-others : goal.returns-clause-others
+returns-clause-others g c = let v = g.D.Disk.view in let old = v c.args.disk.now in let mid = v c.read.new.self in
+    let reads = reads_once old mid c.read.result c.read.ensures.counts c.read.ensures.kept in
+    let f = area_file c.args.place.file in let at = c.args.place.page - 1 in
+    let new = v c.write.new.self in let told = still_tells old mid reads.told in
+    λ t now was other apart.
+    let left = g.met.D.Disk.content_left c.args.disk.now old.moment t (omega arith) in
+    let there = read_pends old left c.area_file-file.result f c.slot_of-slot.result at c.read.new.into c.area_file-file.ensures c.slot_of-slot.ensures (c.in_ok-read.ensures.bytes t) in
+    let is_page = was.pages.page c.args.place.file c.args.place.page c.read.new.into (area_is c.args.key c.args.place c.requires.place) c.requires.place.is_data there in
+    let here : new.content f at ≡ c.put_on.new.page = here_at new c.area_file-file.result f c.slot_of-slot.result at c.put_on.new.page c.area_file-file.ensures c.slot_of-slot.ensures (c.in_ok-write.ensures.written (told t)).here in
+    let same : c.read.new.into ≡ old.content f at = c.in_ok-read.ensures.bytes t ∙ (λ i. old.content (c.area_file-file.ensures i) (c.slot_of-slot.ensures i)) in
+    other_line old.content new.content c.args.key other c.args.place c.read.new.into c.put_on.new.page same here
+    (λ k i off. (c.in_ok-write.ensures.written (told t)).others k i (λ e n. off (e ∙ c.area_file-file.ensures) (n ∙ c.slot_of-slot.ensures)) ∙ (reads.keeps t).content k i) (c.in-Ok.ensures.puts is_page) apart
+
+pub returns-in_default-clause-bad : goal.returns-in_default-clause-bad
+returns-in_default-clause-bad g c = let v = g.D.Disk.view in let old = v c.args.disk.now in let mid = v c.read.new.self in
+    let reads = reads_once old mid c.read.result c.read.ensures.counts c.read.ensures.kept in
+    let f = area_file c.args.place.file in let at = c.args.place.page - 1 in
+    λ file slot is t page fits.
+    let same : c.read.new.into ≡ old.content f at = c.in_ok-read.ensures.bytes t ∙ (λ i. old.content (c.area_file-file.ensures i) (c.slot_of-slot.ensures i)) in
+    c.in_default.ensures.refused (subst (λ (b : List ℕ). IsPageOf c.args.place.file c.args.place.page b) (sym same) page) (subst (λ (b : List ℕ). Fits c.args.key c.args.value.now b) (sym same) fits)

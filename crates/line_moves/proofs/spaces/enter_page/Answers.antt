@@ -1,0 +1,101 @@
+use Rattle.std.proofs.Common.{rules, ◌≡◌, ◌∙◌, ◌-◌, ℕ, ap, sym, inr, refl, arith}
+use Rattle.area_files.specs.Areas.{space_page_of}
+use Rattle.space_pages.specs.Space.{owner_of}
+use Rattle.rdb_outside.specs.Disk.{Pending}
+use Rattle.stable_lines.specs.Slots.{area_file}
+use Rattle.line_moves.proofs.Runs.{reads_once, facts_read, writes_none, writes_one, more_behind, read_pends, here_at, still_tells}
+use Rattle.line_moves.proofs.Entering.{enters}
+use Rattle.line_moves.proofs.spaces.enter_page.Goals as goal
+
+pub returns-in_err-read-clause-writes : goal.returns-in_err-read-clause-writes
+returns-in_err-read-clause-writes g c = let v = g.D.Disk.view in let old = v c.args.disk.now in let mid = v c.read.new.self in
+    let reads = reads_once old mid c.read.result c.read.ensures.counts c.read.ensures.kept in
+    let f = area_file c.args.place.file in let at = space_page_of c.args.place.page - 1 in
+    writes_none f at old mid reads
+
+pub returns-in_err-read-clause-keeps : goal.returns-in_err-read-clause-keeps
+returns-in_err-read-clause-keeps g c = let v = g.D.Disk.view in let old = v c.args.disk.now in let mid = v c.read.new.self in
+    let reads = reads_once old mid c.read.result c.read.ensures.counts c.read.ensures.kept in
+    let f = area_file c.args.place.file in let at = space_page_of c.args.place.page - 1 in
+    λ t now was own within. facts_read old mid reads t now was
+
+pub returns-then-is_err-clause-writes : goal.returns-then-is_err-clause-writes
+returns-then-is_err-clause-writes g c = let v = g.D.Disk.view in let old = v c.args.disk.now in let mid = v c.read.new.self in
+    let reads = reads_once old mid c.read.result c.read.ensures.counts c.read.ensures.kept in
+    let f = area_file c.args.place.file in let at = space_page_of c.args.place.page - 1 in
+    writes_none f at old mid reads
+
+pub returns-then-is_err-clause-keeps : goal.returns-then-is_err-clause-keeps
+returns-then-is_err-clause-keeps g c = let v = g.D.Disk.view in let old = v c.args.disk.now in let mid = v c.read.new.self in
+    let reads = reads_once old mid c.read.result c.read.ensures.counts c.read.ensures.kept in
+    let f = area_file c.args.place.file in let at = space_page_of c.args.place.page - 1 in
+    λ t now was own within. facts_read old mid reads t now was
+
+pub returns-then-owner-area-clause-writes : goal.returns-then-owner-area-clause-writes
+returns-then-owner-area-clause-writes g c = let v = g.D.Disk.view in let old = v c.args.disk.now in let mid = v c.read.new.self in
+    let reads = reads_once old mid c.read.result c.read.ensures.counts c.read.ensures.kept in
+    let f = area_file c.args.place.file in let at = space_page_of c.args.place.page - 1 in
+    writes_none f at old mid reads
+
+pub returns-then-owner-area-clause-keeps : goal.returns-then-owner-area-clause-keeps
+returns-then-owner-area-clause-keeps g c = let v = g.D.Disk.view in let old = v c.args.disk.now in let mid = v c.read.new.self in
+    let reads = reads_once old mid c.read.result c.read.ensures.counts c.read.ensures.kept in
+    let f = area_file c.args.place.file in let at = space_page_of c.args.place.page - 1 in
+    λ t now was own within. facts_read old mid reads t now was
+
+pub returns-in_err-write-clause-writes : goal.returns-in_err-write-clause-writes
+returns-in_err-write-clause-writes g c = let v = g.D.Disk.view in let old = v c.args.disk.now in let mid = v c.read.new.self in
+    let reads = reads_once old mid c.read.result c.read.ensures.counts c.read.ensures.kept in
+    let f = area_file c.args.place.file in let at = space_page_of c.args.place.page - 1 in
+    let new = v c.write.new.self in
+    let slot_is : c.slot_of-slot.result ≡ at = c.slot_of-slot.ensures ∙ ap (λ (n : ℕ). n - 1) c.space_page_of-space_page.ensures in
+    writes_one old mid new c.area_file-file.result f c.slot_of-slot.result at c.set.new.spam c.write.result c.area_file-file.ensures slot_is reads c.write.ensures.counts c.write.ensures.pending c.in_err-write.ensures.failed
+
+pub returns-in_err-write-clause-keeps : goal.returns-in_err-write-clause-keeps
+returns-in_err-write-clause-keeps g c = let v = g.D.Disk.view in let old = v c.args.disk.now in let mid = v c.read.new.self in
+    let reads = reads_once old mid c.read.result c.read.ensures.counts c.read.ensures.kept in
+    let f = area_file c.args.place.file in let at = space_page_of c.args.place.page - 1 in
+    let new = v c.write.new.self in
+    let slot_is : c.slot_of-slot.result ≡ at = c.slot_of-slot.ensures ∙ ap (λ (n : ℕ). n - 1) c.space_page_of-space_page.ensures in
+    λ t now was own within.
+    let left = g.met.D.Disk.content_left c.args.disk.now old.moment t (omega arith) in
+    let there = read_pends old left c.area_file-file.result f c.slot_of-slot.result at c.read.new.into c.area_file-file.ensures slot_is (c.in_ok-read.ensures.bytes t) in
+    let more = more_behind old mid new c.area_file-file.result f c.slot_of-slot.result at c.set.new.spam c.area_file-file.ensures slot_is t reads (c.write.ensures.pending (still_tells old mid reads.told t)) in
+    enters (Pending old) (Pending new) now c.args.place.file c.args.place.page c.args.area c.read.new.into c.set.new.spam c.requires.file c.requires.page more was there
+    (record { here = c.set.ensures.owner; others = c.set.ensures.other_owners; kept = c.set.ensures.kept }) own within
+
+pub returns-clause-writes : goal.returns-clause-writes
+returns-clause-writes g c = let v = g.D.Disk.view in let old = v c.args.disk.now in let mid = v c.read.new.self in
+    let reads = reads_once old mid c.read.result c.read.ensures.counts c.read.ensures.kept in
+    let f = area_file c.args.place.file in let at = space_page_of c.args.place.page - 1 in
+    let new = v c.write.new.self in
+    let slot_is : c.slot_of-slot.result ≡ at = c.slot_of-slot.ensures ∙ ap (λ (n : ℕ). n - 1) c.space_page_of-space_page.ensures in
+    writes_one old mid new c.area_file-file.result f c.slot_of-slot.result at c.set.new.spam c.write.result c.area_file-file.ensures slot_is reads c.write.ensures.counts c.write.ensures.pending (λ t. inr (c.in_ok-write.ensures.written t))
+
+pub returns-clause-keeps : goal.returns-clause-keeps
+returns-clause-keeps g c = let v = g.D.Disk.view in let old = v c.args.disk.now in let mid = v c.read.new.self in
+    let reads = reads_once old mid c.read.result c.read.ensures.counts c.read.ensures.kept in
+    let f = area_file c.args.place.file in let at = space_page_of c.args.place.page - 1 in
+    let new = v c.write.new.self in
+    let slot_is : c.slot_of-slot.result ≡ at = c.slot_of-slot.ensures ∙ ap (λ (n : ℕ). n - 1) c.space_page_of-space_page.ensures in
+    λ t now was own within.
+    let left = g.met.D.Disk.content_left c.args.disk.now old.moment t (omega arith) in
+    let there = read_pends old left c.area_file-file.result f c.slot_of-slot.result at c.read.new.into c.area_file-file.ensures slot_is (c.in_ok-read.ensures.bytes t) in
+    let more = more_behind old mid new c.area_file-file.result f c.slot_of-slot.result at c.set.new.spam c.area_file-file.ensures slot_is t reads (c.write.ensures.pending (still_tells old mid reads.told t)) in
+    enters (Pending old) (Pending new) now c.args.place.file c.args.place.page c.args.area c.read.new.into c.set.new.spam c.requires.file c.requires.page more was there
+    (record { here = c.set.ensures.owner; others = c.set.ensures.other_owners; kept = c.set.ensures.kept }) own within
+
+pub returns-then-owner-area-clause-entered : goal.returns-then-owner-area-clause-entered
+returns-then-owner-area-clause-entered g c = let v = g.D.Disk.view in let old = v c.args.disk.now in let mid = v c.read.new.self in
+    let reads = reads_once old mid c.read.result c.read.ensures.counts c.read.ensures.kept in
+    let f = area_file c.args.place.file in let at = space_page_of c.args.place.page - 1 in
+    let slot_is : c.slot_of-slot.result ≡ at = c.slot_of-slot.ensures ∙ ap (λ (n : ℕ). n - 1) c.space_page_of-space_page.ensures in
+    λ t. ap (owner_of c.args.place.page) ((reads.keeps t).content f at ∙ here_at old c.area_file-file.result f c.slot_of-slot.result at c.read.new.into c.area_file-file.ensures slot_is (sym (c.in_ok-read.ensures.bytes t))) ∙ sym c.owner.ensures ∙ search rules
+
+pub returns-clause-entered : goal.returns-clause-entered
+returns-clause-entered g c = let v = g.D.Disk.view in let old = v c.args.disk.now in let mid = v c.read.new.self in
+    let reads = reads_once old mid c.read.result c.read.ensures.counts c.read.ensures.kept in
+    let f = area_file c.args.place.file in let at = space_page_of c.args.place.page - 1 in
+    let new = v c.write.new.self in
+    let slot_is : c.slot_of-slot.result ≡ at = c.slot_of-slot.ensures ∙ ap (λ (n : ℕ). n - 1) c.space_page_of-space_page.ensures in
+    λ t. ap (owner_of c.args.place.page) (here_at new c.area_file-file.result f c.slot_of-slot.result at c.set.new.spam c.area_file-file.ensures slot_is (c.in_ok-write.ensures.written (still_tells old mid reads.told t)).here) ∙ c.set.ensures.owner

@@ -1,0 +1,251 @@
+use Rattle.std.proofs.Common.{rules, ◌≡◌, ◌≢◌, ◌∙◌, ◌+◌, ◌-◌, ◌≤◌, ◌<◌, ℕ, List, sym, ap, refl, subst, arith}
+use Rattle.rdb_types.specs.declared.keys.Dbkey.{Dbkey}
+use Rattle.rdb_types.specs.declared.keys.Tsn.{Tsn}
+use Rattle.rdb_types.specs.declared.keys.Line.{Line}
+use Rattle.rdb_outside.specs.Disk.{Pending}
+use Rattle.rdb_outside.specs.Runs.{then_reads}
+use Rattle.ruj_journal.specs.Entry.{IsEntry}
+use Rattle.stable_lines.specs.Slots.{ruj_file, area_file, file_of, slot_of, line_on, line_at, entry_at}
+use Rattle.line_moves.specs.Changes.{IsPlaceOf}
+use Rattle.line_moves.proofs.Runs.{pends, reads_once, facts_read, read_pends, still_tells, writes_none, reads_then_writes}
+use Rattle.line_moves.proofs.Undoes.{may_put_back, changed_by, before_apart, entry_there, key_there}
+use Rattle.line_moves.proofs.Bearing.{key_place, has_its_place, within_limit}
+use Rattle.line_moves.proofs.undoing.undo_line.Goals as goal
+
+pub returns-in_err-read-clause-keeps : goal.returns-in_err-read-clause-keeps
+returns-in_err-read-clause-keeps g c = let v = g.D.Disk.view in let v0 = v c.args.disk.now in let v1 = v c.read.new.self in
+    let reads = reads_once v0 v1 c.read.result c.read.ensures.counts c.read.ensures.kept in
+    λ t now o it same. facts_read v0 v1 reads t now it.facts
+
+pub returns-in_default-clause-keeps : goal.returns-in_default-clause-keeps
+returns-in_default-clause-keeps g c = let v = g.D.Disk.view in let v0 = v c.args.disk.now in let v1 = v c.read.new.self in
+    let reads = reads_once v0 v1 c.read.result c.read.ensures.counts c.read.ensures.kept in
+    λ t now o it same. facts_read v0 v1 reads t now it.facts
+
+pub returns-in_default-place_of-clause-keeps : goal.returns-in_default-place_of-clause-keeps
+returns-in_default-place_of-clause-keeps g c = let v = g.D.Disk.view in let v0 = v c.args.disk.now in let v1 = v c.read.new.self in
+    let reads = reads_once v0 v1 c.read.result c.read.ensures.counts c.read.ensures.kept in
+    λ t now o it same. facts_read v0 v1 reads t now it.facts
+
+pub returns-then-place-pages-clause-keeps : goal.returns-then-place-pages-clause-keeps
+returns-then-place-pages-clause-keeps g c = let v = g.D.Disk.view in let v0 = v c.args.disk.now in let v1 = v c.read.new.self in
+    let reads = reads_once v0 v1 c.read.result c.read.ensures.counts c.read.ensures.kept in
+    λ t now o it same. facts_read v0 v1 reads t now it.facts
+
+pub returns-in_err-line-clause-keeps : goal.returns-in_err-line-clause-keeps
+returns-in_err-line-clause-keeps g c = let v = g.D.Disk.view in let v0 = v c.args.disk.now in let v1 = v c.read.new.self in
+    let reads = reads_once v0 v1 c.read.result c.read.ensures.counts c.read.ensures.kept in
+    let v2 = v c.line_at.new.disk in let both = then_reads v0 v1 v2 reads c.line_at.ensures.reads in
+    λ t now o it same. facts_read v0 v2 both t now it.facts
+
+pub returns-then-line-tsn-clause-keeps : goal.returns-then-line-tsn-clause-keeps
+returns-then-line-tsn-clause-keeps g c = let v = g.D.Disk.view in let v0 = v c.args.disk.now in let v1 = v c.read.new.self in
+    let reads = reads_once v0 v1 c.read.result c.read.ensures.counts c.read.ensures.kept in
+    let v2 = v c.line_at.new.disk in let both = then_reads v0 v1 v2 reads c.line_at.ensures.reads in
+    λ t now o it same. facts_read v0 v2 both t now it.facts
+
+pub returns-in-Ok-clause-keeps : goal.returns-in-Ok-clause-keeps
+returns-in-Ok-clause-keeps g c = let v = g.D.Disk.view in let v0 = v c.args.disk.now in let v1 = v c.read.new.self in
+    let reads = reads_once v0 v1 c.read.result c.read.ensures.counts c.read.ensures.kept in
+    let v2 = v c.line_at.new.disk in let both = then_reads v0 v1 v2 reads c.line_at.ensures.reads in
+    λ t now o it same.
+    let told = still_tells v0 v2 both.told t in
+    let facts = facts_read v0 v2 both t now it.facts in
+    let left = g.met.D.Disk.content_left c.line_at.new.disk v2.moment told (omega arith) in
+    let key = c.in-Some.entry.key in
+    let there = read_pends v2 left c.ruj_file-journal.result (ruj_file c.args.member) c.args.index c.args.index c.read.new.into c.ruj_file-journal.ensures refl (c.in_ok-read.ensures.bytes t ∙ sym ((both.keeps t).content c.ruj_file-journal.result c.args.index)) in
+    let y = v2.content (file_of key) (slot_of key) in
+    let number : c.in_ok-line.line.tsn.number ≡ c.args.tsn.number = search rules in
+    let mid = still_tells v0 v1 reads.told t in
+    let line_is : c.in_ok-line.line ≡ line_at v2.content key = c.in_ok-line.ensures.line mid ∙ ap (λ (b : List ℕ). line_on key b) (sym ((c.line_at.ensures.reads.keeps mid).content (file_of key) (slot_of key))) in
+    let bears : (line_at v2.content key).tsn.number ≡ o.tsn.number = ap (λ (l : Line). l.tsn.number) (sym line_is) ∙ number ∙ ap (λ (n : Tsn). n.number) same in
+    let fits : c.in-Some-place_of.place.page ≤ c.args.pages = search rules in
+    let key_page : c.in-Some-place_of.place.page ≡ key.page = c.in-Some-place_of.ensures.found.page in
+    let limit = it.limit in
+    let within : key.page ≤ now.limits.pages = omega (arith, fits, key_page, limit) in
+    let by = changed_by (Pending v2) now c.args.member c.args.index o c.in-Some.entry c.read.new.into y facts it.is_open it.first it.last there c.in-Some.ensures.found (pends v2 left (file_of key) (slot_of key)) bears it.not_flying within in
+    let slot = v2.content (ruj_file c.args.member) (by.index + 1) in
+    c.change_line.ensures.keeps told now facts
+    (may_put_back (Pending v2) now c.args.member c.args.index o c.in-Some.entry c.read.new.into y facts it.is_open it.first it.last there c.in-Some.ensures.found (pends v2 left (file_of key) (slot_of key)) bears it.not_flying within slot (pends v2 left (ruj_file c.args.member) (by.index + 1)))
+
+pub returns-in-Err-clause-keeps : goal.returns-in-Err-clause-keeps
+returns-in-Err-clause-keeps g c = let v = g.D.Disk.view in let v0 = v c.args.disk.now in let v1 = v c.read.new.self in
+    let reads = reads_once v0 v1 c.read.result c.read.ensures.counts c.read.ensures.kept in
+    let v2 = v c.line_at.new.disk in let both = then_reads v0 v1 v2 reads c.line_at.ensures.reads in
+    λ t now o it same.
+    let told = still_tells v0 v2 both.told t in
+    let facts = facts_read v0 v2 both t now it.facts in
+    let left = g.met.D.Disk.content_left c.line_at.new.disk v2.moment told (omega arith) in
+    let key = c.in-Some.entry.key in
+    let there = read_pends v2 left c.ruj_file-journal.result (ruj_file c.args.member) c.args.index c.args.index c.read.new.into c.ruj_file-journal.ensures refl (c.in_ok-read.ensures.bytes t ∙ sym ((both.keeps t).content c.ruj_file-journal.result c.args.index)) in
+    let y = v2.content (file_of key) (slot_of key) in
+    let number : c.in_ok-line.line.tsn.number ≡ c.args.tsn.number = search rules in
+    let mid = still_tells v0 v1 reads.told t in
+    let line_is : c.in_ok-line.line ≡ line_at v2.content key = c.in_ok-line.ensures.line mid ∙ ap (λ (b : List ℕ). line_on key b) (sym ((c.line_at.ensures.reads.keeps mid).content (file_of key) (slot_of key))) in
+    let bears : (line_at v2.content key).tsn.number ≡ o.tsn.number = ap (λ (l : Line). l.tsn.number) (sym line_is) ∙ number ∙ ap (λ (n : Tsn). n.number) same in
+    let fits : c.in-Some-place_of.place.page ≤ c.args.pages = search rules in
+    let key_page : c.in-Some-place_of.place.page ≡ key.page = c.in-Some-place_of.ensures.found.page in
+    let limit = it.limit in
+    let within : key.page ≤ now.limits.pages = omega (arith, fits, key_page, limit) in
+    let by = changed_by (Pending v2) now c.args.member c.args.index o c.in-Some.entry c.read.new.into y facts it.is_open it.first it.last there c.in-Some.ensures.found (pends v2 left (file_of key) (slot_of key)) bears it.not_flying within in
+    let slot = v2.content (ruj_file c.args.member) (by.index + 1) in
+    c.change_line.ensures.keeps told now facts
+    (may_put_back (Pending v2) now c.args.member c.args.index o c.in-Some.entry c.read.new.into y facts it.is_open it.first it.last there c.in-Some.ensures.found (pends v2 left (file_of key) (slot_of key)) bears it.not_flying within slot (pends v2 left (ruj_file c.args.member) (by.index + 1)))
+
+pub returns-in_err-read-clause-writes : goal.returns-in_err-read-clause-writes
+returns-in_err-read-clause-writes g c = let v = g.D.Disk.view in let v0 = v c.args.disk.now in let v1 = v c.read.new.self in
+    let reads = reads_once v0 v1 c.read.result c.read.ensures.counts c.read.ensures.kept in
+    (ruj_file c.args.member, c.args.index, writes_none (ruj_file c.args.member) c.args.index v0 v1 reads)
+
+pub returns-in_default-clause-writes : goal.returns-in_default-clause-writes
+returns-in_default-clause-writes g c = let v = g.D.Disk.view in let v0 = v c.args.disk.now in let v1 = v c.read.new.self in
+    let reads = reads_once v0 v1 c.read.result c.read.ensures.counts c.read.ensures.kept in
+    (ruj_file c.args.member, c.args.index, writes_none (ruj_file c.args.member) c.args.index v0 v1 reads)
+
+pub returns-in_default-place_of-clause-writes : goal.returns-in_default-place_of-clause-writes
+returns-in_default-place_of-clause-writes g c = let v = g.D.Disk.view in let v0 = v c.args.disk.now in let v1 = v c.read.new.self in
+    let reads = reads_once v0 v1 c.read.result c.read.ensures.counts c.read.ensures.kept in
+    (ruj_file c.args.member, c.args.index, writes_none (ruj_file c.args.member) c.args.index v0 v1 reads)
+
+pub returns-then-place-pages-clause-writes : goal.returns-then-place-pages-clause-writes
+returns-then-place-pages-clause-writes g c = let v = g.D.Disk.view in let v0 = v c.args.disk.now in let v1 = v c.read.new.self in
+    let reads = reads_once v0 v1 c.read.result c.read.ensures.counts c.read.ensures.kept in
+    (ruj_file c.args.member, c.args.index, writes_none (ruj_file c.args.member) c.args.index v0 v1 reads)
+
+pub returns-in_err-line-clause-writes : goal.returns-in_err-line-clause-writes
+returns-in_err-line-clause-writes g c = let v = g.D.Disk.view in let v0 = v c.args.disk.now in let v1 = v c.read.new.self in
+    let reads = reads_once v0 v1 c.read.result c.read.ensures.counts c.read.ensures.kept in
+    let v2 = v c.line_at.new.disk in let both = then_reads v0 v1 v2 reads c.line_at.ensures.reads in
+    (ruj_file c.args.member, c.args.index, writes_none (ruj_file c.args.member) c.args.index v0 v2 both)
+
+pub returns-then-line-tsn-clause-writes : goal.returns-then-line-tsn-clause-writes
+returns-then-line-tsn-clause-writes g c = let v = g.D.Disk.view in let v0 = v c.args.disk.now in let v1 = v c.read.new.self in
+    let reads = reads_once v0 v1 c.read.result c.read.ensures.counts c.read.ensures.kept in
+    let v2 = v c.line_at.new.disk in let both = then_reads v0 v1 v2 reads c.line_at.ensures.reads in
+    (ruj_file c.args.member, c.args.index, writes_none (ruj_file c.args.member) c.args.index v0 v2 both)
+
+pub returns-in-Ok-clause-writes : goal.returns-in-Ok-clause-writes
+returns-in-Ok-clause-writes g c = let v = g.D.Disk.view in let v0 = v c.args.disk.now in let v1 = v c.read.new.self in
+    let reads = reads_once v0 v1 c.read.result c.read.ensures.counts c.read.ensures.kept in
+    let v2 = v c.line_at.new.disk in let both = then_reads v0 v1 v2 reads c.line_at.ensures.reads in let v3 = v c.change_line.new.disk in
+    let place = c.in-Some-place_of.place in (area_file place.file, place.page - 1, reads_then_writes v0 v2 v3 (area_file place.file) (place.page - 1) both c.change_line.ensures.writes)
+
+pub returns-in-Err-clause-writes : goal.returns-in-Err-clause-writes
+returns-in-Err-clause-writes g c = let v = g.D.Disk.view in let v0 = v c.args.disk.now in let v1 = v c.read.new.self in
+    let reads = reads_once v0 v1 c.read.result c.read.ensures.counts c.read.ensures.kept in
+    let v2 = v c.line_at.new.disk in let both = then_reads v0 v1 v2 reads c.line_at.ensures.reads in let v3 = v c.change_line.new.disk in
+    let place = c.in-Some-place_of.place in (area_file place.file, place.page - 1, reads_then_writes v0 v2 v3 (area_file place.file) (place.page - 1) both c.change_line.ensures.writes)
+
+pub returns-in_default-clause-undone : goal.returns-in_default-clause-undone
+returns-in_default-clause-undone g c = let v = g.D.Disk.view in let v0 = v c.args.disk.now in let v1 = v c.read.new.self in
+    let reads = reads_once v0 v1 c.read.result c.read.ensures.counts c.read.ensures.kept in
+    λ t now o undo it same got.
+    let left0 = g.met.D.Disk.content_left c.args.disk.now v0.moment t (omega arith) in
+    let there0 = read_pends v0 left0 c.ruj_file-journal.result (ruj_file c.args.member) c.args.index c.args.index c.read.new.into c.ruj_file-journal.ensures refl (c.in_ok-read.ensures.bytes t) in
+    let stands = entry_there (Pending v0) now c.args.member c.args.index o c.read.new.into undo it.facts it.is_open it.first got there0 in
+    absurd (c.in_default.ensures.none (entry_at o.tsn c.args.index undo) stands)
+
+pub returns-in_default-place_of-clause-undone : goal.returns-in_default-place_of-clause-undone
+returns-in_default-place_of-clause-undone g c = let v = g.D.Disk.view in let v0 = v c.args.disk.now in let v1 = v c.read.new.self in
+    let reads = reads_once v0 v1 c.read.result c.read.ensures.counts c.read.ensures.kept in
+    λ t now o undo it same got bears.
+    let left0 = g.met.D.Disk.content_left c.args.disk.now v0.moment t (omega arith) in
+    let there0 = read_pends v0 left0 c.ruj_file-journal.result (ruj_file c.args.member) c.args.index c.args.index c.read.new.into c.ruj_file-journal.ensures refl (c.in_ok-read.ensures.bytes t) in
+    let stands = entry_there (Pending v0) now c.args.member c.args.index o c.read.new.into undo it.facts it.is_open it.first got there0 in
+    let key = key_there c.read.new.into c.in-Some.entry o.tsn c.args.index undo c.in-Some.ensures.found stands in
+    let facts1 = facts_read v0 v1 reads t now it.facts in
+    let left1 = g.met.D.Disk.content_left c.read.new.self v1.moment (still_tells v0 v1 reads.told t) (omega arith) in
+    let number = (it.facts.going c.args.member o it.is_open).number in
+    let place = has_its_place (Pending v1) now facts1 undo.key (v1.content (file_of undo.key) (slot_of undo.key)) (pends v1 left1 (file_of undo.key) (slot_of undo.key)) (omega (arith, bears, number)) in
+    absurd (c.in_default-place_of.ensures.none (key_place undo.key) (subst (λ (k : Dbkey). IsPlaceOf k (key_place undo.key)) (sym key) place))
+
+pub returns-then-place-pages-clause-undone : goal.returns-then-place-pages-clause-undone
+returns-then-place-pages-clause-undone g c = let v = g.D.Disk.view in let v0 = v c.args.disk.now in let v1 = v c.read.new.self in
+    let reads = reads_once v0 v1 c.read.result c.read.ensures.counts c.read.ensures.kept in
+    λ t now o undo it same got bears.
+    let left0 = g.met.D.Disk.content_left c.args.disk.now v0.moment t (omega arith) in
+    let there0 = read_pends v0 left0 c.ruj_file-journal.result (ruj_file c.args.member) c.args.index c.args.index c.read.new.into c.ruj_file-journal.ensures refl (c.in_ok-read.ensures.bytes t) in
+    let stands = entry_there (Pending v0) now c.args.member c.args.index o c.read.new.into undo it.facts it.is_open it.first got there0 in
+    let key = key_there c.read.new.into c.in-Some.entry o.tsn c.args.index undo c.in-Some.ensures.found stands in
+    let facts1 = facts_read v0 v1 reads t now it.facts in
+    let left1 = g.met.D.Disk.content_left c.read.new.self v1.moment (still_tells v0 v1 reads.told t) (omega arith) in
+    let number = (it.facts.going c.args.member o it.is_open).number in
+    let limit = it.limit in
+    let within = within_limit (Pending v1) now facts1 undo.key (v1.content (file_of undo.key) (slot_of undo.key)) (pends v1 left1 (file_of undo.key) (slot_of undo.key)) (omega (arith, bears, number)) in
+    let over : c.args.pages < c.in-Some-place_of.place.page = search rules in
+    let page : c.in-Some-place_of.place.page ≡ undo.key.page = c.in-Some-place_of.ensures.found.page ∙ ap (λ (k : Dbkey). k.page) key in
+    absurd (omega (arith, within, over, page, limit))
+
+pub returns-then-line-tsn-clause-undone : goal.returns-then-line-tsn-clause-undone
+returns-then-line-tsn-clause-undone g c = let v = g.D.Disk.view in let v0 = v c.args.disk.now in let v1 = v c.read.new.self in
+    let reads = reads_once v0 v1 c.read.result c.read.ensures.counts c.read.ensures.kept in
+    let v2 = v c.line_at.new.disk in let both = then_reads v0 v1 v2 reads c.line_at.ensures.reads in
+    λ t now o undo it same got bears.
+    let left0 = g.met.D.Disk.content_left c.args.disk.now v0.moment t (omega arith) in
+    let there0 = read_pends v0 left0 c.ruj_file-journal.result (ruj_file c.args.member) c.args.index c.args.index c.read.new.into c.ruj_file-journal.ensures refl (c.in_ok-read.ensures.bytes t) in
+    let stands = entry_there (Pending v0) now c.args.member c.args.index o c.read.new.into undo it.facts it.is_open it.first got there0 in
+    let key = key_there c.read.new.into c.in-Some.entry o.tsn c.args.index undo c.in-Some.ensures.found stands in
+    let mid = still_tells v0 v1 reads.told t in
+    let line_is : c.in_ok-line.line ≡ line_at v2.content undo.key = c.in_ok-line.ensures.line mid ∙ (λ i. line_at v1.content (key i)) ∙ ap (λ (b : List ℕ). line_on undo.key b) (sym ((c.line_at.ensures.reads.keeps mid).content (file_of undo.key) (slot_of undo.key))) in
+    let off : c.in_ok-line.line.tsn.number ≢ c.args.tsn.number = search rules in
+    off (ap (λ (l : Line). l.tsn.number) line_is ∙ bears ∙ ap (λ (n : Tsn). n.number) (sym same))
+
+pub returns-in-Ok-clause-undone : goal.returns-in-Ok-clause-undone
+returns-in-Ok-clause-undone g c = let v = g.D.Disk.view in let v0 = v c.args.disk.now in let v1 = v c.read.new.self in
+    let reads = reads_once v0 v1 c.read.result c.read.ensures.counts c.read.ensures.kept in
+    let v2 = v c.line_at.new.disk in let both = then_reads v0 v1 v2 reads c.line_at.ensures.reads in
+    λ t now o undo it same got bears.
+    let left0 = g.met.D.Disk.content_left c.args.disk.now v0.moment t (omega arith) in
+    let there0 = read_pends v0 left0 c.ruj_file-journal.result (ruj_file c.args.member) c.args.index c.args.index c.read.new.into c.ruj_file-journal.ensures refl (c.in_ok-read.ensures.bytes t) in
+    let stands = entry_there (Pending v0) now c.args.member c.args.index o c.read.new.into undo it.facts it.is_open it.first got there0 in
+    let at_key = key_there c.read.new.into c.in-Some.entry o.tsn c.args.index undo c.in-Some.ensures.found stands in
+    let again : (line_at (v c.change_line.new.disk).content c.in-Some.entry.key).tsn.number ≡ o.tsn.number = ap (λ (k : Dbkey). (line_at (v c.change_line.new.disk).content k).tsn.number) at_key ∙ bears in
+    let told = still_tells v0 v2 both.told t in
+    let facts = facts_read v0 v2 both t now it.facts in
+    let left = g.met.D.Disk.content_left c.line_at.new.disk v2.moment told (omega arith) in
+    let key = c.in-Some.entry.key in
+    let there = read_pends v2 left c.ruj_file-journal.result (ruj_file c.args.member) c.args.index c.args.index c.read.new.into c.ruj_file-journal.ensures refl (c.in_ok-read.ensures.bytes t ∙ sym ((both.keeps t).content c.ruj_file-journal.result c.args.index)) in
+    let y = v2.content (file_of key) (slot_of key) in
+    let number : c.in_ok-line.line.tsn.number ≡ c.args.tsn.number = search rules in
+    let mid = still_tells v0 v1 reads.told t in
+    let line_is : c.in_ok-line.line ≡ line_at v2.content key = c.in_ok-line.ensures.line mid ∙ ap (λ (b : List ℕ). line_on key b) (sym ((c.line_at.ensures.reads.keeps mid).content (file_of key) (slot_of key))) in
+    let bears : (line_at v2.content key).tsn.number ≡ o.tsn.number = ap (λ (l : Line). l.tsn.number) (sym line_is) ∙ number ∙ ap (λ (n : Tsn). n.number) same in
+    let fits : c.in-Some-place_of.place.page ≤ c.args.pages = search rules in
+    let key_page : c.in-Some-place_of.place.page ≡ key.page = c.in-Some-place_of.ensures.found.page in
+    let limit = it.limit in
+    let within : key.page ≤ now.limits.pages = omega (arith, fits, key_page, limit) in
+    let by = changed_by (Pending v2) now c.args.member c.args.index o c.in-Some.entry c.read.new.into y facts it.is_open it.first it.last there c.in-Some.ensures.found (pends v2 left (file_of key) (slot_of key)) bears it.not_flying within in
+    let slot = v2.content (ruj_file c.args.member) (by.index + 1) in
+    before_apart (Pending v2) now c.args.member c.args.index o c.in-Some.entry c.read.new.into y facts it.is_open it.first it.last there c.in-Some.ensures.found (pends v2 left (file_of key) (slot_of key)) bears it.not_flying within slot (pends v2 left (ruj_file c.args.member) (by.index + 1)) (ap (λ (l : Line). l.tsn.number) (sym (c.in-Ok.ensures.stands told now facts)) ∙ again)
+
+pub returns-in_default-clause-others : goal.returns-in_default-clause-others
+returns-in_default-clause-others g c = let v = g.D.Disk.view in let v0 = v c.args.disk.now in let v1 = v c.read.new.self in
+    let reads = reads_once v0 v1 c.read.result c.read.ensures.counts c.read.ensures.kept in
+    λ t now o undo other it same got off. ap (λ (b : List ℕ). line_on other b) ((reads.keeps t).content (file_of other) (slot_of other))
+
+pub returns-in_default-place_of-clause-others : goal.returns-in_default-place_of-clause-others
+returns-in_default-place_of-clause-others g c = let v = g.D.Disk.view in let v0 = v c.args.disk.now in let v1 = v c.read.new.self in
+    let reads = reads_once v0 v1 c.read.result c.read.ensures.counts c.read.ensures.kept in
+    λ t now o undo other it same got off. ap (λ (b : List ℕ). line_on other b) ((reads.keeps t).content (file_of other) (slot_of other))
+
+pub returns-then-place-pages-clause-others : goal.returns-then-place-pages-clause-others
+returns-then-place-pages-clause-others g c = let v = g.D.Disk.view in let v0 = v c.args.disk.now in let v1 = v c.read.new.self in
+    let reads = reads_once v0 v1 c.read.result c.read.ensures.counts c.read.ensures.kept in
+    λ t now o undo other it same got off. ap (λ (b : List ℕ). line_on other b) ((reads.keeps t).content (file_of other) (slot_of other))
+
+pub returns-then-line-tsn-clause-others : goal.returns-then-line-tsn-clause-others
+returns-then-line-tsn-clause-others g c = let v = g.D.Disk.view in let v0 = v c.args.disk.now in let v1 = v c.read.new.self in
+    let reads = reads_once v0 v1 c.read.result c.read.ensures.counts c.read.ensures.kept in
+    let v2 = v c.line_at.new.disk in let both = then_reads v0 v1 v2 reads c.line_at.ensures.reads in
+    λ t now o undo other it same got off. ap (λ (b : List ℕ). line_on other b) ((both.keeps t).content (file_of other) (slot_of other))
+
+pub returns-in-Ok-clause-others : goal.returns-in-Ok-clause-others
+returns-in-Ok-clause-others g c = let v = g.D.Disk.view in let v0 = v c.args.disk.now in let v1 = v c.read.new.self in
+    let reads = reads_once v0 v1 c.read.result c.read.ensures.counts c.read.ensures.kept in
+    let v2 = v c.line_at.new.disk in let both = then_reads v0 v1 v2 reads c.line_at.ensures.reads in
+    λ t now o undo other it same got off.
+    let left0 = g.met.D.Disk.content_left c.args.disk.now v0.moment t (omega arith) in
+    let there0 = read_pends v0 left0 c.ruj_file-journal.result (ruj_file c.args.member) c.args.index c.args.index c.read.new.into c.ruj_file-journal.ensures refl (c.in_ok-read.ensures.bytes t) in
+    let stands = entry_there (Pending v0) now c.args.member c.args.index o c.read.new.into undo it.facts it.is_open it.first got there0 in
+    let key = key_there c.read.new.into c.in-Some.entry o.tsn c.args.index undo c.in-Some.ensures.found stands in
+    c.in-Ok.ensures.others (still_tells v0 v2 both.told t) now (facts_read v0 v2 both t now it.facts) other (λ e. off (e ∙ key)) ∙ ap (λ (b : List ℕ). line_on other b) ((both.keeps t).content (file_of other) (slot_of other))

@@ -1,0 +1,58 @@
+-- The lines that a transaction changed, in the order of their keys, and their pages.
+use Rattle.std.specs.Prelude.{ℕ, ◌-◌, ◌≤◌, ◌<◌, ◌≡◌, ◌≢◌, ◌⊎◌, List, length, slice_get, Some}
+use Rattle.rdb_types.specs.declared.keys.Dbkey.{Dbkey}
+use Rattle.rdb_types.specs.declared.keys.Line.{Line}
+use Rattle.rdb_page.specs.declared.head.Head.{Head}
+use Rattle.rdb_page.specs.Lines.{IsLine, never}
+use Rattle.rdb_page.specs.Page.{IsHead, IsUnused, class_at, lines_of}
+use Rattle.rdb_page.specs.Whole.{IsPageOf}
+use Rattle.rdb_outside.specs.Disk.{Image, View, Pending}
+use Rattle.stable_lines.specs.Slots.{area_file, owner_at, line_on, line_at}
+use Rattle.stable_lines.specs.Progress.{Progress}
+use Rattle.stable_lines.specs.Facts.{PendingContents}
+use Rattle.line_moves.specs.declared.places.Place.{Place}
+use Rattle.line_moves.specs.Contents.{IsOn}
+use Rattle.line_moves.specs.Changes.{MayPut, IsEntered}
+
+abbrev pub ChangedLines : Type 0
+ChangedLines = List (Dbkey × Line)
+
+-- no two have one key
+abbrev pub AreDistinct : ChangedLines → Type 0
+AreDistinct lines = (i k : ℕ) (a b : Dbkey × Line) → slice_get lines i ≡ Some a → slice_get lines k ≡ Some b → a.0 ≡ b.0 → i ≡ k
+
+-- each of them may be put on its page
+abbrev pub MayPutAll : PendingContents → Progress → ChangedLines → Type 0
+MayPutAll P now lines = (i : ℕ) (line : Dbkey × Line) → slice_get lines i ≡ Some line → MayPut P now line.0 line.1
+
+-- so many of them stand on their pages
+abbrev pub ArePut : Image → ChangedLines → ℕ → Type 0
+ArePut image lines n = (i : ℕ) (line : Dbkey × Line) → i < n → slice_get lines i ≡ Some line → line_at image line.0 ≡ line.1
+
+-- Of a page that was never used each content of its space page says that the area of the first line owns it.
+abbrev pub IsReady : View → ChangedLines → ℕ → Place → Type 0
+IsReady v lines from place = IsUnused (v.content (area_file place.file) (place.page - 1)) → (line : Dbkey × Line) → slice_get lines from ≡ Some line → IsEntered (Pending v) place line.0.area
+
+-- none of the lines from one place up to another has this key
+abbrev pub IsNoKeyOf : ChangedLines → ℕ → ℕ → Dbkey → Type 0
+IsNoKeyOf lines from next key = (i : ℕ) (line : Dbkey × Line) → from ≤ i → i < next → slice_get lines i ≡ Some line → line.0 ≢ key
+
+-- the page with the lines from one place up to another, which all stand on it
+pub record Fills (lines : ChangedLines) (from next : ℕ) (place : Place) (old new : List ℕ) : Type 0 where
+  pub page : IsPageOf place.file place.page new
+  pub same_owner : owner_at new ≡ owner_at old
+  pub same_class : class_at new ≡ class_at old
+  pub on : (i : ℕ) (line : Dbkey × Line) → from ≤ i → i < next → slice_get lines i ≡ Some line → IsOn place.file place.page line.0
+  pub stand : (i : ℕ) (line : Dbkey × Line) → from ≤ i → i < next → slice_get lines i ≡ Some line → line_on line.0 new ≡ line.1
+  pub others : (key : Dbkey) → IsOn place.file place.page key → IsNoKeyOf lines from next key → line_on key new ≡ line_on key old
+
+-- a page with this head, on which no line was used
+pub record HasNoLines (page : List ℕ) (head : Head) : Type 0 where
+  pub is : IsHead page head
+  pub lines : (line : ℕ) → line < lines_of head.class → IsLine page head.class line never
+
+-- a page that was never used gets a head, and any other is as it was
+pub record IsStarted (place : Place) (owner class : ℕ) (old new : List ℕ) : Type 0 where
+  pub unused : IsUnused old → HasNoLines new (record { page = place.page; owner = owner; class = class })
+  pub used : (IsUnused old → ⊥) → new ≡ old
+  pub either : IsUnused old ⊎ (new ≡ old)

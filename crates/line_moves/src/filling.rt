@@ -1,0 +1,130 @@
+// The lines of a transaction on one page, written at once.
+ghost use Rattle.std.specs.Prelude.{◌≡◌, ◌-◌, ◌≤◌, ◌<◌, ℕ, true, length, slice_get, Some, IfOk, IsErrOf, IsTrue};
+ghost use Rattle.rdb_types.specs.declared.file.FileId.{FileId as File};
+ghost use Rattle.rdb_page.specs.Page.{IsClass, IsUnused, class_at};
+ghost use Rattle.rdb_page.specs.Whole.{IsPageOf, IsUsedPage};
+ghost use Rattle.rdb_outside.specs.Causes.{Rose};
+ghost use Rattle.rdb_outside.specs.Disk.{Pending};
+ghost use Rattle.stable_lines.specs.Slots.{area_file as file_named};
+ghost use Rattle.stable_lines.specs.Progress.{Progress};
+ghost use Rattle.stable_lines.specs.Facts.{Facts};
+ghost use Rattle.line_moves.specs.Calls.{OnlyWrites};
+ghost use Rattle.line_moves.specs.Changes.{IsPlaceOf};
+ghost use Rattle.line_moves.specs.Lines.{AreDistinct, ArePut, Fills, IsReady, IsStarted, MayPutAll};
+
+use crate::fault::Fault;
+use crate::pages::{NoPlace, put_on};
+use crate::places::{Place, area_file};
+use area_files::slot_of;
+use rdb_outside::Disk;
+use rdb_page::{Head, put_head};
+use rdb_types::{Dbkey, Line};
+use slot_fields::is_zeros;
+
+// Whether two lines stand on one page.
+fn is_beside(key: Dbkey, first: Dbkey) -> bool
+    ensures { result ≡ true → (key.area ≡ first.area) × (key.page ≡ first.page) }
+{
+    key.area == first.area && key.page == first.page
+}
+
+// Puts lines on a page, from one of them up to the first that stands on another page.
+fn fill(
+    page: &mut [u8],
+    lines: &[(Dbkey, Line)],
+    from: usize,
+    place: Place,
+) -> Result<usize, NoPlace>
+    requires size { length page.old ≡ 1024 }
+    requires within { from < length lines.now }
+    requires place { (line : _) → slice_get lines.now from ≡ Some line → IsPlaceOf line.0 place }
+    requires distinct { AreDistinct lines.now }
+    ensures size { length page.new ≡ 1024 }
+    ensures further { IfOk result (λ next. (from < next) × (next ≤ length lines.now)) }
+    ensures fills { IfOk result (λ next. IsPageOf place.file place.page page.old
+        → Fills lines.now from next place page.old page.new) }
+{
+    let first = lines[from].0;
+    put_on(page, first, place, &lines[from].1)?;
+    let mut at = from + 1;
+    'put: while at < lines.len() {
+        let key = lines[at].0;
+        if !is_beside(key, first) {
+            break 'put;
+        }
+        put_on(page, key, place, &lines[at].1)?;
+        at += 1;
+    }
+    Ok(at)
+}
+
+// Gives a page that was never used its head, and leaves any other.
+fn start(page: &mut [u8], place: Place, owner: u32, class: u16)
+    requires size { length page.old ≡ 1024 }
+    requires class { IsClass class }
+    ensures size { length page.new ≡ 1024 }
+    ensures started { IsStarted place owner class page.old page.new }
+{
+    if is_zeros(page) {
+        put_head(
+            page,
+            &Head {
+                page: place.page,
+                owner,
+                class,
+            },
+        );
+    }
+}
+
+/// Writes a page with all the lines that it is to have, from one of them on: it is read and written at once, and gets a head of this class where it was never used. The answer is the first line that stands on another page. What was written is left in `page`. The time grows as the lines of the page.
+pub fn write_page<D: Disk>(
+    disk: &mut D,
+    lines: &[(Dbkey, Line)],
+    from: usize,
+    place: Place,
+    class: u16,
+    page: &mut [u8],
+) -> Result<usize, Fault>
+    requires size { length page.old ≡ 1024 }
+    requires within { from < length lines.now }
+    requires place { (line : _) → slice_get lines.now from ≡ Some line → IsPlaceOf line.0 place }
+    requires distinct { AreDistinct lines.now }
+    requires class { IsClass class }
+    ensures size { length page.new ≡ 1024 }
+    ensures writes { OnlyWrites (file_named place.file) (place.page - 1)
+        (D.view disk.old) (D.view disk.new) }
+    ensures failed { IsErrOf result Fault.Failed
+        → Rose (D.view disk.old).faults (D.view disk.new).faults }
+    ensures further { IfOk result (λ next. (from < next) × (next ≤ length lines.now)) }
+
+    // Those lines stand on their pages, as those before them do.
+    ensures put { IfOk result (λ next. IsTrue (D.view disk.old).tells → (now : Progress)
+        → Facts (Pending (D.view disk.old)) now
+        → ArePut (D.view disk.old).content lines.now from
+        → ArePut (D.view disk.new).content lines.now next) }
+
+    // A page in use has the class that it had, and another gets this one.
+    ensures class { IfOk result (λ next. IsTrue (D.view disk.old).tells → (now : Progress)
+        → Facts (Pending (D.view disk.old)) now
+        → let old = (D.view disk.old).content (file_named place.file) (place.page - 1) in
+        let new = (D.view disk.new).content (file_named place.file) (place.page - 1) in
+        (IsUnused old → class_at new ≡ class) × ((IsUnused old → ⊥) → class_at new ≡ class_at old)) }
+
+    // Whatever it answers, the facts stay, where the lines may be put and the space page has the page's owner.
+    ensures keeps { IsTrue (D.view disk.old).tells → (now : Progress)
+        → Facts (Pending (D.view disk.old)) now
+        → MayPutAll (Pending (D.view disk.old)) now lines.now
+        → IsReady (D.view disk.old) lines.now from place
+        → Facts (Pending (D.view disk.new)) now }
+{
+    let file = area_file(place.file);
+    let slot = slot_of(place.page);
+    disk.read(file, slot, page)?;
+    start(page, place, lines[from].0.area, class);
+    let Ok(next) = fill(page, lines, from, place) else {
+        return Err(Fault::Bad(file, slot));
+    };
+    disk.write(file, slot, page)?;
+    Ok(next)
+}

@@ -1,0 +1,18 @@
+-- An open transaction on its way to be undone, its last entry first.
+use Rattle.std.specs.Prelude.{ℕ, ◌≤◌, ◌≡◌, ◌≢◌, length, slice_get, Some}
+use Rattle.rdb_outside.specs.Disk.{Image}
+use Rattle.stable_lines.specs.Slots.{Undo, line_at}
+use Rattle.stable_lines.specs.Progress.{Open, Flight, Progress}
+use Rattle.stable_lines.specs.Facts.{PendingContents, Facts}
+
+-- so many of its entries are to be undone, and it isn't in flight
+pub record MayUndo (P : PendingContents) (now : Progress) (member : ℕ) (o : Open) (entries pages : ℕ) : Type 0 where
+  pub facts : Facts P now
+  pub is_open : now.going member ≡ Some o
+  pub within : entries ≤ length o.entries
+  pub limit : pages ≡ now.limits.pages
+  pub not_flying : (f : Flight) → now.flight ≡ Some f → f.member ≢ member
+
+-- the lines of its entries from this place on don't bear it
+abbrev pub AreUndone : Image → Open → ℕ → Type 0
+AreUndone image o from = (i : ℕ) (undo : Undo) → from ≤ i → slice_get o.entries i ≡ Some undo → (line_at image undo.key).tsn.number ≢ o.tsn.number

@@ -1,0 +1,63 @@
+// The entries of a transaction, counted.
+ghost use Rattle.std.specs.Prelude.{◌≡◌, ℕ, List, true, false, length, IfOk, IsErr, IsTrue};
+ghost use Rattle.rdb_outside.specs.Causes.{Rose};
+ghost use Rattle.rdb_outside.specs.Disk.{OnlyReads};
+ghost use Rattle.ruj_journal.specs.declared.entry.RujEntry.{RujEntry};
+ghost use Rattle.ruj_journal.specs.Entry.{IsEntry};
+ghost use Rattle.stable_lines.specs.Slots.{Undo, entry_at};
+ghost use Rattle.stable_lines.specs.Opening.{AreEntries};
+
+use line_moves::ruj_file;
+use rdb_outside::{Disk, Failed};
+use rdb_types::Tsn;
+use ruj_journal::read_entry;
+
+// Whether the slot is the entry of a transaction with this index.
+fn is_entry_of(slot: &[u8], tsn: Tsn, index: u32) -> bool
+    requires { length slot.now ≡ 512 }
+    ensures yes { result ≡ true → (undo : Undo) × IsEntry slot.now (entry_at tsn index undo) }
+    ensures no { result ≡ false → (entry : RujEntry) → IsEntry slot.now entry
+        → entry.tsn ≡ tsn → entry.index ≡ index → ⊥ }
+{
+    match read_entry(slot) {
+        Some(entry) => entry.tsn.number == tsn.number && entry.index == index,
+        None => false,
+    }
+}
+
+// Counts the entries in the slots before the end of the file.
+fn count_within<D: Disk>(
+    disk: &mut D,
+    member: u32,
+    tsn: Tsn,
+    length: u32,
+) -> Result<u32, Failed>
+    ensures reads { OnlyReads (D.view disk.old) (D.view disk.new) }
+    ensures failed { IsErr result → Rose (D.view disk.old).faults (D.view disk.new).faults }
+    ensures entries { IfOk result (λ count. IsTrue (D.view disk.old).tells
+        → EndsBy (D.view disk.old).content (ruj_named member) length
+        → (undos : List Undo) × (length undos ≡ count)
+            × AreEntries (D.view disk.old).content member tsn undos) }
+{
+    let journal = ruj_file(member);
+    let mut slot = [0; 512];
+    for index in 1..length {
+        disk.read(journal, index, &mut slot)?;
+        if !is_entry_of(&slot, tsn, index) {
+            return Ok(index - 1);
+        }
+    }
+    Ok(length.max(1) - 1)
+}
+
+/// How many entries a transaction has in its member's journal: those from slot 1 up to the first that is none of it with its own index. It reads one slot more than it counts, at most.
+pub fn count_entries<D: Disk>(disk: &mut D, member: u32, tsn: Tsn) -> Result<u32, Failed>
+    ensures reads { OnlyReads (D.view disk.old) (D.view disk.new) }
+    ensures failed { IsErr result → Rose (D.view disk.old).faults (D.view disk.new).faults }
+    ensures entries { IfOk result (λ count. IsTrue (D.view disk.old).tells
+        → (undos : List Undo) × (length undos ≡ count)
+            × AreEntries (D.view disk.old).content member tsn undos) }
+{
+    let length = disk.length(ruj_file(member))?;
+    count_within(disk, member, tsn, length)
+}

@@ -1,0 +1,6 @@
+pub mod SeatStays
+pub mod NextEntry
+pub mod Stable
+pub mod Ends
+pub mod GroupSlots
+pub mod CommitSteps

@@ -1,0 +1,43 @@
+use Rattle.std.proofs.Common.{rules, arith, ◌≡◌, ◌≤◌, ◌<◌, ◌∙◌, length}
+use Rattle.line_seat.proofs.GroupSlots.{got_at}
+use Rattle.line_seat.proofs.CommitSteps.{may_still, entered_still, none_imaged, put_all, place_there}
+use Rattle.line_seat.proofs.commit.change_page.Goals as goal
+
+pub write_page-requires-clause-place : goal.write_page-requires-clause-place
+write_page-requires-clause-place g c = place_there c.args.lines.now c.args.at _ c.in-Some.place (got_at c.args.lines.now c.args.at c.index-lines-at.result (search rules)) c.in-Some.ensures.found
+
+pub write_page-requires-clause-class : goal.write_page-requires-clause-class
+write_page-requires-clause-class g c =
+    (c.requires.allowed c.args.at _ _ (got_at c.args.lines.now c.args.at c.index-lines-at.result (search rules)) (got_at c.args.classes.now c.args.at c.index-classes-at.result (search rules))).class
+
+pub returns-then-at-lines-clause-goes_on : goal.returns-then-at-lines-clause-goes_on
+returns-then-at-lines-clause-goes_on g c = let old = g.D.Disk.view c.args.disk.now in λ t now group flight stands.
+    let past : length c.args.lines.now ≤ c.args.at = search rules in
+    record { facts = stands.facts; done = (put_all old.content c.args.lines.now c.args.at past stands.done.2, none_imaged old.content now flight) }
+
+pub returns-then-at-lines-clause-keeps : goal.returns-then-at-lines-clause-keeps
+returns-then-at-lines-clause-keeps g c = λ t now group flight stands. stands.facts
+
+pub returns-in_err-next-clause-keeps : goal.returns-in_err-next-clause-keeps
+returns-in_err-next-clause-keeps g c = λ t now group flight stands.
+    let there = place_there c.args.lines.now c.args.at _ c.in-Some.place (got_at c.args.lines.now c.args.at c.index-lines-at.result (search rules)) c.in-Some.ensures.found in
+    c.write_page.ensures.keeps t now stands.facts stands.done.0 (λ unused line is. stands.done.1 c.args.at line c.in-Some.place is (there line is))
+
+pub returns-clause-keeps : goal.returns-clause-keeps
+returns-clause-keeps g c = λ t now group flight stands.
+    let there = place_there c.args.lines.now c.args.at _ c.in-Some.place (got_at c.args.lines.now c.args.at c.index-lines-at.result (search rules)) c.in-Some.ensures.found in
+    c.write_page.ensures.keeps t now stands.facts stands.done.0 (λ unused line is. stands.done.1 c.args.at line c.in-Some.place is (there line is))
+
+pub returns-clause-goes_on : goal.returns-clause-goes_on
+returns-clause-goes_on g c = let v = g.D.Disk.view in λ t now group flight stands.
+    let old = v c.args.disk.now in let new = v c.write_page.new.disk in
+    let got = got_at c.args.lines.now c.args.at c.index-lines-at.result (search rules) in
+    let there = place_there c.args.lines.now c.args.at _ c.in-Some.place got c.in-Some.ensures.found in
+    record {
+      facts = c.write_page.ensures.keeps t now stands.facts stands.done.0 (λ unused line is. stands.done.1 c.args.at line c.in-Some.place is (there line is));
+      done = (
+        may_still old new c.in-Some.place t c.write_page.ensures.writes now c.args.lines.now stands.done.0,
+        entered_still old new c.in-Some.place t c.write_page.ensures.writes (there _ got).is_data c.args.lines.now stands.done.1,
+        c.in_ok-next.ensures.put t now stands.facts stands.done.2,
+      );
+    }

@@ -1,0 +1,35 @@
+-- What a commit rests on at each of its stages.
+use Rattle.std.specs.Prelude.{ℕ, ◌+◌, ◌≡◌, length}
+use Rattle.rdb_outside.specs.Disk.{View, Pending}
+use Rattle.new_database.specs.Maker.{aij_file}
+use Rattle.journal_scan.specs.Standing.{what_stands}
+use Rattle.stable_lines.specs.Journal.{commit_of}
+use Rattle.stable_lines.specs.Progress.{Flight, Progress, flying, landed}
+use Rattle.stable_lines.specs.Facts.{Facts}
+use Rattle.line_moves.specs.Lines.{ChangedLines, MayPutAll, ArePut}
+use Rattle.line_seat.specs.declared.commit.GroupPlace.{GroupPlace}
+use Rattle.line_seat.specs.declared.commit.CommitStage.{CommitStage}
+use Rattle.line_seat.specs.declared.commit.CommitStage.TheVariants.{Changing, Imaging, Gathering, Sealing, Landing, Committed}
+use Rattle.line_seat.specs.Groups.{AreEntered, AreImaged}
+
+-- how far the transactions are at a stage
+abbrev pub progress_at : CommitStage → Progress → Flight → Progress
+progress_at (Changing at) now f = now
+progress_at (Imaging at) now f = now
+progress_at Gathering now f = now
+progress_at Sealing now f = flying f now
+progress_at Landing now f = flying f now
+progress_at Committed now f = landed f now
+
+-- what was done before the stage
+abbrev pub IsDone : CommitStage → View → Progress → GroupPlace → ChangedLines → Flight → Type 0
+IsDone (Changing at) v now place lines f = MayPutAll (Pending v) now lines × AreEntered (Pending v) lines × ArePut v.content lines at
+IsDone (Imaging at) v now place lines f = ArePut v.content lines (length lines) × AreImaged v.content now f at
+IsDone Gathering v now place lines f = ArePut v.content lines (length lines) × AreImaged v.content now f (length lines)
+IsDone Sealing v now place lines f = Unit {0}
+IsDone Landing v now place lines f = what_stands (v.content aij_file (place.slot + length lines)) ≡ commit_of f.group
+IsDone Committed v now place lines f = Unit {0}
+
+pub record StandsAt (stage : CommitStage) (v : View) (now : Progress) (place : GroupPlace) (lines : ChangedLines) (f : Flight) : Type 0 where
+  pub facts : Facts (Pending v) (progress_at stage now f)
+  pub done : IsDone stage v now place lines f

@@ -1,0 +1,197 @@
+// A commit, stage by stage.
+ghost use Rattle.std.specs.Prelude.{◌≡◌, ◌+◌, ◌≤◌, ◌<◌, ◌^◌, ℕ, Some, length, IfOk, IsErrOf, IsTrue};
+ghost use Rattle.rdb_outside.specs.Causes.{Rose};
+ghost use Rattle.rdb_outside.specs.Disk.{Pending};
+ghost use Rattle.stable_lines.specs.Progress.{Open, Flight, Progress};
+ghost use Rattle.stable_lines.specs.Facts.{Facts};
+ghost use Rattle.line_moves.specs.Lines.{AreDistinct};
+ghost use Rattle.line_seat.specs.Groups.{AreAllowed, ArePlaced, HaveClasses, IsCommitting, group_line};
+ghost use Rattle.line_seat.specs.Stages.{StandsAt, progress_at};
+ghost use Rattle.line_seat.specs.declared.commit.CommitStage.TheVariants.{Changing, Imaging, Gathering};
+
+use aij_journal::{AijPart, GroupLine};
+use line_moves::{
+    Fault, make_stable, place_of, write_after_image, write_commit, write_page,
+};
+use rdb_outside::{Disk, Failed};
+use rdb_types::{Dbkey, Image, Line, Tsn};
+
+/// Where a commit is, whose entries are stable.
+#[derive(Clone, Copy, Debug, PartialEq, Eq)]
+pub enum CommitStage {
+    /// The pages are written, with the lines before this one.
+    Changing(usize),
+    /// The after-images are journalled, so many are.
+    Imaging(usize),
+    /// Pages and after-images are to be made stable.
+    Gathering,
+    /// The commit slot is to be written.
+    Sealing,
+    /// The commit slot is to be made stable.
+    Landing,
+    Committed,
+}
+
+/// Where the group of a commit is to be written, its number, and the transaction's.
+#[derive(Clone, Copy, Debug, PartialEq, Eq)]
+pub struct GroupPlace {
+    pub slot: u32,
+    pub number: u64,
+    pub tsn: Tsn,
+}
+
+// The slot of a line's after-image.
+fn part_of(
+    group: GroupPlace,
+    index: usize,
+    count: usize,
+    line: &(Dbkey, Line),
+    class: u16,
+) -> AijPart
+    requires index { index < 2 ^ 32 }
+    requires count { count < 2 ^ 32 }
+    ensures { result ≡ record {
+        number = group.number;
+        tsn = group.tsn;
+        index = index;
+        count = count;
+        line = Some (group_line line.now class);
+    } }
+{
+    AijPart {
+        number: group.number,
+        tsn: group.tsn,
+        index: index as u32,
+        count: count as u32,
+        line: Some(GroupLine {
+            key: line.0,
+            class,
+            state: line.1.state,
+            image: Image::from_bytes(line.1.image.bytes()),
+        }),
+    }
+}
+
+// Writes the page of the line at a place, with all its lines, or goes on to the after-images where there is none.
+fn change_page<D: Disk>(
+    disk: &mut D,
+    at: usize,
+    lines: &[(Dbkey, Line)],
+    classes: &[u16],
+    page: &mut [u8],
+) -> Result<CommitStage, Fault>
+    requires size { length page.old ≡ 1024 }
+    requires distinct { AreDistinct lines.now }
+    requires placed { ArePlaced lines.now }
+    requires classes { length classes.now ≡ length lines.now }
+    requires allowed { AreAllowed lines.now classes.now }
+    ensures failed { IsErrOf result Fault.Failed
+        → Rose (D.view disk.old).faults (D.view disk.new).faults }
+    ensures goes_on { IfOk result (λ next. IsTrue (D.view disk.old).tells
+        → (now : Progress) (group : _) (flight : Flight)
+        → StandsAt (Changing at) (D.view disk.old) now group lines.now flight
+        → StandsAt next (D.view disk.new) now group lines.now flight) }
+    ensures keeps { IsTrue (D.view disk.old).tells
+        → (now : Progress) (group : _) (flight : Flight)
+        → StandsAt (Changing at) (D.view disk.old) now group lines.now flight
+        → Facts (Pending (D.view disk.new)) now }
+{
+    if at >= lines.len() {
+        return Ok(CommitStage::Imaging(0));
+    }
+    let Some(place) = place_of(lines[at].0) else {
+        unreachable!();
+    };
+    let next = write_page(disk, lines, at, place, classes[at], page)?;
+    Ok(CommitStage::Changing(next))
+}
+
+// Journals the line at a place as the commit leaves it, or goes on to the barrier where there is none.
+fn journal_image<D: Disk>(
+    disk: &mut D,
+    at: usize,
+    group: GroupPlace,
+    lines: &[(Dbkey, Line)],
+    classes: &[u16],
+) -> Result<CommitStage, Fault>
+    requires classes { length classes.now ≡ length lines.now }
+    requires allowed { AreAllowed lines.now classes.now }
+    requires room { group.slot + (length lines.now + 1) < 2 ^ 32 }
+    requires number { group.number ≤ 2 ^ 62 }
+    requires tsn { group.tsn.number < 2 ^ 62 }
+    ensures failed { IsErrOf result Fault.Failed
+        → Rose (D.view disk.old).faults (D.view disk.new).faults }
+    ensures goes_on { IfOk result (λ next. IsTrue (D.view disk.old).tells
+        → (now : Progress) (member : ℕ) (transaction : Open) (flight : Flight)
+        → IsCommitting now member transaction group lines.now classes.now flight
+        → StandsAt (Imaging at) (D.view disk.old) now group lines.now flight
+        → StandsAt next (D.view disk.new) now group lines.now flight) }
+    ensures keeps { IsTrue (D.view disk.old).tells
+        → (now : Progress) (member : ℕ) (transaction : Open) (flight : Flight)
+        → IsCommitting now member transaction group lines.now classes.now flight
+        → StandsAt (Imaging at) (D.view disk.old) now group lines.now flight
+        → Facts (Pending (D.view disk.new)) now }
+{
+    if at >= lines.len() {
+        return Ok(CommitStage::Gathering);
+    }
+    let part = part_of(group, at, lines.len() + 1, &lines[at], classes[at]);
+    match write_after_image(disk, group.slot + at as u32, &part) {
+        Ok(()) => Ok(CommitStage::Imaging(at + 1)),
+        Err(Failed {}) => Err(Fault::Failed),
+    }
+}
+
+/// Goes on with a commit: one write or one barrier at most. The lines stand in the order of their keys, with the class of each; `page` is room for a page.
+pub fn commit_step<D: Disk>(
+    disk: &mut D,
+    stage: CommitStage,
+    group: GroupPlace,
+    lines: &[(Dbkey, Line)],
+    classes: &[u16],
+    page: &mut [u8],
+) -> Result<CommitStage, Fault>
+    requires size { length page.old ≡ 1024 }
+    requires distinct { AreDistinct lines.now }
+    requires placed { ArePlaced lines.now }
+    requires classes { length classes.now ≡ length lines.now }
+    requires allowed { AreAllowed lines.now classes.now }
+    requires room { group.slot + (length lines.now + 1) < 2 ^ 32 }
+    requires number { group.number ≤ 2 ^ 62 }
+    requires tsn { group.tsn.number < 2 ^ 62 }
+    ensures failed { IsErrOf result Fault.Failed
+        → Rose (D.view disk.old).faults (D.view disk.new).faults }
+
+    // What the commit rests on at a stage, it rests on at the next. At the last one the group is committed.
+    ensures goes_on { IfOk result (λ next. IsTrue (D.view disk.old).tells
+        → (now : Progress) (member : ℕ) (transaction : Open) (flight : Flight)
+        → IsCommitting now member transaction group lines.now classes.now flight
+        → (stage ≡ Gathering → HaveClasses (D.view disk.old).content now flight)
+        → StandsAt stage (D.view disk.old) now group lines.now flight
+        → StandsAt next (D.view disk.new) now group lines.now flight) }
+
+    // Whatever it answers, the facts stay.
+    ensures keeps { IsTrue (D.view disk.old).tells
+        → (now : Progress) (member : ℕ) (transaction : Open) (flight : Flight)
+        → IsCommitting now member transaction group lines.now classes.now flight
+        → StandsAt stage (D.view disk.old) now group lines.now flight
+        → Facts (Pending (D.view disk.new)) (progress_at stage now flight) }
+{
+    match stage {
+        CommitStage::Changing(at) => change_page(disk, at, lines, classes, page),
+        CommitStage::Imaging(at) => journal_image(disk, at, group, lines, classes),
+        CommitStage::Gathering => {
+            make_stable(disk)?;
+            Ok(CommitStage::Sealing)
+        }
+        CommitStage::Sealing => {
+            write_commit(disk, group.slot, group.number, group.tsn, lines.len() as u32)?;
+            Ok(CommitStage::Landing)
+        }
+        CommitStage::Landing => {
+            make_stable(disk)?;
+            Ok(CommitStage::Committed)
+        }
+        CommitStage::Committed => Ok(CommitStage::Committed),
+    }
+}
