@@ -16,11 +16,13 @@ use Rattle.stable_lines.specs.Progress.{Progress}
 use Rattle.stable_lines.specs.Facts.{PendingContents, IsCommitted, IsChanged, HasLanded}
 use Rattle.line_moves.specs.declared.places.Place.{Place}
 use Rattle.line_moves.specs.Contents.{IsOn, IsSure, IsSurePage, PutsLine}
-use Rattle.line_moves.specs.Changes.{IsPlaceOf, MayPut}
+use Rattle.rdb_page.specs.Lines.{IsAllowedLine}
+use Rattle.line_moves.specs.Changes.{IsPlaceOf, Fits, MayPut}
 use Rattle.line_moves.specs.Lines.{ChangedLines, AreDistinct, MayPutAll, ArePut, IsNoKeyOf, Fills}
 use Rattle.line_moves.proofs.LinePut.{same_key}
 use Rattle.line_moves.proofs.KeyPlaces.{is_on, file_is}
 use Rattle.line_moves.proofs.Putting.{nat_cases}
+use Rattle.line_moves.proofs.Reading.{same_place}
 
 one_of : (a b : Dbkey × Line) → Some a ≡ Some b → a ≡ b
 one_of a b same = cc
@@ -62,6 +64,13 @@ pub got_pair : (xs : ChangedLines) (i : ℕ) (a b : Dbkey × Line) → i < lengt
 got_pair [] i a b less = absurd (omega (arith, less))
 got_pair (y ∷ ys) zero a b less = refl
 got_pair (y ∷ ys) (suc i) a b less = got_pair ys i a b (omega (arith, less))
+
+-- what fits a page fits it with other lines put
+pub fits_filled : (lines : ChangedLines) (from next : ℕ) (place : Place) (z y : List ℕ) (key : Dbkey) (line : Line) → Fills lines from next place z y → Fits key line z → Fits key line y
+fits_filled lines from next place z y key line fills fits = record {
+  placed = same_place key y z fills.same_owner fills.same_class ∙ fits.placed;
+  allowed = subst (λ (c : ℕ). IsAllowedLine c line) (sym fills.same_class) fits.allowed;
+}
 
 -- ---- what the page is then
 

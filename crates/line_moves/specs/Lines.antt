@@ -12,7 +12,7 @@ use Rattle.stable_lines.specs.Progress.{Progress}
 use Rattle.stable_lines.specs.Facts.{PendingContents}
 use Rattle.line_moves.specs.declared.places.Place.{Place}
 use Rattle.line_moves.specs.Contents.{IsOn}
-use Rattle.line_moves.specs.Changes.{MayPut, IsEntered}
+use Rattle.line_moves.specs.Changes.{Fits, MayPut, IsEntered}
 
 abbrev pub ChangedLines : Type 0
 ChangedLines = List (Dbkey × Line)
@@ -46,6 +46,10 @@ pub record Fills (lines : ChangedLines) (from next : ℕ) (place : Place) (old n
   pub stand : (i : ℕ) (line : Dbkey × Line) → from ≤ i → i < next → slice_get lines i ≡ Some line → line_on line.0 new ≡ line.1
   pub others : (key : Dbkey) → IsOn place.file place.page key → IsNoKeyOf lines from next key → line_on key new ≡ line_on key old
 
+-- The lines from one place on that stand on one page with the first of them all have their place there.
+abbrev pub AllFit : ChangedLines → ℕ → List ℕ → Type 0
+AllFit lines from page = (i : ℕ) (first line : Dbkey × Line) → from ≤ i → slice_get lines from ≡ Some first → slice_get lines i ≡ Some line → line.0.area ≡ first.0.area → line.0.page ≡ first.0.page → Fits line.0 line.1 page
+
 -- a page with this head, on which no line was used
 pub record HasNoLines (page : List ℕ) (head : Head) : Type 0 where
   pub is : IsHead page head
@@ -56,3 +60,7 @@ pub record IsStarted (place : Place) (owner class : ℕ) (old new : List ℕ) : 
   pub unused : IsUnused old → HasNoLines new (record { page = place.page; owner = owner; class = class })
   pub used : (IsUnused old → ⊥) → new ≡ old
   pub either : IsUnused old ⊎ (new ≡ old)
+
+-- They all have their place on the page as it is begun.
+abbrev pub AllFitBegun : ChangedLines → ℕ → Place → ℕ → List ℕ → Type 0
+AllFitBegun lines from place class old = (first : Dbkey × Line) (begun : List ℕ) → slice_get lines from ≡ Some first → IsStarted place first.0.area class old begun → AllFit lines from begun

@@ -1,5 +1,5 @@
 // The lines of a transaction on one page, written at once.
-ghost use Rattle.std.specs.Prelude.{◌≡◌, ◌-◌, ◌≤◌, ◌<◌, ℕ, true, length, slice_get, Some, IfOk, IsErrOf, IsTrue};
+ghost use Rattle.std.specs.Prelude.{◌≡◌, ◌-◌, ◌≤◌, ◌<◌, ℕ, true, length, slice_get, Some, IfOk, OnErr, IsErrOf, IsTrue};
 ghost use Rattle.rdb_types.specs.declared.file.FileId.{FileId as File};
 ghost use Rattle.rdb_page.specs.Page.{IsClass, IsUnused, class_at};
 ghost use Rattle.rdb_page.specs.Whole.{IsPageOf, IsUsedPage};
@@ -10,7 +10,7 @@ ghost use Rattle.stable_lines.specs.Progress.{Progress};
 ghost use Rattle.stable_lines.specs.Facts.{Facts};
 ghost use Rattle.line_moves.specs.Calls.{OnlyWrites};
 ghost use Rattle.line_moves.specs.Changes.{IsPlaceOf};
-ghost use Rattle.line_moves.specs.Lines.{AreDistinct, ArePut, Fills, IsReady, IsStarted, MayPutAll};
+ghost use Rattle.line_moves.specs.Lines.{AllFit, AllFitBegun, AreDistinct, ArePut, Fills, IsReady, IsStarted, MayPutAll};
 
 use crate::fault::Fault;
 use crate::pages::{NoPlace, put_on};
@@ -43,6 +43,8 @@ fn fill(
     ensures further { IfOk result (λ next. (from < next) × (next ≤ length lines.now)) }
     ensures fills { IfOk result (λ next. IsPageOf place.file place.page page.old
         → Fills lines.now from next place page.old page.new) }
+    ensures refused { OnErr result (IsPageOf place.file place.page page.old
+        → AllFit lines.now from page.old → ⊥) }
 {
     let first = lines[from].0;
     put_on(page, first, place, &lines[from].1)?;
@@ -97,6 +99,12 @@ pub fn write_page<D: Disk>(
     ensures failed { IsErrOf result Fault.Failed
         → Rose (D.view disk.old).faults (D.view disk.new).faults }
     ensures further { IfOk result (λ next. (from < next) × (next ≤ length lines.now)) }
+
+    // It is refused only where the page is none, or has no place for one of its lines.
+    ensures bad { (file : File) (slot : ℕ) → IsErrOf result (Fault.Bad file slot)
+        → IsTrue (D.view disk.old).tells
+        → let old = (D.view disk.old).content (file_named place.file) (place.page - 1) in
+        IsPageOf place.file place.page old → AllFitBegun lines.now from place class old → ⊥ }
 
     // Those lines stand on their pages, as those before them do.
     ensures put { IfOk result (λ next. IsTrue (D.view disk.old).tells → (now : Progress)

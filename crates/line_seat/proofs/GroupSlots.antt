@@ -50,8 +50,9 @@ pub slot_is : (place : GroupPlace) (lines : ChangedLines) (classes : List ℕ) (
     → slice_get (slots_of (group_of place lines classes)) i ≡ Some (Some (record { number = place.number; tsn = place.tsn; index = i; count = length lines + 1; line = Some (group_line line class) }))
 slot_is place lines classes i line class long got is =
     let many = as_many lines classes long in
+    let at : 0 + i ≡ i = omega arith in
     slot_from (group_of place lines classes) lines classes 0 i line class got is
-    ∙ (λ j. Some (Some (record { number = place.number; tsn = place.tsn; index = i; count = many j + 1; line = Some (group_line line class) })))
+    ∙ (λ j. Some (Some (record { number = place.number; tsn = place.tsn; index = at j; count = many j + 1; line = Some (group_line line class) })))
 
 -- what indexing gives
 pub got_read : {A : Type 0} (xs : List A) (i : ℕ) (r : A) → i < length xs → r ≡ slice_index_or xs i r → slice_get xs i ≡ Some r

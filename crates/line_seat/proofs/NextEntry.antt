@@ -13,7 +13,7 @@ use Rattle.stable_lines.proofs.Fewer.{committed}
 use Rattle.stable_lines.proofs.Lists.{got_either, got_one}
 use Rattle.stable_lines.proofs.Written.{one_written}
 use Rattle.line_moves.proofs.Runs.{pends}
-use Rattle.line_seat.specs.SeatFacts.{BeforeFacts, SeatFacts, OnlyWrites, MayChange}
+use Rattle.line_seat.specs.Seats.{BeforeFacts, SeatFacts, MayChange}
 
 -- with none of its entries standing, none is of any line, and none is counted
 pub none_there : (o : Open) → o.entries ≡ [] → (key : Dbkey) → IsNoneOf key o.entries

@@ -2,7 +2,7 @@
 use Rattle.std.proofs.Common.{◌≡◌, ◌≢◌, ℕ, ◌+◌, ◌≤◌, List, [], Option, Some, None, slice_get, ◌⊎◌, inl, ⊎_elim, ap, sym, subst, ◌∙◌, arith, refl, IsTrue}
 use Rattle.rdb_types.specs.declared.file.FileId.{FileId}
 use Rattle.rdb_types.specs.declared.file.FileKind.TheVariants.{Ruj}
-use Rattle.rdb_outside.specs.Disk.{View, Pending, OnlyReads}
+use Rattle.rdb_outside.specs.Disk.{View, Pending, Keeps, OnlyReads}
 use Rattle.ruj_journal.specs.Entry.{IsEntry}
 use Rattle.stable_lines.specs.Slots.{ruj_file, named, IsMember, Undo, entry_at}
 use Rattle.stable_lines.specs.Progress.{Open, Flight, Progress, begun}
@@ -43,6 +43,7 @@ pub stays_reads : (v w : View) → IsTrue v.tells → OnlyReads v w → (now : P
 stays_reads v w t reads now s o all n was = seat_stays v w now s o all n (λ i x q. keeps.pending (ruj_file s) i x q) (λ i. keeps.content (ruj_file s) i)
     (λ i undo got. still_ended v w now (λ m h q. keeps.pending (ruj_file m) 0 h q) undo.before.tsn.number (was.before i undo got).committed.ended) was
   where
+    keeps : Keeps v w
     keeps = reads.keeps t
 
 pub stays_aside : (v w : View) (file : FileId) (slot : ℕ) → IsTrue v.tells → file.kind ≢ Ruj → OnlyWrites file slot v w → (now : Progress) (s : ℕ) (o : Open) (all : List Undo) (n : ℕ) → SeatFacts v now s o all n → SeatFacts w now s o all n

@@ -38,6 +38,10 @@ pub record SeatFacts (v : View) (now : Progress) (member : ℕ) (o : Open) (all 
   pub sure : (i : ℕ) (undo : Undo) (x : List ℕ) → i < stable → slice_get all i ≡ Some undo → Pending v (ruj_file member) (i + 1) x → IsEntry x (entry_at o.tsn (i + 1) undo)
   pub before : (i : ℕ) (undo : Undo) → slice_get all i ≡ Some undo → BeforeFacts (Pending v) now undo
 
+-- the transaction that draws the next number
+abbrev pub next_open : Progress → Open
+next_open now = record { tsn = record { number = now.next_tsn }; entries = [] }
+
 -- A line may be changed for the first time in the transaction, whose header names it.
 pub record MayChange (v : View) (now : Progress) (member : ℕ) (o : Open) (all : List Undo) (key : Dbkey) : Type 0 where
   pub names : named (v.content (ruj_file member) 0) ≡ o.tsn.number

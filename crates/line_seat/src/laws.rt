@@ -10,7 +10,7 @@ ghost use Rattle.line_moves.specs.Calls.{OnlyWrites};
 ghost use Rattle.line_moves.specs.Lines.{ChangedLines};
 ghost use Rattle.line_seat.specs.declared.commit.GroupPlace.{GroupPlace};
 ghost use Rattle.line_seat.specs.declared.commit.CommitStage.TheVariants.{Changing};
-ghost use Rattle.line_seat.specs.Seats.{IsSecured, SeatFacts, secured};
+ghost use Rattle.line_seat.specs.Seats.{IsSecured, SeatFacts, next_open, secured};
 ghost use Rattle.line_seat.specs.Groups.{AreEntered, AreOfEntries};
 ghost use Rattle.line_seat.specs.Stages.{StandsAt};
 
@@ -20,8 +20,7 @@ use rdb_outside::Disk;
 pub fn a_seat_begins<D: Disk>(disk: &D)
     ensures { (now : Progress) (member : ℕ) → Facts (Pending (D.view disk.now)) now
         → IsMember member → now.going member ≡ None
-        → let transaction = record { tsn = record { number = now.next_tsn }; entries = [] } in
-        SeatFacts (D.view disk.now) (begun member now) member transaction [] 0 }
+        → SeatFacts (D.view disk.now) (begun member now) member (next_open now) [] 0 }
 {}
 
 /// What a seat holds, it holds while others write.

@@ -133,3 +133,15 @@ returns-clause-class g c = let v = g.D.Disk.view in let old = v c.args.disk.now 
     let fills = c.in-Ok.ensures.fills is_page in
     let here : new.content f at ≡ x = here_at new c.area_file-file.result f c.slot_of-slot.result at x c.area_file-file.ensures c.slot_of-slot.ensures (c.in_ok-write.ensures.written (told t)).here in
     class_started c.args.place first.area c.args.class (old.content f at) z x (new.content f at) (subst (λ (b : List ℕ). IsStarted c.args.place first.area c.args.class b z) same c.start.ensures.started) fills.same_class here
+
+pub returns-in_default-clause-bad : goal.returns-in_default-clause-bad
+returns-in_default-clause-bad g c = let v = g.D.Disk.view in let old = v c.args.disk.now in let mid = v c.read.new.self in
+    let reads = reads_once old mid c.read.result c.read.ensures.counts c.read.ensures.kept in
+    let f = area_file c.args.place.file in let at = c.args.place.page - 1 in
+    let y = c.read.new.into in let z = c.start.new.page in
+    let got = got_pair c.args.lines.now c.args.from c.index-lines-from.result c.index-lines-from.result c.requires.within in
+    let names = c.requires.place _ got in
+    λ file slot is t page fit.
+    let same : y ≡ old.content f at = c.in_ok-read.ensures.bytes t ∙ (λ i. old.content (c.area_file-file.ensures i) (c.slot_of-slot.ensures i)) in
+    let started = subst (λ (b : List ℕ). IsStarted c.args.place (slice_index_or c.args.lines.now c.args.from c.index-lines-from.result).0.area c.args.class b z) same c.start.ensures.started in
+    c.in_default.ensures.refused (started_page _ c.args.place c.args.class (old.content f at) z names started page) (fit _ z got started)

@@ -8,7 +8,7 @@ write_page-requires-clause-place g c = place_there c.args.lines.now c.args.at _ 
 
 pub write_page-requires-clause-class : goal.write_page-requires-clause-class
 write_page-requires-clause-class g c =
-    (c.requires.allowed c.args.at _ _ (got_at c.args.lines.now c.args.at c.index-lines-at.result (search rules)) (got_at c.args.classes.now c.args.at c.index-classes-at.result (search rules))).class
+    (c.requires.allowed c.args.at _ _ (got_at c.args.lines.now c.args.at c.index-lines-at.result (search rules)) (got_at c.args.classes.now c.args.at _ (search rules))).class
 
 pub returns-then-at-lines-clause-goes_on : goal.returns-then-at-lines-clause-goes_on
 returns-then-at-lines-clause-goes_on g c = let old = g.D.Disk.view c.args.disk.now in λ t now group flight stands.

@@ -19,7 +19,7 @@ returns-in-Ok-clause-goes_on g c = let v = g.D.Disk.view in λ t now member o fl
     let old = v c.args.disk.now in let new = v c.write_after_image.new.disk in
     let first = is.in_slot in let at = c.args.group.slot + c.args.at in
     let line = got_read c.args.lines.now c.args.at c.index-lines-at.result (search rules) c.index-lines-at.is in
-    let class = got_at c.args.classes.now c.args.at c.index-classes-at.result (search rules) in
+    let class = got_at c.args.classes.now c.args.at 0 (search rules) in
     let slot = ap (λ (f : Group). slice_get (slots_of f) c.args.at) is.group ∙ slot_is c.args.group c.args.lines.now c.args.classes.now c.args.at _ _ c.requires.classes line class ∙ ap (λ (p : AijPart). Some (Some p)) (sym c.part_of-part.ensures) in
     record {
       facts = c.write_after_image.ensures.keeps t now stands.facts (omega (arith, first)) is.no_former is.no_flight;
