@@ -41,3 +41,8 @@ returns-clause-goes_on g c = let v = g.D.Disk.view in λ t now group flight stan
         c.in_ok-next.ensures.put t now stands.facts stands.done.2,
       );
     }
+
+pub unreachable-requires : goal.unreachable-requires
+unreachable-requires g c =
+    let there = c.requires.placed c.args.at _ (got_at c.args.lines.now c.args.at c.index-lines-at.result (search rules)) in
+    c.in_default.ensures.none there.0 there.1

@@ -2,7 +2,7 @@ use Rattle.std.proofs.Common.{◌≡◌, ◌∙◌, ◌+◌, ℕ, sym, subst, ap
 use Rattle.rdb_types.specs.declared.keys.Tsn.{Tsn}
 use Rattle.rdb_outside.specs.Disk.{Adds}
 use Rattle.ruj_journal.specs.Entry.{IsEntry}
-use Rattle.stable_lines.specs.Slots.{ruj_file, entry_at, line_at}
+use Rattle.stable_lines.specs.Slots.{ruj_file, entry_at, line_at, Undo}
 use Rattle.line_seat.proofs.NextEntry.{none_there, none_counted, journalled_next}
 use Rattle.line_seat.proofs.journalling.journal_line.Goals as goal
 
@@ -19,7 +19,7 @@ returns-clause-journalled g c = let v = g.D.Disk.view in λ t now o all n was ho
     let old = v c.args.disk.now in let new = v c.write_before_image.new.disk in
     let left = g.met.D.Disk.content_left c.args.disk.now old.moment t (omega arith) in
     let file = ruj_file c.args.member in let next = length all + 1 in
-    let undo = record { key = c.args.key; before = line_at old.content c.args.key } in
+    let undo : Undo = record { key = c.args.key; before = line_at old.content c.args.key } in
     let entry : IsEntry (new.content file next) (entry_at o.tsn next undo) = subst (λ (n : ℕ). IsEntry (new.content file n) (entry_at o.tsn n undo)) at (subst (λ (s : Tsn). IsEntry (new.content file c.args.index) (entry_at s c.args.index undo)) same (c.in_ok-write_before_image.ensures.noted t)) in
     journalled_next old new left now c.args.member o all n c.args.key (new.content file next) was holds may
     (subst (λ (n : ℕ). Adds file n (new.content file n) old new) at (c.in_ok-write_before_image.ensures.adds t)) refl
