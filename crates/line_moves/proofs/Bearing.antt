@@ -1,15 +1,15 @@
 -- A line that bears a transaction has its place, on a page within the limit.
 use Rattle.std.specs.Prelude.{if◌then◌else◌}
-use Rattle.std.proofs.Common.{◌≡◌, ◌≢◌, ℕ, ◌+◌, ◌-◌, ◌%◌, ◌≤◌, ◌<◌, Bool, true, false, List, ◌⊎◌, inl, inr, ⊎_elim, nat_le, nat_eq, drop, replicate, ap, sym, subst, ◌∙◌, arith, refl}
-use Rattle.std.proofs.lemmas.Bool.{leb-true, and_parts}
+use Rattle.std.proofs.Common.{◌≡◌, ◌≢◌, ℕ, ◌-◌, ◌%◌, ◌≤◌, ◌<◌, Bool, true, false, List, ⊎_elim, nat_le, nat_eq, drop, replicate, ap, sym, subst, ◌∙◌, arith, refl}
+use Rattle.std.proofs.lemmas.Bool.{leb-true}
 use Rattle.std.proofs.lemmas.Bool.Decides.{nat_tests}
 use Rattle.rdb_types.specs.declared.keys.Dbkey.{Dbkey}
 use Rattle.rdb_page.specs.Page.{IsOwner, IsUnused}
-use Rattle.rdb_page.specs.Whole.{IsPageOf, IsUsedPage}
+use Rattle.rdb_page.specs.Whole.{IsUsedPage}
 use Rattle.rdb_outside.specs.Disk.{zeros}
 use Rattle.area_files.specs.Areas.{IsPage, IsDataPage}
 use Rattle.line_versions.specs.Lines.{storage_area}
-use Rattle.stable_lines.specs.Slots.{area_file, file_of, slot_of, owner_at, has_place, line_on, IsAreaFile}
+use Rattle.stable_lines.specs.Slots.{file_of, slot_of, owner_at, has_place, line_on, IsAreaFile}
 use Rattle.stable_lines.specs.Progress.{Progress}
 use Rattle.stable_lines.specs.Facts.{PendingContents, OnPage, Facts}
 use Rattle.byteorder.specs.Endian.{little_from}
@@ -18,7 +18,7 @@ use Rattle.rdb_types.specs.File.{slot_bytes}
 use Rattle.stable_lines.proofs.Never.{zeros_owner, space_owner, little_zeros, zero_behind}
 use Rattle.line_moves.specs.declared.places.Place.{Place}
 use Rattle.line_moves.specs.Changes.{IsPlaceOf}
-use Rattle.line_moves.proofs.Putting.{nat_cases, place_says}
+use Rattle.line_moves.proofs.Putting.{place_says}
 use Rattle.line_moves.proofs.Reading.{owner_is, line_none}
 
 abbrev pub key_place : Dbkey → Place

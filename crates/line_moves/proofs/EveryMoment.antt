@@ -1,5 +1,5 @@
 -- What images since a commit stand for, at every moment of a run that writes one slot.
-use Rattle.std.proofs.Common.{ℕ, ◌≤◌, ◌<◌, length, IsTrue, ⊎_elim, arith}
+use Rattle.std.proofs.Common.{ℕ, ◌<◌, length, IsTrue, ⊎_elim, arith}
 use Rattle.rdb_types.specs.declared.file.FileId.{FileId}
 use Rattle.rdb_outside.specs.Disk.{View, Pending}
 use Rattle.rdb_outside.specs.Moments.{Since}

@@ -6,21 +6,19 @@ use Rattle.rdb_types.specs.declared.file.FileId.{FileId}
 use Rattle.rdb_types.specs.declared.keys.Dbkey.{Dbkey}
 use Rattle.rdb_types.specs.declared.keys.Line.{Line}
 use Rattle.rdb_outside.specs.Disk.{Image}
-use Rattle.rdb_page.specs.Page.{class_at}
 use Rattle.rdb_page.specs.Whole.{IsPageOf}
-use Rattle.line_view.specs.Knowledge.{line_in}
 use Rattle.line_versions.specs.Lines.{storage_area}
 use Rattle.stable_lines.specs.Slots.{area_file, file_of, slot_of, line_on}
 use Rattle.stable_lines.specs.Kept.{FitsClass}
 use Rattle.stable_lines.specs.Progress.{Progress}
 use Rattle.stable_lines.specs.Facts.{PendingContents, IsCommitted, IsChanged, HasLanded}
 use Rattle.line_moves.specs.declared.places.Place.{Place}
-use Rattle.line_moves.specs.Contents.{IsOn, IsSure, IsSurePage, PutsLine}
+use Rattle.line_moves.specs.Contents.{IsOn, IsSurePage, PutsLine}
 use Rattle.rdb_page.specs.Lines.{IsAllowedLine}
-use Rattle.line_moves.specs.Changes.{IsPlaceOf, Fits, MayPut}
+use Rattle.line_moves.specs.Changes.{IsPlaceOf, Fits}
 use Rattle.line_moves.specs.Lines.{ChangedLines, AreDistinct, MayPutAll, ArePut, IsNoKeyOf, Fills}
 use Rattle.line_moves.proofs.LinePut.{same_key}
-use Rattle.line_moves.proofs.KeyPlaces.{is_on, file_is}
+use Rattle.line_moves.proofs.KeyPlaces.{is_on}
 use Rattle.line_moves.proofs.Putting.{nat_cases}
 use Rattle.line_moves.proofs.Reading.{same_place}
 

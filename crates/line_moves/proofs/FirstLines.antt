@@ -5,9 +5,8 @@ use Rattle.rdb_types.specs.declared.keys.Dbkey.{Dbkey}
 use Rattle.rdb_types.specs.declared.keys.Line.{Line}
 use Rattle.rdb_page.specs.declared.head.Head.{Head}
 use Rattle.rdb_page.specs.Lines.{never, IsLine}
-use Rattle.rdb_page.specs.Page.{IsOwner, IsUnused, class_at, lines_of}
+use Rattle.rdb_page.specs.Page.{IsUnused, class_at, lines_of}
 use Rattle.rdb_page.specs.Whole.{IsPageOf}
-use Rattle.area_files.specs.Areas.{IsDataPage}
 use Rattle.line_view.specs.Knowledge.{line_in}
 use Rattle.stable_lines.specs.Slots.{area_file, file_of, slot_of, has_place, line_on}
 use Rattle.stable_lines.specs.Progress.{Flight, Progress, lines_with}

@@ -4,7 +4,7 @@ use Rattle.rdb_types.specs.declared.keys.Dbkey.{Dbkey}
 use Rattle.rdb_types.specs.declared.keys.Line.{Line}
 use Rattle.rdb_page.specs.declared.head.Head.{Head}
 use Rattle.rdb_page.specs.Lines.{line_place, IsLine}
-use Rattle.rdb_page.specs.Page.{StandsAs, IsUnused, class_at, lines_of}
+use Rattle.rdb_page.specs.Page.{StandsAs, class_at, lines_of}
 use Rattle.stable_lines.specs.Slots.{line_on}
 use Rattle.rdb_page.specs.Whole.{IsPageOf, IsUsedPage}
 use Rattle.line_moves.specs.declared.places.Place.{Place}

@@ -1,6 +1,6 @@
 -- How runs of device calls go on of which one at most writes.
 use Rattle.std.specs.Prelude.{OnOk, OnErr, Ok, Err}
-use Rattle.std.proofs.Common.{◌≡◌, ◌≢◌, ℕ, ◌+◌, ◌≤◌, ◌<◌, IsTrue, Result, List, ◌⊎◌, inl, inr, ⊎_elim, ap, sym, subst, ◌∙◌, arith, refl}
+use Rattle.std.proofs.Common.{◌≡◌, ℕ, IsTrue, Result, List, ◌⊎◌, inl, inr, ⊎_elim, sym, subst, ◌∙◌, arith}
 use Rattle.rdb_types.specs.declared.file.FileId.{FileId}
 use Rattle.rdb_outside.specs.Disk.{Image, View, LeftNow, Pending, Counts, Keeps, SameContent, Puts, Adds, IsPending, OnlyReads}
 use Rattle.rdb_outside.specs.Moments.{each_slot, goes_on, weaker}

@@ -1,21 +1,18 @@
 -- The line of an entry that bears its transaction may be put back.
 use Rattle.std.proofs.Common.{◌≡◌, ◌≢◌, ℕ, ◌+◌, ◌-◌, ◌≤◌, ◌<◌, List, length, Some, slice_get, inl, ⊎_elim, ap, sym, subst, ◌∙◌, arith, refl}
-use Rattle.rdb_types.specs.declared.file.FileId.{FileId}
-use Rattle.rdb_outside.specs.Disk.{View}
 use Rattle.rdb_types.specs.declared.keys.Dbkey.{Dbkey}
 use Rattle.rdb_types.specs.declared.keys.Line.{Line}
 use Rattle.rdb_types.specs.declared.keys.Tsn.{Tsn}
 use Rattle.ruj_journal.specs.declared.entry.RujEntry.{RujEntry}
 use Rattle.ruj_journal.specs.Entry.{IsEntry}
 use Rattle.ruj_journal.proofs.Readings.{one_entry}
-use Rattle.stable_lines.specs.Slots.{ruj_file, area_file, file_of, slot_of, line_on, Undo, entry_at}
+use Rattle.stable_lines.specs.Slots.{ruj_file, line_on, Undo, entry_at}
 use Rattle.stable_lines.specs.Progress.{Open, Flight, Progress}
 use Rattle.stable_lines.specs.Facts.{PendingContents, OnPage, IsCommitted, IsChanged, Facts}
 use Rattle.stable_lines.proofs.Turns.{some_same}
 use Rattle.line_moves.specs.Contents.{IsFree}
 use Rattle.line_moves.proofs.FilledPages.{some_there}
-use Rattle.line_moves.specs.declared.places.Place.{Place}
-use Rattle.line_moves.specs.Changes.{IsPlaceOf, MayPut}
+use Rattle.line_moves.specs.Changes.{MayPut}
 
 module _ (P : PendingContents) (now : Progress) (member index : ℕ) (o : Open) (e : RujEntry) (slot y : List ℕ) (was : Facts P now) (is : now.going member ≡ Some o) (first : 1 ≤ index) (last : index ≤ length o.entries)
     (there : P (ruj_file member) index slot) (reads : IsEntry slot e) (on_page : OnPage P e.key y) (bears : (line_on e.key y).tsn.number ≡ o.tsn.number)

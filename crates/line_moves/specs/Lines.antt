@@ -1,5 +1,5 @@
 -- The lines that a transaction changed, in the order of their keys, and their pages.
-use Rattle.std.specs.Prelude.{ℕ, ◌-◌, ◌≤◌, ◌<◌, ◌≡◌, ◌≢◌, ◌⊎◌, List, length, slice_get, Some}
+use Rattle.std.specs.Prelude.{ℕ, ◌-◌, ◌≤◌, ◌<◌, ◌≡◌, ◌≢◌, ◌⊎◌, List, slice_get, Some}
 use Rattle.rdb_types.specs.declared.keys.Dbkey.{Dbkey}
 use Rattle.rdb_types.specs.declared.keys.Line.{Line}
 use Rattle.rdb_page.specs.declared.head.Head.{Head}

@@ -36,13 +36,13 @@ pub fn write_before_image<D: Disk>(
     ensures bad { (file : File) (slot : ℕ) → IsErrOf result (Fault.Bad file slot)
         → IsTrue (D.view disk.old).tells
         → IsPageOf place.file place.page
-            ((D.view disk.old).content (file_named place.file) (place.page - 1)) → ⊥ }
+        ((D.view disk.old).content (file_named place.file) (place.page - 1)) → ⊥ }
 
     // The entry stands, with the line as it was.
     ensures noted { OnOk result (IsTrue (D.view disk.old).tells
         → let before = line_in_image (D.view disk.old).content key in
         IsEntry ((D.view disk.new).content (journal_named member) index)
-            (entry_at tsn index (record { key = key; before = before }))) }
+        (entry_at tsn index (record { key = key; before = before }))) }
     ensures adds { OnOk result (IsTrue (D.view disk.old).tells
         → let bytes = (D.view disk.new).content (journal_named member) index in
         Adds (journal_named member) index bytes (D.view disk.old) (D.view disk.new)) }

@@ -33,7 +33,7 @@ pub fn open_header<D: Disk>(disk: &mut D, member: u32, tsn: Tsn) -> Result<(), F
         → Facts (Pending (D.view disk.old)) now
         → now.going member ≡ Some transaction → tsn ≡ transaction.tsn → now.former ≡ None
         → ((content : List ℕ) (root : Root) → Pending (D.view disk.old) root_file 0 content
-            → IsRoot content root → root.state ≢ 3)
+        → IsRoot content root → root.state ≢ 3)
         → Facts (Pending (D.view disk.new)) now }
 {
     let mut slot = [0; 512];

@@ -57,7 +57,7 @@ pub fn line_at<D: Disk>(disk: &mut D, key: Dbkey, place: Place) -> Result<Line, 
     ensures bad { (file : File) (slot : ℕ) → IsErrOf result (Fault.Bad file slot)
         → IsTrue (D.view disk.old).tells
         → IsPageOf place.file place.page
-            ((D.view disk.old).content (file_named place.file) (place.page - 1)) → ⊥ }
+        ((D.view disk.old).content (file_named place.file) (place.page - 1)) → ⊥ }
 {
     let file = area_file(place.file);
     let slot = slot_of(place.page);

@@ -83,7 +83,7 @@ pub fn change_line<D: Disk>(
     ensures others { OnOk result (IsTrue (D.view disk.old).tells → (now : Progress)
         → Facts (Pending (D.view disk.old)) now → (other : Key) → other ≢ key
         → line_in_image (D.view disk.new).content other
-            ≡ line_in_image (D.view disk.old).content other) }
+        ≡ line_in_image (D.view disk.old).content other) }
 
     // Whatever it answers, the facts stay.
     ensures keeps { IsTrue (D.view disk.old).tells → (now : Progress)

@@ -28,10 +28,10 @@ pub fn enter_page<D: Disk>(disk: &mut D, place: Place, area: u32) -> Result<(), 
     ensures bad { (file : File) (slot : ℕ) → IsErrOf result (Fault.Bad file slot)
         → IsTrue (D.view disk.old).tells
         → IsSpace ((D.view disk.old).content (file_named place.file) (space_of place.page - 1))
-            (space_of place.page) → ⊥ }
+        (space_of place.page) → ⊥ }
     ensures entered { OnOk result (IsTrue (D.view disk.old).tells
         → owner_of place.page
-            ((D.view disk.new).content (file_named place.file) (space_of place.page - 1)) ≡ area) }
+        ((D.view disk.new).content (file_named place.file) (space_of place.page - 1)) ≡ area) }
 
     // Whatever it answers, the facts stay, where no other area has the page.
     ensures keeps { IsTrue (D.view disk.old).tells → (now : Progress)

@@ -1,5 +1,5 @@
 -- The steps of a commit.
-use Rattle.std.proofs.Common.{◌≡◌, ◌≢◌, ℕ, zero, suc, ◌+◌, ◌-◌, ◌%◌, Result, Ok, Err, IfOk, ◌≤◌, ◌<◌, IsTrue, true, List, [], ◌∷◌, length, Option, Some, None, slice_get, ◌⊎◌, inl, inr, ⊎_elim, ap, sym, subst, ◌∙◌, arith, refl}
+use Rattle.std.proofs.Common.{◌≡◌, ◌≢◌, ℕ, zero, suc, ◌+◌, ◌-◌, Result, Ok, Err, IfOk, ◌≤◌, ◌<◌, IsTrue, List, [], ◌∷◌, length, Option, Some, None, slice_get, inl, inr, ⊎_elim, ap, sym, subst, ◌∙◌, arith, refl}
 use Rattle.rdb_types.specs.declared.file.FileId.{FileId}
 use Rattle.rdb_types.specs.declared.file.FileKind.TheVariants.{Area, Ruj, Aij}
 use Rattle.rdb_types.specs.declared.keys.Dbkey.{Dbkey}
@@ -10,13 +10,13 @@ use Rattle.aij_journal.specs.declared.part.GroupLine.{GroupLine}
 use Rattle.aij_journal.specs.declared.part.AijPart.{AijPart}
 use Rattle.journal_scan.specs.declared.group.Group.{Group}
 use Rattle.journal_scan.specs.Standing.{what_stands}
-use Rattle.journal_scan.specs.Whole.{slots_of, ascends, IsWhole}
+use Rattle.journal_scan.specs.Whole.{slots_of, ascends}
 use Rattle.new_database.specs.Maker.{aij_file}
 use Rattle.line_versions.specs.Lines.{storage_area, shown, shown_as}
 use Rattle.stable_lines.specs.Slots.{ruj_file, area_file, file_of, slot_of, line_on, line_at}
-use Rattle.stable_lines.specs.Journal.{next_slot, next_number}
+use Rattle.stable_lines.specs.Journal.{next_slot}
 use Rattle.stable_lines.specs.Progress.{Open, Flight, Progress, flying}
-use Rattle.stable_lines.specs.Facts.{PendingContents, Only, HasLanded, IsCommitted, IsChanged, Facts}
+use Rattle.stable_lines.specs.Facts.{PendingContents, Only, HasLanded, Facts}
 use Rattle.stable_lines.proofs.Barrier.{group_stands}
 use Rattle.stable_lines.proofs.Fewer.{committed, changed}
 use Rattle.line_moves.specs.declared.places.Place.{Place}
@@ -28,7 +28,7 @@ use Rattle.line_moves.proofs.Putting.{nat_cases}
 use Rattle.line_seat.specs.declared.commit.GroupPlace.{GroupPlace}
 use Rattle.line_seat.specs.Seats.{IsSecured, secured}
 use Rattle.stable_lines.specs.Slots.{Undo}
-use Rattle.line_seat.specs.Groups.{group_line, group_lines, group_of, AreEntered, AreOfEntries, AreImaged, HaveClasses, IsCommitting}
+use Rattle.line_seat.specs.Groups.{group_of, AreEntered, AreOfEntries, AreImaged, HaveClasses, IsCommitting}
 use Rattle.line_seat.proofs.GroupSlots.{as_many, of_lines}
 
 ruj_not_area : (file member : ℕ) → ruj_file member ≢ area_file file

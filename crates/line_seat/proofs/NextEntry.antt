@@ -1,11 +1,11 @@
 -- An entry is written behind those that the transaction has.
-use Rattle.std.proofs.Common.{◌≡◌, ◌≢◌, ℕ, zero, suc, ◌+◌, ◌-◌, ◌≤◌, ◌<◌, List, [], ◌∷◌, ◌++◌, length, Some, slice_get, ◌⊎◌, ⊎_elim, ap, sym, subst, ◌∙◌, arith, refl, length-append}
+use Rattle.std.proofs.Common.{◌≡◌, ◌≢◌, ℕ, zero, suc, ◌+◌, ◌≤◌, ◌<◌, List, [], ◌∷◌, ◌++◌, length, Some, slice_get, ⊎_elim, ap, sym, subst, ◌∙◌, arith, refl, length-append}
 use Rattle.rdb_types.specs.declared.file.FileId.{FileId}
 use Rattle.rdb_types.specs.declared.keys.Dbkey.{Dbkey}
 use Rattle.rdb_types.specs.declared.keys.Line.{Line}
 use Rattle.rdb_outside.specs.Disk.{View, LeftNow, Pending}
 use Rattle.ruj_journal.specs.Entry.{IsEntry}
-use Rattle.stable_lines.specs.Slots.{ruj_file, area_file, file_of, slot_of, named, line_on, Undo, entry_at}
+use Rattle.stable_lines.specs.Slots.{ruj_file, file_of, slot_of, named, line_on, Undo, entry_at}
 use Rattle.stable_lines.specs.Image.{IsNoneOf}
 use Rattle.stable_lines.specs.Progress.{Open, Progress}
 use Rattle.stable_lines.specs.Facts.{More, IsCommitted, Facts}

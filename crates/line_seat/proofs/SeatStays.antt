@@ -1,14 +1,14 @@
 -- What a seat holds while others write.
-use Rattle.std.proofs.Common.{◌≡◌, ◌≢◌, ℕ, ◌+◌, ◌≤◌, List, [], Option, Some, None, slice_get, ◌⊎◌, inl, ⊎_elim, ap, sym, subst, ◌∙◌, arith, refl, IsTrue}
+use Rattle.std.proofs.Common.{◌≡◌, ◌≢◌, ℕ, ◌+◌, ◌≤◌, List, [], Some, None, slice_get, ◌⊎◌, inl, ⊎_elim, ap, sym, subst, ◌∙◌, arith, refl, IsTrue}
 use Rattle.rdb_types.specs.declared.file.FileId.{FileId}
 use Rattle.rdb_types.specs.declared.file.FileKind.TheVariants.{Ruj}
 use Rattle.rdb_outside.specs.Disk.{View, Pending, Keeps, OnlyReads}
 use Rattle.ruj_journal.specs.Entry.{IsEntry}
 use Rattle.stable_lines.specs.Slots.{ruj_file, named, IsMember, Undo, entry_at}
-use Rattle.stable_lines.specs.Progress.{Open, Flight, Progress, begun}
+use Rattle.stable_lines.specs.Progress.{Open, Progress, begun}
 use Rattle.stable_lines.specs.Facts.{HasEnded, Facts}
 use Rattle.stable_lines.proofs.Turns.{going_here}
-use Rattle.stable_lines.proofs.Written.{written_stay, none_written}
+use Rattle.stable_lines.proofs.Written.{none_written}
 use Rattle.line_moves.specs.Calls.{OnlyWrites}
 use Rattle.line_moves.proofs.Putting.{nat_cases}
 use Rattle.line_seat.specs.Seats.{SeatFacts}

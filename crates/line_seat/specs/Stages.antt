@@ -1,5 +1,5 @@
 -- What a commit rests on at each of its stages.
-use Rattle.std.specs.Prelude.{ℕ, ◌+◌, ◌≡◌, length}
+use Rattle.std.specs.Prelude.{◌+◌, ◌≡◌, length}
 use Rattle.rdb_outside.specs.Disk.{View, Pending}
 use Rattle.new_database.specs.Maker.{aij_file}
 use Rattle.journal_scan.specs.Standing.{what_stands}

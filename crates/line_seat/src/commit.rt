@@ -10,9 +10,7 @@ ghost use Rattle.line_seat.specs.Stages.{StandsAt, progress_at};
 ghost use Rattle.line_seat.specs.declared.commit.CommitStage.TheVariants.{Changing, Imaging, Gathering};
 
 use aij_journal::{AijPart, GroupLine};
-use line_moves::{
-    Fault, make_stable, place_of, write_after_image, write_commit, write_page,
-};
+use line_moves::{Fault, make_stable, place_of, write_after_image, write_commit, write_page};
 use rdb_outside::{Disk, Failed};
 use rdb_types::{Dbkey, Image, Line, Tsn};
 
@@ -51,11 +49,11 @@ fn part_of(
     requires index { index < 2 ^ 32 }
     requires count { count < 2 ^ 32 }
     ensures { result ≡ record {
-        number = group.number;
-        tsn = group.tsn;
-        index = index;
-        count = count;
-        line = Some (group_line line.now class);
+      number = group.number;
+      tsn = group.tsn;
+      index = index;
+      count = count;
+      line = Some (group_line line.now class);
     } }
 {
     AijPart {
@@ -185,7 +183,13 @@ pub fn commit_step<D: Disk>(
             Ok(CommitStage::Sealing)
         }
         CommitStage::Sealing => {
-            write_commit(disk, group.slot, group.number, group.tsn, lines.len() as u32)?;
+            write_commit(
+                disk,
+                group.slot,
+                group.number,
+                group.tsn,
+                lines.len() as u32,
+            )?;
             Ok(CommitStage::Landing)
         }
         CommitStage::Landing => {

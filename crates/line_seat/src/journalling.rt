@@ -32,7 +32,7 @@ pub fn journal_line<D: Disk>(
     ensures bad { (file : File) (slot : ℕ) → IsErrOf result (Fault.Bad file slot)
         → IsTrue (D.view disk.old).tells
         → IsPageOf place.file place.page
-            ((D.view disk.old).content (area_file place.file) (place.page - 1)) → ⊥ }
+        ((D.view disk.old).content (area_file place.file) (place.page - 1)) → ⊥ }
 
     // Whatever it answers, the facts stay.
     ensures keeps { IsTrue (D.view disk.old).tells
@@ -51,7 +51,7 @@ pub fn journal_line<D: Disk>(
         → MayChange (D.view disk.old) now member transaction all key
         → let before = line_at (D.view disk.old).content key in
         SeatFacts (D.view disk.new) now member transaction
-            (all ++ (record { key = key; before = before }) ∷ []) stable) }
+        (all ++ (record { key = key; before = before }) ∷ []) stable) }
 {
     write_before_image(disk, member, tsn, index, key, place)?;
     Ok(())

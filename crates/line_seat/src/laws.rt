@@ -52,15 +52,15 @@ pub fn a_seat_keeps<D: Disk>(before: &D, after: &D)
         → (other : ℕ) (theirs : Open) → other ≢ member → now.going other ≡ Some theirs
         → OnlyWrites (ruj_file other) 0 (D.view before.now) (D.view after.now)
         → ((header : List ℕ) → Pending (D.view after.now) (ruj_file other) 0 header
-            → Pending (D.view before.now) (ruj_file other) 0 header
-            ⊎ (named header ≡ theirs.tsn.number))
+        → Pending (D.view before.now) (ruj_file other) 0 header
+        ⊎ (named header ≡ theirs.tsn.number))
         → SeatFacts (D.view before.now) now member transaction all stable
         → SeatFacts (D.view after.now) now member transaction all stable }
     ensures closed { (now : Progress) (member : ℕ) (transaction : Open) (all : List Undo) (stable : ℕ)
         → (other : ℕ) → other ≢ member
         → OnlyWrites (ruj_file other) 0 (D.view before.now) (D.view after.now)
         → ((header : List ℕ) → Pending (D.view after.now) (ruj_file other) 0 header
-            → Pending (D.view before.now) (ruj_file other) 0 header ⊎ (named header ≡ 0))
+        → Pending (D.view before.now) (ruj_file other) 0 header ⊎ (named header ≡ 0))
         → SeatFacts (D.view before.now) now member transaction all stable
         → SeatFacts (D.view after.now) now member transaction all stable }
 {}

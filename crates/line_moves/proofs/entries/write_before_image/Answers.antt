@@ -1,4 +1,4 @@
-use Rattle.std.proofs.Common.{rules, ◌≡◌, ◌∙◌, inl, inr, ⊎_elim, List, ℕ, sym, subst, refl}
+use Rattle.std.proofs.Common.{◌∙◌, inl, inr, ⊎_elim, sym, subst, refl}
 use Rattle.rdb_types.specs.declared.keys.Line.{Line}
 use Rattle.rdb_outside.specs.Disk.{Pending}
 use Rattle.ruj_journal.specs.Entry.{IsEntry}

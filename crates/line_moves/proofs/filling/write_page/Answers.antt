@@ -1,6 +1,5 @@
-use Rattle.std.proofs.Common.{rules, arith, inr, ◌≡◌, ◌-◌, ◌≤◌, ◌<◌, ◌∙◌, ℕ, List, ap, sym, subst, slice_index_or}
-use Rattle.rdb_types.specs.declared.keys.Dbkey.{Dbkey}
-use Rattle.rdb_page.specs.Page.{IsUnused, class_at}
+use Rattle.std.proofs.Common.{arith, inr, ◌≡◌, ◌-◌, ◌≤◌, ◌∙◌, ℕ, List, sym, subst, slice_index_or}
+use Rattle.rdb_page.specs.Page.{IsUnused}
 use Rattle.rdb_outside.specs.Disk.{Pending}
 use Rattle.stable_lines.specs.Slots.{area_file}
 use Rattle.line_moves.specs.Lines.{IsStarted}

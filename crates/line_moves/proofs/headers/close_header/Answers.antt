@@ -1,5 +1,5 @@
 use Rattle.std.specs.Prelude.{None}
-use Rattle.std.proofs.Common.{◌≡◌, ◌∙◌, ap, refl, inl, inr, ⊎_elim}
+use Rattle.std.proofs.Common.{◌∙◌, ap, refl, inl, inr, ⊎_elim}
 use Rattle.rdb_outside.specs.Disk.{Pending}
 use Rattle.rdb_outside.specs.Runs.{no_calls}
 use Rattle.stable_lines.specs.Slots.{ruj_file, named}

@@ -1,4 +1,4 @@
-use Rattle.std.proofs.Common.{rules, ◌≡◌, ◌∙◌, ◌-◌, ℕ, List, ap, refl}
+use Rattle.std.proofs.Common.{◌≡◌, ◌∙◌, ◌-◌, ℕ, List, ap}
 use Rattle.stable_lines.specs.Slots.{area_file, line_on}
 use Rattle.line_moves.proofs.Runs.{reads_once}
 use Rattle.line_moves.proofs.KeyPlaces.{place_content}

@@ -1,5 +1,4 @@
-use Rattle.std.proofs.Common.{rules, arith, ◌≡◌, ◌≢◌, ◌-◌, ◌∙◌, ℕ, List, inr, ap, sym, subst}
-use Rattle.rdb_types.specs.declared.keys.Line.{Line}
+use Rattle.std.proofs.Common.{arith, ◌≡◌, ◌-◌, ◌∙◌, ℕ, List, inr, ap, sym, subst}
 use Rattle.rdb_outside.specs.Disk.{Pending}
 use Rattle.stable_lines.specs.Slots.{area_file, line_on}
 use Rattle.line_moves.proofs.Runs.{reads_once, facts_read, writes_none, writes_one, more_behind, read_pends, here_at, still_tells}

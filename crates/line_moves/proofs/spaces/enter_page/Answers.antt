@@ -1,4 +1,4 @@
-use Rattle.std.proofs.Common.{rules, ◌≡◌, ◌∙◌, ◌-◌, ℕ, ap, sym, inr, refl, arith}
+use Rattle.std.proofs.Common.{rules, ◌≡◌, ◌∙◌, ◌-◌, ℕ, ap, sym, inr, arith}
 use Rattle.area_files.specs.Areas.{space_page_of}
 use Rattle.space_pages.specs.Space.{owner_of}
 use Rattle.rdb_outside.specs.Disk.{Pending}

@@ -4,7 +4,6 @@ use Rattle.rdb_types.specs.declared.keys.Tsn.{Tsn}
 use Rattle.rdb_types.specs.declared.keys.Line.{Line}
 use Rattle.rdb_outside.specs.Disk.{Pending}
 use Rattle.rdb_outside.specs.Runs.{then_reads}
-use Rattle.ruj_journal.specs.Entry.{IsEntry}
 use Rattle.stable_lines.specs.Slots.{ruj_file, area_file, file_of, slot_of, line_on, line_at, entry_at}
 use Rattle.line_moves.specs.Changes.{IsPlaceOf}
 use Rattle.line_moves.proofs.Runs.{pends, reads_once, facts_read, read_pends, still_tells, writes_none, reads_then_writes}

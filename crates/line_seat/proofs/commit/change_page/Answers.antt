@@ -1,4 +1,4 @@
-use Rattle.std.proofs.Common.{rules, arith, ◌≡◌, ◌≤◌, ◌<◌, ◌∙◌, length}
+use Rattle.std.proofs.Common.{rules, ◌≤◌, length}
 use Rattle.line_seat.proofs.GroupSlots.{got_at}
 use Rattle.line_seat.proofs.CommitSteps.{may_still, entered_still, none_imaged, put_all, place_there}
 use Rattle.line_seat.proofs.commit.change_page.Goals as goal

@@ -1,4 +1,4 @@
-use Rattle.std.proofs.Common.{rules, ◌≡◌, ◌∙◌, length, sym, subst}
+use Rattle.std.proofs.Common.{◌∙◌, length, sym, subst}
 use Rattle.rdb_outside.specs.Disk.{Pending}
 use Rattle.stable_lines.specs.Progress.{flying}
 use Rattle.stable_lines.specs.Facts.{Facts}

@@ -1,4 +1,4 @@
-use Rattle.std.proofs.Common.{◌≡◌, ◌∙◌, ◌+◌, ℕ, sym, subst, ap, refl, length, arith}
+use Rattle.std.proofs.Common.{◌∙◌, ◌+◌, ℕ, subst, refl, length, arith}
 use Rattle.rdb_types.specs.declared.keys.Tsn.{Tsn}
 use Rattle.rdb_outside.specs.Disk.{Adds}
 use Rattle.ruj_journal.specs.Entry.{IsEntry}

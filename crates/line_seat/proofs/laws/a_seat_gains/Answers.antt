@@ -1,4 +1,4 @@
-use Rattle.std.proofs.Common.{◌≡◌, ◌∙◌}
+use Rattle.std.proofs.Common.{◌∙◌}
 use Rattle.line_seat.proofs.Stable.{holds_all}
 use Rattle.line_seat.proofs.laws.a_seat_gains.Goals as goal
 

@@ -1,4 +1,4 @@
-use Rattle.std.proofs.Common.{◌≡◌, ◌∙◌, arith, refl}
+use Rattle.std.proofs.Common.{arith, refl}
 use Rattle.line_seat.proofs.SeatStays.{stays_reads, stays_aside, stays_beside, stays_headed}
 use Rattle.line_seat.proofs.laws.a_seat_keeps.Goals as goal
 
