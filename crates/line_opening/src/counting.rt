@@ -1,11 +1,12 @@
 // The entries of a transaction, counted.
-ghost use Rattle.std.specs.Prelude.{◌≡◌, ℕ, List, true, false, length, IfOk, IsErr, IsTrue};
+ghost use Rattle.std.specs.Prelude.{◌≡◌, true, false, length, IfOk, IsErr, IsTrue};
 ghost use Rattle.rdb_outside.specs.Causes.{Rose};
 ghost use Rattle.rdb_outside.specs.Disk.{OnlyReads};
 ghost use Rattle.ruj_journal.specs.declared.entry.RujEntry.{RujEntry};
 ghost use Rattle.ruj_journal.specs.Entry.{IsEntry};
-ghost use Rattle.stable_lines.specs.Slots.{Undo, entry_at};
-ghost use Rattle.stable_lines.specs.Opening.{AreEntries};
+ghost use Rattle.stable_lines.specs.Slots.{Undo, entry_at, ruj_file as ruj_named};
+ghost use Rattle.journal_reading.specs.Journal.{EndsBy};
+ghost use Rattle.line_opening.specs.Counting.{HasCount};
 
 use line_moves::ruj_file;
 use rdb_outside::{Disk, Failed};
@@ -19,10 +20,13 @@ fn is_entry_of(slot: &[u8], tsn: Tsn, index: u32) -> bool
     ensures no { result ≡ false → (entry : RujEntry) → IsEntry slot.now entry
         → entry.tsn ≡ tsn → entry.index ≡ index → ⊥ }
 {
-    match read_entry(slot) {
-        Some(entry) => entry.tsn.number == tsn.number && entry.index == index,
-        None => false,
+    let Some(entry) = read_entry(slot) else {
+        return false;
+    };
+    if entry.tsn.number != tsn.number || entry.index != index {
+        return false;
     }
+    true
 }
 
 // Counts the entries in the slots before the end of the file.
@@ -36,18 +40,19 @@ fn count_within<D: Disk>(
     ensures failed { IsErr result → Rose (D.view disk.old).faults (D.view disk.new).faults }
     ensures entries { IfOk result (λ count. IsTrue (D.view disk.old).tells
         → EndsBy (D.view disk.old).content (ruj_named member) length
-        → (undos : List Undo) × (length undos ≡ count)
-            × AreEntries (D.view disk.old).content member tsn undos) }
+        → HasCount (D.view disk.old).content member tsn count) }
 {
     let journal = ruj_file(member);
     let mut slot = [0; 512];
+    let mut count = 0;
     for index in 1..length {
         disk.read(journal, index, &mut slot)?;
         if !is_entry_of(&slot, tsn, index) {
-            return Ok(index - 1);
+            return Ok(count);
         }
+        count = index;
     }
-    Ok(length.max(1) - 1)
+    Ok(count)
 }
 
 /// How many entries a transaction has in its member's journal: those from slot 1 up to the first that is none of it with its own index. It reads one slot more than it counts, at most.
@@ -55,8 +60,7 @@ pub fn count_entries<D: Disk>(disk: &mut D, member: u32, tsn: Tsn) -> Result<u32
     ensures reads { OnlyReads (D.view disk.old) (D.view disk.new) }
     ensures failed { IsErr result → Rose (D.view disk.old).faults (D.view disk.new).faults }
     ensures entries { IfOk result (λ count. IsTrue (D.view disk.old).tells
-        → (undos : List Undo) × (length undos ≡ count)
-            × AreEntries (D.view disk.old).content member tsn undos) }
+        → HasCount (D.view disk.old).content member tsn count) }
 {
     let length = disk.length(ruj_file(member))?;
     count_within(disk, member, tsn, length)

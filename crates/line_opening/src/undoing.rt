@@ -1,8 +1,8 @@
 // The entries of a member's transaction, undone.
-ghost use Rattle.std.specs.Prelude.{◌≡◌, ◌≢◌, ◌≤◌, ◌<◌, ℕ, length, Some, IfOk, IsErrOf, IsTrue};
+ghost use Rattle.std.specs.Prelude.{◌≡◌, ◌≤◌, ◌<◌, length, IfOk, IsErrOf, IsTrue};
 ghost use Rattle.rdb_outside.specs.Causes.{Rose};
 ghost use Rattle.rdb_outside.specs.Disk.{Pending};
-ghost use Rattle.stable_lines.specs.Progress.{Open, Flight, Progress};
+ghost use Rattle.stable_lines.specs.Progress.{Open, Progress};
 ghost use Rattle.stable_lines.specs.Facts.{Facts};
 ghost use Rattle.line_opening.specs.Undoing.{AreUndone, MayUndo};
 
@@ -39,9 +39,10 @@ pub fn undo_next<D: Disk>(
         → AreUndone (D.view disk.new).content transaction rest) }
 {
     for back in 0..entries {
-        match undo_line(disk, pages, member, tsn, entries - back, page)? {
+        let index = entries - back;
+        match undo_line(disk, pages, member, tsn, index, page)? {
             Undone::Nothing => {}
-            Undone::Written(_) => return Ok(entries - back - 1),
+            Undone::Written(_) => return Ok(index - 1),
         }
     }
     Ok(0)

@@ -4,3 +4,4 @@ pub mod Stable
 pub mod Ends
 pub mod GroupSlots
 pub mod CommitSteps
+pub mod StageStays

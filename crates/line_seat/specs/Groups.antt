@@ -45,6 +45,10 @@ ArePlaced lines = (i : ℕ) (line : Dbkey × Line) → slice_get lines i ≡ Som
 abbrev pub AreEntered : PendingContents → ChangedLines → Type 0
 AreEntered P lines = (i : ℕ) (line : Dbkey × Line) (place : Place) → slice_get lines i ≡ Some line → IsPlaceOf line.0 place → IsEntered P place line.0.area
 
+-- each line bears the transaction
+abbrev pub AreOfTransaction : Open → ChangedLines → Type 0
+AreOfTransaction o lines = (i : ℕ) (line : Dbkey × Line) → slice_get lines i ≡ Some line → line.1.tsn ≡ o.tsn
+
 -- This is the group of the member's transaction, to be written where the journal ends, while no other flies.
 pub record IsCommitting (now : Progress) (member : ℕ) (o : Open) (at : GroupPlace) (lines : ChangedLines) (classes : List ℕ) (f : Flight) : Type 0 where
   pub its : f.member ≡ member
@@ -54,7 +58,7 @@ pub record IsCommitting (now : Progress) (member : ℕ) (o : Open) (at : GroupPl
   pub numbered : at.number ≡ next_number now.journal
   pub in_slot : at.slot ≡ next_slot now.journal
   pub in_order : ascends None (group_lines lines classes) ≡ true
-  pub bears : (i : ℕ) (line : Dbkey × Line) → slice_get lines i ≡ Some line → line.1.tsn ≡ o.tsn
+  pub bears : AreOfTransaction o lines
   pub changed : (i : ℕ) (undo : Undo) → slice_get o.entries i ≡ Some undo → IsInGroup f.group undo.key
   pub no_flight : now.flight ≡ None
   pub no_former : now.former ≡ None

@@ -11,8 +11,8 @@ ghost use Rattle.line_moves.specs.Lines.{ChangedLines};
 ghost use Rattle.line_seat.specs.declared.commit.GroupPlace.{GroupPlace};
 ghost use Rattle.line_seat.specs.declared.commit.CommitStage.TheVariants.{Changing};
 ghost use Rattle.line_seat.specs.Seats.{IsSecured, SeatFacts, next_open, secured};
-ghost use Rattle.line_seat.specs.Groups.{AreEntered, AreOfEntries};
-ghost use Rattle.line_seat.specs.Stages.{StandsAt};
+ghost use Rattle.line_seat.specs.Groups.{AreEntered, AreOfEntries, AreOfTransaction};
+ghost use Rattle.line_seat.specs.Stages.{StandsAt, progress_at};
 
 use rdb_outside::Disk;
 
@@ -82,4 +82,40 @@ pub fn lines_may_be_put<D: Disk>(disk: &D)
         → IsSecured (D.view disk.now) now member transaction all
         → AreOfEntries transaction all lines → AreEntered (Pending (D.view disk.now)) lines
         → StandsAt (Changing 0) (D.view disk.now) (secured member transaction all now) group lines flight }
+{}
+
+/// What a commit rests on at a stage, it rests on while others go on.
+pub fn a_stage_stays<D: Disk>(before: &D, after: &D)
+    requires tells { IsTrue (D.view before.now).tells }
+
+    // Nothing was written: a read, or a barrier.
+    ensures reads { (stage : _) (now : Progress) (member : ℕ) (transaction : Open)
+        → (group : GroupPlace) (lines : ChangedLines) (flight : Flight)
+        → now.going member ≡ Some transaction → AreOfTransaction transaction lines
+        → OnlyReads (D.view before.now) (D.view after.now)
+        → StandsAt stage (D.view before.now) now group lines flight
+        → StandsAt stage (D.view after.now) now group lines flight }
+
+    // An entry of another member.
+    ensures beside { (stage : _) (now : Progress) (member : ℕ) (transaction : Open)
+        → (group : GroupPlace) (lines : ChangedLines) (flight : Flight)
+        → now.going member ≡ Some transaction → AreOfTransaction transaction lines
+        → (other slot : ℕ) → other ≢ member → 1 ≤ slot
+        → OnlyWrites (ruj_file other) slot (D.view before.now) (D.view after.now)
+        → Facts (Pending (D.view after.now)) (progress_at stage now flight)
+        → StandsAt stage (D.view before.now) now group lines flight
+        → StandsAt stage (D.view after.now) now group lines flight }
+
+    // The header of another member, which names that member's open transaction.
+    ensures headed { (stage : _) (now : Progress) (member : ℕ) (transaction : Open)
+        → (group : GroupPlace) (lines : ChangedLines) (flight : Flight)
+        → now.going member ≡ Some transaction → AreOfTransaction transaction lines
+        → (other : ℕ) (theirs : Open) → other ≢ member → now.going other ≡ Some theirs
+        → OnlyWrites (ruj_file other) 0 (D.view before.now) (D.view after.now)
+        → ((header : List ℕ) → Pending (D.view after.now) (ruj_file other) 0 header
+        → Pending (D.view before.now) (ruj_file other) 0 header
+        ⊎ (named header ≡ theirs.tsn.number))
+        → Facts (Pending (D.view after.now)) (progress_at stage now flight)
+        → StandsAt stage (D.view before.now) now group lines flight
+        → StandsAt stage (D.view after.now) now group lines flight }
 {}

@@ -1,0 +1,64 @@
+use Rattle.std.proofs.Common.{rules, ◌≡◌, ◌≢◌, ◌+◌, ◌-◌, ◌≤◌, ◌<◌, ◌∙◌, ℕ, length, refl, subst, arith}
+use Rattle.rdb_outside.specs.Disk.{Pending}
+use Rattle.line_moves.proofs.Runs.{still_tells}
+use Rattle.line_moves.proofs.FilledPages.{some_there}
+use Rattle.line_opening.specs.Undoing.{AreUndone}
+use Rattle.line_opening.proofs.Backwards.{one_of_it, one_more_undone}
+use Rattle.line_opening.proofs.undoing.undo_next.Goals as goal
+
+pub loop-back-init : goal.loop-back-init
+loop-back-init g c = record { size = c.requires; told = refl; no_fewer = omega arith; facts = λ t p o may same. may.facts; undone = λ t p o may same was. let all : c.args.entries ≡ c.args.entries - 0 = omega arith in subst (λ (n : ℕ). AreUndone (g.D.Disk.view c.args.disk.now).content o n) all was }
+
+pub returns-in_err-undo_line-clause-keeps : goal.returns-in_err-undo_line-clause-keeps
+returns-in_err-undo_line-clause-keeps g c = let v = g.D.Disk.view in let before = v c.args.disk.now in let mid = v c.loop-back.disk in let new = v c.undo_line.new.disk in
+    let so_far = c.loop-back.invariant in let back = c.loop-back.back in let index = c.args.entries - back in
+    let less : back < c.args.entries = search rules in
+    λ t p o may same.
+    c.undo_line.ensures.keeps (still_tells before mid so_far.told t) p o (one_of_it (Pending before) (Pending mid) p c.args.member o c.args.entries c.args.pages index may (so_far.facts t p o may same) (omega (arith, less)) (omega arith)) same
+
+pub returns-in-Written-clause-keeps : goal.returns-in-Written-clause-keeps
+returns-in-Written-clause-keeps g c = let v = g.D.Disk.view in let before = v c.args.disk.now in let mid = v c.loop-back.disk in let new = v c.undo_line.new.disk in
+    let so_far = c.loop-back.invariant in let back = c.loop-back.back in let index = c.args.entries - back in
+    let less : back < c.args.entries = search rules in
+    λ t p o may same.
+    c.undo_line.ensures.keeps (still_tells before mid so_far.told t) p o (one_of_it (Pending before) (Pending mid) p c.args.member o c.args.entries c.args.pages index may (so_far.facts t p o may same) (omega (arith, less)) (omega arith)) same
+
+pub returns-in-Written-clause-undone : goal.returns-in-Written-clause-undone
+returns-in-Written-clause-undone g c = let v = g.D.Disk.view in let before = v c.args.disk.now in let mid = v c.loop-back.disk in let new = v c.undo_line.new.disk in
+    let so_far = c.loop-back.invariant in let back = c.loop-back.back in let index = c.args.entries - back in
+    let less : back < c.args.entries = search rules in
+    λ t p o may same was.
+    let it = one_of_it (Pending before) (Pending mid) p c.args.member o c.args.entries c.args.pages index may (so_far.facts t p o may same) (omega (arith, less)) (omega arith) in
+    let within = may.within in
+    let u = some_there o.entries (index - 1) (omega (arith, less, within)) in
+    let told = still_tells before mid so_far.told t in
+    one_more_undone mid.content new.content o index u.0 (omega (arith, less)) u.1 (c.in_ok-undo_line.ensures.undone told p o u.0 it same u.1) (λ key off. c.in_ok-undo_line.ensures.others told p o u.0 key it same u.1 off) (so_far.undone t p o may same was)
+
+pub loop-back-preserved : goal.loop-back-preserved
+loop-back-preserved g c = let v = g.D.Disk.view in let before = v c.args.disk.now in let mid = v c.loop-back.disk in let new = v c.undo_line.new.disk in
+    let so_far = c.loop-back.invariant in let back = c.loop-back.back in let index = c.args.entries - back in
+    let less : back < c.args.entries = search rules in
+    record {
+      size = c.undo_line.ensures.size;
+      told = c.undo_line.ensures.writes.2.told ∙ so_far.told;
+      no_fewer = let first = so_far.no_fewer in let then_no_fewer = c.undo_line.ensures.writes.2.no_fewer in omega (arith, first, then_no_fewer);
+      facts = λ t p o may same.
+          c.undo_line.ensures.keeps (still_tells before mid so_far.told t) p o (one_of_it (Pending before) (Pending mid) p c.args.member o c.args.entries c.args.pages index may (so_far.facts t p o may same) (omega (arith, less)) (omega arith)) same;
+      undone = λ t p o may same was.
+          let it = one_of_it (Pending before) (Pending mid) p c.args.member o c.args.entries c.args.pages index may (so_far.facts t p o may same) (omega (arith, less)) (omega arith) in
+          let within = may.within in
+          let u = some_there o.entries (index - 1) (omega (arith, less, within)) in
+          let told = still_tells before mid so_far.told t in
+          let next : index - 1 ≡ c.args.entries - (back + 1) = omega arith in
+          subst (λ (n : ℕ). AreUndone new.content o n) next
+          (one_more_undone mid.content new.content o index u.0 (omega (arith, less)) u.1 (c.in_ok-undo_line.ensures.undone told p o u.0 it same u.1) (λ key off. c.in_ok-undo_line.ensures.others told p o u.0 key it same u.1 off) (so_far.undone t p o may same was));
+    }
+
+pub returns-clause-keeps : goal.returns-clause-keeps
+returns-clause-keeps g c = λ t p o may same. c.loop-back.invariant.facts t p o may same
+
+pub returns-clause-undone : goal.returns-clause-undone
+returns-clause-undone g c = let v = g.D.Disk.view in λ t p o may same was.
+    let past : c.args.entries ≤ c.loop-back.back = search rules in
+    let none : c.args.entries - c.loop-back.back ≡ 0 = omega (arith, past) in
+    subst (λ (n : ℕ). AreUndone (v c.loop-back.disk).content o n) none (c.loop-back.invariant.undone t p o may same was)

@@ -1,0 +1,18 @@
+use Rattle.std.proofs.Common.{◌≡◌, ◌≤◌, ◌-◌, ℕ, length, IsTrue}
+use Rattle.rdb_outside.specs.Disk.{Pending}
+use Rattle.stable_lines.specs.Progress.{Open, Progress}
+use Rattle.stable_lines.specs.Facts.{Facts}
+use Rattle.line_opening.specs.Undoing.{AreUndone, MayUndo}
+use Rattle.line_opening.proofs.undoing.undo_next.Given as goal
+
+abbrev pub invariant-loop-back : goal.invariant-loop-back
+invariant-loop-back g l =
+    let before = g.D.Disk.view l.fn.disk in let now = g.D.Disk.view l.disk in
+    record {
+      size : length l.page ≡ 1024;
+      told : now.tells ≡ before.tells;
+      no_fewer : before.faults ≤ now.faults;
+      facts : IsTrue before.tells → (p : Progress) (o : Open) → MayUndo (Pending before) p l.member o l.entries l.pages → l.tsn ≡ o.tsn → Facts (Pending now) p;
+      undone : IsTrue before.tells → (p : Progress) (o : Open) → MayUndo (Pending before) p l.member o l.entries l.pages → l.tsn ≡ o.tsn
+          → AreUndone before.content o l.entries → AreUndone now.content o (l.entries - l.back);
+    }

@@ -1,0 +1,11 @@
+-- How many entries a transaction has.
+use Rattle.std.specs.Prelude.{ℕ, ◌≡◌, List, length}
+use Rattle.rdb_types.specs.declared.keys.Tsn.{Tsn}
+use Rattle.rdb_outside.specs.Disk.{Image}
+use Rattle.stable_lines.specs.Slots.{Undo}
+use Rattle.stable_lines.specs.Opening.{AreEntries}
+
+pub record HasCount (image : Image) (member : ℕ) (tsn : Tsn) (count : ℕ) : Type 0 where
+  pub undos : List Undo
+  pub long : length undos ≡ count
+  pub entries : AreEntries image member tsn undos
