@@ -35,10 +35,6 @@ holds_fewer v w keeps now member o all n m counted headed sure was = record {
   before = λ i undo got. let b = was.before i undo got in record { committed = committed (Pending v) (Pending w) now (λ s h q. keeps.pending (ruj_file s) 0 h q) undo.key undo.before b.committed; below = b.below; free = b.free; within = b.within };
 }
 
-pub holds_on : (v w : View) → Keeps v w → (now : Progress) (member : ℕ) (o : Open) (all : List Undo) (n : ℕ) → SeatFacts v now member o all n → SeatFacts w now member o all n
-holds_on v w keeps now member o all n was = holds_fewer v w keeps now member o all n n was.counted
-    (λ h le q. was.headed h le (keeps.pending (ruj_file member) 0 h q)) (λ i undo x lt got q. was.sure i undo x lt got (keeps.pending (ruj_file member) (i + 1) x q)) was
-
 -- behind a barrier all its entries are stable
 pub holds_all : (v w : View) → Keeps v w → ((f : _) (i : ℕ) (x : List ℕ) → Pending w f i x → x ≡ v.content f i) → (now : Progress) (member : ℕ) (o : Open) (all : List Undo) (n : ℕ) → SeatFacts v now member o all n → SeatFacts w now member o all (length all)
 holds_all v w keeps only now member o all n was = holds_fewer v w keeps now member o all n (length all) (omega arith)
