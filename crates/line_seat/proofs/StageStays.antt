@@ -1,5 +1,5 @@
 -- What a commit rests on, while others go on.
-use Rattle.std.proofs.Common.{◌≡◌, ◌≢◌, ℕ, ◌+◌, ◌-◌, ◌≤◌, ◌<◌, IsTrue, List, length, Some, slice_get, ◌⊎◌, inl, inr, ⊎_elim, ap, sym, subst, ◌∙◌, arith}
+use Rattle.std.proofs.Common.{◌≡◌, ◌≢◌, ℕ, ◌≤◌, IsTrue, List, Some, ◌⊎◌, inl, inr, ⊎_elim, ap, sym, subst, ◌∙◌, arith}
 use Rattle.rdb_types.specs.declared.file.FileId.{FileId}
 use Rattle.rdb_types.specs.declared.file.FileKind.TheVariants.{Area, Ruj, Aij}
 use Rattle.rdb_types.specs.declared.keys.Dbkey.{Dbkey}
@@ -9,13 +9,12 @@ use Rattle.rdb_outside.specs.Disk.{View, Pending, Keeps, OnlyReads}
 use Rattle.journal_scan.specs.Standing.{what_stands}
 use Rattle.new_database.specs.Maker.{aij_file}
 use Rattle.line_versions.specs.Lines.{storage_area}
-use Rattle.stable_lines.specs.Slots.{ruj_file, area_file, file_of, slot_of, named, line_on}
+use Rattle.stable_lines.specs.Slots.{ruj_file, area_file, slot_of, named, line_on}
 use Rattle.stable_lines.specs.Progress.{Open, Flight, Progress}
 use Rattle.stable_lines.specs.Facts.{HasEnded, IsNotOpen, IsCommitted, IsChanged, Facts}
 use Rattle.line_moves.specs.Calls.{OnlyWrites}
 use Rattle.line_moves.specs.Lines.{ChangedLines, MayPutAll}
 use Rattle.line_moves.proofs.Putting.{nat_cases}
-use Rattle.line_moves.proofs.Runs.{facts_read}
 use Rattle.line_seat.specs.declared.commit.GroupPlace.{GroupPlace}
 use Rattle.line_seat.specs.declared.commit.CommitStage.{CommitStage}
 use Rattle.line_seat.specs.declared.commit.CommitStage.TheVariants.{Changing, Imaging, Gathering, Sealing, Landing, Committed}

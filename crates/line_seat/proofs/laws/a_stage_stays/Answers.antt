@@ -1,4 +1,4 @@
-use Rattle.std.proofs.Common.{◌≡◌, refl}
+use Rattle.std.proofs.Common.{refl}
 use Rattle.line_moves.proofs.Runs.{facts_read}
 use Rattle.line_seat.specs.Stages.{progress_at}
 use Rattle.line_seat.proofs.StageStays.{stage_stays, beside_reads, beside_entry, beside_header}
