@@ -5,3 +5,4 @@ pub mod Ends
 pub mod GroupSlots
 pub mod CommitSteps
 pub mod StageStays
+pub mod SeatGoesOn

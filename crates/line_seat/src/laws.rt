@@ -1,10 +1,11 @@
 // What a seat holds, while its member and others go on.
-ghost use Rattle.std.specs.Prelude.{◌≡◌, ◌≢◌, ◌≤◌, ◌⊎◌, ℕ, List, [], length, Some, None, IsTrue};
+ghost use Rattle.std.specs.Prelude.{◌≡◌, ◌≢◌, ◌≤◌, ◌⊎◌, ℕ, List, [], length, slice_get, Some, None, IsTrue};
 ghost use Rattle.rdb_types.specs.declared.file.FileId.{FileId};
 ghost use Rattle.rdb_types.specs.declared.file.FileKind.TheVariants.{Ruj};
 ghost use Rattle.rdb_outside.specs.Disk.{Pending, IsStable, OnlyReads};
+ghost use Rattle.aij_journal.specs.declared.part.GroupLine.{GroupLine};
 ghost use Rattle.stable_lines.specs.Slots.{IsMember, Undo, named, ruj_file};
-ghost use Rattle.stable_lines.specs.Progress.{Open, Flight, Progress, begun};
+ghost use Rattle.stable_lines.specs.Progress.{Open, Flight, Progress, begun, without, flying, landed, fallen};
 ghost use Rattle.stable_lines.specs.Facts.{Facts};
 ghost use Rattle.line_moves.specs.Calls.{OnlyWrites};
 ghost use Rattle.line_moves.specs.Lines.{ChangedLines};
@@ -73,6 +74,39 @@ pub fn a_seat_gains<D: Disk>(before: &D, after: &D)
     ensures { (now : Progress) (member : ℕ) (transaction : Open) (all : List Undo) (stable : ℕ)
         → SeatFacts (D.view before.now) now member transaction all stable
         → SeatFacts (D.view after.now) now member transaction all (length all) }
+{}
+
+/// What a seat holds, it holds behind the steps of others.
+pub fn a_seat_goes_on<D: Disk>(disk: &D)
+    // Another member begins, has its entries stable for its commit, or has ended as undone.
+    ensures begins { (now : Progress) (member : ℕ) (transaction : Open) (all : List Undo) (stable : ℕ)
+        → (other : ℕ) → member ≢ other
+        → SeatFacts (D.view disk.now) now member transaction all stable
+        → SeatFacts (D.view disk.now) (begun other now) member transaction all stable }
+    ensures secures { (now : Progress) (member : ℕ) (transaction : Open) (all : List Undo) (stable : ℕ)
+        → (other : ℕ) (theirs : Open) (entries : List Undo) → member ≢ other
+        → now.going other ≡ Some theirs
+        → SeatFacts (D.view disk.now) now member transaction all stable
+        → SeatFacts (D.view disk.now) (secured other theirs entries now) member transaction all stable }
+    ensures ends { (now : Progress) (member : ℕ) (transaction : Open) (all : List Undo) (stable : ℕ)
+        → (other : ℕ) → member ≢ other
+        → SeatFacts (D.view disk.now) now member transaction all stable
+        → SeatFacts (D.view disk.now) (without other now) member transaction all stable }
+
+    // The group of another takes off, which has no line of this seat's entries. It lands, or falls.
+    ensures takes_off { (now : Progress) (member : ℕ) (transaction : Open) (all : List Undo) (stable : ℕ)
+        → (flight : Flight) → flight.member ≢ member
+        → ((i : ℕ) (undo : Undo) → slice_get all i ≡ Some undo → (k : ℕ) (line : GroupLine)
+        → slice_get flight.group.lines k ≡ Some line → line.key ≢ undo.key)
+        → SeatFacts (D.view disk.now) now member transaction all stable
+        → SeatFacts (D.view disk.now) (flying flight now) member transaction all stable }
+    ensures lands { (now : Progress) (member : ℕ) (transaction : Open) (all : List Undo) (stable : ℕ)
+        → (flight : Flight) → now.flight ≡ Some flight
+        → SeatFacts (D.view disk.now) now member transaction all stable
+        → SeatFacts (D.view disk.now) (landed flight now) member transaction all stable }
+    ensures falls { (now : Progress) (member : ℕ) (transaction : Open) (all : List Undo) (stable : ℕ)
+        → SeatFacts (D.view disk.now) now member transaction all stable
+        → SeatFacts (D.view disk.now) (fallen now) member transaction all stable }
 {}
 
 /// Where its entries are stable, a commit may begin to change pages.
