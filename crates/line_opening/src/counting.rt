@@ -30,12 +30,7 @@ fn is_entry_of(slot: &[u8], tsn: Tsn, index: u32) -> bool
 }
 
 // Counts the entries in the slots before the end of the file.
-fn count_within<D: Disk>(
-    disk: &mut D,
-    member: u32,
-    tsn: Tsn,
-    length: u32,
-) -> Result<u32, Failed>
+fn count_within<D: Disk>(disk: &mut D, member: u32, tsn: Tsn, length: u32) -> Result<u32, Failed>
     ensures reads { OnlyReads (D.view disk.old) (D.view disk.new) }
     ensures failed { IsErr result → Rose (D.view disk.old).faults (D.view disk.new).faults }
     ensures entries { IfOk result (λ count. IsTrue (D.view disk.old).tells

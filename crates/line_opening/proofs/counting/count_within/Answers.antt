@@ -1,5 +1,4 @@
-use Rattle.std.proofs.Common.{rules, ◌≡◌, ◌+◌, ◌≤◌, ◌∙◌, ℕ, List, sym, ap, subst, refl, arith}
-use Rattle.ruj_journal.specs.declared.entry.RujEntry.{RujEntry}
+use Rattle.std.proofs.Common.{rules, ◌≡◌, ◌+◌, ◌≤◌, ◌∙◌, ℕ, List, sym, subst, refl, arith}
 use Rattle.ruj_journal.specs.Entry.{IsEntry}
 use Rattle.rdb_outside.specs.Runs.{no_calls, one_call}
 use Rattle.stable_lines.specs.Slots.{ruj_file, entry_at}

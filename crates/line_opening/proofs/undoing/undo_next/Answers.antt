@@ -1,4 +1,4 @@
-use Rattle.std.proofs.Common.{rules, ◌≡◌, ◌≢◌, ◌+◌, ◌-◌, ◌≤◌, ◌<◌, ◌∙◌, ℕ, length, refl, subst, arith}
+use Rattle.std.proofs.Common.{rules, ◌≡◌, ◌+◌, ◌-◌, ◌≤◌, ◌<◌, ◌∙◌, ℕ, refl, subst, arith}
 use Rattle.rdb_outside.specs.Disk.{Pending}
 use Rattle.line_moves.proofs.Runs.{still_tells}
 use Rattle.line_moves.proofs.FilledPages.{some_there}

@@ -1,4 +1,4 @@
-use Rattle.std.proofs.Common.{◌≡◌, ◌≤◌, ◌-◌, ℕ, length, IsTrue}
+use Rattle.std.proofs.Common.{◌≡◌, ◌≤◌, ◌-◌, length, IsTrue}
 use Rattle.rdb_outside.specs.Disk.{Pending}
 use Rattle.stable_lines.specs.Progress.{Open, Progress}
 use Rattle.stable_lines.specs.Facts.{Facts}
