@@ -30,8 +30,8 @@ abbrev pub ArePut : Image → ChangedLines → ℕ → Type 0
 ArePut image lines n = (i : ℕ) (line : Dbkey × Line) → i < n → slice_get lines i ≡ Some line → line_at image line.0 ≡ line.1
 
 -- Of a page that was never used each content of its space page says that the area of the first line owns it.
-abbrev pub IsReady : View → ChangedLines → ℕ → Place → Type 0
-IsReady v lines from place = IsUnused (v.content (area_file place.file) (place.page - 1)) → (line : Dbkey × Line) → slice_get lines from ≡ Some line → IsEntered (Pending v) place line.0.area
+abbrev pub MayBegin : View → ChangedLines → ℕ → Place → Type 0
+MayBegin v lines from place = IsUnused (v.content (area_file place.file) (place.page - 1)) → (line : Dbkey × Line) → slice_get lines from ≡ Some line → IsEntered (Pending v) place line.0.area
 
 -- none of the lines from one place up to another has this key
 abbrev pub IsNoKeyOf : ChangedLines → ℕ → ℕ → Dbkey → Type 0

@@ -10,7 +10,7 @@ ghost use Rattle.stable_lines.specs.Progress.{Progress};
 ghost use Rattle.stable_lines.specs.Facts.{Facts};
 ghost use Rattle.line_moves.specs.Calls.{OnlyWrites};
 ghost use Rattle.line_moves.specs.Changes.{IsPlaceOf};
-ghost use Rattle.line_moves.specs.Lines.{AllFit, AllFitBegun, AreDistinct, ArePut, Fills, IsReady, IsStarted, MayPutAll};
+ghost use Rattle.line_moves.specs.Lines.{AllFit, AllFitBegun, AreDistinct, ArePut, Fills, MayBegin, IsStarted, MayPutAll};
 
 use crate::fault::Fault;
 use crate::pages::{NoPlace, put_on};
@@ -123,7 +123,7 @@ pub fn write_page<D: Disk>(
     ensures keeps { IsTrue (D.view disk.old).tells → (now : Progress)
         → Facts (Pending (D.view disk.old)) now
         → MayPutAll (Pending (D.view disk.old)) now lines.now
-        → IsReady (D.view disk.old) lines.now from place
+        → MayBegin (D.view disk.old) lines.now from place
         → Facts (Pending (D.view disk.new)) now }
 {
     let file = area_file(place.file);

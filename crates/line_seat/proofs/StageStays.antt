@@ -19,7 +19,7 @@ use Rattle.line_seat.specs.declared.commit.GroupPlace.{GroupPlace}
 use Rattle.line_seat.specs.declared.commit.CommitStage.{CommitStage}
 use Rattle.line_seat.specs.declared.commit.CommitStage.TheVariants.{Changing, Imaging, Gathering, Sealing, Landing, Committed}
 use Rattle.line_seat.specs.Groups.{AreOfTransaction}
-use Rattle.line_seat.specs.Stages.{IsDone, StandsAt, progress_at}
+use Rattle.line_seat.specs.Stages.{IsDone, CommitFacts, progress_at}
 use Rattle.line_seat.proofs.SeatStays.{same_member}
 
 -- what may have been written beside the member's journal, the pages and the after-image journal
@@ -81,7 +81,7 @@ module _ (v w : View) (now : Progress) (member : ℕ) (o : Open) (is_open : now.
   done_still Landing group lines f bear facts done = ap what_stands (beside.aij _) ∙ done
   done_still Committed group lines f bear facts done = done
 
-  pub stage_stays : (stage : CommitStage) (group : GroupPlace) (lines : ChangedLines) (f : Flight) → AreOfTransaction o lines → Facts (Pending w) (progress_at stage now f) → StandsAt stage v now group lines f → StandsAt stage w now group lines f
+  pub stage_stays : (stage : CommitStage) (group : GroupPlace) (lines : ChangedLines) (f : Flight) → AreOfTransaction o lines → Facts (Pending w) (progress_at stage now f) → CommitFacts stage v now group lines f → CommitFacts stage w now group lines f
   stage_stays stage group lines f bear facts stands = record { facts = facts; done = done_still stage group lines f bear stands.facts stands.done }
 
 -- ---- what others do is beside it

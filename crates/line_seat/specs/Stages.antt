@@ -30,6 +30,6 @@ IsDone Sealing v now place lines f = Unit {0}
 IsDone Landing v now place lines f = what_stands (v.content aij_file (place.slot + length lines)) ≡ commit_of f.group
 IsDone Committed v now place lines f = Unit {0}
 
-pub record StandsAt (stage : CommitStage) (v : View) (now : Progress) (place : GroupPlace) (lines : ChangedLines) (f : Flight) : Type 0 where
+pub record CommitFacts (stage : CommitStage) (v : View) (now : Progress) (place : GroupPlace) (lines : ChangedLines) (f : Flight) : Type 0 where
   pub facts : Facts (Pending v) (progress_at stage now f)
   pub done : IsDone stage v now place lines f

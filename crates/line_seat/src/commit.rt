@@ -6,7 +6,7 @@ ghost use Rattle.stable_lines.specs.Progress.{Open, Flight, Progress};
 ghost use Rattle.stable_lines.specs.Facts.{Facts};
 ghost use Rattle.line_moves.specs.Lines.{AreDistinct};
 ghost use Rattle.line_seat.specs.Groups.{AreAllowed, ArePlaced, HaveClasses, IsCommitting, group_line};
-ghost use Rattle.line_seat.specs.Stages.{StandsAt, progress_at};
+ghost use Rattle.line_seat.specs.Stages.{CommitFacts, progress_at};
 ghost use Rattle.line_seat.specs.declared.commit.CommitStage.TheVariants.{Changing, Imaging, Gathering};
 
 use aij_journal::{AijPart, GroupLine};
@@ -87,11 +87,11 @@ fn change_page<D: Disk>(
         → Rose (D.view disk.old).faults (D.view disk.new).faults }
     ensures goes_on { IfOk result (λ next. IsTrue (D.view disk.old).tells
         → (now : Progress) (group : _) (flight : Flight)
-        → StandsAt (Changing at) (D.view disk.old) now group lines.now flight
-        → StandsAt next (D.view disk.new) now group lines.now flight) }
+        → CommitFacts (Changing at) (D.view disk.old) now group lines.now flight
+        → CommitFacts next (D.view disk.new) now group lines.now flight) }
     ensures keeps { IsTrue (D.view disk.old).tells
         → (now : Progress) (group : _) (flight : Flight)
-        → StandsAt (Changing at) (D.view disk.old) now group lines.now flight
+        → CommitFacts (Changing at) (D.view disk.old) now group lines.now flight
         → Facts (Pending (D.view disk.new)) now }
 {
     if at >= lines.len() {
@@ -122,12 +122,12 @@ fn journal_image<D: Disk>(
     ensures goes_on { IfOk result (λ next. IsTrue (D.view disk.old).tells
         → (now : Progress) (member : ℕ) (transaction : Open) (flight : Flight)
         → IsCommitting now member transaction group lines.now classes.now flight
-        → StandsAt (Imaging at) (D.view disk.old) now group lines.now flight
-        → StandsAt next (D.view disk.new) now group lines.now flight) }
+        → CommitFacts (Imaging at) (D.view disk.old) now group lines.now flight
+        → CommitFacts next (D.view disk.new) now group lines.now flight) }
     ensures keeps { IsTrue (D.view disk.old).tells
         → (now : Progress) (member : ℕ) (transaction : Open) (flight : Flight)
         → IsCommitting now member transaction group lines.now classes.now flight
-        → StandsAt (Imaging at) (D.view disk.old) now group lines.now flight
+        → CommitFacts (Imaging at) (D.view disk.old) now group lines.now flight
         → Facts (Pending (D.view disk.new)) now }
 {
     if at >= lines.len() {
@@ -165,14 +165,14 @@ pub fn commit_step<D: Disk>(
         → (now : Progress) (member : ℕ) (transaction : Open) (flight : Flight)
         → IsCommitting now member transaction group lines.now classes.now flight
         → (stage ≡ Gathering → HaveClasses (D.view disk.old).content now flight)
-        → StandsAt stage (D.view disk.old) now group lines.now flight
-        → StandsAt next (D.view disk.new) now group lines.now flight) }
+        → CommitFacts stage (D.view disk.old) now group lines.now flight
+        → CommitFacts next (D.view disk.new) now group lines.now flight) }
 
     // Whatever it answers, the facts stay.
     ensures keeps { IsTrue (D.view disk.old).tells
         → (now : Progress) (member : ℕ) (transaction : Open) (flight : Flight)
         → IsCommitting now member transaction group lines.now classes.now flight
-        → StandsAt stage (D.view disk.old) now group lines.now flight
+        → CommitFacts stage (D.view disk.old) now group lines.now flight
         → Facts (Pending (D.view disk.new)) (progress_at stage now flight) }
 {
     match stage {

@@ -13,7 +13,7 @@ ghost use Rattle.line_seat.specs.declared.commit.GroupPlace.{GroupPlace};
 ghost use Rattle.line_seat.specs.declared.commit.CommitStage.TheVariants.{Changing};
 ghost use Rattle.line_seat.specs.Seats.{IsSecured, SeatFacts, next_open, secured};
 ghost use Rattle.line_seat.specs.Groups.{AreEntered, AreOfEntries, AreOfTransaction};
-ghost use Rattle.line_seat.specs.Stages.{StandsAt, progress_at};
+ghost use Rattle.line_seat.specs.Stages.{CommitFacts, progress_at};
 
 use rdb_outside::Disk;
 
@@ -115,7 +115,7 @@ pub fn lines_may_be_put<D: Disk>(disk: &D)
         → (group : GroupPlace) (lines : ChangedLines) (flight : Flight)
         → IsSecured (D.view disk.now) now member transaction all
         → AreOfEntries transaction all lines → AreEntered (Pending (D.view disk.now)) lines
-        → StandsAt (Changing 0) (D.view disk.now) (secured member transaction all now) group lines flight }
+        → CommitFacts (Changing 0) (D.view disk.now) (secured member transaction all now) group lines flight }
 {}
 
 /// What a commit rests on at a stage, it rests on while others go on.
@@ -127,8 +127,8 @@ pub fn a_stage_stays<D: Disk>(before: &D, after: &D)
         → (group : GroupPlace) (lines : ChangedLines) (flight : Flight)
         → now.going member ≡ Some transaction → AreOfTransaction transaction lines
         → OnlyReads (D.view before.now) (D.view after.now)
-        → StandsAt stage (D.view before.now) now group lines flight
-        → StandsAt stage (D.view after.now) now group lines flight }
+        → CommitFacts stage (D.view before.now) now group lines flight
+        → CommitFacts stage (D.view after.now) now group lines flight }
 
     // An entry of another member.
     ensures beside { (stage : _) (now : Progress) (member : ℕ) (transaction : Open)
@@ -137,8 +137,8 @@ pub fn a_stage_stays<D: Disk>(before: &D, after: &D)
         → (other slot : ℕ) → other ≢ member → 1 ≤ slot
         → OnlyWrites (ruj_file other) slot (D.view before.now) (D.view after.now)
         → Facts (Pending (D.view after.now)) (progress_at stage now flight)
-        → StandsAt stage (D.view before.now) now group lines flight
-        → StandsAt stage (D.view after.now) now group lines flight }
+        → CommitFacts stage (D.view before.now) now group lines flight
+        → CommitFacts stage (D.view after.now) now group lines flight }
 
     // The header of another member, which names that member's open transaction.
     ensures headed { (stage : _) (now : Progress) (member : ℕ) (transaction : Open)
@@ -150,6 +150,6 @@ pub fn a_stage_stays<D: Disk>(before: &D, after: &D)
         → Pending (D.view before.now) (ruj_file other) 0 header
         ⊎ (named header ≡ theirs.tsn.number))
         → Facts (Pending (D.view after.now)) (progress_at stage now flight)
-        → StandsAt stage (D.view before.now) now group lines flight
-        → StandsAt stage (D.view after.now) now group lines flight }
+        → CommitFacts stage (D.view before.now) now group lines flight
+        → CommitFacts stage (D.view after.now) now group lines flight }
 {}

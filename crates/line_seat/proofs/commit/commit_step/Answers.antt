@@ -3,49 +3,49 @@ use Rattle.rdb_outside.specs.Disk.{Pending}
 use Rattle.stable_lines.specs.Progress.{flying}
 use Rattle.stable_lines.specs.Facts.{Facts}
 use Rattle.line_seat.specs.declared.commit.CommitStage.{CommitStage}
-use Rattle.line_seat.specs.Stages.{StandsAt, progress_at}
+use Rattle.line_seat.specs.Stages.{CommitFacts, progress_at}
 use Rattle.line_seat.proofs.CommitSteps.{if_ok, takes_off_with, commit_of_it}
 use Rattle.line_moves.proofs.Commits.{lands_with}
 use Rattle.line_seat.proofs.commit.commit_step.Goals as goal
 
 pub returns-in-Changing-clause-goes_on : goal.returns-in-Changing-clause-goes_on
 returns-in-Changing-clause-goes_on g c = let old = g.D.Disk.view c.args.disk.now in
-    if_ok _ _ c.change_page.result (λ next on t now member o f is classes stands. on t now c.args.group f (subst (λ (s : CommitStage). StandsAt s old now c.args.group c.args.lines.now f) c.in-Changing.is stands)) c.change_page.ensures.goes_on
+    if_ok _ _ c.change_page.result (λ next on t now member o f is classes stands. on t now c.args.group f (subst (λ (s : CommitStage). CommitFacts s old now c.args.group c.args.lines.now f) c.in-Changing.is stands)) c.change_page.ensures.goes_on
 
 pub returns-in-Changing-clause-keeps : goal.returns-in-Changing-clause-keeps
 returns-in-Changing-clause-keeps g c = let v = g.D.Disk.view in λ t now member o f is stands.
     let old = v c.args.disk.now in let new = v c.change_page.new.disk in
     subst (λ (s : CommitStage). Facts (Pending new) (progress_at s now f)) (sym c.in-Changing.is)
-    (c.change_page.ensures.keeps t now c.args.group f (subst (λ (s : CommitStage). StandsAt s old now c.args.group c.args.lines.now f) c.in-Changing.is stands))
+    (c.change_page.ensures.keeps t now c.args.group f (subst (λ (s : CommitStage). CommitFacts s old now c.args.group c.args.lines.now f) c.in-Changing.is stands))
 
 pub returns-in-Imaging-clause-goes_on : goal.returns-in-Imaging-clause-goes_on
 returns-in-Imaging-clause-goes_on g c = let old = g.D.Disk.view c.args.disk.now in
-    if_ok _ _ c.journal_image.result (λ next on t now member o f is classes stands. on t now member o f is (subst (λ (s : CommitStage). StandsAt s old now c.args.group c.args.lines.now f) c.in-Imaging.is stands)) c.journal_image.ensures.goes_on
+    if_ok _ _ c.journal_image.result (λ next on t now member o f is classes stands. on t now member o f is (subst (λ (s : CommitStage). CommitFacts s old now c.args.group c.args.lines.now f) c.in-Imaging.is stands)) c.journal_image.ensures.goes_on
 
 pub returns-in-Imaging-clause-keeps : goal.returns-in-Imaging-clause-keeps
 returns-in-Imaging-clause-keeps g c = let v = g.D.Disk.view in λ t now member o f is stands.
     let old = v c.args.disk.now in let new = v c.journal_image.new.disk in
     subst (λ (s : CommitStage). Facts (Pending new) (progress_at s now f)) (sym c.in-Imaging.is)
-    (c.journal_image.ensures.keeps t now member o f is (subst (λ (s : CommitStage). StandsAt s old now c.args.group c.args.lines.now f) c.in-Imaging.is stands))
+    (c.journal_image.ensures.keeps t now member o f is (subst (λ (s : CommitStage). CommitFacts s old now c.args.group c.args.lines.now f) c.in-Imaging.is stands))
 
 pub returns-in_err-write_commit-in-Sealing-clause-keeps :
     goal.returns-in_err-write_commit-in-Sealing-clause-keeps
 returns-in_err-write_commit-in-Sealing-clause-keeps g c = let v = g.D.Disk.view in λ t now member o f is stands.
-    let s = subst (λ (x : CommitStage). StandsAt x (v c.args.disk.now) now c.args.group c.args.lines.now f) c.in-Sealing.is stands in
+    let s = subst (λ (x : CommitStage). CommitFacts x (v c.args.disk.now) now c.args.group c.args.lines.now f) c.in-Sealing.is stands in
     subst (λ (x : CommitStage). Facts (Pending (v c.write_commit.new.disk)) (progress_at x now f)) (sym c.in-Sealing.is)
     (c.write_commit.ensures.keeps t (flying f now) f s.facts (commit_of_it now member o c.args.group c.args.lines.now c.args.classes.now f c.requires.classes is))
 
 pub returns-in_ok-write_commit-in-Sealing-clause-keeps :
     goal.returns-in_ok-write_commit-in-Sealing-clause-keeps
 returns-in_ok-write_commit-in-Sealing-clause-keeps g c = let v = g.D.Disk.view in λ t now member o f is stands.
-    let s = subst (λ (x : CommitStage). StandsAt x (v c.args.disk.now) now c.args.group c.args.lines.now f) c.in-Sealing.is stands in
+    let s = subst (λ (x : CommitStage). CommitFacts x (v c.args.disk.now) now c.args.group c.args.lines.now f) c.in-Sealing.is stands in
     subst (λ (x : CommitStage). Facts (Pending (v c.write_commit.new.disk)) (progress_at x now f)) (sym c.in-Sealing.is)
     (c.write_commit.ensures.keeps t (flying f now) f s.facts (commit_of_it now member o c.args.group c.args.lines.now c.args.classes.now f c.requires.classes is))
 
 pub returns-in_ok-write_commit-in-Sealing-clause-goes_on :
     goal.returns-in_ok-write_commit-in-Sealing-clause-goes_on
 returns-in_ok-write_commit-in-Sealing-clause-goes_on g c = let v = g.D.Disk.view in λ t now member o f is classes stands.
-    let s = subst (λ (x : CommitStage). StandsAt x (v c.args.disk.now) now c.args.group c.args.lines.now f) c.in-Sealing.is stands in
+    let s = subst (λ (x : CommitStage). CommitFacts x (v c.args.disk.now) now c.args.group c.args.lines.now f) c.in-Sealing.is stands in
     let it = commit_of_it now member o c.args.group c.args.lines.now c.args.classes.now f c.requires.classes is in
     record { facts = c.write_commit.ensures.keeps t (flying f now) f s.facts it; done = c.in_ok-write_commit-in-Sealing.ensures.stands t (flying f now) f it }
 
@@ -53,7 +53,7 @@ pub returns-in_ok-make_stable-in-Gathering-clause-goes_on :
     goal.returns-in_ok-make_stable-in-Gathering-clause-goes_on
 returns-in_ok-make_stable-in-Gathering-clause-goes_on g c = let v = g.D.Disk.view in λ t now member o f is classes stands.
     let old = v c.args.disk.now in let new = v c.make_stable.new.disk in
-    let s = subst (λ (x : CommitStage). StandsAt x old now c.args.group c.args.lines.now f) c.in-Gathering.is stands in
+    let s = subst (λ (x : CommitStage). CommitFacts x old now c.args.group c.args.lines.now f) c.in-Gathering.is stands in
     let keeps = c.make_stable.ensures.reads.keeps t in
     record {
       facts = takes_off_with (Pending new) old.content (λ k i x p. c.in_ok-make_stable-in-Gathering.ensures.stable t k i x p ∙ keeps.content k i) now member o c.args.group c.args.lines.now c.args.classes.now f c.requires.classes
@@ -65,7 +65,7 @@ pub returns-in_ok-make_stable-in-Landing-clause-goes_on :
     goal.returns-in_ok-make_stable-in-Landing-clause-goes_on
 returns-in_ok-make_stable-in-Landing-clause-goes_on g c = let v = g.D.Disk.view in λ t now member o f is classes stands.
     let old = v c.args.disk.now in let new = v c.make_stable-in-Landing.new.disk in
-    let s = subst (λ (x : CommitStage). StandsAt x old now c.args.group c.args.lines.now f) c.in-Landing.is stands in
+    let s = subst (λ (x : CommitStage). CommitFacts x old now c.args.group c.args.lines.now f) c.in-Landing.is stands in
     let keeps = c.make_stable-in-Landing.ensures.reads.keeps t in
     record {
       facts = lands_with (Pending new) old.content (λ k i x p. c.in_ok-make_stable-in-Landing.ensures.stable t k i x p ∙ keeps.content k i) (flying f now) f c.args.group.slot c.args.group.number (length c.args.lines.now) c.args.group.tsn
