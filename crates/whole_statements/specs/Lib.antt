@@ -1,0 +1,4 @@
+pub mod Standings
+pub mod Ways
+pub mod Sound
+pub mod Laws
