@@ -1,0 +1,18 @@
+use Rattle.std.proofs.Common.{◌≡◌, None, subst}
+use Rattle.line_view.specs.declared.need.Need.{Need}
+use Rattle.line_view.specs.Knowledge.{line_in, lines_in}
+use Rattle.line_view.specs.Stops.{Lacks}
+use Rattle.line_view.specs.Held.{Held, knows}
+use Rattle.line_store.specs.Shelves.{seen_by}
+use Rattle.stepped_jobs.proofs.Following.{line-learnt, area-learnt}
+use Rattle.stepped_jobs.proofs.fetching.fetch.Goals as goal
+
+pub returns-in-Line-clause-learnt : goal.returns-in-Line-clause-learnt
+returns-in-Line-clause-learnt g c done lacks =
+    let lacking = subst (λ (n : Need). Lacks (knows c.learn_line.new.known) n) c.in-Line.is lacks in
+    line-learnt c.in-Line.key (line_in c.in-Line.key (seen_by c.args.s.number (g.L.LineStore.shelf c.args.store.now))) c.args.known.now (subst (λ (h : Held). (knows h).line c.in-Line.key ≡ None) (c.learn_line.ensures.done done) lacking)
+
+pub returns-in-Area-clause-learnt : goal.returns-in-Area-clause-learnt
+returns-in-Area-clause-learnt g c done lacks =
+    let lacking = subst (λ (n : Need). Lacks (knows c.learn_area.new.known) n) c.in-Area.is lacks in
+    area-learnt c.in-Area.area (lines_in c.in-Area.area (seen_by c.args.s.number (g.L.LineStore.shelf c.args.store.now))) c.args.known.now (subst (λ (h : Held). (knows h).area c.in-Area.area ≡ None) (c.learn_area.ensures.done done) lacking)

@@ -1,0 +1,53 @@
+ghost use Rattle.std.specs.Prelude.{◌≡◌, OnOk, OnErr, IfErr};
+ghost use Rattle.line_view.specs.Knowledge.{Lines, IsInOrder, Agrees};
+ghost use Rattle.line_view.specs.Held.{knows};
+ghost use Rattle.line_view.specs.Writes.{laid_all};
+ghost use Rattle.line_store.specs.Seats.{IsMember, IsWriting};
+ghost use Rattle.line_store.specs.Shelves.{seen_by};
+ghost use Rattle.line_store.specs.Calls.{Changes, MayStopChange};
+
+use line_store::{ChangeStop, LineStore};
+use line_view::{Known, Write};
+use rdb_types::{Image, Session};
+use std::alloc::Global;
+
+/// Brings what is known behind writes. Where memory fails all is forgotten.
+pub fn follow(alloc: Global, known: &mut Known, writes: &[Write])
+    ensures { (all : Lines) → IsInOrder all → Agrees (knows known.old) all → Agrees (knows known.new) (laid_all writes.now all) }
+{
+    for write in writes {
+        let image = match &write.image {
+            Some(image) => Some(Image::from_bytes(image.bytes())),
+            None => None,
+        };
+        match known.put(alloc, write.key, image) {
+            Ok(()) => {}
+            Err(_) => {
+                *known = Known::new(alloc);
+                return;
+            }
+        }
+    }
+}
+
+/// Begins to lay a job's writes in the store, and brings what is known behind them. Where the store refuses them, both stay.
+pub fn apply<L: LineStore>(
+    alloc: Global,
+    store: &mut L,
+    s: Session,
+    known: &mut Known,
+    writes: &[Write],
+) -> Result<(), ChangeStop>
+    requires member { IsMember s.number }
+    requires seat { IsWriting ((L.shelf store.old).seat s.number) }
+    ensures ok { OnOk result (Changes s.number writes.now (L.shelf store.old) (L.shelf store.new)) }
+    ensures err { OnErr result (L.shelf store.new ≡ L.shelf store.old) }
+    ensures cause { IfErr result (MayStopChange (L.shelf store.old) s.number writes.now) }
+    ensures kept { OnErr result (known.new ≡ known.old) }
+    ensures agrees { IsInOrder (L.shelf store.old).now → Agrees (knows known.old) (seen_by s.number (L.shelf store.old))
+        → Agrees (knows known.new) (seen_by s.number (L.shelf store.new)) }
+{
+    store.change(s, writes)?;
+    follow(alloc, known, writes);
+    Ok(())
+}

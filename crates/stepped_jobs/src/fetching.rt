@@ -1,0 +1,35 @@
+ghost use Rattle.std.specs.Prelude.{◌≡◌, Ok};
+ghost use Rattle.line_view.specs.Knowledge.{IsInOrder, Agrees};
+ghost use Rattle.line_view.specs.Stops.{Lacks};
+ghost use Rattle.line_view.specs.Held.{knows};
+ghost use Rattle.line_store.specs.declared.answers.Progress.TheVariants.{Done};
+ghost use Rattle.line_store.specs.Seats.{IsMember, IsAtRest};
+ghost use Rattle.line_store.specs.Shelves.{seen_by};
+ghost use Rattle.line_store.specs.Calls.{IsRead};
+ghost use Rattle.stepped_jobs.specs.Needs.{IsRead as IsReadFrom};
+
+use line_store::{LineStore, Progress, ReadStop};
+use line_view::{Known, Need};
+use rdb_types::Session;
+
+/// Reads what a job lacked, a line or an area, as a session's transaction sees it. Where there is more to do it is called again.
+pub fn fetch<L: LineStore>(
+    store: &mut L,
+    s: Session,
+    need: Need,
+    known: &mut Known,
+) -> Result<Progress, ReadStop>
+    requires member { IsMember s.number }
+    requires seat { IsAtRest ((L.shelf store.old).seat s.number) }
+    requires need { IsReadFrom need }
+    ensures learnt { result ≡ Ok Done → Lacks (knows known.new) need → ⊥ }
+    ensures agrees { IsInOrder (seen_by s.number (L.shelf store.old)) → Agrees (knows known.old) (seen_by s.number (L.shelf store.old))
+        → Agrees (knows known.new) (seen_by s.number (L.shelf store.old)) }
+    ensures read { IsRead s.number (L.shelf store.old) (L.shelf store.new) result }
+{
+    match need {
+        Need::Line(key) => store.learn_line(s, key, known),
+        Need::Area(area) => store.learn_area(s, area, known),
+        Need::Room(_) => unreachable!(),
+    }
+}
