@@ -1,0 +1,5 @@
+pub mod Entries
+pub mod Gathered
+pub mod OneArea
+pub mod InTables
+pub mod Written
