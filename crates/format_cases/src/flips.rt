@@ -3,6 +3,7 @@ ghost use Rattle.rdb_page.specs.Lines.{IsAllowedLine};
 
 use crate::read::{Counts, NONE, Read, compared};
 use aij_journal::{AijPart, GroupLine, put_slot, read_slot};
+use backup_file::{BackupHead, BackupLine};
 use rdb_page::{Head, put_head, read_head};
 use rdb_types::{Dbkey, Image, Limits, Line, LineState, Tsn};
 use root_file::{Root, put_root, read_root};
@@ -78,17 +79,44 @@ fn snapshot(slot: &[u8; 512]) -> Read {
     compared(again == *slot)
 }
 
+fn backup_head(slot: &[u8; 512]) -> Read {
+    let Some(head) = backup_file::read_backup_head(slot) else {
+        return Read::Refused;
+    };
+    let mut again = [0; 512];
+    backup_file::put_backup_head(&mut again, &head);
+    compared(again == *slot)
+}
+
+fn backup_line(slot: &[u8; 512]) -> Read {
+    let Some(found) = backup_file::read_backup_line(slot) else {
+        return Read::Refused;
+    };
+    let mut again = [0; 512];
+    backup_file::put_backup_line(&mut again, found.number, &found.line);
+    compared(again == *slot)
+}
+
+const LIMITS: Limits = Limits {
+    pages: 7,
+    snaps: 8,
+    entries: 9,
+    slots: 10,
+};
+
 const ROOT: Root = Root {
     format: 1,
     state: 1,
-    limits: Limits {
-        pages: 7,
-        snaps: 8,
-        entries: 9,
-        slots: 10,
-    },
+    limits: LIMITS,
     ceiling: 65,
     applied: 2,
+};
+
+const BACKUP: BackupHead = BackupHead {
+    format: 1,
+    limits: LIMITS,
+    last_group: 2,
+    lines: 1,
 };
 
 fn line() -> Line
@@ -112,6 +140,8 @@ pub enum Kind {
     AijHeader,
     AijPart,
     Snapshot,
+    BackupHead,
+    BackupLine,
 }
 
 /// The kind that a word names.
@@ -124,6 +154,8 @@ pub fn kind_of(word: &str) -> Option<Kind> {
         "aij-header" => Some(Kind::AijHeader),
         "aij-part" => Some(Kind::AijPart),
         "snapshot" => Some(Kind::Snapshot),
+        "backup-header" => Some(Kind::BackupHead),
+        "backup-line" => Some(Kind::BackupLine),
         _ => None,
     }
 }
@@ -193,12 +225,27 @@ fn lay_version(slot: &mut [u8; 512]) {
     );
 }
 
+fn lay_backup_line(slot: &mut [u8; 512]) {
+    backup_file::put_backup_line(
+        slot,
+        1,
+        &BackupLine {
+            key: KEY,
+            class: 208,
+            tsn: Tsn { number: 5 },
+            image: Image::from_bytes(b"abc"),
+        },
+    );
+}
+
 fn lay_small(kind: Kind, slot: &mut [u8; 512]) {
     match kind {
         Kind::RujHeader => ruj_journal::put_header(slot, Some(Tsn { number: 5 })),
         Kind::RujEntry => lay_undo(slot),
         Kind::AijHeader => aij_journal::put_header(slot, 1),
         Kind::AijPart => lay_part(slot),
+        Kind::BackupHead => backup_file::put_backup_head(slot, &BACKUP),
+        Kind::BackupLine => lay_backup_line(slot),
         _ => lay_version(slot),
     }
 }
@@ -209,6 +256,8 @@ fn read_small(kind: Kind, slot: &[u8; 512]) -> Read {
         Kind::RujEntry => ruj_entry(slot),
         Kind::AijHeader => aij_header(slot),
         Kind::AijPart => aij_part(slot),
+        Kind::BackupHead => backup_head(slot),
+        Kind::BackupLine => backup_line(slot),
         _ => snapshot(slot),
     }
 }
@@ -225,6 +274,27 @@ pub fn as_it_stands(kind: Kind) -> Read {
     let mut slot = [0; 512];
     lay_small(kind, &mut slot);
     read_small(kind, &slot)
+}
+
+fn copy_front(into: &mut [u8; 64], from: &[u8]) {
+    for (to, byte) in into.iter_mut().zip(from) {
+        *to = *byte;
+    }
+}
+
+/// The first bytes of a slot of the kind.
+pub fn first_bytes(kind: Kind) -> [u8; 64] {
+    let mut first = [0; 64];
+    if matches!(kind, Kind::Root | Kind::Page) {
+        let mut slot = [0; 1024];
+        lay_large(kind, &mut slot);
+        copy_front(&mut first, &slot);
+    } else {
+        let mut slot = [0; 512];
+        lay_small(kind, &mut slot);
+        copy_front(&mut first, &slot);
+    }
+    first
 }
 
 fn flip_large(kind: Kind) -> Counts {

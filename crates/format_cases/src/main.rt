@@ -9,12 +9,12 @@ mod parts;
 mod read;
 
 use case_words::image_of;
-use flips::{as_it_stands, kind_of};
+use flips::{as_it_stands, first_bytes, kind_of};
 use images::{Kind, read_as, tell_image};
 use journal_scan::Scan;
 use journals::say_of_journal;
 use pages::say_of_pages;
-use parts::say_of_parts;
+use parts::{say_of_parts, tell_bytes};
 use rdb_types::NoMemory;
 use read::{tell_counts, tell_read};
 use std::process::ExitCode;
@@ -44,12 +44,20 @@ fn say_of_slot(rt: &HostRuntime, word: &str) -> bool {
     true
 }
 
+// The first bytes of a slot.
+fn say_of_bytes(rt: &HostRuntime, word: &str) {
+    if let Some(kind) = kind_of(word) {
+        tell_bytes(rt, &first_bytes(kind));
+    }
+}
+
 fn say(rt: &HostRuntime, scan: &mut Scan, text: &str) -> Result<(), NoMemory> {
     let (about, rest) = text.split_once(' ').unwrap_or((text, ""));
     match about {
         "row" => say_of_image(rt, Kind::Row, rest)?,
         "node" => say_of_image(rt, Kind::Node, rest)?,
         "catalog" => say_of_image(rt, Kind::Catalog, rest)?,
+        "bytes-of" => say_of_bytes(rt, rest),
         "flip-row" => say_of_flips(rt, Kind::Row, rest)?,
         "flip-node" => say_of_flips(rt, Kind::Node, rest)?,
         "flip-catalog" => say_of_flips(rt, Kind::Catalog, rest)?,

@@ -5,7 +5,8 @@ use rdb_types::{DataType, Dbkey, FieldType, NoMemory, Value, row_order, value_or
 use record_format::{are_storable, dbkey_at, put_dbkey, put_values, read_values, values_size};
 use std::cmp::Ordering;
 
-fn tell_bytes(rt: &HostRuntime, bytes: &[u8]) {
+/// Writes bytes as a line.
+pub fn tell_bytes(rt: &HostRuntime, bytes: &[u8]) {
     let _ = print!(rt; " ");
     put_bytes(rt, bytes);
     let _ = println!(rt; "");
