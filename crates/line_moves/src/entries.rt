@@ -12,9 +12,9 @@ ghost use Rattle.stable_lines.specs.Facts.{Facts};
 ghost use Rattle.line_moves.specs.Calls.{OnlyWrites};
 ghost use Rattle.line_moves.specs.Changes.{IsPlaceOf};
 
-use crate::fault::Fault;
 use crate::lines::line_at;
 use crate::places::{Place, ruj_file};
+use line_store::Fault;
 use rdb_outside::Disk;
 use rdb_types::{Dbkey, Tsn};
 use ruj_journal::{RujEntry, put_entry};

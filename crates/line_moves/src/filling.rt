@@ -12,10 +12,10 @@ ghost use Rattle.line_moves.specs.Calls.{OnlyWrites};
 ghost use Rattle.line_moves.specs.Changes.{IsPlaceOf};
 ghost use Rattle.line_moves.specs.Lines.{AllFit, AllFitBegun, AreDistinct, ArePut, Fills, MayBegin, IsStarted, MayPutAll};
 
-use crate::fault::Fault;
 use crate::pages::{NoPlace, put_on};
 use crate::places::{Place, area_file};
 use area_files::slot_of;
+use line_store::Fault;
 use rdb_outside::Disk;
 use rdb_page::{Head, put_head};
 use rdb_types::{Dbkey, Line};

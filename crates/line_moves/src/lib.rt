@@ -3,7 +3,6 @@
 
 mod barriers;
 mod entries;
-mod fault;
 mod filling;
 mod headers;
 mod images;
@@ -16,7 +15,6 @@ mod undoing;
 
 pub use barriers::make_stable;
 pub use entries::write_before_image;
-pub use fault::Fault;
 pub use filling::write_page;
 pub use headers::{close_header, open_header};
 pub use images::{write_after_image, write_commit, write_root};

@@ -8,9 +8,9 @@ ghost use Rattle.rdb_outside.specs.Disk.{OnlyReads};
 ghost use Rattle.stable_lines.specs.Slots.{area_file as file_named, line_on, line_at as line_in_image};
 ghost use Rattle.line_moves.specs.Changes.{IsPlaceOf};
 
-use crate::fault::Fault;
 use crate::places::{Place, area_file};
 use area_files::slot_of;
+use line_store::Fault;
 use rdb_outside::Disk;
 use rdb_page::{BadPage, lines_of, read_head, read_line};
 use rdb_types::{Dbkey, Image, Line, LineState, Tsn};

@@ -14,9 +14,9 @@ ghost use Rattle.line_moves.specs.Calls.{OnlyWrites};
 ghost use Rattle.line_moves.specs.Contents.{PutsLine};
 ghost use Rattle.line_moves.specs.Changes.{IsPlaceOf, MayPut, Fits};
 
-use crate::fault::Fault;
 use crate::places::{Place, area_file};
 use area_files::slot_of;
+use line_store::Fault;
 use rdb_outside::Disk;
 use rdb_page::{is_allowed_line, lines_of, put_line, read_head};
 use rdb_types::{Dbkey, Line};

@@ -11,9 +11,9 @@ ghost use Rattle.stable_lines.specs.Facts.{Facts};
 ghost use Rattle.line_moves.specs.Calls.{OnlyWrites};
 ghost use Rattle.line_moves.specs.Changes.{IsForArea};
 
-use crate::fault::Fault;
 use crate::places::{Place, area_file};
 use area_files::{slot_of, space_page_of};
+use line_store::Fault;
 use rdb_outside::Disk;
 use space_pages::{check, owner, set};
 

@@ -10,10 +10,10 @@ ghost use Rattle.stable_lines.specs.Facts.{Facts};
 ghost use Rattle.line_moves.specs.Calls.{OnlyWrites};
 ghost use Rattle.line_moves.specs.Changes.{IsUndoing};
 
-use crate::fault::Fault;
 use crate::lines::line_at;
 use crate::pages::change_line;
 use crate::places::{Place, place_of, ruj_file};
+use line_store::Fault;
 use rdb_outside::Disk;
 use rdb_types::Tsn;
 use ruj_journal::read_entry;

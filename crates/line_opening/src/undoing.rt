@@ -6,7 +6,8 @@ ghost use Rattle.stable_lines.specs.Progress.{Open, Progress};
 ghost use Rattle.stable_lines.specs.Facts.{Facts};
 ghost use Rattle.line_opening.specs.Undoing.{AreUndone, MayUndo};
 
-use line_moves::{Fault, Undone, undo_line};
+use line_moves::{Undone, undo_line};
+use line_store::Fault;
 use rdb_outside::Disk;
 use rdb_types::Tsn;
 

@@ -10,7 +10,8 @@ ghost use Rattle.line_seat.specs.Stages.{CommitFacts, progress_at};
 ghost use Rattle.line_seat.specs.declared.commit.CommitStage.TheVariants.{Changing, Imaging, Gathering};
 
 use aij_journal::{AijPart, GroupLine};
-use line_moves::{Fault, make_stable, place_of, write_after_image, write_commit, write_page};
+use line_moves::{make_stable, place_of, write_after_image, write_commit, write_page};
+use line_store::Fault;
 use rdb_outside::{Disk, Failed};
 use rdb_types::{Dbkey, Image, Line, Tsn};
 

@@ -11,7 +11,8 @@ ghost use Rattle.line_moves.specs.Calls.{OnlyWrites};
 ghost use Rattle.line_moves.specs.Changes.{IsPlaceOf};
 ghost use Rattle.line_seat.specs.Seats.{MayChange, SeatFacts};
 
-use line_moves::{Fault, Place, write_before_image};
+use line_moves::{Place, write_before_image};
+use line_store::Fault;
 use rdb_outside::Disk;
 use rdb_types::{Dbkey, Tsn};
 

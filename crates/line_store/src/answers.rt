@@ -1,4 +1,7 @@
 // What calls of a store answer.
+ghost use Rattle.std.specs.Prelude.{◌≡◌};
+
+use rdb_outside::Failed;
 use rdb_types::{Dbkey, FileId, Moment};
 
 /// A device call failed, or the slot of this number isn't what it has to be.
@@ -6,6 +9,16 @@ use rdb_types::{Dbkey, FileId, Moment};
 pub enum Fault {
     Failed,
     Bad(FileId, u32),
+}
+
+impl From<Failed> for Fault {
+    ghost use Rattle.line_store.specs.declared.answers.Fault.TheVariants as faults;
+
+    ghost from_gives = { λ _ e. e ≡ faults.Failed };
+
+    fn from(_: Failed) -> Self {
+        Fault::Failed
+    }
 }
 
 /// Whether a call is through. Where there is more to do it is made again.
