@@ -1,0 +1,9 @@
+//! Definitions and deletions written over the view of a statement.
+#![tactic(auto)]
+
+mod definitions;
+mod stop;
+mod writing;
+
+pub use definitions::{define_field, define_relation};
+pub use stop::{SchemaRefusal, SchemaStop};

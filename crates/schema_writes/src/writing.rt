@@ -1,0 +1,30 @@
+// Several lines put into a view.
+ghost use Rattle.std.specs.Prelude.{◌≡◌, OnOk};
+ghost use Rattle.line_view.specs.Knowledge.{Lines};
+ghost use Rattle.line_view.specs.Writes.{laid_all};
+ghost use Rattle.statement_view.specs.Over.{Stands, laid_over};
+
+use line_view::Write;
+use rdb_types::{Image, NoMemory};
+use statement_view::Changed;
+
+fn copied_image(image: &Option<Image>) -> Option<Image>
+    ensures { result ≡ image.now }
+{
+    match image {
+        Some(image) => Some(Image::from_bytes(image.bytes())),
+        None => None,
+    }
+}
+
+/// Puts writes into the view, in their order.
+pub(crate) fn put_all(view: &mut Changed, writes: &[Write]) -> Result<(), NoMemory>
+    ensures stands { OnOk result ((first : Lines) → Stands view.old first → Stands view.new first) }
+    ensures laid { OnOk result ((first : Lines) → Stands view.old first → laid_over view.new.lines first ≡ laid_all writes.now (laid_over view.old.lines first)) }
+    ensures known { view.new.base ≡ view.old.base }
+{
+    for write in writes {
+        view.put(write.key, copied_image(&write.image))?;
+    }
+    Ok(())
+}
