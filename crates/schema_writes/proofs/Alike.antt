@@ -10,9 +10,11 @@ use Rattle.rdo_ast.specs.declared.syntax.FieldDefinition.{FieldDefinition}
 use Rattle.rdo_ast.specs.declared.syntax.DefinedType.{DefinedType}
 use Rattle.rdo_ast.specs.declared.syntax.DefinedType.TheVariants.{Own, BasedOn}
 use Rattle.rdb_meaning.specs.declared.tables.Relation.{Relation as Rows}
+use Rattle.rdb_meaning.specs.declared.tables.Index.{Index as IndexOf}
 use Rattle.rdb_meaning.specs.declared.tables.Tables.{Tables}
 use Rattle.rdb_meaning.specs.Contents.{relation_named}
 use Rattle.rdb_meaning.specs.Checks.{Refusal, or_else, needs_some, needs_none}
+use Rattle.rdb_meaning.specs.Execution.{area_of}
 use Rattle.rdb_meaning.specs.Defining.{field_names, type_names, is_among, fields_names, relation_names}
 use Rattle.line_view.specs.Knowledge.{Lines}
 use Rattle.catalog.specs.declared.reading.Catalog.{Catalog}
@@ -49,3 +51,16 @@ relations_alike c n fs all t sound =
     sym (none_bare n (relation_named n c.tables)) ∙ ap (λ (o : Option Rows). needs_none n o) (catalogs_schema all c t sound.are n) ∙ none_bare n (relation_named n t) in
     let rest = names_alike [] fs c.tables t (sym sound.are.globals) in
     λ i. or_else (one i) (rest i)
+
+-- ---- deletions
+
+pub index_alike : (c : Catalog) (n : Name) → Alike c (λ t. needs_some n (find chars_order n t.indexes))
+index_alike c n all t sound = ap (λ (es : List (Name × IndexOf)). needs_some n (find chars_order n es)) (sym sound.are.indexes)
+
+pub relation_alike : (c : Catalog) (n : Name) → Alike c (λ t. needs_some n (relation_named n t))
+relation_alike c n all t sound =
+    sym (some_bare n (relation_named n c.tables)) ∙ ap (λ (o : Option Rows). needs_some n o) (catalogs_schema all c t sound.are n) ∙ some_bare n (relation_named n t)
+
+pub area_bare : (o : Option Rows) → area_of (option_map bare o) ≡ area_of o
+area_bare None = refl
+area_bare (Some r) = refl

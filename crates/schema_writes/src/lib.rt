@@ -2,8 +2,10 @@
 #![tactic(auto)]
 
 mod definitions;
+mod deletions;
 mod stop;
 mod writing;
 
 pub use definitions::{define_field, define_relation};
+pub use deletions::{delete_index, delete_relation};
 pub use stop::{SchemaRefusal, SchemaStop};

@@ -2,10 +2,11 @@
 ghost use Rattle.std.specs.Prelude.{◌≡◌, OnOk};
 ghost use Rattle.line_view.specs.Knowledge.{Lines};
 ghost use Rattle.line_view.specs.Writes.{laid_all};
+ghost use Rattle.catalog_definitions.specs.Leaving.{erasures};
 ghost use Rattle.statement_view.specs.Over.{Stands, laid_over};
 
 use line_view::Write;
-use rdb_types::{Image, NoMemory};
+use rdb_types::{Dbkey, Image, NoMemory};
 use statement_view::Changed;
 
 fn copied_image(image: &Option<Image>) -> Option<Image>
@@ -25,6 +26,18 @@ pub(crate) fn put_all(view: &mut Changed, writes: &[Write]) -> Result<(), NoMemo
 {
     for write in writes {
         view.put(write.key, copied_image(&write.image))?;
+    }
+    Ok(())
+}
+
+/// Erases lines in the view.
+pub(crate) fn erase_all(view: &mut Changed, keys: &[Dbkey]) -> Result<(), NoMemory>
+    ensures stands { OnOk result ((first : Lines) → Stands view.old first → Stands view.new first) }
+    ensures laid { OnOk result ((first : Lines) → Stands view.old first → laid_over view.new.lines first ≡ laid_all (erasures keys.now) (laid_over view.old.lines first)) }
+    ensures known { view.new.base ≡ view.old.base }
+{
+    for key in keys {
+        view.put(*key, None)?;
     }
     Ok(())
 }

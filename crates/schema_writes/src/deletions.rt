@@ -1,0 +1,95 @@
+// Deletions of indexes and of relations.
+ghost use Rattle.std.specs.Prelude.{◌≡◌, IfOk, IfErr};
+ghost use Rattle.std.specs.FinMap.Entries.{find};
+ghost use Rattle.rdb_types.specs.Order.{chars_order};
+ghost use Rattle.rdb_meaning.specs.Contents.{relation_named};
+ghost use Rattle.rdb_meaning.specs.Checks.{needs_some};
+ghost use Rattle.rdb_meaning.specs.Defining.{without_index, without_relation};
+ghost use Rattle.rdb_meaning.specs.Execution.{area_of};
+ghost use Rattle.catalog_definitions.specs.Causes.{stop_of_check};
+ghost use Rattle.statement_view.specs.Over.{knows_over};
+ghost use Rattle.schema_writes.specs.Deletions.{Deletes, LacksArea};
+
+use crate::writing::erase_all;
+use catalog::Catalog;
+use line_view::{Need, Stop, View};
+use rdb_checks::Stop as CheckStop;
+use rdb_meaning::Tables;
+use rdb_types::{Chars, Keys};
+use rdo_ast::reply::Reply;
+use statement_view::Changed;
+use std::alloc::Global;
+
+fn from_check(stop: CheckStop) -> Stop<Reply>
+    ensures { result ≡ stop_of_check stop }
+{
+    match stop {
+        CheckStop::Refused(reply) => Stop::Own(reply),
+        CheckStop::Memory => Stop::NoMemory,
+    }
+}
+
+fn area_named(tables: &Tables, name: &Chars) -> u32
+    ensures { result ≡ area_of (relation_named name.now tables.now) }
+{
+    match tables.relation(name) {
+        Some(relation) => relation.area,
+        None => 0,
+    }
+}
+
+fn keys_in(alloc: Global, view: &Changed, area: u32) -> Result<Keys, Stop<Reply>>
+    ensures keys { IfOk result (λ keys. (knows_over view.now).area area ≡ Some keys) }
+    ensures stop { IfErr result (LacksArea view.now.base) }
+{
+    let Some(known) = view.area(area) else {
+        return Err(Stop::Missing(Need::Area(area)));
+    };
+    let mut keys = Keys::new(alloc);
+    for key in known {
+        keys.push(*key)?;
+    }
+    Ok(keys)
+}
+
+/// DELETE INDEX: its line of the catalog is erased. Its nodes stay, in an area that no index has. Behind an error the view is of no more use, but for what was known.
+pub fn delete_index(
+    alloc: Global,
+    view: &mut Changed,
+    catalog: &Catalog,
+    name: &Chars,
+) -> Result<(), Stop<Reply>>
+    ensures deletes { Deletes view.old view.new catalog.now (λ t. needs_some name.now (find chars_order name.now t.indexes)) (without_index name.now) result }
+    ensures known { view.new.base ≡ view.old.base }
+{
+    let lines = match catalog::delete_index(alloc, catalog, name) {
+        Ok(lines) => lines,
+        Err(stop) => return Err(from_check(stop)),
+    };
+    erase_all(view, lines.as_slice())?;
+    Ok(())
+}
+
+/// DELETE RELATION: its lines of the catalog, those of its fields and of its indexes, and all its rows are erased. The nodes of its indexes stay, in areas that no index has. Behind an error the view is of no more use, but for what was known.
+pub fn delete_relation(
+    alloc: Global,
+    view: &mut Changed,
+    catalog: &Catalog,
+    name: &Chars,
+) -> Result<(), Stop<Reply>>
+    ensures deletes { Deletes view.old view.new catalog.now (λ t. needs_some name.now (relation_named name.now t)) (without_relation name.now) result }
+    ensures known { view.new.base ≡ view.old.base }
+{
+    let lines = match catalog::delete_relation(alloc, catalog, name) {
+        Ok(lines) => lines,
+        Err(stop) => return Err(from_check(stop)),
+    };
+    let area = area_named(&catalog.tables, name);
+    let rows = match keys_in(alloc, view, area) {
+        Ok(rows) => rows,
+        Err(stop) => return Err(stop),
+    };
+    erase_all(view, lines.as_slice())?;
+    erase_all(view, rows.as_slice())?;
+    Ok(())
+}
