@@ -1,2 +1,4 @@
 pub mod Backwards
+pub mod Closed
 pub mod Counted
+pub mod Reading

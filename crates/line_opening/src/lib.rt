@@ -1,10 +1,14 @@
 //! The opening of a store: what an earlier run left open is found in the before-image journals, and undone.
 #![tactic(auto)]
 
+mod closing;
 mod counting;
+mod headers;
 mod stages;
 mod undoing;
 
+pub use closing::close_next;
 pub use counting::count_entries;
+pub use headers::{all_named, named_by};
 pub use stages::OpeningStage;
 pub use undoing::undo_next;
