@@ -5,7 +5,7 @@ use Rattle.rdb_types.specs.declared.file.FileId.{FileId}
 use Rattle.rdb_types.specs.declared.keys.Tsn.{Tsn}
 use Rattle.rdb_outside.specs.Disk.{Image}
 use Rattle.ruj_journal.specs.Header.{IsHeader, number_of as number_in}
-use Rattle.stable_lines.specs.Slots.{ruj_file, IsMember, named}
+use Rattle.stable_lines.specs.Slots.{ruj_file, named}
 use Rattle.stable_lines.specs.Kept.{IsRujHeader}
 use Rattle.stable_lines.proofs.Codecs.{named_as}
 use Rattle.line_opening.specs.Headers.{AreNamed, AreClosed}

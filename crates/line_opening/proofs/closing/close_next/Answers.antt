@@ -1,5 +1,4 @@
-use Rattle.std.proofs.Common.{rules, ◌≡◌, ◌≤◌, ◌+◌, ◌∙◌, arith}
-use Rattle.rdb_outside.specs.Disk.{OnlyReads}
+use Rattle.std.proofs.Common.{rules, ◌≤◌}
 use Rattle.rdb_outside.specs.Runs.{no_calls, then_reads}
 use Rattle.stable_lines.specs.Slots.{ruj_file}
 use Rattle.line_moves.proofs.Runs.{still_tells, facts_read, writes_none, reads_then_writes}

@@ -1,4 +1,4 @@
-use Rattle.std.proofs.Common.{rules, ◌≡◌, ◌+◌, ◌≤◌, ◌∙◌, List, ℕ, sym, ap, subst, arith}
+use Rattle.std.proofs.Common.{rules, ◌+◌, ◌≤◌, ◌∙◌, List, ℕ, sym, ap, subst, arith}
 use Rattle.std.proofs.lemmas.List.{length-set}
 use Rattle.rdb_outside.specs.Runs.{then_reads}
 use Rattle.stable_lines.specs.Slots.{ruj_file, named}
