@@ -1,0 +1,6 @@
+//! What selections read of the relations of a catalog.
+#![tactic(auto)]
+
+mod schema_sources;
+
+pub use schema_sources::sources;
