@@ -8,7 +8,8 @@ ghost use Rattle.stable_lines.specs.Slots.{ruj_file as ruj_named, named, IsMembe
 ghost use Rattle.stable_lines.specs.Kept.{IsRujHeader};
 ghost use Rattle.line_opening.specs.Headers.{AreNamed};
 
-use line_moves::{Fault, ruj_file};
+use line_moves::ruj_file;
+use line_store::Fault;
 use rdb_outside::Disk;
 use rdb_types::Tsn;
 use ruj_journal::open_tsn;
