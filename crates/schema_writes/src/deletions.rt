@@ -8,13 +8,14 @@ ghost use Rattle.rdb_meaning.specs.Defining.{without_index, without_relation};
 ghost use Rattle.rdb_meaning.specs.Execution.{area_of};
 ghost use Rattle.catalog_definitions.specs.Causes.{stop_of_check};
 ghost use Rattle.statement_view.specs.Over.{knows_over};
-ghost use Rattle.schema_writes.specs.Deletions.{Deletes, LacksArea};
+ghost use Rattle.schema_writes.specs.Deletions.{AreNodes, Deletes, LacksArea};
 
 use crate::writing::erase_all;
-use catalog::Catalog;
+use catalog::{Catalog, PlacedLine};
+use catalog_lines::CatalogLine;
 use line_view::{Need, Stop, View};
 use rdb_checks::Stop as CheckStop;
-use rdb_meaning::Tables;
+use rdb_meaning::{Tables, same_name};
 use rdb_types::{Chars, Keys};
 use rdo_ast::reply::Reply;
 use statement_view::Changed;
@@ -52,7 +53,27 @@ fn keys_in(alloc: Global, view: &Changed, area: u32) -> Result<Keys, Stop<Reply>
     Ok(keys)
 }
 
-/// DELETE INDEX: its line of the catalog is erased. Its nodes stay, in an area that no index has. Behind an error the view is of no more use, but for what was known.
+// The lines of the logical area of the index of a name.
+fn index_nodes(
+    alloc: Global,
+    view: &Changed,
+    lines: &[PlacedLine],
+    name: &Chars,
+) -> Result<Keys, Stop<Reply>>
+    ensures keys { IfOk result (AreNodes (knows_over view.now) lines.now name.now) }
+    ensures stop { IfErr result (LacksArea view.now.base) }
+{
+    for line in lines {
+        if let CatalogLine::Index(index) = &line.line {
+            if same_name(name, &index.name) {
+                return keys_in(alloc, view, index.area);
+            }
+        }
+    }
+    Ok(Keys::new(alloc))
+}
+
+/// DELETE INDEX: its line of the catalog and its nodes are erased. Behind an error the view is of no more use, but for what was known.
 pub fn delete_index(
     alloc: Global,
     view: &mut Changed,
@@ -66,7 +87,12 @@ pub fn delete_index(
         Ok(lines) => lines,
         Err(stop) => return Err(from_check(stop)),
     };
+    let nodes = match index_nodes(alloc, view, catalog.lines.as_slice(), name) {
+        Ok(nodes) => nodes,
+        Err(stop) => return Err(stop),
+    };
     erase_all(view, lines.as_slice())?;
+    erase_all(view, nodes.as_slice())?;
     Ok(())
 }
 
