@@ -1,4 +1,5 @@
 pub mod Backwards
 pub mod Closed
 pub mod Counted
+pub mod Passed
 pub mod Reading

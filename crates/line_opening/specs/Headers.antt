@@ -1,7 +1,9 @@
--- What the members' headers name.
-use Rattle.std.specs.Prelude.{ℕ, ◌-◌, ◌<◌, ◌≡◌, List, length, slice_index_or}
+-- What the members' headers name, and which of it is open.
+use Rattle.std.specs.Prelude.{ℕ, ◌-◌, ◌<◌, ◌≡◌, List, length, slice_index_or, if◌then◌else◌}
 use Rattle.rdb_outside.specs.Disk.{Image}
+use Rattle.journal_scan.specs.declared.group.Group.{Group}
 use Rattle.stable_lines.specs.Slots.{ruj_file, IsMember, named}
+use Rattle.stable_lines.specs.Journal.{has_group}
 
 -- the number in the place of a member
 abbrev pub number_of : List ℕ → ℕ → ℕ
@@ -11,6 +13,10 @@ number_of numbers member = slice_index_or numbers (member - 1) 0
 pub record AreNamed (image : Image) (numbers : List ℕ) : Type 0 where
   pub long : length numbers ≡ 16
   pub each : (member : ℕ) → IsMember member → number_of numbers member ≡ named (image (ruj_file member) 0)
+
+-- the transaction where none of these groups is its own, and 0 where one is
+abbrev pub open_in : List Group → ℕ → ℕ
+open_in groups tsn = if has_group tsn groups then 0 else tsn
 
 -- the headers of the members before this one name no transaction
 abbrev pub AreClosed : Image → ℕ → Type 0

@@ -1,8 +1,10 @@
 // The headers of the members' journals, closed.
 ghost use Rattle.std.specs.Prelude.{◌≡◌, ◌≤◌, ◌<◌, ℕ, None, IfOk, IsErrOf, IsTrue};
+ghost use Rattle.rdb_types.specs.declared.file.FileId.{FileId as File};
 ghost use Rattle.rdb_outside.specs.Causes.{Rose};
 ghost use Rattle.rdb_outside.specs.Disk.{Pending};
 ghost use Rattle.stable_lines.specs.Slots.{ruj_file as ruj_named, IsMember};
+ghost use Rattle.stable_lines.specs.Kept.{IsRujHeader};
 ghost use Rattle.stable_lines.specs.Progress.{Progress};
 ghost use Rattle.stable_lines.specs.Facts.{Facts};
 ghost use Rattle.line_moves.specs.Calls.{OnlyWrites};
@@ -19,6 +21,12 @@ pub fn close_next<D: Disk>(disk: &mut D, from: u32) -> Result<u32, Fault>
     ensures writes { (member : ℕ) × OnlyWrites (ruj_named member) 0 (D.view disk.old) (D.view disk.new) }
     ensures failed { IsErrOf result Fault.Failed
         → Rose (D.view disk.old).faults (D.view disk.new).faults }
+
+    // It is refused only where the header of some member is none.
+    ensures bad { (file : File) (slot : ℕ) → IsErrOf result (Fault.Bad file slot)
+        → IsTrue (D.view disk.old).tells → 1 ≤ from
+        → ((member : ℕ) → IsMember member → IsRujHeader ((D.view disk.old).content (ruj_named member) 0))
+        → ⊥ }
 
     // Whatever it answers, the facts stay, where no transaction is open.
     ensures keeps { IsTrue (D.view disk.old).tells → (now : Progress)

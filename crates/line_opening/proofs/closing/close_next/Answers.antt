@@ -1,6 +1,7 @@
-use Rattle.std.proofs.Common.{rules, ◌≤◌}
+use Rattle.std.proofs.Common.{rules, ◌≤◌, List, ℕ, sym, subst, arith}
 use Rattle.rdb_outside.specs.Runs.{no_calls, then_reads}
 use Rattle.stable_lines.specs.Slots.{ruj_file}
+use Rattle.stable_lines.specs.Kept.{IsRujHeader}
 use Rattle.line_moves.proofs.Runs.{still_tells, facts_read, writes_none, reads_then_writes}
 use Rattle.line_opening.proofs.Closed.{passed_over, closed_there, all_closed}
 use Rattle.line_opening.proofs.closing.close_next.Goals as goal
@@ -60,3 +61,9 @@ pub returns-clause-closed : goal.returns-clause-closed
 returns-clause-closed g c = let v = g.D.Disk.view in λ t was.
     let past : 17 ≤ c.loop-member.member = search rules in
     all_closed (v c.args.disk.now) (v c.loop-member.disk) c.loop-member.member 17 c.loop-member.invariant.reads t past (c.loop-member.invariant.closed t was)
+
+pub returns-in_err-named_by-clause-bad : goal.returns-in_err-named_by-clause-bad
+returns-in_err-named_by-clause-bad g c = let v = g.D.Disk.view in let old = v c.args.disk.now in let mid = v c.loop-member.disk in let reads = c.loop-member.invariant.reads in
+    λ file slot bad t first all. let less = c.loop-member-test.true in let from_on : c.args.from ≤ c.loop-member.member = search rules in
+    c.named_by.ensures.bad file slot (search rules) (still_tells old mid reads.told t)
+    (subst (λ (b : List ℕ). IsRujHeader b) (sym ((reads.keeps t).content (ruj_file c.loop-member.member) 0)) (all c.loop-member.member (record { first = omega (arith, first, from_on); last = omega (arith, less) })))
