@@ -2,8 +2,8 @@
 use Rattle.new_database.specs.Maker.{aij_file}
 use Rattle.journal_reading.specs.declared.reading.AijFault.{AijFault}
 use Rattle.journal_reading.specs.declared.reading.AijFault.TheVariants as reading
-use Rattle.line_moves.specs.declared.fault.Fault.{Fault}
-use Rattle.line_moves.specs.declared.fault.Fault.TheVariants as call
+use Rattle.line_store.specs.declared.answers.Fault.{Fault}
+use Rattle.line_store.specs.declared.answers.Fault.TheVariants as call
 use Rattle.line_opening.specs.declared.fault.OpeningFault.{OpeningFault}
 use Rattle.line_opening.specs.declared.fault.OpeningFault.TheVariants.{Failed, NoMemory, Bad}
 

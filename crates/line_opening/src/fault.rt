@@ -1,7 +1,8 @@
 ghost use Rattle.std.specs.Prelude.{◌≡◌};
 
 use journal_reading::AijFault;
-use line_moves::{Fault, aij_file};
+use line_moves::aij_file;
+use line_store::Fault;
 use rdb_outside::Failed;
 use rdb_types::FileId;
 
