@@ -36,9 +36,9 @@ is_definition _ = false
 abbrev pub area_mode : Uttered → ℕ → Mode
 area_mode item area = if (area == 1) && is_definition item then EX else PR
 
--- the locks that a need of lines wants: that of a room is on the line that is taken for it
+-- The locks that a need of lines wants: whoever reads a line of the catalog has the whole catalog, and that of a room is on the line that is taken for it.
 abbrev pub is_lock_for : Uttered → Need → LockNeed → Bool
-is_lock_for item (Line key) lock = is_on_line_of key.area PR lock
+is_lock_for item (Line key) lock = if key.area == 1 then is_need (area_node 1) (area_mode item 1) lock else is_on_line_of key.area PR lock
 is_lock_for item (Area area) lock = is_need (area_node area) (area_mode item area) lock
 is_lock_for item (Room room) lock = is_on_line_of room.area EX lock
 

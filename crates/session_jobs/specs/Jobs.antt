@@ -17,7 +17,7 @@ use Rattle.line_view.specs.Held.{knows}
 use Rattle.session_jobs.specs.declared.jobs.Job.{Job}
 use Rattle.session_jobs.specs.declared.jobs.TxRecord.{TxRecord}
 use Rattle.session_jobs.specs.declared.jobs.Found.{Found}
-use Rattle.session_jobs.specs.declared.jobs.Found.TheVariants.{Done, Missing, Bad, NoMemory}
+use Rattle.session_jobs.specs.declared.jobs.Found.TheVariants.{Done, Missing, Bad, Unworked, NoMemory}
 use Rattle.session_jobs.specs.Records.{Model, Worked, IsRight}
 use Rattle.session_jobs.specs.Asked.{is_lock_for, AsksFor}
 
@@ -41,11 +41,12 @@ pub record IsRecord (M : Model) (word : List ℕ) (standing : Standing) (item : 
   pub right : IsRight M word standing known (worked_of item r)
   pub asked : WhereItAgrees M known (AreAsked standing item r.writes)
 
--- What was found over what is known: a right record; needs that aren't known; or a line with which no sound map agrees. Want of memory says nothing.
+-- What was found over what is known: a right record; needs that aren't known; or a line with which no sound map agrees. A job that isn't worked, and want of memory, say nothing.
 abbrev pub IsFound : Model → List ℕ → Standing → Uttered → Knowledge → Found → Type 0
 IsFound M word standing item known (Done r) = IsRecord M word standing item known r
 IsFound M word standing item known (Missing next later) = WhereItAgrees M known (λ t. AllByRecursion (IsLacking standing item known t) (next ∷ later))
 IsFound M word standing item known (Bad key) = WhereItAgrees M known (λ t. ⊥)
+IsFound M word standing item known Unworked = Unit {0}
 IsFound M word standing item known NoMemory = Unit {0}
 
 abbrev pub IsFoundFor : Model → Job → Found → Type 0

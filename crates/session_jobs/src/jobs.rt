@@ -42,5 +42,14 @@ pub enum Found {
     },
     /// This line's bytes are none of its kind.
     Bad(Dbkey),
+    /// It isn't worked, and nothing is said of it: its values are none that a script gives, a relation or an index can grow no more, or who works it works no such statement.
+    Unworked,
     NoMemory,
+}
+
+/// A job that was worked, as it was, and what it came to. Who works owns the job, so that what is known needn't be copied for a view of it.
+#[derive(Drop)]
+pub struct Answer {
+    pub job: Job,
+    pub found: Found,
 }

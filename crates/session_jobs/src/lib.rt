@@ -6,6 +6,6 @@ mod jobs;
 mod outcome;
 mod statements;
 
-pub use jobs::{Found, Job, Needs, TxRecord};
+pub use jobs::{Answer, Found, Job, Needs, TxRecord};
 pub use outcome::Outcome;
 pub use statements::Statements;

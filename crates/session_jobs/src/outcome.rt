@@ -1,7 +1,7 @@
 ghost use Rattle.std.specs.Prelude.{◌≡◌};
 ghost use Rattle.session_jobs.specs.Jobs.{IsFoundFor};
 
-use crate::{Found, Job, Statements};
+use crate::{Answer, Found, Job, Statements};
 use std::marker::{Model, PhantomData};
 
 /// A job, and what it came to, which is right for it.
@@ -31,7 +31,7 @@ impl<S: Statements> Outcome<S> {
     pub fn of(job: Job) -> Outcome<S>
         ensures { result.job ≡ job }
     {
-        let found = S::work(&job);
+        let Answer { job, found } = S::work(job);
         Outcome {
             job,
             found,

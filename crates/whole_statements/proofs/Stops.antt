@@ -23,7 +23,8 @@ use Rattle.session_jobs.specs.declared.jobs.Found.TheVariants as found
 use Rattle.line_view.specs.Stops.{Lacks}
 use Rattle.session_jobs.specs.Asked.{locks}
 use Rattle.session_jobs.specs.Jobs.{IsFound, AreAsked}
-use Rattle.whole_statements.specs.Sound.{IsSoundFor, DoneOn}
+use Rattle.sound_maps.specs.Maps.{IsSoundWith}
+use Rattle.whole_statements.specs.Sound.{DoneOn}
 use Rattle.whole_statements.specs.Standings.{IsReading}
 use Rattle.rdb_meaning.proofs.Unchanged.{is_writing, unchanged}
 use Rattle.rdb_types.specs.declared.keys.Dbkey.{Dbkey}
@@ -56,7 +57,7 @@ done-on word standing item t t' choices reply behind reads does =
     subst (λ (x : Tables). Does word standing item choices t reply x behind) (unchanged word standing item choices [] t t' reply behind (reads-only standing reads) does) does
 
 pub missing : (word : List ℕ) (standing : Standing) (item : Uttered) (known : Knowledge) (need : Need) → locks standing item ≡ false →
-    ((all : Lines) → Agrees known all → StopsTables known all (Missing need)) → IsFound IsSoundFor word standing item known (found.Missing need [])
+    ((all : Lines) → Agrees known all → StopsTables known all (Missing need)) → IsFound IsSoundWith word standing item known (found.Missing need [])
 missing word standing item known need free stops all t is agrees = (
   record {
     unknown = lacks known all need (stops all agrees);
@@ -66,22 +67,23 @@ missing word standing item known need free stops all t is agrees = (
 )
 
 pub bad : (word : List ℕ) (standing : Standing) (item : Uttered) (known : Knowledge) (key : Dbkey) →
-    ((all : Lines) → Agrees known all → StopsTables known all (Bad key)) → IsFound IsSoundFor word standing item known (found.Bad key)
+    ((all : Lines) → Agrees known all → StopsTables known all (Bad key)) → IsFound IsSoundWith word standing item known (found.Bad key)
 bad word standing item known key stops all t is agrees = no_tables known all key t is.0 agrees (stops all agrees) is.2
 
 pub done : (word : List ℕ) (standing : Standing) (item : Uttered) (known : Knowledge) (tables : Tables) (f : Found) →
-    ((all : Lines) → IsInOrder all → Agrees known all → AreTablesOf all tables) → DoneOn word standing item tables f → IsFound IsSoundFor word standing item known f
+    ((all : Lines) → IsInOrder all → Agrees known all → AreTablesOf all tables) → DoneOn word standing item tables f → IsFound IsSoundWith word standing item known f
 done word standing item known tables (found.Done r) are h = record {
   right = record {
     usual = h.1;
     does = λ all t is agrees. let same : tables ≡ t = one_tables all tables t (are all is.0 agrees) is.2 in record {
       then = t;
       does = subst (λ (x : Tables). Does word standing item r.choices x r.reply x r.standing) same h.0;
-      stands = subst (λ (ws : List Write). IsSoundFor (laid_all ws all) t) (sym h.2) is;
+      stands = subst (λ (ws : List Write). IsSoundWith (laid_all ws all) t) (sym h.2) is;
     };
   };
   asked = λ all t is agrees. subst (λ (ws : List Write). AreAsked standing item ws t) (sym h.2) tt;
 }
 done word standing item known tables (found.Missing next later) are h = absurd h
 done word standing item known tables (found.Bad key) are h = absurd h
+done word standing item known tables found.Unworked are h = tt
 done word standing item known tables found.NoMemory are h = tt

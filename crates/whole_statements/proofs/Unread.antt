@@ -17,7 +17,8 @@ use Rattle.line_view.specs.Writes.{laid_all}
 use Rattle.session_jobs.specs.declared.jobs.Found.{Found}
 use Rattle.session_jobs.specs.declared.jobs.Found.TheVariants as found
 use Rattle.session_jobs.specs.Jobs.{IsFound, AreAsked, NamesNoNeed}
-use Rattle.whole_statements.specs.Sound.{IsSoundFor, DoneOn}
+use Rattle.sound_maps.specs.Maps.{IsSoundWith}
+use Rattle.whole_statements.specs.Sound.{DoneOn}
 use Rattle.whole_statements.specs.Ways.{IsUnread}
 
 abbrev with_tables : Tables → Meaning → Meaning
@@ -55,25 +56,26 @@ does-too : (word : List ℕ) (item : Uttered) (choices : List Dbkey) (t u : Tabl
     Does word Closed item choices t reply t behind → Does word Closed item choices u reply u behind
 does-too word item choices t u reply behind none does = same-meaning word item choices t u none ∙ ap (with_tables u) does
 
-unread-closed : (word : List ℕ) (item : Uttered) (known : Knowledge) (f : Found) → begins item ≡ None → DoneOn word Closed item no_tables f → IsFound IsSoundFor word Closed item known f
+unread-closed : (word : List ℕ) (item : Uttered) (known : Knowledge) (f : Found) → begins item ≡ None → DoneOn word Closed item no_tables f → IsFound IsSoundWith word Closed item known f
 unread-closed word item known (found.Done r) none h = record {
   right = record {
     usual = h.1;
     does = λ all t is agrees. record {
       then = t;
       does = does-too word item r.choices no_tables t r.reply r.standing none h.0;
-      stands = subst (λ (ws : List Write). IsSoundFor (laid_all ws all) t) (sym h.2) is;
+      stands = subst (λ (ws : List Write). IsSoundWith (laid_all ws all) t) (sym h.2) is;
     };
   };
   asked = λ all t is agrees. subst (λ (ws : List Write). AreAsked Closed item ws t) (sym h.2) tt;
 }
 unread-closed word item known (found.Missing next later) none h = absurd h
 unread-closed word item known (found.Bad key) none h = absurd h
+unread-closed word item known found.Unworked none h = tt
 unread-closed word item known found.NoMemory none h = tt
 
-pub unread : (word : List ℕ) (standing : Standing) (item : Uttered) (known : Knowledge) (t : Tables) (f : Found) → IsUnread standing item → t ≡ no_tables → DoneOn word standing item t f → IsFound IsSoundFor word standing item known f
+pub unread : (word : List ℕ) (standing : Standing) (item : Uttered) (known : Knowledge) (t : Tables) (f : Found) → IsUnread standing item → t ≡ no_tables → DoneOn word standing item t f → IsFound IsSoundWith word standing item known f
 unread word standing item known t f is empty h =
-    subst (λ (st : Standing). IsFound IsSoundFor word st item known f) (sym is.closed)
+    subst (λ (st : Standing). IsFound IsSoundWith word st item known f) (sym is.closed)
     (unread-closed word item known f is.none
     (subst (λ (st : Standing). DoneOn word st item no_tables f) is.closed
     (subst (λ (x : Tables). DoneOn word standing item x f) empty h)))
@@ -82,4 +84,5 @@ pub no-need : (word : List ℕ) (standing : Standing) (item : Uttered) (t : Tabl
 no-need word standing item t (found.Done r) h = tt
 no-need word standing item t (found.Missing next later) h = absurd h
 no-need word standing item t (found.Bad key) h = tt
+no-need word standing item t found.Unworked h = tt
 no-need word standing item t found.NoMemory h = tt

@@ -1,4 +1,3 @@
 pub mod Standings
 pub mod Ways
 pub mod Sound
-pub mod Laws

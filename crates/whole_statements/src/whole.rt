@@ -2,9 +2,10 @@ ghost use Rattle.std.specs.Prelude.{◌≡◌, false};
 ghost use Rattle.rdo_ast.specs.Views.{uttered_of};
 ghost use Rattle.rdb_meaning.specs.Contents.{no_tables as empty_tables};
 ghost use Rattle.session_jobs.specs.Asked.{locks};
-ghost use Rattle.session_jobs.specs.Jobs.{IsFoundFor};
+ghost use Rattle.session_jobs.specs.Jobs.{IsFoundFor, IsOutside, NamesNoNeed};
 ghost use Rattle.whole_statements.specs.Standings.{IsReading};
-ghost use Rattle.whole_statements.specs.Sound.{IsSoundFor, DoneOn};
+ghost use Rattle.sound_maps.specs.Maps.{IsSoundWith};
+ghost use Rattle.whole_statements.specs.Sound.{DoneOn};
 
 use crate::way::{Way, way_of};
 use line_view::Stop;
@@ -12,7 +13,7 @@ use ordered_entries::Entries;
 use rdb_meaning::Tables;
 use rdb_tables::does;
 use rdb_types::Items;
-use session_jobs::{Found, Job, Statements, TxRecord};
+use session_jobs::{Answer, Found, Job, Statements, TxRecord};
 use sound_lines::read_tables;
 use std::alloc::Global;
 
@@ -58,7 +59,7 @@ fn do_on(tables: Tables, job: &Job) -> Found
 fn read_and_do(job: &Job) -> Found
     requires reads { IsReading job.now.standing }
     requires locks { locks job.now.standing (uttered_of job.now.item) ≡ false }
-    ensures { IsFoundFor IsSoundFor job.now result }
+    ensures { IsFoundFor IsSoundWith job.now result }
 {
     match read_tables(job.alloc, &job.known) {
         Ok(tables) => do_on(tables, job),
@@ -71,18 +72,27 @@ fn read_and_do(job: &Job) -> Found
     }
 }
 
+// What the job comes to.
+fn found_for(job: &Job) -> Found
+    ensures right { IsFoundFor IsSoundWith job.now result }
+    ensures outside { IsOutside job.now → NamesNoNeed result }
+{
+    match way_of(&job.standing, &job.item) {
+        Way::Locking => Found::Unworked,
+        Way::Unread => do_on(no_tables(job.alloc), job),
+        Way::Reading => read_and_do(job),
+    }
+}
+
 impl Statements for WholeStatements {
-    ghost use Rattle.whole_statements.specs.Sound.{IsSoundFor};
-    ghost use Rattle.whole_statements.specs.Laws.{orderly, empty};
+    ghost use Rattle.sound_maps.specs.Maps.{IsSoundWith};
+    ghost use Rattle.sound_maps.specs.Laws.{orderly, empty};
 
-    ghost stands = { IsSoundFor };
+    ghost stands = { IsSoundWith };
 
-    fn work(job: &Job) -> Found {
-        match way_of(&job.standing, &job.item) {
-            Way::Locking => Found::NoMemory,
-            Way::Unread => do_on(no_tables(job.alloc), job),
-            Way::Reading => read_and_do(job),
-        }
+    fn work(job: Job) -> Answer {
+        let found = found_for(&job);
+        Answer { job, found }
     }
 
     ghost orderly = { orderly };

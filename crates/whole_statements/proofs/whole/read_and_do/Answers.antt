@@ -9,7 +9,7 @@ use Rattle.line_view.specs.Held.{knows}
 use Rattle.sound_lines.specs.Reading.{StopsTables}
 use Rattle.session_jobs.specs.declared.jobs.Found.TheVariants as found
 use Rattle.session_jobs.specs.Jobs.{IsFoundFor}
-use Rattle.whole_statements.specs.Sound.{IsSoundFor}
+use Rattle.sound_maps.specs.Maps.{IsSoundWith}
 use Rattle.whole_statements.proofs.Stops.{done, bad, missing}
 use Rattle.whole_statements.proofs.whole.read_and_do.Goals as goal
 
@@ -19,7 +19,7 @@ returns-in-Ok c = done c.args.job.now.word c.args.job.now.standing (uttered_of c
 pub returns-in-Err-Missing : goal.returns-in-Err-Missing
 returns-in-Err-Missing c =
     let same : c.in-Err-Missing.field-0 ≡ Missing c.in-Err-Missing.need = search rules in
-    subst (λ (later : List Need). IsFoundFor IsSoundFor c.args.job.now (found.Missing c.in-Err-Missing.need later)) (sym c.new.ensures)
+    subst (λ (later : List Need). IsFoundFor IsSoundWith c.args.job.now (found.Missing c.in-Err-Missing.need later)) (sym c.new.ensures)
     (missing c.args.job.now.word c.args.job.now.standing (uttered_of c.args.job.now.item) (knows c.args.job.now.known) c.in-Err-Missing.need c.requires.locks
     (subst (λ (st : Stop Never). (all : Lines) → Agrees (knows c.args.job.now.known) all → StopsTables (knows c.args.job.now.known) all st) same c.in-Err-Missing.ensures.stop))
 

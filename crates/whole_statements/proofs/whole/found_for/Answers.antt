@@ -4,7 +4,7 @@ use Rattle.line_view.specs.Held.{knows}
 use Rattle.whole_statements.specs.declared.way.Way.{Way}
 use Rattle.whole_statements.specs.Ways.{IsWay}
 use Rattle.whole_statements.proofs.Unread.{unread, no-need}
-use Rattle.whole_statements.proofs.whole.WholeStatementsStatements.work.Goals as goal
+use Rattle.whole_statements.proofs.whole.found_for.Goals as goal
 
 pub returns-in-Unread-clause-right : goal.returns-in-Unread-clause-right
 returns-in-Unread-clause-right c =

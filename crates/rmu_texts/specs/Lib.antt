@@ -1,0 +1,4 @@
+pub mod Dump
+pub mod Faults
+pub mod Numbers
+pub mod Page
