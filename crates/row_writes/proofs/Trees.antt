@@ -40,7 +40,7 @@ first_lacks known (k ∷ ks) key is =
     ] refl is
 
 -- a line that the view lacks isn't known
-below_lacks : (o : Over) (key : Dbkey) → (knows_over o).line key ≡ None → (knows o.base).line key ≡ None
+pub below_lacks : (o : Over) (key : Dbkey) → (knows_over o).line key ≡ None → (knows o.base).line key ≡ None
 below_lacks o key none = by_case (find dbkey_order key o.lines) none where
   by_case : (f : Option (Option (List ℕ))) → first_of f ((knows o.base).line key) ≡ None → (knows o.base).line key ≡ None
   by_case (Some x) h = absurd (none-some x (sym h))

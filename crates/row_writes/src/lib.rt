@@ -7,6 +7,7 @@ mod rows;
 mod stop;
 mod target;
 
+pub use pairs::add_pair;
 pub use rows::{change_row, erase_row, store_row};
-pub use stop::{PairRefusal, RowRefusal, RowStop};
+pub use stop::{PairRefusal, PairStop, RowRefusal, RowStop};
 pub use target::TargetRelation;

@@ -86,8 +86,8 @@ pub(crate) fn take_pair(
     Ok(())
 }
 
-/// Puts the pair of a row, which isn't in it, into an index.
-pub(crate) fn add_pair(
+/// Puts the pair of a row, which isn't in it, into an index. Behind an error the view is of no more use, but for what was known.
+pub fn add_pair(
     alloc: Global,
     view: &mut Changed,
     index: &IndexLine,

@@ -24,7 +24,8 @@ pub enum RowRefusal {
     Pair { at: usize, refusal: PairRefusal },
 }
 
-pub(crate) type PairStop = Stop<PairRefusal>;
+/// Why an index doesn't take the pair of a row, or why the work on it stops before that is known.
+pub type PairStop = Stop<PairRefusal>;
 
 /// Why the writing of a row stops. A bad line is one that no sound map has so.
 pub type RowStop = Stop<RowRefusal>;

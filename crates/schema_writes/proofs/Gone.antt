@@ -1,5 +1,5 @@
 -- A deletion that was made, or why it stopped.
-use Rattle.std.proofs.Common.{◌≡◌, ◌==◌, true, inl, inr, ℕ, List, [], ◌++◌, Option, Some, None, refl, sym, ap, subst, ◌∙◌}
+use Rattle.std.proofs.Common.{◌≡◌, inl, inr, ℕ, List, ◌++◌, Option, Some, None, refl, sym, ap, subst, ◌∙◌}
 use Rattle.std.specs.Prelude.{Ok, Err}
 use Rattle.std.specs.FinMap.Entries.{find}
 use Rattle.std.specs.Ordering.{nat_cmp}
@@ -7,8 +7,6 @@ use Rattle.std.proofs.lemmas.List.{append-nil}
 use Rattle.std.proofs.lemmas.Option.{none-some}
 use Rattle.std.specs.List.{AllByRecursion}
 use Rattle.line_view.specs.declared.writes.Write.{Write}
-use Rattle.sound_changes.proofs.Basics.{all_of, number_is}
-use Rattle.sound_changes.proofs.Frames.{keys_in}
 use Rattle.rdb_types.specs.declared.keys.Dbkey.{Dbkey}
 use Rattle.rdb_types.specs.Order.{chars_order}
 use Rattle.rdo_ast.specs.Tree.{Name}
@@ -35,11 +33,13 @@ use Rattle.catalog_definitions.specs.Leaving.{erasures}
 use Rattle.sound_changes.specs.Standing.{IsSoundAs}
 use Rattle.sound_changes.proofs.Schemas.{catalogs_schema}
 use Rattle.sound_statements.proofs.GoneIndexes.{index_deleted, index_deleted_whole}
+use Rattle.sound_statements.specs.Owned.{IsOfIndex}
 use Rattle.sound_statements.proofs.GoneRelations.{relation_deleted_whole}
-use Rattle.statement_view.specs.Over.{Over, laid_over, knows_over, first_of}
-use Rattle.schema_writes.specs.Deletions.{AreNodes, Deletes, LacksArea}
+use Rattle.statement_view.specs.Over.{Over, Stands, laid_over, knows_over, first_of}
+use Rattle.schema_writes.specs.Deletions.{AreNodes, nodes_in, AreOwned, HasNoNodes, ErasesNodes, Deletes, LacksArea}
 use Rattle.schema_writes.proofs.Alike.{Alike, index_alike, relation_alike, area_bare}
 use Rattle.schema_writes.proofs.Made.{Stays, AllLaid}
+use Rattle.schema_writes.proofs.Nodes.{keys_on, nodes_owned, nodes_gone, index_emptied}
 
 -- what the meaning refuses
 abbrev pub no_index : Name → Tables → Refusal
@@ -77,35 +77,49 @@ area_unknown o area none = by_case (find nat_cmp area o.areas) none where
 
 -- ---- it is made
 
-keys_on : (a : ℕ) (all : Lines) → AllByRecursion (λ (k : Dbkey). k.area ≡ a) (keys_of (lines_in a all))
-keys_on a all = all_of (λ (k : Dbkey). (k.area == a) ≡ true) (λ (k : Dbkey). k.area ≡ a) (λ k is. number_is k.area a is) (keys_of (lines_in a all)) (keys_in a all)
-
 -- the catalog behind both erasures, whether there are nodes or not
 emptied : (known : Knowledge) (all : Lines) (c : Catalog) (t : Tables) (n : Name) (nodes : List Dbkey) → Agrees known all → IsSoundAs all c t → AreNodes known c.lines n nodes →
     (after : Catalog) × IsSoundAs (laid_all (erasures (keys_where (is_index_named n) c.lines) ++ erasures nodes) all) after (without_index n t)
 emptied known all c t n nodes agrees sound (inl none) =
     let left = index_deleted all c t n sound in
     let gone = erasures (keys_where (is_index_named n) c.lines) in
-    (left.0, subst (λ (ws : List Write). IsSoundAs (laid_all ws all) left.0 (without_index n t)) (sym (append-nil gone) ∙ ap (λ (ks : List Dbkey). gone ++ erasures ks) (sym none)) left.1)
+    (left.0, subst (λ (ws : List Write). IsSoundAs (laid_all ws all) left.0 (without_index n t)) (sym (append-nil gone) ∙ ap (λ (ks : List Dbkey). gone ++ erasures ks) (sym none.0)) left.1)
 emptied known all c t n nodes agrees sound (inr is) =
     index_deleted_whole all c t n is.place is.line is.index nodes sound is.stands is.is is.named
     (subst (λ (ks : List Dbkey). AllByRecursion (λ (k : Dbkey). k.area ≡ is.index.area) ks) (sym (agrees.area is.index.area nodes is.told)) (keys_on is.index.area all))
 
-pub index_gone : (old mid new : Over) (c : Catalog) (n : Name) (lines given nodes known : List Dbkey) → given ≡ lines → known ≡ nodes → no_index n c.tables ≡ None → lines ≡ keys_where (is_index_named n) c.lines → AreNodes (knows_over old) c.lines n nodes →
-    Stays old mid → AllLaid old mid (erasures given) → Stays mid new → AllLaid mid new (erasures known) → Deletes old new c (no_index n) (without_index n) (Ok tt)
-index_gone old mid new c n lines given nodes known same_lines same_nodes none are they first_stay first_laid then_stay then_laid = λ t first view.
+-- the map behind both erasures
+both_laid : (old mid new : Over) (gone lines given keys known : List Dbkey) → given ≡ lines → lines ≡ gone → known ≡ keys → Stays old mid → AllLaid old mid (erasures given) → AllLaid mid new (erasures known) →
+    (first : Lines) → Stands old first → laid_over new.lines first ≡ laid_all (erasures gone ++ erasures keys) (laid_over old.lines first)
+both_laid old mid new gone lines given keys known same_lines are same_keys first_stay first_laid then_laid = λ first stands.
     let all = laid_over old.lines first in
-    let left = emptied (knows_over old) all c t n nodes view.stands.agrees view.sound they in
-    let gone = keys_where (is_index_named n) c.lines in
     let these : given ≡ gone = same_lines ∙ are in
-    let stands = first_stay first view.stands in
-    let behind : laid_over new.lines first ≡ laid_all (erasures gone ++ erasures nodes) all =
-    then_laid first stands ∙ ap (laid_all (erasures known)) (first_laid first view.stands) ∙ (λ i. laid_all (erasures (same_nodes i)) (laid_all (erasures (these i)) all)) ∙ sym (laid_in_turn (erasures gone) (erasures nodes) all) in
-    record {
-      unrefused = sym (index_alike c n all t view.sound) ∙ none;
-      catalog = left.0;
-      behind = record { stands = then_stay first stands; sound = subst (λ (l : Lines). IsSoundAs l left.0 (without_index n t)) (sym behind) left.1 };
-    }
+    then_laid first (first_stay first stands) ∙ ap (laid_all (erasures known)) (first_laid first stands) ∙ (λ i. laid_all (erasures (same_keys i)) (laid_all (erasures (these i)) all)) ∙ sym (laid_in_turn (erasures gone) (erasures keys) all)
+
+module _ (old mid new : Over) (c : Catalog) (n : Name) (lines given nodes known : List Dbkey) (same_lines : given ≡ lines) (same_nodes : known ≡ nodes) (are : lines ≡ keys_where (is_index_named n) c.lines) (they : AreNodes (knows_over old) c.lines n nodes)
+    (first_stay : Stays old mid) (first_laid : AllLaid old mid (erasures given)) (then_stay : Stays mid new) (then_laid : AllLaid mid new (erasures known)) where
+  abbrev index_lines : List Dbkey
+  index_lines = keys_where (is_index_named n) c.lines
+
+  index_behind : (first : Lines) → Stands old first → laid_over new.lines first ≡ laid_all (erasures index_lines ++ erasures nodes) (laid_over old.lines first)
+  index_behind = both_laid old mid new index_lines lines given nodes known same_lines are same_nodes first_stay first_laid then_laid
+
+  pub index_gone : no_index n c.tables ≡ None → Deletes old new c (no_index n) (without_index n) (Ok tt)
+  index_gone none = λ t first view.
+      let all = laid_over old.lines first in
+      let left = emptied (knows_over old) all c t n nodes view.stands.agrees view.sound they in
+      record {
+        unrefused = sym (index_alike c n all t view.sound) ∙ none;
+        catalog = left.0;
+        behind = record {
+          stands = then_stay first (first_stay first view.stands);
+          sound = subst (λ (l : Lines). IsSoundAs l left.0 (without_index n t)) (sym (index_behind first view.stands)) left.1;
+        };
+      }
+
+  pub index_erases : ErasesNodes old new c (is_index_named n)
+  index_erases = λ t first view.
+      subst (HasNoNodes (is_index_named n) c) (sym (index_behind first view.stands)) (index_emptied (knows_over old) (laid_over old.lines first) c n index_lines nodes view.stands.agrees view.sound.decodes they)
 
 -- the keys of its area aren't known
 pub index_lacks : (old new : Over) (c : Catalog) (n : Name) (stop : Stop Reply) → no_index n c.tables ≡ None → LacksArea old.base stop → Deletes old new c (no_index n) (without_index n) (Err stop)
@@ -118,26 +132,36 @@ is_there : (n : Name) (o : Option Rows) → needs_some n o ≡ None → (rel : R
 is_there n (Some rel) none = (rel, refl)
 is_there n None none = let bad : ⊥ = cc in absurd bad
 
-pub relation_gone : (old mid new : Over) (c : Catalog) (n : Name) (area : ℕ) (lines given rows known : List Dbkey) → given ≡ lines → known ≡ rows → no_relation n c.tables ≡ None → area ≡ area_of (relation_named n c.tables) →
-    lines ≡ keys_where (is_of_relation (area_of (relation_named n c.tables))) c.lines → (knows_over old).area area ≡ Some rows →
-    Stays old mid → AllLaid old mid (erasures given) → Stays mid new → AllLaid mid new (erasures known) → Deletes old new c (no_relation n) (without_relation n) (Ok tt)
-relation_gone old mid new c n area lines given rows known same_lines same_rows none is_area are told first_stay first_laid then_stay then_laid = λ t first view.
-    let all = laid_over old.lines first in
-    let unrefused : no_relation n t ≡ None = sym (relation_alike c n all t view.sound) ∙ none in
-    let there = is_there n (relation_named n t) unrefused in
-    let rel = there.0 in
-    let own : area_of (relation_named n c.tables) ≡ rel.area =
-    sym (area_bare (relation_named n c.tables)) ∙ ap area_of (catalogs_schema all c t view.sound.are n) ∙ area_bare (relation_named n t) ∙ ap area_of there.1 in
-    let left = relation_deleted_whole all c t n rel [] view.sound there.1 tt in
-    let gone = keys_where (is_of_relation rel.area) c.lines in
-    let keys = keys_of (lines_in rel.area all) in
-    let these : given ≡ gone = same_lines ∙ are ∙ ap (λ (a : ℕ). keys_where (is_of_relation a) c.lines) own in
-    let those : known ≡ keys ++ [] = same_rows ∙ view.stands.agrees.area area rows told ∙ ap (λ (a : ℕ). keys_of (lines_in a all)) (is_area ∙ own) ∙ sym (append-nil keys) in
-    let stands = first_stay first view.stands in
-    let behind : laid_over new.lines first ≡ laid_all (erasures gone ++ erasures (keys ++ [])) all =
-    then_laid first stands ∙ ap (laid_all (erasures known)) (first_laid first view.stands) ∙ (λ i. laid_all (erasures (those i)) (laid_all (erasures (these i)) all)) ∙ sym (laid_in_turn (erasures gone) (erasures (keys ++ [])) all) in
-    record {
-      unrefused = unrefused;
-      catalog = left.0;
-      behind = record { stands = then_stay first stands; sound = subst (λ (l : Lines). IsSoundAs l left.0 (without_relation n t)) (sym behind) left.1 };
-    }
+module _ (old mid new : Over) (c : Catalog) (n : Name) (area : ℕ) (lines given owned known : List Dbkey) (same_lines : given ≡ lines) (same_owned : known ≡ owned) (is_area : area ≡ area_of (relation_named n c.tables))
+    (are : lines ≡ keys_where (is_of_relation (area_of (relation_named n c.tables))) c.lines) (own : AreOwned (knows_over old) area c.lines owned)
+    (first_stay : Stays old mid) (first_laid : AllLaid old mid (erasures given)) (then_stay : Stays mid new) (then_laid : AllLaid mid new (erasures known)) where
+  abbrev relation_lines : List Dbkey
+  relation_lines = keys_where (is_of_relation area) c.lines
+
+  abbrev nodes : List Dbkey
+  nodes = nodes_in (knows_over old) area c.lines
+
+  relation_behind : (first : Lines) → Stands old first → laid_over new.lines first ≡ laid_all (erasures relation_lines ++ erasures (own.rows ++ nodes)) (laid_over old.lines first)
+  relation_behind = both_laid old mid new relation_lines lines given (own.rows ++ nodes) known same_lines (are ∙ ap (λ (a : ℕ). keys_where (is_of_relation a) c.lines) (sym is_area)) (same_owned ∙ own.are) first_stay first_laid then_laid
+
+  pub relation_gone : no_relation n c.tables ≡ None → Deletes old new c (no_relation n) (without_relation n) (Ok tt)
+  relation_gone none = λ t first view.
+      let all = laid_over old.lines first in
+      let unrefused : no_relation n t ≡ None = sym (relation_alike c n all t view.sound) ∙ none in
+      let there = is_there n (relation_named n t) unrefused in
+      let rel = there.0 in
+      let here : area ≡ rel.area = is_area ∙ sym (area_bare (relation_named n c.tables)) ∙ ap area_of (catalogs_schema all c t view.sound.are n) ∙ area_bare (relation_named n t) ∙ ap area_of there.1 in
+      let left = relation_deleted_whole all c t n rel nodes view.sound there.1 (subst (λ (a : ℕ). AllByRecursion (IsOfIndex c a) nodes) here (nodes_owned (knows_over old) c area all view.stands.agrees)) in
+      let rows : own.rows ≡ keys_of (lines_in rel.area all) = view.stands.agrees.area area own.rows own.told ∙ ap (λ (a : ℕ). keys_of (lines_in a all)) here in
+      let behind : laid_over new.lines first ≡ laid_all (erasures (keys_where (is_of_relation rel.area) c.lines) ++ erasures (keys_of (lines_in rel.area all) ++ nodes)) all =
+      relation_behind first view.stands ∙ (λ i. laid_all (erasures (keys_where (is_of_relation (here i)) c.lines) ++ erasures (rows i ++ nodes)) all) in
+      record {
+        unrefused = unrefused;
+        catalog = left.0;
+        behind = record { stands = then_stay first (first_stay first view.stands); sound = subst (λ (l : Lines). IsSoundAs l left.0 (without_relation n t)) (sym behind) left.1 };
+      }
+
+  pub relation_erases : ErasesNodes old new c (is_of_relation (area_of (relation_named n c.tables)))
+  relation_erases = λ t first view.
+      subst (λ (a : ℕ). HasNoNodes (is_of_relation a) c (laid_over new.lines first)) is_area
+      (subst (HasNoNodes (is_of_relation area) c) (sym (relation_behind first view.stands)) (nodes_gone (knows_over old) (laid_over old.lines first) c area relation_lines own.rows view.stands.agrees own.nodes))

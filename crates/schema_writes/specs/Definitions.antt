@@ -11,7 +11,7 @@ use Rattle.catalog_definitions.specs.Causes.{catalog_room}
 use Rattle.statement_view.specs.Over.{Over, all_rooms, AreRoomsKnown}
 use Rattle.row_writes.specs.Rows.{IsSoundView}
 use Rattle.schema_writes.specs.declared.stop.SchemaRefusal.{SchemaRefusal}
-use Rattle.schema_writes.specs.declared.stop.SchemaRefusal.TheVariants.{Refused, NoRoom}
+use Rattle.schema_writes.specs.declared.stop.SchemaRefusal.TheVariants.{Refused, NoRoom, Full}
 use Rattle.schema_writes.specs.Stop.{SchemaStop}
 
 -- The meaning doesn't refuse. The view agrees with the map behind its writes, which is sound with these tables and a catalog of them.
@@ -24,6 +24,7 @@ pub record IsCarriedOut (new : Over) (refusal : Refusal) (after : Tables) (first
 abbrev pub IsNotDefined : Held → Refusal → SchemaRefusal → Type 0
 IsNotDefined base refusal (Refused reply) = refusal ≡ Some reply
 IsNotDefined base refusal NoRoom = (refusal ≡ None) × AreRoomsKnown (knows base) catalog_area (catalog_room 0).class all_rooms
+IsNotDefined base refusal Full = ⊥
 
 -- Over each map with this catalog: what the meaning refuses in its tables is refused, before anything is named that isn't known; else the tables of the meaning are left.
 abbrev pub Defines : Over → Over → Catalog → (Tables → Refusal) → (Tables → Tables) → Result (Unit {0}) SchemaStop → Type 0

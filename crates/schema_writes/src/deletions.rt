@@ -1,14 +1,15 @@
 // Deletions of indexes and of relations.
-ghost use Rattle.std.specs.Prelude.{◌≡◌, IfOk, IfErr};
+ghost use Rattle.std.specs.Prelude.{◌≡◌, ◌++◌, IfOk, IfErr, OnOk};
 ghost use Rattle.std.specs.FinMap.Entries.{find};
 ghost use Rattle.rdb_types.specs.Order.{chars_order};
 ghost use Rattle.rdb_meaning.specs.Contents.{relation_named};
 ghost use Rattle.rdb_meaning.specs.Checks.{needs_some};
 ghost use Rattle.rdb_meaning.specs.Defining.{without_index, without_relation};
 ghost use Rattle.rdb_meaning.specs.Execution.{area_of};
+ghost use Rattle.catalog.specs.Deletions.{is_index_named, is_of_relation};
 ghost use Rattle.catalog_definitions.specs.Causes.{stop_of_check};
 ghost use Rattle.statement_view.specs.Over.{knows_over};
-ghost use Rattle.schema_writes.specs.Deletions.{AreNodes, Deletes, LacksArea};
+ghost use Rattle.schema_writes.specs.Deletions.{AreNodes, AreNodesKnown, AreOwned, Deletes, ErasesNodes, LacksArea, nodes_at};
 
 use crate::writing::erase_all;
 use catalog::{Catalog, PlacedLine};
@@ -81,6 +82,7 @@ pub fn delete_index(
     name: &Chars,
 ) -> Result<(), Stop<Reply>>
     ensures deletes { Deletes view.old view.new catalog.now (λ t. needs_some name.now (find chars_order name.now t.indexes)) (without_index name.now) result }
+    ensures nodes { OnOk result (ErasesNodes view.old view.new catalog.now (is_index_named name.now)) }
     ensures known { view.new.base ≡ view.old.base }
 {
     let lines = match catalog::delete_index(alloc, catalog, name) {
@@ -96,7 +98,46 @@ pub fn delete_index(
     Ok(())
 }
 
-/// DELETE RELATION: its lines of the catalog, those of its fields and of its indexes, and all its rows are erased. The nodes of its indexes stay, in areas that no index has. Behind an error the view is of no more use, but for what was known.
+// The lines of the logical area of an index of the relation, put behind others.
+fn add_nodes(
+    alloc: Global,
+    view: &Changed,
+    line: &CatalogLine,
+    relation: u32,
+    keys: &mut Keys,
+) -> Result<(), Stop<Reply>>
+    ensures known { OnOk result (AreNodesKnown (knows_over view.now) relation line.now) }
+    ensures keys { OnOk result (keys.new ≡ keys.old ++ nodes_at (knows_over view.now) relation line.now) }
+    ensures stop { IfErr result (LacksArea view.now.base) }
+{
+    let CatalogLine::Index(index) = line else {
+        return Ok(());
+    };
+    if index.relation != relation {
+        return Ok(());
+    }
+    keys.append(keys_in(alloc, view, index.area)?)?;
+    Ok(())
+}
+
+// The lines of the logical area of a relation, and behind them those of its indexes' areas.
+fn owned_keys(
+    alloc: Global,
+    view: &Changed,
+    lines: &[PlacedLine],
+    relation: u32,
+) -> Result<Keys, Stop<Reply>>
+    ensures keys { IfOk result (AreOwned (knows_over view.now) relation lines.now) }
+    ensures stop { IfErr result (LacksArea view.now.base) }
+{
+    let mut keys = keys_in(alloc, view, relation)?;
+    for line in lines {
+        add_nodes(alloc, view, &line.line, relation, &mut keys)?;
+    }
+    Ok(keys)
+}
+
+/// DELETE RELATION: its lines of the catalog, those of its fields and of its indexes, all its rows and all nodes of its indexes are erased. Behind an error the view is of no more use, but for what was known.
 pub fn delete_relation(
     alloc: Global,
     view: &mut Changed,
@@ -104,6 +145,7 @@ pub fn delete_relation(
     name: &Chars,
 ) -> Result<(), Stop<Reply>>
     ensures deletes { Deletes view.old view.new catalog.now (λ t. needs_some name.now (relation_named name.now t)) (without_relation name.now) result }
+    ensures nodes { OnOk result (ErasesNodes view.old view.new catalog.now (is_of_relation (area_of (relation_named name.now catalog.now.tables)))) }
     ensures known { view.new.base ≡ view.old.base }
 {
     let lines = match catalog::delete_relation(alloc, catalog, name) {
@@ -111,11 +153,11 @@ pub fn delete_relation(
         Err(stop) => return Err(from_check(stop)),
     };
     let area = area_named(&catalog.tables, name);
-    let rows = match keys_in(alloc, view, area) {
-        Ok(rows) => rows,
+    let owned = match owned_keys(alloc, view, catalog.lines.as_slice(), area) {
+        Ok(owned) => owned,
         Err(stop) => return Err(stop),
     };
     erase_all(view, lines.as_slice())?;
-    erase_all(view, rows.as_slice())?;
+    erase_all(view, owned.as_slice())?;
     Ok(())
 }

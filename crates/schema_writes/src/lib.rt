@@ -8,4 +8,5 @@ mod writing;
 
 pub use definitions::{define_field, define_relation};
 pub use deletions::{delete_index, delete_relation};
-pub use stop::{SchemaRefusal, SchemaStop};
+pub use stop::{SchemaRefusal, SchemaStop, known_stop};
+pub use writing::put_all;

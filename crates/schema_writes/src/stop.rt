@@ -10,15 +10,17 @@ use statement_view::Changed;
 pub enum SchemaRefusal {
     /// The definition of the language refuses it so.
     Refused(Reply),
-    /// There are no more numbers for rooms of the catalog.
+    /// There are no more numbers for rooms of the catalog, or of the logical area of a new index.
     NoRoom,
+    /// The tree of a new index would have to be higher than 255 levels, or there are no more numbers for rooms of its logical area.
+    Full,
 }
 
 /// Why the writing of a definition stops.
 pub type SchemaStop = Stop<SchemaRefusal>;
 
 /// Why a definition stops, by what is known: rooms have other numbers there than in the view.
-pub(crate) fn known_stop(view: &Changed, stop: Stop<Reply>) -> SchemaStop
+pub fn known_stop(view: &Changed, stop: Stop<Reply>) -> SchemaStop
     ensures { Tells view.now.base stop result }
 {
     match stop {

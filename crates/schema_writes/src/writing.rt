@@ -19,7 +19,7 @@ fn copied_image(image: &Option<Image>) -> Option<Image>
 }
 
 /// Puts writes into the view, in their order.
-pub(crate) fn put_all(view: &mut Changed, writes: &[Write]) -> Result<(), NoMemory>
+pub fn put_all(view: &mut Changed, writes: &[Write]) -> Result<(), NoMemory>
     ensures stands { OnOk result ((first : Lines) → Stands view.old first → Stands view.new first) }
     ensures laid { OnOk result ((first : Lines) → Stands view.old first → laid_over view.new.lines first ≡ laid_all writes.now (laid_over view.old.lines first)) }
     ensures known { view.new.base ≡ view.old.base }

@@ -2,7 +2,7 @@ use Rattle.std.proofs.Common.{◌≡◌, List, rules, subst}
 use Rattle.catalog.specs.declared.directory.PlacedLine.{PlacedLine}
 use Rattle.statement_view.specs.Over.{knows_over}
 use Rattle.schema_writes.specs.Deletions.{AreNodes}
-use Rattle.schema_writes.proofs.Gone.{index_refused, index_lacks, index_gone}
+use Rattle.schema_writes.proofs.Gone.{index_refused, index_lacks, index_gone, index_erases}
 use Rattle.schema_writes.proofs.deletions.delete_index.Goals as goal
 
 pub returns-in-Err-clause-deletes : goal.returns-in-Err-clause-deletes
@@ -15,5 +15,12 @@ pub returns-clause-deletes : goal.returns-clause-deletes
 returns-clause-deletes c =
     let same : c.as_slice.result.now ≡ c.args.catalog.now.lines = search rules in
     index_gone c.args.view.now c.erase_all.new.view c.erase_all-2.new.view c.args.catalog.now c.args.name.now c.in-Ok.lines c.as_slice-2.result.now c.in-Ok-index_nodes.nodes c.as_slice-3.result.now
-    (search rules) (search rules) c.in-Ok.ensures.refusal c.in-Ok.ensures.keys (subst (λ (ls : List PlacedLine). AreNodes (knows_over c.args.view.now) ls c.args.name.now c.in-Ok-index_nodes.nodes) same c.in-Ok-index_nodes.ensures.keys)
+    (search rules) (search rules) c.in-Ok.ensures.keys (subst (λ (ls : List PlacedLine). AreNodes (knows_over c.args.view.now) ls c.args.name.now c.in-Ok-index_nodes.nodes) same c.in-Ok-index_nodes.ensures.keys)
+    c.in_ok-erase_all.ensures.stands c.in_ok-erase_all.ensures.laid c.in_ok-erase_all-2.ensures.stands c.in_ok-erase_all-2.ensures.laid c.in-Ok.ensures.refusal
+
+pub returns-clause-nodes : goal.returns-clause-nodes
+returns-clause-nodes c =
+    let same : c.as_slice.result.now ≡ c.args.catalog.now.lines = search rules in
+    index_erases c.args.view.now c.erase_all.new.view c.erase_all-2.new.view c.args.catalog.now c.args.name.now c.in-Ok.lines c.as_slice-2.result.now c.in-Ok-index_nodes.nodes c.as_slice-3.result.now
+    (search rules) (search rules) c.in-Ok.ensures.keys (subst (λ (ls : List PlacedLine). AreNodes (knows_over c.args.view.now) ls c.args.name.now c.in-Ok-index_nodes.nodes) same c.in-Ok-index_nodes.ensures.keys)
     c.in_ok-erase_all.ensures.stands c.in_ok-erase_all.ensures.laid c.in_ok-erase_all-2.ensures.stands c.in_ok-erase_all-2.ensures.laid

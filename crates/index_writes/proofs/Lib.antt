@@ -1,0 +1,6 @@
+pub mod Keys
+pub mod Repeats
+pub mod Read
+pub mod Filled
+pub mod Refusals
+pub mod Defined

@@ -1,0 +1,11 @@
+use Rattle.rdb_meaning.specs.Contents.{relation_named}
+use Rattle.index_writes.proofs.Read.{rows_answer, some_there}
+use Rattle.index_writes.proofs.reading.read_rows.Goals as goal
+
+pub unreachable-requires : goal.unreachable-requires
+unreachable-requires c =
+    let there = some_there (relation_named c.args.name.now c.args.schema.now.tables) c.requires in
+    c.in_default.ensures.stored there.0 there.1
+
+pub returns : goal.returns
+returns c = rows_answer c.args.view.now c.args.schema.now c.args.name.now c.in-Some.target c.in-Some.ensures.target c.rows.result c.rows.ensures.rows c.rows.ensures.missing c.rows.ensures.bad
