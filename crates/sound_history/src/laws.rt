@@ -14,7 +14,7 @@ ghost use Rattle.kept_apart.specs.Guards.{AreOwn};
 ghost use Rattle.kept_apart.specs.Alike.{GuardsMore, IsGuarded};
 ghost use Rattle.session_jobs.specs.Records.{Worked, IsRight};
 ghost use Rattle.line_history.specs.Transactions.{line_of, Holds, IsWriting, IsAskedOver};
-ghost use Rattle.sound_history.specs.Sound.{IsSoundWith};
+ghost use Rattle.sound_maps.specs.Maps.{IsSoundWith};
 
 /// What is true of an open read-write transaction stays true as it says more and as others commit. So at each of its events its items
 /// have their replies over the tables of the commits so far, and at its commit the sound lines under its writes are sound, and their

@@ -1,5 +1,5 @@
 use Rattle.line_history.proofs.Transactions.{holds-said, writing-beside, stands-told, stands-asked, commit-stands}
-use Rattle.sound_history.specs.Sound.{IsSoundWith}
+use Rattle.sound_maps.specs.Maps.{IsSoundWith}
 use Rattle.sound_history.proofs.laws.transactions_hold_over_sound_lines.Goals as goal
 
 pub returns-clause-said_more : goal.returns-clause-said_more
