@@ -1,0 +1,4 @@
+mod Before
+mod Held
+mod Reading
+mod Standing

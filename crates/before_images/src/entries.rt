@@ -1,0 +1,94 @@
+// The entries of one transaction, the first of each line.
+ghost use Rattle.std.specs.Prelude.{◌≡◌, true, false, length, is_some, if◌then◌else◌, OnOk, IfOk, IfSome, IfNone, IsErrOf, IsTrue};
+ghost use Rattle.std.specs.FinMap.Entries.{find, put};
+ghost use Rattle.rdb_types.specs.Order.{dbkey_order};
+ghost use Rattle.rdb_outside.specs.Causes.{Rose};
+ghost use Rattle.rdb_outside.specs.Disk.{OnlyReads};
+ghost use Rattle.ruj_journal.specs.declared.entry.RujEntry.{RujEntry as Written};
+ghost use Rattle.ruj_journal.specs.Entry.{IsEntry};
+ghost use Rattle.journal_reading.specs.Journal.{EndsBy};
+ghost use Rattle.stable_lines.specs.Slots.{ruj_file as ruj_named};
+ghost use Rattle.before_images.specs.Entries.{IsEntryOf, HoldsEntries};
+
+use line_moves::ruj_file;
+use ordered_entries::Entries;
+use page_faults::RmuStop;
+use rdb_outside::Disk;
+use rdb_types::{Dbkey, Line, NoMemory, Tsn};
+use ruj_journal::{RujEntry, read_entry};
+use std::alloc::Global;
+
+// The entry of a transaction with this index that a slot is.
+fn entry_of(slot: &[u8], tsn: Tsn, index: u32) -> Option<RujEntry>
+    requires { length slot.now ≡ 512 }
+    ensures some { IfSome result (IsEntryOf slot.now tsn index) }
+    ensures none { IfNone result ((entry : Written) → IsEntry slot.now entry
+        → entry.tsn ≡ tsn → entry.index ≡ index → ⊥) }
+{
+    let entry = read_entry(slot)?;
+    if entry.tsn.number == tsn.number && entry.index == index {
+        Some(entry)
+    } else {
+        None
+    }
+}
+
+// Holds a line where none of this key is held.
+fn hold(held: &mut Entries<Dbkey, Line>, key: Dbkey, before: Line) -> Result<(), NoMemory>
+    ensures { OnOk result (held.new
+        ≡ (if is_some (find dbkey_order key held.old) then held.old else put dbkey_order key before held.old)) }
+{
+    if held.find(&key).is_some() {
+        return Ok(());
+    }
+    held.put(key, before)
+}
+
+// Reads the entries in the slots before the end of the file.
+fn read_to<D: Disk>(
+    alloc: Global,
+    disk: &mut D,
+    member: u32,
+    tsn: Tsn,
+    end: u32,
+) -> Result<Entries<Dbkey, Line>, RmuStop>
+    ensures entries { IfOk result (λ held. IsTrue (D.view disk.old).tells
+        → EndsBy (D.view disk.old).content (ruj_named member) end
+        → HoldsEntries (D.view disk.old).content member tsn held) }
+    ensures failed { IsErrOf result RmuStop.Failed
+        → Rose (D.view disk.old).faults (D.view disk.new).faults }
+    ensures reads { OnlyReads (D.view disk.old) (D.view disk.new) }
+{
+    let journal = ruj_file(member);
+    let mut held = Entries::new(alloc);
+    let mut slot = [0; 512];
+    for index in 1..end {
+        disk.read(journal, index, &mut slot)?;
+        match entry_of(&slot, tsn, index) {
+            Some(entry) => hold(&mut held, entry.key, entry.before)?,
+            None => return Ok(held),
+        }
+    }
+    Ok(held)
+}
+
+/// The lines as a transaction's entries have them, of each line the first entry. The time grows as the entries and the logarithm of their count, the memory as the entries.
+pub fn read_entries<D: Disk>(
+    alloc: Global,
+    disk: &mut D,
+    member: u32,
+    tsn: Tsn,
+) -> Result<Entries<Dbkey, Line>, RmuStop>
+    ensures entries { IfOk result (λ held. IsTrue (D.view disk.old).tells
+        → HoldsEntries (D.view disk.old).content member tsn held) }
+
+    // It doesn't give up by itself.
+    ensures failed { IsErrOf result RmuStop.Failed
+        → Rose (D.view disk.old).faults (D.view disk.new).faults }
+
+    // Whatever it answers.
+    ensures reads { OnlyReads (D.view disk.old) (D.view disk.new) }
+{
+    let end = disk.length(ruj_file(member))?;
+    read_to(alloc, disk, member, tsn, end)
+}

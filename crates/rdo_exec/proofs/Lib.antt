@@ -1,0 +1,10 @@
+pub mod Answering
+pub mod Records
+pub mod Definitions
+pub mod Checked
+pub mod Starting
+pub mod Naming
+pub mod Bare
+pub mod Locks
+pub mod Alone
+pub mod Needs

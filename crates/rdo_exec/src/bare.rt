@@ -1,0 +1,59 @@
+// Actions that mean the same over all tables, so that they are done over no lines.
+ghost use Rattle.std.specs.Prelude.{◌≡◌, ℕ, List, true};
+ghost use Rattle.rdo_ast.specs.Tree.{said, perform};
+ghost use Rattle.rdo_ast.specs.Views.{act_of};
+ghost use Rattle.rdo_exec.specs.Answers.{IsAnswered};
+ghost use Rattle.rdo_exec.specs.Ways.{is_bare};
+ghost use Rattle.rdo_exec.specs.Acted.{IsAlone};
+
+use crate::acting::{Returned, act_by};
+use crate::schema::empty_schema;
+use line_view::Known;
+use rdb_types::Items;
+use rdo_ast::reply::Standing;
+use rdo_ast::syntax::Action;
+use session_jobs::{Found, TxRecord};
+use std::alloc::Global;
+
+// Such an action writes no line and reads none.
+fn alone(alloc: Global, found: Found) -> Found
+    ensures { IsAlone found result }
+{
+    match found {
+        Found::Done(
+            TxRecord {
+                choices,
+                reply,
+                standing,
+                writes: _,
+            },
+        ) => Found::Done(TxRecord {
+            choices,
+            reply,
+            standing,
+            writes: Items::new(alloc),
+        }),
+        Found::NoMemory => Found::NoMemory,
+        Found::Missing { .. } | Found::Bad(_) | Found::Unworked => Found::Unworked,
+    }
+}
+
+/// Does an action that means the same over all tables.
+pub(crate) fn act_bare(alloc: Global, standing: &Standing, action: &Action) -> Found
+    requires { is_bare (act_of action.now) ≡ true }
+    ensures { (word : List ℕ) → IsAnswered word standing.now (said (perform (act_of action.now))) result }
+{
+    match empty_schema(alloc) {
+        Ok(schema) => {
+            let Returned { known: _, found } = act_by(
+                alloc,
+                &schema,
+                standing,
+                action,
+                Known::new(alloc),
+            );
+            alone(alloc, found)
+        }
+        Err(_) => Found::NoMemory,
+    }
+}

@@ -1,0 +1,17 @@
+//! Statements worked over what a session knows of the lines, and over nothing else.
+#![tactic(auto)]
+
+mod acting;
+mod bare;
+mod defining;
+#[tactic(auto, using(crate::proofs::Naming::names_append))]
+mod naming;
+mod plain;
+mod plainness;
+mod records;
+mod schema;
+mod standing;
+mod statements;
+mod way;
+
+pub use statements::RdoStatements;

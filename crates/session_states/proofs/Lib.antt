@@ -1,0 +1,9 @@
+pub mod Basics
+pub mod Locking
+pub mod Resting
+pub mod Working
+pub mod Asking
+pub mod Storing
+pub mod Refusing
+pub mod Standing
+pub mod Parting
