@@ -38,7 +38,7 @@ unfolding number_at
 zeros_name_none x n is = ap (λ (l : List ℕ). little_from 0 4 (drop 8 l)) is ∙ little_zeros 0 4 (drop 8 (replicate n 0)) (zero_behind 8 n)
 
 module _ (P : PendingContents) (now : Progress) (was : Facts P now) (key : Dbkey) (x : List ℕ) (there : OnPage P key x) (bears : 1 ≤ (line_on key x).tsn.number) where
-  has : has_place key x ≡ true
+  pub has : has_place key x ≡ true
   has = by (has_place key x) refl
     where
       by : (b : Bool) → has_place key x ≡ b → has_place key x ≡ true

@@ -2,17 +2,24 @@
 use Rattle.std.proofs.Common.{◌≡◌, ◌≢◌, ℕ, ◌+◌, ◌-◌, ◌≤◌, ◌<◌, List, length, Some, slice_get, inl, ⊎_elim, ap, sym, subst, ◌∙◌, arith, refl}
 use Rattle.rdb_types.specs.declared.keys.Dbkey.{Dbkey}
 use Rattle.rdb_types.specs.declared.keys.Line.{Line}
+use Rattle.rdb_types.specs.declared.keys.LineState.{LineState}
+use Rattle.rdb_types.specs.declared.keys.LineState.TheVariants.{Never, Present, Erased}
+use Rattle.rdb_page.specs.Lines.{Agrees}
+use Rattle.rdb_page.specs.Page.{class_at}
+use Rattle.line_view.specs.Knowledge.{line_in}
+use Rattle.line_versions.specs.Lines.{shown, shown_as}
 use Rattle.rdb_types.specs.declared.keys.Tsn.{Tsn}
 use Rattle.ruj_journal.specs.declared.entry.RujEntry.{RujEntry}
 use Rattle.ruj_journal.specs.Entry.{IsEntry}
 use Rattle.ruj_journal.proofs.Readings.{one_entry}
 use Rattle.stable_lines.specs.Slots.{ruj_file, line_on, Undo, entry_at}
 use Rattle.stable_lines.specs.Progress.{Open, Flight, Progress}
-use Rattle.stable_lines.specs.Facts.{PendingContents, OnPage, IsCommitted, IsChanged, Facts}
+use Rattle.stable_lines.specs.Facts.{PendingContents, OnPage, IsNotOpen, IsCommitted, IsChanged, Facts}
 use Rattle.stable_lines.proofs.Turns.{some_same}
 use Rattle.line_moves.specs.Contents.{IsFree}
 use Rattle.line_moves.proofs.FilledPages.{some_there}
-use Rattle.line_moves.specs.Changes.{MayPut}
+use Rattle.line_moves.proofs.Bearing.{has}
+use Rattle.line_moves.specs.Changes.{MayPut, Fits}
 
 module _ (P : PendingContents) (now : Progress) (member index : ℕ) (o : Open) (e : RujEntry) (slot y : List ℕ) (was : Facts P now) (is : now.going member ≡ Some o) (first : 1 ≤ index) (last : index ≤ length o.entries)
     (there : P (ruj_file member) index slot) (reads : IsEntry slot e) (on_page : OnPage P e.key y) (bears : (line_on e.key y).tsn.number ≡ o.tsn.number)
@@ -81,6 +88,25 @@ module _ (P : PendingContents) (now : Progress) (member index : ℕ) (o : Open) 
 
   pub before_apart : (x : List ℕ) → P (ruj_file member) (changed_by.index + 1) x → e.before.tsn.number ≢ o.tsn.number
   before_apart x p same = changed_by.committed.not_open member o is (ap (λ (l : Line). l.tsn.number) (before_is (in_its_slot x p)) ∙ same)
+
+  pub before_ended : (x : List ℕ) → P (ruj_file member) (changed_by.index + 1) x → IsNotOpen now e.before.tsn.number
+  before_ended x p = subst (λ (l : Line). IsNotOpen now l.tsn.number) (before_is (in_its_slot x p)) changed_by.committed.not_open
+
+  -- the before-image has its place on the page
+  shows_fits : (state : LineState) (tsn chain : ℕ) (image : List ℕ) → Agrees state tsn chain image → shown_as state image ≡ line_in e.key now.lines → length image ≤ class_at y
+  shows_fits Never tsn chain image agrees shows = let none : length image ≡ 0 = agrees.2 in omega (arith, none)
+  shows_fits Present tsn chain image agrees shows = let f = was.pages.class e.key image y (sym shows) on_page in let fits = f.fits in let same = f.same in omega (arith, fits, same)
+  shows_fits Erased tsn chain image agrees shows = let none : length image ≡ 0 = agrees in omega (arith, none)
+
+  pub fits_back : (x : List ℕ) → P (ruj_file member) (changed_by.index + 1) x → Fits e.key e.before y
+  fits_back x p = record {
+    placed = has P now was e.key y on_page (let number = (was.going member o is).number in omega (arith, bears, number));
+    allowed = record {
+      tsn = reads.before.tsn;
+      image = shows_fits e.before.state e.before.tsn.number e.before.chain e.before.image reads.before.agrees (subst (λ (l : Line). shown l ≡ line_in e.key now.lines) (before_is (in_its_slot x p)) changed_by.committed.shows);
+      agrees = reads.before.agrees;
+    };
+  }
 
 -- ---- what stands in the slot is the entry
 

@@ -1,12 +1,12 @@
 // Before-images put back.
-ghost use Rattle.std.specs.Prelude.{◌≡◌, ◌≢◌, ◌-◌, length, slice_get, ℕ, Some, OnOk, IsErrOf, IsTrue};
+ghost use Rattle.std.specs.Prelude.{◌≡◌, ◌≢◌, ◌-◌, ◌⊎◌, length, slice_get, ℕ, Some, OnOk, IsErrOf, IsTrue};
 ghost use Rattle.rdb_types.specs.declared.file.FileId.{FileId as File};
 ghost use Rattle.rdb_types.specs.declared.keys.Dbkey.{Dbkey as Key};
 ghost use Rattle.rdb_outside.specs.Causes.{Rose};
 ghost use Rattle.rdb_outside.specs.Disk.{Pending};
 ghost use Rattle.stable_lines.specs.Slots.{Undo, line_at as line_named};
 ghost use Rattle.stable_lines.specs.Progress.{Open, Progress};
-ghost use Rattle.stable_lines.specs.Facts.{Facts};
+ghost use Rattle.stable_lines.specs.Facts.{IsNotOpen, Facts};
 ghost use Rattle.line_moves.specs.Calls.{OnlyWrites};
 ghost use Rattle.line_moves.specs.Changes.{IsUndoing};
 
@@ -62,6 +62,20 @@ pub fn undo_line<D: Disk>(
         → tsn ≡ transaction.tsn → slice_get transaction.entries (index - 1) ≡ Some undo
         → key ≢ undo.key
         → line_named (D.view disk.new).content key ≡ line_named (D.view disk.old).content key) }
+
+    // Each line is as it was, or bears no open transaction.
+    ensures ended { OnOk result (IsTrue (D.view disk.old).tells
+        → (now : Progress) (transaction : Open) (key : Key)
+        → IsUndoing (Pending (D.view disk.old)) now member transaction index pages
+        → tsn ≡ transaction.tsn
+        → (line_named (D.view disk.new).content key ≡ line_named (D.view disk.old).content key)
+        ⊎ IsNotOpen now (line_named (D.view disk.new).content key).tsn.number) }
+
+    // No page is refused.
+    ensures bad { (file : File) (slot : ℕ) → IsErrOf result (Fault.Bad file slot)
+        → IsTrue (D.view disk.old).tells → (now : Progress) (transaction : Open)
+        → IsUndoing (Pending (D.view disk.old)) now member transaction index pages
+        → tsn ≡ transaction.tsn → ⊥ }
 {
     let journal = ruj_file(member);
     let mut slot = [0; 512];

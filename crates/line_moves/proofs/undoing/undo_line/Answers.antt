@@ -1,13 +1,16 @@
-use Rattle.std.proofs.Common.{rules, ◌≡◌, ◌≢◌, ◌∙◌, ◌+◌, ◌-◌, ◌≤◌, ◌<◌, ℕ, List, sym, ap, refl, subst, arith}
+use Rattle.std.proofs.Common.{rules, ◌≡◌, ◌≢◌, ◌∙◌, ◌+◌, ◌-◌, ◌≤◌, ◌<◌, ℕ, List, inl, inr, ⊎_elim, sym, ap, refl, subst, arith}
 use Rattle.rdb_types.specs.declared.keys.Dbkey.{Dbkey}
 use Rattle.rdb_types.specs.declared.keys.Tsn.{Tsn}
 use Rattle.rdb_types.specs.declared.keys.Line.{Line}
 use Rattle.rdb_outside.specs.Disk.{Pending}
 use Rattle.rdb_outside.specs.Runs.{then_reads}
 use Rattle.stable_lines.specs.Slots.{ruj_file, area_file, file_of, slot_of, line_on, line_at, entry_at}
-use Rattle.line_moves.specs.Changes.{IsPlaceOf}
+use Rattle.stable_lines.specs.Facts.{IsNotOpen}
+use Rattle.line_moves.specs.Changes.{IsPlaceOf, Fits}
+use Rattle.line_moves.proofs.KeyPlaces.{area_is, place_content}
+use Rattle.line_moves.proofs.LinePut.{same_key}
 use Rattle.line_moves.proofs.Runs.{pends, reads_once, facts_read, read_pends, still_tells, writes_none, reads_then_writes}
-use Rattle.line_moves.proofs.Undoes.{may_put_back, changed_by, before_apart, entry_there, key_there}
+use Rattle.line_moves.proofs.Undoes.{may_put_back, changed_by, before_apart, before_ended, fits_back, entry_there, key_there}
 use Rattle.line_moves.proofs.Bearing.{key_place, has_its_place, within_limit}
 use Rattle.line_moves.proofs.undoing.undo_line.Goals as goal
 
@@ -248,3 +251,90 @@ returns-in-Ok-clause-others g c = let v = g.D.Disk.view in let v0 = v c.args.dis
     let stands = entry_there (Pending v0) now c.args.member c.args.index o c.read.new.into undo it.facts it.is_open it.first got there0 in
     let key = key_there c.read.new.into c.in-Some.entry o.tsn c.args.index undo c.in-Some.ensures.found stands in
     c.in-Ok.ensures.others (still_tells v0 v2 both.told t) now (facts_read v0 v2 both t now it.facts) other (λ e. off (e ∙ key)) ∙ ap (λ (b : List ℕ). line_on other b) ((both.keeps t).content (file_of other) (slot_of other))
+
+pub returns-in_default-clause-ended : goal.returns-in_default-clause-ended
+returns-in_default-clause-ended g c = let v = g.D.Disk.view in let v0 = v c.args.disk.now in let v1 = v c.read.new.self in
+    let reads = reads_once v0 v1 c.read.result c.read.ensures.counts c.read.ensures.kept in
+    λ t now o key it same. inl (ap (λ (b : List ℕ). line_on key b) ((reads.keeps t).content (file_of key) (slot_of key)))
+
+pub returns-in_default-place_of-clause-ended : goal.returns-in_default-place_of-clause-ended
+returns-in_default-place_of-clause-ended g c = let v = g.D.Disk.view in let v0 = v c.args.disk.now in let v1 = v c.read.new.self in
+    let reads = reads_once v0 v1 c.read.result c.read.ensures.counts c.read.ensures.kept in
+    λ t now o key it same. inl (ap (λ (b : List ℕ). line_on key b) ((reads.keeps t).content (file_of key) (slot_of key)))
+
+pub returns-then-place-pages-clause-ended : goal.returns-then-place-pages-clause-ended
+returns-then-place-pages-clause-ended g c = let v = g.D.Disk.view in let v0 = v c.args.disk.now in let v1 = v c.read.new.self in
+    let reads = reads_once v0 v1 c.read.result c.read.ensures.counts c.read.ensures.kept in
+    λ t now o key it same. inl (ap (λ (b : List ℕ). line_on key b) ((reads.keeps t).content (file_of key) (slot_of key)))
+
+pub returns-then-line-tsn-clause-ended : goal.returns-then-line-tsn-clause-ended
+returns-then-line-tsn-clause-ended g c = let v = g.D.Disk.view in let v0 = v c.args.disk.now in let v1 = v c.read.new.self in
+    let reads = reads_once v0 v1 c.read.result c.read.ensures.counts c.read.ensures.kept in
+    let v2 = v c.line_at.new.disk in let both = then_reads v0 v1 v2 reads c.line_at.ensures.reads in
+    λ t now o key it same. inl (ap (λ (b : List ℕ). line_on key b) ((both.keeps t).content (file_of key) (slot_of key)))
+
+pub returns-in-Ok-clause-ended : goal.returns-in-Ok-clause-ended
+returns-in-Ok-clause-ended g c = let v = g.D.Disk.view in let v0 = v c.args.disk.now in let v1 = v c.read.new.self in
+    let reads = reads_once v0 v1 c.read.result c.read.ensures.counts c.read.ensures.kept in
+    let v2 = v c.line_at.new.disk in let both = then_reads v0 v1 v2 reads c.line_at.ensures.reads in
+    λ t now o other it same.
+    let told = still_tells v0 v2 both.told t in
+    let facts = facts_read v0 v2 both t now it.facts in
+    let left = g.met.D.Disk.content_left c.line_at.new.disk v2.moment told (omega arith) in
+    let key = c.in-Some.entry.key in
+    let there = read_pends v2 left c.ruj_file-journal.result (ruj_file c.args.member) c.args.index c.args.index c.read.new.into c.ruj_file-journal.ensures refl (c.in_ok-read.ensures.bytes t ∙ sym ((both.keeps t).content c.ruj_file-journal.result c.args.index)) in
+    let y = v2.content (file_of key) (slot_of key) in
+    let number : c.in_ok-line.line.tsn.number ≡ c.args.tsn.number = search rules in
+    let mid = still_tells v0 v1 reads.told t in
+    let line_is : c.in_ok-line.line ≡ line_at v2.content key = c.in_ok-line.ensures.line mid ∙ ap (λ (b : List ℕ). line_on key b) (sym ((c.line_at.ensures.reads.keeps mid).content (file_of key) (slot_of key))) in
+    let bears : (line_at v2.content key).tsn.number ≡ o.tsn.number = ap (λ (l : Line). l.tsn.number) (sym line_is) ∙ number ∙ ap (λ (n : Tsn). n.number) same in
+    let fits : c.in-Some-place_of.place.page ≤ c.args.pages = search rules in
+    let key_page : c.in-Some-place_of.place.page ≡ key.page = c.in-Some-place_of.ensures.found.page in
+    let limit = it.limit in
+    let within : key.page ≤ now.limits.pages = omega (arith, fits, key_page, limit) in
+    let by = changed_by (Pending v2) now c.args.member c.args.index o c.in-Some.entry c.read.new.into y facts it.is_open it.first it.last there c.in-Some.ensures.found (pends v2 left (file_of key) (slot_of key)) bears it.not_flying within in
+    let slot = v2.content (ruj_file c.args.member) (by.index + 1) in
+    let v3 = v c.change_line.new.disk in
+    let ended = before_ended (Pending v2) now c.args.member c.args.index o c.in-Some.entry c.read.new.into y facts it.is_open it.first it.last there c.in-Some.ensures.found (pends v2 left (file_of key) (slot_of key)) bears it.not_flying within slot (pends v2 left (ruj_file c.args.member) (by.index + 1)) in
+    ⊎_elim
+    (λ at_key. inr (subst (λ (k : Dbkey). IsNotOpen now (line_at v3.content k).tsn.number) (sym at_key) (subst (λ (l : Line). IsNotOpen now l.tsn.number) (sym (c.in-Ok.ensures.stands told now facts)) ended)))
+    (λ off. inl (c.in-Ok.ensures.others told now facts other off ∙ ap (λ (b : List ℕ). line_on other b) ((both.keeps t).content (file_of other) (slot_of other))))
+    (same_key other key)
+
+pub returns-in_err-line-clause-bad : goal.returns-in_err-line-clause-bad
+returns-in_err-line-clause-bad g c = let v = g.D.Disk.view in let v0 = v c.args.disk.now in let v1 = v c.read.new.self in
+    let reads = reads_once v0 v1 c.read.result c.read.ensures.counts c.read.ensures.kept in
+    λ file slot is t now o it same.
+    let told = still_tells v0 v1 reads.told t in
+    let left = g.met.D.Disk.content_left c.read.new.self v1.moment told (omega arith) in
+    let place = c.in-Some-place_of.place in let names = c.in-Some-place_of.ensures.found in
+    c.line_at.ensures.bad file slot (search rules) told
+    ((facts_read v0 v1 reads t now it.facts).pages.page place.file place.page (v1.content (area_file place.file) (place.page - 1)) (area_is c.in-Some.entry.key place names) names.is_data (pends v1 left (area_file place.file) (place.page - 1)))
+
+pub returns-in-Err-clause-bad : goal.returns-in-Err-clause-bad
+returns-in-Err-clause-bad g c = let v = g.D.Disk.view in let v0 = v c.args.disk.now in let v1 = v c.read.new.self in
+    let reads = reads_once v0 v1 c.read.result c.read.ensures.counts c.read.ensures.kept in
+    let v2 = v c.line_at.new.disk in let both = then_reads v0 v1 v2 reads c.line_at.ensures.reads in
+    λ bad_file bad_slot is t now o it same.
+    let told = still_tells v0 v2 both.told t in
+    let facts = facts_read v0 v2 both t now it.facts in
+    let left = g.met.D.Disk.content_left c.line_at.new.disk v2.moment told (omega arith) in
+    let key = c.in-Some.entry.key in
+    let there = read_pends v2 left c.ruj_file-journal.result (ruj_file c.args.member) c.args.index c.args.index c.read.new.into c.ruj_file-journal.ensures refl (c.in_ok-read.ensures.bytes t ∙ sym ((both.keeps t).content c.ruj_file-journal.result c.args.index)) in
+    let y = v2.content (file_of key) (slot_of key) in
+    let number : c.in_ok-line.line.tsn.number ≡ c.args.tsn.number = search rules in
+    let mid = still_tells v0 v1 reads.told t in
+    let line_is : c.in_ok-line.line ≡ line_at v2.content key = c.in_ok-line.ensures.line mid ∙ ap (λ (b : List ℕ). line_on key b) (sym ((c.line_at.ensures.reads.keeps mid).content (file_of key) (slot_of key))) in
+    let bears : (line_at v2.content key).tsn.number ≡ o.tsn.number = ap (λ (l : Line). l.tsn.number) (sym line_is) ∙ number ∙ ap (λ (n : Tsn). n.number) same in
+    let fits : c.in-Some-place_of.place.page ≤ c.args.pages = search rules in
+    let key_page : c.in-Some-place_of.place.page ≡ key.page = c.in-Some-place_of.ensures.found.page in
+    let limit = it.limit in
+    let within : key.page ≤ now.limits.pages = omega (arith, fits, key_page, limit) in
+    let by = changed_by (Pending v2) now c.args.member c.args.index o c.in-Some.entry c.read.new.into y facts it.is_open it.first it.last there c.in-Some.ensures.found (pends v2 left (file_of key) (slot_of key)) bears it.not_flying within in
+    let slot = v2.content (ruj_file c.args.member) (by.index + 1) in
+    let place = c.in-Some-place_of.place in let names = c.in-Some-place_of.ensures.found in
+    let at_place = place_content v2.content key place names in
+    let fits_there = fits_back (Pending v2) now c.args.member c.args.index o c.in-Some.entry c.read.new.into y facts it.is_open it.first it.last there c.in-Some.ensures.found (pends v2 left (file_of key) (slot_of key)) bears it.not_flying within slot (pends v2 left (ruj_file c.args.member) (by.index + 1)) in
+    c.change_line.ensures.bad bad_file bad_slot (search rules) told
+    (facts.pages.page place.file place.page (v2.content (area_file place.file) (place.page - 1)) (area_is key place names) names.is_data (pends v2 left (area_file place.file) (place.page - 1)))
+    (subst (λ (b : List ℕ). Fits key c.in-Some.entry.before b) (sym at_place) fits_there)
