@@ -3,3 +3,4 @@ pub mod Closed
 pub mod Counted
 pub mod Passed
 pub mod Reading
+pub mod Standing

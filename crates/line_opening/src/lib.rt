@@ -6,7 +6,6 @@ mod counting;
 mod fault;
 mod groups;
 mod headers;
-mod stages;
 mod undoing;
 
 pub use closing::close_next;
@@ -14,5 +13,4 @@ pub use counting::count_entries;
 pub use fault::OpeningFault;
 pub use groups::{NextGroup, find_open};
 pub use headers::{all_named, named_by};
-pub use stages::OpeningStage;
 pub use undoing::undo_next;

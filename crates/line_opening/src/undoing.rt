@@ -1,9 +1,12 @@
 // The entries of a member's transaction, undone.
-ghost use Rattle.std.specs.Prelude.{◌≡◌, ◌≤◌, ◌<◌, length, IfOk, IsErrOf, IsTrue};
+ghost use Rattle.std.specs.Prelude.{◌≡◌, ◌≤◌, ◌<◌, ◌⊎◌, ℕ, length, IfOk, OnOk, IsErrOf, IsTrue};
+ghost use Rattle.rdb_types.specs.declared.file.FileId.{FileId as File};
+ghost use Rattle.rdb_types.specs.declared.keys.Dbkey.{Dbkey as Key};
 ghost use Rattle.rdb_outside.specs.Causes.{Rose};
-ghost use Rattle.rdb_outside.specs.Disk.{Pending};
+ghost use Rattle.rdb_outside.specs.Disk.{Pending, LeavesOnly};
+ghost use Rattle.stable_lines.specs.Slots.{line_at as line_named};
 ghost use Rattle.stable_lines.specs.Progress.{Open, Progress};
-ghost use Rattle.stable_lines.specs.Facts.{Facts};
+ghost use Rattle.stable_lines.specs.Facts.{IsNotOpen, Facts, StandsAs};
 ghost use Rattle.line_opening.specs.Undoing.{AreUndone, MayUndo};
 
 use line_moves::{Undone, undo_line};
@@ -22,6 +25,8 @@ pub fn undo_next<D: Disk>(
 ) -> Result<u32, Fault>
     requires { length page.old ≡ 1024 }
     ensures size { length page.new ≡ 1024 }
+    ensures told { (D.view disk.new).tells ≡ (D.view disk.old).tells }
+    ensures no_fewer { (D.view disk.old).faults ≤ (D.view disk.new).faults }
     ensures failed { IsErrOf result Fault.Failed
         → Rose (D.view disk.old).faults (D.view disk.new).faults }
     ensures fewer { IfOk result (λ rest. 1 ≤ entries → rest < entries) }
@@ -38,6 +43,25 @@ pub fn undo_next<D: Disk>(
         → tsn ≡ transaction.tsn
         → AreUndone (D.view disk.old).content transaction entries
         → AreUndone (D.view disk.new).content transaction rest) }
+
+    // Each line is as it was, or bears no open transaction: what was undone of others is so still.
+    ensures ended { OnOk result (IsTrue (D.view disk.old).tells
+        → (now : Progress) (transaction : Open) (key : Key)
+        → MayUndo (Pending (D.view disk.old)) now member transaction entries pages
+        → tsn ≡ transaction.tsn
+        → (line_named (D.view disk.new).content key ≡ line_named (D.view disk.old).content key)
+        ⊎ IsNotOpen now (line_named (D.view disk.new).content key).tsn.number) }
+
+    // A crash at any moment of it leaves an image that stands as before.
+    ensures stands { IsTrue (D.view disk.old).tells → (now : Progress) (transaction : Open)
+        → MayUndo (Pending (D.view disk.old)) now member transaction entries pages
+        → tsn ≡ transaction.tsn → LeavesOnly (D.view disk.old) (D.view disk.new) (StandsAs now) }
+
+    // No page is refused.
+    ensures bad { (file : File) (slot : ℕ) → IsErrOf result (Fault.Bad file slot)
+        → IsTrue (D.view disk.old).tells → (now : Progress) (transaction : Open)
+        → MayUndo (Pending (D.view disk.old)) now member transaction entries pages
+        → tsn ≡ transaction.tsn → ⊥ }
 {
     for back in 0..entries {
         let index = entries - back;

@@ -1,13 +1,15 @@
-use Rattle.std.proofs.Common.{rules, ◌≡◌, ◌+◌, ◌-◌, ◌≤◌, ◌<◌, ◌∙◌, ℕ, refl, subst, arith}
+use Rattle.std.proofs.Common.{rules, ◌≡◌, ◌+◌, ◌-◌, ◌≤◌, ◌<◌, ◌∙◌, ℕ, inl, refl, subst, arith}
 use Rattle.rdb_outside.specs.Disk.{Pending}
 use Rattle.line_moves.proofs.Runs.{still_tells}
 use Rattle.line_moves.proofs.FilledPages.{some_there}
+use Rattle.stable_lines.specs.Facts.{StandsAs}
 use Rattle.line_opening.specs.Undoing.{AreUndone}
 use Rattle.line_opening.proofs.Backwards.{one_of_it, one_more_undone}
+use Rattle.line_opening.proofs.Standing.{stands_now, written_stands, leaves_on, ended_on}
 use Rattle.line_opening.proofs.undoing.undo_next.Goals as goal
 
 pub loop-back-init : goal.loop-back-init
-loop-back-init g c = record { size = c.requires; told = refl; no_fewer = omega arith; facts = λ t p o may same. may.facts; undone = λ t p o may same was. let all : c.args.entries ≡ c.args.entries - 0 = omega arith in subst (λ (n : ℕ). AreUndone (g.D.Disk.view c.args.disk.now).content o n) all was }
+loop-back-init g c = record { size = c.requires; told = refl; no_fewer = omega arith; facts = λ t p o may same. may.facts; undone = λ t p o may same was. let all : c.args.entries ≡ c.args.entries - 0 = omega arith in subst (λ (n : ℕ). AreUndone (g.D.Disk.view c.args.disk.now).content o n) all was; ended = λ t p o key may same. inl refl; leaves = λ t p o may same. stands_now (g.D.Disk.view c.args.disk.now) p may.facts }
 
 pub returns-in_err-undo_line-clause-keeps : goal.returns-in_err-undo_line-clause-keeps
 returns-in_err-undo_line-clause-keeps g c = let v = g.D.Disk.view in let before = v c.args.disk.now in let mid = v c.loop-back.disk in let new = v c.undo_line.new.disk in
@@ -52,6 +54,14 @@ loop-back-preserved g c = let v = g.D.Disk.view in let before = v c.args.disk.no
           let next : index - 1 ≡ c.args.entries - (back + 1) = omega arith in
           subst (λ (n : ℕ). AreUndone new.content o n) next
           (one_more_undone mid.content new.content o index u.0 (omega (arith, less)) u.1 (c.in_ok-undo_line.ensures.undone told p o u.0 it same u.1) (λ key off. c.in_ok-undo_line.ensures.others told p o u.0 key it same u.1 off) (so_far.undone t p o may same was));
+      ended = λ t p o key may same.
+          let it = one_of_it (Pending before) (Pending mid) p c.args.member o c.args.entries c.args.pages index may (so_far.facts t p o may same) (omega (arith, less)) (omega arith) in
+          ended_on p before.content mid.content new.content key (so_far.ended t p o key may same) (c.in_ok-undo_line.ensures.ended (still_tells before mid so_far.told t) p o key it same);
+      leaves = λ t p o may same.
+          let it = one_of_it (Pending before) (Pending mid) p c.args.member o c.args.entries c.args.pages index may (so_far.facts t p o may same) (omega (arith, less)) (omega arith) in
+          let told = still_tells before mid so_far.told t in
+          leaves_on before mid new (StandsAs p) (so_far.leaves t p o may same)
+          (written_stands mid new c.undo_line.ensures.writes.0 c.undo_line.ensures.writes.1 p c.undo_line.ensures.writes.2 told (so_far.facts t p o may same) (c.undo_line.ensures.keeps told p o it same));
     }
 
 pub returns-clause-keeps : goal.returns-clause-keeps
@@ -62,3 +72,59 @@ returns-clause-undone g c = let v = g.D.Disk.view in λ t p o may same was.
     let past : c.args.entries ≤ c.loop-back.back = search rules in
     let none : c.args.entries - c.loop-back.back ≡ 0 = omega (arith, past) in
     subst (λ (n : ℕ). AreUndone (v c.loop-back.disk).content o n) none (c.loop-back.invariant.undone t p o may same was)
+
+pub returns-in_err-undo_line-clause-stands : goal.returns-in_err-undo_line-clause-stands
+returns-in_err-undo_line-clause-stands g c = let v = g.D.Disk.view in let before = v c.args.disk.now in let mid = v c.loop-back.disk in let new = v c.undo_line.new.disk in
+    let so_far = c.loop-back.invariant in let back = c.loop-back.back in let index = c.args.entries - back in
+    let less : back < c.args.entries = search rules in
+    λ t p o may same.
+    let it = one_of_it (Pending before) (Pending mid) p c.args.member o c.args.entries c.args.pages index may (so_far.facts t p o may same) (omega (arith, less)) (omega arith) in
+    let told = still_tells before mid so_far.told t in
+    leaves_on before mid new (StandsAs p) (so_far.leaves t p o may same)
+    (written_stands mid new c.undo_line.ensures.writes.0 c.undo_line.ensures.writes.1 p c.undo_line.ensures.writes.2 told (so_far.facts t p o may same) (c.undo_line.ensures.keeps told p o it same))
+
+pub returns-in-Written-clause-stands : goal.returns-in-Written-clause-stands
+returns-in-Written-clause-stands g c = let v = g.D.Disk.view in let before = v c.args.disk.now in let mid = v c.loop-back.disk in let new = v c.undo_line.new.disk in
+    let so_far = c.loop-back.invariant in let back = c.loop-back.back in let index = c.args.entries - back in
+    let less : back < c.args.entries = search rules in
+    λ t p o may same.
+    let it = one_of_it (Pending before) (Pending mid) p c.args.member o c.args.entries c.args.pages index may (so_far.facts t p o may same) (omega (arith, less)) (omega arith) in
+    let told = still_tells before mid so_far.told t in
+    leaves_on before mid new (StandsAs p) (so_far.leaves t p o may same)
+    (written_stands mid new c.undo_line.ensures.writes.0 c.undo_line.ensures.writes.1 p c.undo_line.ensures.writes.2 told (so_far.facts t p o may same) (c.undo_line.ensures.keeps told p o it same))
+
+pub returns-in_err-undo_line-clause-bad : goal.returns-in_err-undo_line-clause-bad
+returns-in_err-undo_line-clause-bad g c = let v = g.D.Disk.view in let before = v c.args.disk.now in let mid = v c.loop-back.disk in let new = v c.undo_line.new.disk in
+    let so_far = c.loop-back.invariant in let back = c.loop-back.back in let index = c.args.entries - back in
+    let less : back < c.args.entries = search rules in
+    λ file slot is t p o may same.
+    let it = one_of_it (Pending before) (Pending mid) p c.args.member o c.args.entries c.args.pages index may (so_far.facts t p o may same) (omega (arith, less)) (omega arith) in
+    let told = still_tells before mid so_far.told t in
+    c.undo_line.ensures.bad file slot (search rules) told p o it same
+
+pub returns-in-Written-clause-ended : goal.returns-in-Written-clause-ended
+returns-in-Written-clause-ended g c = let v = g.D.Disk.view in let before = v c.args.disk.now in let mid = v c.loop-back.disk in let new = v c.undo_line.new.disk in
+    let so_far = c.loop-back.invariant in let back = c.loop-back.back in let index = c.args.entries - back in
+    let less : back < c.args.entries = search rules in
+    λ t p o key may same.
+    let it = one_of_it (Pending before) (Pending mid) p c.args.member o c.args.entries c.args.pages index may (so_far.facts t p o may same) (omega (arith, less)) (omega arith) in
+    let told = still_tells before mid so_far.told t in
+    ended_on p before.content mid.content new.content key (so_far.ended t p o key may same) (c.in_ok-undo_line.ensures.ended told p o key it same)
+
+pub returns-clause-stands : goal.returns-clause-stands
+returns-clause-stands g c = λ t p o may same. c.loop-back.invariant.leaves t p o may same
+
+pub returns-clause-ended : goal.returns-clause-ended
+returns-clause-ended g c = λ t p o key may same. c.loop-back.invariant.ended t p o key may same
+
+pub returns-in_err-undo_line-clause-told : goal.returns-in_err-undo_line-clause-told
+returns-in_err-undo_line-clause-told g c = c.undo_line.ensures.writes.2.told ∙ c.loop-back.invariant.told
+
+pub returns-in_err-undo_line-clause-no_fewer : goal.returns-in_err-undo_line-clause-no_fewer
+returns-in_err-undo_line-clause-no_fewer g c = let first = c.loop-back.invariant.no_fewer in let then_no_fewer = c.undo_line.ensures.writes.2.no_fewer in omega (arith, first, then_no_fewer)
+
+pub returns-in-Written-clause-told : goal.returns-in-Written-clause-told
+returns-in-Written-clause-told g c = c.undo_line.ensures.writes.2.told ∙ c.loop-back.invariant.told
+
+pub returns-in-Written-clause-no_fewer : goal.returns-in-Written-clause-no_fewer
+returns-in-Written-clause-no_fewer g c = let first = c.loop-back.invariant.no_fewer in let then_no_fewer = c.undo_line.ensures.writes.2.no_fewer in omega (arith, first, then_no_fewer)

@@ -1,7 +1,9 @@
-use Rattle.std.proofs.Common.{◌≡◌, ◌≤◌, ◌-◌, length, IsTrue}
-use Rattle.rdb_outside.specs.Disk.{Pending}
+use Rattle.std.proofs.Common.{◌≡◌, ◌≤◌, ◌-◌, ◌⊎◌, length, IsTrue}
+use Rattle.rdb_types.specs.declared.keys.Dbkey.{Dbkey}
+use Rattle.rdb_outside.specs.Disk.{Pending, LeavesOnly}
+use Rattle.stable_lines.specs.Slots.{line_at}
 use Rattle.stable_lines.specs.Progress.{Open, Progress}
-use Rattle.stable_lines.specs.Facts.{Facts}
+use Rattle.stable_lines.specs.Facts.{IsNotOpen, Facts, StandsAs}
 use Rattle.line_opening.specs.Undoing.{AreUndone, MayUndo}
 use Rattle.line_opening.proofs.undoing.undo_next.Given as goal
 
@@ -15,4 +17,7 @@ invariant-loop-back g l =
       facts : IsTrue before.tells → (p : Progress) (o : Open) → MayUndo (Pending before) p l.member o l.entries l.pages → l.tsn ≡ o.tsn → Facts (Pending now) p;
       undone : IsTrue before.tells → (p : Progress) (o : Open) → MayUndo (Pending before) p l.member o l.entries l.pages → l.tsn ≡ o.tsn
           → AreUndone before.content o l.entries → AreUndone now.content o (l.entries - l.back);
+      ended : IsTrue before.tells → (p : Progress) (o : Open) (key : Dbkey) → MayUndo (Pending before) p l.member o l.entries l.pages → l.tsn ≡ o.tsn
+          → (line_at now.content key ≡ line_at before.content key) ⊎ IsNotOpen p (line_at now.content key).tsn.number;
+      leaves : IsTrue before.tells → (p : Progress) (o : Open) → MayUndo (Pending before) p l.member o l.entries l.pages → l.tsn ≡ o.tsn → LeavesOnly before now (StandsAs p);
     }
