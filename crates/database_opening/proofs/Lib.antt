@@ -1,0 +1,9 @@
+pub mod Going
+pub mod Counts
+pub mod Begun
+pub mod Undone
+pub mod Restored
+pub mod Closed
+pub mod PageOwners
+pub mod Nearer
+pub mod EachMoment

@@ -1,0 +1,22 @@
+use Rattle.std.proofs.Common.{sym, subst}
+use Rattle.rdb_outside.specs.Disk.{Image}
+use Rattle.rdb_outside.specs.Runs.{then_reads}
+use Rattle.stable_lines.specs.Kept.{Kept}
+use Rattle.line_moves.proofs.Runs.{still_tells}
+use Rattle.line_opening.proofs.Counted.{if_ok}
+use Rattle.line_opening.proofs.Passed.{image_same}
+use Rattle.database_opening.proofs.beginning.begin.Goals as goal
+
+pub returns-clause-reads : goal.returns-clause-reads
+returns-clause-reads g c = let v = g.D.Disk.view in
+    then_reads (v c.args.disk.now) (v c.make_stable.new.disk) (v c.read_all.new.disk) c.make_stable.ensures.reads c.read_all.ensures.reads
+
+pub returns-clause-bad : goal.returns-clause-bad
+returns-clause-bad g c = let v = g.D.Disk.view in let old = v c.args.disk.now in let mid = v c.make_stable.new.disk in let reads = c.make_stable.ensures.reads in
+    λ file slot is t classes lines journal kept.
+    c.read_all.ensures.bad file slot is (still_tells old mid reads.told t) classes lines journal (subst (λ (image : Image). Kept classes lines journal image) (sym (image_same old mid reads t)) kept)
+
+pub returns-clause-found : goal.returns-clause-found
+returns-clause-found g c = let v = g.D.Disk.view in let old = v c.args.disk.now in let mid = v c.make_stable.new.disk in let reads = c.make_stable.ensures.reads in
+    if_ok _ _ c.read_all.result (λ opening there t classes lines journal kept.
+    there (still_tells old mid reads.told t) (c.in_ok-make_stable.ensures.stable t) classes lines journal (subst (λ (image : Image). Kept classes lines journal image) (sym (image_same old mid reads t)) kept)) c.read_all.ensures.found

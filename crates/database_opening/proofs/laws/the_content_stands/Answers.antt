@@ -1,0 +1,10 @@
+use Rattle.std.proofs.Common.{arith}
+use Rattle.rdb_outside.specs.Disk.{Pending}
+use Rattle.stable_lines.proofs.Stands.{stands}
+use Rattle.line_moves.proofs.Runs.{pends}
+use Rattle.database_opening.proofs.laws.the_content_stands.Goals as goal
+
+pub returns : goal.returns
+returns g c = let v = g.D.Disk.view c.args.disk.now in λ t now facts.
+    let left = g.met.D.Disk.content_left c.args.disk.now v.moment t (omega arith) in
+    stands (Pending v) now facts v.content (λ file slot. pends v left file slot)

@@ -1,0 +1,58 @@
+use Rattle.std.proofs.Common.{rules, ◌≡◌, ◌∙◌, subst, arith}
+use Rattle.line_moves.proofs.Runs.{still_tells}
+use Rattle.database_opening.specs.Stages.{OpeningFacts}
+use Rattle.database_opening.specs.declared.stages.OpeningStage.{OpeningStage}
+use Rattle.database_opening.specs.declared.stages.OpeningStage.TheVariants.{Opened}
+use Rattle.database_opening.proofs.EachMoment.{left_by_reads, left_by_step}
+use Rattle.database_opening.proofs.whole.open_database.Goals as goal
+
+pub returns-in_err-opening-clause-stands : goal.returns-in_err-opening-clause-stands
+returns-in_err-opening-clause-stands g c = let v = g.D.Disk.view in λ t classes lines journal kept.
+    left_by_reads classes lines journal (v c.args.disk.now) (v c.begin.new.disk) c.begin.ensures.reads t
+
+pub returns-in_err-opening-clause-bad : goal.returns-in_err-opening-clause-bad
+returns-in_err-opening-clause-bad g c = λ file slot is t classes lines journal kept. c.begin.ensures.bad file slot (search rules) t classes lines journal kept
+
+pub steps-init : goal.steps-init
+steps-init g c = let v = g.D.Disk.view in let old = v c.args.disk.now in let new = v c.begin.new.disk in
+    record {
+      told = c.begin.ensures.reads.told;
+      no_fewer = c.begin.ensures.reads.no_fewer;
+      stage = c.in_ok-opening.ensures.stage;
+      facts = λ t classes lines journal kept. c.in_ok-opening.ensures.found t classes lines journal kept;
+      leaves = λ t classes lines journal kept. left_by_reads classes lines journal old new c.begin.ensures.reads t;
+    }
+
+pub returns-in_err-stage-clause-bad : goal.returns-in_err-stage-clause-bad
+returns-in_err-stage-clause-bad g c = let v = g.D.Disk.view in let old = v c.args.disk.now in let mid = v c.steps.disk in let so_far = c.steps.invariant in
+    λ file slot is t classes lines journal kept.
+    c.step.ensures.bad file slot (search rules) (still_tells old mid so_far.told t) classes lines journal (so_far.facts t classes lines journal kept)
+
+pub returns-in_err-stage-clause-stands : goal.returns-in_err-stage-clause-stands
+returns-in_err-stage-clause-stands g c = let v = g.D.Disk.view in let old = v c.args.disk.now in let mid = v c.steps.disk in let new = v c.step.new.disk in let so_far = c.steps.invariant in
+    λ t classes lines journal kept.
+    left_by_step classes lines journal old mid new (so_far.leaves t classes lines journal kept)
+    (c.step.ensures.stands (still_tells old mid so_far.told t) classes lines journal (so_far.facts t classes lines journal kept))
+
+pub returns-clause-begins : goal.returns-clause-begins
+returns-clause-begins g c = let v = g.D.Disk.view in let old = v c.args.disk.now in let mid = v c.steps.disk in let so_far = c.steps.invariant in
+    λ t classes lines journal kept.
+    let over : c.steps.stage ≡ Opened = c.is_over.ensures.yes (search rules) in
+    c.start_of.ensures classes lines journal (subst (λ (s : OpeningStage). OpeningFacts classes lines journal s mid c.in_ok-opening.opening.found) over (so_far.facts t classes lines journal kept))
+
+pub returns-clause-stands : goal.returns-clause-stands
+returns-clause-stands g c = λ t classes lines journal kept. c.steps.invariant.leaves t classes lines journal kept
+
+pub steps-preserved : goal.steps-preserved
+steps-preserved g c = let v = g.D.Disk.view in let old = v c.args.disk.now in let mid = v c.steps.disk in let new = v c.step.new.disk in let so_far = c.steps.invariant in
+    record {
+      told = c.step.ensures.told ∙ so_far.told;
+      no_fewer = let first = so_far.no_fewer in let then_no_fewer = c.step.ensures.no_fewer in omega (arith, first, then_no_fewer);
+      stage = c.in_ok-stage.ensures.stage;
+      facts = λ t classes lines journal kept. c.in_ok-stage.ensures.goes_on (still_tells old mid so_far.told t) classes lines journal (so_far.facts t classes lines journal kept);
+      leaves = λ t classes lines journal kept. left_by_step classes lines journal old mid new (so_far.leaves t classes lines journal kept)
+          (c.step.ensures.stands (still_tells old mid so_far.told t) classes lines journal (so_far.facts t classes lines journal kept));
+    }
+
+pub steps-smaller : goal.steps-smaller
+steps-smaller g c = c.in_ok-stage.ensures.nearer (λ over. c.is_over.ensures.no (search rules) over)

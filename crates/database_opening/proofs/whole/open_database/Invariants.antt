@@ -1,0 +1,22 @@
+use Rattle.std.proofs.Common.{◌≡◌, ◌≤◌, ℕ, IsTrue}
+use Rattle.rdb_outside.specs.Disk.{LeavesOnly}
+use Rattle.line_view.specs.Knowledge.{Lines}
+use Rattle.stable_lines.specs.Journal.{Journal}
+use Rattle.stable_lines.specs.Kept.{Kept}
+use Rattle.database_opening.specs.Stages.{OpeningFacts, IsStage, steps_left}
+use Rattle.database_opening.proofs.EachMoment.{IsLeft}
+use Rattle.database_opening.proofs.whole.open_database.Given as goal
+
+abbrev pub invariant-steps : goal.invariant-steps
+invariant-steps g l =
+    let before = g.D.Disk.view l.fn.disk in let now = g.D.Disk.view l.disk in
+    record {
+      told : now.tells ≡ before.tells;
+      no_fewer : before.faults ≤ now.faults;
+      stage : IsStage l.stage;
+      facts : IsTrue before.tells → (classes : ℕ → ℕ) (lines : Lines) (journal : Journal) → Kept classes lines journal before.content → OpeningFacts classes lines journal l.stage now l.opening.found;
+      leaves : IsTrue before.tells → (classes : ℕ → ℕ) (lines : Lines) (journal : Journal) → Kept classes lines journal before.content → LeavesOnly before now (IsLeft classes lines journal before);
+    }
+
+abbrev pub decreases-steps : goal.decreases-steps
+decreases-steps g l = steps_left l.opening.found.counts l.stage

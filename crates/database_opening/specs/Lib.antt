@@ -1,0 +1,4 @@
+pub mod Owners
+pub mod Reading
+pub mod Stages
+pub mod Start

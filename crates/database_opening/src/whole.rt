@@ -1,0 +1,60 @@
+// An opening from its beginning to its end.
+ghost use Rattle.std.specs.Prelude.{◌≡◌, ◌≤◌, ◌⊎◌, true, false, ℕ, IfOk, IsErrOf, IsTrue};
+ghost use Rattle.rdb_types.specs.declared.file.FileId.{FileId as File};
+ghost use Rattle.rdb_outside.specs.Causes.{Rose};
+ghost use Rattle.rdb_outside.specs.Disk.{LeavesOnly, IsPending};
+ghost use Rattle.line_view.specs.Knowledge.{Lines};
+ghost use Rattle.stable_lines.specs.Journal.{Journal};
+ghost use Rattle.stable_lines.specs.Kept.{Kept};
+ghost use Rattle.database_opening.specs.declared.stages.OpeningStage.TheVariants.{Opened};
+ghost use Rattle.database_opening.specs.Start.{IsStart};
+
+use crate::beginning::begin;
+use crate::stages::OpeningStage;
+use crate::start::{StoreStart, start_of};
+use crate::steps::step;
+use line_opening::OpeningFault;
+use rdb_outside::Disk;
+use std::alloc::Global;
+
+// Whether an opening is at its end.
+fn is_over(stage: OpeningStage) -> bool
+    ensures yes { result ≡ true → stage ≡ Opened }
+    ensures no { result ≡ false → stage ≡ Opened → ⊥ }
+{
+    matches!(stage, OpeningStage::Opened)
+}
+
+/// Opens a database, whatever a crash left of it, and answers where a store begins. It makes as many calls of `step` as there are entries to be undone, and 35 more at most.
+pub fn open_database<D: Disk>(alloc: Global, disk: &mut D) -> Result<StoreStart, OpeningFault>
+    ensures told { (D.view disk.new).tells ≡ (D.view disk.old).tells }
+    ensures no_fewer { (D.view disk.old).faults ≤ (D.view disk.new).faults }
+    ensures failed { IsErrOf result OpeningFault.Failed
+        → Rose (D.view disk.old).faults (D.view disk.new).faults }
+
+    // A kept image is never refused.
+    ensures bad { (file : File) (slot : ℕ) → IsErrOf result (OpeningFault.Bad file slot)
+        → IsTrue (D.view disk.old).tells
+        → (classes : ℕ → ℕ) (lines : Lines) (journal : Journal)
+        → Kept classes lines journal (D.view disk.old).content → ⊥ }
+
+    // The store begins with the lines that the image stands for.
+    ensures begins { IfOk result (λ start. IsTrue (D.view disk.old).tells
+        → (classes : ℕ → ℕ) (lines : Lines) (journal : Journal)
+        → Kept classes lines journal (D.view disk.old).content
+        → IsStart classes lines journal (D.view disk.new) start) }
+
+    // Whatever it answers, a crash at any moment of it leaves what one before might have left, or an image of these lines.
+    ensures stands { IsTrue (D.view disk.old).tells
+        → (classes : ℕ → ℕ) (lines : Lines) (journal : Journal)
+        → Kept classes lines journal (D.view disk.old).content
+        → LeavesOnly (D.view disk.old) (D.view disk.new)
+        (λ image. IsPending (D.view disk.old) image ⊎ Kept classes lines journal image) }
+{
+    let opening = begin(alloc, disk)?;
+    let mut stage = opening.stage;
+    'steps: while !is_over(stage) {
+        stage = step(disk, &opening.found, stage)?;
+    }
+    Ok(start_of(disk, &opening.found))
+}
