@@ -1,0 +1,16 @@
+pub mod Basics
+pub mod Ends
+pub mod Locking
+pub mod Resting
+pub mod InTurn
+pub mod Working
+pub mod Asking
+pub mod Storing
+pub mod Refusing
+pub mod Forgoing
+pub mod Starting
+pub mod Standing
+pub mod Parting
+pub mod Ending
+pub mod Outside
+pub mod Serving
