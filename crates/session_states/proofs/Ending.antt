@@ -34,7 +34,7 @@ use Rattle.session_states.proofs.Basics.{at_time}
 use Rattle.session_states.proofs.Ends.{rolled-place, committed-place, then-said, gone-tied}
 use Rattle.session_states.proofs.Resting.{found-here, none-dead, time-later, rests-on}
 
-is-open : (x : Option Transaction) (t : Transaction) → x ≡ Some t → has_none x ≡ false
+pub is-open : (x : Option Transaction) (t : Transaction) → x ≡ Some t → has_none x ≡ false
 is-open x t e = ap has_none e
 
 module _ (M : Model) (orderly : IsOrderly M) where
@@ -156,7 +156,7 @@ module _ (M : Model) (orderly : IsOrderly M) where
         let later = time-later M orderly o p g s c shelf left total (Writing (writer standing known spoken waits (Ending Committing))) done.commits.others f in
         let same : done.writes ≡ ws = ap writes_of (sym done.was ∙ f.fits.phase.desk.1) in
         let q : Place = after o p (Committed s moment) in
-        let one = committed-place o p s w.transaction moment w.is_open w.writes in
+        let one = committed-place o p s w.transaction moment w.is_open in
         let two = then-said o p q s (said commit) [] (r.Done []) one.0 one.1 in
         record {
           ground = at_end s (laid_all ws g.now) (left_desk g) shelf.clock.time g;

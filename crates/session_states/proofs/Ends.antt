@@ -55,12 +55,16 @@ rolled-same s (rollback_reply t) None p = (refl, refl)
 pub rolled-place : (o : Opening) (p : Place) (s : ℕ) → ((after o p (RolledBack s)).transaction ≡ at s None p.transaction) × ((after o p (RolledBack s)).asks ≡ asks_of_others s p.asks)
 rolled-place o p s = rolled-same s p.due (next_item o p s) (ended s p)
 
-pub committed-place : (o : Opening) (p : Place) (s : ℕ) (x : Transaction) (moment : ℕ) → p.transaction s ≡ Some x → is_writer x.kind ≡ true →
+pub committed-place : (o : Opening) (p : Place) (s : ℕ) (x : Transaction) (moment : ℕ) → p.transaction s ≡ Some x →
     ((after o p (Committed s moment)).transaction ≡ at s None p.transaction) × ((after o p (Committed s moment)).asks ≡ asks_of_others s p.asks)
-committed-place o p s x moment is_open writes = (
-  ap (λ (z : Option Transaction). (committed_by o.word s moment z p).transaction) is_open ∙ rw writes refl,
-  ap (λ (z : Option Transaction). (committed_by o.word s moment z p).asks) is_open ∙ rw writes refl,
+committed-place o p s x moment is_open = (
+  ap (λ (z : Option Transaction). (committed_by o.word s moment z p).transaction) is_open ∙ (by (is_writer x.kind) refl).0,
+  ap (λ (z : Option Transaction). (committed_by o.word s moment z p).asks) is_open ∙ (by (is_writer x.kind) refl).1,
 )
+  where
+    by : (b : Bool) → is_writer x.kind ≡ b → ((committed_by o.word s moment (Some x) p).transaction ≡ at s None p.transaction) × ((committed_by o.word s moment (Some x) p).asks ≡ asks_of_others s p.asks)
+    by true e = (rw e refl, rw e refl)
+    by false e = (rw e refl, rw e refl)
 
 -- and then its last item is answered
 pub then-said : (o : Opening) (p q : Place) (s : ℕ) (item : Uttered) (choices : List Dbkey) (reply : Reply) → q.transaction ≡ at s None p.transaction → q.asks ≡ asks_of_others s p.asks →

@@ -14,3 +14,5 @@ pub mod Parting
 pub mod Ending
 pub mod Outside
 pub mod Serving
+pub mod Reading
+pub mod ReadingEnds

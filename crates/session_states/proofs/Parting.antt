@@ -56,7 +56,7 @@ nothing-agrees all = record {
 }
 
 -- what begins a transaction ends none
-begins-stays : (item : Uttered) (kind : Standing) → begins item ≡ Some kind → ends_by item ≡ false
+pub begins-stays : (item : Uttered) (kind : Standing) → begins item ≡ Some kind → ends_by item ≡ false
 begins-stays (syntax_fault line column) kind h = refl
 begins-stays (said (invoke text)) kind h = refl
 begins-stays (said start_read_only) kind h = refl
@@ -72,7 +72,7 @@ begins-stays (said (delete_relation n)) kind h = refl
 begins-stays (said (delete_index n)) kind h = refl
 
 -- it has no needs yet, as before
-begun-needs : (p : Place) (s : ℕ) (kind : Standing) → p.transaction s ≡ None → (t : ℕ) → got_of (at s (Some (begun kind p.tables)) p.transaction t) ≡ needs_at p t
+pub begun-needs : (p : Place) (s : ℕ) (kind : Standing) → p.transaction s ≡ None → (t : ℕ) → got_of (at s (Some (begun kind p.tables)) p.transaction t) ≡ needs_at p t
 begun-needs p s kind none t = by (t == s) refl
   where
     by : (b : Bool) → (t == s) ≡ b → got_of (at s (Some (begun kind p.tables)) p.transaction t) ≡ needs_at p t

@@ -18,7 +18,7 @@ use Rattle.kept_apart.proofs.Alike.{alike-agrees, alike-laid-all}
 use Rattle.session_jobs.specs.Records.{Model, IsOrderly, IsRight}
 use Rattle.session_jobs.specs.Jobs.{worked_of}
 use Rattle.session_jobs.specs.declared.jobs.TxRecord.{TxRecord}
-use Rattle.line_store.specs.Seats.{Seat, done_at, Adds}
+use Rattle.line_store.specs.Seats.{Seat, reading as seat_reading, done_at, Adds}
 use Rattle.lock_ties.specs.Ties.{IsTiedTo, needs_at}
 use Rattle.line_steps.specs.Members.{Member as Seen}
 use Rattle.line_steps.specs.Right.{Desk, Ground, AreRight}
@@ -28,7 +28,7 @@ use Rattle.session_states.specs.declared.stage.Laying.TheVariants.{Claiming, Cha
 use Rattle.session_states.specs.declared.stage.Stage.{Stage}
 use Rattle.session_states.specs.declared.stage.Stage.TheVariants.{Between, Working, Saying, Ending}
 use Rattle.session_states.specs.declared.stage.Phase.{Phase}
-use Rattle.session_states.specs.declared.stage.Phase.TheVariants.{Outside, Closing, Writing, Over}
+use Rattle.session_states.specs.declared.stage.Phase.TheVariants.{Outside, Closing, Writing, Reading, Over}
 use Rattle.session_states.specs.declared.stage.Member.{Member}
 use Rattle.session_states.specs.Locks.{lock_of}
 use Rattle.session_states.specs.States.{seen}
@@ -105,6 +105,14 @@ module _ (M : Model) (orderly : IsOrderly M) where
       stage = subst (λ (u : List ℕ). StageFits M u (needs_at q t) w.standing w.known w.spoken w.stage) (sym word) (subst (λ ws. StageFits M c.word ws w.standing w.known w.spoken w.stage) needs f.stage);
       wants = subst (λ (y : Party). WantsAtMost (lock_of w.stage) y.opened) (sym party) f.wants;
       ends = f.ends;
+    }
+    phase-stays left (Reading r) f = record {
+      known = ap (λ (x : Desk). x.known) desk ∙ f.known;
+      seat = seat ∙ (f.seat ∙ ap (λ (x : Desk). seat_reading x.start) (sym desk));
+      spoken = ap has_said same ∙ f.spoken;
+      needless = sym needs ∙ f.needless;
+      stage = f.stage;
+      wants = ap (λ (y : Party). y.opened) party ∙ f.wants;
     }
     phase-stays left Over f = (seat ∙ f.0, ap (λ (y : Party). y.opened) party ∙ f.1)
 

@@ -38,7 +38,8 @@ use Rattle.session_states.specs.declared.stage.Stage.TheVariants.{Between, Worki
 use Rattle.session_states.specs.declared.stage.Phase.TheVariants.{Writing}
 use Rattle.session_states.specs.States.{item_of, writer, session}
 use Rattle.session_states.specs.Shared.{Shared, with_shelf}
-use Rattle.session_states.specs.Fits.{IsLocked, WorkFits, HasSeat, WriterFits, WantsAtMost, Learns}
+use Rattle.stepped_jobs.specs.Needs.{IsLocked}
+use Rattle.session_states.specs.Fits.{WorkFits, HasSeat, WriterFits, WantsAtMost, Learns}
 use Rattle.session_states.specs.Steps.{Finds, Step}
 use Rattle.lock_tree_laws.specs.Forest.{opened_of}
 use Rattle.rdb_account.specs.Places.{Transaction}

@@ -11,7 +11,6 @@ use Rattle.lock_tree_laws.specs.Wanted.{IsOf}
 use Rattle.rdb_account.specs.Places.{Place, Transaction}
 use Rattle.rdb_account.specs.Lawful.{is_nowait}
 use Rattle.rdb_account.specs.Legal.{ends_by}
-use Rattle.rdb_account.specs.AskedFor.{area_node}
 use Rattle.line_view.specs.declared.need.Need.{Need}
 use Rattle.line_view.specs.declared.need.Need.TheVariants as need
 use Rattle.line_view.specs.declared.writes.Write.{Write}
@@ -24,9 +23,10 @@ use Rattle.session_jobs.specs.Records.{Model, IsRight}
 use Rattle.session_jobs.specs.Asked.{AsksFor, is_lock_for}
 use Rattle.session_jobs.specs.Jobs.{WhereItAgrees, IsRecord, worked_of}
 use Rattle.session_jobs.specs.declared.jobs.TxRecord.{TxRecord}
-use Rattle.line_store.specs.Seats.{Seat, outside, beginning, writing, changing, committing, rolling_back, done_at, Adds}
+use Rattle.line_store.specs.Seats.{Seat, outside, beginning, writing, reading, changing, committing, rolling_back, done_at, Adds}
 use Rattle.line_store.specs.Shelves.{Shelf, seen_by}
 use Rattle.lock_ties.specs.Ties.{IsTiedTo, needs_at}
+use Rattle.stepped_jobs.specs.Needs.{IsLocked}
 use Rattle.line_steps.specs.Right.{Ground}
 use Rattle.session_states.specs.declared.stage.Work.{Work}
 use Rattle.session_states.specs.declared.stage.Work.TheVariants.{Opening, Lacking, Housing, Fetching, Lodging}
@@ -36,8 +36,11 @@ use Rattle.session_states.specs.declared.stage.End.TheVariants.{Committing, Roll
 use Rattle.session_states.specs.declared.stage.Stage.{Stage}
 use Rattle.session_states.specs.declared.stage.Stage.TheVariants.{Between, Working, Saying, Ending}
 use Rattle.session_states.specs.declared.stage.Writer.{Writer}
+use Rattle.session_states.specs.declared.stage.ReaderStage.{ReaderStage}
+use Rattle.session_states.specs.declared.stage.ReaderStage.TheVariants as look
+use Rattle.session_states.specs.declared.stage.Reader.{Reader}
 use Rattle.session_states.specs.declared.stage.Phase.{Phase}
-use Rattle.session_states.specs.declared.stage.Phase.TheVariants.{Outside, Closing, Writing, Over}
+use Rattle.session_states.specs.declared.stage.Phase.TheVariants.{Outside, Closing, Writing, Reading, Over}
 use Rattle.session_states.specs.declared.stage.Member.{Member}
 use Rattle.session_states.specs.Locks.{lock_of}
 use Rattle.session_states.specs.Shared.{Shared}
@@ -47,12 +50,6 @@ use Rattle.session_states.specs.Shared.{Shared}
 -- what its job lacked, it asks for over all that agrees with what is known
 abbrev pub IsLacked : Model → Standing → Uttered → Knowledge → Need → Type 0
 IsLacked M standing item known n = WhereItAgrees M known (λ t. AsksFor standing item t (is_lock_for item n))
-
--- the lock to read it is got
-abbrev pub IsLocked : List LockNeed → Need → Type 0
-IsLocked got (need.Line key) = is_guarded got (line_node key) ≡ true
-IsLocked got (need.Area area) = is_guarded got (area_node area) ≡ true
-IsLocked got (need.Room room) = Unit {0}
 
 abbrev pub WorkFits : Model → List LockNeed → Standing → Uttered → Knowledge → Work → Type 0
 WorkFits M got standing item known (Lacking n) = IsLacked M standing item known n
@@ -123,10 +120,25 @@ pub record WriterFits (M : Model) (p : Place) (g : Ground) (c : Shared) (s : ℕ
   pub wants : WantsAtMost (lock_of w.stage) (opened_of c.locks s)
   pub ends : IsAtEnd left w.stage
 
+-- a reader's statement doesn't end its transaction
+abbrev pub ReaderStageFits : Bool → ReaderStage → Type 0
+ReaderStageFits spoken look.Between = spoken ≡ true
+ReaderStageFits spoken (look.Working item work) = ends_by (uttered_of item) ≡ false
+
+-- a reader has no lock, and the store has it at the lines at its start
+pub record ReaderFits (p : Place) (g : Ground) (c : Shared) (s : ℕ) (r : Reader) : Type 0 where
+  pub known : (g.desk s).known ≡ knows r.known
+  pub seat : c.shelf.seat s ≡ reading (g.desk s).start
+  pub spoken : has_said (p.transaction s) ≡ r.spoken
+  pub needless : needs_at p s ≡ []
+  pub stage : ReaderStageFits r.spoken r.stage
+  pub wants : opened_of c.locks s ≡ None
+
 abbrev pub PhaseFits : Model → Place → Ground → Shared → ℕ → List Item → Phase → Type 0
 PhaseFits M p g c s left Outside = (c.shelf.seat s ≡ outside) × (opened_of c.locks s ≡ None)
 PhaseFits M p g c s left Closing = (done_at (c.shelf.seat s) ≡ Some outside) × (opened_of c.locks s ≡ None)
 PhaseFits M p g c s left (Writing w) = WriterFits M p g c s left w
+PhaseFits M p g c s left (Reading r) = ReaderFits p g c s r
 PhaseFits M p g c s left Over = (c.shelf.seat s ≡ outside) × (opened_of c.locks s ≡ None)
 
 -- the committed lines, the moment and the dead are those that are shared

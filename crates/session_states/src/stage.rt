@@ -72,12 +72,43 @@ pub struct Writer {
     pub stage: Stage,
 }
 
+/// How the job of a reader's statement goes on.
+#[derive(Clone, Copy)]
+pub enum ReaderWork {
+    /// The job is to be handed out.
+    Due,
+    /// The job is handed out.
+    Out,
+    /// What the job lacked is read.
+    Fetching(Need),
+}
+
+/// How far a read-only transaction has come.
+#[derive(Drop)]
+pub enum ReaderStage {
+    /// The next item is taken up.
+    Between,
+    /// A statement is worked.
+    Working(Item, ReaderWork),
+}
+
+/// A read-only transaction. It wants no lock.
+#[derive(Drop)]
+pub struct Reader {
+    pub standing: Standing,
+    pub known: Known,
+    /// Something was said in it.
+    pub spoken: bool,
+    pub stage: ReaderStage,
+}
+
 #[derive(Drop)]
 pub enum Phase {
     Outside,
     /// No transaction is open any more, and the store puts away what it left.
     Closing,
     Writing(Writer),
+    Reading(Reader),
     /// The script was said to its end in a transaction.
     Over,
 }
