@@ -1,7 +1,10 @@
-ghost use Rattle.std.specs.Prelude.{◌≡◌, OnOk, OnErr, IfErr};
+ghost use Rattle.std.specs.Prelude.{◌≡◌, List, OnOk, OnErr, IfErr};
+ghost use Rattle.lock_needs.specs.declared.need.Need.{Need as LockNeed};
 ghost use Rattle.line_view.specs.Knowledge.{Lines, IsInOrder, Agrees};
 ghost use Rattle.line_view.specs.Held.{knows};
 ghost use Rattle.line_view.specs.Writes.{laid_all};
+ghost use Rattle.kept_apart.specs.Guards.{AreOwn};
+ghost use Rattle.kept_apart.specs.Alike.{IsGuarded};
 ghost use Rattle.line_store.specs.Seats.{IsMember, IsWriting};
 ghost use Rattle.line_store.specs.Shelves.{seen_by};
 ghost use Rattle.line_store.specs.Calls.{Changes, MayStopChange};
@@ -11,9 +14,10 @@ use line_view::{Known, Write};
 use rdb_types::{Image, Session};
 use std::alloc::Global;
 
-/// Brings what is known behind writes. Where memory fails all is forgotten.
+/// Brings what is known behind writes, and it stays guarded where they are one's own. Where memory fails all is forgotten.
 pub fn follow(alloc: Global, known: &mut Known, writes: &[Write])
-    ensures { (all : Lines) → IsInOrder all → Agrees (knows known.old) all → Agrees (knows known.new) (laid_all writes.now all) }
+    ensures guarded { (got : List LockNeed) → AreOwn got writes.now → IsGuarded got (knows known.old) → IsGuarded got (knows known.new) }
+    ensures agrees { (all : Lines) → IsInOrder all → Agrees (knows known.old) all → Agrees (knows known.new) (laid_all writes.now all) }
 {
     for write in writes {
         let image = match &write.image {
@@ -44,6 +48,8 @@ pub fn apply<L: LineStore>(
     ensures err { OnErr result (L.shelf store.new ≡ L.shelf store.old) }
     ensures cause { IfErr result (MayStopChange (L.shelf store.old) s.number writes.now) }
     ensures kept { OnErr result (known.new ≡ known.old) }
+    ensures follows { OnOk result ((all : Lines) → IsInOrder all → Agrees (knows known.old) all → Agrees (knows known.new) (laid_all writes.now all)) }
+    ensures guarded { (got : List LockNeed) → AreOwn got writes.now → IsGuarded got (knows known.old) → IsGuarded got (knows known.new) }
     ensures agrees { IsInOrder (L.shelf store.old).now → Agrees (knows known.old) (seen_by s.number (L.shelf store.old))
         → Agrees (knows known.new) (seen_by s.number (L.shelf store.new)) }
 {

@@ -1,4 +1,5 @@
-ghost use Rattle.std.specs.Prelude.{◌≡◌, Ok};
+ghost use Rattle.std.specs.Prelude.{◌≡◌, Ok, List};
+ghost use Rattle.lock_needs.specs.declared.need.Need.{Need as LockNeed};
 ghost use Rattle.line_view.specs.Knowledge.{IsInOrder, Agrees};
 ghost use Rattle.line_view.specs.Stops.{Lacks};
 ghost use Rattle.line_view.specs.Held.{knows};
@@ -6,7 +7,8 @@ ghost use Rattle.line_store.specs.declared.answers.Progress.TheVariants.{Done};
 ghost use Rattle.line_store.specs.Seats.{IsMember, IsAtRest};
 ghost use Rattle.line_store.specs.Shelves.{seen_by};
 ghost use Rattle.line_store.specs.Calls.{IsRead};
-ghost use Rattle.stepped_jobs.specs.Needs.{IsRead as IsReadFrom};
+ghost use Rattle.kept_apart.specs.Alike.{IsGuarded};
+ghost use Rattle.stepped_jobs.specs.Needs.{IsRead as IsReadFrom, IsLocked};
 
 use line_store::{LineStore, Progress, ReadStop};
 use line_view::{Known, Need};
@@ -25,6 +27,7 @@ pub fn fetch<L: LineStore>(
     ensures learnt { result ≡ Ok Done → Lacks (knows known.new) need → ⊥ }
     ensures agrees { IsInOrder (seen_by s.number (L.shelf store.old)) → Agrees (knows known.old) (seen_by s.number (L.shelf store.old))
         → Agrees (knows known.new) (seen_by s.number (L.shelf store.old)) }
+    ensures guarded { (got : List LockNeed) → IsLocked got need → IsGuarded got (knows known.old) → IsGuarded got (knows known.new) }
     ensures read { IsRead s.number (L.shelf store.old) (L.shelf store.new) result }
 {
     match need {

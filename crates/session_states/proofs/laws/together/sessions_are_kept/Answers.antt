@@ -1,0 +1,12 @@
+use Rattle.session_states.proofs.InTurn.{steps-on}
+use Rattle.session_states.proofs.Standing.{finds, kept}
+use Rattle.session_states.proofs.laws.together.sessions_are_kept.Goals as goal
+
+pub returns-clause-finds : goal.returns-clause-finds
+returns-clause-finds g c = finds g.S.Statements.stands g.met.S.Statements.orderly
+
+pub returns-clause-kept : goal.returns-clause-kept
+returns-clause-kept g c = kept g.S.Statements.stands g.met.S.Statements.orderly
+
+pub returns-clause-in_turn : goal.returns-clause-in_turn
+returns-clause-in_turn g c = steps-on g.S.Statements.stands g.met.S.Statements.orderly

@@ -1,0 +1,166 @@
+-- What ties a stage to the account, the locks and the store.
+use Rattle.std.specs.Prelude.{◌≡◌, ◌==◌, ℕ, Bool, true, false, not, List, [], take, length, Option, Some, None}
+use Rattle.rdo_ast.specs.declared.reply.Standing.{Standing}
+use Rattle.rdo_ast.specs.declared.syntax.Item.{Item}
+use Rattle.rdo_ast.specs.Tree.{Uttered}
+use Rattle.rdo_ast.specs.Views.{uttered_of}
+use Rattle.lock_needs.specs.declared.need.Need.{Need as LockNeed}
+use Rattle.lock_needs.specs.declared.party.OpenWant.{OpenWant}
+use Rattle.lock_tree_laws.specs.Forest.{opened_of}
+use Rattle.lock_tree_laws.specs.Wanted.{IsOf}
+use Rattle.rdb_account.specs.Places.{Place, Transaction}
+use Rattle.rdb_account.specs.Lawful.{is_nowait}
+use Rattle.rdb_account.specs.Legal.{ends_by}
+use Rattle.line_view.specs.declared.need.Need.{Need}
+use Rattle.line_view.specs.declared.need.Need.TheVariants as need
+use Rattle.line_view.specs.declared.writes.Write.{Write}
+use Rattle.line_view.specs.Held.{Held, knows}
+use Rattle.line_view.specs.Knowledge.{Knowledge, Lines, IsInOrder, Agrees}
+use Rattle.line_view.specs.Writes.{laid_all}
+use Rattle.kept_apart.specs.Guards.{AreOwn, line_node, is_guarded}
+use Rattle.kept_apart.specs.Alike.{IsGuarded}
+use Rattle.session_jobs.specs.Records.{Model, IsRight}
+use Rattle.session_jobs.specs.Asked.{AsksFor, is_lock_for}
+use Rattle.session_jobs.specs.Jobs.{WhereItAgrees, IsRecord, worked_of}
+use Rattle.session_jobs.specs.declared.jobs.TxRecord.{TxRecord}
+use Rattle.line_store.specs.Seats.{Seat, outside, beginning, writing, reading, changing, committing, rolling_back, done_at, Adds}
+use Rattle.line_store.specs.Shelves.{Shelf, seen_by}
+use Rattle.lock_ties.specs.Ties.{IsTiedTo, needs_at}
+use Rattle.stepped_jobs.specs.Needs.{IsLocked}
+use Rattle.line_steps.specs.Right.{Ground}
+use Rattle.session_states.specs.declared.stage.Work.{Work}
+use Rattle.session_states.specs.declared.stage.Work.TheVariants.{Opening, Lacking, Housing, Fetching, Lodging}
+use Rattle.session_states.specs.declared.stage.Laying.{Laying}
+use Rattle.session_states.specs.declared.stage.Laying.TheVariants.{Claiming, Changing}
+use Rattle.session_states.specs.declared.stage.End.TheVariants.{Committing, RollingBack, Leaving}
+use Rattle.session_states.specs.declared.stage.Stage.{Stage}
+use Rattle.session_states.specs.declared.stage.Stage.TheVariants.{Between, Working, Saying, Ending}
+use Rattle.session_states.specs.declared.stage.Writer.{Writer}
+use Rattle.session_states.specs.declared.stage.ReaderStage.{ReaderStage}
+use Rattle.session_states.specs.declared.stage.ReaderStage.TheVariants as look
+use Rattle.session_states.specs.declared.stage.Reader.{Reader}
+use Rattle.session_states.specs.declared.stage.Phase.{Phase}
+use Rattle.session_states.specs.declared.stage.Phase.TheVariants.{Outside, Closing, Writing, Reading, Over}
+use Rattle.session_states.specs.declared.stage.Member.{Member}
+use Rattle.session_states.specs.Locks.{lock_of}
+use Rattle.session_states.specs.Shared.{Shared}
+
+-- ---- the statement under way
+
+-- what its job lacked, it asks for over all that agrees with what is known
+abbrev pub IsLacked : Model → Standing → Uttered → Knowledge → Need → Type 0
+IsLacked M standing item known n = WhereItAgrees M known (λ t. AsksFor standing item t (is_lock_for item n))
+
+abbrev pub WorkFits : Model → List LockNeed → Standing → Uttered → Knowledge → Work → Type 0
+WorkFits M got standing item known (Lacking n) = IsLacked M standing item known n
+WorkFits M got standing item known (Housing room key) = IsLacked M standing item known (need.Room room) × (key.area ≡ room.area)
+WorkFits M got standing item known (Fetching n) = IsLocked got n
+WorkFits M got standing item known (Lodging room key) = (is_guarded got (line_node key) ≡ true) × (key.area ≡ room.area)
+WorkFits M got standing item known _ = Unit {0}
+
+-- the record is right for what is known, and the lines of the writes before the place are locked
+abbrev pub LayingFits : Model → List ℕ → List LockNeed → Standing → Uttered → Knowledge → TxRecord → Laying → Type 0
+LayingFits M word got standing item known r (Claiming place) = IsRecord M word standing item known r × AreOwn got (take place r.writes)
+LayingFits M word got standing item known r Changing = Unit {0}
+
+-- It doesn't end its transaction. A COMMIT or ROLLBACK comes once something was said.
+abbrev pub StageFits : Model → List ℕ → List LockNeed → Standing → Held → Bool → Stage → Type 0
+StageFits M word got standing known spoken Between = spoken ≡ true
+StageFits M word got standing known spoken (Working item work) = (ends_by (uttered_of item) ≡ false) × WorkFits M got standing (uttered_of item) (knows known) work
+StageFits M word got standing known spoken (Saying item r laying) = (ends_by (uttered_of item) ≡ false) × LayingFits M word got standing (uttered_of item) (knows known) r laying
+StageFits M word got standing known spoken (Ending end) = spoken ≡ true
+
+-- ---- the store
+
+-- where the store has a session of this stage with these writes
+abbrev pub HasSeat : Stage → List Write → Seat → Type 0
+HasSeat (Working item Opening) ws seat = (seat ≡ beginning) × (ws ≡ [])
+HasSeat (Ending Committing) ws seat = seat ≡ committing ws
+HasSeat (Ending RollingBack) ws seat = seat ≡ rolling_back ws
+HasSeat (Ending Leaving) ws seat = seat ≡ rolling_back ws
+HasSeat stage ws seat = seat ≡ writing ws
+
+-- The store lays a record's writes over those before. The record is right for what was known, and what is known now is behind it.
+pub record IsLaid (M : Model) (p : Place) (g : Ground) (c : Shared) (s : ℕ) (standing : Standing) (known : Held) (item : Uttered) (r : TxRecord) : Type 0 where
+  pub behind : List Write
+  pub seat : c.shelf.seat s ≡ changing behind
+  pub adds : Adds r.writes (g.desk s).writes behind
+  pub own : AreOwn (needs_at p s) behind
+  pub right : IsRight M c.word standing (g.desk s).known (worked_of item r)
+  pub guarded : IsGuarded (needs_at p s) (knows known)
+  pub agrees : Agrees (knows known) (laid_all behind g.now)
+
+-- what the laws call its desk is what it knows, and what the store has of it
+abbrev pub DeskFits : Model → Place → Ground → Shared → ℕ → Standing → Held → Stage → Type 0
+DeskFits M p g c s standing known (Saying item r Changing) = IsLaid M p g c s standing known (uttered_of item) r
+DeskFits M p g c s standing known stage = ((g.desk s).known ≡ knows known) × HasSeat stage (g.desk s).writes (c.shelf.seat s)
+
+-- ---- the locks
+
+-- no want is open but of this lock
+abbrev pub WantsAtMost : Option LockNeed → Option OpenWant → Type 0
+WantsAtMost (Some n) opened = IsOf n opened
+WantsAtMost None opened = opened ≡ None
+
+-- ---- a session
+
+abbrev pub has_said : Option Transaction → Bool
+has_said (Some t) = not (length t.lines == 0)
+has_said None = false
+
+abbrev pub IsAtEnd : List Item → Stage → Type 0
+IsAtEnd left (Ending Leaving) = left ≡ []
+IsAtEnd left stage = Unit {0}
+
+pub record WriterFits (M : Model) (p : Place) (g : Ground) (c : Shared) (s : ℕ) (left : List Item) (w : Writer) : Type 0 where
+  pub desk : DeskFits M p g c s w.standing w.known w.stage
+  pub spoken : has_said (p.transaction s) ≡ w.spoken
+  pub waits : is_nowait (p.transaction s) ≡ not w.waits
+  pub stage : StageFits M c.word (needs_at p s) w.standing w.known w.spoken w.stage
+  pub wants : WantsAtMost (lock_of w.stage) (opened_of c.locks s)
+  pub ends : IsAtEnd left w.stage
+
+-- a reader's statement doesn't end its transaction
+abbrev pub ReaderStageFits : Bool → ReaderStage → Type 0
+ReaderStageFits spoken look.Between = spoken ≡ true
+ReaderStageFits spoken (look.Working item work) = ends_by (uttered_of item) ≡ false
+
+-- a reader has no lock, and the store has it at the lines at its start
+pub record ReaderFits (p : Place) (g : Ground) (c : Shared) (s : ℕ) (r : Reader) : Type 0 where
+  pub known : (g.desk s).known ≡ knows r.known
+  pub seat : c.shelf.seat s ≡ reading (g.desk s).start
+  pub spoken : has_said (p.transaction s) ≡ r.spoken
+  pub needless : needs_at p s ≡ []
+  pub stage : ReaderStageFits r.spoken r.stage
+  pub wants : opened_of c.locks s ≡ None
+
+abbrev pub PhaseFits : Model → Place → Ground → Shared → ℕ → List Item → Phase → Type 0
+PhaseFits M p g c s left Outside = (c.shelf.seat s ≡ outside) × (opened_of c.locks s ≡ None)
+PhaseFits M p g c s left Closing = (done_at (c.shelf.seat s) ≡ Some outside) × (opened_of c.locks s ≡ None)
+PhaseFits M p g c s left (Writing w) = WriterFits M p g c s left w
+PhaseFits M p g c s left (Reading r) = ReaderFits p g c s r
+PhaseFits M p g c s left Over = (c.shelf.seat s ≡ outside) × (opened_of c.locks s ≡ None)
+
+-- the committed lines, the moment and the dead are those that are shared
+pub record IsGround (g : Ground) (c : Shared) : Type 0 where
+  pub now : g.now ≡ c.shelf.now
+  pub time : g.time ≡ c.shelf.clock.time
+  pub dead : g.dead ≡ c.dead
+
+-- the account tells the same as the locks and the store, and session s fits
+pub record Fits (M : Model) (p : Place) (g : Ground) (c : Shared) (s : ℕ) (m : Member) : Type 0 where
+  pub ground : IsGround g c
+  pub tied : IsTiedTo p c.locks
+  pub phase : PhaseFits M p g c s m.left m.phase
+
+-- ---- what is known grows
+
+-- What is known more agrees with the lines that the session sees, and is guarded where the lock to read this is got.
+pub record Learns (s : ℕ) (h : Shelf) (n : Need) (known new : Held) : Type 0 where
+  pub agrees : IsInOrder (seen_by s h) → Agrees (knows known) (seen_by s h) → Agrees (knows new) (seen_by s h)
+  pub guarded : (got : List LockNeed) → IsLocked got n → IsGuarded got (knows known) → IsGuarded got (knows new)
+
+-- What is known follows writes.
+pub record Follows (writes : List Write) (known new : Held) : Type 0 where
+  pub agrees : (all : Lines) → IsInOrder all → Agrees (knows known) all → Agrees (knows new) (laid_all writes all)
+  pub guarded : (got : List LockNeed) → AreOwn got writes → IsGuarded got (knows known) → IsGuarded got (knows new)

@@ -1,0 +1,69 @@
+-- What the account sees of a session.
+use Rattle.std.specs.Prelude.{ℕ, Bool, true, false, List, map, Option, Some, None}
+use Rattle.rdo_ast.specs.declared.reply.Standing.{Standing}
+use Rattle.rdo_ast.specs.declared.syntax.Item.{Item}
+use Rattle.rdo_ast.specs.Tree.{Uttered, said, commit, rollback}
+use Rattle.rdo_ast.specs.Views.{uttered_of}
+use Rattle.line_view.specs.Held.{Held}
+use Rattle.line_steps.specs.Members.{State, outside, writing, reading, ended, Member as Seen, member}
+use Rattle.session_states.specs.declared.stage.Work.TheVariants.{Opening}
+use Rattle.session_states.specs.declared.stage.Laying.TheVariants.{Changing}
+use Rattle.session_states.specs.declared.stage.End.{End}
+use Rattle.session_states.specs.declared.stage.End.TheVariants.{Journal, Ready, Committing, RollingBack, Leaving}
+use Rattle.session_states.specs.declared.stage.Stage.{Stage}
+use Rattle.session_states.specs.declared.stage.Stage.TheVariants.{Between, Working, Saying, Ending}
+use Rattle.session_states.specs.declared.stage.Writer.{Writer}
+use Rattle.session_states.specs.declared.stage.ReaderStage.{ReaderStage}
+use Rattle.session_states.specs.declared.stage.ReaderStage.TheVariants as look
+use Rattle.session_states.specs.declared.stage.Reader.{Reader}
+use Rattle.session_states.specs.declared.stage.Phase.{Phase}
+use Rattle.session_states.specs.declared.stage.Phase.TheVariants.{Outside, Closing, Writing, Reading, Over}
+use Rattle.session_states.specs.declared.stage.Member.{Member}
+
+abbrev pub item_at_end : End → Option Uttered
+item_at_end Journal = Some (said commit)
+item_at_end Ready = Some (said commit)
+item_at_end Committing = Some (said commit)
+item_at_end RollingBack = Some (said rollback)
+item_at_end Leaving = None
+
+-- the statement under way
+abbrev pub item_of : Stage → Option Uttered
+item_of Between = None
+item_of (Working item work) = Some (uttered_of item)
+item_of (Saying item r laying) = Some (uttered_of item)
+item_of (Ending end) = item_at_end end
+
+abbrev pub reader_item : ReaderStage → Option Uttered
+reader_item look.Between = None
+reader_item (look.Working item work) = Some (uttered_of item)
+
+-- whether the store has nothing to do at this stage
+abbrev pub is_at_rest : Stage → Bool
+is_at_rest (Working item Opening) = false
+is_at_rest (Saying item r Changing) = false
+is_at_rest (Ending Committing) = false
+is_at_rest (Ending RollingBack) = false
+is_at_rest (Ending Leaving) = false
+is_at_rest stage = true
+
+abbrev pub state_in : Phase → State
+state_in Outside = outside
+state_in Closing = outside
+state_in (Writing w) = writing w.standing (item_of w.stage)
+state_in (Reading r) = reading r.standing (reader_item r.stage)
+state_in Over = ended
+
+abbrev pub seen : Member → Seen
+seen m = member (map uttered_of m.left) (state_in m.phase) m.total
+
+-- ---- sessions by their parts
+
+abbrev pub writer : Standing → Held → (spoken waits : Bool) → Stage → Writer
+writer standing known spoken waits stage = record { standing = standing; known = known; spoken = spoken; waits = waits; stage = stage }
+
+abbrev pub reader : Standing → Held → (spoken : Bool) → ReaderStage → Reader
+reader standing known spoken stage = record { standing = standing; known = known; spoken = spoken; stage = stage }
+
+abbrev pub session : List Item → ℕ → Phase → Member
+session left total phase = record { left = left; total = total; phase = phase }

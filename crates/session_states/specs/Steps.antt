@@ -1,0 +1,29 @@
+-- What a step of a session is, from what is shared and the session before to those behind it.
+use Rattle.std.specs.Prelude.{◌≡◌, ℕ, List}
+use Rattle.rdb_account.specs.Events.{Event}
+use Rattle.rdb_account.specs.Places.{Opening, Place, place_from}
+use Rattle.session_jobs.specs.Records.{Model}
+use Rattle.line_steps.specs.Right.{Ground}
+use Rattle.line_steps.specs.Steps.{Here, Steps}
+use Rattle.session_states.specs.declared.stage.Member.{Member}
+use Rattle.session_states.specs.States.{seen}
+use Rattle.session_states.specs.Shared.{Shared, LeavesOthers}
+use Rattle.session_states.specs.Fits.{Fits}
+
+-- what session s finds
+pub record Finds (M : Model) (o : Opening) (p : Place) (g : Ground) (c : Shared) (s : ℕ) (m : Member) : Type 0 where
+  pub word : o.word ≡ c.word
+  pub here : Here M o p g s (seen m)
+  pub fits : Fits M p g c s m
+
+-- what it leaves behind the events
+pub record Leaves (M : Model) (o : Opening) (p : Place) (g : Ground) (d : Shared) (s : ℕ) (n : Member) (es : List Event) : Type 0 where
+  pub ground : Ground
+  pub steps : Steps M o p g s (seen n) ground es
+  pub fits : Fits M (place_from o p es) ground d s n
+
+-- A step of s, with these events, from wherever it finds that it fits.
+pub record Step (M : Model) (s : ℕ) (c : Shared) (m : Member) (d : Shared) (n : Member) (es : List Event) : Type 0 where
+  pub word : d.word ≡ c.word
+  pub others : LeavesOthers s c d
+  pub leaves : (o : Opening) (p : Place) (g : Ground) → Finds M o p g c s m → Leaves M o p g d s n es

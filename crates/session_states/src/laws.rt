@@ -1,0 +1,9 @@
+// The law of each step of a stage: its events in the account, and that the stage that it comes to fits.
+pub mod endings;
+pub mod outside;
+pub mod reading;
+pub mod refusing;
+pub mod storing;
+pub mod together;
+pub mod wanting;
+pub mod working;

@@ -1,0 +1,52 @@
+// The steps of a session in a read-only transaction, which wants no lock and has nothing to undo.
+ghost use Rattle.std.specs.Prelude.{◌≡◌, ◌∷◌, ◌&&◌, ◌||◌, not, ℕ, Bool, true, false, List, [], Some};
+ghost use Rattle.rdo_ast.specs.declared.reply.Reply.TheVariants.{Done as DoneReply, NoMemory};
+ghost use Rattle.rdo_ast.specs.declared.reply.Standing.{Standing};
+ghost use Rattle.rdo_ast.specs.declared.reply.Standing.TheVariants.{Closed, ReadOnly};
+ghost use Rattle.rdo_ast.specs.declared.syntax.Item.{Item};
+ghost use Rattle.rdo_ast.specs.Tree.{said, commit, rollback};
+ghost use Rattle.rdo_ast.specs.Views.{uttered_of};
+ghost use Rattle.rdb_account.specs.Events.{Began, Committed, RolledBack, Said};
+ghost use Rattle.rdb_account.specs.Places.{begins, is_done, leaves_none};
+ghost use Rattle.rdb_account.specs.Legal.{ends_by};
+ghost use Rattle.line_view.specs.Held.{Held, knows, nothing};
+ghost use Rattle.line_view.specs.Knowledge.{IsInOrder, Agrees};
+ghost use Rattle.line_view.specs.declared.need.Need.{Need};
+ghost use Rattle.line_store.specs.Seats.{outside, reading};
+ghost use Rattle.line_store.specs.Shelves.{Shelf, seen_by};
+ghost use Rattle.line_store.specs.Calls.{KeepsOthers, Moves};
+ghost use Rattle.session_jobs.specs.Jobs.{IsFound};
+ghost use Rattle.session_jobs.specs.declared.jobs.Found.TheVariants.{Done};
+ghost use Rattle.session_jobs.specs.declared.jobs.TxRecord.{TxRecord};
+ghost use Rattle.session_states.specs.declared.stage.ReaderWork.{ReaderWork};
+ghost use Rattle.session_states.specs.declared.stage.ReaderWork.TheVariants.{Due, Out, Fetching};
+ghost use Rattle.session_states.specs.declared.stage.ReaderStage.TheVariants.{Between, Working};
+ghost use Rattle.session_states.specs.declared.stage.Phase.TheVariants.{Outside, Over, Reading};
+ghost use Rattle.session_states.specs.States.{reader, session};
+ghost use Rattle.session_states.specs.Shared.{Shared, with_shelf};
+ghost use Rattle.session_states.specs.Steps.{Step};
+
+use session_jobs::Statements;
+
+/// A read-only transaction begins as the store is told so, and reads the lines that are committed then, whatever others commit. Its
+/// statements are worked, what they lack is read, and they are said at once. A START_TRANSACTION for which no memory is found is said
+/// otherwise.
+pub fn readers_step<S: Statements>()
+    ensures begins { (s : ℕ) (c : Shared) (shelf : Shelf) (item : Item) (left : List Item) (total : ℕ) → begins (uttered_of item) ≡ Some ReadOnly → Moves s (reading c.shelf.now) c.shelf shelf → Step S.stands s c (session (item ∷ left) total Outside) (with_shelf shelf c) (session left total (Reading (reader Closed nothing false (Working item Due)))) (Began s ReadOnly ∷ []) }
+    ensures takes { (s : ℕ) (c : Shared) (item : Item) (left : List Item) (total : ℕ) (standing : Standing) (known : Held) (spoken : Bool) → ends_by (uttered_of item) ≡ false → Step S.stands s c (session (item ∷ left) total (Reading (reader standing known spoken Between))) c (session left total (Reading (reader standing known spoken (Working item Due)))) [] }
+    ensures hands_out { (s : ℕ) (c : Shared) (left : List Item) (total : ℕ) (standing : Standing) (known : Held) (spoken : Bool) (item : Item) → Step S.stands s c (session left total (Reading (reader standing known spoken (Working item Due)))) c (session left total (Reading (reader standing known spoken (Working item Out)))) [] }
+    ensures lacking { (s : ℕ) (c : Shared) (left : List Item) (total : ℕ) (standing : Standing) (known : Held) (spoken : Bool) (item : Item) (n : Need) → Step S.stands s c (session left total (Reading (reader standing known spoken (Working item Out)))) c (session left total (Reading (reader standing known spoken (Working item (Fetching n))))) [] }
+    ensures more { (s : ℕ) (c : Shared) (shelf : Shelf) (left : List Item) (total : ℕ) (standing : Standing) (known new : Held) (spoken : Bool) (item : Item) (n : Need) → KeepsOthers s c.shelf shelf → shelf.now ≡ c.shelf.now → shelf.seat s ≡ c.shelf.seat s → (IsInOrder (seen_by s c.shelf) → Agrees (knows known) (seen_by s c.shelf) → Agrees (knows new) (seen_by s c.shelf)) → Step S.stands s c (session left total (Reading (reader standing known spoken (Working item (Fetching n))))) (with_shelf shelf c) (session left total (Reading (reader standing new spoken (Working item (Fetching n))))) [] }
+    ensures read { (s : ℕ) (c : Shared) (shelf : Shelf) (left : List Item) (total : ℕ) (standing : Standing) (known new : Held) (spoken : Bool) (item : Item) (n : Need) → KeepsOthers s c.shelf shelf → shelf.now ≡ c.shelf.now → shelf.seat s ≡ c.shelf.seat s → (IsInOrder (seen_by s c.shelf) → Agrees (knows known) (seen_by s c.shelf) → Agrees (knows new) (seen_by s c.shelf)) → Step S.stands s c (session left total (Reading (reader standing known spoken (Working item (Fetching n))))) (with_shelf shelf c) (session left total (Reading (reader standing new spoken (Working item Due)))) [] }
+    ensures answered { (s : ℕ) (c : Shared) (left : List Item) (total : ℕ) (standing : Standing) (known : Held) (spoken : Bool) (item : Item) (r : TxRecord) → (spoken || not (leaves_none (uttered_of item) && not (is_done r.reply))) ≡ true → IsFound S.stands c.word standing (uttered_of item) (knows known) (Done r) → Step S.stands s c (session left total (Reading (reader standing known spoken (Working item Out)))) c (session left total (Reading (reader ReadOnly known true Between))) (Said s (uttered_of item) r.choices r.reply ∷ []) }
+    ensures forgone { (s : ℕ) (c : Shared) (left : List Item) (total : ℕ) (standing : Standing) (known : Held) (spoken : Bool) (item : Item) (work : ReaderWork) → (spoken || not (leaves_none (uttered_of item))) ≡ true → Step S.stands s c (session left total (Reading (reader standing known spoken (Working item work)))) c (session left total (Reading (reader ReadOnly known true Between))) (Said s (uttered_of item) [] NoMemory ∷ []) }
+{}
+
+/// A read-only transaction ends in one step: by COMMIT, at the moment that the store tells, by ROLLBACK, with its script, or as no memory
+/// is found for the START_TRANSACTION that began it.
+pub fn readers_end<S: Statements>()
+    ensures commits { (s : ℕ) (c : Shared) (shelf : Shelf) (item : Item) (left : List Item) (total : ℕ) (standing : Standing) (known : Held) (spoken : Bool) → uttered_of item ≡ said commit → Moves s outside c.shelf shelf → Step S.stands s c (session (item ∷ left) total (Reading (reader standing known spoken Between))) (with_shelf shelf c) (session left total Outside) (Committed s shelf.clock.time ∷ Said s (said commit) [] (DoneReply []) ∷ []) }
+    ensures rolls_back { (s : ℕ) (c : Shared) (shelf : Shelf) (item : Item) (left : List Item) (total : ℕ) (standing : Standing) (known : Held) (spoken : Bool) → uttered_of item ≡ said rollback → Moves s outside c.shelf shelf → Step S.stands s c (session (item ∷ left) total (Reading (reader standing known spoken Between))) (with_shelf shelf c) (session left total Outside) (RolledBack s ∷ Said s (said rollback) [] (DoneReply []) ∷ []) }
+    ensures leaves { (s : ℕ) (c : Shared) (shelf : Shelf) (total : ℕ) (standing : Standing) (known : Held) (spoken : Bool) → Moves s outside c.shelf shelf → Step S.stands s c (session [] total (Reading (reader standing known spoken Between))) (with_shelf shelf c) (session [] total Over) (RolledBack s ∷ []) }
+    ensures unstarted { (s : ℕ) (c : Shared) (shelf : Shelf) (left : List Item) (total : ℕ) (standing : Standing) (known : Held) (item : Item) (work : ReaderWork) → leaves_none (uttered_of item) ≡ true → Moves s outside c.shelf shelf → Step S.stands s c (session left total (Reading (reader standing known false (Working item work)))) (with_shelf shelf c) (session left total Outside) (Said s (uttered_of item) [] NoMemory ∷ RolledBack s ∷ []) }
+{}

@@ -1,0 +1,124 @@
+use crate::item_queue::ItemQueue;
+use line_view::{Known, Need, Room};
+use rdb_types::Dbkey;
+use rdo_ast::reply::Standing;
+use rdo_ast::syntax::Item;
+use session_jobs::TxRecord;
+
+/// How the job of a statement goes on.
+#[derive(Clone, Copy)]
+pub enum Work {
+    /// The store opens the transaction that the statement begins.
+    Opening,
+    /// The job is to be handed out.
+    Due,
+    /// The job is handed out.
+    Out,
+    /// The lock on what the job lacked is wanted. A room has none before a line is named for it.
+    Lacking(Need),
+    /// The lock on this line is wanted, for a room that the job lacked.
+    Housing(Room, Dbkey),
+    /// What the job lacked is locked, and is read.
+    Fetching(Need),
+    /// The line that was named for a room is locked; it is read, and its page is taken.
+    Lodging(Room, Dbkey),
+}
+
+/// What is done before the record of a statement is said.
+#[derive(Clone, Copy)]
+pub enum Laying {
+    /// The lock on the line of the write at this place is wanted.
+    Claiming(usize),
+    /// The store lays the writes.
+    Changing,
+}
+
+/// How a read-write transaction ends.
+#[derive(Clone, Copy)]
+pub enum End {
+    /// A COMMIT wants the journal.
+    Journal,
+    /// The COMMIT has got it.
+    Ready,
+    /// The store commits.
+    Committing,
+    /// The store undoes, for a ROLLBACK.
+    RollingBack,
+    /// The store undoes, at the end of the script.
+    Leaving,
+}
+
+/// How far a read-write transaction has come.
+#[derive(Drop)]
+pub enum Stage {
+    /// The next item is taken up.
+    Between,
+    /// A statement is worked.
+    Working(Item, Work),
+    /// A statement was worked, and is said once its writes are laid.
+    Saying(Item, TxRecord, Laying),
+    Ending(End),
+}
+
+/// A read-write transaction.
+#[derive(Drop)]
+pub struct Writer {
+    pub standing: Standing,
+    pub known: Known,
+    /// Something was said in it.
+    pub spoken: bool,
+    /// It waits for locks. For the journal it waits in any case.
+    pub waits: bool,
+    pub stage: Stage,
+}
+
+/// How the job of a reader's statement goes on.
+#[derive(Clone, Copy)]
+pub enum ReaderWork {
+    /// The job is to be handed out.
+    Due,
+    /// The job is handed out.
+    Out,
+    /// What the job lacked is read.
+    Fetching(Need),
+}
+
+/// How far a read-only transaction has come.
+#[derive(Drop)]
+pub enum ReaderStage {
+    /// The next item is taken up.
+    Between,
+    /// A statement is worked.
+    Working(Item, ReaderWork),
+}
+
+/// A read-only transaction. It wants no lock.
+#[derive(Drop)]
+pub struct Reader {
+    pub standing: Standing,
+    pub known: Known,
+    /// Something was said in it.
+    pub spoken: bool,
+    pub stage: ReaderStage,
+}
+
+#[derive(Drop)]
+pub enum Phase {
+    Outside,
+    /// No transaction is open any more, and the store puts away what it left.
+    Closing,
+    Writing(Writer),
+    Reading(Reader),
+    /// The script was said to its end in a transaction.
+    Over,
+}
+
+/// A session.
+#[derive(Drop)]
+pub struct Member {
+    /// What it hasn't said yet, but for its statement under way.
+    pub left: ItemQueue,
+    /// How many items its script has.
+    pub total: u32,
+    pub phase: Phase,
+}
