@@ -1,14 +1,11 @@
 -- The writing of a row keeps to the areas of its relation and of its indexes.
-use Rattle.std.proofs.Common.{◌≡◌, ℕ, true, false, ◌<◌, List, [], ◌∷◌, get_or, length, drop, ◌+◌, Option, Some, None, refl, sym, ap, subst, ◌∙◌}
+use Rattle.std.proofs.Common.{◌≡◌, ℕ, true, false, ◌<◌, List, [], ◌∷◌, get_or, length, Option, Some, None, sym, ap, subst, ◌∙◌}
 use Rattle.std.specs.Prelude.{Result, Ok, Err, slice_get}
-use Rattle.std.specs.FinMap.Entries.{find}
 use Rattle.rdb_types.specs.declared.keys.Dbkey.{Dbkey}
-use Rattle.rdb_types.specs.Order.{dbkey_order}
 use Rattle.rdo_ast.specs.Tree.{Name}
 use Rattle.rdb_meaning.specs.declared.tables.Relation.{Relation as Rows}
 use Rattle.rdb_meaning.specs.declared.tables.Tables.{Tables}
 use Rattle.rdb_meaning.specs.Contents.{Row, relation_named, is_too_long}
-use Rattle.line_view.specs.declared.need.Need.{Need}
 use Rattle.line_view.specs.declared.need.Need.TheVariants.{Line, Area, Room}
 use Rattle.line_view.specs.declared.stop.Stop.TheVariants.{Missing, Bad, NoMemory, Own}
 use Rattle.line_view.specs.Knowledge.{Lines}
@@ -26,7 +23,7 @@ use Rattle.sound_changes.proofs.Named.{Fits, all_fit, root_area}
 use Rattle.sound_changes.proofs.IndexLaid.{at_place}
 use Rattle.sound_changes.proofs.RowLaid.{row_goes as line_erased}
 use Rattle.statement_view.specs.Over.{Over, Stands, laid_over, knows_over, room_at}
-use Rattle.statement_view.specs.Areas.{is_among, IsNeedOf, WritesOf, KeepsTo, IsRoomOf}
+use Rattle.statement_view.specs.Areas.{is_among, IsNeedOf, WritesOf, KeepsTo}
 use Rattle.row_writes.specs.declared.target.TargetRelation.{TargetRelation}
 use Rattle.row_writes.specs.declared.stop.PairRefusal.{PairRefusal}
 use Rattle.row_writes.specs.Stop.{PairStop, RowStop}
@@ -35,7 +32,7 @@ use Rattle.row_writes.specs.Pairs.{TakesPair}
 use Rattle.row_writes.specs.Changes.{Underway, tables_to, row_stop_of}
 use Rattle.row_writes.specs.Rows.{IsSoundView, TellsNoRoom}
 use Rattle.row_writes.specs.Areas.{KeepsToIndex, PairKeeps, areas_of, PairsKeep, areas_with, StoreKeeps, ChangeKeeps, EraseKeeps}
-use Rattle.row_writes.proofs.AreaLists.{Wider, one_more_area, first_area, one_of, index_among, nothing_written, writes_then, writes_wider, need_wider, StopsAt, stops_at}
+use Rattle.row_writes.proofs.AreaLists.{Wider, one_more_area, first_area, one_of, index_among, nothing_written, writes_then, writes_wider, need_wider, stops_at}
 use Rattle.row_writes.proofs.IndexKept.{SomeTree, HasNot}
 use Rattle.row_writes.proofs.Steps.{waits, index, fresh, gone, left_index, left_fresh}
 use Rattle.row_writes.proofs.InTurn.{ChangesSome, split}
