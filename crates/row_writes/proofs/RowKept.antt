@@ -43,7 +43,7 @@ use Rattle.row_writes.proofs.Stopping.{row_stops}
 -- ---- one index
 
 -- the root of an index is in its area
-root_of : (all : Lines) (c : Catalog) (t : Tables) (seen : _) (area : ℕ) (x : IndexLine) → IsSoundFor all c t seen → IsIndexOn c area x → x.root.area ≡ x.area
+pub root_of : (all : Lines) (c : Catalog) (t : Tables) (seen : _) (area : ℕ) (x : IndexLine) → IsSoundFor all c t seen → IsIndexOn c area x → x.root.area ≡ x.area
 root_of all c t seen area x sound own =
     let d = directory c.lines in
     let u = catalog_tables c.lines in
