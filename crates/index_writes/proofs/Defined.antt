@@ -75,7 +75,7 @@ asked (Some need) other = need
 asked None other = other
 
 -- what is named is a room of the index or of the catalog
-next_in : (known : Knowledge) (area : ℕ) (need : Need) → IsNextRoom known (index_rooms area) need → (needs.Room (index_room area) ≡ need) ⊎ (needs.Room (catalog_room 0) ≡ need)
+pub next_in : (known : Knowledge) (area : ℕ) (need : Need) → IsNextRoom known (index_rooms area) need → (needs.Room (index_room area) ≡ need) ⊎ (needs.Room (catalog_room 0) ≡ need)
 next_in known area need is =
     elim (is_some (known.room (index_room area))) as (λ b. option_map needs.Room (cond b (first_unknown_room known (catalog_room 0 ∷ [])) (Some (index_room area))) ≡ Some need → (needs.Room (index_room area) ≡ need) ⊎ (needs.Room (catalog_room 0) ≡ need)) [
       | true ↦ λ h. elim (is_some (known.room (catalog_room 0))) as (λ b. option_map needs.Room (cond b None (Some (catalog_room 0))) ≡ Some need → (needs.Room (index_room area) ≡ need) ⊎ (needs.Room (catalog_room 0) ≡ need)) [
@@ -89,7 +89,7 @@ abbrev IsStopped : Held → Catalog → IndexDefinition → Tables → SchemaSto
 IsStopped base c d t = Stops (λ need. (definition_refusal d c.tables ≡ None) × Lacks (knows base) need) (λ key. ⊥) (IsNotIndexed base c d t)
 
 told_room : (base : Held) (c : Catalog) (d : IndexDefinition) (t : Tables) (room : RoomOf) (told : SchemaStop) → definition_refusal d c.tables ≡ None → (AreRoomsKnown (knows base) room.area room.class all_rooms → HasNoRoom base c) → TellsRoom base room told → IsStopped base c d t told
-told_room base c d t room (Missing need) none because tells = (none, tells)
+told_room base c d t room (Missing need) none because tells = (none, tells.0)
 told_room base c d t room (Own refusal) none because tells = subst (IsNotIndexed base c d t) (sym tells.0) (none, because tells.1)
 told_room base c d t room (Bad key) none because tells = absurd tells
 told_room base c d t room NoMemory none because tells = absurd tells
@@ -113,7 +113,7 @@ index_stops old new c d stop told tells said = λ t first view.
 
 module _ (old mid : Over) (c : Catalog) (d : IndexDefinition) (writes given : List Write) (same : given ≡ writes) (none : definition_refusal d c.tables ≡ None) (written : IsIndexWritten (knows_over old) d.name (new_index d c.tables) writes) where
   -- the new index
-  abbrev x : IndexLine
+  abbrev pub x : IndexLine
   x = record {
     area = new_index_area c.tables;
     relation = area_of (relation_named d.relation c.tables);
@@ -123,26 +123,26 @@ module _ (old mid : Over) (c : Catalog) (d : IndexDefinition) (writes given : Li
     name = d.name;
   }
 
-  line : IsLineWritten (Index x) given
+  pub line : IsLineWritten (Index x) given
   line = subst (IsLineWritten (Index x)) (sym same) (line_written (knows_over old) 0 (Index x) writes written.line)
 
   module _ (t : Tables) (first : Lines) (view : IsSoundView old c t first) where
     abbrev all : Lines
     all = laid_over old.lines first
 
-    root : written.root.area ≡ new_index_area c.tables
+    pub root : written.root.area ≡ new_index_area c.tables
     root = view.stands.agrees.within (index_room (new_index_area c.tables)) written.root written.room
 
-    there : (rel : Rows) × (relation_named d.relation t ≡ Some rel)
+    pub there : (rel : Rows) × (relation_named d.relation t ≡ Some rel)
     there = let s = found d t (no_names all c t d view.sound none) in (s.rel, s.there)
 
-    abbrev rel : Rows
+    abbrev pub rel : Rows
     rel = there.0
 
     fields : fields_of (relation_named d.relation c.tables) ≡ rel.fields
     fields = fields_alike all c t d view.sound ∙ ap fields_of there.1
 
-    keys : AllByRecursion (λ (e : Dbkey × Row). IsKey (key_of x.fields e.1)) rel.rows
+    pub keys : AllByRecursion (λ (e : Dbkey × Row). IsKey (key_of x.fields e.1)) rel.rows
     keys =
         subst (λ fs. AllByRecursion (λ (e : Dbkey × Row). IsKey (key_of (positions_of d.fields fs) e.1)) rel.rows) (sym fields)
         (keys_fit all c t d.relation rel d.fields view.sound there.1 (subst (λ o. longest_key d.fields (fields_of o) ≤ 120) there.1 (short all c t d view.sound none)))

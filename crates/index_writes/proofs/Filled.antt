@@ -7,7 +7,6 @@ use Rattle.std.proofs.lemmas.Bool.{and_parts}
 use Rattle.std.proofs.lemmas.List.{append-nil, append_assoc}
 use Rattle.rdb_types.specs.declared.keys.Dbkey.{Dbkey}
 use Rattle.rdb_types.specs.Order.{dbkey_order}
-use Rattle.rdo_ast.specs.declared.reply.Reply.TheVariants.{Duplicate}
 use Rattle.rdb_meaning.specs.Contents.{Row, key_of, has_key as rows_have}
 use Rattle.rdb_meaning.specs.Defining.{keys_repeat}
 use Rattle.line_view.specs.declared.stop.Stop.TheVariants.{Missing, Bad, NoMemory, Own}
@@ -30,8 +29,10 @@ use Rattle.sound_changes.proofs.PairPut.{new_pair}
 use Rattle.sound_changes.proofs.Pairs.{keys_held, none_twice}
 use Rattle.sound_definitions.proofs.Filling.{empty_index, index_grows, next_row}
 use Rattle.statement_view.specs.Over.{Over, Stands, laid_over}
+use Rattle.statement_view.specs.Areas.{KeepsTo}
 use Rattle.row_writes.specs.declared.stop.PairRefusal.TheVariants as pair
 use Rattle.row_writes.specs.Stop.{PairStop}
+use Rattle.row_writes.specs.Areas.{KeepsToIndex}
 use Rattle.row_writes.specs.Pairs.{PairRefused, AddsPair, IsLongKey, CanNotGrow, has_taken}
 use Rattle.schema_writes.specs.declared.stop.SchemaRefusal.TheVariants.{Refused, NoRoom, Full}
 use Rattle.schema_writes.specs.Stop.{SchemaStop}
@@ -170,6 +171,15 @@ module _ (old mid new : Over) (first : Lines) (x : IndexLine) (rows : List (Dbke
         filled = one_filled old mid first x rows fitting under.before this.1 e parted filled new added;
       }
 
+  -- in the words of the map so far
+  pub row_within : (result : Result (Unit {0}) SchemaStop) → KeepsToIndex mid new x.root (λ level tree. IsNew (pair_of (key_of x.fields row.row) row.key) (pairs level tree)) result → KeepsTo (x.root.area ∷ []) (x.root.area ∷ []) mid new result
+  row_within result keeps =
+      let filled = under.filled in
+      let e = this.0 in
+      let own : KeepsToIndex mid new x.root (λ level tree. IsNew (pair_of (key_of x.fields e.1) e.0) (pairs level tree)) result =
+      subst (λ (r : StoredRow). KeepsToIndex mid new x.root (λ level tree. IsNew (pair_of (key_of x.fields r.row) r.key) (pairs level tree)) result) (sym this.3) keeps in
+      own first filled.index.level filled.index.tree filled.stands filled.index.is (fresh old mid first x rows fitting under.before this.1 e parted filled)
+
   pub rows_refused : (told : SchemaStop) → mid.base ≡ old.base → AddsRow mid new x row (Err told) → RowsAdded old new x first rows (Err told)
   rows_refused told base adds =
       let filled = under.filled in
@@ -184,7 +194,7 @@ abbrev pub AreUnderway : Over → Over → IndexLine → List StoredRow → List
 AreUnderway old new x given left = (first : Lines) (rows : List (Dbkey × Row)) → given ≡ map stored_row rows → AreFitting x rows → Stands old first → IsIndexOf (laid_over old.lines first) x.root x.fields [] → IsUnderway old new first x rows left
 
 module _ (old mid new : Over) (x : IndexLine) (given : List StoredRow) (image : List ℕ) (leaf : IsNode image (record { level = 0; entries = [] })) (stay : Stays old mid) (put_root : (first : Lines) → Stands old first → laid_over mid.lines first ≡ laid x.root (Some image) (laid_over old.lines first)) (base : mid.base ≡ old.base) where
-  root_there : (first : Lines) → Stands old first → IsIndexOf (laid_over mid.lines first) x.root x.fields []
+  pub root_there : (first : Lines) → Stands old first → IsIndexOf (laid_over mid.lines first) x.root x.fields []
   root_there first stands = subst (λ (l : Lines). IsIndexOf l x.root x.fields []) (sym (put_root first stands)) (empty_index (laid_over old.lines first) x.root image x.fields leaf)
 
   -- the write of the root comes before the others

@@ -4,3 +4,4 @@ pub mod Read
 pub mod Filled
 pub mod Refusals
 pub mod Defined
+pub mod Kept

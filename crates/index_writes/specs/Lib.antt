@@ -1,3 +1,4 @@
 pub mod Reading
 pub mod Filling
 pub mod Definition
+pub mod Areas

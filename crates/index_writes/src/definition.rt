@@ -7,6 +7,7 @@ ghost use Rattle.catalog_lines.specs.declared.line.CatalogLine.TheVariants.{Inde
 ghost use Rattle.catalog_definitions.specs.Written.{IsIndexDefinition};
 ghost use Rattle.index_writes.specs.Reading.{IsLineWritten};
 ghost use Rattle.index_writes.specs.Definition.{DefinesIndex, FillsFromRows};
+ghost use Rattle.index_writes.specs.Areas.{FillFromKeeps, IndexKeeps};
 
 use crate::filling::fill;
 use crate::reading::{read_rows, written_index};
@@ -29,6 +30,7 @@ fn fill_from_rows(
     requires relation { IsSome (relation_named relation.now schema.now.tables) }
     requires line { (index : Line) × IsLineWritten (Index index) writes.now }
     ensures fills { FillsFromRows view.old view.new schema.now relation.now writes.now result }
+    ensures areas { FillFromKeeps view.old view.new schema.now relation.now writes.now result }
     ensures known { view.new.base ≡ view.old.base }
 {
     let rows = match read_rows(alloc, view, schema, relation) {
@@ -49,6 +51,7 @@ pub fn define_index(
     requires catalog { IsWhole schema.now }
     requires definition { IsIndexDefinition definition.now }
     ensures defines { DefinesIndex view.old view.new schema.now definition.now result }
+    ensures areas { IndexKeeps view.old view.new schema.now definition.now result }
     ensures known { view.new.base ≡ view.old.base }
 {
     let writes = match catalog_definitions::define_index(

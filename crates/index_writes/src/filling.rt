@@ -1,7 +1,13 @@
 // An index filled from rows, one after another.
 ghost use Rattle.std.specs.Prelude.{◌≡◌, []};
 ghost use Rattle.index_node.specs.Node.{IsNode};
+ghost use Rattle.rdb_meaning.specs.Contents.{key_of};
+ghost use Rattle.sorted_index_laws.specs.Tree.{pairs};
+ghost use Rattle.sorted_index_laws.specs.Changes.{pair_of};
+ghost use Rattle.sorted_index_laws.specs.Insertion.{IsNew};
+ghost use Rattle.row_writes.specs.Areas.{KeepsToIndex};
 ghost use Rattle.index_writes.specs.Filling.{IsDuplicate, TellsRow, AddsRow, AddsRows, Fills};
+ghost use Rattle.index_writes.specs.Areas.{RowsKeep, FillKeeps};
 
 use catalog_lines::IndexLine;
 use index_node::{IndexNode, put_node};
@@ -57,6 +63,7 @@ fn add_row(
     row: &StoredRow,
 ) -> Result<(), SchemaStop>
     ensures adds { AddsRow view.old view.new index.now row.now result }
+    ensures areas { KeepsToIndex view.old view.new index.now.root (λ level tree. IsNew (pair_of (key_of index.now.fields row.now.row) row.now.key) (pairs level tree)) result }
     ensures known { view.new.base ≡ view.old.base }
 {
     match add_pair(alloc, view, index, row.row.as_slice(), row.key) {
@@ -72,6 +79,7 @@ fn add_rows(
     rows: &[StoredRow],
 ) -> Result<(), SchemaStop>
     ensures adds { AddsRows view.old view.new index.now rows.now result }
+    ensures areas { RowsKeep view.old view.new index.now rows.now result }
     ensures known { view.new.base ≡ view.old.base }
 {
     for row in rows {
@@ -88,6 +96,7 @@ pub(crate) fn fill(
     rows: &[StoredRow],
 ) -> Result<(), SchemaStop>
     ensures fills { Fills view.old view.new index.now rows.now result }
+    ensures areas { FillKeeps view.old view.new index.now rows.now result }
     ensures known { view.new.base ≡ view.old.base }
 {
     view.put(index.root, Some(empty_leaf(alloc)))?;

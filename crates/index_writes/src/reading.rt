@@ -4,6 +4,7 @@ ghost use Rattle.rdb_meaning.specs.Contents.{relation_named};
 ghost use Rattle.catalog_lines.specs.declared.line.IndexLine.{IndexLine as Line};
 ghost use Rattle.catalog_lines.specs.declared.line.CatalogLine.TheVariants.{Index};
 ghost use Rattle.index_writes.specs.Reading.{IsLineWritten, ReadsRows};
+ghost use Rattle.index_writes.specs.Areas.{ReadKeeps};
 
 use catalog_lines::{CatalogLine, IndexLine, read_catalog_line};
 use line_view::{Never, Stop, Write};
@@ -46,7 +47,8 @@ pub(crate) fn read_rows(
     name: &Chars,
 ) -> Result<Rows, Stop<Never>>
     requires { IsSome (relation_named name.now schema.now.tables) }
-    ensures { ReadsRows view.now schema.now name.now result }
+    ensures reads { ReadsRows view.now schema.now name.now result }
+    ensures areas { ReadKeeps view.now schema.now name.now result }
 {
     let Some(target) = schema.target(name) else {
         unreachable!();

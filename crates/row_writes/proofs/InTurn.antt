@@ -35,7 +35,7 @@ pub none_yet : (old : Over) (xs : List IndexLine) (was to : Option Row) (key : D
 none_yet old xs was to key = λ c n rel t first st own. record { done = []; underway = st; own = own; untaken = refl }
 
 module _ (old mid new : Over) (xs : List IndexLine) (i : ℕ) (x : IndexLine) (was to : Option Row) (key : Dbkey) (inside : i < length xs) (is : x ≡ get_or xs i x) (some : ChangesSome old mid xs i was to key) where
-  split : drop i xs ≡ x ∷ drop (i + 1) xs
+  pub split : drop i xs ≡ x ∷ drop (i + 1) xs
   split = drop_more xs i x inside ∙ ap (λ y. y ∷ drop (i + 1) xs) (sym is)
 
   -- the key is looked for in this index, and then in those behind it

@@ -3,3 +3,7 @@ pub mod Trees
 pub mod Steps
 pub mod InTurn
 pub mod Lines
+pub mod AreaLists
+pub mod NodesRead
+pub mod IndexKept
+pub mod RowKept

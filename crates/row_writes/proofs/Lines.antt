@@ -63,7 +63,7 @@ abbrev pub Laid : Over → Over → Dbkey → Option (List ℕ) → Type 0
 Laid old mid key image = (first : Lines) → Stands old first → laid_over mid.lines first ≡ laid key image (laid_over old.lines first)
 
 -- behind the write of the line no index is done
-begun : (old mid : Over) (key : Dbkey) (was to : Option Row) (image : Option (List ℕ)) (c : Catalog) (n : Name) (rel : Rows) (t : Tables) (first : Lines) → IsSoundView old c t first → relation_named n t ≡ Some rel → find dbkey_order key rel.rows ≡ was → Stays old mid → Laid old mid key image →
+pub begun : (old mid : Over) (key : Dbkey) (was to : Option Row) (image : Option (List ℕ)) (c : Catalog) (n : Name) (rel : Rows) (t : Tables) (first : Lines) → IsSoundView old c t first → relation_named n t ≡ Some rel → find dbkey_order key rel.rows ≡ was → Stays old mid → Laid old mid key image →
     IsSoundFor (laid key image (laid_over old.lines first)) c (tables_to n key to t) (tables_for rel.area [] t (tables_to n key to t)) → Underway c n rel t key was to mid first []
 begun old mid key was to image c n rel t first view named found stay put sound = record {
   stands = stay first view.stands;
@@ -107,7 +107,7 @@ pair_refused base rel key row xs taken short same Other told (Pair at refusal) s
 
 module _ (old mid new : Over) (r : TargetRelation) (row : Row) (image : List ℕ) (image_is : IsRowImage image r.stored.version row) (fits : IsRowFor r.stored.version r.stored.fields.now row) (short : is_too_long r.stored.fields.now row ≡ false)
     (key : Dbkey) (stay : Stays old mid) (put : Laid old mid key (Some image)) (base : mid.base ≡ old.base) where
-  line_sound : (c : Catalog) (n : Name) (rel : Rows) (t : Tables) (first : Lines) → IsSoundView old c t first → relation_named n t ≡ Some rel → IsTarget c n rel r → key.area ≡ rel.area →
+  pub line_sound : (c : Catalog) (n : Name) (rel : Rows) (t : Tables) (first : Lines) → IsSoundView old c t first → relation_named n t ≡ Some rel → IsTarget c n rel r → key.area ≡ rel.area →
       IsSoundFor (laid key (Some image) (laid_over old.lines first)) c (tables_to n key (Some row) t) (tables_for rel.area [] t (tables_to n key (Some row) t))
   line_sound c n rel t first view named target area = row_written (laid_over old.lines first) c t n rel key image row view.sound named area (row_fits (laid_over old.lines first) c t n rel r image row view.sound named target image_is fits)
 
@@ -124,7 +124,7 @@ module _ (old mid new : Over) (r : TargetRelation) (row : Row) (image : List ℕ
     fresh : find dbkey_order key rel.rows ≡ None
     fresh = no_row (laid_over old.lines first) c t n rel (λ l. t) key view.sound named free
 
-    starts : Underway c n rel t key None (Some row) mid first []
+    pub starts : Underway c n rel t key None (Some row) mid first []
     starts = begun old mid key None (Some row) (Some image) c n rel t first view named fresh stay put (line_sound c n rel t first view named target area)
 
     for_new : taken_in (is_key_taken rel key (Some row)) r.indexes.now ≡ taken_by_another rel r.indexes.now nowhere row
@@ -191,7 +191,7 @@ row_erased old mid new xs was key (Err stop) stay put base changes = λ c n rel 
 -- ---- no room
 
 pub no_room : (old new : Over) (r : TargetRelation) (row : Row) (class : ℕ) (stop : RowStop) → class ≡ r.class → TellsNoRoom old.base r.stored.area class stop → StoresRow old new r row (Err stop)
-no_room old new r row class (Missing need) same tells = λ c n rel t first view named target. tells
+no_room old new r row class (Missing need) same tells = λ c n rel t first view named target. tells.0
 no_room old new r row class (Own refusal) same tells = λ c n rel t first view named target.
     subst (IsNotStored old.base rel r row) (sym tells.0)
     (λ nth below. subst (λ (a : ℕ). AreRoomsKnown (knows old.base) a r.class all_rooms) (sym target.area) (subst (λ (k : ℕ). AreRoomsKnown (knows old.base) r.stored.area k all_rooms) same tells.1) nth below)

@@ -123,7 +123,7 @@ module _ (old : Over) (x : IndexLine) (was to : Option Row) (key : Dbkey) (c : C
 -- ---- a row stored
 
 module _ (old new : Over) (x : IndexLine) (row : Row) (key : Dbkey) (c : Catalog) (n : Name) (rel : Rows) (t : Tables) (first : Lines) (done : List ℕ) (st : Underway c n rel t key None (Some row) old first done) (own : IsIndexOn c rel.area x) (unused : is_used x.area done ≡ false) where
-  index : IsSoundIndex (laid_over old.lines first) x (Some rel)
+  pub index : IsSoundIndex (laid_over old.lines first) x (Some rel)
   index = waits old x None (Some row) key c n rel t first done st own unused
 
   -- the index has the key where another row has
@@ -142,7 +142,7 @@ module _ (old new : Over) (x : IndexLine) (row : Row) (key : Dbkey) (c : Catalog
       stops_for (Lacks (knows old.base)) (λ at. ⊥) (PairRefused Taken (IsLongKey x row) (CanNotGrow old.base x)) (PairRefused Others (IsLongKey x row) (CanNotGrow old.base x))
       (refused_for Taken Others (IsLongKey x row) (CanNotGrow old.base x) (λ taken. sym stored_taken ∙ taken)) stop added
 
-  fresh : IsNew (pair_of (key_of x.fields row) key) (pairs index.is.level index.is.tree)
+  pub fresh : IsNew (pair_of (key_of x.fields row) key) (pairs index.is.level index.is.tree)
   fresh = subst (IsNew (pair_of (key_of x.fields row) key)) (sym index.is.holds) (new_pair x.fields (key_of x.fields row) key rel.rows st.found)
 
   stored_so : (result : Result (Unit {0}) PairStop) → AddsPair old new x row key result → PairChanged c n rel t first done old new x None (Some row) key result
@@ -181,20 +181,20 @@ kept old x was row key same = λ c n rel t first done st own unused.
     )
 
 module _ (old mid new : Over) (x : IndexLine) (was row : Row) (key : Dbkey) (c : Catalog) (n : Name) (rel : Rows) (t : Tables) (first : Lines) (done : List ℕ) (st : Underway c n rel t key (Some was) (Some row) old first done) (own : IsIndexOn c rel.area x) (unused : is_used x.area done ≡ false) (takes : TakesPair old mid x was key (Ok tt)) (base : mid.base ≡ old.base) where
-  held : IsSoundIndex (laid_over old.lines first) x (Some rel)
+  pub held : IsSoundIndex (laid_over old.lines first) x (Some rel)
   held = waits old x (Some was) (Some row) key c n rel t first done st own unused
 
-  gone : Turned old mid first x.root held.is.level held.is.tree (without_pair (pair_of (key_of x.fields was) key) (pairs held.is.level held.is.tree))
+  pub gone : Turned old mid first x.root held.is.level held.is.tree (without_pair (pair_of (key_of x.fields was) key) (pairs held.is.level held.is.tree))
   gone = takes first held.is.level held.is.tree st.stands held.is.is
 
-  left_index : IsIndex (laid_over mid.lines first) x.root gone.leaves.level gone.leaves.tree
+  pub left_index : IsIndex (laid_over mid.lines first) x.root gone.leaves.level gone.leaves.tree
   left_index = subst (λ (l : Lines). IsIndex l x.root gone.leaves.level gone.leaves.tree) (sym gone.laid) gone.leaves.index
 
   -- the pairs that are left are those of the other rows
   left_are : pairs gone.leaves.level gone.leaves.tree ≡ pairs_of x.fields (left key rel.rows)
   left_are = gone.leaves.pairs_are ∙ ap (without_pair (pair_of (key_of x.fields was) key)) held.is.holds ∙ pairs_out x.fields key was rel.rows (are_at key was rel.rows st.sorted st.found)
 
-  left_fresh : IsNew (pair_of (key_of x.fields row) key) (pairs gone.leaves.level gone.leaves.tree)
+  pub left_fresh : IsNew (pair_of (key_of x.fields row) key) (pairs gone.leaves.level gone.leaves.tree)
   left_fresh = subst (IsNew (pair_of (key_of x.fields row) key)) (sym left_are) (new_pair x.fields (key_of x.fields row) key (left key rel.rows) (none_left key rel.rows))
 
   left_taken : has_taken x row (pairs gone.leaves.level gone.leaves.tree) ≡ (x.unique && is_taken x.fields row key rel.rows)

@@ -52,15 +52,15 @@ line_of (Some (needs.Area a)) = None
 line_of (Some (needs.Room r)) = None
 line_of None = None
 
-a_line : (o : Option Dbkey) (q : Dbkey) → option_map needs.Line o ≡ Some (needs.Line q) → o ≡ Some q
+pub a_line : (o : Option Dbkey) (q : Dbkey) → option_map needs.Line o ≡ Some (needs.Line q) → o ≡ Some q
 a_line (Some k) q is = ap line_of is
 a_line None q is = absurd (none-some (needs.Line q) is)
 
-no_area : (o : Option Dbkey) (a : ℕ) → option_map needs.Line o ≡ Some (needs.Area a) → ⊥
+pub no_area : (o : Option Dbkey) (a : ℕ) → option_map needs.Line o ≡ Some (needs.Area a) → ⊥
 no_area (Some k) a is = let bad : ⊥ = cc in bad
 no_area None a is = none-some (needs.Area a) is
 
-no_room : (o : Option Dbkey) (r : Room) → option_map needs.Line o ≡ Some (needs.Room r) → ⊥
+pub no_room : (o : Option Dbkey) (r : Room) → option_map needs.Line o ≡ Some (needs.Room r) → ⊥
 no_room (Some k) r is = let bad : ⊥ = cc in bad
 no_room None r is = none-some (needs.Room r) is
 
@@ -120,7 +120,7 @@ module _ (old : Over) (x : IndexLine) (row : Row) (key : Dbkey) (lines : Lines) 
   pair = pair_of (key_of x.fields row) key
 
   room_told : (room : Room) (nth : ℕ) (told : PairStop) → room ≡ room_at x.root.area nth → TellsRoom old.base room told → Added told
-  room_told room nth (Missing need) is tells = tells
+  room_told room nth (Missing need) is tells = tells.0
   room_told room nth (Own refusal) is tells =
       subst (PairRefused (has_taken x row (pairs level tree) ≡ true) (IsLongKey x row) (CanNotGrow old.base x)) (sym tells.0) (inl (subst (λ (r : Room). AreRoomsKnown (knows old.base) r.area r.class all_rooms) is tells.1))
   room_told room nth (Bad q) is tells = absurd tells

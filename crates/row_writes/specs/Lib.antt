@@ -3,3 +3,4 @@ pub mod Target
 pub mod Pairs
 pub mod Changes
 pub mod Rows
+pub mod Areas

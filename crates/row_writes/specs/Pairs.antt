@@ -17,15 +17,16 @@ use Rattle.sorted_index_laws.specs.Tree.{Tree, pairs, IsIndex}
 use Rattle.sorted_index_laws.specs.Changes.{pair_of, with_pair, without_pair, has_key, Leaves}
 use Rattle.sorted_index_laws.specs.Insertion.{IsKey, IsNew}
 use Rattle.statement_view.specs.Over.{Over, Stands, laid_over, all_rooms, AreRoomsKnown}
+use Rattle.statement_view.specs.Areas.{IsRoomOf}
 use Rattle.row_writes.specs.declared.stop.PairRefusal.{PairRefusal}
 use Rattle.row_writes.specs.declared.stop.PairRefusal.TheVariants.{Duplicate, LongKey, Full}
 use Rattle.row_writes.specs.Stop.{PairStop}
 
 -- ---- stops, by what is known
 
--- in place of a room of the view one is named that isn't known, if there is one
+-- in place of a room of the view one of its area is named that isn't known, if there is one
 abbrev pub TellsRoom : Held → Room → PairStop → Type 0
-TellsRoom base room (Missing need) = Lacks (knows base) need
+TellsRoom base room (Missing need) = Lacks (knows base) need × IsRoomOf room.area need
 TellsRoom base room (Own refusal) = (refusal ≡ Full) × AreRoomsKnown (knows base) room.area room.class all_rooms
 TellsRoom base room (Bad key) = ⊥
 TellsRoom base room NoMemory = ⊥

@@ -19,6 +19,7 @@ use Rattle.stored_rows.specs.declared.images.Unstored.{Unstored}
 use Rattle.stored_rows.specs.declared.images.Unstored.TheVariants.{Misfit, TooLong}
 use Rattle.stored_rows.specs.Fitting.{IsRowFor}
 use Rattle.statement_view.specs.Over.{Over, Stands, laid_over, knows_over, room_at, all_rooms, AreRoomsKnown}
+use Rattle.statement_view.specs.Areas.{IsRoomOf}
 use Rattle.row_writes.specs.declared.target.TargetRelation.{TargetRelation}
 use Rattle.row_writes.specs.declared.stop.PairRefusal.{PairRefusal}
 use Rattle.row_writes.specs.declared.stop.RowRefusal.{RowRefusal}
@@ -96,7 +97,7 @@ ErasesRow old new xs key was result = (c : Catalog) (n : Name) (rel : Rows) (t :
 -- ---- rooms
 
 abbrev pub TellsNoRoom : Held → ℕ → ℕ → RowStop → Type 0
-TellsNoRoom base area class (Missing need) = Lacks (knows base) need
+TellsNoRoom base area class (Missing need) = Lacks (knows base) need × IsRoomOf area need
 TellsNoRoom base area class (Own refusal) = (refusal ≡ NoRoom) × AreRoomsKnown (knows base) area class all_rooms
 TellsNoRoom base area class (Bad key) = ⊥
 TellsNoRoom base area class NoMemory = ⊥

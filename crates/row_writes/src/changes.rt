@@ -1,6 +1,7 @@
 // The pairs of a row that is stored, changed or erased, in the indexes of its relation.
 ghost use Rattle.std.specs.Prelude.{◌≡◌, Some};
 ghost use Rattle.row_writes.specs.Changes.{row_before, row_behind, ChangesPair, ChangesPairs, row_stop_of};
+ghost use Rattle.row_writes.specs.Areas.{PairKeeps, PairsKeep};
 
 use crate::pairs::{add_pair, take_pair};
 use crate::stop::{PairStop, RowRefusal, RowStop};
@@ -22,6 +23,7 @@ fn move_pair(
     at: Dbkey,
 ) -> Result<(), PairStop>
     ensures moves { ChangesPair view.old view.new index.now (Some was.now) (Some row.now) at result }
+    ensures areas { PairKeeps view.old view.new index.now (Some was.now) (Some row.now) at result }
     ensures known { view.new.base ≡ view.old.base }
 {
     if have_one_key(index.fields.as_slice(), was, row) {
@@ -39,6 +41,7 @@ fn change_pair(
     at: Dbkey,
 ) -> Result<(), PairStop>
     ensures changes { ChangesPair view.old view.new index.now (row_before change.entry) (row_behind change.entry) at result }
+    ensures areas { PairKeeps view.old view.new index.now (row_before change.entry) (row_behind change.entry) at result }
     ensures known { view.new.base ≡ view.old.base }
 {
     match change {
@@ -68,6 +71,7 @@ pub(crate) fn change_pairs(
     at: Dbkey,
 ) -> Result<(), RowStop>
     ensures changes { ChangesPairs view.old view.new indexes.now (row_before change.entry) (row_behind change.entry) at result }
+    ensures areas { PairsKeep view.old view.new indexes.now (row_before change.entry) (row_behind change.entry) at result }
     ensures known { view.new.base ≡ view.old.base }
 {
     for (place, index) in indexes.iter().enumerate() {

@@ -1,11 +1,18 @@
 // The pair of one row in one index.
-ghost use Rattle.std.specs.Prelude.{◌≡◌, ◌≢◌, OnOk};
+ghost use Rattle.std.specs.Prelude.{◌≡◌, ◌≢◌, ℕ, [], ◌∷◌, OnOk};
+ghost use Rattle.std.specs.List.{AllByRecursion};
 ghost use Rattle.line_view.specs.Knowledge.{Lines};
 ghost use Rattle.line_view.specs.Writes.{laid_all};
 ghost use Rattle.line_view.specs.declared.stop.Stop.TheVariants.{Bad, Own};
+ghost use Rattle.sorted_index_laws.specs.Tree.{pairs as pairs_in};
+ghost use Rattle.sorted_index_laws.specs.Changes.{pair_of};
+ghost use Rattle.sorted_index_laws.specs.Insertion.{IsNew};
+ghost use Rattle.rdb_meaning.specs.Contents.{key_of as key_in};
 ghost use Rattle.statement_view.specs.Over.{Stands, laid_over};
+ghost use Rattle.statement_view.specs.Areas.{WritesOf};
 ghost use Rattle.row_writes.specs.declared.stop.PairRefusal.TheVariants as refusals;
 ghost use Rattle.row_writes.specs.Pairs.{Tells, TakesPair, AddsPair};
+ghost use Rattle.row_writes.specs.Areas.{KeepsToIndex};
 
 use crate::stop::{PairRefusal, PairStop};
 use catalog_lines::IndexLine;
@@ -28,6 +35,7 @@ fn copied_image(image: &Option<Image>) -> Option<Image>
 fn put_all(view: &mut Changed, writes: &[Write]) -> Result<(), NoMemory>
     ensures stands { OnOk result ((first : Lines) → Stands view.old first → Stands view.new first) }
     ensures laid { OnOk result ((first : Lines) → Stands view.old first → laid_over view.new.lines first ≡ laid_all writes.now (laid_over view.old.lines first)) }
+    ensures areas { OnOk result ((area : ℕ) → AllByRecursion (λ w. (w.key).area ≡ area) writes.now → WritesOf (area ∷ []) view.old view.new) }
     ensures known { view.new.base ≡ view.old.base }
 {
     for write in writes {
@@ -75,6 +83,7 @@ pub(crate) fn take_pair(
     at: Dbkey,
 ) -> Result<(), PairStop>
     ensures takes { TakesPair view.old view.new index.now row.now at result }
+    ensures areas { KeepsToIndex view.old view.new index.now.root (λ level tree. Unit {0}) result }
     ensures known { view.new.base ≡ view.old.base }
 {
     let key = key_of(alloc, index.fields.as_slice(), row)?;
@@ -95,6 +104,7 @@ pub fn add_pair(
     at: Dbkey,
 ) -> Result<(), PairStop>
     ensures adds { AddsPair view.old view.new index.now row.now at result }
+    ensures areas { KeepsToIndex view.old view.new index.now.root (λ level tree. IsNew (pair_of (key_in index.now.fields row.now) at) (pairs_in level tree)) result }
     ensures known { view.new.base ≡ view.old.base }
 {
     let key = key_of(alloc, index.fields.as_slice(), row)?;

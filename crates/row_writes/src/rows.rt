@@ -1,6 +1,7 @@
 // A row stored, changed or erased.
 ghost use Rattle.std.specs.Prelude.{◌≡◌};
 ghost use Rattle.row_writes.specs.Rows.{StoresRow, ChangesRow, ErasesRow, TellsNoRoom};
+ghost use Rattle.row_writes.specs.Areas.{StoreKeeps, ChangeKeeps, EraseKeeps};
 
 use crate::changes::change_pairs;
 use crate::stop::{RowRefusal, RowStop};
@@ -29,6 +30,7 @@ pub fn store_row(
     row: &[Value],
 ) -> Result<Dbkey, RowStop>
     ensures stores { StoresRow view.old view.new relation.now row.now result }
+    ensures areas { StoreKeeps view.old view.new relation.now result }
     ensures known { view.new.base ≡ view.old.base }
 {
     let stored = relation.stored;
@@ -54,6 +56,7 @@ pub fn change_row(
     row: &[Value],
 ) -> Result<(), RowStop>
     ensures changes { ChangesRow view.old view.new relation.now at was.now row.now result }
+    ensures areas { ChangeKeeps view.old view.new relation.now at was.now result }
     ensures known { view.new.base ≡ view.old.base }
 {
     let image = match row_image(relation.stored.version, relation.stored.fields, row) {
@@ -79,6 +82,7 @@ pub fn erase_row(
     was: &[Value],
 ) -> Result<(), RowStop>
     ensures erases { ErasesRow view.old view.new indexes.now at was.now result }
+    ensures areas { EraseKeeps view.old view.new indexes.now at was.now result }
     ensures known { view.new.base ≡ view.old.base }
 {
     view.put(at, None)?;

@@ -2,3 +2,4 @@ pub mod Alike
 pub mod Made
 pub mod Nodes
 pub mod Gone
+pub mod Kept

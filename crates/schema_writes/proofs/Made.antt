@@ -74,7 +74,7 @@ asked (Some need) other = need
 asked None other = other
 
 -- what is named next is a room of the catalog
-next_in : (known : Knowledge) (lines : List CatalogLine) (nth : ℕ) (need : Need) → IsNextRoom known (rooms_from nth lines) need → (k : ℕ) × (needs.Room (catalog_room k) ≡ need)
+pub next_in : (known : Knowledge) (lines : List CatalogLine) (nth : ℕ) (need : Need) → IsNextRoom known (rooms_from nth lines) need → (k : ℕ) × (needs.Room (catalog_room k) ≡ need)
 next_in known [] nth need is = absurd (none-some need is)
 next_in known (l ∷ ls) nth need is =
     elim (is_some (known.room (catalog_room nth))) as (λ b. option_map needs.Room (cond b (first_unknown_room known (rooms_from (nth + 1) ls)) (Some (catalog_room nth))) ≡ Some need → (k : ℕ) × (needs.Room (catalog_room k) ≡ need)) [
@@ -86,7 +86,7 @@ abbrev IsStopped : Held → Refusal → SchemaStop → Type 0
 IsStopped base refusal = Stops (λ need. (refusal ≡ None) × Lacks (knows base) need) (λ key. ⊥) (IsNotDefined base refusal)
 
 told_room : (base : Held) (refusal : Refusal) (k : ℕ) (told : SchemaStop) → refusal ≡ None → TellsRoom base (catalog_room k) told → IsStopped base refusal told
-told_room base refusal k (Missing need) none tells = (none, tells)
+told_room base refusal k (Missing need) none tells = (none, tells.0)
 told_room base refusal k (Own reason) none tells = subst (IsNotDefined base refusal) (sym tells.0) (none, tells.1)
 told_room base refusal k (Bad key) none tells = absurd tells
 told_room base refusal k NoMemory none tells = absurd tells

@@ -1,3 +1,4 @@
 pub mod Stop
 pub mod Definitions
 pub mod Deletions
+pub mod Areas

@@ -8,15 +8,16 @@ use Rattle.line_view.specs.declared.stop.Stop.TheVariants.{Missing, Bad, NoMemor
 use Rattle.line_view.specs.Held.{Held, knows}
 use Rattle.line_view.specs.Stops.{Lacks}
 use Rattle.statement_view.specs.Over.{all_rooms, AreRoomsKnown}
+use Rattle.statement_view.specs.Areas.{IsRoomOf}
 use Rattle.schema_writes.specs.declared.stop.SchemaRefusal.{SchemaRefusal}
 use Rattle.schema_writes.specs.declared.stop.SchemaRefusal.TheVariants.{Refused, NoRoom}
 
 abbrev pub SchemaStop : Type 0
 SchemaStop = Stop SchemaRefusal
 
--- in place of a room of the view one is named that isn't known, if there is one
+-- in place of a room of the view one of its area is named that isn't known, if there is one
 abbrev pub TellsRoom : Held → RoomOf → SchemaStop → Type 0
-TellsRoom base room (Missing need) = Lacks (knows base) need
+TellsRoom base room (Missing need) = Lacks (knows base) need × IsRoomOf room.area need
 TellsRoom base room (Own refusal) = (refusal ≡ NoRoom) × AreRoomsKnown (knows base) room.area room.class all_rooms
 TellsRoom base room (Bad key) = ⊥
 TellsRoom base room NoMemory = ⊥

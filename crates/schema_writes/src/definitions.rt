@@ -5,6 +5,7 @@ ghost use Rattle.catalog_lines.specs.Parts.{IsName, IsType};
 ghost use Rattle.catalog.specs.Reading.{IsWhole};
 ghost use Rattle.catalog_definitions.specs.Written.{IsRelationDefinition};
 ghost use Rattle.schema_writes.specs.Definitions.{Defines};
+ghost use Rattle.schema_writes.specs.Areas.{SchemaKeeps, NoOthers};
 
 use crate::stop::{SchemaStop, known_stop};
 use crate::writing::put_all;
@@ -26,6 +27,7 @@ pub fn define_field(
     requires name { IsName name.now }
     requires kind { IsType kind.now }
     ensures defines { Defines view.old view.new catalog.now (field_names name.now) (with_field name.now kind.now) result }
+    ensures areas { SchemaKeeps view.old view.new catalog.now NoOthers result }
     ensures known { view.new.base ≡ view.old.base }
 {
     let writes = match catalog_definitions::define_field(alloc, view, catalog, name, kind) {
@@ -47,6 +49,7 @@ pub fn define_relation(
     requires catalog { IsWhole catalog.now }
     requires definition { IsRelationDefinition name.now fields.now }
     ensures defines { Defines view.old view.new catalog.now (relation_names name.now fields.now) (with_relation name.now fields.now) result }
+    ensures areas { SchemaKeeps view.old view.new catalog.now NoOthers result }
     ensures known { view.new.base ≡ view.old.base }
 {
     let writes = match catalog_definitions::define_relation(alloc, view, catalog, name, fields) {

@@ -10,6 +10,7 @@ ghost use Rattle.catalog.specs.Deletions.{is_index_named, is_of_relation};
 ghost use Rattle.catalog_definitions.specs.Causes.{stop_of_check};
 ghost use Rattle.statement_view.specs.Over.{knows_over};
 ghost use Rattle.schema_writes.specs.Deletions.{AreNodes, AreNodesKnown, AreOwned, Deletes, ErasesNodes, LacksArea, nodes_at};
+ghost use Rattle.schema_writes.specs.Areas.{WantsArea, IsAreaNamed, IsAreaOn, IsAreaOwned, SchemaKeeps, AreOfIndex, AreOfRelation};
 
 use crate::writing::erase_all;
 use catalog::{Catalog, PlacedLine};
@@ -43,6 +44,7 @@ fn area_named(tables: &Tables, name: &Chars) -> u32
 fn keys_in(alloc: Global, view: &Changed, area: u32) -> Result<Keys, Stop<Reply>>
     ensures keys { IfOk result (λ keys. (knows_over view.now).area area ≡ Some keys) }
     ensures stop { IfErr result (LacksArea view.now.base) }
+    ensures area { IfErr result (WantsArea (λ a. a ≡ area)) }
 {
     let Some(known) = view.area(area) else {
         return Err(Stop::Missing(Need::Area(area)));
@@ -63,6 +65,7 @@ fn index_nodes(
 ) -> Result<Keys, Stop<Reply>>
     ensures keys { IfOk result (AreNodes (knows_over view.now) lines.now name.now) }
     ensures stop { IfErr result (LacksArea view.now.base) }
+    ensures area { IfErr result (WantsArea (IsAreaNamed lines.now name.now)) }
 {
     for line in lines {
         if let CatalogLine::Index(index) = &line.line {
@@ -83,6 +86,7 @@ pub fn delete_index(
 ) -> Result<(), Stop<Reply>>
     ensures deletes { Deletes view.old view.new catalog.now (λ t. needs_some name.now (find chars_order name.now t.indexes)) (without_index name.now) result }
     ensures nodes { OnOk result (ErasesNodes view.old view.new catalog.now (is_index_named name.now)) }
+    ensures areas { SchemaKeeps view.old view.new catalog.now (AreOfIndex name.now) result }
     ensures known { view.new.base ≡ view.old.base }
 {
     let lines = match catalog::delete_index(alloc, catalog, name) {
@@ -109,6 +113,7 @@ fn add_nodes(
     ensures known { OnOk result (AreNodesKnown (knows_over view.now) relation line.now) }
     ensures keys { OnOk result (keys.new ≡ keys.old ++ nodes_at (knows_over view.now) relation line.now) }
     ensures stop { IfErr result (LacksArea view.now.base) }
+    ensures area { IfErr result (WantsArea (IsAreaOn relation line.now)) }
 {
     let CatalogLine::Index(index) = line else {
         return Ok(());
@@ -129,6 +134,7 @@ fn owned_keys(
 ) -> Result<Keys, Stop<Reply>>
     ensures keys { IfOk result (AreOwned (knows_over view.now) relation lines.now) }
     ensures stop { IfErr result (LacksArea view.now.base) }
+    ensures area { IfErr result (WantsArea (IsAreaOwned relation lines.now)) }
 {
     let mut keys = keys_in(alloc, view, relation)?;
     for line in lines {
@@ -146,6 +152,7 @@ pub fn delete_relation(
 ) -> Result<(), Stop<Reply>>
     ensures deletes { Deletes view.old view.new catalog.now (λ t. needs_some name.now (relation_named name.now t)) (without_relation name.now) result }
     ensures nodes { OnOk result (ErasesNodes view.old view.new catalog.now (is_of_relation (area_of (relation_named name.now catalog.now.tables)))) }
+    ensures areas { SchemaKeeps view.old view.new catalog.now (AreOfRelation catalog.now name.now) result }
     ensures known { view.new.base ≡ view.old.base }
 {
     let lines = match catalog::delete_relation(alloc, catalog, name) {

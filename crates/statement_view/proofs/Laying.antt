@@ -24,7 +24,7 @@ less Less e = refl
 less Equal e = let bad : ⊥ = cc in absurd bad
 less Greater e = let bad : ⊥ = cc in absurd bad
 
-equal : (r : Ordering) → is_eq r ≡ true → r ≡ Equal
+pub equal : (r : Ordering) → is_eq r ≡ true → r ≡ Equal
 equal Less is = let bad : ⊥ = cc in absurd bad
 equal Equal is = refl
 equal Greater is = let bad : ⊥ = cc in absurd bad

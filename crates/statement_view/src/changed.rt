@@ -1,4 +1,5 @@
-ghost use Rattle.std.specs.Prelude.{◌≡◌, [], map, None, IfSome, IfNone, IfOk, OnOk};
+ghost use Rattle.std.specs.Prelude.{◌≡◌, [], ◌∷◌, true, map, None, IfSome, IfNone, IfOk, OnOk};
+ghost use Rattle.std.specs.List.{AllByRecursion};
 ghost use Rattle.std.specs.List.Sorted.{IsStrictlySortedBy};
 ghost use Rattle.std.specs.FinMap.Entries.{find};
 ghost use Rattle.std.specs.Ordering.{nat_cmp};
@@ -7,6 +8,7 @@ ghost use Rattle.line_view.specs.Knowledge.{Lines, IsInOrder, Agrees, laid};
 ghost use Rattle.line_view.specs.Held.{knows, key_sets};
 ghost use Rattle.line_view.specs.Writes.{laid_all};
 ghost use Rattle.statement_view.specs.Over.{is_written, knows_over, area_written, area_kept, with_over, laid_over, writes_of, Stands, room_at, all_rooms, AreRoomsKnown, AreRoomsWritten};
+ghost use Rattle.statement_view.specs.Areas.{WritesOf};
 
 use line_view::{Known, Room, Seen, View, Write, Writes};
 use rdb_types::{Dbkey, Image, NoMemory};
@@ -120,6 +122,7 @@ impl Changed {
         ensures known { result.0 ≡ self.base }
         ensures writes { IfOk result.1 (λ writes. (all : Lines) → laid_all writes all ≡ laid_over self.lines all) }
         ensures ordered { IfOk result.1 (λ writes. IsStrictlySortedBy dbkey_order (map (λ write. write.key) writes)) }
+        ensures written { IfOk result.1 (λ writes. AllByRecursion (λ write. is_written self.lines write.key ≡ true) writes) }
     {
         let Changed { known, lines, .. } = self;
         let count = lines.len();
@@ -131,6 +134,7 @@ impl Changed {
         ensures ok { OnOk result (self.new ≡ with_over key image self.old) }
         ensures stands { OnOk result ((first : Lines) → Stands self.old first → Stands self.new first) }
         ensures laid { OnOk result ((first : Lines) → Stands self.old first → laid_over self.new.lines first ≡ laid key image (laid_over self.old.lines first)) }
+        ensures areas { OnOk result (WritesOf (key.area ∷ []) self.old self.new) }
         ensures known { self.new.base ≡ self.old.base }
     {
         let is_present = image.is_some();

@@ -1,6 +1,8 @@
 use Rattle.std.proofs.lemmas.Result.{err_from_is_err_and}
 use Rattle.std.proofs.Common.{rules, Some}
+use Rattle.std.specs.Prelude.{Err}
 use Rattle.row_writes.proofs.Steps.{kept, moved, taking_fails, same_key}
+use Rattle.row_writes.proofs.RowKept.{pair_keeps, unmoved_keeps, moved_keeps}
 use Rattle.row_writes.proofs.changes.move_pair.Goals as goal
 
 pub returns-then-have_one_key-clause-moves : goal.returns-then-have_one_key-clause-moves
@@ -13,3 +15,14 @@ returns-in_err-take_pair-clause-moves c =
 
 pub returns-clause-moves : goal.returns-clause-moves
 returns-clause-moves c = moved c.args.view.now c.take_pair.new.view c.add_pair.new.view c.args.index.now c.args.was.now c.args.row.now c.args.at c.add_pair.result c.in_ok-take_pair.ensures.takes c.take_pair.ensures.known c.add_pair.ensures.adds
+
+pub returns-then-have_one_key-clause-areas : goal.returns-then-have_one_key-clause-areas
+returns-then-have_one_key-clause-areas c = unmoved_keeps c.args.view.now c.args.index.now (Some c.args.was.now) (Some c.args.row.now) c.args.at
+
+pub returns-in_err-take_pair-clause-areas : goal.returns-in_err-take_pair-clause-areas
+returns-in_err-take_pair-clause-areas c =
+    let p = err_from_is_err_and c.from_residual.result c.from_residual.ensures.1 in
+    rw (p.1, p.2) (pair_keeps c.args.view.now c.take_pair.new.view c.args.index.now (Some c.args.was.now) (Some c.args.row.now) c.args.at (Err c.in_err-take_pair.field-0.0) c.in_err-take_pair.ensures.areas)
+
+pub returns-clause-areas : goal.returns-clause-areas
+returns-clause-areas c = moved_keeps c.args.view.now c.take_pair.new.view c.add_pair.new.view c.args.index.now c.args.was.now c.args.row.now c.args.at c.add_pair.result c.in_ok-take_pair.ensures.takes c.take_pair.ensures.known c.in_ok-take_pair.ensures.areas c.add_pair.ensures.areas

@@ -4,6 +4,7 @@ use Rattle.line_view.specs.Held.{knows}
 use Rattle.statement_view.specs.Over.{ArePassed}
 use Rattle.statement_view.proofs.Steps.{still_passed}
 use Rattle.statement_view.proofs.Keeping.{is_with_over, stands_behind, laid_behind}
+use Rattle.statement_view.proofs.Areas.{one_written}
 use Rattle.statement_view.proofs.changed.Changed.put.Goals as goal
 
 pub invariant_of-self-in_err-_before : goal.invariant_of-self-in_err-_before
@@ -20,3 +21,6 @@ returns-clause-stands c = stands_behind c.self.inside.lines.entries c.args.self.
 
 pub returns-clause-laid : goal.returns-clause-laid
 returns-clause-laid c = laid_behind c.self.inside.lines.entries c.args.self.now _ c.args.key c.args.image (ap (λ o. o.lines) (sym c.self.view_is)) c.in_ok-_before.ensures.was_ordered (returns-clause-ok c)
+
+pub returns-clause-areas : goal.returns-clause-areas
+returns-clause-areas c = one_written c.args.self.now _ c.args.key c.args.image (returns-clause-ok c)
