@@ -1,0 +1,172 @@
+-- What comes of an action, from its work on a view in which nothing was written.
+use Rattle.std.proofs.Common.{◌≡◌, List, [], ◌++◌, Option, Some, None, Result, Ok, Err, sym, ap, subst, ◌∙◌, inl, inr}
+use Rattle.std.proofs.lemmas.List.Elements.{All-nil, All-cons}
+use Rattle.rdb_types.specs.declared.keys.Dbkey.{Dbkey}
+use Rattle.rdo_ast.specs.declared.reply.Reply.{Reply}
+use Rattle.rdo_ast.specs.Tree.{Act, perform}
+use Rattle.rdb_meaning.specs.declared.tables.Tables.{Tables}
+use Rattle.rdb_meaning.specs.Execution.{World, world, Ran, ran, done}
+use Rattle.line_view.specs.declared.stop.Stop.TheVariants as stop
+use Rattle.line_view.specs.Knowledge.{Knowledge, Lines, IsInOrder, Agrees}
+use Rattle.line_view.specs.Held.{Held, knows}
+use Rattle.line_view.specs.Writes.{laid_all}
+use Rattle.line_view.specs.Stops.{Lacks}
+use Rattle.catalog.specs.declared.reading.Catalog.{Catalog}
+use Rattle.sound_lines.proofs.OneTables.{one_tables}
+use Rattle.sound_changes.specs.Standing.{IsSoundAs}
+use Rattle.sound_changes.proofs.AllDone.{are_tables}
+use Rattle.statement_view.specs.Over.{Over, Stands, knows_over, laid_over, writes_of}
+use Rattle.view_stages.specs.Stages.{Stage, Goes, refusing}
+use Rattle.view_stages.specs.Records.{IsRightOver}
+use Rattle.view_stages.proofs.Ending.{beginning, act_ends, act_refused}
+use Rattle.rdo_acts.specs.declared.work.Given.{Given}
+use Rattle.rdo_acts.specs.declared.work.Work.{Work}
+use Rattle.rdo_acts.specs.declared.acting.Acted.{Acted}
+use Rattle.rdo_acts.specs.declared.acting.Outcome.{Outcome}
+use Rattle.rdo_acts.specs.declared.acting.Outcome.TheVariants.{Done, Refused, Missing, Bad, NoMemory}
+use Rattle.rdo_acts.specs.Ends.{ActStop, reply_of, stage, HoldsIn, Refuses, Ends}
+use Rattle.rdo_acts.specs.Acted.{IsActedOver, IsRefusedOver, ComesOf, Comes, IsOrdered, NamesNeeds}
+use Rattle.rdo_acts.specs.Told.{Finishes, stopped_as, StopsAs}
+use Rattle.rdo_acts.proofs.Viewing.{laid_writes}
+
+-- at the start of the work nothing is written
+pub at_start : (given : Given) (w : Work) (all : Lines) (t : Tables) → IsSoundAs all given.schema.now t → Agrees (knows w.view.base) all → Stands w.view all → w.view.lines ≡ [] → HoldsIn given w all t t
+at_start given w all t sound agrees stands none =
+    let nothing : laid_all (writes_of w.view.lines) all ≡ all = ap (λ ls. laid_all (writes_of ls) all) none in
+    record {
+      first = agrees;
+      began = sound;
+      agrees = subst (λ (x : Lines). Agrees (knows_over w.view) x) (sym (laid_writes w.view.lines all)) stands.agrees;
+      sound = subst (λ (x : Lines). IsSoundAs x given.schema.now t) (sym nothing) sound;
+    }
+
+module _ (given : Given) (a : Act) (old new : Work) (all : Lines) (t : Tables) (lines : old.lines ≡ []) (keys : old.given ≡ []) where
+  abbrev c : Catalog
+  c = given.schema.now
+
+  abbrev known : Knowledge
+  known = knows old.view.base
+
+  abbrev job : World → Ran
+  job = done a t []
+
+  -- work that goes on from the start goes on from nothing
+  from_nothing : (rest : World → Ran) (to : Stage) (goes : Goes known c all t job rest (stage old) to t) → Goes known c all t job rest (beginning known) to t
+  from_nothing rest to goes = record {
+    tables = goes.tables;
+    holds = goes.holds;
+    fresh = goes.fresh;
+    gives = goes.gives ∙ ap (λ ks. ks ++ goes.fresh) keys;
+    comes = λ left. ap (λ ls. job (world t (goes.fresh ++ left) ls)) (sym lines) ∙ goes.comes left;
+  }
+
+  pub acted : (what : Acted) → what.lines ≡ new.lines → what.given ≡ new.given → laid_all what.writes all ≡ laid_over new.view.lines all → Goes known c all t job ran (stage old) (stage new) t → IsActedOver what a c all t
+  acted what printed got laid goes word standing free =
+      let same : laid_all (writes_of new.view.lines) all ≡ laid_all what.writes all = laid_writes new.view.lines all ∙ sym laid in
+      let to : Stage = record { seen = knows_over new.view; writes = what.writes; lines = what.lines; given = what.given } in
+      let began = from_nothing ran (stage new) goes in
+      let all_so : Goes known c all t job ran (beginning known) to t = record {
+        tables = began.tables;
+        holds = record {
+          first = (began.holds).first;
+          began = (began.holds).began;
+          agrees = subst (λ (x : Lines). Agrees (knows_over new.view) x) same (began.holds).agrees;
+          sound = subst (λ (x : Lines). IsSoundAs x c began.tables) same (began.holds).sound;
+        };
+        fresh = began.fresh;
+        gives = got ∙ began.gives;
+        comes = λ left. began.comes left ∙ ap (λ ls. ran (world began.tables left ls)) (sym printed);
+      } in
+      let right = act_ends known c word standing a to all t free all_so in
+      let sound : IsSoundAs (laid_all what.writes all) c all_so.tables = (all_so.holds).sound in
+      let after : all_so.tables ≡ right.after = one_tables (laid_all what.writes all) all_so.tables right.after (are_tables (laid_all what.writes all) c all_so.tables sound) right.tables in
+      (right, subst (λ (u : Tables). IsSoundAs (laid_all what.writes all) c u) after sound)
+
+  pub refused : (o : Option Reply) → IsSoundAs all c t → Refuses o known c all t job (stage old) new.given t → IsRefusedOver o new.given a all t
+  refused None sound h = tt
+  refused (Some reply) sound h = λ word standing free.
+      subst (λ (ks : List Dbkey). IsRightOver word standing (perform a) (record { choices = ks; reply = reply; writes = [] }) all t) h.given_there
+      (act_refused known c word standing a reply h.at all t free sound (from_nothing (refusing reply) h.at h.goes))
+
+  -- what comes of an action that was done
+  pub comes_done : (outcome : Outcome) → Finishes outcome new → Goes known c all t job ran (stage old) (stage new) t → ComesOf outcome a known c all t
+  comes_done (Done what) is goes = acted what is.lines is.given (is.laid all) goes
+  comes_done (Refused refusal given) is goes = absurd is
+  comes_done (Missing needs) is goes = absurd is
+  comes_done (Bad key) is goes = absurd is
+  comes_done NoMemory is goes = tt
+
+  why_comes : (why : ActStop) → IsSoundAs all c t → Ends (Err why) given all t job old new t → ComesOf (stopped_as why new.given) a known c all t
+  why_comes (stop.Missing need) sound h = All-cons (Lacks known) need [] h (All-nil (Lacks known))
+  why_comes (stop.Bad key) sound h = h
+  why_comes stop.NoMemory sound h = tt
+  why_comes (stop.Own refusal) sound h = refused (reply_of refusal) sound h
+
+  -- what comes of an action that stopped
+  pub comes_stopped : (outcome : Outcome) (why : ActStop) → StopsAs outcome why new.given → IsSoundAs all c t → Ends (Err why) given all t job old new t → ComesOf outcome a known c all t
+  comes_stopped outcome why (inl is) sound h = subst (λ (o : Outcome). ComesOf o a known c all t) (sym is) (why_comes why sound h)
+  comes_stopped outcome why (inr is) sound h = subst (λ (o : Outcome). ComesOf o a known c all t) (sym is) tt
+
+pub finishes_ordered : (outcome : Outcome) (w : Work) → Finishes outcome w → IsOrdered outcome
+finishes_ordered (Done what) w is = is.ordered
+finishes_ordered (Refused refusal given) w is = tt
+finishes_ordered (Missing needs) w is = tt
+finishes_ordered (Bad key) w is = tt
+finishes_ordered NoMemory w is = tt
+
+pub finishes_named : (outcome : Outcome) (w : Work) → Finishes outcome w → NamesNeeds outcome
+finishes_named (Done what) w is = tt
+finishes_named (Refused refusal given) w is = tt
+finishes_named (Missing needs) w is = absurd is
+finishes_named (Bad key) w is = tt
+finishes_named NoMemory w is = tt
+
+stopped_ordered : (why : ActStop) (given : List Dbkey) → IsOrdered (stopped_as why given)
+stopped_ordered (stop.Missing need) given = tt
+stopped_ordered (stop.Bad key) given = tt
+stopped_ordered stop.NoMemory given = tt
+stopped_ordered (stop.Own refusal) given = tt
+
+stopped_named : (why : ActStop) (given : List Dbkey) → NamesNeeds (stopped_as why given)
+stopped_named (stop.Missing need) given = λ h. let bad : ⊥ = cc in bad
+stopped_named (stop.Bad key) given = tt
+stopped_named stop.NoMemory given = tt
+stopped_named (stop.Own refusal) given = tt
+
+pub stops_ordered : (outcome : Outcome) (why : ActStop) (given : List Dbkey) → StopsAs outcome why given → IsOrdered outcome
+stops_ordered outcome why given (inl is) = subst IsOrdered (sym is) (stopped_ordered why given)
+stops_ordered outcome why given (inr is) = subst IsOrdered (sym is) tt
+
+pub stops_named : (outcome : Outcome) (why : ActStop) (given : List Dbkey) → StopsAs outcome why given → NamesNeeds outcome
+stops_named outcome why given (inl is) = subst NamesNeeds (sym is) (stopped_named why given)
+stops_named outcome why given (inr is) = subst NamesNeeds (sym is) tt
+
+-- ---- from what is known
+
+module _ (given : Given) (a : Act) (known : Held) (view : Over) (w : Work) (fresh : view ≡ record { base = known; lines = []; areas = [] })
+    (stands : (first : Lines) → IsInOrder first → Agrees (knows known) first → Stands view first) (empty : w ≡ record { view = view; lines = []; given = [] }) where
+  pub begun_base : w.view.base ≡ known
+  begun_base = ap (λ (x : Work). x.view.base) empty ∙ ap (λ (o : Over). o.base) fresh
+
+  begun_holds : (all : Lines) (t : Tables) → Agrees (knows known) all → IsSoundAs all given.schema.now t → HoldsIn given w all t t
+  begun_holds all t agrees sound =
+      at_start given w all t sound (subst (λ (b : Held). Agrees (knows b) all) (sym begun_base) agrees) (subst (λ (o : Over). Stands o all) (sym (ap (λ (x : Work). x.view) empty)) (stands all sound.sorted agrees))
+      (ap (λ (x : Work). x.view.lines) empty ∙ ap (λ (o : Over). o.lines) fresh)
+
+  abbrev Begins : Result (Unit {0}) ActStop → Work → Type 0
+  Begins result new = (all : Lines) (t : Tables) → HoldsIn given w all t t → Ends result given all t (done a t []) w new t
+
+  comes_known : (outcome : Outcome) (all : Lines) (t : Tables) → ComesOf outcome a (knows w.view.base) given.schema.now all t → ComesOf outcome a (knows known) given.schema.now all t
+  comes_known outcome all t h = subst (λ (b : Held). ComesOf outcome a (knows b) given.schema.now all t) begun_base h
+
+  -- an action that was done
+  pub act_done : (new : Work) (outcome : Outcome) → Finishes outcome new → Begins (Ok tt) new → Comes outcome a (knows known) given.schema.now
+  act_done new outcome is runs all t agrees sound =
+      comes_known outcome all t
+      (comes_done given a w new all t (ap (λ (x : Work). x.lines) empty) (ap (λ (x : Work). x.given) empty) outcome is (runs all t (begun_holds all t agrees sound)))
+
+  -- an action that stopped
+  pub act_stopped : (new : Work) (outcome : Outcome) (why : ActStop) → StopsAs outcome why new.given → Begins (Err why) new → Comes outcome a (knows known) given.schema.now
+  act_stopped new outcome why is runs all t agrees sound =
+      comes_known outcome all t
+      (comes_stopped given a w new all t (ap (λ (x : Work). x.lines) empty) (ap (λ (x : Work). x.given) empty) outcome why is sound (runs all t (begun_holds all t agrees sound)))

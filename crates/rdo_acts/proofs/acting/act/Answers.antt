@@ -1,0 +1,36 @@
+use Rattle.std.proofs.Common.{◌∙◌}
+use Rattle.rdo_bind.specs.Acting.{written_act}
+use Rattle.rdo_acts.proofs.ActEnds.{begun_base, act_done, act_stopped, finishes_ordered, finishes_named, stops_ordered, stops_named}
+use Rattle.rdo_acts.proofs.acting.act.Goals as goal
+
+pub returns-in-Ok-clause-known : goal.returns-in-Ok-clause-known
+returns-in-Ok-clause-known c =
+    c.finished.ensures.known ∙ c.begin.ensures.known
+    ∙ begun_base c.args.given.now (written_act c.args.action.now) c.args.known c.new.result c.new-work.result c.new.ensures.value c.new.ensures.stands c.new-work.ensures
+
+pub returns-in-Ok-clause-comes : goal.returns-in-Ok-clause-comes
+returns-in-Ok-clause-comes c =
+    act_done c.args.given.now (written_act c.args.action.now) c.args.known c.new.result c.new-work.result c.new.ensures.value c.new.ensures.stands c.new-work.ensures
+    c.begin.new.work c.finished.result.outcome c.finished.ensures.outcome c.in-Ok.ensures.runs
+
+pub returns-in-Ok-clause-ordered : goal.returns-in-Ok-clause-ordered
+returns-in-Ok-clause-ordered c = finishes_ordered c.finished.result.outcome c.begin.new.work c.finished.ensures.outcome
+
+pub returns-in-Ok-clause-needs : goal.returns-in-Ok-clause-needs
+returns-in-Ok-clause-needs c = finishes_named c.finished.result.outcome c.begin.new.work c.finished.ensures.outcome
+
+pub returns-in-Err-clause-known : goal.returns-in-Err-clause-known
+returns-in-Err-clause-known c =
+    c.abandoned.ensures.known ∙ c.begin.ensures.known
+    ∙ begun_base c.args.given.now (written_act c.args.action.now) c.args.known c.new.result c.new-work.result c.new.ensures.value c.new.ensures.stands c.new-work.ensures
+
+pub returns-in-Err-clause-comes : goal.returns-in-Err-clause-comes
+returns-in-Err-clause-comes c =
+    act_stopped c.args.given.now (written_act c.args.action.now) c.args.known c.new.result c.new-work.result c.new.ensures.value c.new.ensures.stands c.new-work.ensures
+    c.begin.new.work c.abandoned.result.outcome c.in-Err.stop c.abandoned.ensures.outcome c.in-Err.ensures.runs
+
+pub returns-in-Err-clause-ordered : goal.returns-in-Err-clause-ordered
+returns-in-Err-clause-ordered c = stops_ordered c.abandoned.result.outcome c.in-Err.stop c.begin.new.work.given c.abandoned.ensures.outcome
+
+pub returns-in-Err-clause-needs : goal.returns-in-Err-clause-needs
+returns-in-Err-clause-needs c = stops_named c.abandoned.result.outcome c.in-Err.stop c.begin.new.work.given c.abandoned.ensures.outcome

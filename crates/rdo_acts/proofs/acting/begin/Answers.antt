@@ -1,0 +1,5 @@
+use Rattle.std.proofs.Common.{sym}
+use Rattle.rdo_acts.proofs.acting.begin.Goals as goal
+
+pub returns-clause-runs : goal.returns-clause-runs
+returns-clause-runs c all t holds = c.run_action.ensures.runs all t t holds (sym c.new-values.ensures)

@@ -1,0 +1,18 @@
+use Rattle.std.proofs.lemmas.Result.{err_from_is_err_and}
+use Rattle.rdb_meaning.specs.Contents.{relation_named}
+use Rattle.rdo_acts.proofs.Viewing.{range_there}
+use Rattle.rdo_acts.proofs.RowUpdated.{row_found, row_unread}
+use Rattle.rdo_acts.proofs.updating.row_now.Goals as goal
+
+pub unreachable-requires : goal.unreachable-requires
+unreachable-requires c =
+    let there = range_there c.args.variable.range.now (relation_named c.args.variable.range.now.range.relation c.args.given.now.schema.now.tables) c.requires.0 in
+    c.in_default.ensures.stored there.0 there.1
+
+pub returns-in_err-row : goal.returns-in_err-row
+returns-in_err-row c =
+    let p = err_from_is_err_and c.from_residual.result c.from_residual.ensures.1 in
+    rw (p.1, p.2) (row_unread c.args.given.now c.args.work.now.view c.args.variable c.in-Some.target c.in-Some.ensures.target c.in_err-row.field-0.0 c.in_err-row.ensures)
+
+pub returns : goal.returns
+returns c = row_found c.args.given.now c.args.work.now.view c.args.variable c.in-Some.target c.in-Some.ensures.target c.in_ok-row.row c.in_ok-row.ensures

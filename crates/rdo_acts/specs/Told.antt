@@ -1,0 +1,40 @@
+-- How the end of the work is told.
+use Rattle.std.specs.Prelude.{◌≡◌, ◌⊎◌, List, [], ◌∷◌, map}
+use Rattle.std.specs.List.Sorted.{IsStrictlySortedBy}
+use Rattle.rdb_types.specs.declared.keys.Dbkey.{Dbkey}
+use Rattle.rdb_types.specs.Order.{dbkey_order}
+use Rattle.line_view.specs.declared.stop.Stop.TheVariants as stop
+use Rattle.line_view.specs.Knowledge.{Lines}
+use Rattle.line_view.specs.Writes.{laid_all}
+use Rattle.statement_view.specs.Over.{laid_over}
+use Rattle.rdo_acts.specs.declared.work.Work.{Work}
+use Rattle.rdo_acts.specs.declared.acting.Acted.{Acted}
+use Rattle.rdo_acts.specs.declared.acting.Outcome.{Outcome}
+use Rattle.rdo_acts.specs.declared.acting.Outcome.TheVariants.{Done, Refused, Missing, Bad, NoMemory}
+use Rattle.rdo_acts.specs.Ends.{ActStop}
+
+-- what was done: the lines printed, the Dbkeys given and the writes are those of the work
+pub record IsOfWork (acted : Acted) (w : Work) : Type 0 where
+  pub lines : acted.lines ≡ w.lines
+  pub given : acted.given ≡ w.given
+  pub laid : (all : Lines) → laid_all acted.writes all ≡ laid_over w.view.lines all
+  pub ordered : IsStrictlySortedBy dbkey_order (map (λ write. write.key) acted.writes)
+
+-- work that came to its end, unless there is no memory to tell it
+abbrev pub Finishes : Outcome → Work → Type 0
+Finishes (Done acted) w = IsOfWork acted w
+Finishes (Refused refusal given) w = ⊥
+Finishes (Missing needs) w = ⊥
+Finishes (Bad key) w = ⊥
+Finishes NoMemory w = Unit {0}
+
+-- work that stopped, where these Dbkeys were given before
+abbrev pub stopped_as : ActStop → List Dbkey → Outcome
+stopped_as (stop.Missing need) given = Missing (need ∷ [])
+stopped_as (stop.Bad key) given = Bad key
+stopped_as stop.NoMemory given = NoMemory
+stopped_as (stop.Own refusal) given = Refused refusal given
+
+-- the same, unless there is no memory to tell it
+abbrev pub StopsAs : Outcome → ActStop → List Dbkey → Type 0
+StopsAs outcome why given = (outcome ≡ stopped_as why given) ⊎ (outcome ≡ NoMemory)

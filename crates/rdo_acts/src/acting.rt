@@ -1,0 +1,133 @@
+// An action of a statement, from what is known to what comes of it.
+ghost use Rattle.std.specs.Prelude.{◌≡◌, ◌∷◌, [], IfOk};
+ghost use Rattle.rdb_meaning.specs.declared.tables.Tables.{Tables as Kept};
+ghost use Rattle.rdb_meaning.specs.Execution.{done as doing};
+ghost use Rattle.line_view.specs.Knowledge.{Lines};
+ghost use Rattle.line_view.specs.Held.{knows};
+ghost use Rattle.rdo_bind.specs.Acting.{act_of, written_act, IsBoundAct};
+ghost use Rattle.rdo_acts.specs.Ends.{GoTogether, HoldsIn, Ends};
+ghost use Rattle.rdo_acts.specs.Acted.{Comes, IsOrdered, NamesNeeds};
+ghost use Rattle.rdo_acts.specs.Told.{Finishes, StopsAs};
+
+use crate::running::run_action;
+use crate::stop::{ActStop, Refusal};
+use crate::work::{Given, Work};
+use line_view::{Known, Need, Stop, Writes};
+use rdb_types::{Dbkey, Items, Keys, NoMemory, PrintedRows};
+use rdo_bind::BoundAction;
+use statement_view::Changed;
+use std::alloc::Global;
+
+/// What an action that was done comes to.
+#[derive(Drop)]
+pub struct Acted {
+    /// The lines that it printed.
+    pub lines: PrintedRows,
+    /// The Dbkeys that its stored rows got, in the order of the work.
+    pub given: Keys,
+    /// The lines that it wrote, each once.
+    pub writes: Writes,
+}
+
+/// What comes of an action.
+#[derive(Drop)]
+pub enum Outcome<'a> {
+    Done(Acted),
+    /// It was refused, and nothing is written; the rows that it had stored before got these Dbkeys.
+    Refused { refusal: Refusal<'a>, given: Keys },
+    /// These needs are known none of; the first is what the work wants next.
+    Missing(Items<Need>),
+    /// No sound map of lines has this line with these bytes.
+    Bad(Dbkey),
+    NoMemory,
+}
+
+/// What was known, and what comes of the action.
+#[derive(Drop)]
+pub struct Ended<'a> {
+    pub known: Known,
+    pub outcome: Outcome<'a>,
+}
+
+// The action behind no variables.
+fn begin<'a>(given: &Given<'a>, action: &BoundAction, work: &mut Work) -> Result<(), ActStop<'a>>
+    requires together { GoTogether given.now }
+    requires bound { IsBoundAct (act_of action.now) given.now.schema.now.tables [] }
+    ensures runs { (all : Lines) (t : Kept) → HoldsIn given.now work.old all t t → Ends result given.now all t (doing (written_act action.now) t []) work.old work.new t }
+    ensures known { work.new.view.base ≡ work.old.view.base }
+{
+    let values = Items::new(given.alloc);
+    run_action(given, &[], &values, action, work)
+}
+
+fn lacking<'a>(alloc: Global, need: Need) -> Result<Outcome<'a>, NoMemory>
+    ensures { IfOk result (λ outcome. outcome ≡ Outcome.Missing (need ∷ [])) }
+{
+    let mut needs = Items::new(alloc);
+    needs.push(need)?;
+    Ok(Outcome::Missing(needs))
+}
+
+fn stopped<'a>(alloc: Global, stop: ActStop<'a>, given: Keys) -> Outcome<'a>
+    ensures { StopsAs result stop.entry given }
+{
+    match stop {
+        Stop::Missing(need) => match lacking(alloc, need) {
+            Ok(outcome) => outcome,
+            Err(_) => Outcome::NoMemory,
+        },
+        Stop::Bad(key) => Outcome::Bad(key),
+        Stop::NoMemory => Outcome::NoMemory,
+        Stop::Own(refusal) => Outcome::Refused { refusal, given },
+    }
+}
+
+fn finished<'a>(alloc: Global, work: Work) -> Ended<'a>
+    ensures known { result.known ≡ work.view.base }
+    ensures outcome { Finishes result.outcome work }
+{
+    let Work { view, lines, given } = work;
+    let (known, writes) = view.finish(alloc);
+    match writes {
+        Ok(writes) => Ended {
+            known,
+            outcome: Outcome::Done(Acted {
+                lines,
+                given,
+                writes,
+            }),
+        },
+        Err(_) => Ended {
+            known,
+            outcome: Outcome::NoMemory,
+        },
+    }
+}
+
+fn abandoned<'a>(alloc: Global, work: Work, stop: ActStop<'a>) -> Ended<'a>
+    ensures known { result.known ≡ work.view.base }
+    ensures outcome { StopsAs result.outcome stop.entry work.given }
+{
+    let Work { view, given, .. } = work;
+    let outcome = stopped(alloc, stop, given);
+    Ended {
+        known: view.into_known(),
+        outcome,
+    }
+}
+
+/// Does an action over what is known, whose rooms were forgotten at the beginning of the statement. The action is bound to the catalog of the schema, and the sources are the schema's. What was known is given back.
+pub fn act<'a>(given: &Given<'a>, known: Known, action: &BoundAction) -> Ended<'a>
+    requires together { GoTogether given.now }
+    requires bound { IsBoundAct (act_of action.now) given.now.schema.now.tables [] }
+    ensures known { result.known ≡ known }
+    ensures comes { Comes result.outcome (written_act action.now) (knows known) given.now.schema.now }
+    ensures ordered { IsOrdered result.outcome }
+    ensures needs { NamesNeeds result.outcome }
+{
+    let mut work = Work::new(given.alloc, Changed::new(given.alloc, known));
+    match begin(given, action, &mut work) {
+        Ok(()) => finished(given.alloc, work),
+        Err(stop) => abandoned(given.alloc, work, stop),
+    }
+}

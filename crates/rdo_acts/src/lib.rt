@@ -1,0 +1,16 @@
+//! STORE, FOR, PRINT, MODIFY and ERASE, done over the lines that a statement knows.
+#![tactic(auto)]
+
+mod acting;
+mod assigning;
+mod printing;
+mod running;
+mod scope;
+mod stop;
+mod storing;
+mod updating;
+mod work;
+
+pub use acting::{Acted, Ended, Outcome, act};
+pub use stop::Refusal;
+pub use work::Given;
