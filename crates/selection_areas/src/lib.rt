@@ -1,0 +1,6 @@
+//! In which logical areas selections read.
+#![tactic(auto)]
+
+mod laws;
+
+pub use laws::{areas_are_those_of_the_tables, selections_read_what_they_name};
