@@ -1,7 +1,5 @@
 -- A read-only transaction: it wants no lock, and reads the lines that were committed at its start.
-use Rattle.std.proofs.Common.{◌≡◌, ◌≤◌, ℕ, ◌++◌, ◌∷◌, [], ◌==◌, ◌&&◌, ◌||◌, not, Bool, true, false, List, length, map, refl, ◌∙◌, sym, ap, subst, arith, Option, Some, None}
-use Rattle.std.proofs.lemmas.Option.{none-some, same_Some}
-use Rattle.rdb_types.specs.declared.keys.Dbkey.{Dbkey}
+use Rattle.std.proofs.Common.{◌≡◌, ℕ, ◌∷◌, [], ◌==◌, ◌&&◌, ◌||◌, not, Bool, true, false, List, length, map, refl, ◌∙◌, sym, ap, subst, arith, Option, Some, None}
 use Rattle.rdo_ast.specs.declared.reply.Reply.{Reply}
 use Rattle.rdo_ast.specs.declared.reply.Reply.TheVariants.{NoMemory}
 use Rattle.rdo_ast.specs.declared.reply.Standing.{Standing}
@@ -11,7 +9,7 @@ use Rattle.rdo_ast.specs.Tree.{Uttered}
 use Rattle.rdo_ast.specs.Views.{uttered_of}
 use Rattle.lock_tree_laws.specs.Forest.{opened_of}
 use Rattle.rdb_account.specs.Events.{Began, Said}
-use Rattle.rdb_account.specs.Places.{Opening, Place, Transaction, Line, after, at, begins, begun, leaves_none, is_done, is_first_refused}
+use Rattle.rdb_account.specs.Places.{Opening, Place, Transaction, Line, after, begins, begun, leaves_none, is_done, is_first_refused}
 use Rattle.rdb_account.specs.Lawful.{got_of}
 use Rattle.rdb_account.specs.Legal.{ends_by}
 use Rattle.line_view.specs.Held.{Held, knows, nothing}
@@ -23,26 +21,26 @@ use Rattle.session_jobs.specs.declared.jobs.Found.TheVariants.{Done}
 use Rattle.line_store.specs.Seats.{Seat, reading as seat_reading}
 use Rattle.line_store.specs.Shelves.{Shelf, seen_from, seen_by}
 use Rattle.line_store.specs.Calls.{Moves, KeepsOthers}
-use Rattle.lock_ties.specs.Ties.{IsTiedTo, needs_at}
+use Rattle.lock_ties.specs.Ties.{IsTiedTo}
 use Rattle.lock_ties.proofs.Places.{at-same}
 use Rattle.lock_ties.proofs.Got.{ended-tied}
-use Rattle.line_steps.specs.Members.{Member as Seen, member, outside, reading}
+use Rattle.line_steps.specs.Members.{member, outside, reading}
 use Rattle.line_steps.specs.Right.{Desk, Ground, Reads, with_desk}
-use Rattle.line_steps.specs.Steps.{Here, Steps}
+use Rattle.line_steps.specs.Steps.{Steps}
 use Rattle.line_steps.proofs.Common.{desk-same}
 use Rattle.line_steps.proofs.Reading.{begins-reading, takes-up-reading, learns-reading}
 use Rattle.line_steps.proofs.Saying.{answers-reading, refuses-reading}
 use Rattle.line_steps.proofs.Kept.{arrives, in-turn, elapses}
 use Rattle.session_states.specs.declared.stage.ReaderWork.{ReaderWork}
-use Rattle.session_states.specs.declared.stage.ReaderWork.TheVariants.{Due, Out, Fetching}
+use Rattle.session_states.specs.declared.stage.ReaderWork.TheVariants.{Due, Out}
 use Rattle.session_states.specs.declared.stage.ReaderStage.{ReaderStage}
 use Rattle.session_states.specs.declared.stage.ReaderStage.TheVariants.{Between, Working}
 use Rattle.session_states.specs.declared.stage.Phase.TheVariants.{Outside, Reading}
-use Rattle.session_states.specs.States.{reader, reader_item, session}
+use Rattle.session_states.specs.States.{reader, session}
 use Rattle.session_states.specs.Shared.{Shared, with_shelf}
 use Rattle.session_states.specs.Fits.{has_said, ReaderFits}
-use Rattle.session_states.specs.Steps.{Finds, Step}
-use Rattle.session_states.proofs.Basics.{at_time, said-first}
+use Rattle.session_states.specs.Steps.{Step}
+use Rattle.session_states.proofs.Basics.{at_time}
 use Rattle.session_states.proofs.Forgoing.{and-undone}
 use Rattle.session_states.proofs.Parting.{nothing-agrees, begun-needs, begins-stays}
 use Rattle.session_states.proofs.Resting.{leaves-others, rests-by, found-here, none-dead, time-later}

@@ -1,12 +1,12 @@
 -- A read-only transaction ends, at once.
-use Rattle.std.proofs.Common.{◌≡◌, ◌≤◌, ℕ, ◌∷◌, [], ◌==◌, ◌&&◌, not, Bool, true, false, List, length, map, refl, ◌∙◌, sym, ap, subst, arith, Option, Some, None}
+use Rattle.std.proofs.Common.{◌≡◌, ℕ, ◌∷◌, [], ◌==◌, ◌&&◌, not, Bool, true, false, List, length, map, refl, ◌∙◌, sym, ap, subst, arith, Option, Some, None}
 use Rattle.rdo_ast.specs.declared.reply.Reply.TheVariants.{Done, NoMemory}
 use Rattle.rdo_ast.specs.declared.reply.Standing.{Standing}
 use Rattle.rdo_ast.specs.declared.syntax.Item.{Item}
-use Rattle.rdo_ast.specs.Tree.{Uttered, said, commit, rollback}
+use Rattle.rdo_ast.specs.Tree.{said, commit, rollback}
 use Rattle.rdo_ast.specs.Views.{uttered_of}
 use Rattle.rdb_account.specs.Events.{Said, Committed, RolledBack}
-use Rattle.rdb_account.specs.Places.{Opening, Place, Transaction, Line, after, leaves_none, is_first_refused}
+use Rattle.rdb_account.specs.Places.{Place, Transaction, Line, after, leaves_none}
 use Rattle.rdb_account.specs.Legal.{ends_by}
 use Rattle.line_view.specs.Held.{Held, knows, nothing}
 use Rattle.session_jobs.specs.Records.{Model, IsOrderly}
@@ -16,7 +16,7 @@ use Rattle.line_store.specs.Shelves.{Shelf}
 use Rattle.line_store.specs.Calls.{Moves}
 use Rattle.lock_ties.specs.Ties.{IsTiedTo, needs_at}
 use Rattle.lock_tree_laws.specs.Forest.{opened_of}
-use Rattle.line_steps.specs.Members.{member, outside, reading, ended}
+use Rattle.line_steps.specs.Members.{member, outside, reading}
 use Rattle.line_steps.specs.Right.{Desk, Ground, Reads, with_desk, at_end}
 use Rattle.line_steps.specs.Steps.{Here, Steps}
 use Rattle.line_steps.proofs.Reading.{takes-up-reading, reader-commits}
