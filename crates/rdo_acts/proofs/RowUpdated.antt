@@ -113,10 +113,10 @@ module _ (given : Given) (v : Name) (as' : List Assignment) (scope : Scope) (old
   modifies_none none same = stays job (λ left. at_binding left ∙ ap (λ o. modify_at (Some b) b.key o as' scope (world t left old.lines)) none ∙ no_row b.key left) same
 
   module _ (rel : Rows) (target : TargetRelation) (k : Dbkey) (was : Row) (named : relation_named b.relation t ≡ Some rel) (is : IsTargetIn c t b.relation rel target) (key : b.key ≡ Some k) (found : row_now t b ≡ Some was) where
-    abbrev made : Assigned
-    made = assign as' rel.fields t scope was
+    abbrev row_made : Assigned
+    row_made = assign as' rel.fields t scope was
 
-    made_is : (left : List Dbkey) → job (world t left old.lines) ≡ modify_assigned b.relation k (world t left old.lines) made
+    made_is : (left : List Dbkey) → job (world t left old.lines) ≡ modify_assigned b.relation k (world t left old.lines) row_made
     made_is left =
         at_binding left
         ∙ (λ i. modify_at (Some b) (key i) (found i) as' scope (world t left old.lines))
@@ -129,14 +129,14 @@ module _ (given : Given) (v : Name) (as' : List Assignment) (scope : Scope) (old
       goes = record { tables = t; holds = holds; fresh = []; gives = sym (append-nil old.given); comes = comes };
     }
 
-    unmodified : (refusal : Refusal) → IsUnassigned (reply_of refusal) made → new.given ≡ old.given → Refuses (reply_of refusal) known c all start job (stage old) new.given t
+    unmodified : (refusal : Refusal) → IsUnassigned (reply_of refusal) row_made → new.given ≡ old.given → Refuses (reply_of refusal) known c all start job (stage old) new.given t
     unmodified refusal h same =
-        elim (reply_of refusal) as (λ o. IsUnassigned o made → Refuses o known c all start job (stage old) new.given t) [
+        elim (reply_of refusal) as (λ o. IsUnassigned o row_made → Refuses o known c all start job (stage old) new.given t) [
           | None ↦ λ h. tt
           | Some reply ↦ λ h. refuses_at reply (λ left. made_is left ∙ ap (modify_assigned b.relation k (world t left old.lines)) h) same
         ] h
 
-    module _ (row : Row) (assigns : made ≡ assigned row) where
+    module _ (row : Row) (assigns : row_made ≡ assigned row) where
       abbrev taken : Option Name
       taken = taken_by_another rel target.indexes.now k row
 
@@ -190,7 +190,7 @@ module _ (given : Given) (v : Name) (as' : List Assignment) (scope : Scope) (old
       stops_changing (Own refusal) own so stopped same = subst (λ (x : ActStop). Ends (Err x) given all start job old new t) (sym so.1) (not_changed refusal so.0 so.2 stopped same)
 
     -- the row can't be made
-    stops_making : (stop : ActStop) → Stops (Lacks known) (λ key. ⊥) (λ refusal. IsUnassigned (reply_of refusal) made) stop → new.given ≡ old.given → Ends (Err stop) given all start job old new t
+    stops_making : (stop : ActStop) → Stops (Lacks known) (λ key. ⊥) (λ refusal. IsUnassigned (reply_of refusal) row_made) stop → new.given ≡ old.given → Ends (Err stop) given all start job old new t
     stops_making (Missing need) lacks same = lacks
     stops_making (Bad key) bad same = bad
     stops_making NoMemory none same = tt
