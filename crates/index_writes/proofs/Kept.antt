@@ -46,7 +46,7 @@ use Rattle.row_writes.specs.declared.target.TargetRelation.{TargetRelation}
 use Rattle.row_writes.specs.Stop.{PairStop}
 use Rattle.row_writes.specs.Rows.{IsSoundView}
 use Rattle.row_writes.specs.Areas.{KeepsToIndex}
-use Rattle.row_writes.proofs.AreaLists.{Wider, one_more_area, first_area, one_of, nothing_written, writes_then, writes_wider, StopsAt, stops_at}
+use Rattle.row_writes.proofs.AreaLists.{Wider, one_more_area, first_area, one_of, nothing_written, writes_then, need_wider, keeps_wider, StopsAt}
 use Rattle.stored_schema.specs.Targets.{HasTarget}
 use Rattle.schema_writes.specs.declared.stop.SchemaRefusal.{SchemaRefusal}
 use Rattle.schema_writes.specs.Stop.{SchemaStop, Tells}
@@ -61,12 +61,7 @@ use Rattle.index_writes.proofs.Read.{one_written}
 use Rattle.index_writes.proofs.Filled.{IsUnderway, AreUnderway, row_within, root_there}
 use Rattle.index_writes.proofs.Defined.{next_in, x, line, root, there, keys}
 
--- ---- more areas
-
-need_wider : (read changed reads changes : List ℕ) → Wider read reads → Wider changed changes → (need : Need) → IsNeedOf read changed need → IsNeedOf reads changes need
-need_wider read changed reads changes more also (needs.Line key) h = more key.area h
-need_wider read changed reads changes more also (needs.Area area) h = more area h
-need_wider read changed reads changes more also (needs.Room room) h = also room.area h
+-- ---- what is lacked
 
 abbrev Missed : {E : Type 0} → List ℕ → List ℕ → Stop E → Type 0
 Missed read changed = StopsAt (IsNeedOf read changed)
@@ -140,10 +135,6 @@ fill_kept old mid new x given image leaf stay put_root base wrote (Ok u) keeps =
     writes_then (x.root.area ∷ []) old mid new wrote (keeps first rows same fitting (stay first stands) (root_there old mid new x given image leaf stay put_root base first stands))
 fill_kept old mid new x given image leaf stay put_root base wrote (Err told) keeps = λ first rows same fitting stands.
     keeps first rows same fitting (stay first stands) (root_there old mid new x given image leaf stay put_root base first stands)
-
-keeps_wider : {T E : Type 0} (read changed reads changes : List ℕ) (old new : Over) → Wider read reads → Wider changed changes → (result : Result T (Stop E)) → KeepsTo read changed old new result → KeepsTo reads changes old new result
-keeps_wider read changed reads changes old new more also (Ok u) keeps = writes_wider changed changes old new also keeps
-keeps_wider read changed reads changes old new more also (Err stop) keeps = stops_at (IsNeedOf read changed) (IsNeedOf reads changes) (need_wider read changed reads changes more also) stop keeps
 
 none_wider : (areas : List ℕ) → Wider [] areas
 none_wider areas a h = let bad : ⊥ = cc in absurd bad

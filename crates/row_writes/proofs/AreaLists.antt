@@ -1,6 +1,6 @@
 -- Work that keeps to some areas keeps to more.
 use Rattle.std.proofs.Common.{◌≡◌, ℕ, zero, suc, Bool, true, false, List, [], ◌∷◌, Some, inl, inr, refl, sym, ap, subst, ◌∙◌, nat_eq}
-use Rattle.std.specs.Prelude.{◌||◌, slice_get}
+use Rattle.std.specs.Prelude.{◌||◌, slice_get, Result, Ok, Err}
 use Rattle.std.specs.List.{AllByRecursion}
 use Rattle.std.proofs.lemmas.Bool.{eqb-true, eq-eqb}
 use Rattle.std.proofs.lemmas.Option.{none-some, same_Some}
@@ -12,7 +12,7 @@ use Rattle.line_view.specs.Stops.{Stops}
 use Rattle.catalog_lines.specs.declared.line.IndexLine.{IndexLine}
 use Rattle.sound_changes.proofs.Basics.{all_of}
 use Rattle.statement_view.specs.Over.{Over}
-use Rattle.statement_view.specs.Areas.{is_among, IsNeedOf, WritesOf}
+use Rattle.statement_view.specs.Areas.{is_among, IsNeedOf, WritesOf, KeepsTo}
 use Rattle.row_writes.specs.Areas.{areas_of}
 
 -- ---- lists of areas
@@ -66,10 +66,10 @@ writes_wider small big old new wider writes key here = elim (writes key here) [ 
 
 -- ---- what is lacked
 
-pub need_wider : (small big : List ℕ) → Wider small big → (need : Need) → IsNeedOf small small need → IsNeedOf big big need
-need_wider small big wider (Line key) h = wider key.area h
-need_wider small big wider (Area area) h = wider area h
-need_wider small big wider (Room room) h = wider room.area h
+pub need_wider : (read changed reads changes : List ℕ) → Wider read reads → Wider changed changes → (need : Need) → IsNeedOf read changed need → IsNeedOf reads changes need
+need_wider read changed reads changes more also (Line key) h = more key.area h
+need_wider read changed reads changes more also (Area area) h = more area h
+need_wider read changed reads changes more also (Room room) h = also room.area h
 
 abbrev pub StopsAt : {E : Type 0} → (Need → Type 0) → Stop E → Type 0
 StopsAt next = Stops next (λ key. Unit {0}) (λ own. Unit {0})
@@ -79,3 +79,9 @@ stops_at next other because (Missing need) said = because need said
 stops_at next other because (Bad key) said = tt
 stops_at next other because NoMemory said = tt
 stops_at next other because (Own reason) said = tt
+
+-- ---- work
+
+pub keeps_wider : {T E : Type 0} (read changed reads changes : List ℕ) (old new : Over) → Wider read reads → Wider changed changes → (result : Result T (Stop E)) → KeepsTo read changed old new result → KeepsTo reads changes old new result
+keeps_wider read changed reads changes old new more also (Ok given) keeps = writes_wider changed changes old new also keeps
+keeps_wider read changed reads changes old new more also (Err stop) keeps = stops_at (IsNeedOf read changed) (IsNeedOf reads changes) (need_wider read changed reads changes more also) stop keeps

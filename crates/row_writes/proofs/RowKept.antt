@@ -107,7 +107,7 @@ module _ (old mid new : Over) (xs : List IndexLine) (i : ℕ) (x : IndexLine) (w
   pub one_stops_at : (stop : PairStop) → PairKeeps mid new x was to key (Err stop) → PairsKeep old new xs was to key (Err (row_stop_of i stop))
   one_stops_at stop keeps = λ c n rel t first st own.
       row_stops (IsNeedOf (areas_of xs) (areas_of xs)) (λ k. Unit {0}) (λ reason. Unit {0}) (λ reason. Unit {0}) i (λ r said. tt) stop
-      (stops_at (IsNeedOf (x.area ∷ []) (x.area ∷ [])) (IsNeedOf (areas_of xs) (areas_of xs)) (need_wider (x.area ∷ []) (areas_of xs) wider) stop (kept_here (Err stop) keeps c n rel t first st own))
+      (stops_at (IsNeedOf (x.area ∷ []) (x.area ∷ [])) (IsNeedOf (areas_of xs) (areas_of xs)) (need_wider (x.area ∷ []) (x.area ∷ []) (areas_of xs) (areas_of xs) wider wider) stop (kept_here (Err stop) keeps c n rel t first st own))
 
 -- ---- the row's line, and then its pairs
 
@@ -120,7 +120,7 @@ module _ (old mid new : Over) (rel : Rows) (xs : List IndexLine) (key : Dbkey) (
 
   row_keeps : (result : Result (Unit {0}) RowStop) → KeepsTo (areas_of xs) (areas_of xs) mid new result → KeepsTo (areas_with rel xs) (areas_with rel xs) old new result
   row_keeps (Ok u) keeps = writes_then (areas_with rel xs) old mid new of_line (writes_wider (areas_of xs) (areas_with rel xs) mid new of_pairs keeps)
-  row_keeps (Err stop) keeps = stops_at (IsNeedOf (areas_of xs) (areas_of xs)) (IsNeedOf (areas_with rel xs) (areas_with rel xs)) (need_wider (areas_of xs) (areas_with rel xs) of_pairs) stop keeps
+  row_keeps (Err stop) keeps = stops_at (IsNeedOf (areas_of xs) (areas_of xs)) (IsNeedOf (areas_with rel xs) (areas_with rel xs)) (need_wider (areas_of xs) (areas_of xs) (areas_with rel xs) (areas_with rel xs) of_pairs of_pairs) stop keeps
 
 module _ (old mid new : Over) (r : TargetRelation) (row : Row) (image : List ℕ) (image_is : IsRowImage image r.stored.version row) (fits : IsRowFor r.stored.version r.stored.fields.now row) (short : is_too_long r.stored.fields.now row ≡ false)
     (key : Dbkey) (stay : Stays old mid) (put : Laid old mid key (Some image)) (base : mid.base ≡ old.base) (wrote : WritesOf (key.area ∷ []) old mid) where

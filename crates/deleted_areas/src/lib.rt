@@ -1,0 +1,6 @@
+//! In which areas of the tables deletions read and write.
+#![tactic(auto)]
+
+mod laws;
+
+pub use laws::deletions_keep_to_what_they_name;
