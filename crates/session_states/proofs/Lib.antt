@@ -16,3 +16,4 @@ pub mod Outside
 pub mod Serving
 pub mod Reading
 pub mod ReadingEnds
+pub mod Dying

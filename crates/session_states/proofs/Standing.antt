@@ -1,12 +1,13 @@
 -- One step of a session keeps what is true of all of them.
-use Rattle.std.proofs.Common.{◌≡◌, ℕ, zero, suc, ◌++◌, ◌∷◌, [], ◌==◌, false, List, refl, ◌∙◌, sym, ap, subst, arith, map, option_map, Some, slice_get, slice_set, ◌⊎◌, inl, inr}
+use Rattle.std.proofs.Common.{◌≡◌, ℕ, zero, suc, ◌++◌, ◌∷◌, [], ◌==◌, true, false, List, refl, ◌∙◌, sym, ap, subst, arith, map, option_map, Some, slice_get, slice_set, ◌⊎◌, inl, inr}
 use Rattle.rdo_ast.specs.declared.reply.Standing.{Standing}
 use Rattle.rdo_ast.specs.declared.syntax.Item.{Item}
 use Rattle.rdo_ast.specs.Views.{uttered_of}
 use Rattle.lock_needs.specs.Party.{Party}
 use Rattle.lock_tree_laws.specs.Forest.{party_of}
 use Rattle.rdb_account.specs.Events.{Event}
-use Rattle.rdb_account.specs.Places.{Opening, Place, place, place_from, start}
+use Rattle.rdb_account.specs.Places.{Opening, Place, Due, nothing, commit_reply, rollback_reply, rolls_back, place, place_from, start}
+use Rattle.rdb_account.specs.Legal.{is_free}
 use Rattle.rdb_account.specs.Lawful.{got_of, is_nowait}
 use Rattle.rdb_account.proofs.Growth.{place-grown}
 use Rattle.line_view.specs.Held.{Held, knows}
@@ -29,12 +30,14 @@ use Rattle.session_states.specs.declared.stage.Stage.{Stage}
 use Rattle.session_states.specs.declared.stage.Stage.TheVariants.{Between, Working, Saying, Ending}
 use Rattle.session_states.specs.declared.stage.Phase.{Phase}
 use Rattle.session_states.specs.declared.stage.Phase.TheVariants.{Outside, Closing, Writing, Reading, Over}
+use Rattle.session_states.specs.declared.stage.Life.{Life}
+use Rattle.session_states.specs.declared.stage.Life.TheVariants.{Alive, Dead, Gone}
 use Rattle.session_states.specs.declared.stage.Member.{Member}
 use Rattle.session_states.specs.Locks.{lock_of}
 use Rattle.session_states.specs.States.{seen}
-use Rattle.session_states.specs.Shared.{Shared}
-use Rattle.session_states.specs.Fits.{has_said, StageFits, HasSeat, IsLaid, DeskFits, WantsAtMost, PhaseFits}
-use Rattle.session_states.specs.Steps.{Finds, Step}
+use Rattle.session_states.specs.Shared.{Shared, LeavesOthers}
+use Rattle.session_states.specs.Fits.{has_said, StageFits, HasSeat, IsLaid, DeskFits, WantsAtMost, PhaseFits, LifeFits}
+use Rattle.session_states.specs.Steps.{Finds, Leaves, Step, Fall}
 use Rattle.session_states.specs.Kept.{AreKept}
 
 map-get : {A B : Type 0} (f : A → B) (xs : List A) (i : ℕ) (x : A) → slice_get xs i ≡ Some x → slice_get (map f xs) i ≡ Some (f x)
@@ -116,7 +119,36 @@ module _ (M : Model) (orderly : IsOrderly M) where
     }
     phase-stays left Over f = (seat ∙ f.0, ap (λ (y : Party). y.opened) party ∙ f.1)
 
+    pub life-stays : (left : List Item) (x : Phase) (life : Life) → LifeFits M p g c t left x life → LifeFits M q h d t left x life
+    life-stays left x Alive f = phase-stays left x f
+    life-stays left x Dead f = record { writes = f.writes; seat = seat ∙ f.seat; same = λ e. f.same e ∙ sym (ap (λ (y : Desk). y.writes) desk) }
+    life-stays left x Gone f = (seat ∙ f.0, ap (λ (y : Party). y.opened) party ∙ f.1)
+
   -- ---- all sessions
+
+  -- what a step of one session leaves is kept for all
+  leaves-kept : (o : Opening) (c d : Shared) (members : List Member) (events es : List Event) (i : ℕ) (n : Member) → (k : AreKept M o c members events) → d.word ≡ c.word → LeavesOthers (suc i) c d →
+      Leaves M o (place o events) k.ground d (suc i) n es → AreKept M o d (slice_set members i n) (events ++ es)
+  leaves-kept o c d members events es i n k word others left =
+      let p = place o events in
+      let to : Place = place_from o p es in
+      let behind : place o (events ++ es) ≡ to = place-grown o (start o) events es in
+      let right : AreRight M o left.ground (map seen (slice_set members i n)) (events ++ es) =
+      subst (λ (ms : List Seen). AreRight M o left.ground ms (events ++ es)) (sym (map-set seen members i n)) (stepped M orderly o k.ground left.ground (map seen members) events es i (seen n) k.right left.steps) in
+      record {
+        ground = left.ground;
+        word = k.word ∙ sym word;
+        right = right;
+        is_ground = left.fits.ground;
+        tied = subst (λ (y : Place). IsTiedTo y d.locks) (sym behind) left.fits.tied;
+        phases = λ j y e. subst (λ (u : Place). LifeFits M u left.ground d (suc j) y.left y.phase y.life) (sym behind)
+            (elim (set-get members i j n y e) [
+              | inl a ↦ subst (λ (t : ℕ). LifeFits M to left.ground d (suc t) y.left y.phase y.life) (sym a.0) (subst (λ (x : Member). LifeFits M to left.ground d (suc i) x.left x.phase x.life) a.1 left.fits.phase)
+              | inr a ↦ life-stays p to k.ground left.ground c d (suc j) ((place-same o p es (suc i) (suc j) left.steps.own (differ j i a.0)).transaction)
+                  (left.steps.desks (suc j) (differ j i a.0)) word (others.store.seat (suc j) (differ j i a.0)) (others.locks (suc j) (differ j i a.0))
+                  k.right.fit.order left.steps.fit.order (left.steps.alike (suc j) (differ j i a.0)) y.left y.phase y.life (k.phases j y a.1)
+            ]);
+      }
 
   -- what session i + 1 finds
   pub finds : (o : Opening) (c : Shared) (members : List Member) (events : List Event) (i : ℕ) (m : Member) → c.dead ≡ 0 → (k : AreKept M o c members events) → slice_get members i ≡ Some m → Finds M o (place o events) k.ground c (suc i) m
@@ -128,24 +160,20 @@ module _ (M : Model) (orderly : IsOrderly M) where
 
   pub kept : (o : Opening) (c d : Shared) (members : List Member) (events es : List Event) (i : ℕ) (m n : Member) → c.dead ≡ 0 → AreKept M o c members events → slice_get members i ≡ Some m →
       Step M (suc i) c m d n es → AreKept M o d (slice_set members i n) (events ++ es)
-  kept o c d members events es i m n alive k found st =
-      let p = place o events in
-      let to : Place = place_from o p es in
-      let left = st.leaves o p k.ground (finds o c members events i m alive k found) in
-      let behind : place o (events ++ es) ≡ to = place-grown o (start o) events es in
-      let right : AreRight M o left.ground (map seen (slice_set members i n)) (events ++ es) =
-      subst (λ (ms : List Seen). AreRight M o left.ground ms (events ++ es)) (sym (map-set seen members i n)) (stepped M orderly o k.ground left.ground (map seen members) events es i (seen n) k.right left.steps) in
-      record {
-        ground = left.ground;
-        word = k.word ∙ sym st.word;
-        right = right;
-        is_ground = left.fits.ground;
-        tied = subst (λ (y : Place). IsTiedTo y d.locks) (sym behind) left.fits.tied;
-        phases = λ j y e. subst (λ (u : Place). PhaseFits M u left.ground d (suc j) y.left y.phase) (sym behind)
-            (elim (set-get members i j n y e) [
-              | inl a ↦ subst (λ (t : ℕ). PhaseFits M to left.ground d (suc t) y.left y.phase) (sym a.0) (subst (λ (x : Member). PhaseFits M to left.ground d (suc i) x.left x.phase) a.1 left.fits.phase)
-              | inr a ↦ phase-stays p to k.ground left.ground c d (suc j) ((place-same o p es (suc i) (suc j) left.steps.own (differ j i a.0)).transaction)
-                  (left.steps.desks (suc j) (differ j i a.0)) st.word (st.others.store.seat (suc j) (differ j i a.0)) (st.others.locks (suc j) (differ j i a.0))
-                  k.right.fit.order left.steps.fit.order (left.steps.alike (suc j) (differ j i a.0)) y.left y.phase (k.phases j y a.1)
-            ]);
-      }
+  kept o c d members events es i m n alive k found st = leaves-kept o c d members events es i n k st.word st.others (st.leaves o (place o events) k.ground (finds o c members events i m alive k found))
+
+  -- ---- deaths and recoveries
+
+  free-nothing : (due : Due) → is_free due ≡ true → due ≡ nothing
+  free-nothing nothing h = refl
+  free-nothing (commit_reply s) h = grind arith
+  free-nothing (rollback_reply s) h = grind arith
+  free-nothing (rolls_back s) h = grind arith
+
+  pub fell : (o : Opening) (c d : Shared) (members : List Member) (events es : List Event) (i : ℕ) (m n : Member) → AreKept M o c members events → slice_get members i ≡ Some m →
+      Fall M o (suc i) c m d n es → AreKept M o d (slice_set members i n) (events ++ es)
+  fell o c d members events es i m n k found st = leaves-kept o c d members events es i n k st.word st.others (st.leaves (place o events) k.ground (record {
+    word = k.word;
+    found = record { free = free-nothing (place o events).due k.right.legal.settled; fit = k.right.fit; stands = k.right.each i (seen m) (map-get seen members i m found) };
+    fits = record { ground = k.is_ground; tied = k.tied; phase = k.phases i m found };
+  }))

@@ -23,7 +23,7 @@ use Rattle.session_jobs.specs.Records.{Model, IsRight}
 use Rattle.session_jobs.specs.Asked.{AsksFor, is_lock_for}
 use Rattle.session_jobs.specs.Jobs.{WhereItAgrees, IsRecord, worked_of}
 use Rattle.session_jobs.specs.declared.jobs.TxRecord.{TxRecord}
-use Rattle.line_store.specs.Seats.{Seat, outside, beginning, writing, reading, changing, committing, rolling_back, done_at, Adds}
+use Rattle.line_store.specs.Seats.{Seat, outside, beginning, writing, reading, changing, committing, rolling_back, dead, done_at, Adds}
 use Rattle.line_store.specs.Shelves.{Shelf, seen_by}
 use Rattle.lock_ties.specs.Ties.{IsTiedTo, needs_at}
 use Rattle.stepped_jobs.specs.Needs.{IsLocked}
@@ -41,8 +41,11 @@ use Rattle.session_states.specs.declared.stage.ReaderStage.TheVariants as look
 use Rattle.session_states.specs.declared.stage.Reader.{Reader}
 use Rattle.session_states.specs.declared.stage.Phase.{Phase}
 use Rattle.session_states.specs.declared.stage.Phase.TheVariants.{Outside, Closing, Writing, Reading, Over}
+use Rattle.session_states.specs.declared.stage.Life.{Life}
+use Rattle.session_states.specs.declared.stage.Life.TheVariants.{Alive, Dead, Gone}
 use Rattle.session_states.specs.declared.stage.Member.{Member}
 use Rattle.session_states.specs.Locks.{lock_of}
+use Rattle.session_states.specs.States.{commits_in}
 use Rattle.session_states.specs.Shared.{Shared}
 
 -- ---- the statement under way
@@ -141,6 +144,17 @@ PhaseFits M p g c s left (Writing w) = WriterFits M p g c s left w
 PhaseFits M p g c s left (Reading r) = ReaderFits p g c s r
 PhaseFits M p g c s left Over = (c.shelf.seat s ≡ outside) × (opened_of c.locks s ≡ None)
 
+-- The store has what a dead session wrote, and whether it died in its commit.
+pub record DeadFits (g : Ground) (c : Shared) (s : ℕ) (x : Phase) : Type 0 where
+  pub writes : List Write
+  pub seat : c.shelf.seat s ≡ dead (commits_in x) writes
+  pub same : commits_in x ≡ true → writes ≡ (g.desk s).writes
+
+abbrev pub LifeFits : Model → Place → Ground → Shared → ℕ → List Item → Phase → Life → Type 0
+LifeFits M p g c s left x Alive = PhaseFits M p g c s left x
+LifeFits M p g c s left x Dead = DeadFits g c s x
+LifeFits M p g c s left x Gone = (c.shelf.seat s ≡ outside) × (opened_of c.locks s ≡ None)
+
 -- the committed lines, the moment and the dead are those that are shared
 pub record IsGround (g : Ground) (c : Shared) : Type 0 where
   pub now : g.now ≡ c.shelf.now
@@ -151,7 +165,7 @@ pub record IsGround (g : Ground) (c : Shared) : Type 0 where
 pub record Fits (M : Model) (p : Place) (g : Ground) (c : Shared) (s : ℕ) (m : Member) : Type 0 where
   pub ground : IsGround g c
   pub tied : IsTiedTo p c.locks
-  pub phase : PhaseFits M p g c s m.left m.phase
+  pub phase : LifeFits M p g c s m.left m.phase m.life
 
 -- ---- what is known grows
 

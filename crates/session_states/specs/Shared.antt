@@ -1,5 +1,5 @@
 -- What all sessions share.
-use Rattle.std.specs.Prelude.{◌≡◌, ℕ, List, None}
+use Rattle.std.specs.Prelude.{◌≡◌, ◌+◌, ◌-◌, ℕ, List, None}
 use Rattle.lock_needs.specs.declared.need.Need.{Need}
 use Rattle.lock_tree_laws.specs.Forest.{State, KeepsParties, opened_of}
 use Rattle.lock_tree_laws.specs.Wanted.{needs_of}
@@ -21,6 +21,13 @@ with_locks locks c = record c { locks = locks }
 
 abbrev pub with_both : Shelf → State → Shared → Shared
 with_both shelf locks c = record c { shelf = shelf; locks = locks }
+
+-- one more is dead, and one is recovered
+abbrev pub with_death : Shelf → Shared → Shared
+with_death shelf c = record c { shelf = shelf; dead = c.dead + 1 }
+
+abbrev pub with_recovery : Shelf → State → Shared → Shared
+with_recovery shelf locks c = record c { shelf = shelf; locks = locks; dead = c.dead - 1 }
 
 -- What the store and the locks have of other sessions stays.
 pub record LeavesOthers (s : ℕ) (c d : Shared) : Type 0 where

@@ -1,11 +1,11 @@
 -- What the account sees of a session.
-use Rattle.std.specs.Prelude.{ℕ, Bool, true, false, List, map, Option, Some, None}
+use Rattle.std.specs.Prelude.{ℕ, ◌++◌, Bool, true, false, List, map, Option, Some, None}
 use Rattle.rdo_ast.specs.declared.reply.Standing.{Standing}
 use Rattle.rdo_ast.specs.declared.syntax.Item.{Item}
 use Rattle.rdo_ast.specs.Tree.{Uttered, said, commit, rollback}
 use Rattle.rdo_ast.specs.Views.{uttered_of}
 use Rattle.line_view.specs.Held.{Held}
-use Rattle.line_steps.specs.Members.{State, outside, writing, reading, ended, Member as Seen, member}
+use Rattle.line_steps.specs.Members.{State, outside, writing, reading, ended, fallen, recovered, awaited, Member as Seen, member}
 use Rattle.session_states.specs.declared.stage.Work.TheVariants.{Opening}
 use Rattle.session_states.specs.declared.stage.Laying.TheVariants.{Changing}
 use Rattle.session_states.specs.declared.stage.End.{End}
@@ -18,6 +18,8 @@ use Rattle.session_states.specs.declared.stage.ReaderStage.TheVariants as look
 use Rattle.session_states.specs.declared.stage.Reader.{Reader}
 use Rattle.session_states.specs.declared.stage.Phase.{Phase}
 use Rattle.session_states.specs.declared.stage.Phase.TheVariants.{Outside, Closing, Writing, Reading, Over}
+use Rattle.session_states.specs.declared.stage.Life.{Life}
+use Rattle.session_states.specs.declared.stage.Life.TheVariants.{Alive, Dead, Gone}
 use Rattle.session_states.specs.declared.stage.Member.{Member}
 
 abbrev pub item_at_end : End → Option Uttered
@@ -54,8 +56,28 @@ state_in (Writing w) = writing w.standing (item_of w.stage)
 state_in (Reading r) = reading r.standing (reader_item r.stage)
 state_in Over = ended
 
+abbrev pub state_of : Phase → Life → State
+state_of x Alive = state_in x
+state_of x Dead = fallen (state_in x)
+state_of x Gone = recovered
+
+-- what it hasn't said: of one that is recovered with the statement that was under way
+abbrev pub left_of : List Item → Phase → Life → List Uttered
+left_of left x Alive = map uttered_of left
+left_of left x Dead = map uttered_of left
+left_of left x Gone = awaited (state_in x) ++ map uttered_of left
+
 abbrev pub seen : Member → Seen
-seen m = member (map uttered_of m.left) (state_in m.phase) m.total
+seen m = member (left_of m.left m.phase m.life) (state_of m.phase m.life) m.total
+
+-- whether a commit is under way for it
+abbrev pub commits_at : Stage → Bool
+commits_at (Ending Committing) = true
+commits_at stage = false
+
+abbrev pub commits_in : Phase → Bool
+commits_in (Writing w) = commits_at w.stage
+commits_in x = false
 
 -- ---- sessions by their parts
 
@@ -66,4 +88,10 @@ abbrev pub reader : Standing → Held → (spoken : Bool) → ReaderStage → Re
 reader standing known spoken stage = record { standing = standing; known = known; spoken = spoken; stage = stage }
 
 abbrev pub session : List Item → ℕ → Phase → Member
-session left total phase = record { left = left; total = total; phase = phase }
+session left total phase = record { left = left; total = total; phase = phase; life = Alive }
+
+abbrev pub dead_session : List Item → ℕ → Phase → Member
+dead_session left total phase = record { left = left; total = total; phase = phase; life = Dead }
+
+abbrev pub gone_session : List Item → ℕ → Phase → Member
+gone_session left total phase = record { left = left; total = total; phase = phase; life = Gone }

@@ -4,7 +4,7 @@ use Rattle.rdb_account.specs.Events.{Event}
 use Rattle.rdb_account.specs.Places.{Opening, Place, place_from}
 use Rattle.session_jobs.specs.Records.{Model}
 use Rattle.line_steps.specs.Right.{Ground}
-use Rattle.line_steps.specs.Steps.{Here, Steps}
+use Rattle.line_steps.specs.Steps.{Found, Here, Steps}
 use Rattle.session_states.specs.declared.stage.Member.{Member}
 use Rattle.session_states.specs.States.{seen}
 use Rattle.session_states.specs.Shared.{Shared, LeavesOthers}
@@ -27,3 +27,15 @@ pub record Step (M : Model) (s : ℕ) (c : Shared) (m : Member) (d : Shared) (n 
   pub word : d.word ≡ c.word
   pub others : LeavesOthers s c d
   pub leaves : (o : Opening) (p : Place) (g : Ground) → Finds M o p g c s m → Leaves M o p g d s n es
+
+-- what session s finds, whoever is dead
+pub record FindsAny (M : Model) (o : Opening) (p : Place) (g : Ground) (c : Shared) (s : ℕ) (m : Member) : Type 0 where
+  pub word : o.word ≡ c.word
+  pub found : Found M o p g s (seen m)
+  pub fits : Fits M p g c s m
+
+-- A step of the death or the recovery of s.
+pub record Fall (M : Model) (o : Opening) (s : ℕ) (c : Shared) (m : Member) (d : Shared) (n : Member) (es : List Event) : Type 0 where
+  pub word : d.word ≡ c.word
+  pub others : LeavesOthers s c d
+  pub leaves : (p : Place) (g : Ground) → FindsAny M o p g c s m → Leaves M o p g d s n es

@@ -1,4 +1,5 @@
 // The law of each step of a stage: its events in the account, and that the stage that it comes to fits.
+pub mod dying;
 pub mod endings;
 pub mod outside;
 pub mod reading;

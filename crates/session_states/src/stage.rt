@@ -113,6 +113,16 @@ pub enum Phase {
     Over,
 }
 
+/// Whether a session lives.
+#[derive(Clone, Copy)]
+pub enum Life {
+    Alive,
+    /// It died where it stands, and awaits its recovery. Its locks are held still.
+    Dead,
+    /// It died and was recovered.
+    Gone,
+}
+
 /// A session.
 #[derive(Drop)]
 pub struct Member {
@@ -121,4 +131,5 @@ pub struct Member {
     /// How many items its script has.
     pub total: u32,
     pub phase: Phase,
+    pub life: Life,
 }

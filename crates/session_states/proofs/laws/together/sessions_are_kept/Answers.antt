@@ -1,5 +1,5 @@
 use Rattle.session_states.proofs.InTurn.{steps-on}
-use Rattle.session_states.proofs.Standing.{finds, kept}
+use Rattle.session_states.proofs.Standing.{finds, kept, fell}
 use Rattle.session_states.proofs.laws.together.sessions_are_kept.Goals as goal
 
 pub returns-clause-finds : goal.returns-clause-finds
@@ -10,3 +10,6 @@ returns-clause-kept g c = kept g.S.Statements.stands g.met.S.Statements.orderly
 
 pub returns-clause-in_turn : goal.returns-clause-in_turn
 returns-clause-in_turn g c = steps-on g.S.Statements.stands g.met.S.Statements.orderly
+
+pub returns-clause-fell : goal.returns-clause-fell
+returns-clause-fell g c = fell g.S.Statements.stands g.met.S.Statements.orderly
