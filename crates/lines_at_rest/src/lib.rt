@@ -2,6 +2,8 @@
 #![tactic(auto)]
 
 mod area;
+mod learn;
 mod page;
 
 pub use area::{AreaLines, read_area};
+pub use learn::learn_area;

@@ -1,12 +1,14 @@
-//! Cases of what RMU reads of a disk and writes. Each line of standard input writes bytes to a slot, or asks for a verification or for a page; it is echoed on standard output, and below it stands what RMU writes.
+//! Cases of what RMU reads of a disk and writes. Each line of standard input writes bytes to a slot, or asks for a verification, a dump, a page or the lines of an area; it is echoed on standard output, and below it stands what RMU writes.
 #![tactic(auto)]
 
 mod disks;
+mod rest;
 mod texts;
 
 use disks::{new_disk, write_bytes};
 use rdb_outside::MemoryDisk;
 use rdb_types::NoMemory;
+use rest::{tell_dump, tell_lines};
 use std::process::ExitCode;
 use texts::{tell_page, tell_verified};
 
@@ -17,10 +19,11 @@ fn say(rt: &HostRuntime, disk: &mut MemoryDisk, text: &str) -> Result<(), NoMemo
         "disk" => *disk = new_disk(rt.alloc(), rest)?,
         "verify" => tell_verified(rt, disk)?,
         "page" => tell_page(rt, disk, rest)?,
-        "area" if write_bytes(disk, rest) => {}
-        _ => {
+        "dump" => tell_dump(rt, disk)?,
+        "lines" => tell_lines(rt, disk, rest),
+        _ => if !write_bytes(disk, about, rest) {
             let _ = println!(rt; "NO SUCH CASE");
-        }
+        },
     }
     Ok(())
 }

@@ -9,12 +9,14 @@ use rmu_texts::{Faults, faults_text};
 /// A line of a dumped page has so many bytes.
 const LINE: usize = 53;
 
-fn tell_text(rt: &HostRuntime, text: &[u8]) {
+/// Writes a text.
+pub fn tell_text(rt: &HostRuntime, text: &[u8]) {
     let text = std::str::from_utf8(text).unwrap_or("?");
     let _ = print!(rt; "{text}");
 }
 
-fn tell_stop(rt: &HostRuntime) {
+/// Says that RMU gave up.
+pub fn tell_stop(rt: &HostRuntime) {
     let _ = println!(rt; "STOPPED");
 }
 
