@@ -1,12 +1,10 @@
 ghost use Rattle.std.specs.Prelude.{◌≡◌};
 
-use journal_reading::AijFault;
-use line_moves::aij_file;
 use line_store::Fault;
 use rdb_outside::Failed;
 use rdb_types::FileId;
 
-/// Why an opening went no further: a device call failed, memory was wanted, or the slot of this number isn't what it has to be.
+/// Why a reading of an opening that keeps what it finds in memory went no further: a device call failed, memory was wanted, or the slot of this number isn't what it has to be.
 #[derive(Clone, Copy, Debug, PartialEq, Eq)]
 pub enum OpeningFault {
     Failed,
@@ -33,20 +31,6 @@ impl From<Fault> for OpeningFault {
         match fault {
             Fault::Failed => OpeningFault::Failed,
             Fault::Bad(file, slot) => OpeningFault::Bad(file, slot),
-        }
-    }
-}
-
-impl From<AijFault> for OpeningFault {
-    ghost use Rattle.line_opening.specs.Faults.{of_journal};
-
-    ghost from_gives = { λ f e. e ≡ of_journal f };
-
-    fn from(fault: AijFault) -> Self {
-        match fault {
-            AijFault::Failed => OpeningFault::Failed,
-            AijFault::NoMemory => OpeningFault::NoMemory,
-            AijFault::BadHeader => OpeningFault::Bad(aij_file(), 0),
         }
     }
 }
