@@ -1,0 +1,5 @@
+mod Before
+mod Held
+mod Laid
+mod Numbers
+mod Reading

@@ -1,0 +1,43 @@
+//! Cases of what RMU reads of a disk and writes. Each line of standard input writes bytes to a slot, or asks for a verification or for a page; it is echoed on standard output, and below it stands what RMU writes.
+#![tactic(auto)]
+
+mod disks;
+mod texts;
+
+use disks::{new_disk, write_bytes};
+use rdb_outside::MemoryDisk;
+use rdb_types::NoMemory;
+use std::process::ExitCode;
+use texts::{tell_page, tell_verified};
+
+fn say(rt: &HostRuntime, disk: &mut MemoryDisk, text: &str) -> Result<(), NoMemory> {
+    let (about, rest) = text.split_once(' ').unwrap_or((text, ""));
+    match about {
+        "" | "!" => {}
+        "disk" => *disk = new_disk(rt.alloc(), rest)?,
+        "verify" => tell_verified(rt, disk)?,
+        "page" => tell_page(rt, disk, rest)?,
+        "area" if write_bytes(disk, rest) => {}
+        _ => {
+            let _ = println!(rt; "NO SUCH CASE");
+        }
+    }
+    Ok(())
+}
+
+fn main(rt: HostRuntime) -> ExitCode {
+    let Ok(mut disk) = new_disk(rt.alloc(), "0") else {
+        return ExitCode::from(5);
+    };
+    for line in rt.lines(rt.alloc()) {
+        let Ok(line) = line else {
+            return ExitCode::from(3);
+        };
+        let text = line.as_str();
+        let _ = println!(rt; "{text}");
+        if say(&rt, &mut disk, text).is_err() {
+            return ExitCode::from(5);
+        }
+    }
+    ExitCode::from(0)
+}
