@@ -1,9 +1,17 @@
--- What stops an opening, of what stops a call.
+-- What stops an opening, of what stops a call or the reading of the after-image journal.
+use Rattle.new_database.specs.Maker.{aij_file}
+use Rattle.journal_reading.specs.declared.reading.AijFault.{AijFault}
+use Rattle.journal_reading.specs.declared.reading.AijFault.TheVariants as reading
 use Rattle.line_store.specs.declared.answers.Fault.{Fault}
 use Rattle.line_store.specs.declared.answers.Fault.TheVariants as call
 use Rattle.line_opening.specs.declared.fault.OpeningFault.{OpeningFault}
-use Rattle.line_opening.specs.declared.fault.OpeningFault.TheVariants.{Failed, Bad}
+use Rattle.line_opening.specs.declared.fault.OpeningFault.TheVariants.{Failed, NoMemory, Bad}
 
 abbrev pub of_call : Fault → OpeningFault
 of_call call.Failed = Failed
 of_call (call.Bad file slot) = Bad file slot
+
+abbrev pub of_journal : AijFault → OpeningFault
+of_journal reading.Failed = Failed
+of_journal reading.NoMemory = NoMemory
+of_journal reading.BadHeader = Bad aij_file 0

@@ -1,5 +1,7 @@
 ghost use Rattle.std.specs.Prelude.{◌≡◌};
 
+use journal_reading::AijFault;
+use line_moves::aij_file;
 use line_store::Fault;
 use rdb_outside::Failed;
 use rdb_types::FileId;
@@ -31,6 +33,20 @@ impl From<Fault> for OpeningFault {
         match fault {
             Fault::Failed => OpeningFault::Failed,
             Fault::Bad(file, slot) => OpeningFault::Bad(file, slot),
+        }
+    }
+}
+
+impl From<AijFault> for OpeningFault {
+    ghost use Rattle.line_opening.specs.Faults.{of_journal};
+
+    ghost from_gives = { λ f e. e ≡ of_journal f };
+
+    fn from(fault: AijFault) -> Self {
+        match fault {
+            AijFault::Failed => OpeningFault::Failed,
+            AijFault::NoMemory => OpeningFault::NoMemory,
+            AijFault::BadHeader => OpeningFault::Bad(aij_file(), 0),
         }
     }
 }
