@@ -79,7 +79,7 @@ pub fn read_before_images<D: Disk>(
     // Whatever it answers.
     ensures reads { OnlyReads (D.view disk.old) (D.view disk.new) }
 {
-    let numbers = read_open(alloc, disk)?;
+    let numbers = read_open(disk)?;
     let mut held = BeforeImages::new(alloc);
     for place in 0..16 {
         add_open(alloc, disk, place as u32 + 1, numbers[place], &mut held)?;

@@ -10,10 +10,9 @@ ghost use Rattle.before_images.specs.Open.{AreOpen};
 
 use line_opening::{OpeningFault, all_named, find_open};
 use rdb_outside::Disk;
-use std::alloc::Global;
 
 // The transactions that the members' headers name and that have no whole group, the first member's in place 0, and 0 where a member has none.
-pub fn read_open<D: Disk>(alloc: Global, disk: &mut D) -> Result<[u64; 16], OpeningFault>
+pub fn read_open<D: Disk>(disk: &mut D) -> Result<[u64; 16], OpeningFault>
     ensures open { IfOk result (λ numbers. IsTrue (D.view disk.old).tells
         → (journal : Journal) → IsJournalOf (D.view disk.old).content journal
         → AreOpen (D.view disk.old).content journal.groups numbers) }
@@ -26,6 +25,6 @@ pub fn read_open<D: Disk>(alloc: Global, disk: &mut D) -> Result<[u64; 16], Open
     ensures reads { OnlyReads (D.view disk.old) (D.view disk.new) }
 {
     let mut numbers = all_named(disk)?;
-    let _next = find_open(alloc, disk, &mut numbers)?;
+    let _next = find_open(disk, &mut numbers)?;
     Ok(numbers)
 }

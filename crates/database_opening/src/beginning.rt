@@ -13,9 +13,9 @@ ghost use Rattle.database_opening.specs.declared.stages.OpeningStage.TheVariants
 use crate::reading::{count_all, opened_root};
 use crate::stages::{Found, Opening, OpeningStage};
 use line_moves::make_stable;
-use line_opening::{OpeningFault, all_named, find_open};
+use line_opening::{all_named, find_open};
+use line_store::Fault;
 use rdb_outside::Disk;
-use std::alloc::Global;
 
 // Whether no header names a transaction.
 fn names_none(numbers: &[u64; 16]) -> bool
@@ -44,11 +44,11 @@ fn first_stage(named: &[u64; 16], counts: &[u32; 16]) -> OpeningStage
 }
 
 // Reads all that an opening goes by.
-fn read_all<D: Disk>(alloc: Global, disk: &mut D) -> Result<Opening, OpeningFault>
+fn read_all<D: Disk>(disk: &mut D) -> Result<Opening, Fault>
     ensures reads { OnlyReads (D.view disk.old) (D.view disk.new) }
-    ensures failed { IsErrOf result OpeningFault.Failed
+    ensures failed { IsErrOf result Fault.Failed
         → Rose (D.view disk.old).faults (D.view disk.new).faults }
-    ensures bad { (file : File) (slot : ℕ) → IsErrOf result (OpeningFault.Bad file slot)
+    ensures bad { (file : File) (slot : ℕ) → IsErrOf result (Fault.Bad file slot)
         → IsTrue (D.view disk.old).tells
         → (classes : ℕ → ℕ) (lines : Lines) (journal : Journal)
         → Kept classes lines journal (D.view disk.old).content → ⊥ }
@@ -61,7 +61,7 @@ fn read_all<D: Disk>(alloc: Global, disk: &mut D) -> Result<Opening, OpeningFaul
     let root = opened_root(disk)?;
     let named = all_named(disk)?;
     let mut numbers = named;
-    let next = find_open(alloc, disk, &mut numbers)?;
+    let next = find_open(disk, &mut numbers)?;
     let counts = count_all(disk, &numbers)?;
     let stage = first_stage(&named, &counts);
     let found = Found {
@@ -74,13 +74,13 @@ fn read_all<D: Disk>(alloc: Global, disk: &mut D) -> Result<Opening, OpeningFaul
 }
 
 /// Begins the opening of a database: makes stable what a crash left, and reads the root, the headers, the groups and the entries of what is open. Where no header names a transaction, the database is open behind it. It makes one barrier and writes nothing.
-pub fn begin<D: Disk>(alloc: Global, disk: &mut D) -> Result<Opening, OpeningFault>
+pub fn begin<D: Disk>(disk: &mut D) -> Result<Opening, Fault>
     ensures reads { OnlyReads (D.view disk.old) (D.view disk.new) }
-    ensures failed { IsErrOf result OpeningFault.Failed
+    ensures failed { IsErrOf result Fault.Failed
         → Rose (D.view disk.old).faults (D.view disk.new).faults }
 
     // A kept image is never refused.
-    ensures bad { (file : File) (slot : ℕ) → IsErrOf result (OpeningFault.Bad file slot)
+    ensures bad { (file : File) (slot : ℕ) → IsErrOf result (Fault.Bad file slot)
         → IsTrue (D.view disk.old).tells
         → (classes : ℕ → ℕ) (lines : Lines) (journal : Journal)
         → Kept classes lines journal (D.view disk.old).content → ⊥ }
@@ -93,5 +93,5 @@ pub fn begin<D: Disk>(alloc: Global, disk: &mut D) -> Result<Opening, OpeningFau
         → OpeningFacts classes lines journal opening.stage (D.view disk.new) opening.found) }
 {
     make_stable(disk)?;
-    read_all(alloc, disk)
+    read_all(disk)
 }

@@ -8,7 +8,8 @@ ghost use Rattle.line_opening.specs.Counting.{HasCount};
 ghost use Rattle.database_opening.specs.Reading.{IsOpenedRoot, AreCounted};
 
 use line_moves::root_file;
-use line_opening::{OpeningFault, count_entries};
+use line_opening::count_entries;
+use line_store::Fault;
 use rdb_outside::{Disk, Failed};
 use rdb_types::Tsn;
 use root_file::{Root, read_root};
@@ -35,13 +36,13 @@ fn root_in(slot: &[u8]) -> Option<Root>
 }
 
 /// The root of a database that may be opened. Any other is refused: an unfinished restore or roll-forward, or a slot that is no root.
-pub fn opened_root<D: Disk>(disk: &mut D) -> Result<Root, OpeningFault>
+pub fn opened_root<D: Disk>(disk: &mut D) -> Result<Root, Fault>
     ensures reads { OnlyReads (D.view disk.old) (D.view disk.new) }
-    ensures failed { IsErrOf result OpeningFault.Failed
+    ensures failed { IsErrOf result Fault.Failed
         → Rose (D.view disk.old).faults (D.view disk.new).faults }
     ensures found { IfOk result (λ root. IsTrue (D.view disk.old).tells
         → IsOpenedRoot ((D.view disk.old).content root_named 0) root) }
-    ensures bad { (file : File) (slot : ℕ) → IsErrOf result (OpeningFault.Bad file slot)
+    ensures bad { (file : File) (slot : ℕ) → IsErrOf result (Fault.Bad file slot)
         → IsTrue (D.view disk.old).tells → (root : _)
         → IsOpenedRoot ((D.view disk.old).content root_named 0) root → ⊥ }
 {
@@ -50,7 +51,7 @@ pub fn opened_root<D: Disk>(disk: &mut D) -> Result<Root, OpeningFault>
     disk.read(file, 0, &mut slot)?;
     match root_in(&slot) {
         Some(root) => Ok(root),
-        None => Err(OpeningFault::Bad(file, 0)),
+        None => Err(Fault::Bad(file, 0)),
     }
 }
 
@@ -69,13 +70,13 @@ fn count_of<D: Disk>(disk: &mut D, member: u32, number: u64) -> Result<u32, Fail
 }
 
 /// How many entries the transactions of these numbers have, the first member's in place 0. It reads one slot more than it counts of each, at most.
-pub fn count_all<D: Disk>(disk: &mut D, numbers: &[u64; 16]) -> Result<[u32; 16], OpeningFault>
+pub fn count_all<D: Disk>(disk: &mut D, numbers: &[u64; 16]) -> Result<[u32; 16], Fault>
     ensures reads { OnlyReads (D.view disk.old) (D.view disk.new) }
-    ensures failed { IsErrOf result OpeningFault.Failed
+    ensures failed { IsErrOf result Fault.Failed
         → Rose (D.view disk.old).faults (D.view disk.new).faults }
     ensures counts { IfOk result (λ counts. IsTrue (D.view disk.old).tells
         → AreCounted (D.view disk.old).content numbers.now counts) }
-    ensures bad { (file : File) (slot : ℕ) → IsErrOf result (OpeningFault.Bad file slot) → ⊥ }
+    ensures bad { (file : File) (slot : ℕ) → IsErrOf result (Fault.Bad file slot) → ⊥ }
 {
     let mut counts = [0; 16];
     for place in 0..16 {

@@ -12,7 +12,8 @@ ghost use Rattle.database_opening.specs.Stages.{OpeningFacts, IsStage, steps_lef
 
 use crate::stages::{Found, OpeningStage};
 use line_moves::make_stable;
-use line_opening::{OpeningFault, close_next, undo_next};
+use line_opening::{close_next, undo_next};
+use line_store::Fault;
 use rdb_outside::Disk;
 use rdb_types::Tsn;
 
@@ -40,16 +41,16 @@ fn undo_entries<D: Disk>(
     found: &Found,
     member: u32,
     entries: u32,
-) -> Result<OpeningStage, OpeningFault>
+) -> Result<OpeningStage, Fault>
     requires { IsMember member }
     ensures told { (D.view disk.new).tells ≡ (D.view disk.old).tells }
     ensures no_fewer { (D.view disk.old).faults ≤ (D.view disk.new).faults }
-    ensures failed { IsErrOf result OpeningFault.Failed
+    ensures failed { IsErrOf result Fault.Failed
         → Rose (D.view disk.old).faults (D.view disk.new).faults }
     ensures stage { IfOk result IsStage }
     ensures nearer { IfOk result (λ next. steps_left found.now.counts next
         < steps_left found.now.counts (Undoing member entries)) }
-    ensures bad { (file : File) (slot : ℕ) → IsErrOf result (OpeningFault.Bad file slot)
+    ensures bad { (file : File) (slot : ℕ) → IsErrOf result (Fault.Bad file slot)
         → IsTrue (D.view disk.old).tells
         → (classes : ℕ → ℕ) (lines : Lines) (journal : Journal)
         → OpeningFacts classes lines journal (Undoing member entries) (D.view disk.old) found.now → ⊥ }
@@ -78,16 +79,16 @@ fn undo_entries<D: Disk>(
 }
 
 // Closes the next header that names a transaction.
-fn close_header<D: Disk>(disk: &mut D, member: u32) -> Result<OpeningStage, OpeningFault>
+fn close_header<D: Disk>(disk: &mut D, member: u32) -> Result<OpeningStage, Fault>
     requires { IsMember member }
     ensures told { (D.view disk.new).tells ≡ (D.view disk.old).tells }
     ensures no_fewer { (D.view disk.old).faults ≤ (D.view disk.new).faults }
-    ensures failed { IsErrOf result OpeningFault.Failed
+    ensures failed { IsErrOf result Fault.Failed
         → Rose (D.view disk.old).faults (D.view disk.new).faults }
     ensures stage { IfOk result IsStage }
     ensures nearer { IfOk result (λ next. (counts : List ℕ)
         → steps_left counts next < steps_left counts (Closing member)) }
-    ensures bad { (file : File) (slot : ℕ) → IsErrOf result (OpeningFault.Bad file slot)
+    ensures bad { (file : File) (slot : ℕ) → IsErrOf result (Fault.Bad file slot)
         → IsTrue (D.view disk.old).tells
         → (classes : ℕ → ℕ) (lines : Lines) (journal : Journal) (found : _)
         → OpeningFacts classes lines journal (Closing member) (D.view disk.old) found → ⊥ }
@@ -108,13 +109,13 @@ fn close_header<D: Disk>(disk: &mut D, member: u32) -> Result<OpeningStage, Open
 }
 
 // Makes stable what was written, and goes on at a stage.
-fn go_on_stable<D: Disk>(disk: &mut D, next: OpeningStage) -> Result<OpeningStage, OpeningFault>
+fn go_on_stable<D: Disk>(disk: &mut D, next: OpeningStage) -> Result<OpeningStage, Fault>
     ensures reads { OnlyReads (D.view disk.old) (D.view disk.new) }
-    ensures failed { IsErrOf result OpeningFault.Failed
+    ensures failed { IsErrOf result Fault.Failed
         → Rose (D.view disk.old).faults (D.view disk.new).faults }
     ensures next { IfOk result (λ stage. stage ≡ next) }
     ensures stable { OnOk result (IsTrue (D.view disk.old).tells → IsStable (D.view disk.new)) }
-    ensures bad { (file : File) (slot : ℕ) → IsErrOf result (OpeningFault.Bad file slot) → ⊥ }
+    ensures bad { (file : File) (slot : ℕ) → IsErrOf result (Fault.Bad file slot) → ⊥ }
 {
     make_stable(disk)?;
     Ok(next)
@@ -125,11 +126,11 @@ pub fn step<D: Disk>(
     disk: &mut D,
     found: &Found,
     stage: OpeningStage,
-) -> Result<OpeningStage, OpeningFault>
+) -> Result<OpeningStage, Fault>
     requires { IsStage stage }
     ensures told { (D.view disk.new).tells ≡ (D.view disk.old).tells }
     ensures no_fewer { (D.view disk.old).faults ≤ (D.view disk.new).faults }
-    ensures failed { IsErrOf result OpeningFault.Failed
+    ensures failed { IsErrOf result Fault.Failed
         → Rose (D.view disk.old).faults (D.view disk.new).faults }
     ensures stage { IfOk result IsStage }
 
@@ -138,7 +139,7 @@ pub fn step<D: Disk>(
         → steps_left found.now.counts next < steps_left found.now.counts stage) }
 
     // No slot is refused behind the first step.
-    ensures bad { (file : File) (slot : ℕ) → IsErrOf result (OpeningFault.Bad file slot)
+    ensures bad { (file : File) (slot : ℕ) → IsErrOf result (Fault.Bad file slot)
         → IsTrue (D.view disk.old).tells
         → (classes : ℕ → ℕ) (lines : Lines) (journal : Journal)
         → OpeningFacts classes lines journal stage (D.view disk.old) found.now → ⊥ }

@@ -13,9 +13,8 @@ use crate::beginning::begin;
 use crate::stages::OpeningStage;
 use crate::start::{StoreStart, start_of};
 use crate::steps::step;
-use line_opening::OpeningFault;
+use line_store::Fault;
 use rdb_outside::Disk;
-use std::alloc::Global;
 
 // Whether an opening is at its end.
 fn is_over(stage: OpeningStage) -> bool
@@ -26,14 +25,14 @@ fn is_over(stage: OpeningStage) -> bool
 }
 
 /// Opens a database, whatever a crash left of it, and answers where a store begins. It makes as many calls of `step` as there are entries to be undone, and 35 more at most.
-pub fn open_database<D: Disk>(alloc: Global, disk: &mut D) -> Result<StoreStart, OpeningFault>
+pub fn open_database<D: Disk>(disk: &mut D) -> Result<StoreStart, Fault>
     ensures told { (D.view disk.new).tells ≡ (D.view disk.old).tells }
     ensures no_fewer { (D.view disk.old).faults ≤ (D.view disk.new).faults }
-    ensures failed { IsErrOf result OpeningFault.Failed
+    ensures failed { IsErrOf result Fault.Failed
         → Rose (D.view disk.old).faults (D.view disk.new).faults }
 
     // A kept image is never refused.
-    ensures bad { (file : File) (slot : ℕ) → IsErrOf result (OpeningFault.Bad file slot)
+    ensures bad { (file : File) (slot : ℕ) → IsErrOf result (Fault.Bad file slot)
         → IsTrue (D.view disk.old).tells
         → (classes : ℕ → ℕ) (lines : Lines) (journal : Journal)
         → Kept classes lines journal (D.view disk.old).content → ⊥ }
@@ -51,7 +50,7 @@ pub fn open_database<D: Disk>(alloc: Global, disk: &mut D) -> Result<StoreStart,
         → LeavesOnly (D.view disk.old) (D.view disk.new)
         (λ image. IsPending (D.view disk.old) image ⊎ Kept classes lines journal image) }
 {
-    let opening = begin(alloc, disk)?;
+    let opening = begin(disk)?;
     let mut stage = opening.stage;
     'steps: while !is_over(stage) {
         stage = step(disk, &opening.found, stage)?;

@@ -166,6 +166,3 @@ stood old mid file slot g same at stands = sym (λ i. standing (same i) (at i) s
 -- the journal behind the reads of its header and its length
 pub ends_there : (old mid : Image) (file : FileId) (end : ℕ) → old ≡ mid → file ≡ aij_file → ((slot : ℕ) → end ≤ slot → old file slot ≡ zeros file) → EndsBy mid aij_file end
 ends_there old mid file end same at ends = subst (λ (m : Image). EndsBy m aij_file end) same (subst (λ (f : FileId). EndsBy old f end) at ends)
-
-pub header_there : (old mid : Image) (file : FileId) (first : ℕ) → old ≡ mid → file ≡ aij_file → IsHeader (old file 0) first → IsHeader (mid aij_file 0) first
-header_there old mid file first same at is = subst (λ (x : List ℕ). IsHeader x first) (λ i. same i (at i) 0) is

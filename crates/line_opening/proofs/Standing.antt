@@ -1,16 +1,15 @@
 -- What a crash leaves at every moment of a run, while the facts stay; and lines that no open transaction gets back.
-use Rattle.std.proofs.Common.{◌≡◌, ℕ, ◌≤◌, IsTrue, ◌⊎◌, inl, inr, ⊎_elim, sym, ◌∙◌, ap, subst, arith}
+use Rattle.std.proofs.Common.{◌≡◌, ℕ, IsTrue, ◌⊎◌, inl, inr, ⊎_elim, sym, ◌∙◌, subst, arith}
 use Rattle.rdb_types.specs.declared.file.FileId.{FileId}
 use Rattle.rdb_types.specs.declared.keys.Dbkey.{Dbkey}
 use Rattle.rdb_types.specs.declared.keys.Line.{Line}
 use Rattle.rdb_outside.specs.Disk.{Image, View, Pending, LeavesOnly, IsPending, OnlyReads}
 use Rattle.rdb_outside.specs.Moments.{each_slot, started, weaker}
 use Rattle.stable_lines.specs.Slots.{line_at}
-use Rattle.stable_lines.specs.Progress.{Open, Progress}
+use Rattle.stable_lines.specs.Progress.{Progress}
 use Rattle.stable_lines.specs.Facts.{IsNotOpen, Facts, StandsAs}
 use Rattle.stable_lines.proofs.Stands.{stands}
 use Rattle.line_moves.specs.Calls.{OnlyWrites}
-use Rattle.line_opening.specs.Undoing.{AreUndone}
 
 -- before the first call
 pub stands_now : (v : View) (now : Progress) → Facts (Pending v) now → LeavesOnly v v (StandsAs now)

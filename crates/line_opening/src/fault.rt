@@ -6,7 +6,7 @@ use line_store::Fault;
 use rdb_outside::Failed;
 use rdb_types::FileId;
 
-/// Why an opening went no further: a device call failed, memory was wanted, or the slot of this number isn't what it has to be.
+/// Why a reading of an opening that keeps what it finds in memory went no further: a device call failed, memory was wanted, or the slot of this number isn't what it has to be.
 #[derive(Clone, Copy, Debug, PartialEq, Eq)]
 pub enum OpeningFault {
     Failed,

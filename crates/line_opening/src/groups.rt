@@ -10,11 +10,11 @@ ghost use Rattle.stable_lines.specs.Journal.{Journal, IsJournalOf};
 ghost use Rattle.line_opening.specs.Headers.{open_in};
 ghost use Rattle.line_opening.specs.Passing.{without, IsNext};
 
-use crate::fault::OpeningFault;
-use journal_reading::{first_number, group_at};
+use aij_journal::read_header;
+use journal_passing::pass_group;
 use line_moves::aij_file;
+use line_store::Fault;
 use rdb_outside::Disk;
-use std::alloc::Global;
 
 /// Where the next group of the after-image journal is written, and its number.
 #[derive(Clone, Copy, Debug, PartialEq, Eq)]
@@ -39,19 +39,39 @@ fn forget(numbers: &mut [u64], tsn: u64)
     }
 }
 
+// The number of the first group, which the header of the after-image journal says.
+fn first_number<D: Disk>(disk: &mut D) -> Result<u64, Fault>
+    ensures reads { OnlyReads (D.view disk.old) (D.view disk.new) }
+    ensures failed { IsErrOf result Fault.Failed
+        → Rose (D.view disk.old).faults (D.view disk.new).faults }
+    ensures header { IfOk result (λ first. IsTrue (D.view disk.old).tells
+        → IsHeader ((D.view disk.old).content aij_named 0) first) }
+    ensures few { IfOk result (λ first. first ≤ 2 ^ 62) }
+    ensures bad { (file : File) (slot : ℕ) → IsErrOf result (Fault.Bad file slot)
+        → IsTrue (D.view disk.old).tells
+        → (first : ℕ) → IsHeader ((D.view disk.old).content aij_named 0) first → ⊥ }
+{
+    let journal = aij_file();
+    let mut slot = [0; 512];
+    disk.read(journal, 0, &mut slot)?;
+    match read_header(&slot) {
+        Some(first) => Ok(first),
+        None => Err(Fault::Bad(journal, 0)),
+    }
+}
+
 // Goes over the groups, up to the slot from which on the file is zeros.
 fn pass_groups<D: Disk>(
-    alloc: Global,
     disk: &mut D,
     end: u32,
     first: u64,
     numbers: &mut [u64],
-) -> Result<NextGroup, OpeningFault>
+) -> Result<NextGroup, Fault>
     requires { first ≤ 2 ^ 62 }
     ensures reads { OnlyReads (D.view disk.old) (D.view disk.new) }
-    ensures failed { IsErrOf result OpeningFault.Failed
+    ensures failed { IsErrOf result Fault.Failed
         → Rose (D.view disk.old).faults (D.view disk.new).faults }
-    ensures bad { (file : File) (slot : ℕ) → IsErrOf result (OpeningFault.Bad file slot) → ⊥ }
+    ensures bad { (file : File) (slot : ℕ) → IsErrOf result (Fault.Bad file slot) → ⊥ }
     ensures open { OnOk result (IsTrue (D.view disk.old).tells
         → EndsBy (D.view disk.old).content aij_named end
         → IsHeader ((D.view disk.old).content aij_named 0) first
@@ -67,23 +87,19 @@ fn pass_groups<D: Disk>(
         number: first,
     };
     loop {
-        let Some(group) = group_at(alloc, disk, aij_file(), end, next.slot, next.number)? else {
+        let Some(group) = pass_group(disk, aij_file(), end, next.slot, next.number)? else {
             return Ok(next);
         };
         forget(numbers, group.tsn.number);
-        next.slot += group.lines.len() as u32 + 1;
+        next.slot += group.lines + 1;
         next.number += 1;
     }
 }
 
-/// Puts 0 in place of each transaction that has a whole group in the after-image journal: it is committed. The others are open. It answers where the next group is written. The time grows as the slots of the groups, and one group is in memory at a time.
-pub fn find_open<D: Disk>(
-    alloc: Global,
-    disk: &mut D,
-    numbers: &mut [u64],
-) -> Result<NextGroup, OpeningFault>
+/// Puts 0 in place of each transaction that has a whole group in the after-image journal: it is committed. The others are open. It answers where the next group is written. The time grows as the slots of the groups; it takes no memory.
+pub fn find_open<D: Disk>(disk: &mut D, numbers: &mut [u64]) -> Result<NextGroup, Fault>
     ensures reads { OnlyReads (D.view disk.old) (D.view disk.new) }
-    ensures failed { IsErrOf result OpeningFault.Failed
+    ensures failed { IsErrOf result Fault.Failed
         → Rose (D.view disk.old).faults (D.view disk.new).faults }
 
     // These are the groups of the journal, and of no other.
@@ -94,15 +110,11 @@ pub fn find_open<D: Disk>(
         → (journal : Journal) → IsJournalOf (D.view disk.old).content journal → IsNext journal next) }
 
     // A journal is refused only where slot 0 is no header.
-    ensures bad { (file : File) (slot : ℕ) → IsErrOf result (OpeningFault.Bad file slot)
+    ensures bad { (file : File) (slot : ℕ) → IsErrOf result (Fault.Bad file slot)
         → IsTrue (D.view disk.old).tells
         → (journal : Journal) → IsJournalOf (D.view disk.old).content journal → ⊥ }
 {
-    let journal = aij_file();
-    let first = first_number(disk, journal)?;
-    if first > 1 << 62 {
-        return Err(OpeningFault::Bad(journal, 0));
-    }
-    let end = disk.length(journal)?;
-    pass_groups(alloc, disk, end, first, numbers)
+    let first = first_number(disk)?;
+    let end = disk.length(aij_file())?;
+    pass_groups(disk, end, first, numbers)
 }

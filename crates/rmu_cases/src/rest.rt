@@ -11,7 +11,7 @@ use rmu_texts::{Dump, dump_text};
 // The root and the groups, without relations and indexes.
 fn dump_of(rt: &HostRuntime, disk: &mut MemoryDisk) -> Option<Dump> {
     let root = root_of(disk).ok()?;
-    let groups = count_groups(rt.alloc(), disk).ok()?;
+    let groups = count_groups(disk).ok()?;
     Some(Dump {
         root,
         relations: Items::new(rt.alloc()),

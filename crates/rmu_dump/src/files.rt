@@ -13,7 +13,6 @@ use line_moves::{aij_file, root_file};
 use line_opening::{OpeningFault, find_open};
 use rdb_outside::Disk;
 use root_file::{Root, read_root};
-use std::alloc::Global;
 
 /// The root of a database.
 pub fn root_of<D: Disk>(disk: &mut D) -> Result<Root, OpeningFault>
@@ -39,7 +38,7 @@ pub fn root_of<D: Disk>(disk: &mut D) -> Result<Root, OpeningFault>
 }
 
 /// How many whole groups the after-image journal has. One group is in memory at a time.
-pub fn count_groups<D: Disk>(alloc: Global, disk: &mut D) -> Result<u64, OpeningFault>
+pub fn count_groups<D: Disk>(disk: &mut D) -> Result<u64, OpeningFault>
     ensures count { IfOk result (λ count. IsTrue (D.view disk.old).tells
         → (journal : Journal) → IsJournalOf (D.view disk.old).content journal
         → count ≡ length journal.groups) }
@@ -55,6 +54,6 @@ pub fn count_groups<D: Disk>(alloc: Global, disk: &mut D) -> Result<u64, Opening
     ensures reads { OnlyReads (D.view disk.old) (D.view disk.new) }
 {
     let first = first_number(disk, aij_file())?;
-    let next = find_open(alloc, disk, &mut [])?;
+    let next = find_open(disk, &mut [])?;
     Ok(next.number.saturating_sub(first))
 }

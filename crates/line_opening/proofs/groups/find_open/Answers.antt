@@ -1,17 +1,16 @@
 use Rattle.std.proofs.Common.{rules, ◌∙◌, sym, subst}
-use Rattle.rdb_types.specs.declared.file.FileId.{FileId}
 use Rattle.rdb_outside.specs.Disk.{Image}
 use Rattle.aij_journal.specs.Header.{IsHeader}
 use Rattle.rdb_outside.specs.Runs.{one_call, then_reads}
 use Rattle.stable_lines.specs.Journal.{IsJournalOf}
 use Rattle.line_moves.proofs.Runs.{still_tells, on_ok}
+use Rattle.new_database.specs.Maker.{aij_file}
 use Rattle.line_opening.proofs.Counted.{if_ok}
-use Rattle.line_opening.proofs.Passed.{image_same, ends_there, header_there}
+use Rattle.line_opening.proofs.Passed.{image_same, ends_there}
 use Rattle.line_opening.proofs.groups.find_open.Goals as goal
 
 pub returns-in_err-first-clause-bad : goal.returns-in_err-first-clause-bad
-returns-in_err-first-clause-bad g c = let old = g.D.Disk.view c.args.disk.now in λ file slot bad t journal is.
-    c.first_number.ensures.bad_header (search rules) t journal.first (subst (λ (f : FileId). IsHeader (old.content f 0) journal.first) (sym c.aij_file-journal.ensures) is.header)
+returns-in_err-first-clause-bad g c = λ file slot bad t journal is. c.first_number.ensures.bad file slot (search rules) t journal.first is.header
 
 pub returns-in_err-end-clause-reads : goal.returns-in_err-end-clause-reads
 returns-in_err-end-clause-reads g c = let v = g.D.Disk.view in one_call (v c.args.disk.now) (v c.first_number.new.disk) (v c.length.new.self) c.length.result c.first_number.ensures.reads c.length.ensures.counts c.length.ensures.kept
@@ -26,8 +25,8 @@ returns-clause-open g c = let v = g.D.Disk.view in let old = v c.args.disk.now i
     let reads = one_call old read mid c.length.result c.first_number.ensures.reads c.length.ensures.counts c.length.ensures.kept in
     on_ok _ _ c.pass_groups.result (λ left t journal is.
     left (still_tells old mid reads.told t)
-    (ends_there read.content mid.content c.aij_file-journal.result c.in_ok-end.end (image_same old read c.first_number.ensures.reads t ∙ sym (image_same old mid reads t)) c.aij_file-journal.ensures (c.in_ok-end.ensures.zeros (still_tells old read c.first_number.ensures.reads.told t)))
-    (header_there old.content mid.content c.aij_file-journal.result c.in_ok-first.first (sym (image_same old mid reads t)) c.aij_file-journal.ensures (c.in_ok-first.ensures.header t))
+    (ends_there read.content mid.content c.aij_file.result c.in_ok-end.end (image_same old read c.first_number.ensures.reads t ∙ sym (image_same old mid reads t)) c.aij_file.ensures (c.in_ok-end.ensures.zeros (still_tells old read c.first_number.ensures.reads.told t)))
+    (subst (λ (m : Image). IsHeader (m aij_file 0) c.in_ok-first.first) (sym (image_same old mid reads t)) (c.in_ok-first.ensures.header t))
     journal (subst (λ (m : Image). IsJournalOf m journal) (sym (image_same old mid reads t)) is)) c.pass_groups.ensures.open
 
 pub returns-clause-next : goal.returns-clause-next
@@ -35,6 +34,6 @@ returns-clause-next g c = let v = g.D.Disk.view in let old = v c.args.disk.now i
     let reads = one_call old read mid c.length.result c.first_number.ensures.reads c.length.ensures.counts c.length.ensures.kept in
     if_ok _ _ c.pass_groups.result (λ next is_next t journal is.
     is_next (still_tells old mid reads.told t)
-    (ends_there read.content mid.content c.aij_file-journal.result c.in_ok-end.end (image_same old read c.first_number.ensures.reads t ∙ sym (image_same old mid reads t)) c.aij_file-journal.ensures (c.in_ok-end.ensures.zeros (still_tells old read c.first_number.ensures.reads.told t)))
-    (header_there old.content mid.content c.aij_file-journal.result c.in_ok-first.first (sym (image_same old mid reads t)) c.aij_file-journal.ensures (c.in_ok-first.ensures.header t))
+    (ends_there read.content mid.content c.aij_file.result c.in_ok-end.end (image_same old read c.first_number.ensures.reads t ∙ sym (image_same old mid reads t)) c.aij_file.ensures (c.in_ok-end.ensures.zeros (still_tells old read c.first_number.ensures.reads.told t)))
+    (subst (λ (m : Image). IsHeader (m aij_file 0) c.in_ok-first.first) (sym (image_same old mid reads t)) (c.in_ok-first.ensures.header t))
     journal (subst (λ (m : Image). IsJournalOf m journal) (sym (image_same old mid reads t)) is)) c.pass_groups.ensures.next
