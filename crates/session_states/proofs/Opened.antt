@@ -1,19 +1,16 @@
 -- At the opening nobody has begun anything.
-use Rattle.std.proofs.Common.{◌≡◌, ◌≤◌, ℕ, zero, suc, ◌++◌, ◌∷◌, [], ◌==◌, false, List, length, refl, ◌∙◌, sym, ap, subst, arith, map, option_map, Option, Some, None, slice_get}
+use Rattle.std.proofs.Common.{◌≡◌, ℕ, zero, suc, ◌∷◌, [], List, length, refl, ◌∙◌, sym, ap, subst, map, Some, slice_get}
 use Rattle.std.proofs.lemmas.Option.{none-some, same_Some}
 use Rattle.lock_needs.specs.declared.party.Asked.{Asked}
-use Rattle.lock_needs.specs.Party.{Party}
 use Rattle.lock_tree_laws.specs.Forest.{Parties, open_asks, party_of}
-use Rattle.rdo_ast.specs.Views.{uttered_of}
 use Rattle.rdb_account.specs.Places.{Opening, start}
 use Rattle.line_view.specs.Held.{knows, nothing}
 use Rattle.session_jobs.specs.Records.{Model, IsOrderly}
 use Rattle.lock_ties.specs.Ties.{AreTied, IsTiedTo}
-use Rattle.line_steps.specs.Members.{Member as Seen, member, outside}
-use Rattle.line_steps.specs.Right.{Ground, Stands, AreRight}
-use Rattle.session_states.specs.declared.stage.Phase.TheVariants.{Outside}
+use Rattle.line_steps.specs.Members.{Member as Seen}
+use Rattle.line_steps.specs.Right.{Ground, Stands}
 use Rattle.session_states.specs.declared.stage.Member.{Member}
-use Rattle.session_states.specs.States.{seen, session}
+use Rattle.session_states.specs.States.{seen}
 use Rattle.session_states.specs.Shared.{Shared}
 use Rattle.session_states.specs.Fits.{LifeFits}
 use Rattle.session_states.specs.Kept.{IsFresh, IsOpened, AreKept}
