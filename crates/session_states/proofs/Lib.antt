@@ -17,3 +17,4 @@ pub mod Serving
 pub mod Reading
 pub mod ReadingEnds
 pub mod Dying
+pub mod Opened

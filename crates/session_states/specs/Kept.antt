@@ -1,12 +1,16 @@
 -- What is always true of all sessions.
-use Rattle.std.specs.Prelude.{◌≡◌, ℕ, suc, List, map, Some, slice_get}
+use Rattle.std.specs.Prelude.{◌≡◌, ◌≤◌, ℕ, suc, List, [], length, map, Some, slice_get}
+use Rattle.rdo_ast.specs.declared.syntax.Item.{Item}
+use Rattle.rdo_ast.specs.Views.{uttered_of}
 use Rattle.rdb_account.specs.Events.{Event}
 use Rattle.rdb_account.specs.Places.{Opening, place}
 use Rattle.session_jobs.specs.Records.{Model}
+use Rattle.line_store.specs.Seats.{outside}
 use Rattle.lock_ties.specs.Ties.{IsTiedTo}
 use Rattle.line_steps.specs.Right.{Ground, AreRight}
 use Rattle.session_states.specs.declared.stage.Member.{Member}
-use Rattle.session_states.specs.States.{seen}
+use Rattle.session_states.specs.declared.stage.Phase.TheVariants.{Outside}
+use Rattle.session_states.specs.States.{seen, session}
 use Rattle.session_states.specs.Shared.{Shared}
 use Rattle.session_states.specs.Fits.{IsGround, LifeFits}
 
@@ -18,3 +22,23 @@ pub record AreKept (M : Model) (o : Opening) (c : Shared) (members : List Member
   pub is_ground : IsGround ground c
   pub tied : IsTiedTo (place o events) c.locks
   pub phases : (i : ℕ) (m : Member) → slice_get members i ≡ Some m → LifeFits M (place o events) ground c (suc i) m.left m.phase m.life
+
+-- ---- the opening
+
+-- What is shared as an account opens: the committed lines stand for its tables, nobody is dead, and nobody has or wants a lock.
+pub record IsOpened (M : Model) (o : Opening) (c : Shared) : Type 0 where
+  pub word : o.word ≡ c.word
+  pub stands : M c.shelf.now o.tables
+  pub past : o.moment ≤ c.shelf.clock.time
+  pub dead : c.dead ≡ 0
+  pub parties : c.locks.parties ≡ []
+  pub trail : c.locks.trail ≡ []
+
+-- A session that has said nothing of its script.
+pub record IsFresh (o : Opening) (c : Shared) (s : ℕ) (m : Member) : Type 0 where
+  pub left : List Item
+  pub all : ℕ
+  pub is : m ≡ session left all Outside
+  pub script : o.script s ≡ map uttered_of left
+  pub total : length (map uttered_of left) ≡ all
+  pub seat : c.shelf.seat s ≡ outside

@@ -1,4 +1,5 @@
 use Rattle.session_states.proofs.InTurn.{steps-on}
+use Rattle.session_states.proofs.Opened.{opened}
 use Rattle.session_states.proofs.Standing.{finds, kept, fell}
 use Rattle.session_states.proofs.laws.together.sessions_are_kept.Goals as goal
 
@@ -13,3 +14,6 @@ returns-clause-in_turn g c = steps-on g.S.Statements.stands g.met.S.Statements.o
 
 pub returns-clause-fell : goal.returns-clause-fell
 returns-clause-fell g c = fell g.S.Statements.stands g.met.S.Statements.orderly
+
+pub returns-clause-opened : goal.returns-clause-opened
+returns-clause-opened g c = opened g.S.Statements.stands g.met.S.Statements.orderly
