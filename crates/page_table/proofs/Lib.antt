@@ -1,2 +1,5 @@
 pub mod Orders
 pub mod Fitting
+pub mod Said
+pub mod Filling
+pub mod Present

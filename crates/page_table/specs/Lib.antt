@@ -1,3 +1,4 @@
 pub mod Pages
 pub mod Scans
 pub mod Lines
+pub mod Reading

@@ -1,9 +1,8 @@
 -- What is found in a table of pages.
-use Rattle.std.specs.Prelude.{ℕ, ◌≤◌, ◌<◌, ◌≡◌, ◌⊎◌, true, false, length, Option}
+use Rattle.std.specs.Prelude.{ℕ, ◌≤◌, ◌≡◌, ◌⊎◌, true, false, length, Option}
 use Rattle.std.specs.declared.cmp.Ordering.TheVariants.{Less}
 use Rattle.rdb_types.specs.declared.keys.Dbkey.{Dbkey}
 use Rattle.rdb_types.specs.Order.{dbkey_order}
-use Rattle.rdb_page.specs.Page.{lines_of}
 use Rattle.area_files.specs.Areas.{IsSpacePage}
 use Rattle.line_store.specs.Rooms.{IsBehind}
 use Rattle.page_table.specs.declared.uses.PageUse.{PageUse}
