@@ -39,7 +39,7 @@ use Rattle.selection_areas.proofs.Placed.{sources_placed}
 use Rattle.rdo_acts.specs.declared.work.Given.{Given}
 use Rattle.rdo_acts.specs.declared.work.Work.{Work}
 use Rattle.rdo_acts.specs.Ends.{ActStop, GoTogether, HoldsIn}
-use Rattle.rdo_acts.specs.Areas.{ReadsIn, ReadsFor, KeepsFor}
+use Rattle.rdo_acts.specs.Areas.{ReadsIn, KeepsFor}
 use Rattle.rdo_acts.specs.Stops.{stop_of_select, stop_of_misfit, IsStopOfRow}
 use Rattle.rdo_acts.proofs.Viewing.{shows}
 
@@ -57,11 +57,11 @@ module _ (next : Need → Type 0) where
   misfit_at misfit.TooLong = tt
   misfit_at misfit.Memory = tt
 
-  pub view_at : {E : Type 0} (stop : Stop Never) → StopsAt next stop → StopsAt {E = E} next (of_view stop)
-  view_at (Missing need) h = h
-  view_at (Bad key) h = tt
-  view_at NoMemory h = tt
-  view_at (Own never) h = elim never [ ]
+  pub view_at : (E : Type 0) (stop : Stop Never) → StopsAt next stop → StopsAt {E = E} next (of_view stop)
+  view_at E (Missing need) h = h
+  view_at E (Bad key) h = tt
+  view_at E NoMemory h = tt
+  view_at E (Own never) h = elim never [ ]
 
   pub row_at : (stop : RowStop) (xs : List IndexLine) (own : ActStop) → IsStopOfRow stop xs own → StopsAt next stop → StopsAt next own
   row_at (Missing need) xs own so h = subst (StopsAt next) (sym so) h
@@ -104,9 +104,8 @@ need_reads small big changed wider (Line key) h = wider key.area h
 need_reads small big changed wider (Area area) h = wider area h
 need_reads small big changed wider (Room room) h = let bad : ⊥ = cc in absurd bad
 
-pub reads_wider : {T E : Type 0} (small big : List ℕ) → Wider small big → (result : Result T (Stop E)) → ReadsIn small result → ReadsIn big result
-reads_wider small big wider (Ok x) h = tt
-reads_wider small big wider (Err stop) h = stops_at (IsNeedOf small []) (IsNeedOf big []) (need_reads small big [] wider) stop h
+pub reads_wider : {E : Type 0} (small big : List ℕ) → Wider small big → (stop : Stop E) → StopsAt (IsNeedOf small []) stop → StopsAt (IsNeedOf big []) stop
+reads_wider small big wider stop h = stops_at (IsNeedOf small []) (IsNeedOf big []) (need_reads small big [] wider) stop h
 
 pub reading_keeps : {E : Type 0} (t : Tables) (us : List Use) (stop : Stop E) → StopsAt (IsNeedOf (areas_read t us) []) stop → StopsAt (IsNeedOf (areas_read t us) (areas_changed t us)) stop
 reading_keeps t us stop h = stops_at (IsNeedOf (areas_read t us) []) (IsNeedOf (areas_read t us) (areas_changed t us)) (need_reads (areas_read t us) (areas_read t us) (areas_changed t us) (λ a k. k)) stop h
@@ -123,7 +122,7 @@ module _ (given : Given) (w : Work) (all : Lines) (start t : Tables) (holds : Ho
   one : OneSchema t start
   one n = sym (catalogs_schema _ given.schema.now t (holds.sound).are n) ∙ catalogs_schema all given.schema.now start (holds.began).are n
 
-  pub at_start : {T E : Type 0} (us : List Use) (old new : Over) (result : Result T (Stop E)) → KeepsFor t us old new result → KeepsFor start us old new result
+  pub at_start : (us : List Use) (old new : Over) (result : Result (Unit {0}) ActStop) → KeepsFor t us old new result → KeepsFor start us old new result
   at_start us old new result h =
       let indexes = (holds.sound).are.indexes ∙ sym (holds.began).are.indexes in
       subst (λ (p : List ℕ × List ℕ). KeepsTo p.0 p.1 old new result) (λ i. (read_same t start one indexes us i, changed_same t start one indexes us i)) h
@@ -137,6 +136,7 @@ row_reads area key (Err NoMemory) own missing = tt
 row_reads area key (Err (Own never)) own missing = tt
 
 -- the row of a variable
-pub variable_reads : {T E : Type 0} (t : Tables) (changes : Bool) (n : Name) (rel : Rows) (area : ℕ) → relation_named n t ≡ Some rel → area ≡ rel.area → (result : Result T (Stop E)) → ReadsIn (area ∷ []) result → ReadsFor t (use_of changes n ∷ []) result
-variable_reads t changes n rel area named same result h =
-    reads_wider (area ∷ []) (areas_read t (use_of changes n ∷ [])) (subst (λ (a : ℕ). Wider (a ∷ []) (areas_read t (use_of changes n ∷ []))) (sym same) (relation_read t changes n rel named)) result h
+pub variable_reads : {E : Type 0} (t : Tables) (changes : Bool) (n : Name) (rel : Rows) (area : ℕ) → relation_named n t ≡ Some rel → area ≡ rel.area → (stop : Stop E) → StopsAt (IsNeedOf (area ∷ []) []) stop
+    → StopsAt (IsNeedOf (areas_read t (use_of changes n ∷ [])) []) stop
+variable_reads t changes n rel area named same stop h =
+    reads_wider (area ∷ []) (areas_read t (use_of changes n ∷ [])) (subst (λ (a : ℕ). Wider (a ∷ []) (areas_read t (use_of changes n ∷ []))) (sym same) (relation_read t changes n rel named)) stop h

@@ -45,7 +45,7 @@ use Rattle.rdo_acts.specs.declared.stop.Refusal.{Refusal}
 use Rattle.rdo_acts.specs.declared.work.Given.{Given}
 use Rattle.rdo_acts.specs.declared.work.Work.{Work}
 use Rattle.rdo_acts.specs.Ends.{ActStop, HoldsIn}
-use Rattle.rdo_acts.specs.Areas.{ReadsIn, ReadsFor, KeepsFor, RunsFor}
+use Rattle.rdo_acts.specs.Areas.{KeepsFor, RunsFor}
 use Rattle.rdo_acts.specs.Scopes.{scope_of, AreRowsOf}
 use Rattle.rdo_acts.specs.Stops.{IsStopOfRow}
 use Rattle.rdo_acts.proofs.Viewing.{one_schema}
@@ -91,8 +91,8 @@ module _ (c : Catalog) (t : Tables) (n : Name) (rel : Rows) (r : TargetRelation)
 
 module _ (given : Given) (range : BoundRange) (assigns : List BoundAssign) (values : Row) (target : TargetRelation)
     (is_target : (all : Lines) (t : Tables) (rel : Rows) → IsSoundAs all given.schema.now t → relation_named range.range.relation t ≡ Some rel → IsTargetIn given.schema.now t range.range.relation rel target) (old new : Work) where
-  abbrev use : Use
-  use = use_of true range.range.relation
+  abbrev used : Use
+  used = use_of true range.range.relation
 
   abbrev made : List Use
   made = assignments_uses (map written_assign assigns)
@@ -106,15 +106,15 @@ module _ (given : Given) (range : BoundRange) (assigns : List BoundAssign) (valu
       let is = stored.target_now given range assigns values target is_target scope old new all start t is_bound holds own in
       let bound = stored.bound_now given range assigns values target is_target scope old new all start t is_bound holds own in
       let view = stored.view_is given range assigns values target is_target scope old new all start t is_bound holds own in
-      at_start given old all start t holds (use ∷ made) old.view new.view (Err stop)
-      (keeps_within t made (use ∷ made) (behind t (use ∷ []) made) old.view new.view (Err stop) (reading_keeps t made stop (reads all t scope range.range named.0 view named.1 is.is.fields bound.1 own)))
+      at_start given old all start t holds (used ∷ made) old.view new.view (Err stop)
+      (keeps_within t made (used ∷ made) (behind t (used ∷ []) made) old.view new.view (Err stop) (reading_keeps t made stop (reads all t scope range.range named.0 view named.1 is.is.fields bound.1 own)))
 
   pub stored_for : (key : Dbkey) → StoreKeeps old.view new.view target (Ok key) → StoresFor (Ok tt)
   stored_for key keeps = λ scope is_bound all start t holds own.
       let named = stored.relation_now given range assigns values target is_target scope old new all start t is_bound holds own in
       let is = stored.target_now given range assigns values target is_target scope old new all start t is_bound holds own in
       let view = stored.view_is given range assigns values target is_target scope old new all start t is_bound holds own in
-      at_start given old all start t holds (use ∷ made) old.view new.view (Ok tt)
+      at_start given old all start t holds (used ∷ made) old.view new.view (Ok tt)
       (target_writes given.schema.now t range.range.relation named.0 target named.1 is made old.view new.view (keeps given.schema.now range.range.relation named.0 t all view named.1 is.is))
 
   pub unstored_for : (stop : RowStop) (why : ActStop) → IsStopOfRow stop target.indexes.now why → StoreKeeps old.view new.view target (Err stop) → StoresFor (Err why)
@@ -122,7 +122,7 @@ module _ (given : Given) (range : BoundRange) (assigns : List BoundAssign) (valu
       let named = stored.relation_now given range assigns values target is_target scope old new all start t is_bound holds own in
       let is = stored.target_now given range assigns values target is_target scope old new all start t is_bound holds own in
       let view = stored.view_is given range assigns values target is_target scope old new all start t is_bound holds own in
-      at_start given old all start t holds (use ∷ made) old.view new.view (Err why)
+      at_start given old all start t holds (used ∷ made) old.view new.view (Err why)
       (target_stops given.schema.now t range.range.relation named.0 target named.1 is made stop why so (keeps given.schema.now range.range.relation named.0 t all view named.1 is.is))
 
 -- ---- MODIFY and ERASE
@@ -136,23 +136,23 @@ module _ (given : Given) (scope : List BoundRow) (v : BoundVariable) (bound : Bo
   change = use_of true n
 
   -- what `row_now` says
-  abbrev pub ReadsFound : {T : Type 0} → Result T (Stop Never) → Type 0
-  ReadsFound result = (first : Lines) (t : Tables) (table : Rows) → IsSoundView old.view given.schema.now t first → relation_named n t ≡ Some table → ReadsIn (table.area ∷ []) result
+  abbrev pub ReadsFound : Stop Never → Type 0
+  ReadsFound stop = (first : Lines) (t : Tables) (table : Rows) → IsSoundView old.view given.schema.now t first → relation_named n t ≡ Some table → StopsAt (IsNeedOf (table.area ∷ []) []) stop
 
   -- the relation of the variable is changed, and others are used behind it
   module _ (vs : List Use) (all : Lines) (start t : Tables) (holds : HoldsIn given old all start t) where
-    relation : (rel : Rows) × (relation_named n t ≡ Some rel)
+    abbrev relation : (rel : Rows) × (relation_named n t ≡ Some rel)
     relation = updated.relation_now given scope v bound at rows is_variable old new all start t holds
 
     view : IsSoundView old.view given.schema.now t all
     view = updated.view_is given scope v bound at rows is_variable old new all start t holds
 
-    unread : {T : Type 0} (stop : Stop Never) → ReadsFound {T = T} (Err stop) → KeepsFor {T = Unit {0}} {E = Refusal} start (change ∷ vs) old.view new.view (Err (of_view stop))
-    unread {T = T} stop reads =
-        at_start {T = Unit {0}} {E = Refusal} given old all start t holds (change ∷ vs) old.view new.view (Err (of_view stop))
-        (keeps_within {T = Unit {0}} {E = Refusal} t (change ∷ []) (change ∷ vs) (before t (change ∷ []) vs) old.view new.view (Err (of_view stop))
-        (view_at (IsNeedOf (areas_read t (change ∷ [])) (areas_changed t (change ∷ []))) {E = Refusal} stop
-        (reading_keeps t (change ∷ []) stop (variable_reads {T = T} {E = Never} t true n relation.0 (relation.0).area relation.1 refl (Err stop) (reads all t relation.0 view relation.1)))))
+    unread : (stop : Stop Never) → ReadsFound stop → KeepsFor {T = Unit {0}} {E = Refusal} start (change ∷ vs) old.view new.view (Err (of_view stop))
+    unread stop reads =
+        at_start given old all start t holds (change ∷ vs) old.view new.view (Err (of_view stop))
+        (keeps_within t (change ∷ []) (change ∷ vs) (before t (change ∷ []) vs) old.view new.view (Err (of_view stop))
+        (view_at (IsNeedOf (areas_read t (change ∷ [])) (areas_changed t (change ∷ []))) Refusal stop
+        (reading_keeps t (change ∷ []) stop (variable_reads t true n relation.0 (relation.0).area relation.1 refl stop (reads all t relation.0 view relation.1)))))
 
     module _ (target : TargetRelation) (was : Option Row) (found : Found given old.view bound (Ok (target, was))) where
       target_is : IsTargetIn given.schema.now t n relation.0 target
@@ -160,13 +160,13 @@ module _ (given : Given) (scope : List BoundRow) (v : BoundVariable) (bound : Bo
 
       written : WritesOf (areas_with relation.0 target.indexes.now) old.view new.view → WritesOf (areas_changed start (change ∷ vs)) old.view new.view
       written h =
-          at_start {T = Unit {0}} {E = Refusal} given old all start t holds (change ∷ vs) old.view new.view (Ok tt)
+          at_start given old all start t holds (change ∷ vs) old.view new.view (Ok tt)
           (target_writes given.schema.now t n relation.0 target relation.1 target_is vs old.view new.view h)
 
       unwritten : (stop : RowStop) (why : ActStop) → IsStopOfRow stop target.indexes.now why → StopsAt (IsNeedOf (areas_with relation.0 target.indexes.now) (areas_with relation.0 target.indexes.now)) stop
           → KeepsFor {T = Unit {0}} {E = Refusal} start (change ∷ vs) old.view new.view (Err why)
       unwritten stop why so h =
-          at_start {T = Unit {0}} {E = Refusal} given old all start t holds (change ∷ vs) old.view new.view (Err why)
+          at_start given old all start t holds (change ∷ vs) old.view new.view (Err why)
           (target_stops given.schema.now t n relation.0 target relation.1 target_is vs stop why so h)
 
       module _ (k : Dbkey) (row : Row) (key : bound.key ≡ Some k) (some : was ≡ Some row) where
@@ -193,15 +193,15 @@ module _ (given : Given) (scope : List BoundRow) (v : BoundVariable) (bound : Bo
     modify_so result h = λ all start t holds own.
         subst (λ (us : List Use). KeepsFor start us old.view new.view result) (sym (ap (λ (o : Option Binding). change_of o ++ made_of) (updated.bound_is given scope v bound at rows is_variable old new))) (h all start t holds own)
 
-    pub modify_unread_for : {T : Type 0} (stop : Stop Never) → ReadsFound {T = T} (Err stop) → ModifiesFor (Err (of_view stop))
+    pub modify_unread_for : (stop : Stop Never) → ReadsFound stop → ModifiesFor (Err (of_view stop))
     modify_unread_for stop reads = modify_so (Err (of_view stop)) (λ all start t holds own. unread made_of all start t holds stop reads)
 
     pub modify_unmade_for : (fields : List Field) (stop : ActStop) → ReadsRow given.schema.now old.view fields assigns {T = Unit {0}} values (Err stop) → ModifiesFor (Err stop)
     modify_unmade_for fields stop reads =
         modify_so (Err stop) (λ all start t holds own.
         let are_now = (act_same given.schema.now.tables t (one_schema given old all start t holds) (modify v assigns) (variables_of (scope_of scope)) (is_variable, are)).1 in
-        at_start {T = Unit {0}} {E = Refusal} given old all start t holds (change ∷ made_of) old.view new.view (Err stop)
-        (keeps_within {T = Unit {0}} {E = Refusal} t made_of (change ∷ made_of) (behind t (change ∷ []) made_of) old.view new.view (Err stop)
+        at_start given old all start t holds (change ∷ made_of) old.view new.view (Err stop)
+        (keeps_within t made_of (change ∷ made_of) (behind t (change ∷ []) made_of) old.view new.view (Err stop)
         (reading_keeps t made_of stop (reads all t (scope_of scope) (view made_of all start t holds) are_now own))))
 
     module _ (target : TargetRelation) (was : Option Row) (k : Dbkey) (row : Row) (found : Found given old.view bound (Ok (target, was))) (key : bound.key ≡ Some k) (some : was ≡ Some row) where
@@ -219,7 +219,7 @@ module _ (given : Given) (scope : List BoundRow) (v : BoundVariable) (bound : Bo
   erase_so result h = λ values all start t holds own.
       subst (λ (us : List Use). KeepsFor start us old.view new.view result) (sym (ap change_of (updated.bound_is given scope v bound at rows is_variable old new))) (h all start t holds)
 
-  pub erase_unread_for : {T : Type 0} (stop : Stop Never) → ReadsFound {T = T} (Err stop) → ErasesFor (Err (of_view stop))
+  pub erase_unread_for : (stop : Stop Never) → ReadsFound stop → ErasesFor (Err (of_view stop))
   erase_unread_for stop reads = erase_so (Err (of_view stop)) (λ all start t holds. unread [] all start t holds stop reads)
 
   module _ (target : TargetRelation) (was : Option Row) (k : Dbkey) (row : Row) (found : Found given old.view bound (Ok (target, was))) (key : bound.key ≡ Some k) (some : was ≡ Some row) where

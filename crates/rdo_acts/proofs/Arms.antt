@@ -172,5 +172,5 @@ for_stops_for given scope values w action bound s body is together why does =
     let us = ranging_uses (named_ranging (ranging_of s.inner)) in
     let reads = selection_reads given together w.view t all (sound_view given w all start t holds) (ranging_of s.inner) scope why here.0 (does t scope seen here.0 own) in
     subst (λ (x : Act). KeepsFor {T = Unit {0}} {E = Refusal} start (action_uses x scope) w.view w.view (Err (stop_of_select why))) (sym is)
-    (keeps_within {T = Unit {0}} {E = Refusal} start us (action_uses (for_each s acts) scope) (selection_within start (ranging_of s.inner) acts scope) w.view w.view (Err (stop_of_select why))
-    (at_start {T = Unit {0}} {E = Refusal} given w all start t holds us w.view w.view (Err (stop_of_select why)) (reading_keeps t us (stop_of_select why) reads)))
+    (keeps_within start us (action_uses (for_each s acts) scope) (selection_within start (ranging_of s.inner) acts scope) w.view w.view (Err (stop_of_select why))
+    (at_start given w all start t holds us w.view w.view (Err (stop_of_select why)) (reading_keeps t us (stop_of_select why) reads)))

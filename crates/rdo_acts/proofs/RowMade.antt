@@ -68,8 +68,8 @@ module _ (c : Catalog) (view : Over) (fields : List Field) (assigns : List Bound
   ReadsNewRow values result = (first : Lines) (t : Tables) (scope : Scope) (s : Range) (table : Relation) → IsSoundView view c t first → relation_named s.relation t ≡ Some table → table.fields ≡ fields
       → All (IsBoundAssign t (variables_of scope ++ s ∷ [])) assigns → row_of t scope ≡ values → ReadsFor t (assignments_uses (map written_assign assigns)) result
 
-  pub new_row_reads : {T U : Type 0} (values all : Row) (stop : ActStop) → all ≡ values ++ missing_values (length fields) → ReadsRow {T = T} all (Err stop) → ReadsNewRow {T = U} values (Err stop)
-  new_row_reads values all stop whole each = λ first t scope s table sound named same are own.
+  pub new_row_reads : (T U : Type 0) (values all : Row) (stop : ActStop) → all ≡ values ++ missing_values (length fields) → ReadsRow {T = T} all (Err stop) → ReadsNewRow {T = U} values (Err stop)
+  new_row_reads T U values all stop whole each = λ first t scope s table sound named same are own.
       let within : Scope = scope ++ bind_source s None ∷ [] in
       let seen : row_of t within ≡ all = stored_values t scope s table fields named same ∙ ap (λ (vs : Row). vs ++ missing_values (length fields)) own ∙ sym whole in
       each first t within sound (subst (λ (vs : List Range). All (IsBoundAssign t vs) assigns) (sym (variables_behind (s ∷ []) scope)) are) seen

@@ -9,7 +9,7 @@ use Rattle.line_view.specs.declared.need.Need.TheVariants.{Line, Area, Room}
 use Rattle.line_view.specs.declared.stop.Stop.{Stop}
 use Rattle.statement_view.specs.Over.{Over}
 use Rattle.statement_view.specs.Areas.{IsNeedOf}
-use Rattle.row_writes.proofs.AreaLists.{Wider, writes_wider, stops_at}
+use Rattle.row_writes.proofs.AreaLists.{Wider, writes_wider, StopsAt, stops_at}
 use Rattle.used_areas.specs.Areas.{relation_areas, areas_read, areas_changed}
 use Rattle.used_areas.proofs.More.{left_of, right_of, either, read_left, read_right, changed_left, changed_right}
 use Rattle.rdo_values.specs.Views.{expression_of}
@@ -21,8 +21,9 @@ use Rattle.rdo_bind.specs.declared.action.BoundPrintItem.TheVariants.{Value, Fie
 use Rattle.rdo_bind.specs.Assigning.{written_assign}
 use Rattle.rdo_bind.specs.Acting.{act_of, acts_of, named_act, named_acts, written_item}
 use Rattle.rdo_acts.specs.declared.scope.BoundRow.{BoundRow}
+use Rattle.rdo_acts.specs.Ends.{ActStop}
 use Rattle.rdo_acts.specs.Scopes.{scope_of}
-use Rattle.rdo_acts.specs.Areas.{scope_uses, action_uses, body_uses, ReadsFor, KeepsFor}
+use Rattle.rdo_acts.specs.Areas.{scope_uses, action_uses, body_uses, KeepsFor}
 
 -- what these uses read and change is among what those do
 pub record Within (t : Tables) (us vs : List Use) : Type 0 where
@@ -41,6 +42,9 @@ module _ (t : Tables) where
 
   pub behind : (us vs : List Use) → Within t vs (us ++ vs)
   behind us vs = record { read = λ a h. read_right t us vs a h; changed = λ a h. changed_right t us vs a h }
+
+  none : (vs : List Use) → Within t [] vs
+  none vs = record { read = λ a h. (let bad : ⊥ = cc in absurd bad); changed = λ a h. (let bad : ⊥ = cc in absurd bad) }
 
   read_joined : (us vs : List Use) (big : List ℕ) → Wider (areas_read t us) big → Wider (areas_read t vs) big → Wider (areas_read t (us ++ vs)) big
   read_joined [] vs big one two a h = two a h
@@ -78,14 +82,14 @@ module _ (t : Tables) where
       item_within (λ (l : List BoundAssign). assignments_uses (map written_assign l))
       (λ a as'.
       both (expression_uses (written_assign a).right) [] (assignments_uses (map written_assign (a ∷ as'))) (before (expression_uses (written_assign a).right) (assignments_uses (map written_assign as')))
-      (behind (assignments_uses (map written_assign (a ∷ as'))) []))
+      (none (assignments_uses (map written_assign (a ∷ as')))))
       (λ a as'. behind (expression_uses (written_assign a).right) (assignments_uses (map written_assign as')))
 
   first_item : (x : BoundPrintItem) (xs : List BoundPrintItem) → Within t (shown_uses (map written_item (x ∷ []))) (shown_uses (map written_item (x ∷ xs)))
   first_item (Value e) xs =
       let own = expression_uses (named (expression_of e)) in
-      both own [] (own ++ shown_uses (map written_item xs)) (before own (shown_uses (map written_item xs))) (behind (own ++ shown_uses (map written_item xs)) [])
-  first_item (Fields v) xs = behind (shown_uses (map written_item xs)) []
+      both own [] (own ++ shown_uses (map written_item xs)) (before own (shown_uses (map written_item xs))) (none (own ++ shown_uses (map written_item xs)))
+  first_item (Fields v) xs = none (shown_uses (map written_item xs))
 
   more_items : (x : BoundPrintItem) (xs : List BoundPrintItem) → Within t (shown_uses (map written_item xs)) (shown_uses (map written_item (x ∷ xs)))
   more_items (Value e) xs = behind (expression_uses (named (expression_of e))) (shown_uses (map written_item xs))
@@ -110,7 +114,7 @@ module _ (t : Tables) where
       (item_within (λ (l : List BoundAction). acts_uses (named_acts (acts_of (map act_of l))) scope)
       (λ y ys.
       both (act_uses (named_act (act_of y)) scope) [] (acts_uses (named_acts (acts_of (map act_of (y ∷ ys)))) scope) (before (act_uses (named_act (act_of y)) scope) (acts_uses (named_acts (acts_of (map act_of ys))) scope))
-      (behind (acts_uses (named_acts (acts_of (map act_of (y ∷ ys)))) scope) []))
+      (none (acts_uses (named_acts (acts_of (map act_of (y ∷ ys)))) scope)))
       (λ y ys. behind (act_uses (named_act (act_of y)) scope) (acts_uses (named_acts (acts_of (map act_of ys))) scope))
       body i x within is))
       (behind (scope_uses scope) all))
@@ -128,10 +132,9 @@ module _ (t : Tables) (us vs : List Use) (is : Within t us vs) where
   read_within (Area area) h = is.read area h
   read_within (Room room) h = h
 
-  pub keeps_within : {T E : Type 0} (old new : Over) (result : Result T (Stop E)) → KeepsFor t us old new result → KeepsFor t vs old new result
+  pub keeps_within : (old new : Over) (result : Result (Unit {0}) ActStop) → KeepsFor t us old new result → KeepsFor t vs old new result
   keeps_within old new (Ok x) h = writes_wider (areas_changed t us) (areas_changed t vs) old new is.changed h
   keeps_within old new (Err stop) h = stops_at (IsNeedOf (areas_read t us) (areas_changed t us)) (IsNeedOf (areas_read t vs) (areas_changed t vs)) need_within stop h
 
-  pub reads_within : {T E : Type 0} (result : Result T (Stop E)) → ReadsFor t us result → ReadsFor t vs result
-  reads_within (Ok x) h = tt
-  reads_within (Err stop) h = stops_at (IsNeedOf (areas_read t us) []) (IsNeedOf (areas_read t vs) []) read_within stop h
+  pub reads_within : {E : Type 0} (stop : Stop E) → StopsAt (IsNeedOf (areas_read t us) []) stop → StopsAt (IsNeedOf (areas_read t vs) []) stop
+  reads_within stop h = stops_at (IsNeedOf (areas_read t us) []) (IsNeedOf (areas_read t vs) []) read_within stop h

@@ -49,5 +49,5 @@ returns-in_err-assign_one-clause-areas c = λ first t scope sound are same.
     let x = c.assign-item.result in
     let bound = subst (IsBoundAssign t (variables_of scope)) (sym c.assign-item.is) (are i x c.loop-assign-test.true) in
     rw (p.1, p.2)
-    (reads_within t (assignments_uses (written_assign x ∷ [])) (assignments_uses (map written_assign c.args.assigns.now)) (assign_within t c.args.assigns.now i x c.loop-assign-test.true c.assign-item.is) (Err c.in_err-assign_one.field-0.0)
+    (reads_within t (assignments_uses (written_assign x ∷ [])) (assignments_uses (map written_assign c.args.assigns.now)) (assign_within t c.args.assigns.now i x c.loop-assign-test.true c.assign-item.is) c.in_err-assign_one.field-0.0
     (c.in_err-assign_one.ensures.areas first t scope sound bound same))

@@ -51,7 +51,7 @@ returns-in-Err-clause-areas c = λ first t scope sound bound same.
     let shown = shows given c.requires view t first sound in
     let us = expression_uses (written_assign c.args.assign.now).right in
     subst (StopsAt (IsNeedOf (areas_read t (assignments_uses (written_assign c.args.assign.now ∷ []))) [])) (sym c.of_select.ensures)
-    (reads_within {T = Unit {0}} {E = Refusal} t us (assignments_uses (written_assign c.args.assign.now ∷ [])) (before t us []) (Err (stop_of_select c.in-Err.stop))
+    (reads_within t us (assignments_uses (written_assign c.args.assign.now ∷ [])) (before t us []) (stop_of_select c.in-Err.stop)
     (value_reads given c.requires view t first sound (expression_of c.args.assign.now.right) scope c.in-Err.stop bound.1 (c.in-Err.ensures.work t scope shown bound.1 same)))
 
 pub returns-in-Err-fit-clause-areas : goal.returns-in-Err-fit-clause-areas

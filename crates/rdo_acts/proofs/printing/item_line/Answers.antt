@@ -57,6 +57,6 @@ returns-in-Err-clause-areas c = λ first t scope sound bound same.
     let us = expression_uses (named e) in
     rw c.in-Value.is
     (subst (StopsAt (IsNeedOf (areas_read t (us ++ [])) [])) (sym c.of_select.ensures)
-    (reads_within {T = Unit {0}} {E = Refusal} t us (us ++ []) (before t us []) (Err (stop_of_select c.in-Err.stop)) (value_reads given c.requires view t first sound e scope c.in-Err.stop own (c.in-Err.ensures.work t scope shown own same))))
+    (reads_within t us (us ++ []) (before t us []) (stop_of_select c.in-Err.stop) (value_reads given c.requires view t first sound e scope c.in-Err.stop own (c.in-Err.ensures.work t scope shown own same))))
 
 

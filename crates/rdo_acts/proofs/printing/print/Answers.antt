@@ -49,7 +49,7 @@ returns-in_err-line-clause-areas c = λ scope bound all start t holds same.
     let are = act_same given.schema.now.tables t (catalogs_schema (laid_over old.view.lines all) given.schema.now t (sound.sound).are) (print c.args.items.now) (variables_of scope) bound in
     let us = shown_uses (map written_item c.args.items.now) in
     let stop = c.in_err-line.field-0.0 in
-    rw (p.1, p.2) (at_start {T = Unit {0}} {E = Refusal} given old all start t holds us old.view old.view (Err stop) (reading_keeps t us stop (c.in_err-line.ensures.areas all t scope sound are same)))
+    rw (p.1, p.2) (at_start given old all start t holds us old.view old.view (Err stop) (reading_keeps t us stop (c.in_err-line.ensures.areas all t scope sound are same)))
 
 pub returns-clause-areas : goal.returns-clause-areas
 returns-clause-areas c = λ scope bound all start t holds same. nothing_written (areas_changed start (shown_uses (map written_item c.args.items.now))) c.args.work.now.view

@@ -43,5 +43,5 @@ returns-in_err-piece-clause-areas c = λ first t scope sound are same.
     let x = c.item-item.result in
     let bound = subst (IsBoundItem t (variables_of scope)) (sym c.item-item.is) (are i x c.loop-item-test.true) in
     rw (p.1, p.2)
-    (reads_within t (shown_uses (written_item x ∷ [])) (shown_uses (map written_item c.args.items.now)) (print_within t c.args.items.now i x c.loop-item-test.true c.item-item.is) (Err c.in_err-piece.field-0.0)
+    (reads_within t (shown_uses (written_item x ∷ [])) (shown_uses (map written_item c.args.items.now)) (print_within t c.args.items.now i x c.loop-item-test.true c.item-item.is) c.in_err-piece.field-0.0
     (c.in_err-piece.ensures.areas first t scope sound bound same))

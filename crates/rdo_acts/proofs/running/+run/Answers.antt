@@ -96,7 +96,7 @@ run_anew-loop-action-preserved t c = record {
       let new = c.run_action.new.work in
       let now = body_holds given scope c.args.body.now c.loop-action.action-index c.args.work.now mid all start u c.loop-action.invariant.known (c.loop-action.invariant.goes all start u holds) in
       writes_then (areas_changed start (body_uses acts scope)) c.args.work.now.view mid.view new.view (c.loop-action.invariant.areas all start u holds)
-      (keeps_within {T = Unit {0}} {E = Refusal} start (action_uses (act_of x) scope) (body_uses acts scope) (act_within start scope c.args.body.now c.loop-action.action-index x (omega arith) c.action-item.is) mid.view new.view (Ok tt)
+      (keeps_within start (action_uses (act_of x) scope) (body_uses acts scope) (act_within start scope c.args.body.now c.loop-action.action-index x (omega arith) c.action-item.is) mid.view new.view (Ok tt)
       (keeps_anew (Ok tt) given scope c.in-Ok.values (action_uses (act_of x) scope) mid new c.in_ok-run_action.ensures.areas c.in-Ok.ensures.values all start now.0 now.1));
   known = c.run_action.ensures.known ∙ c.loop-action.invariant.known;
 }
@@ -236,7 +236,7 @@ run_reading-returns-in_err-run_action-clause-areas t c all start u holds is =
     let stop = c.in_err-run_action.field-0.0 in
     let now = body_holds given scope c.args.body.now c.loop-action.action-index c.args.work.now mid all start u (ap (λ o. o.base) c.loop-action.invariant.view) (c.loop-action.invariant.goes all start u holds is) in
     rw (p.1, p.2)
-    (keeps_within {T = Unit {0}} {E = Refusal} start (action_uses (act_of x) scope) (body_uses acts scope) (act_within start scope c.args.body.now c.loop-action.action-index x (omega arith) c.action-item.is) mid.view new.view (Err stop)
+    (keeps_within start (action_uses (act_of x) scope) (body_uses acts scope) (act_within start scope c.args.body.now c.loop-action.action-index x (omega arith) c.action-item.is) mid.view new.view (Err stop)
     (keeps_before (Err stop) given scope c.args.values.now (action_uses (act_of x) scope) c.args.work.now mid new c.in_err-run_action.ensures.areas c.loop-action.invariant.view all start u holds is now.0 now.1))
 
 pub run_anew-returns-clause-areas : goal.run_anew-returns-clause-areas
@@ -254,7 +254,7 @@ run_anew-returns-in_err-run_action-clause-areas t c values all start u holds is 
     let stop = c.in_err-run_action.field-0.0 in
     let now = body_holds given scope c.args.body.now c.loop-action.action-index c.args.work.now mid all start u c.loop-action.invariant.known (c.loop-action.invariant.goes all start u holds) in
     rw (p.1, p.2)
-    (keeps_within {T = Unit {0}} {E = Refusal} start (action_uses (act_of x) scope) (body_uses acts scope) (act_within start scope c.args.body.now c.loop-action.action-index x (omega arith) c.action-item.is) mid.view new.view (Err stop)
+    (keeps_within start (action_uses (act_of x) scope) (body_uses acts scope) (act_within start scope c.args.body.now c.loop-action.action-index x (omega arith) c.action-item.is) mid.view new.view (Err stop)
     (keeps_anew (Err stop) given scope c.in-Ok.values (action_uses (act_of x) scope) mid new c.in_err-run_action.ensures.areas c.in-Ok.ensures.values all start now.0 now.1))
 
 pub run_anew-returns-in-Err-clause-areas : goal.run_anew-returns-in-Err-clause-areas
@@ -267,9 +267,9 @@ run_anew-returns-in-Err-clause-areas t c values all start u holds is =
     let us = scope_uses scope in
     let reads = c.in-Err.ensures.areas all now.0 (sound_view given mid all start now.0 now.1) in
     subst (λ (e : ActStop). KeepsFor {T = Unit {0}} {E = Refusal} start (body_uses acts scope) mid.view mid.view (Err e)) (sym c.of_view.ensures)
-    (keeps_within {T = Unit {0}} {E = Refusal} start us (body_uses acts scope) (before start us (acts_uses (named_acts acts) scope)) mid.view mid.view (Err (of_view c.in-Err.stop))
-    (at_start {T = Unit {0}} {E = Refusal} given mid all start now.0 now.1 us mid.view mid.view (Err (of_view c.in-Err.stop))
-    (view_at (IsNeedOf (areas_read now.0 us) (areas_changed now.0 us)) {E = Refusal} c.in-Err.stop (reading_keeps now.0 us c.in-Err.stop reads))))
+    (keeps_within start us (body_uses acts scope) (before start us (acts_uses (named_acts acts) scope)) mid.view mid.view (Err (of_view c.in-Err.stop))
+    (at_start given mid all start now.0 now.1 us mid.view mid.view (Err (of_view c.in-Err.stop))
+    (view_at (IsNeedOf (areas_read now.0 us) (areas_changed now.0 us)) Refusal c.in-Err.stop (reading_keeps now.0 us c.in-Err.stop reads))))
 
 pub run_body-returns-else-writing-clause-areas : goal.run_body-returns-else-writing-clause-areas
 run_body-returns-else-writing-clause-areas t c seen same all start u holds is = c.run_reading.ensures.areas all start u holds (is ∙ same c.if-writing.false)

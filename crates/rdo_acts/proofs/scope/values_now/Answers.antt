@@ -31,5 +31,5 @@ returns-in_err-own-clause-areas c = λ first t sound.
     let p = err_from_is_err_and c.from_residual.result c.from_residual.ensures.1 in
     let v = c.variable-item.result in
     rw (p.1, p.2)
-    (reads_within t (scope_uses (scope_of (v ∷ []))) (scope_uses (scope_of c.args.scope.now)) (variable_within t c.args.scope.now c.loop-variable.variable-index v c.loop-variable-test.true c.variable-item.is) (Err c.in_err-own.field-0.0)
+    (reads_within t (scope_uses (scope_of (v ∷ []))) (scope_uses (scope_of c.args.scope.now)) (variable_within t c.args.scope.now c.loop-variable.variable-index v c.loop-variable-test.true c.variable-item.is) c.in_err-own.field-0.0
     (c.in_err-own.ensures.areas first t sound))

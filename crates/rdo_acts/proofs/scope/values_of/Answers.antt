@@ -51,4 +51,4 @@ returns-in_err-found-clause-areas c = λ first t sound.
     let rel = table given view first t c.args.variable source c.requires.together c.requires.row there sound in
     let named = table_named given view first t c.args.variable source c.requires.together c.requires.row there sound in
     let has = has_rows given view first t c.args.variable source c.requires.together c.requires.row there sound in
-    rw (p.1, p.2) (variable_reads t false c.args.variable.range.now.range.relation rel source.relation.area named has.area (Err c.in_err-found.field-0.0) c.in_err-found.ensures.areas)
+    rw (p.1, p.2) (variable_reads t false c.args.variable.range.now.range.relation rel source.relation.area named has.area c.in_err-found.field-0.0 c.in_err-found.ensures.areas)

@@ -1,5 +1,6 @@
 use Rattle.std.proofs.Common.{Ok, Err}
 use Rattle.std.proofs.lemmas.Result.{err_from_is_err_and}
+use Rattle.rdb_meaning.specs.Contents.{Row}
 use Rattle.rdo_acts.proofs.RowMade.{new_row_made, new_row_reads}
 use Rattle.rdo_acts.proofs.storing.new_row.Goals as goal
 
@@ -39,4 +40,4 @@ pub returns-in_err-assign_all-clause-areas : goal.returns-in_err-assign_all-clau
 returns-in_err-assign_all-clause-areas c =
     let p = err_from_is_err_and c.from_residual-in_err-assign_all.result c.from_residual-in_err-assign_all.ensures.1 in
     rw (p.1, p.2)
-    (new_row_reads c.args.given.now.schema.now c.args.view.now c.args.fields.now c.args.assigns.now {T = Unit {0}} c.args.values.now c.in_ok-all.all c.in_err-assign_all.field-0.0 c.in_ok-all.ensures c.in_err-assign_all.ensures.areas)
+    (new_row_reads c.args.given.now.schema.now c.args.view.now c.args.fields.now c.args.assigns.now (Unit {0}) Row c.args.values.now c.in_ok-all.all c.in_err-assign_all.field-0.0 c.in_ok-all.ensures c.in_err-assign_all.ensures.areas)

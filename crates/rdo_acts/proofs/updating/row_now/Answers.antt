@@ -4,7 +4,8 @@ use Rattle.rdo_acts.proofs.Viewing.{range_there}
 use Rattle.rdo_acts.proofs.RowUpdated.{row_found, row_unread}
 use Rattle.std.proofs.Common.{ℕ, Err, [], ◌∷◌, sym, subst}
 use Rattle.statement_view.specs.Over.{laid_over}
-use Rattle.rdo_acts.specs.Areas.{ReadsIn}
+use Rattle.statement_view.specs.Areas.{IsNeedOf}
+use Rattle.row_writes.proofs.AreaLists.{StopsAt}
 use Rattle.rdo_acts.proofs.updating.row_now.Goals as goal
 
 pub unreachable-requires : goal.unreachable-requires
@@ -24,4 +25,4 @@ pub returns-in_err-row-clause-areas : goal.returns-in_err-row-clause-areas
 returns-in_err-row-clause-areas c = λ first t table sound named.
     let p = err_from_is_err_and c.from_residual.result c.from_residual.ensures.1 in
     let is = c.in-Some.ensures.target (laid_over c.args.work.now.view.lines first) t table sound.sound named in
-    rw (p.1, p.2) (subst (λ (a : ℕ). ReadsIn (a ∷ []) (Err c.in_err-row.field-0.0)) (sym is.is.area) c.in_err-row.ensures.areas)
+    rw (p.1, p.2) (subst (λ (a : ℕ). StopsAt (IsNeedOf (a ∷ []) []) c.in_err-row.field-0.0) (sym is.is.area) c.in_err-row.ensures.areas)
