@@ -21,7 +21,7 @@ use Rattle.statement_view.specs.Over.{Over, knows_over, laid_over}
 use Rattle.statement_view.specs.Areas.{is_among, IsNeedOf, KeepsTo}
 use Rattle.row_writes.specs.Rows.{IsSoundView}
 use Rattle.row_writes.specs.Stop.{RowStop}
-use Rattle.row_writes.proofs.AreaLists.{Wider, one_of, first_area, nothing_written, StopsAt, stops_at}
+use Rattle.row_writes.proofs.AreaLists.{Wider, one_of, first_area, StopsAt, stops_at}
 use Rattle.used_areas.specs.Areas.{relation_areas, areas_read, areas_changed}
 use Rattle.used_areas.proofs.Same.{read_same, changed_same}
 use Rattle.rdo_arithmetic.specs.declared.stop.Misfit.{Misfit}

@@ -3,7 +3,6 @@ use Rattle.std.proofs.Common.{◌≡◌, true, false, cond, List, [], ◌∷◌,
 use Rattle.std.proofs.lemmas.List.{map-append}
 use Rattle.rdo_ast.specs.declared.syntax.Range.{Range}
 use Rattle.rdo_ast.specs.Tree.{Name, Act, store, for_each, print, modify, erase, Acts, no_act, act}
-use Rattle.rdb_meaning.specs.declared.scope.Binding.{Binding}
 use Rattle.rdb_meaning.specs.declared.tables.Tables.{Tables}
 use Rattle.rdb_meaning.specs.Contents.{same_name}
 use Rattle.rdb_meaning.specs.Checks.{Use, use_of, source_uses, ranging_uses, assignments_uses, change_of, with_uses, act_uses, acts_uses}
@@ -16,7 +15,7 @@ use Rattle.rdo_bind.specs.Acting as bound
 use Rattle.rdo_bind.specs.Acting.{named_acts}
 use Rattle.rdo_bind.proofs.Lists.{variables_behind}
 use Rattle.rdo_acts.specs.Areas.{scope_uses, body_uses}
-use Rattle.rdo_acts.proofs.UsesWithin.{Within, self, then, before, behind, both}
+use Rattle.rdo_acts.proofs.UsesWithin.{Within, then, before, behind, both}
 
 -- ---- which relation a variable changes
 

@@ -1,4 +1,4 @@
-use Rattle.std.proofs.Common.{List, map, refl, sym, subst, ◌∙◌, Err, [], ◌∷◌}
+use Rattle.std.proofs.Common.{List, map, refl, sym, subst, ◌∙◌, [], ◌∷◌}
 use Rattle.std.proofs.lemmas.List.{at_drop_all}
 use Rattle.std.proofs.lemmas.Result.{err_from_is_err_and}
 use Rattle.rdb_meaning.specs.Execution.{assign}

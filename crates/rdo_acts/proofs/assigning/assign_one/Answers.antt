@@ -1,4 +1,4 @@
-use Rattle.std.proofs.Common.{sym, subst, Err, [], ◌∷◌}
+use Rattle.std.proofs.Common.{sym, subst, [], ◌∷◌}
 use Rattle.line_view.specs.Held.{knows}
 use Rattle.line_view.specs.Stops.{Stops, Lacks}
 use Rattle.rdo_values.specs.Views.{expression_of}
@@ -13,7 +13,6 @@ use Rattle.used_areas.specs.Areas.{areas_read}
 use Rattle.row_writes.proofs.AreaLists.{StopsAt}
 use Rattle.rdo_acts.proofs.AreasRead.{value_reads, misfit_at}
 use Rattle.rdo_acts.proofs.UsesWithin.{before, reads_within}
-use Rattle.rdo_acts.specs.declared.stop.Refusal.{Refusal}
 use Rattle.rdo_acts.specs.Stops.{stop_of_select}
 use Rattle.rdo_acts.proofs.assigning.assign_one.Goals as goal
 
@@ -58,5 +57,3 @@ pub returns-in-Err-fit-clause-areas : goal.returns-in-Err-fit-clause-areas
 returns-in-Err-fit-clause-areas c = λ first t scope sound bound same.
     let next = IsNeedOf (areas_read t (assignments_uses (written_assign c.args.assign.now ∷ []))) [] in
     subst (StopsAt next) (sym c.of_misfit.ensures) (misfit_at next c.in-Err-fit.misfit)
-
-

@@ -1,4 +1,4 @@
-use Rattle.std.proofs.Common.{sym, ap, subst, ◌∙◌, Err, [], ◌∷◌, ◌++◌}
+use Rattle.std.proofs.Common.{sym, ap, subst, ◌∙◌, [], ◌++◌}
 use Rattle.rdb_meaning.specs.Evaluation.{computed}
 use Rattle.rdb_meaning.specs.Execution.{line, value_line}
 use Rattle.line_view.specs.Held.{knows}
@@ -11,11 +11,10 @@ use Rattle.rdo_acts.specs.Printing.{IsNoLine}
 use Rattle.rdo_acts.proofs.Stopping.{value_stops}
 use Rattle.rdo_acts.proofs.Viewing.{shows}
 use Rattle.rdo_acts.proofs.PrintedValues.{fields_printed}
-use Rattle.rdb_meaning.specs.Checks.{expression_uses, shown_uses}
+use Rattle.rdb_meaning.specs.Checks.{expression_uses}
 use Rattle.statement_view.specs.Areas.{IsNeedOf}
 use Rattle.used_areas.specs.Areas.{areas_read}
 use Rattle.row_writes.proofs.AreaLists.{StopsAt}
-use Rattle.rdo_acts.specs.declared.stop.Refusal.{Refusal}
 use Rattle.rdo_acts.specs.Stops.{stop_of_select}
 use Rattle.rdo_acts.proofs.AreasRead.{value_reads}
 use Rattle.rdo_acts.proofs.UsesWithin.{before, reads_within}
@@ -58,5 +57,3 @@ returns-in-Err-clause-areas c = λ first t scope sound bound same.
     rw c.in-Value.is
     (subst (StopsAt (IsNeedOf (areas_read t (us ++ [])) [])) (sym c.of_select.ensures)
     (reads_within t us (us ++ []) (before t us []) (stop_of_select c.in-Err.stop) (value_reads given c.requires view t first sound e scope c.in-Err.stop own (c.in-Err.ensures.work t scope shown own same))))
-
-

@@ -1,4 +1,4 @@
-use Rattle.std.proofs.Common.{sym, subst, Err, [], ◌∷◌, map}
+use Rattle.std.proofs.Common.{sym, subst, [], ◌∷◌, map}
 use Rattle.std.proofs.lemmas.Result.{err_from_is_err_and}
 use Rattle.rdb_meaning.specs.Execution.{item_line}
 use Rattle.line_view.specs.Held.{knows}

@@ -335,5 +335,3 @@ run_action-returns-in-Ok-clause-areas t c =
     for_keeps c.args.given.now (scope_of c.args.scope.now) c.args.action.now c.requires.bound c.args.values.now c.args.work.now c.run_over.new.work c.run_over.result
     c.in-For.selection body (is_for c.args.action.now c.in-For.selection c.in-For.body body c.in-For.is c.as_slice-in-For-2.ensures) c.as_slice-ranges.result.now c.as_slice-ranges.ensures
     c.requires.together c.in-Ok.found c.as_slice-in-For.result.now c.as_slice-in-For.ensures c.in-Ok.ensures.values c.run_over.ensures.areas
-
-

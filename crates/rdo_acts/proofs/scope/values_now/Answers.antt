@@ -3,7 +3,7 @@ use Rattle.rdb_meaning.specs.Contents.{relation_named}
 use Rattle.rdo_values.specs.Places.{IsRangeOf}
 use Rattle.rdo_acts.specs.declared.scope.BoundRow.{BoundRow}
 use Rattle.rdo_acts.proofs.VariableRow.{one_of, values_more}
-use Rattle.std.proofs.Common.{Err, ◌∷◌, []}
+use Rattle.std.proofs.Common.{◌∷◌, []}
 use Rattle.rdo_acts.specs.Scopes.{scope_of}
 use Rattle.rdo_acts.specs.Areas.{scope_uses}
 use Rattle.rdo_acts.proofs.UsesWithin.{variable_within, reads_within}

@@ -1,4 +1,4 @@
-use Rattle.std.proofs.Common.{◌≡◌, Some, sym, ap, ◌∙◌, Err, false}
+use Rattle.std.proofs.Common.{◌≡◌, Some, sym, ap, ◌∙◌, false}
 use Rattle.std.specs.Option.{option_copied}
 use Rattle.std.proofs.lemmas.Result.{err_from_is_err_and}
 use Rattle.statement_view.specs.Over.{laid_over}

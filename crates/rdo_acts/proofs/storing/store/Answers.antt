@@ -5,7 +5,6 @@ use Rattle.row_writes.specs.Rows.{StoresRow}
 use Rattle.rdo_acts.specs.declared.work.Work.{Work}
 use Rattle.rdo_acts.proofs.Viewing.{relation_there}
 use Rattle.rdo_acts.proofs.RowStored.{store_unmade, store_stopped, store_done}
-use Rattle.row_writes.specs.Areas.{StoreKeeps}
 use Rattle.rdo_acts.proofs.AreasWritten.{store_unmade_for, stored_for, unstored_for}
 use Rattle.rdo_acts.proofs.storing.store.Goals as goal
 

@@ -2,7 +2,7 @@ use Rattle.std.proofs.lemmas.Result.{err_from_is_err_and}
 use Rattle.rdb_meaning.specs.Contents.{relation_named}
 use Rattle.rdo_acts.proofs.Viewing.{range_there}
 use Rattle.rdo_acts.proofs.RowUpdated.{row_found, row_unread}
-use Rattle.std.proofs.Common.{ℕ, Err, [], ◌∷◌, sym, subst}
+use Rattle.std.proofs.Common.{ℕ, [], ◌∷◌, sym, subst}
 use Rattle.statement_view.specs.Over.{laid_over}
 use Rattle.statement_view.specs.Areas.{IsNeedOf}
 use Rattle.row_writes.proofs.AreaLists.{StopsAt}
