@@ -1,24 +1,30 @@
 -- What comes of an action, from its work on a view in which nothing was written.
-use Rattle.std.proofs.Common.{◌≡◌, List, [], ◌++◌, Option, Some, None, Result, Ok, Err, sym, ap, subst, ◌∙◌, inl, inr}
+use Rattle.std.proofs.Common.{◌≡◌, true, false, List, [], ◌++◌, Option, Some, None, Result, Ok, Err, sym, ap, subst, ◌∙◌, inl, inr}
 use Rattle.std.proofs.lemmas.List.Elements.{All-nil, All-cons}
 use Rattle.rdb_types.specs.declared.keys.Dbkey.{Dbkey}
 use Rattle.rdo_ast.specs.declared.reply.Reply.{Reply}
 use Rattle.rdo_ast.specs.Tree.{Act, perform}
 use Rattle.rdb_meaning.specs.declared.tables.Tables.{Tables}
+use Rattle.rdb_meaning.specs.Checks.{Use, act_uses}
 use Rattle.rdb_meaning.specs.Execution.{World, world, Ran, ran, done}
 use Rattle.line_view.specs.declared.stop.Stop.TheVariants as stop
 use Rattle.line_view.specs.Knowledge.{Knowledge, Lines, IsInOrder, Agrees}
 use Rattle.line_view.specs.Held.{Held, knows}
+use Rattle.line_view.specs.declared.writes.Write.{Write}
 use Rattle.line_view.specs.Writes.{laid_all}
 use Rattle.line_view.specs.Stops.{Lacks}
 use Rattle.catalog.specs.declared.reading.Catalog.{Catalog}
 use Rattle.sound_lines.proofs.OneTables.{one_tables}
 use Rattle.sound_changes.specs.Standing.{IsSoundAs}
 use Rattle.sound_changes.proofs.AllDone.{are_tables}
-use Rattle.statement_view.specs.Over.{Over, Stands, knows_over, laid_over, writes_of}
+use Rattle.sound_changes.proofs.Basics.{all_of}
+use Rattle.statement_view.specs.Over.{Over, Stands, knows_over, laid_over, writes_of, is_written}
+use Rattle.statement_view.specs.Areas.{is_among, IsNeedOf, WritesOf}
+use Rattle.used_areas.specs.Areas.{areas_read, areas_changed}
 use Rattle.view_stages.specs.Stages.{Stage, Goes, refusing}
 use Rattle.view_stages.specs.Records.{IsRightOver}
 use Rattle.view_stages.proofs.Ending.{beginning, act_ends, act_refused}
+use Rattle.rdo_acts.specs.declared.stop.Refusal.{Refusal}
 use Rattle.rdo_acts.specs.declared.work.Given.{Given}
 use Rattle.rdo_acts.specs.declared.work.Work.{Work}
 use Rattle.rdo_acts.specs.declared.acting.Acted.{Acted}
@@ -26,6 +32,7 @@ use Rattle.rdo_acts.specs.declared.acting.Outcome.{Outcome}
 use Rattle.rdo_acts.specs.declared.acting.Outcome.TheVariants.{Done, Refused, Missing, Bad, NoMemory}
 use Rattle.rdo_acts.specs.Ends.{ActStop, reply_of, stage, HoldsIn, Refuses, Ends}
 use Rattle.rdo_acts.specs.Acted.{IsActedOver, IsRefusedOver, ComesOf, Comes, IsOrdered, NamesNeeds}
+use Rattle.rdo_acts.specs.Areas.{KeepsFor, IsFor, StaysFor}
 use Rattle.rdo_acts.specs.Told.{Finishes, stopped_as, StopsAs}
 use Rattle.rdo_acts.proofs.Viewing.{laid_writes}
 
@@ -141,6 +148,32 @@ pub stops_named : (outcome : Outcome) (why : ActStop) (given : List Dbkey) → S
 stops_named outcome why given (inl is) = subst NamesNeeds (sym is) (stopped_named why given)
 stops_named outcome why given (inr is) = subst NamesNeeds (sym is) tt
 
+-- ---- in which areas
+
+module _ (us : List Use) (t : Tables) (old new : Work) (none : old.view.lines ≡ []) where
+  write_among : WritesOf (areas_changed t us) old.view new.view → (write : Write) → is_written new.view.lines write.key ≡ true → is_among (areas_changed t us) (write.key).area ≡ true
+  write_among writes write is = elim (writes write.key is) [
+    | inl before ↦ (let unwritten : is_written old.view.lines write.key ≡ false = ap (λ lines. is_written lines write.key) none in let bad : ⊥ = cc in absurd bad)
+    | inr among ↦ among
+  ]
+
+  pub done_for : (outcome : Outcome) → Finishes outcome new → KeepsFor {T = Unit {0}} {E = Refusal} t us old.view new.view (Ok tt) → IsFor outcome us t
+  done_for (Done what) is keeps = all_of (λ (write : Write). is_written new.view.lines write.key ≡ true) (λ (write : Write). is_among (areas_changed t us) (write.key).area ≡ true) (write_among keeps) what.writes is.written
+  done_for (Refused refusal given) is keeps = tt
+  done_for (Missing needs) is keeps = absurd is
+  done_for (Bad key) is keeps = tt
+  done_for NoMemory is keeps = tt
+
+  why_for : (why : ActStop) (given : List Dbkey) → KeepsFor {T = Unit {0}} {E = Refusal} t us old.view new.view (Err why) → IsFor (stopped_as why given) us t
+  why_for (stop.Missing need) given keeps = let next = IsNeedOf (areas_read t us) (areas_changed t us) in All-cons next need [] keeps (All-nil next)
+  why_for (stop.Bad key) given keeps = tt
+  why_for stop.NoMemory given keeps = tt
+  why_for (stop.Own refusal) given keeps = tt
+
+  pub stopped_for : (outcome : Outcome) (why : ActStop) (given : List Dbkey) → StopsAs outcome why given → KeepsFor {T = Unit {0}} {E = Refusal} t us old.view new.view (Err why) → IsFor outcome us t
+  stopped_for outcome why given (inl is) keeps = subst (λ (o : Outcome). IsFor o us t) (sym is) (why_for why given keeps)
+  stopped_for outcome why given (inr is) keeps = subst (λ (o : Outcome). IsFor o us t) (sym is) tt
+
 -- ---- from what is known
 
 module _ (given : Given) (a : Act) (known : Held) (view : Over) (w : Work) (fresh : view ≡ record { base = known; lines = []; areas = [] })
@@ -170,3 +203,15 @@ module _ (given : Given) (a : Act) (known : Held) (view : Over) (w : Work) (fres
   act_stopped new outcome why is runs all t agrees sound =
       comes_known outcome all t
       (comes_stopped given a w new all t (ap (λ (x : Work). x.lines) empty) (ap (λ (x : Work). x.given) empty) outcome why is sound (runs all t (begun_holds all t agrees sound)))
+
+  abbrev KeepsTo : Result (Unit {0}) ActStop → Work → Type 0
+  KeepsTo result new = (all : Lines) (t : Tables) → HoldsIn given w all t t → KeepsFor t (act_uses a []) w.view new.view result
+
+  begun_lines : w.view.lines ≡ []
+  begun_lines = ap (λ (x : Work). x.view.lines) empty ∙ ap (λ (o : Over). o.lines) fresh
+
+  pub act_done_for : (new : Work) (outcome : Outcome) → Finishes outcome new → KeepsTo (Ok tt) new → StaysFor outcome a (knows known) given.schema.now
+  act_done_for new outcome is keeps all t agrees sound = done_for (act_uses a []) t w new begun_lines outcome is (keeps all t (begun_holds all t agrees sound))
+
+  pub act_stopped_for : (new : Work) (outcome : Outcome) (why : ActStop) → StopsAs outcome why new.given → KeepsTo (Err why) new → StaysFor outcome a (knows known) given.schema.now
+  act_stopped_for new outcome why is keeps all t agrees sound = stopped_for (act_uses a []) t w new begun_lines outcome why new.given is (keeps all t (begun_holds all t agrees sound))

@@ -4,7 +4,8 @@ use Rattle.std.specs.List.{All}
 use Rattle.rdo_ast.specs.declared.syntax.Range.{Range}
 use Rattle.rdb_meaning.specs.declared.tables.Tables.{Tables}
 use Rattle.rdb_meaning.specs.Contents.{Row}
-use Rattle.rdb_meaning.specs.Evaluation.{Scope}
+use Rattle.rdb_meaning.specs.Checks.{act_uses, ranging_uses}
+use Rattle.rdb_meaning.specs.Evaluation.{Scope, bind_sources}
 use Rattle.rdb_meaning.specs.Selecting.{selection}
 use Rattle.rdb_meaning.specs.Execution.{done, stored, modified, erased}
 use Rattle.statement_view.specs.Over.{knows_over}
@@ -32,11 +33,17 @@ use Rattle.rdo_select.specs.Reasons.{IsSelectReason}
 use Rattle.rdo_select.specs.Work.{Does, selecting}
 use Rattle.rdo_select.specs.Stops.{Matches, HaveValues}
 use Rattle.rdo_select.proofs.Matchings.{parts_ranges}
+use Rattle.rdo_acts.specs.declared.stop.Refusal.{Refusal}
 use Rattle.rdo_acts.specs.declared.work.Given.{Given}
 use Rattle.rdo_acts.specs.declared.work.Work.{Work}
 use Rattle.rdo_acts.specs.Printing.{prints}
 use Rattle.rdo_acts.specs.Ends.{ActStop, GoTogether, Runs, RunsOver}
+use Rattle.rdo_acts.specs.Areas.{scope_uses, action_uses, body_uses, KeepsFor, RunsFor, RunsOverFor}
 use Rattle.rdo_acts.specs.Stops.{stop_of_select}
+use Rattle.rdo_acts.proofs.Viewing.{sound_view}
+use Rattle.rdo_acts.proofs.UsesWithin.{behind, keeps_within}
+use Rattle.rdo_acts.proofs.AreasRead.{selection_reads, reading_keeps, at_start}
+use Rattle.rdo_acts.proofs.ScopeUses.{body_within, selection_within}
 use Rattle.rdo_acts.proofs.Bodies.{tuples_job}
 use Rattle.rdo_acts.proofs.Selected.{shown, selection_bound, selects, not_selected}
 
@@ -62,10 +69,10 @@ module _ (given : Given) (scope : Scope) (action : BoundAction) (bound : IsBound
   bound_so a e = subst (λ (x : Act). IsBoundAct x given.schema.now.tables (variables_of scope)) e bound
 
   module _ (s : BoundSelection) (body : List BoundAction) (is : act_of action ≡ for_each s (acts_of (map act_of body))) (ranges : List BoundRange) (same : ranges ≡ (out-BoundInner s.inner).ranges) where
-    for_bound : IsBoundAct (for_each s (acts_of (map act_of body))) given.schema.now.tables (variables_of scope)
+    pub for_bound : IsBoundAct (for_each s (acts_of (map act_of body))) given.schema.now.tables (variables_of scope)
     for_bound = bound_so (for_each s (acts_of (map act_of body))) is
 
-    ranges_same : ranges_of ranges ≡ ranges_in (ranging_of s.inner)
+    pub ranges_same : ranges_of ranges ≡ ranges_in (ranging_of s.inner)
     ranges_same = parts_ranges s.inner ranges (with_behind (out-BoundInner s.inner).condition) (record { ranges = same; condition = refl })
 
 -- ---- each arm runs the action
@@ -123,3 +130,47 @@ for_ends given scope values w action bound s body is together why matches does r
     let seen = shown given together w scope values s acts for_bound all start t holds own in
     let here = selection_bound given together w scope values s acts for_bound all start t holds own in
     not_selected given together w scope values s acts for_bound all start t holds own why (matches t scope seen here own) (does t scope seen here.0 own) reason)
+
+-- ---- in which areas
+
+-- an arm that keeps to its own uses
+pub arm_keeps : (given : Given) (scope : Scope) (action : BoundAction) (values : Row) (old new : Work) (result : Result (Unit {0}) ActStop) (a : Act) → act_of action ≡ a → RunsFor result given scope values (act_uses (named_act a) scope) old new →
+    RunsFor result given scope values (action_uses (act_of action) scope) old new
+arm_keeps given scope action values old new result a e runs = λ all start t holds own.
+    subst (λ (x : Act). KeepsFor start (action_uses x scope) old.view new.view result) (sym e)
+    (keeps_within start (act_uses (named_act a) scope) (action_uses a scope) (behind start (scope_uses scope) (act_uses (named_act a) scope)) old.view new.view result (runs all start t holds own))
+
+module _ (given : Given) (scope : Scope) (action : BoundAction) (bound : IsBoundAct (act_of action) given.schema.now.tables (variables_of scope)) (values : Row) (old new : Work) (result : Result (Unit {0}) ActStop)
+    (s : BoundSelection) (body : List BoundAction) (is : act_of action ≡ for_each s (acts_of (map act_of body))) (ranges : List BoundRange) (same : ranges ≡ (out-BoundInner s.inner).ranges) where
+  pub for_keeps : GoTogether given → (found tuples : List Found) → tuples ≡ found →
+      ((t : Tables) (sc : Scope) → IsShown (knows_over old.view) given.sources.now.entries t → IsBoundRanging (ranging_of s.inner) t (variables_of sc) → row_of t sc ≡ values → HaveValues (ranges_in (ranging_of s.inner)) t sc found) →
+      RunsOverFor result given scope (ranges_of ranges) tuples (body_uses (acts_of (map act_of body)) (bind_sources (ranges_of ranges) scope)) old new →
+      RunsFor result given scope values (action_uses (act_of action) scope) old new
+  for_keeps together found tuples all_same have runs =
+      let acts = acts_of (map act_of body) in
+      let so = ranges_same given scope action bound s body is ranges same in
+      let whole = for_bound given scope action bound s body is ranges same in
+      λ all start t holds own.
+      let seen = shown given together old scope values s acts whole all start t holds own in
+      let here = selection_bound given together old scope values s acts whole all start t holds own in
+      let beside : HaveValues (ranges_of ranges) t scope tuples =
+      subst (λ (ss : List Range). HaveValues ss t scope tuples) (sym so) (subst (λ (fs : List Found). HaveValues (ranges_in (ranging_of s.inner)) t scope fs) (sym all_same) (have t scope seen here.0 own)) in
+      subst (λ (x : Act). KeepsFor start (action_uses x scope) old.view new.view result) (sym is)
+      (keeps_within start (body_uses acts (bind_sources (ranges_of ranges) scope)) (action_uses (for_each s acts) scope) (body_within start (ranging_of s.inner) acts (ranges_of ranges) scope so) old.view new.view result (runs all start t holds beside))
+
+-- a selection that isn't done lacks what it reads
+pub for_stops_for : (given : Given) (scope : Scope) (values : Row) (w : Work) (action : BoundAction) → IsBoundAct (act_of action) given.schema.now.tables (variables_of scope) → (s : BoundSelection) (body : List BoundAction) →
+    act_of action ≡ for_each s (acts_of (map act_of body)) → GoTogether given → (why : SelectStop) →
+    ((t : Tables) (sc : Scope) → IsShown (knows_over w.view) given.sources.now.entries t → IsBoundRanging (ranging_of s.inner) t (variables_of sc) → row_of t sc ≡ values → Does (knows_over w.view) (selecting (ranging_of s.inner) t given.sources.now.entries sc) (Some why)) →
+    RunsFor (Err (stop_of_select why)) given scope values (action_uses (act_of action) scope) w w
+for_stops_for given scope values w action bound s body is together why does =
+    let acts : Acts = acts_of (map act_of body) in
+    let whole : IsBoundAct (for_each s acts) given.schema.now.tables (variables_of scope) = subst (λ (x : Act). IsBoundAct x given.schema.now.tables (variables_of scope)) is bound in
+    λ all start t holds own.
+    let seen = shown given together w scope values s acts whole all start t holds own in
+    let here = selection_bound given together w scope values s acts whole all start t holds own in
+    let us = ranging_uses (named_ranging (ranging_of s.inner)) in
+    let reads = selection_reads given together w.view t all (sound_view given w all start t holds) (ranging_of s.inner) scope why here.0 (does t scope seen here.0 own) in
+    subst (λ (x : Act). KeepsFor {T = Unit {0}} {E = Refusal} start (action_uses x scope) w.view w.view (Err (stop_of_select why))) (sym is)
+    (keeps_within start us (action_uses (for_each s acts) scope) (selection_within start (ranging_of s.inner) acts scope) w.view w.view (Err (stop_of_select why))
+    (at_start given w all start t holds us w.view w.view (Err (stop_of_select why)) (reading_keeps t us (stop_of_select why) reads)))

@@ -6,6 +6,7 @@ use Rattle.rdo_ast.specs.declared.syntax.Range.{Range}
 use Rattle.rdo_ast.specs.Tree.{Acts}
 use Rattle.rdb_meaning.specs.declared.tables.Tables.{Tables}
 use Rattle.rdb_meaning.specs.Contents.{Row}
+use Rattle.rdb_meaning.specs.Checks.{Use}
 use Rattle.rdb_meaning.specs.Evaluation.{Scope, bind_tuple}
 use Rattle.rdb_meaning.specs.Execution.{World, Ran, done, done_all, over}
 use Rattle.line_view.specs.Knowledge.{Lines}
@@ -22,6 +23,7 @@ use Rattle.rdo_select.specs.Stops.{HaveValues}
 use Rattle.rdo_acts.specs.declared.work.Given.{Given}
 use Rattle.rdo_acts.specs.declared.work.Work.{Work}
 use Rattle.rdo_acts.specs.Ends.{ActStop, stage, HoldsIn, Ends, Runs}
+use Rattle.rdo_acts.specs.Areas.{KeepsFor, RunsFor}
 use Rattle.rdo_acts.proofs.Viewing.{sound_view}
 use Rattle.rdo_acts.proofs.Turns.{then, says, holds_now, next_goes, next_ends, one_now}
 
@@ -77,6 +79,23 @@ pub read_before : (result : Result (Unit {0}) ActStop) (given : Given) (scope : 
     (all : Lines) (start t : Tables) → HoldsIn given old all start t → row_of t scope ≡ values → (u : Tables) → HoldsIn given now all start u → Ends result given all start (job start) now new u
 read_before result given scope values job old now new runs same all start t before are u holds =
     runs all start u holds (ap (λ (x : Tables). row_of x scope) (one_now given old now all start t u same before holds) ∙ are)
+
+-- ---- in which areas an action runs
+
+-- with the values that were read of the view of the moment
+pub keeps_anew : (result : Result (Unit {0}) ActStop) (given : Given) (scope : Scope) (values : Row) (us : List Use) (now new : Work) → RunsFor result given scope values us now new →
+    ((first : Lines) (t : Tables) → IsSoundView now.view given.schema.now t first → values ≡ row_of t scope) → (all : Lines) (start u : Tables) → HoldsIn given now all start u → KeepsFor start us now.view new.view result
+keeps_anew result given scope values us now new runs are all start u holds = runs all start u holds (sym (are all u (sound_view given now all start u holds)))
+
+-- with the values that were read before, where nothing was written since
+pub keeps_before : (result : Result (Unit {0}) ActStop) (given : Given) (scope : Scope) (values : Row) (us : List Use) (old now new : Work) → RunsFor result given scope values us now new → now.view ≡ old.view →
+    (all : Lines) (start t : Tables) → HoldsIn given old all start t → row_of t scope ≡ values → (u : Tables) → HoldsIn given now all start u → KeepsFor start us now.view new.view result
+keeps_before result given scope values us old now new runs same all start t before are u holds =
+    runs all start u holds (ap (λ (x : Tables). row_of x scope) (one_now given old now all start t u same before holds) ∙ are)
+
+-- the tables of the moment
+pub body_holds : (given : Given) (scope : Scope) (body : List BoundAction) (i : ℕ) (old now : Work) (all : Lines) (start t : Tables) → now.view.base ≡ old.view.base → BodyGoes given scope body i old now all start t → (u : Tables) × HoldsIn given now all start u
+body_holds given scope body i old now all start t kept before = (before.tables, holds_now given old now kept all start before.tables before.holds)
 
 -- ---- the tuples of a FOR
 
@@ -137,6 +156,12 @@ module _ (given : Given) (body : Acts) (scope : Scope) (ranges : List BoundRange
     module _ (writes : Bool) (views : writes ≡ false → now.view ≡ old.view) where
       body_ends : (result : Result (Unit {0}) ActStop) → ((seen : Row) → (writes ≡ false → seen ≡ x.row) → Runs result given bound seen (λ start. done_all body start bound) now new) → Ends result given all start (done_all body start bound) now new first_tuple.tables
       body_ends result runs =
+          let there = holds_now given old now kept all start first_tuple.tables first_tuple.holds in
+          runs (row_of first_tuple.tables bound) (λ none. beside (views none) first_tuple.tables there) all start first_tuple.tables there refl
+
+      -- in the areas of these uses
+      pub body_keeps : (result : Result (Unit {0}) ActStop) (us : List Use) → ((seen : Row) → (writes ≡ false → seen ≡ x.row) → RunsFor result given bound seen us now new) → KeepsFor start us now.view new.view result
+      body_keeps result us runs =
           let there = holds_now given old now kept all start first_tuple.tables first_tuple.holds in
           runs (row_of first_tuple.tables bound) (λ none. beside (views none) first_tuple.tables there) all start first_tuple.tables there refl
 

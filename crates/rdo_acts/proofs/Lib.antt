@@ -17,3 +17,7 @@ pub mod Selected
 pub mod Writing
 pub mod ActEnds
 pub mod Arms
+pub mod UsesWithin
+pub mod AreasRead
+pub mod AreasWritten
+pub mod ScopeUses

@@ -1,11 +1,12 @@
 -- The row that assignments make, and that of a STORE: what it begins with, and the values that its assignments see.
-use Rattle.std.proofs.Common.{◌≡◌, List, [], ◌∷◌, ◌++◌, map, length, Option, Some, None, Result, sym, ap, subst, ◌∙◌, append-nil}
+use Rattle.std.proofs.Common.{◌≡◌, List, [], ◌∷◌, ◌++◌, map, length, Option, Some, None, Result, Err, sym, ap, subst, ◌∙◌, append-nil}
 use Rattle.std.specs.List.{All}
 use Rattle.rdb_types.specs.declared.values.Field.{Field}
 use Rattle.rdo_ast.specs.declared.syntax.Range.{Range}
 use Rattle.rdb_meaning.specs.declared.tables.Relation.{Relation}
 use Rattle.rdb_meaning.specs.declared.tables.Tables.{Tables}
 use Rattle.rdb_meaning.specs.Contents.{Row, relation_named, fields_of}
+use Rattle.rdb_meaning.specs.Checks.{assignments_uses}
 use Rattle.rdb_meaning.specs.Evaluation.{Scope, bind_source}
 use Rattle.rdb_meaning.specs.Execution.{Assigned, assigned, assign}
 use Rattle.line_view.specs.Knowledge.{Lines}
@@ -18,6 +19,7 @@ use Rattle.rdo_bind.specs.Assigning.{written_assign, IsBoundAssign}
 use Rattle.rdo_bind.proofs.Lists.{variables_behind}
 use Rattle.rdo_acts.specs.Scopes.{missing_values}
 use Rattle.rdo_acts.specs.Ends.{ActStop, reply_of, IsUnassigned, Computes}
+use Rattle.rdo_acts.specs.Areas.{ReadsFor}
 use Rattle.rdo_acts.proofs.VariableRow.{none_values, row_joined}
 
 -- ---- the values of the variable that is stored
@@ -57,3 +59,17 @@ module _ (c : Catalog) (view : Over) (fields : List Field) (assigns : List Bound
       let seen : row_of t within ≡ all = stored_values t scope s table fields named same ∙ ap (λ (vs : Row). vs ++ missing_values (length fields)) own ∙ sym whole in
       subst (λ (o : Row). Makes row o t within result) begins
       (each first t within sound (subst (λ (vs : List Range). All (IsBoundAssign t vs) assigns) (sym (variables_behind (s ∷ []) scope)) are) seen)
+
+  -- what is lacked for the row that is stored
+  abbrev pub ReadsRow : {T : Type 0} → Row → Result T ActStop → Type 0
+  ReadsRow values result = (first : Lines) (t : Tables) (scope : Scope) → IsSoundView view c t first → All (IsBoundAssign t (variables_of scope)) assigns → row_of t scope ≡ values → ReadsFor t (assignments_uses (map written_assign assigns)) result
+
+  abbrev pub ReadsNewRow : {T : Type 0} → Row → Result T ActStop → Type 0
+  ReadsNewRow values result = (first : Lines) (t : Tables) (scope : Scope) (s : Range) (table : Relation) → IsSoundView view c t first → relation_named s.relation t ≡ Some table → table.fields ≡ fields
+      → All (IsBoundAssign t (variables_of scope ++ s ∷ [])) assigns → row_of t scope ≡ values → ReadsFor t (assignments_uses (map written_assign assigns)) result
+
+  pub new_row_reads : (T U : Type 0) (values all : Row) (stop : ActStop) → all ≡ values ++ missing_values (length fields) → ReadsRow {T = T} all (Err stop) → ReadsNewRow {T = U} values (Err stop)
+  new_row_reads T U values all stop whole each = λ first t scope s table sound named same are own.
+      let within : Scope = scope ++ bind_source s None ∷ [] in
+      let seen : row_of t within ≡ all = stored_values t scope s table fields named same ∙ ap (λ (vs : Row). vs ++ missing_values (length fields)) own ∙ sym whole in
+      each first t within sound (subst (λ (vs : List Range). All (IsBoundAssign t vs) assigns) (sym (variables_behind (s ∷ []) scope)) are) seen

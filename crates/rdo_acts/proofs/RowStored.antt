@@ -167,10 +167,10 @@ module _ (given : Given) (range : BoundRange) (assigns : List BoundAssign) (valu
   MakesRow view result = MakesNewRow given.schema.now view target.stored.fields.now assigns {T = Row} values (λ (row : Row). row) result
 
   module _ (scope : Scope) (old new : Work) (all : Lines) (start t : Tables) (is_bound : IsBoundIn given.schema.now.tables scope) (holds : HoldsIn given old all start t) (own : row_of t scope ≡ values) where
-    bound_now : IsBoundIn t scope
+    pub bound_now : IsBoundIn t scope
     bound_now = act_same given.schema.now.tables t (one_schema given old all start t holds) (store range assigns) (variables_of scope) is_bound
 
-    relation_now : (rel : Rows) × (relation_named s.relation t ≡ Some rel)
+    pub relation_now : (rel : Rows) × (relation_named s.relation t ≡ Some rel)
     relation_now = range_there range (relation_named s.relation t) bound_now.0
 
     abbrev rel : Rows
@@ -179,10 +179,10 @@ module _ (given : Given) (range : BoundRange) (assigns : List BoundAssign) (valu
     named : relation_named s.relation t ≡ Some rel
     named = relation_now.1
 
-    view_is : IsSoundView old.view given.schema.now t all
+    pub view_is : IsSoundView old.view given.schema.now t all
     view_is = sound_view given old all start t holds
 
-    target_now : IsTargetIn given.schema.now t s.relation rel target
+    pub target_now : IsTargetIn given.schema.now t s.relation rel target
     target_now = is_target (laid_over old.view.lines all) t rel view_is.sound named
 
     abbrev MadeOf : Result Row ActStop → List Field → Type 0

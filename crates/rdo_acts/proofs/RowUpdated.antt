@@ -273,14 +273,14 @@ module _ (given : Given) (scope : List BoundRow) (v : BoundVariable) (bound : Bo
   abbrev b : Binding
   b = binding_of bound
 
-  bound_is : bound_as v.variable (scope_of scope) ≡ Some b
+  pub bound_is : bound_as v.variable (scope_of scope) ≡ Some b
   bound_is =
       let p : VariablePlace = record { number = v.number; place = v.place; kinds = v.kinds } in
       let there = bound_at v.variable given.schema.now.tables (scope_of scope) p is_variable in
       there.1 ∙ sym there.2 ∙ slice_get-map binding_of scope v.number ∙ ap (option_map binding_of) at
 
   module _ (all : Lines) (start t : Tables) (holds : HoldsIn given old all start t) where
-    relation_now : (rel : Rows) × (relation_named b.relation t ≡ Some rel)
+    pub relation_now : (rel : Rows) × (relation_named b.relation t ≡ Some rel)
     relation_now =
         let is = row_placed (λ (w : BoundRow). IsRangeOf w.range.now (relation_named w.range.now.range.relation given.schema.now.tables)) scope v.number bound rows at in
         range_there bound.range.now (relation_named b.relation t) (range given.schema.now.tables t (one_schema given old all start t holds) bound.range.now b.relation is)
@@ -291,7 +291,7 @@ module _ (given : Given) (scope : List BoundRow) (v : BoundVariable) (bound : Bo
     named : relation_named b.relation t ≡ Some rel
     named = relation_now.1
 
-    view_is : IsSoundView old.view given.schema.now t all
+    pub view_is : IsSoundView old.view given.schema.now t all
     view_is = sound_view given old all start t holds
 
     -- the row of the variable
@@ -305,7 +305,7 @@ module _ (given : Given) (scope : List BoundRow) (v : BoundVariable) (bound : Bo
     unread any (Own never) found = elim never [ ]
 
     module _ (target : TargetRelation) (was : Option Row) (found : Found given old.view bound (Ok (target, was))) where
-      target_is : IsTargetIn given.schema.now t b.relation rel target
+      pub target_is : IsTargetIn given.schema.now t b.relation rel target
       target_is = (found all t rel view_is named).0
 
       was_is : was ≡ option_and_then (λ k. find dbkey_order k rel.rows) b.key
@@ -317,10 +317,10 @@ module _ (given : Given) (scope : List BoundRow) (v : BoundVariable) (bound : Bo
 
       -- the row that the Dbkey has
       module _ (k : Dbkey) (row : Row) (key : bound.key ≡ Some k) (some : was ≡ Some row) where
-        stands : find dbkey_order k rel.rows ≡ Some row
+        pub stands : find dbkey_order k rel.rows ≡ Some row
         stands = sym (ap (option_and_then (λ q. find dbkey_order q rel.rows)) key) ∙ sym was_is ∙ some
 
-        area : k.area ≡ rel.area
+        pub area : k.area ≡ rel.area
         area =
             let has = has_rows (laid_over old.view.lines all) given.schema.now t b.relation rel target view_is.sound named target_is.is in
             row_in_area (laid_over old.view.lines all) target.stored rel has k row stands ∙ has.area

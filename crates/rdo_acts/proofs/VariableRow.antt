@@ -90,6 +90,10 @@ module _ (given : Given) (view : Over) (first : Lines) (t : Tables) (v : BoundRo
   pub table : Relation
   table = there.0
 
+  pub table_named : relation_named s.range.relation t ≡ Some table
+  unfolding table
+  table_named = there.1
+
   pub has_rows : HasRows all source.relation table
   unfolding table
   has_rows =

@@ -22,7 +22,7 @@ use Rattle.rdo_ast.specs.declared.syntax.Range.{Range}
 use Rattle.rdo_select.specs.declared.crossing.Found.{Found}
 use Rattle.rdo_select.specs.Stops.{HaveValues}
 use Rattle.rdo_select.specs.Sources.{source_at, AreSourcesOf}
-use Rattle.statement_sources.specs.Sources.{AreOfTables}
+use Rattle.statement_sources.specs.Sources.{AreOfTables, AreIndexed}
 use Rattle.rdo_acts.specs.declared.stop.Refusal.{Refusal}
 use Rattle.rdo_acts.specs.declared.stop.Refusal.TheVariants.{Overflow, TooLong, Duplicate, Unwritten}
 use Rattle.rdo_acts.specs.declared.work.Given.{Given}
@@ -30,10 +30,11 @@ use Rattle.rdo_acts.specs.declared.work.Work.{Work}
 
 -- ---- what is given
 
--- Over each map that is sound with the catalog, these are the sources of its tables, and no others.
+-- Over each map that is sound with the catalog, these are the sources of its tables, and no others; each has the indexes of the catalog.
 pub record GoTogether (given : Given) : Type 0 where
   pub tables : (all : Lines) (t : Tables) → IsSoundAs all given.schema.now t → AreSourcesOf all t given.sources.now.entries
   pub only : (all : Lines) (t : Tables) → IsSoundAs all given.schema.now t → AreOfTables all t given.sources.now.entries
+  pub indexed : AreIndexed given.schema.now given.sources.now.entries
   pub present : (n : Name) (rel : Relation) → relation_named n given.schema.now.tables ≡ Some rel → IsSome (source_at rel.area given.sources.now.entries)
 
 -- ---- refusals

@@ -1,5 +1,6 @@
 pub mod Scopes
 pub mod Ends
+pub mod Areas
 pub mod Stops
 pub mod Printing
 pub mod Acted

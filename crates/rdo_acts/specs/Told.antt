@@ -1,12 +1,13 @@
 -- How the end of the work is told.
-use Rattle.std.specs.Prelude.{◌≡◌, ◌⊎◌, List, [], ◌∷◌, map}
+use Rattle.std.specs.Prelude.{◌≡◌, ◌⊎◌, true, List, [], ◌∷◌, map}
+use Rattle.std.specs.List.{AllByRecursion}
 use Rattle.std.specs.List.Sorted.{IsStrictlySortedBy}
 use Rattle.rdb_types.specs.declared.keys.Dbkey.{Dbkey}
 use Rattle.rdb_types.specs.Order.{dbkey_order}
 use Rattle.line_view.specs.declared.stop.Stop.TheVariants as stop
 use Rattle.line_view.specs.Knowledge.{Lines}
 use Rattle.line_view.specs.Writes.{laid_all}
-use Rattle.statement_view.specs.Over.{laid_over}
+use Rattle.statement_view.specs.Over.{laid_over, is_written}
 use Rattle.rdo_acts.specs.declared.work.Work.{Work}
 use Rattle.rdo_acts.specs.declared.acting.Acted.{Acted}
 use Rattle.rdo_acts.specs.declared.acting.Outcome.{Outcome}
@@ -18,6 +19,7 @@ pub record IsOfWork (acted : Acted) (w : Work) : Type 0 where
   pub lines : acted.lines ≡ w.lines
   pub given : acted.given ≡ w.given
   pub laid : (all : Lines) → laid_all acted.writes all ≡ laid_over w.view.lines all
+  pub written : AllByRecursion (λ write. is_written w.view.lines write.key ≡ true) acted.writes
   pub ordered : IsStrictlySortedBy dbkey_order (map (λ write. write.key) acted.writes)
 
 -- work that came to its end, unless there is no memory to tell it

@@ -2,6 +2,7 @@
 ghost use Rattle.std.specs.Prelude.{◌≡◌, ◌∷◌, [], map, slice_set};
 ghost use Rattle.std.specs.List.{All};
 ghost use Rattle.rdb_meaning.specs.declared.tables.Tables.{Tables as Kept};
+ghost use Rattle.rdb_meaning.specs.Checks.{assignments_uses};
 ghost use Rattle.rdb_meaning.specs.Evaluation.{Scope};
 ghost use Rattle.rdb_meaning.specs.Execution.{assign as assigning, assigned};
 ghost use Rattle.line_view.specs.Knowledge.{Lines};
@@ -9,6 +10,7 @@ ghost use Rattle.rdo_values.specs.Rows.{row_of, variables_of};
 ghost use Rattle.rdo_bind.specs.Assigning.{written_assign, IsBoundAssign};
 ghost use Rattle.row_writes.specs.Rows.{IsSoundView};
 ghost use Rattle.rdo_acts.specs.Ends.{GoTogether, Computes, IsUnassigned, reply_of};
+ghost use Rattle.rdo_acts.specs.Areas.{ReadsFor};
 
 use crate::stop::{ActStop, of_misfit, of_select};
 use crate::work::Given;
@@ -37,8 +39,9 @@ fn assign_one<'a>(
     row: &mut Row,
 ) -> Result<(), ActStop<'a>>
     requires { GoTogether given.now }
-    ensures { (first : Lines) (t : Kept) (scope : Scope) → IsSoundView view.now given.now.schema.now t first → IsBoundAssign t (variables_of scope) assign.now → row_of t scope ≡ values.now
+    ensures assigns { (first : Lines) (t : Kept) (scope : Scope) → IsSoundView view.now given.now.schema.now t first → IsBoundAssign t (variables_of scope) assign.now → row_of t scope ≡ values.now
         → Computes result view.now (λ done. assigning (written_assign assign.now ∷ []) fields.now t scope row.old ≡ assigned row.new) (λ refusal. IsUnassigned (reply_of refusal) (assigning (written_assign assign.now ∷ []) fields.now t scope row.old)) }
+    ensures areas { (first : Lines) (t : Kept) (scope : Scope) → IsSoundView view.now given.now.schema.now t first → IsBoundAssign t (variables_of scope) assign.now → row_of t scope ≡ values.now → ReadsFor t (assignments_uses (written_assign assign.now ∷ [])) result }
 {
     let Some(found) = field_of(fields, &assign.left.reference.field) else {
         return Ok(());
@@ -67,8 +70,9 @@ pub(crate) fn assign_all<'a>(
     row: &mut Row,
 ) -> Result<(), ActStop<'a>>
     requires { GoTogether given.now }
-    ensures { (first : Lines) (t : Kept) (scope : Scope) → IsSoundView view.now given.now.schema.now t first → All (IsBoundAssign t (variables_of scope)) assigns.now → row_of t scope ≡ values.now
+    ensures assigns { (first : Lines) (t : Kept) (scope : Scope) → IsSoundView view.now given.now.schema.now t first → All (IsBoundAssign t (variables_of scope)) assigns.now → row_of t scope ≡ values.now
         → Computes result view.now (λ done. assigning (map written_assign assigns.now) fields.now t scope row.old ≡ assigned row.new) (λ refusal. IsUnassigned (reply_of refusal) (assigning (map written_assign assigns.now) fields.now t scope row.old)) }
+    ensures areas { (first : Lines) (t : Kept) (scope : Scope) → IsSoundView view.now given.now.schema.now t first → All (IsBoundAssign t (variables_of scope)) assigns.now → row_of t scope ≡ values.now → ReadsFor t (assignments_uses (map written_assign assigns.now)) result }
 {
     for assign in assigns {
         assign_one(given, view, fields, assign, values, row)?;

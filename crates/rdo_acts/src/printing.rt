@@ -3,6 +3,7 @@ ghost use Rattle.std.specs.Prelude.{◌≡◌, ◌+◌, [], ◌∷◌, map, slic
 ghost use Rattle.std.specs.Option.{option_copied};
 ghost use Rattle.std.specs.List.{All};
 ghost use Rattle.rdb_meaning.specs.declared.tables.Tables.{Tables as Kept};
+ghost use Rattle.rdb_meaning.specs.Checks.{shown_uses};
 ghost use Rattle.rdb_meaning.specs.Evaluation.{Scope, scaled_if};
 ghost use Rattle.rdb_meaning.specs.Execution.{line as printed, item_line as line_of_item, printed as line_of_items};
 ghost use Rattle.line_view.specs.Knowledge.{Lines};
@@ -11,6 +12,7 @@ ghost use Rattle.rdo_bind.specs.Acting.{written_item, IsBoundItem};
 ghost use Rattle.row_writes.specs.Rows.{IsSoundView};
 ghost use Rattle.rdo_acts.specs.Printing.{values_line, IsNoLine, prints};
 ghost use Rattle.rdo_acts.specs.Ends.{GoTogether, Computes, Runs};
+ghost use Rattle.rdo_acts.specs.Areas.{ReadsFor, RunsFor};
 
 use crate::stop::{ActStop, of_select};
 use crate::work::{Given, Work};
@@ -85,8 +87,9 @@ fn item_line<'a>(
     values: &Row,
 ) -> Result<Printed, ActStop<'a>>
     requires { GoTogether given.now }
-    ensures { (first : Lines) (t : Kept) (scope : Scope) → IsSoundView view.now given.now.schema.now t first → IsBoundItem t (variables_of scope) item.now → row_of t scope ≡ values.now
+    ensures line { (first : Lines) (t : Kept) (scope : Scope) → IsSoundView view.now given.now.schema.now t first → IsBoundItem t (variables_of scope) item.now → row_of t scope ≡ values.now
         → Computes result view.now (λ line. line_of_item (written_item item.now) t scope ≡ printed line) (λ refusal. IsNoLine refusal (line_of_item (written_item item.now) t scope)) }
+    ensures areas { (first : Lines) (t : Kept) (scope : Scope) → IsSoundView view.now given.now.schema.now t first → IsBoundItem t (variables_of scope) item.now → row_of t scope ≡ values.now → ReadsFor t (shown_uses (written_item item.now ∷ [])) result }
 {
     match item {
         BoundPrintItem::Value(expression) => {
@@ -107,8 +110,9 @@ fn printed_line<'a>(
     values: &Row,
 ) -> Result<Printed, ActStop<'a>>
     requires { GoTogether given.now }
-    ensures { (first : Lines) (t : Kept) (scope : Scope) → IsSoundView view.now given.now.schema.now t first → All (IsBoundItem t (variables_of scope)) items.now → row_of t scope ≡ values.now
+    ensures line { (first : Lines) (t : Kept) (scope : Scope) → IsSoundView view.now given.now.schema.now t first → All (IsBoundItem t (variables_of scope)) items.now → row_of t scope ≡ values.now
         → Computes result view.now (λ line. line_of_items (map written_item items.now) t scope ≡ printed line) (λ refusal. IsNoLine refusal (line_of_items (map written_item items.now) t scope)) }
+    ensures areas { (first : Lines) (t : Kept) (scope : Scope) → IsSoundView view.now given.now.schema.now t first → All (IsBoundItem t (variables_of scope)) items.now → row_of t scope ≡ values.now → ReadsFor t (shown_uses (map written_item items.now)) result }
 {
     let mut line = Items::new(given.alloc);
     for item in items {
@@ -128,6 +132,7 @@ pub(crate) fn print<'a>(
     requires { GoTogether given.now }
     ensures runs { (scope : Scope) → All (IsBoundItem given.now.schema.now.tables (variables_of scope)) items.now → Runs result given.now scope values.now (prints (map written_item items.now) scope) work.old work.new }
     ensures view { work.new.view ≡ work.old.view }
+    ensures areas { (scope : Scope) → All (IsBoundItem given.now.schema.now.tables (variables_of scope)) items.now → RunsFor result given.now scope values.now (shown_uses (map written_item items.now)) work.old work.new }
 {
     let line = printed_line(given, &work.view, items, values)?;
     work.lines.push(line)?;

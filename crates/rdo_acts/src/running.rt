@@ -1,7 +1,7 @@
 // Actions, one after another.
 ghost use Rattle.std.specs.Prelude.{◌≡◌, ◌++◌, false, map};
 ghost use Rattle.rdb_meaning.specs.Contents.{Row as Values};
-ghost use Rattle.rdb_meaning.specs.Evaluation.{bind_tuple};
+ghost use Rattle.rdb_meaning.specs.Evaluation.{bind_tuple, bind_sources};
 ghost use Rattle.rdb_meaning.specs.Execution.{done, done_all, over};
 ghost use Rattle.rdo_values.specs.Places.{AreRanges};
 ghost use Rattle.rdo_values.specs.Rows.{variables_of};
@@ -9,6 +9,7 @@ ghost use Rattle.rdo_bind.specs.Acting.{act_of, acts_of, named_act, named_acts, 
 ghost use Rattle.rdo_select.specs.Crossed.{ranges_of};
 ghost use Rattle.rdo_acts.specs.Scopes.{scope_of, AreRowsOf, may_write, may_write_any};
 ghost use Rattle.rdo_acts.specs.Ends.{GoTogether, Runs, RunsOver};
+ghost use Rattle.rdo_acts.specs.Areas.{action_uses, body_uses, RunsFor, RunsOverFor};
 
 use crate::printing::print;
 use crate::scope::{BoundRow, bound_to, values_now};
@@ -60,6 +61,7 @@ pub(crate) fn run_action<'a, 'b>(
     ensures runs { Runs result given.now (scope_of scope.now) values.now (λ start. done (named_act (act_of action.now)) start (scope_of scope.now)) work.old work.new }
     ensures reads { may_write (act_of action.now) ≡ false → work.new.view ≡ work.old.view }
     ensures known { work.new.view.base ≡ work.old.view.base }
+    ensures areas { RunsFor result given.now (scope_of scope.now) values.now (action_uses (act_of action.now) (scope_of scope.now)) work.old work.new }
 {
     match action {
         BoundAction::Print(items) => print(given, items.as_slice(), values, work),
@@ -106,6 +108,7 @@ fn run_over<'a, 'b>(
         (λ start. over (map (λ f. f.tuple) tuples.now) (λ ks. done_all (named_acts (acts_of (map act_of body.now))) start (bind_tuple (ranges_of ranges.now) ks (scope_of scope.now)))) work.old work.new }
     ensures reads { may_write_any (acts_of (map act_of body.now)) ≡ false → work.new.view ≡ work.old.view }
     ensures known { work.new.view.base ≡ work.old.view.base }
+    ensures areas { RunsOverFor result given.now (scope_of scope.now) (ranges_of ranges.now) tuples.now (body_uses (acts_of (map act_of body.now)) (bind_sources (ranges_of ranges.now) (scope_of scope.now))) work.old work.new }
 {
     let writing = any_writes(body);
     for found in tuples {
@@ -132,6 +135,7 @@ fn run_body<'a, 'b>(
     ensures runs { (seen : Values) → (writing ≡ false → seen ≡ values.now) → Runs result given.now (scope_of scope.now) seen (λ start. done_all (named_acts (acts_of (map act_of body.now))) start (scope_of scope.now)) work.old work.new }
     ensures reads { writing ≡ false → work.new.view ≡ work.old.view }
     ensures known { work.new.view.base ≡ work.old.view.base }
+    ensures areas { (seen : Values) → (writing ≡ false → seen ≡ values.now) → RunsFor result given.now (scope_of scope.now) seen (body_uses (acts_of (map act_of body.now)) (scope_of scope.now)) work.old work.new }
 {
     if writing {
         run_anew(given, scope, body, work)
@@ -153,6 +157,7 @@ fn run_anew<'a, 'b>(
     requires bound { AreBoundActs (acts_of (map act_of body.now)) given.now.schema.now.tables (variables_of (scope_of scope.now)) }
     ensures runs { (values : Values) → Runs result given.now (scope_of scope.now) values (λ start. done_all (named_acts (acts_of (map act_of body.now))) start (scope_of scope.now)) work.old work.new }
     ensures known { work.new.view.base ≡ work.old.view.base }
+    ensures areas { (values : Values) → RunsFor result given.now (scope_of scope.now) values (body_uses (acts_of (map act_of body.now)) (scope_of scope.now)) work.old work.new }
 {
     for action in body {
         let values = match values_now(given, &work.view, scope) {
@@ -179,6 +184,7 @@ fn run_reading<'a, 'b>(
     requires reading { may_write_any (acts_of (map act_of body.now)) ≡ false }
     ensures runs { Runs result given.now (scope_of scope.now) values.now (λ start. done_all (named_acts (acts_of (map act_of body.now))) start (scope_of scope.now)) work.old work.new }
     ensures reads { work.new.view ≡ work.old.view }
+    ensures areas { RunsFor result given.now (scope_of scope.now) values.now (body_uses (acts_of (map act_of body.now)) (scope_of scope.now)) work.old work.new }
 {
     for action in body {
         run_action(given, scope, values, action, work)?;

@@ -14,6 +14,7 @@ ghost use Rattle.rdo_values.specs.Places.{AreRanges};
 ghost use Rattle.rdo_select.specs.Crossed.{ranges_of};
 ghost use Rattle.rdo_acts.specs.Scopes.{scope_of, AreRowsOf, missing_values};
 ghost use Rattle.rdo_acts.specs.Ends.{GoTogether, Computes};
+ghost use Rattle.rdo_acts.specs.Areas.{ReadsIn, ReadsFor, scope_uses};
 
 use crate::work::Given;
 use line_view::{Never, Stop};
@@ -41,7 +42,8 @@ pub(crate) fn row_at(
     relation: &StoredRelation<'_>,
     key: Option<Dbkey>,
 ) -> Result<Option<Row>, Stop<Never>>
-    ensures { (all : Lines) (table : Table) → IsInOrder all → Agrees (knows_over view.now) all → HasRows all relation.now table → Computes result view.now (λ found. found ≡ option_and_then (λ k. find dbkey_order k table.rows) key) (λ never. ⊥) }
+    ensures row { (all : Lines) (table : Table) → IsInOrder all → Agrees (knows_over view.now) all → HasRows all relation.now table → Computes result view.now (λ found. found ≡ option_and_then (λ k. find dbkey_order k table.rows) key) (λ never. ⊥) }
+    ensures areas { ReadsIn (relation.now.area ∷ []) result }
 {
     let Some(at) = key else {
         return Ok(None);
@@ -67,7 +69,8 @@ pub(crate) fn missing_row(alloc: Global, width: usize) -> Result<Row, NoMemory>
 fn values_of(given: &Given<'_>, view: &Changed, variable: BoundRow<'_>) -> Result<Row, Stop<Never>>
     requires together { GoTogether given.now }
     requires row { AreRowsOf given.now.schema.now.tables (variable ∷ []) }
-    ensures { (first : Lines) (t : Kept) → IsSoundView view.now given.now.schema.now t first → Computes result view.now (λ values. values ≡ row_of t (scope_of (variable.entry ∷ []))) (λ never. ⊥) }
+    ensures values { (first : Lines) (t : Kept) → IsSoundView view.now given.now.schema.now t first → Computes result view.now (λ values. values ≡ row_of t (scope_of (variable.entry ∷ []))) (λ never. ⊥) }
+    ensures areas { (first : Lines) (t : Kept) → IsSoundView view.now given.now.schema.now t first → ReadsFor t (scope_uses (scope_of (variable.entry ∷ []))) result }
 {
     let Some(source) = given.sources.get(&variable.range.area) else {
         unreachable!();
@@ -87,7 +90,8 @@ pub(crate) fn values_now(
 ) -> Result<Row, Stop<Never>>
     requires together { GoTogether given.now }
     requires rows { AreRowsOf given.now.schema.now.tables scope.now }
-    ensures { (first : Lines) (t : Kept) → IsSoundView view.now given.now.schema.now t first → Computes result view.now (λ values. values ≡ row_of t (scope_of scope.now)) (λ never. ⊥) }
+    ensures values { (first : Lines) (t : Kept) → IsSoundView view.now given.now.schema.now t first → Computes result view.now (λ values. values ≡ row_of t (scope_of scope.now)) (λ never. ⊥) }
+    ensures areas { (first : Lines) (t : Kept) → IsSoundView view.now given.now.schema.now t first → ReadsFor t (scope_uses (scope_of scope.now)) result }
 {
     let mut values = Items::new(given.alloc);
     for variable in scope {

@@ -4,16 +4,18 @@ ghost use Rattle.std.specs.FinMap.Entries.{find};
 ghost use Rattle.rdb_types.specs.Order.{dbkey_order};
 ghost use Rattle.rdb_meaning.specs.declared.tables.Tables.{Tables as Kept};
 ghost use Rattle.rdb_meaning.specs.declared.tables.Relation.{Relation as Table};
+ghost use Rattle.rdb_meaning.specs.Checks.{act_uses};
 ghost use Rattle.rdb_meaning.specs.Contents.{Row as Values, relation_named};
 ghost use Rattle.rdb_meaning.specs.Execution.{modified, erased};
 ghost use Rattle.line_view.specs.Knowledge.{Lines};
 ghost use Rattle.rdo_values.specs.Rows.{variables_of};
-ghost use Rattle.rdo_bind.specs.Acting.{modify as modify_act, erase as erase_act, IsBoundAct};
+ghost use Rattle.rdo_bind.specs.Acting.{modify as modify_act, erase as erase_act, named_act, IsBoundAct};
 ghost use Rattle.rdo_bind.specs.Assigning.{written_assign};
 ghost use Rattle.row_writes.specs.Rows.{IsSoundView};
 ghost use Rattle.stored_schema.specs.Targets.{IsTargetIn};
 ghost use Rattle.rdo_acts.specs.Scopes.{scope_of, AreRowsOf};
 ghost use Rattle.rdo_acts.specs.Ends.{GoTogether, Computes, Runs};
+ghost use Rattle.rdo_acts.specs.Areas.{ReadsIn, RunsFor};
 
 use crate::assigning::assign_all;
 use crate::scope::{BoundRow, row_at};
@@ -31,8 +33,9 @@ fn row_now<'a>(
     work: &Work,
 ) -> Result<(TargetRelation<'a>, Option<Row>), Stop<Never>>
     requires { AreRowsOf given.now.schema.now.tables (variable ∷ []) }
-    ensures { (first : Lines) (t : Kept) (table : Table) → IsSoundView work.now.view given.now.schema.now t first → relation_named variable.entry.range.now.range.relation t ≡ Some table
+    ensures row { (first : Lines) (t : Kept) (table : Table) → IsSoundView work.now.view given.now.schema.now t first → relation_named variable.entry.range.now.range.relation t ≡ Some table
         → Computes result work.now.view (λ found. IsTargetIn given.now.schema.now t variable.entry.range.now.range.relation table found.0 × (found.1 ≡ option_and_then (λ k. find dbkey_order k table.rows) variable.entry.key)) (λ never. ⊥) }
+    ensures areas { (first : Lines) (t : Kept) (table : Table) → IsSoundView work.now.view given.now.schema.now t first → relation_named variable.entry.range.now.range.relation t ≡ Some table → ReadsIn (table.area ∷ []) result }
 {
     let Some(target) = given.schema.target(&variable.range.range.relation) else {
         unreachable!();
@@ -55,6 +58,7 @@ pub(crate) fn modify<'a>(
     requires bound { IsBoundAct (modify_act variable.now assigns.now) given.now.schema.now.tables (variables_of (scope_of scope.now)) }
     ensures runs { Runs result given.now (scope_of scope.now) values.now (λ start. modified variable.now.variable (map written_assign assigns.now) (scope_of scope.now)) work.old work.new }
     ensures known { work.new.view.base ≡ work.old.view.base }
+    ensures areas { RunsFor result given.now (scope_of scope.now) values.now (act_uses (named_act (modify_act variable.now assigns.now)) (scope_of scope.now)) work.old work.new }
 {
     let Some(bound) = scope.get(variable.number) else {
         unreachable!();
@@ -87,6 +91,7 @@ pub(crate) fn erase<'a>(
     requires bound { IsBoundAct (erase_act variable.now) given.now.schema.now.tables (variables_of (scope_of scope.now)) }
     ensures runs { (values : Values) → Runs result given.now (scope_of scope.now) values (λ start. erased variable.now.variable (scope_of scope.now)) work.old work.new }
     ensures known { work.new.view.base ≡ work.old.view.base }
+    ensures areas { (values : Values) → RunsFor result given.now (scope_of scope.now) values (act_uses (named_act (erase_act variable.now)) (scope_of scope.now)) work.old work.new }
 {
     let Some(bound) = scope.get(variable.number) else {
         unreachable!();

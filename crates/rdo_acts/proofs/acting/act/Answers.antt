@@ -1,6 +1,6 @@
 use Rattle.std.proofs.Common.{◌∙◌}
 use Rattle.rdo_bind.specs.Acting.{written_act}
-use Rattle.rdo_acts.proofs.ActEnds.{begun_base, act_done, act_stopped, finishes_ordered, finishes_named, stops_ordered, stops_named}
+use Rattle.rdo_acts.proofs.ActEnds.{begun_base, act_done, act_stopped, finishes_ordered, finishes_named, stops_ordered, stops_named, act_done_for, act_stopped_for}
 use Rattle.rdo_acts.proofs.acting.act.Goals as goal
 
 pub returns-in-Ok-clause-known : goal.returns-in-Ok-clause-known
@@ -34,3 +34,13 @@ returns-in-Err-clause-ordered c = stops_ordered c.abandoned.result.outcome c.in-
 
 pub returns-in-Err-clause-needs : goal.returns-in-Err-clause-needs
 returns-in-Err-clause-needs c = stops_named c.abandoned.result.outcome c.in-Err.stop c.begin.new.work.given c.abandoned.ensures.outcome
+
+pub returns-in-Ok-clause-areas : goal.returns-in-Ok-clause-areas
+returns-in-Ok-clause-areas c =
+    act_done_for c.args.given.now (written_act c.args.action.now) c.args.known c.new.result c.new-work.result c.new.ensures.value c.new.ensures.stands c.new-work.ensures
+    c.begin.new.work c.finished.result.outcome c.finished.ensures.outcome c.in-Ok.ensures.areas
+
+pub returns-in-Err-clause-areas : goal.returns-in-Err-clause-areas
+returns-in-Err-clause-areas c =
+    act_stopped_for c.args.given.now (written_act c.args.action.now) c.args.known c.new.result c.new-work.result c.new.ensures.value c.new.ensures.stands c.new-work.ensures
+    c.begin.new.work c.abandoned.result.outcome c.in-Err.stop c.abandoned.ensures.outcome c.in-Err.ensures.areas

@@ -3,3 +3,6 @@ use Rattle.rdo_acts.proofs.acting.begin.Goals as goal
 
 pub returns-clause-runs : goal.returns-clause-runs
 returns-clause-runs c all t holds = c.run_action.ensures.runs all t t holds (sym c.new-values.ensures)
+
+pub returns-clause-areas : goal.returns-clause-areas
+returns-clause-areas c all t holds = c.run_action.ensures.areas all t t holds (sym c.new-values.ensures)

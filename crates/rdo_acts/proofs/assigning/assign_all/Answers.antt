@@ -1,4 +1,4 @@
-use Rattle.std.proofs.Common.{List, map, refl, sym, subst, ◌∙◌}
+use Rattle.std.proofs.Common.{List, map, refl, sym, subst, ◌∙◌, [], ◌∷◌}
 use Rattle.std.proofs.lemmas.List.{at_drop_all}
 use Rattle.std.proofs.lemmas.Result.{err_from_is_err_and}
 use Rattle.rdb_meaning.specs.Execution.{assign}
@@ -10,13 +10,15 @@ use Rattle.rdo_bind.specs.Assigning.{written_assign, IsBoundAssign}
 use Rattle.rdo_acts.specs.Ends.{reply_of, IsUnassigned}
 use Rattle.rdo_acts.proofs.Stopping.{stops_so}
 use Rattle.rdo_acts.proofs.RowAssigned.{alone, assign_goes, assign_ends}
+use Rattle.rdb_meaning.specs.Checks.{assignments_uses}
+use Rattle.rdo_acts.proofs.UsesWithin.{assign_within, reads_within}
 use Rattle.rdo_acts.proofs.assigning.assign_all.Goals as goal
 
 pub loop-assign-init : goal.loop-assign-init
 loop-assign-init c = λ first t scope sound are same. refl
 
-pub returns-in_err-assign_one : goal.returns-in_err-assign_one
-returns-in_err-assign_one c = λ first t scope sound are same.
+pub returns-in_err-assign_one-clause-assigns : goal.returns-in_err-assign_one-clause-assigns
+returns-in_err-assign_one-clause-assigns c = λ first t scope sound are same.
     let p = err_from_is_err_and c.from_residual.result c.from_residual.ensures.1 in
     let i = c.loop-assign.assign-index in
     let x = c.assign-item.result in
@@ -25,7 +27,7 @@ returns-in_err-assign_one c = λ first t scope sound are same.
     rw (p.1, p.2)
     (stops_so (Lacks (knows c.args.view.now.base)) (λ key. ⊥) (λ refusal. IsUnassigned (reply_of refusal) (alone x c.args.fields.now t scope c.loop-assign.row)) (λ refusal. IsUnassigned (reply_of refusal) whole)
     (λ refusal is. assign_ends c.args.assigns.now i x c.args.fields.now t scope c.loop-assign.row c.loop-assign-test.true c.assign-item.is (reply_of refusal) whole (c.loop-assign.invariant first t scope sound are same) is)
-    c.in_err-assign_one.field-0.0 (c.in_err-assign_one.ensures first t scope sound bound same))
+    c.in_err-assign_one.field-0.0 (c.in_err-assign_one.ensures.assigns first t scope sound bound same))
 
 pub loop-assign-preserved : goal.loop-assign-preserved
 loop-assign-preserved c = λ first t scope sound are same.
@@ -33,9 +35,19 @@ loop-assign-preserved c = λ first t scope sound are same.
     let x = c.assign-item.result in
     let bound = subst (IsBoundAssign t (variables_of scope)) (sym c.assign-item.is) (are i x c.loop-assign-test.true) in
     c.loop-assign.invariant first t scope sound are same
-    ∙ assign_goes c.args.assigns.now i x c.args.fields.now t scope c.loop-assign.row c.loop-assign-test.true c.assign-item.is c.assign_one.new.row (c.in_ok-assign_one.ensures first t scope sound bound same)
+    ∙ assign_goes c.args.assigns.now i x c.args.fields.now t scope c.loop-assign.row c.loop-assign-test.true c.assign-item.is c.assign_one.new.row (c.in_ok-assign_one.ensures.assigns first t scope sound bound same)
 
-pub returns : goal.returns
-returns c = λ first t scope sound are same.
+pub returns-clause-assigns : goal.returns-clause-assigns
+returns-clause-assigns c = λ first t scope sound are same.
     c.loop-assign.invariant first t scope sound are same
     ∙ at_drop_all (λ (l : List BoundAssign). assign (map written_assign l) c.args.fields.now t scope c.loop-assign.row) c.args.assigns.now c.loop-assign.assign-index c.loop-assign-test.false
+
+pub returns-in_err-assign_one-clause-areas : goal.returns-in_err-assign_one-clause-areas
+returns-in_err-assign_one-clause-areas c = λ first t scope sound are same.
+    let p = err_from_is_err_and c.from_residual.result c.from_residual.ensures.1 in
+    let i = c.loop-assign.assign-index in
+    let x = c.assign-item.result in
+    let bound = subst (IsBoundAssign t (variables_of scope)) (sym c.assign-item.is) (are i x c.loop-assign-test.true) in
+    rw (p.1, p.2)
+    (reads_within t (assignments_uses (written_assign x ∷ [])) (assignments_uses (map written_assign c.args.assigns.now)) (assign_within t c.args.assigns.now i x c.loop-assign-test.true c.assign-item.is) c.in_err-assign_one.field-0.0
+    (c.in_err-assign_one.ensures.areas first t scope sound bound same))
