@@ -13,18 +13,19 @@ use Rattle.line_view.specs.Knowledge.{Lines}
 use Rattle.catalog.specs.declared.reading.Catalog.{Catalog}
 use Rattle.sound_changes.specs.Standing.{IsSoundAs}
 use Rattle.rdo_select.specs.Sources.{Listed, source_at, AreSourcesOf}
-use Rattle.statement_sources.specs.Sources.{AreOfTables}
+use Rattle.statement_sources.specs.Sources.{AreOfTables, AreIndexed}
 use Rattle.session_jobs.specs.declared.jobs.Found.{Found}
 use Rattle.session_jobs.specs.declared.jobs.Found.TheVariants as found
 use Rattle.rdo_acts.specs.declared.acting.Outcome.{Outcome}
 use Rattle.rdo_acts.specs.declared.acting.Outcome.TheVariants.{Done, Refused, Missing, Bad, NoMemory}
 use Rattle.rdo_acts.specs.Ends.{reply_of}
 
--- Over each map that is sound with the catalog, these are the sources of its tables, and no others.
+-- Over each map that is sound with the catalog, these are the sources of its tables, and no others; each has the indexes of the catalog.
 pub record AreTogether (c : Catalog) (sources : Listed) : Type 0 where
   pub present : (n : Name) (rel : Relation) → relation_named n c.tables ≡ Some rel → IsSome (source_at rel.area sources)
   pub tables : (all : Lines) (t : Tables) → IsSoundAs all c t → AreSourcesOf all t sources
   pub only : (all : Lines) (t : Tables) → IsSoundAs all c t → AreOfTables all t sources
+  pub indexed : AreIndexed c sources
 
 -- the record of an action that was refused on the way; none where the refusal has no reply
 abbrev pub found_refused : Option Reply → List Dbkey → Standing → Found

@@ -4,7 +4,7 @@ use Rattle.rdo_exec.proofs.RightRecords.{comes_of}
 use Rattle.rdo_exec.proofs.acting.run_from.Goals as goal
 
 pub act-known-requires-clause-together : goal.act-known-requires-clause-together
-act-known-requires-clause-together c = record { tables = c.requires.together.tables; only = c.requires.together.only; present = c.requires.together.present }
+act-known-requires-clause-together c = record { tables = c.requires.together.tables; only = c.requires.together.only; indexed = c.requires.together.indexed; present = c.requires.together.present }
 
 pub returns-clause-comes : goal.returns-clause-comes
 returns-clause-comes c = λ word standing free is.
