@@ -1,0 +1,15 @@
+pub mod Answered
+pub mod Answering
+pub mod RightRecords
+pub mod Definitions
+pub mod Checked
+pub mod Starting
+pub mod NamedRelations
+pub mod BareActions
+pub mod Locks
+pub mod Alone
+pub mod Needs
+pub mod Areas
+pub mod FreeArea
+pub mod Viewing
+pub mod Bound

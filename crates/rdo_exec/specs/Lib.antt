@@ -1,0 +1,6 @@
+pub mod Answers
+pub mod Ways
+pub mod Coming
+pub mod Acted
+pub mod Defined
+pub mod Areas

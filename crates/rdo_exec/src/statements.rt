@@ -1,0 +1,220 @@
+// Who works statements over lines.
+ghost use Rattle.std.specs.Prelude.{◌≡◌, ℕ, List, None};
+ghost use Rattle.rdo_ast.specs.Tree.{said};
+ghost use Rattle.rdo_ast.specs.Views.{command_of, uttered_of};
+ghost use Rattle.rdo_ast.specs.declared.reply.Standing.TheVariants.{Closed as closed};
+ghost use Rattle.rdb_meaning.specs.Meaning.{standing_refusal};
+ghost use Rattle.rdb_account.specs.Lawful.{first_refusal as refusal_first};
+ghost use Rattle.rdb_account.specs.Places.{begins};
+ghost use Rattle.line_view.specs.Held.{knows};
+ghost use Rattle.catalog.specs.Reading.{IsWhole};
+ghost use Rattle.sound_maps.specs.Maps.{IsSoundWith};
+ghost use Rattle.session_jobs.specs.Jobs.{IsFound, NamesNoNeed};
+ghost use Rattle.rdo_exec.specs.Answers.{IsAnswered};
+ghost use Rattle.rdo_exec.specs.Ways.{IsBare, IsReserving, IsViewing};
+ghost use Rattle.rdo_exec.specs.Coming.{IsCatalogOfKnown, IsKept, Asks, AsksBy, Comes};
+
+use crate::acting::act_by;
+use crate::asked::asked;
+use crate::bare::act_bare;
+use crate::defining::{define_by, reserve};
+use crate::plain::plain;
+use crate::records::{Returned, answered_by, stopped};
+use crate::schema::schema_of;
+use crate::standing::first_refusal;
+use crate::way::{Way, way_of};
+use line_view::Known;
+use rdb_types::{Copied, Word};
+use rdo_ast::reply::Standing;
+use rdo_ast::syntax::{Item, Statement};
+use session_jobs::{Answer, Found, Job, Statements};
+use std::alloc::Global;
+use stored_schema::Schema;
+
+/// It works each statement over the lines that it reads, and over no others.
+#[derive(Drop)]
+pub struct RdoStatements {}
+
+// An action that means the same over all tables.
+fn bare(alloc: Global, standing: &Standing, statement: &Statement) -> Found
+    requires { IsBare (command_of statement.now) }
+    ensures { (word : List ℕ) → IsAnswered word standing.now (said (command_of statement.now)) result }
+{
+    match statement {
+        Statement::Act(action) => act_bare(alloc, standing, action),
+        _ => Found::Unworked,
+    }
+}
+
+// START_TRANSACTION with reservations, which the transaction that is open doesn't refuse.
+fn reserving(alloc: Global, standing: &Standing, statement: &Statement, known: &Known) -> Found
+    requires way { IsReserving (command_of statement.now) }
+    requires standing { standing_refusal (command_of statement.now) standing.now ≡ None }
+    ensures asked { Asks standing.now (said (command_of statement.now)) (knows known.now) result }
+    ensures comes { (word : List ℕ) → Comes word standing.now (said (command_of statement.now)) (knows known.now) result }
+{
+    match statement {
+        Statement::StartReadWrite { wait, reserved } => reserve(alloc, known, *wait, reserved),
+        _ => Found::Unworked,
+    }
+}
+
+// Works a statement by the catalog that is known.
+fn work_by(
+    alloc: Global,
+    schema: &Schema,
+    standing: &Standing,
+    statement: &Statement,
+    known: Known,
+) -> Returned
+    requires catalog { IsCatalogOfKnown (knows known) schema.now }
+    requires whole { IsWhole schema.now }
+    requires way { IsViewing (command_of statement.now) }
+    requires standing { standing_refusal (command_of statement.now) standing.now ≡ None }
+    ensures known { result.known ≡ known }
+    ensures comes { (word : List ℕ) → Comes word standing.now (said (command_of statement.now)) (knows known) result.found }
+{
+    match statement {
+        Statement::Act(action) => act_by(alloc, schema, standing, action, known),
+        _ => define_by(alloc, schema, standing, statement, known),
+    }
+}
+
+// What was found, where a read-write transaction may ask for the locks of it.
+fn locked(
+    alloc: Global,
+    schema: &Schema,
+    standing: &Standing,
+    statement: &Statement,
+    found: Found,
+) -> Found
+    requires way { IsViewing (command_of statement.now) }
+    requires standing { standing_refusal (command_of statement.now) standing.now ≡ None }
+    ensures kept { IsKept found result }
+    ensures asked { AsksBy standing.now (said (command_of statement.now)) schema.now result }
+{
+    match standing {
+        Standing::ReadWrite { .. } => asked(alloc, schema, statement, found),
+        Standing::Closed => found,
+        Standing::ReadOnly => found,
+    }
+}
+
+// Works a statement over a view of its own.
+fn viewed(alloc: Global, standing: &Standing, statement: &Statement, known: Known) -> Returned
+    requires way { IsViewing (command_of statement.now) }
+    requires standing { standing_refusal (command_of statement.now) standing.now ≡ None }
+    ensures known { result.known ≡ known }
+    ensures asked { Asks standing.now (said (command_of statement.now)) (knows known) result.found }
+    ensures comes { (word : List ℕ) → Comes word standing.now (said (command_of statement.now)) (knows known) result.found }
+{
+    let schema = match schema_of(alloc, &known) {
+        Ok(schema) => schema,
+        Err(stop) => {
+            return Returned {
+                known,
+                found: stopped(alloc, stop),
+            };
+        }
+    };
+    let Returned { known, found } = work_by(alloc, &schema, standing, statement, known);
+    let found = locked(alloc, &schema, standing, statement, found);
+    Returned { known, found }
+}
+
+// Works a statement that the transaction that is open doesn't refuse.
+fn work_statement(
+    alloc: Global,
+    word: &Word,
+    standing: &Standing,
+    statement: &Statement,
+    known: Known,
+) -> Returned
+    requires { standing_refusal (command_of statement.now) standing.now ≡ None }
+    ensures known { result.known ≡ known }
+    ensures asked { Asks standing.now (said (command_of statement.now)) (knows known) result.found }
+    ensures comes { Comes word.now standing.now (said (command_of statement.now)) (knows known) result.found }
+    ensures outside { standing.now ≡ closed → begins (said (command_of statement.now)) ≡ None → NamesNoNeed result.found }
+{
+    match way_of(statement) {
+        Way::Acting => viewed(alloc, standing, statement, known),
+        Way::Defining => viewed(alloc, standing, statement, known),
+        Way::Plain => Returned {
+            known,
+            found: plain(alloc, word, standing, statement),
+        },
+        Way::Bare => Returned {
+            known,
+            found: bare(alloc, standing, statement),
+        },
+        Way::Reserving => {
+            let found = reserving(alloc, standing, statement, &known);
+            Returned { known, found }
+        }
+        Way::Strange => Returned {
+            known,
+            found: Found::Unworked,
+        },
+    }
+}
+
+// Works an item that the transaction that is open doesn't refuse.
+fn work_on(alloc: Global, word: &Word, standing: &Standing, item: &Item, known: Known) -> Returned
+    requires { refusal_first standing.now (uttered_of item.now) ≡ None }
+    ensures known { result.known ≡ known }
+    ensures asked { Asks standing.now (uttered_of item.now) (knows known) result.found }
+    ensures comes { Comes word.now standing.now (uttered_of item.now) (knows known) result.found }
+    ensures outside { standing.now ≡ closed → begins (uttered_of item.now) ≡ None → NamesNoNeed result.found }
+{
+    match item {
+        Item::Statement(statement) => work_statement(alloc, word, standing, statement, known),
+        Item::SyntaxAt { .. } => unreachable!(),
+    }
+}
+
+// Works an item: what the transaction that is open refuses comes first.
+fn worked(alloc: Global, word: &Word, standing: &Standing, item: &Item, known: Known) -> Returned
+    ensures known { result.known ≡ known }
+    ensures right { IsFound IsSoundWith word.now standing.now (uttered_of item.now) (knows known) result.found }
+    ensures outside { standing.now ≡ closed → begins (uttered_of item.now) ≡ None → NamesNoNeed result.found }
+{
+    match first_refusal(standing, item) {
+        Some(reply) => Returned {
+            known,
+            found: answered_by(alloc, Ok(reply), standing.copied(alloc)),
+        },
+        None => work_on(alloc, word, standing, item, known),
+    }
+}
+
+impl Statements for RdoStatements {
+    ghost use Rattle.sound_maps.specs.Maps.{IsSoundWith};
+    ghost use Rattle.sound_maps.specs.Laws.{orderly, empty};
+
+    ghost stands = { IsSoundWith };
+
+    fn work(job: Job) -> Answer {
+        let Job {
+            alloc,
+            word,
+            standing,
+            item,
+            known,
+        } = job;
+        let Returned { known, found } = worked(alloc, &word, &standing, &item, known);
+        Answer {
+            job: Job {
+                alloc,
+                word,
+                standing,
+                item,
+                known,
+            },
+            found,
+        }
+    }
+
+    ghost orderly = { orderly };
+
+    ghost empty = { empty };
+}
