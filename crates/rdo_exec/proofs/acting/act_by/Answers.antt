@@ -7,7 +7,6 @@ use Rattle.line_view.specs.Held.{knows}
 use Rattle.rdo_exec.specs.Coming.{Comes, ActAsks}
 use Rattle.rdo_exec.proofs.RightRecords.{barred_by}
 use Rattle.rdo_exec.proofs.Answered.{answer_asks}
-use Rattle.session_jobs.specs.declared.jobs.Found.{Found}
 use Rattle.rdo_exec.proofs.acting.act_by.Goals as goal
 
 pub returns-in-Ok-clause-comes : goal.returns-in-Ok-clause-comes
