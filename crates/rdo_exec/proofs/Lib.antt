@@ -9,7 +9,6 @@ pub mod BareActions
 pub mod Locks
 pub mod Alone
 pub mod Needs
-pub mod Areas
-pub mod FreeArea
+pub mod Asking
 pub mod Viewing
 pub mod Bound

@@ -1,17 +1,18 @@
 -- That an item may ask for the locks of what its work came to.
-use Rattle.std.proofs.Common.{◌≡◌, inl, inr, ◌==◌, ℕ, Bool, true, false, cond, List, [], ◌∷◌, ◌++◌, Some, None, refl, sym, ap, subst, ◌∙◌}
-use Rattle.std.specs.List.{AllByRecursion}
-use Rattle.std.proofs.lemmas.Bool.{true≢false}
+use Rattle.std.proofs.Common.{◌≡◌, inl, inr, ◌==◌, ℕ, true, false, cond, List, [], ◌∷◌, ◌++◌, Option, Some, None, refl, sym, ap, subst, ◌∙◌}
+use Rattle.std.specs.List.{All, AllByRecursion}
+use Rattle.std.specs.FinMap.Entries.{find}
+use Rattle.std.proofs.lemmas.List.Elements.{recursion_from_All}
 use Rattle.rdb_types.specs.declared.keys.Dbkey.{Dbkey}
+use Rattle.rdb_types.specs.Order.{chars_order}
+use Rattle.rdo_ast.specs.declared.reply.Reply.{Reply}
 use Rattle.rdo_ast.specs.declared.reply.Standing.{Standing}
-use Rattle.rdo_ast.specs.declared.reply.Standing.TheVariants.{Closed, ReadOnly}
-use Rattle.rdo_ast.specs.Tree.{Command, Uttered, said, invoke, start_read_only, start_read_write, commit, rollback, finish, perform, define_field, define_relation, define_index, delete_relation, delete_index}
+use Rattle.rdo_ast.specs.Tree.{Act, Command, Uttered, said, invoke, start_read_only, start_read_write, commit, rollback, finish, perform, define_field, define_relation, define_index, delete_relation, delete_index}
 use Rattle.rdb_meaning.specs.declared.tables.Tables.{Tables}
-use Rattle.rdb_meaning.specs.Checks.{Refusal, is_retrieval}
-use Rattle.rdb_meaning.specs.Meaning.{standing_refusal}
-use Rattle.vms_queues.specs.declared.lock_mode.Mode.TheVariants.{PR, EX}
-use Rattle.lock_needs.specs.declared.need.Need.{Need as LockNeed}
-use Rattle.rdb_account.specs.AskedFor.{area_node, is_need, is_on_line_of, item_asks}
+use Rattle.rdb_meaning.specs.Checks.{Use, use_of, act_uses}
+use Rattle.rdb_meaning.specs.Meaning.{standing_refusal, index_uses}
+use Rattle.vms_queues.specs.declared.lock_mode.Mode.TheVariants.{PR}
+use Rattle.rdb_account.specs.AskedFor.{area_node, is_need, is_on_line_of}
 use Rattle.line_view.specs.declared.need.Need.{Need}
 use Rattle.line_view.specs.declared.need.Need.TheVariants.{Line, Area, Room}
 use Rattle.line_view.specs.declared.stop.Stop.{Stop}
@@ -23,44 +24,26 @@ use Rattle.line_view.specs.Stops.{Lacks}
 use Rattle.catalog.specs.declared.reading.Catalog.{Catalog}
 use Rattle.catalog.specs.Reading.{line_keys, ReadsTo, StopsCatalog}
 use Rattle.catalog_definitions.proofs.FreeAreas.{eq_is}
-use Rattle.sound_changes.specs.Standing.{IsSoundAs}
+use Rattle.sound_changes.proofs.Basics.{all_of}
+use Rattle.statement_view.specs.Areas.{is_among, IsNeedOf}
+use Rattle.row_writes.proofs.AreaLists.{one_more_area, need_wider}
 use Rattle.view_stages.proofs.Ending.{begins}
+use Rattle.used_areas.specs.Areas.{areas_read, areas_changed}
+use Rattle.asked_areas.proofs.Jobs.{action_asks, action_writes, definition_asks_for, index_asks}
+use Rattle.rdo_acts.specs.declared.acting.Outcome.{Outcome}
+use Rattle.rdo_acts.specs.declared.acting.Outcome.TheVariants.{Done, Refused, Missing, Bad, NoMemory}
+use Rattle.rdo_acts.specs.Ends.{reply_of}
+use Rattle.rdo_acts.specs.Areas.{IsFor, StaysFor}
 use Rattle.sound_maps.specs.Maps.{IsSoundWith}
 use Rattle.session_jobs.specs.declared.jobs.Found.{Found}
 use Rattle.session_jobs.specs.declared.jobs.Found.TheVariants as found
-use Rattle.session_jobs.specs.Asked.{is_writing_kind, locks, area_mode, is_lock_for, AsksFor}
+use Rattle.session_jobs.specs.Asked.{area_mode, is_lock_for, AsksFor}
 use Rattle.session_jobs.specs.Jobs.{IsFound, IsLacking, AreAsked}
 use Rattle.rdo_exec.specs.Answers.{found_of_stop, IsAnswered}
-use Rattle.rdo_exec.specs.Ways.{IsViewing}
-use Rattle.rdo_exec.specs.Coming.{IsCatalogOfKnown, Comes, AsksIn, Asks, AsksBy, IsKept}
-use Rattle.rdo_exec.specs.Areas.{CommandAsks, AreTaken, AreWritten, MayAsk}
-use Rattle.rdo_exec.proofs.Answered.{says_nothing}
-use Rattle.rdo_exec.proofs.Areas.{catalog_asked}
-
--- ---- no locks
-
-retrieves : (b : Bool) → is_writing_kind (cond b (Some ReadOnly) None) ≡ false
-retrieves true = refl
-retrieves false = refl
-
-takes_none : (standing : Standing) (item : Uttered) (t : Tables) (these : LockNeed → Bool) → locks standing item ≡ false → AsksFor standing item t these
-takes_none standing item t these free = λ takes. absurd (true≢false (sym takes ∙ free))
-
-no_needs : (standing : Standing) (item : Uttered) (t : Tables) (needs : List Need) → locks standing item ≡ false → AllByRecursion (λ need. AsksFor standing item t (is_lock_for item need)) needs
-no_needs standing item t [] free = tt
-no_needs standing item t (n ∷ ns) free = (takes_none standing item t (is_lock_for item n) free, no_needs standing item t ns free)
-
-no_writes : (standing : Standing) (item : Uttered) (t : Tables) (ws : List Write) → locks standing item ≡ false → AreAsked standing item ws t
-no_writes standing item t [] free = tt
-no_writes standing item t (w ∷ ws) free = (takes_none standing item t (is_on_line_of w.key.area EX) free, no_writes standing item t ws free)
-
--- an item that takes no locks
-pub free_asks : (standing : Standing) (item : Uttered) (f : Found) (t : Tables) → locks standing item ≡ false → AsksIn standing item f t
-free_asks standing item (found.Done r) t free = no_writes standing item t r.writes free
-free_asks standing item (found.Missing next later) t free = no_needs standing item t (next ∷ later) free
-free_asks standing item (found.Bad key) t free = tt
-free_asks standing item found.Unworked t free = tt
-free_asks standing item found.NoMemory t free = tt
+use Rattle.rdo_exec.specs.Ways.{names_any, IsViewing}
+use Rattle.rdo_exec.specs.Coming.{IsCatalogOfKnown, Comes, AsksIn, Asks, ActAsks}
+use Rattle.rdo_exec.specs.Acted.{found_refused, IsFoundOf}
+use Rattle.rdo_exec.specs.Areas.{FoundIn}
 
 -- ---- what reads no lines
 
@@ -103,52 +86,59 @@ unread_asks standing item known (stop.Own never) asks h = elim never [ ]
 
 -- ---- statements over a view
 
-asks_so : (standing : Standing) (command : Command) (t : Tables) (these : LockNeed → Bool) → standing_refusal command standing ≡ None → CommandAsks command t these → AsksFor standing (said command) t these
-asks_so standing command t these none asks = λ takes lock is. ap (λ (o : Refusal). item_asks o t lock (said command)) none ∙ asks lock is
+some_use : (us : List Use) → names_any us ≡ true → (u : Use) × (rest : List Use) × (us ≡ u ∷ rest)
+some_use [] names = let bad : ⊥ = cc in absurd bad
+some_use (u ∷ us) names = (u, us, refl)
 
+-- each reads the catalog
 pub catalog_asks : (standing : Standing) (command : Command) (t : Tables) → standing_refusal command standing ≡ None → IsViewing command → AsksFor standing (said command) t (is_need (area_node 1) (area_mode (said command) 1))
-catalog_asks standing command t none way = asks_so standing command t (is_need (area_node 1) (area_mode (said command) 1)) none (catalog_asked command t way)
+catalog_asks standing (perform a) t none way = let some = some_use (act_uses a []) way in action_asks standing a t some.0 some.1 (Area 1) none some.2 refl
+catalog_asks standing (define_field n type) t none way = definition_asks_for standing (define_field n type) t [] (Area 1) none refl (λ lock. refl) refl
+catalog_asks standing (define_relation n fs) t none way = definition_asks_for standing (define_relation n fs) t [] (Area 1) none refl (λ lock. refl) refl
+catalog_asks standing (define_index d) t none way = index_asks standing d t (Area 1) none refl
+catalog_asks standing (delete_relation n) t none way = definition_asks_for standing (delete_relation n) t (use_of true n ∷ []) (Area 1) none refl (λ lock. refl) refl
+catalog_asks standing (delete_index n) t none way = definition_asks_for standing (delete_index n) t (index_uses (find chars_order n t.indexes) t) (Area 1) none refl (λ lock. refl) refl
+catalog_asks standing (invoke text) t none way = absurd way
+catalog_asks standing start_read_only t none way = absurd way
+catalog_asks standing (start_read_write wait rs) t none way = absurd way
+catalog_asks standing commit t none way = absurd way
+catalog_asks standing rollback t none way = absurd way
+catalog_asks standing finish t none way = absurd way
 
-taken_asks : (standing : Standing) (command : Command) (c : Catalog) (all : Lines) (t : Tables) (needs : List Need) → standing_refusal command standing ≡ None → IsSoundAs all c t → AreTaken c command needs →
-    AllByRecursion (λ need. AsksFor standing (said command) t (is_lock_for (said command) need)) needs
-taken_asks standing command c all t [] none sound may = tt
-taken_asks standing command c all t (n ∷ ns) none sound may = (asks_so standing command t (is_lock_for (said command) n) none (may.0 all t sound), taken_asks standing command c all t ns none sound may.1)
+-- needs and writes that are asked for by their areas
+pub found_asks : (standing : Standing) (item : Uttered) (t : Tables) (read changed : List ℕ) (f : Found) → ((need : Need) → IsNeedOf read changed need → AsksFor standing item t (is_lock_for item need)) →
+    ((writes : List Write) → AllByRecursion (λ (w : Write). is_among changed w.key.area ≡ true) writes → AreAsked standing item writes t) → FoundIn read changed f → AsksIn standing item f t
+found_asks standing item t read changed (found.Done r) needs writes stays = writes r.writes stays
+found_asks standing item t read changed (found.Missing next later) needs writes stays = all_of (IsNeedOf read changed) (λ (need : Need). AsksFor standing item t (is_lock_for item need)) needs (next ∷ later) stays
+found_asks standing item t read changed (found.Bad key) needs writes stays = tt
+found_asks standing item t read changed found.Unworked needs writes stays = tt
+found_asks standing item t read changed found.NoMemory needs writes stays = tt
 
-written_asks : (standing : Standing) (command : Command) (c : Catalog) (all : Lines) (t : Tables) (ws : List Write) → standing_refusal command standing ≡ None → IsSoundAs all c t → AreWritten c command ws → AreAsked standing (said command) ws t
-written_asks standing command c all t [] none sound may = tt
-written_asks standing command c all t (w ∷ ws) none sound may = (asks_so standing command t (is_on_line_of w.key.area EX) none (may.0 all t sound), written_asks standing command c all t ws none sound may.1)
+-- ---- actions
 
-pub may_asks : (standing : Standing) (command : Command) (c : Catalog) (f : Found) → standing_refusal command standing ≡ None → MayAsk c command f → AsksBy standing (said command) c f
-may_asks standing command c (found.Done r) none may = λ all t sound. written_asks standing command c all t r.writes none sound may
-may_asks standing command c (found.Missing next later) none may = λ all t sound. taken_asks standing command c all t (next ∷ later) none sound may
-may_asks standing command c (found.Bad key) none may = λ all t sound. tt
-may_asks standing command c found.Unworked none may = λ all t sound. tt
-may_asks standing command c found.NoMemory none may = λ all t sound. tt
+module _ (read changed : List ℕ) (behind : Standing) where
+  refused_stays : (o : Option Reply) (given : List Dbkey) → FoundIn read changed (found_refused o given behind)
+  refused_stays (Some reply) given = tt
+  refused_stays None given = tt
 
-pub asks_known : (standing : Standing) (item : Uttered) (known : Knowledge) (c : Catalog) (f : Found) → IsCatalogOfKnown known c → AsksBy standing item c f → Asks standing item known f
-asks_known standing item known c f decodes asks = λ all t sound agrees. asks all t (begins known c all t sound.0 agrees (decodes all agrees) sound.1 sound.2)
+acted_stays : (us : List Use) (t : Tables) (behind : Standing) (outcome : Outcome) (f : Found) → IsFoundOf outcome behind f → IsFor outcome us t → FoundIn (areas_read t us) (areas_changed t us) f
+acted_stays us t behind (Done acted) f is stays = subst (FoundIn (areas_read t us) (areas_changed t us)) (sym is) stays
+acted_stays us t behind (Refused refusal given) f (inl is) stays = subst (FoundIn (areas_read t us) (areas_changed t us)) (sym is) (refused_stays (areas_read t us) (areas_changed t us) behind (reply_of refusal) given)
+acted_stays us t behind (Refused refusal given) f (inr is) stays = subst (FoundIn (areas_read t us) (areas_changed t us)) (sym is) tt
+acted_stays us t behind (Missing needs) f is stays =
+    subst (FoundIn (areas_read t us) (areas_changed t us)) (sym is.is)
+    (recursion_from_All (IsNeedOf (areas_read t us) (areas_changed t us)) (is.next ∷ is.later) (subst (λ (ns : List Need). All (IsNeedOf (areas_read t us) (areas_changed t us)) ns) is.all stays))
+acted_stays us t behind (Bad key) f is stays = subst (FoundIn (areas_read t us) (areas_changed t us)) (sym is) tt
+acted_stays us t behind NoMemory f is stays = subst (FoundIn (areas_read t us) (areas_changed t us)) (sym is) tt
 
--- outside a read-write transaction a statement over a view takes no locks
-pub closed_free : (command : Command) → standing_refusal command Closed ≡ None → IsViewing command → locks Closed (said command) ≡ false
-closed_free (perform a) none way = retrieves (is_retrieval a)
-closed_free (define_field n type) none way = let bad : ⊥ = cc in absurd bad
-closed_free (define_relation n fs) none way = let bad : ⊥ = cc in absurd bad
-closed_free (define_index d) none way = let bad : ⊥ = cc in absurd bad
-closed_free (delete_relation n) none way = let bad : ⊥ = cc in absurd bad
-closed_free (delete_index n) none way = let bad : ⊥ = cc in absurd bad
-closed_free (invoke text) none way = absurd way
-closed_free start_read_only none way = absurd way
-closed_free (start_read_write wait rs) none way = absurd way
-closed_free commit none way = absurd way
-closed_free rollback none way = absurd way
-closed_free finish none way = absurd way
-
-pub closed_asks : (standing : Standing) (command : Command) (c : Catalog) (f : Found) → standing ≡ Closed → standing_refusal command standing ≡ None → IsViewing command → AsksBy standing (said command) c f
-closed_asks standing command c f shut none way = λ all t sound.
-    free_asks standing (said command) f t (ap (λ s. locks s (said command)) shut ∙ closed_free command (ap (standing_refusal command) (sym shut) ∙ none) way)
-
-pub read_only_asks : (standing : Standing) (command : Command) (c : Catalog) (f : Found) → standing ≡ ReadOnly → AsksBy standing (said command) c f
-read_only_asks standing command c f reads = λ all t sound. free_asks standing (said command) f t (ap (λ s. locks s (said command)) reads)
+pub acted_asks : (a : Act) (c : Catalog) (known : Knowledge) (behind : Standing) → IsCatalogOfKnown known c → (outcome : Outcome) (f : Found) → IsFoundOf outcome behind f → StaysFor outcome a known c → ActAsks a known f
+acted_asks a c known behind decodes outcome f is stays standing none names = λ all t sound agrees.
+    let us = act_uses a [] in
+    let some = some_use us names in
+    found_asks standing (said (perform a)) t (areas_read t us) (areas_changed t us) f
+    (λ need of. action_asks standing a t some.0 some.1 need none some.2 (need_wider (areas_read t us) (areas_changed t us) (1 ∷ areas_read t us) (areas_changed t us) (one_more_area 1 (areas_read t us)) (λ area h. h) need of))
+    (λ writes each. action_writes standing a t writes none each)
+    (acted_stays us t behind outcome f is (stays all t agrees (begins known c all t sound.0 agrees (decodes all agrees) sound.1 sound.2)))
 
 -- ---- all together
 
@@ -162,7 +152,3 @@ found_by word standing item known (found.Missing next later) asks h = λ all t s
 found_by word standing item known (found.Bad key) asks h = λ all t sound agrees. h.over all t sound agrees
 found_by word standing item known found.Unworked asks h = tt
 found_by word standing item known found.NoMemory asks h = tt
-
-pub kept_comes : (word : List ℕ) (standing : Standing) (item : Uttered) (known : Knowledge) (f kept : Found) → IsKept f kept → Comes word standing item known f → Comes word standing item known kept
-kept_comes word standing item known f kept (inl same) h = subst (λ (x : Found). Comes word standing item known x) (sym same) h
-kept_comes word standing item known f kept (inr nothing) h = says_nothing word standing item known kept nothing

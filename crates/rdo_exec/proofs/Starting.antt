@@ -1,6 +1,6 @@
 -- START_TRANSACTION with reservations, and statements that read nothing.
 use Rattle.std.proofs.Common.{◌≡◌, ℕ, Bool, true, false, List, [], ◌∷◌, Some, None, Result, Ok, Err, refl, sym, ap, subst, ◌∙◌, cond}
-use Rattle.std.specs.Prelude.{IfOk}
+use Rattle.std.specs.Prelude.{IfOk, ◌||◌}
 use Rattle.std.specs.Str.{str_eq_ignore_ascii_case}
 use Rattle.rdb_types.specs.declared.memory.NoMemory.{NoMemory}
 use Rattle.rdo_ast.specs.declared.reply.Reply.{Reply}
@@ -22,7 +22,6 @@ use Rattle.rdb_account.specs.AskedFor.{area_node, is_need, is_on_catalog}
 use Rattle.session_jobs.specs.Asked.{area_mode, AsksFor}
 use Rattle.rdo_exec.specs.Answers.{answer_of, answer_by, reply_or_done, IsAnswered}
 use Rattle.rdo_exec.specs.Ways.{reserves as has_reservations}
-use Rattle.rdo_exec.proofs.Areas.{or_left, or_right}
 use Rattle.rdo_exec.specs.Coming.{IsCatalogOfKnown, Comes}
 use Rattle.rdo_exec.proofs.Answered.{answer_comes}
 use Rattle.rdo_exec.proofs.Checked.{reserved_alike}
@@ -101,6 +100,13 @@ pub reserves_comes : (word : List ℕ) (c : Catalog) (known : Knowledge) (wait :
 reserves_comes word c known wait rs reply (Ok s) decodes free same is =
     subst (λ (x : Found). Comes word Closed (said (start_read_write wait rs)) known x) (λ i. answer_of (sym same i) (sym is i)) (reserves word c known decodes wait rs free)
 reserves_comes word c known wait rs reply (Err failed) decodes free same is = record { usual = tt; over = λ all t sound agrees. tt }
+
+or_left : (a b : Bool) → a ≡ true → (a || b) ≡ true
+or_left a b is = ap (λ x. x || b) is
+
+or_right : (a b : Bool) → b ≡ true → (a || b) ≡ true
+or_right true b is = refl
+or_right false b is = is
 
 -- START_TRANSACTION reads the catalog for its reservations
 pub reserving_asks : (wait : Bool) (rs : List Reservation) (t : Tables) → has_reservations rs ≡ true → AsksFor Closed (said (start_read_write wait rs)) t (is_need (area_node 1) (area_mode (said (start_read_write wait rs)) 1))

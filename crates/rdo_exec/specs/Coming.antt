@@ -1,9 +1,11 @@
 -- What an item comes to over what is known, and that it may ask for the locks of it.
-use Rattle.std.specs.Prelude.{◌≡◌, ◌⊎◌, ℕ, false, List, ◌∷◌}
+use Rattle.std.specs.Prelude.{◌≡◌, ℕ, true, false, List, [], ◌∷◌, None}
 use Rattle.std.specs.List.{AllByRecursion}
 use Rattle.rdo_ast.specs.declared.reply.Standing.{Standing}
-use Rattle.rdo_ast.specs.Tree.{Uttered}
+use Rattle.rdo_ast.specs.Tree.{Act, Uttered, said, perform}
 use Rattle.rdb_meaning.specs.declared.tables.Tables.{Tables}
+use Rattle.rdb_meaning.specs.Checks.{act_uses}
+use Rattle.rdb_meaning.specs.Meaning.{standing_refusal}
 use Rattle.rdb_meaning.specs.Usual.{is_refusal_of_means}
 use Rattle.line_view.specs.Knowledge.{Knowledge, Lines, Agrees}
 use Rattle.line_view.specs.Stops.{Lacks}
@@ -14,8 +16,8 @@ use Rattle.session_jobs.specs.Asked.{is_lock_for, AsksFor}
 use Rattle.session_jobs.specs.Jobs.{worked_of, WhereItAgrees, AreAsked}
 use Rattle.catalog.specs.declared.reading.Catalog.{Catalog}
 use Rattle.catalog.specs.Reading.{IsCatalogOf}
-use Rattle.sound_changes.specs.Standing.{IsSoundAs}
 use Rattle.sound_maps.specs.Maps.{IsSoundWith}
+use Rattle.rdo_exec.specs.Ways.{names_any}
 
 -- what is known has this catalog
 abbrev pub IsCatalogOfKnown : Knowledge → Catalog → Type 0
@@ -52,10 +54,6 @@ AsksIn standing item NoMemory t = Unit {0}
 abbrev pub Asks : Standing → Uttered → Knowledge → Found → Type 0
 Asks standing item known found = WhereItAgrees IsSoundWith known (AsksIn standing item found)
 
--- the same in those of each map that is sound with this catalog
-abbrev pub AsksBy : Standing → Uttered → Catalog → Found → Type 0
-AsksBy standing item c found = (all : Lines) (t : Tables) → IsSoundAs all c t → AsksIn standing item found t
-
--- what was found, or nothing that says something
-abbrev pub IsKept : Found → Found → Type 0
-IsKept found kept = (kept ≡ found) ⊎ ((kept ≡ NoMemory) ⊎ (kept ≡ Unworked))
+-- Where the transaction that is open doesn't refuse an action that names a relation, it asks for what it came to.
+abbrev pub ActAsks : Act → Knowledge → Found → Type 0
+ActAsks a known found = (standing : Standing) → standing_refusal (perform a) standing ≡ None → names_any (act_uses a []) ≡ true → Asks standing (said (perform a)) known found

@@ -1,5 +1,6 @@
 -- What a job comes to, by what comes of its definition or its deletion.
-use Rattle.std.specs.Prelude.{◌≡◌, ◌⊎◌, List, [], Result, Ok, Err}
+use Rattle.std.specs.Prelude.{◌≡◌, ◌⊎◌, true, List, [], Result, Ok, Err}
+use Rattle.std.specs.List.{AllByRecursion}
 use Rattle.rdo_ast.specs.declared.reply.Reply.{Reply}
 use Rattle.rdo_ast.specs.declared.reply.Reply.TheVariants as r
 use Rattle.rdo_ast.specs.declared.reply.Standing.{Standing}
@@ -10,7 +11,7 @@ use Rattle.line_view.specs.declared.stop.Stop.TheVariants as stop
 use Rattle.line_view.specs.declared.writes.Write.{Write}
 use Rattle.line_view.specs.Knowledge.{Lines}
 use Rattle.line_view.specs.Writes.{laid_all}
-use Rattle.statement_view.specs.Over.{Over, laid_over}
+use Rattle.statement_view.specs.Over.{Over, laid_over, is_written}
 use Rattle.schema_writes.specs.declared.stop.SchemaRefusal.{SchemaRefusal}
 use Rattle.schema_writes.specs.declared.stop.SchemaRefusal.TheVariants.{Refused}
 use Rattle.schema_writes.specs.Stop.{SchemaStop}
@@ -23,6 +24,7 @@ pub record IsMade (view : Over) (standing : Standing) (f : Found) : Type 0 where
   pub writes : List Write
   pub is : f ≡ Done (record { choices = []; reply = r.Done []; standing = standing; writes = writes })
   pub laid : (all : Lines) → laid_all writes all ≡ laid_over view.lines all
+  pub written : AllByRecursion (λ w. is_written view.lines w.key ≡ true) writes
 
 -- what isn't refused by the language has no reply
 abbrev pub IsUnmade : SchemaRefusal → Standing → Found → Type 0

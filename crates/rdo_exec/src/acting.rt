@@ -9,7 +9,7 @@ ghost use Rattle.line_view.specs.Held.{knows};
 ghost use Rattle.rdo_bind.specs.Acting.{act_of as bound_act_of, written_act, IsBoundAct};
 ghost use Rattle.rdo_acts.specs.Ends.{reply_of};
 ghost use Rattle.rdo_acts.specs.Acted.{NamesNeeds};
-ghost use Rattle.rdo_exec.specs.Coming.{IsCatalogOfKnown, Comes};
+ghost use Rattle.rdo_exec.specs.Coming.{IsCatalogOfKnown, Comes, ActAsks};
 ghost use Rattle.rdo_exec.specs.Acted.{found_refused, Lists, AreTogether, IsFoundOf};
 
 use crate::records::{Returned, answered_by};
@@ -117,6 +117,7 @@ fn run_from<'a>(
     requires catalog { IsCatalogOfKnown (knows known) schema.now }
     requires bound { IsBoundAct (bound_act_of action.now) schema.now.tables [] }
     ensures known { result.known ≡ known }
+    ensures asked { ActAsks (written_act action.now) (knows known) result.found }
     ensures comes { (word : List ℕ) (standing : State) → act_refusal (written_act action.now) standing schema.now.tables ≡ None → behind ≡ standing_for (written_act action.now) standing
         → Comes word standing (said (perform (written_act action.now))) (knows known) result.found }
 {
@@ -143,6 +144,7 @@ fn run_with<'a>(
     requires catalog { IsCatalogOfKnown (knows known) schema.now }
     requires bound { IsBoundAct (bound_act_of action.now) schema.now.tables [] }
     ensures known { result.known ≡ known }
+    ensures asked { ActAsks (written_act action.now) (knows known) result.found }
     ensures comes { (word : List ℕ) (standing : State) → act_refusal (written_act action.now) standing schema.now.tables ≡ None → behind ≡ standing_for (written_act action.now) standing
         → Comes word standing (said (perform (written_act action.now))) (knows known) result.found }
 {
@@ -160,6 +162,7 @@ fn run(
     requires catalog { IsCatalogOfKnown (knows known) schema.now }
     requires bound { IsBoundAct (bound_act_of action.now) schema.now.tables [] }
     ensures known { result.known ≡ known }
+    ensures asked { ActAsks (written_act action.now) (knows known) result.found }
     ensures comes { (word : List ℕ) (standing : State) → act_refusal (written_act action.now) standing schema.now.tables ≡ None → behind ≡ standing_for (written_act action.now) standing
         → Comes word standing (said (perform (written_act action.now))) (knows known) result.found }
 {
@@ -183,6 +186,7 @@ fn run_behind(
     requires catalog { IsCatalogOfKnown (knows known) schema.now }
     requires bound { IsBoundAct (bound_act_of action.now) schema.now.tables [] }
     ensures known { result.known ≡ known }
+    ensures asked { ActAsks (written_act action.now) (knows known) result.found }
     ensures comes { (word : List ℕ) (standing : State) → act_refusal (written_act action.now) standing schema.now.tables ≡ None → IfOk behind (λ left. left ≡ standing_for (written_act action.now) standing)
         → Comes word standing (said (perform (written_act action.now))) (knows known) result.found }
 {
@@ -205,6 +209,7 @@ pub(crate) fn act_by(
 ) -> Returned
     requires catalog { IsCatalogOfKnown (knows known) schema.now }
     ensures known { result.known ≡ known }
+    ensures asked { ActAsks (act_of action.now) (knows known) result.found }
     ensures comes { (word : List ℕ) → Comes word standing.now (said (perform (act_of action.now))) (knows known) result.found }
 {
     let behind = standing_for(alloc, standing, action);

@@ -1,5 +1,5 @@
 // START_TRANSACTION with reservations, definitions and deletions.
-ghost use Rattle.std.specs.Prelude.{◌≡◌, ◌⊎◌, ◌∷◌, [], ℕ, List, None, true};
+ghost use Rattle.std.specs.Prelude.{◌≡◌, ◌⊎◌, ◌∷◌, [], ℕ, List, None, true, false};
 ghost use Rattle.std.specs.FinMap.Entries.{find};
 ghost use Rattle.rdb_types.specs.Order.{chars_order};
 ghost use Rattle.rdo_ast.specs.Tree.{said, start_read_write, define_field, define_relation, define_index, delete_relation, delete_index};
@@ -12,6 +12,9 @@ ghost use Rattle.rdb_meaning.specs.Meaning.{needs_read_write, reservations_of, i
 ghost use Rattle.rdb_checks.specs.Answers.{Finds};
 ghost use Rattle.line_view.specs.Held.{knows};
 ghost use Rattle.catalog.specs.Reading.{IsWhole};
+ghost use Rattle.statement_view.specs.Areas.{is_among};
+ghost use Rattle.used_areas.specs.Areas.{areas_read};
+ghost use Rattle.rdo_exec.specs.Areas.{IsReadOf, ReadsOf};
 ghost use Rattle.rdo_exec.specs.Ways.{reserves, IsDefining};
 ghost use Rattle.rdo_exec.specs.Coming.{IsCatalogOfKnown, Asks, Comes};
 ghost use Rattle.rdo_exec.specs.Defined.{IsUnchecked, IsRefused, IsWritten, of_deletion};
@@ -22,12 +25,13 @@ use catalog::{Catalog, read_catalog};
 use catalog_definitions::{is_index_definition, is_relation_definition};
 use catalog_lines::{is_name, is_type};
 use index_writes::define_index;
-use line_view::{Known, Stop};
+use line_view::{Known, Need, Stop};
 use rdb_checks::{
     Stop as CheckStop, check_change_reserved, check_index_reserved, check_reserved_names, no_such,
     reservations_of,
 };
 use rdb_definitions::{check_index_names, check_relation_exists};
+use rdb_meaning::Tables;
 use rdb_types::{Chars, Copied, FieldType, Items};
 use rdo_ast::reply::{Reply, Standing};
 use rdo_ast::syntax::{FieldDefinition, IndexDefinition, Reservations, Statement};
@@ -133,6 +137,7 @@ fn field_defined(
     requires whole { IsWhole catalog.now }
     requires writing { needs_read_write standing.now ≡ None }
     ensures known { result.known ≡ known }
+    ensures asked { Asks standing.now (said (define_field name.now kind.now)) (knows known) result.found }
     ensures comes { (word : List ℕ) → Comes word standing.now (said (define_field name.now kind.now)) (knows known) result.found }
 {
     if !is_name(name.as_slice()) || !is_type(*kind) {
@@ -158,6 +163,7 @@ fn relation_defined(
     requires whole { IsWhole catalog.now }
     requires writing { needs_read_write standing.now ≡ None }
     ensures known { result.known ≡ known }
+    ensures asked { Asks standing.now (said (define_relation name.now fields.now)) (knows known) result.found }
     ensures comes { (word : List ℕ) → Comes word standing.now (said (define_relation name.now fields.now)) (knows known) result.found }
 {
     if !is_relation_definition(name, fields) {
@@ -183,6 +189,37 @@ fn check_index_comes(
     check_change_reserved(alloc, reservations_of(standing), &definition.relation)
 }
 
+fn is_area_of(tables: &Tables, relation: &Chars, area: u32) -> bool
+    ensures { result ≡ true → is_among (areas_read tables.now (use_of false relation.now ∷ [])) area ≡ true }
+{
+    match tables.relation(relation) {
+        Some(found) => found.area == area,
+        None => false,
+    }
+}
+
+// Whether a need is a room, or of the area of the relation.
+fn is_read(tables: &Tables, relation: &Chars, need: &Need) -> bool
+    ensures { result ≡ true → IsReadOf (areas_read tables.now (use_of false relation.now ∷ [])) need.now }
+{
+    match need {
+        Need::Line(key) => is_area_of(tables, relation, key.area),
+        Need::Area(area) => is_area_of(tables, relation, *area),
+        Need::Room(_) => true,
+    }
+}
+
+// Whether DEFINE INDEX lacks lines that aren't its relation's: these can be of the new index alone. What is read there was written before by the same statement, so
+// nothing of it is lacked; but no clause says so, and the account's rule lets nobody ask for such a line.
+fn lacks_others(tables: &Tables, relation: &Chars, end: &Result<(), SchemaStop>) -> bool
+    ensures { result ≡ false → ReadsOf (areas_read tables.now (use_of false relation.now ∷ [])) end.now }
+{
+    match end {
+        Err(Stop::Missing(need)) => !is_read(tables, relation, need),
+        _ => false,
+    }
+}
+
 fn index_defined(
     alloc: Global,
     schema: &Schema,
@@ -194,6 +231,7 @@ fn index_defined(
     requires whole { IsWhole schema.now }
     requires writing { needs_read_write standing.now ≡ None }
     ensures known { result.known ≡ known }
+    ensures asked { Asks standing.now (said (define_index definition.now)) (knows known) result.found }
     ensures comes { (word : List ℕ) → Comes word standing.now (said (define_index definition.now)) (knows known) result.found }
 {
     if !is_index_definition(definition) {
@@ -202,7 +240,8 @@ fn index_defined(
             found: Found::Unworked,
         };
     }
-    match check_index_comes(alloc, schema.catalog(), standing, definition) {
+    let catalog = schema.catalog();
+    match check_index_comes(alloc, catalog, standing, definition) {
         Ok(()) => {}
         Err(stop) => {
             return Returned {
@@ -213,6 +252,12 @@ fn index_defined(
     }
     let mut view = Changed::new(alloc, known);
     let end = define_index(alloc, &mut view, schema, definition);
+    if lacks_others(&catalog.tables, &definition.relation, &end) {
+        return Returned {
+            known: view.into_known(),
+            found: Found::Unworked,
+        };
+    }
     written(alloc, view, end, standing)
 }
 
@@ -239,6 +284,7 @@ fn relation_deleted(
     requires whole { IsWhole catalog.now }
     requires writing { needs_read_write standing.now ≡ None }
     ensures known { result.known ≡ known }
+    ensures asked { Asks standing.now (said (delete_relation name.now)) (knows known) result.found }
     ensures comes { (word : List ℕ) → Comes word standing.now (said (delete_relation name.now)) (knows known) result.found }
 {
     match check_relation_goes(alloc, catalog, standing, name) {
@@ -282,6 +328,7 @@ fn index_deleted(
     requires whole { IsWhole catalog.now }
     requires writing { needs_read_write standing.now ≡ None }
     ensures known { result.known ≡ known }
+    ensures asked { Asks standing.now (said (delete_index name.now)) (knows known) result.found }
     ensures comes { (word : List ℕ) → Comes word standing.now (said (delete_index name.now)) (knows known) result.found }
 {
     match check_index_goes(alloc, catalog, standing, name) {
@@ -311,6 +358,7 @@ pub(crate) fn define_by(
     requires writing { needs_read_write standing.now ≡ None }
     requires defining { IsDefining (command_of statement.now) }
     ensures known { result.known ≡ known }
+    ensures asked { Asks standing.now (said (command_of statement.now)) (knows known) result.found }
     ensures comes { (word : List ℕ) → Comes word standing.now (said (command_of statement.now)) (knows known) result.found }
 {
     let catalog = schema.catalog();

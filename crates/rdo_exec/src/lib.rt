@@ -2,7 +2,6 @@
 #![tactic(auto)]
 
 mod acting;
-mod asked;
 mod bare;
 mod defining;
 #[tactic(auto, using(crate::proofs::NamedRelations::names_append, crate::proofs::NamedRelations::ranges_name))]

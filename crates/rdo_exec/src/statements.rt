@@ -12,10 +12,9 @@ ghost use Rattle.sound_maps.specs.Maps.{IsSoundWith};
 ghost use Rattle.session_jobs.specs.Jobs.{IsFound, NamesNoNeed};
 ghost use Rattle.rdo_exec.specs.Answers.{IsAnswered};
 ghost use Rattle.rdo_exec.specs.Ways.{IsBare, IsReserving, IsViewing};
-ghost use Rattle.rdo_exec.specs.Coming.{IsCatalogOfKnown, IsKept, Asks, AsksBy, Comes};
+ghost use Rattle.rdo_exec.specs.Coming.{IsCatalogOfKnown, Asks, Comes};
 
 use crate::acting::act_by;
-use crate::asked::asked;
 use crate::bare::act_bare;
 use crate::defining::{define_by, reserve};
 use crate::plain::plain;
@@ -72,31 +71,12 @@ fn work_by(
     requires way { IsViewing (command_of statement.now) }
     requires standing { standing_refusal (command_of statement.now) standing.now ≡ None }
     ensures known { result.known ≡ known }
+    ensures asked { Asks standing.now (said (command_of statement.now)) (knows known) result.found }
     ensures comes { (word : List ℕ) → Comes word standing.now (said (command_of statement.now)) (knows known) result.found }
 {
     match statement {
         Statement::Act(action) => act_by(alloc, schema, standing, action, known),
         _ => define_by(alloc, schema, standing, statement, known),
-    }
-}
-
-// What was found, where a read-write transaction may ask for the locks of it.
-fn locked(
-    alloc: Global,
-    schema: &Schema,
-    standing: &Standing,
-    statement: &Statement,
-    found: Found,
-) -> Found
-    requires way { IsViewing (command_of statement.now) }
-    requires standing { standing_refusal (command_of statement.now) standing.now ≡ None }
-    ensures kept { IsKept found result }
-    ensures asked { AsksBy standing.now (said (command_of statement.now)) schema.now result }
-{
-    match standing {
-        Standing::ReadWrite { .. } => asked(alloc, schema, statement, found),
-        Standing::Closed => found,
-        Standing::ReadOnly => found,
     }
 }
 
@@ -117,9 +97,7 @@ fn viewed(alloc: Global, standing: &Standing, statement: &Statement, known: Know
             };
         }
     };
-    let Returned { known, found } = work_by(alloc, &schema, standing, statement, known);
-    let found = locked(alloc, &schema, standing, statement, found);
-    Returned { known, found }
+    work_by(alloc, &schema, standing, statement, known)
 }
 
 // Works a statement that the transaction that is open doesn't refuse.

@@ -11,3 +11,6 @@ run_with-requires-clause-together c = record { present = c.in-Ok.ensures.present
 
 pub returns-in-Err-clause-comes : goal.returns-in-Err-clause-comes
 returns-in-Err-clause-comes c = λ word standing free is. says_nothing word standing (said (perform (written_act c.args.action.now))) (knows c.args.known) NoMemory (inl refl)
+
+pub returns-in-Err-clause-asked : goal.returns-in-Err-clause-asked
+returns-in-Err-clause-asked c = λ standing none names all t sound agrees. tt

@@ -16,3 +16,6 @@ returns-in-Ok-clause-comes c = λ word standing free is.
 
 pub returns-in-Err-clause-comes : goal.returns-in-Err-clause-comes
 returns-in-Err-clause-comes c = λ word standing free is. says_nothing word standing (said (perform (written_act c.args.action.now))) (knows c.args.known) found.NoMemory (inl refl)
+
+pub returns-in-Err-clause-asked : goal.returns-in-Err-clause-asked
+returns-in-Err-clause-asked c = λ standing none names all t sound agrees. tt

@@ -1,10 +1,11 @@
-use Rattle.std.proofs.Common.{ap}
+use Rattle.std.proofs.Common.{ap, refl}
 use Rattle.rdo_ast.specs.Tree.{define_field}
 use Rattle.rdb_meaning.specs.Defining.{field_names}
 use Rattle.line_view.specs.Held.{knows}
 use Rattle.statement_view.specs.Over.{Over}
 use Rattle.rdo_exec.proofs.Checked.{writing_field}
 use Rattle.rdo_exec.proofs.Definitions.{comes_of_defines}
+use Rattle.rdo_exec.proofs.Asking.{defined_asks}
 use Rattle.rdo_exec.proofs.defining.field_defined.Goals as goal
 
 pub returns-clause-comes : goal.returns-clause-comes
@@ -14,3 +15,9 @@ returns-clause-comes c = λ word.
     (field_names a.name.now) c.new-view.result c.define_field-end.new.view (ap (λ (o : Over). knows o.base) c.new-view.ensures.value) (ap (λ (o : Over). o.lines) c.new-view.ensures.value) c.new-view.ensures.stands
     (λ all t sound. writing_field word a.name.now a.kind.now a.standing.now t c.requires.writing)
     c.define_field-end.result c.written.result.found c.written.ensures.found c.define_field-end.ensures.defines
+
+pub returns-clause-asked : goal.returns-clause-asked
+returns-clause-asked c =
+    let a = c.args in
+    defined_asks a.standing.now a.catalog.now (knows a.known) c.requires.catalog c.new-view.result c.define_field-end.new.view (ap (λ (o : Over). o.lines) c.new-view.ensures.value) c.new-view.ensures.stands
+    (define_field a.name.now a.kind.now) c.requires.writing refl (λ t lock. refl) c.define_field-end.result c.written.result.found c.written.ensures.found c.define_field-end.ensures.areas

@@ -1,10 +1,11 @@
-use Rattle.std.proofs.Common.{ap}
+use Rattle.std.proofs.Common.{ap, refl}
 use Rattle.rdo_ast.specs.Tree.{define_relation}
 use Rattle.rdb_meaning.specs.Defining.{relation_names}
 use Rattle.line_view.specs.Held.{knows}
 use Rattle.statement_view.specs.Over.{Over}
 use Rattle.rdo_exec.proofs.Checked.{writing_relation}
 use Rattle.rdo_exec.proofs.Definitions.{comes_of_defines}
+use Rattle.rdo_exec.proofs.Asking.{defined_asks}
 use Rattle.rdo_exec.proofs.defining.relation_defined.Goals as goal
 
 pub returns-clause-comes : goal.returns-clause-comes
@@ -14,3 +15,9 @@ returns-clause-comes c = λ word.
     (relation_names a.name.now a.fields.now) c.new-view.result c.define_relation-end.new.view (ap (λ (o : Over). knows o.base) c.new-view.ensures.value) (ap (λ (o : Over). o.lines) c.new-view.ensures.value) c.new-view.ensures.stands
     (λ all t sound. writing_relation word a.name.now a.fields.now a.standing.now t c.requires.writing)
     c.define_relation-end.result c.written.result.found c.written.ensures.found c.define_relation-end.ensures.defines
+
+pub returns-clause-asked : goal.returns-clause-asked
+returns-clause-asked c =
+    let a = c.args in
+    defined_asks a.standing.now a.catalog.now (knows a.known) c.requires.catalog c.new-view.result c.define_relation-end.new.view (ap (λ (o : Over). o.lines) c.new-view.ensures.value) c.new-view.ensures.stands
+    (define_relation a.name.now a.fields.now) c.requires.writing refl (λ t lock. refl) c.define_relation-end.result c.written.result.found c.written.ensures.found c.define_relation-end.ensures.areas

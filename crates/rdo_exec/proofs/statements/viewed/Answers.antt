@@ -5,7 +5,7 @@ use Rattle.line_view.specs.Held.{knows}
 use Rattle.session_jobs.specs.declared.jobs.Found.{Found}
 use Rattle.rdo_exec.specs.Coming.{Asks, Comes}
 use Rattle.rdo_exec.proofs.Answered.{unread}
-use Rattle.rdo_exec.proofs.Locks.{unread_asks, catalog_asks, asks_known, kept_comes}
+use Rattle.rdo_exec.proofs.Locks.{unread_asks, catalog_asks}
 use Rattle.rdo_exec.proofs.statements.viewed.Goals as goal
 
 pub returns-in-Err-clause-asked : goal.returns-in-Err-clause-asked
@@ -21,11 +21,3 @@ returns-in-Err-clause-comes c = λ word.
     let command = command_of c.args.statement.now in
     subst (λ (f : Found). Comes word a.standing.now (said command) (knows a.known) f) (sym c.stopped.ensures)
     (unread word a.standing.now (said command) (knows a.known) c.in-Err.stop c.in-Err.ensures.stop)
-
-pub returns-clause-asked : goal.returns-clause-asked
-returns-clause-asked c =
-    asks_known c.args.standing.now (said (command_of c.args.statement.now)) (knows c.args.known) c.in-Ok.schema c.locked-found.result c.in-Ok.ensures.catalog c.locked-found.ensures.asked
-
-pub returns-clause-comes : goal.returns-clause-comes
-returns-clause-comes c = λ word.
-    kept_comes word c.args.standing.now (said (command_of c.args.statement.now)) (knows c.args.known) c.work_by-known.result.found c.locked-found.result c.locked-found.ensures.kept (c.work_by-known.ensures.comes word)

@@ -1,10 +1,12 @@
-use Rattle.std.proofs.Common.{sym, subst}
+use Rattle.std.proofs.Common.{sym, subst, ◌≡◌, None}
 use Rattle.rdo_ast.specs.declared.syntax.Statement.{Statement}
 use Rattle.rdo_ast.specs.Tree.{said}
 use Rattle.rdo_ast.specs.Views.{command_of}
 use Rattle.line_view.specs.Held.{knows}
-use Rattle.rdo_exec.specs.Coming.{Comes}
+use Rattle.rdo_exec.specs.Coming.{Comes, Asks}
 use Rattle.rdo_exec.proofs.Viewing.{defining_not_act, defining_writes}
+use Rattle.rdo_exec.specs.Ways.{IsViewing}
+use Rattle.rdb_meaning.specs.Meaning.{standing_refusal}
 use Rattle.rdo_exec.proofs.statements.work_by.Goals as goal
 
 pub returns-in-Act-clause-comes : goal.returns-in-Act-clause-comes
@@ -17,3 +19,9 @@ define_by-requires-clause-writing c =
 
 pub define_by-requires-clause-defining : goal.define_by-requires-clause-defining
 define_by-requires-clause-defining c = defining_not_act c.args.statement.now c.in_default.not-Act c.requires.way
+
+pub returns-in-Act-clause-asked : goal.returns-in-Act-clause-asked
+returns-in-Act-clause-asked c =
+    let is = c.in-Act.is in
+    subst (λ (s : Statement). Asks c.args.standing.now (said (command_of s)) (knows c.args.known) c.act_by.result.found) (sym is)
+    (c.act_by.ensures.asked c.args.standing.now (subst (λ (s : Statement). standing_refusal (command_of s) c.args.standing.now ≡ None) is c.requires.standing) (subst (λ (s : Statement). IsViewing (command_of s)) is c.requires.way))
