@@ -3,7 +3,6 @@
 
 mod compared;
 mod counts;
-mod lines;
 mod world;
 
 use rdb_types::{Bytes, NoMemory};

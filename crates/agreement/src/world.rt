@@ -1,7 +1,7 @@
 // A database as tables, and as lines.
 use crate::compared::same_tables;
 use crate::counts::Counts;
-use crate::lines::{Given, is_known, lay, learn};
+use case_lines::{MemoryLines, Rooms, is_known, learn};
 use line_view::{Known, Need, Stop};
 use ordered_entries::Entries;
 use rdb_account::render;
@@ -37,12 +37,12 @@ fn no_tables(alloc: Global) -> Tables {
 #[derive(Drop)]
 pub struct World {
     tables: Tables,
-    all: Known,
+    all: MemoryLines,
     old_tables: Tables,
-    old_all: Known,
+    old_all: MemoryLines,
     standing: Standing,
     known: Known,
-    given: Vec<Given>,
+    rooms: Rooms,
     counts: Counts,
 }
 
@@ -87,21 +87,21 @@ impl World {
     pub fn new(alloc: Global) -> World {
         World {
             tables: no_tables(alloc),
-            all: Known::new(alloc),
+            all: MemoryLines::new(alloc),
             old_tables: no_tables(alloc),
-            old_all: Known::new(alloc),
+            old_all: MemoryLines::new(alloc),
             standing: Standing::Closed,
             known: Known::new(alloc),
-            given: Vec::new(alloc),
+            rooms: Rooms::new(alloc),
             counts: Counts::none(),
         }
     }
 
     pub fn begin(&mut self, alloc: Global) {
         self.tables = no_tables(alloc);
-        self.all = Known::new(alloc);
+        self.all = MemoryLines::new(alloc);
         self.old_tables = no_tables(alloc);
-        self.old_all = Known::new(alloc);
+        self.old_all = MemoryLines::new(alloc);
         self.standing = Standing::Closed;
         self.known = Known::new(alloc);
     }
@@ -128,10 +128,10 @@ impl World {
             return Ok(false);
         }
         self.counts.needs = self.counts.needs.wrapping_add(1);
-        let mut is_learnt = learn(alloc, &mut self.all, next, known, &mut self.given)?;
+        let mut is_learnt = learn(alloc, &mut self.all, next, known, &mut self.rooms)?;
         for need in later {
             if is_learnt && !is_known(known, *need) {
-                is_learnt = learn(alloc, &mut self.all, *need, known, &mut self.given)?;
+                is_learnt = learn(alloc, &mut self.all, *need, known, &mut self.rooms)?;
             }
         }
         if !is_learnt {
@@ -144,7 +144,7 @@ impl World {
         let mut known = Known::new(alloc);
         std::mem::swap(&mut known, &mut self.known);
         known.forget_rooms();
-        self.given.clear();
+        self.rooms.clear();
         let mut standing = Standing::Closed;
         std::mem::swap(&mut standing, &mut self.standing);
         Job {
@@ -184,7 +184,7 @@ impl World {
             let image = image.map(|image| Image::from_bytes(image.bytes()));
             let again = write.image.as_ref();
             let again = again.map(|image| Image::from_bytes(image.bytes()));
-            lay(alloc, &mut self.all, write.key, image)?;
+            self.all.lay(alloc, write.key, image)?;
             self.known.put(alloc, write.key, again)?;
             self.counts.writes = self.counts.writes.wrapping_add(1);
         }
@@ -193,11 +193,9 @@ impl World {
 
     fn read_all(&mut self, alloc: Global, out: &mut Bytes) -> Result<Option<Tables>, NoMemory> {
         for _ in 0..MAX_NEEDS {
-            match read_tables(alloc, &self.all) {
+            match read_tables(alloc, self.all.view()) {
                 Ok(tables) => return Ok(Some(tables)),
-                Err(Stop::Missing(Need::Area(area))) => {
-                    self.all.learn_area(alloc, area, &[])?;
-                }
+                Err(Stop::Missing(Need::Area(area))) => self.all.begin_area(alloc, area)?,
                 Err(Stop::NoMemory) => return Err(NoMemory {}),
                 Err(_) => {
                     out.extend(b"THE LINES HAVE NO TABLES\n")?;
