@@ -18,9 +18,9 @@ use Rattle.session_jobs.specs.Records.{Model, IsOrderly, IsRight}
 use Rattle.session_jobs.specs.Jobs.{IsFound, worked_of}
 use Rattle.session_jobs.specs.declared.jobs.TxRecord.{TxRecord}
 use Rattle.session_jobs.specs.declared.jobs.Found.TheVariants.{Done}
-use Rattle.line_store.specs.Seats.{Seat, reading as seat_reading}
+use Rattle.line_store.specs.Seats.{Seat, writes_of, reading as seat_reading}
 use Rattle.line_store.specs.Shelves.{Shelf, seen_from, seen_by}
-use Rattle.line_store.specs.Calls.{Moves, KeepsOthers}
+use Rattle.line_store.specs.Calls.{Moves, KeepsOthers, KeepsSpace}
 use Rattle.lock_ties.specs.Ties.{IsTiedTo}
 use Rattle.lock_ties.proofs.Places.{at-same}
 use Rattle.lock_ties.proofs.Got.{ended-tied}
@@ -45,6 +45,8 @@ use Rattle.session_states.proofs.Forgoing.{and-undone}
 use Rattle.session_states.proofs.Parting.{nothing-agrees, begun-needs, begins-stays}
 use Rattle.session_states.proofs.Resting.{leaves-others, rests-by, found-here, none-dead, time-later}
 use Rattle.session_states.proofs.Storing.{said-needs, said-more}
+use Rattle.store_counts.proofs.Kept.{counted-on, counted-events, counted-begins}
+use Rattle.session_states.proofs.Counting.{counted-over}
 
 -- Its transaction stays open behind a reply: something was said in it, or the reply is done, or it isn't of a START_TRANSACTION.
 stays-open : (x : Option Transaction) (spoken : Bool) (item : Uttered) (reply : Reply) → has_said x ≡ spoken → (spoken || not (leaves_none item && not (is_done reply))) ≡ true → is_first_refused x item reply ≡ false
@@ -90,6 +92,7 @@ module _ (M : Model) (orderly : IsOrderly M) where
               wants = f.fits.phase.1;
             };
           };
+          counted = counted-begins o p s ReadOnly shelf f.here.stands.state (ap writes_of moves.mine) (counted-over o p s (seat_reading c.shelf.now) c.shelf shelf moves f.here.stands.state f.counted);
         };
   }
 
@@ -108,6 +111,7 @@ module _ (M : Model) (orderly : IsOrderly M) where
         tied = f.fits.tied;
         phase = record { known = f.fits.phase.known; seat = f.fits.phase.seat; spoken = f.fits.phase.spoken; needless = f.fits.phase.needless; stage = stays; wants = f.fits.phase.wants };
       };
+      counted = f.counted;
     };
   }
 
@@ -120,9 +124,9 @@ module _ (M : Model) (orderly : IsOrderly M) where
 
   -- what it lacked is read from the lines at its start
   pub reads-more : (s : ℕ) (c : Shared) (shelf : Shelf) (left : List Item) (total : ℕ) (standing : Standing) (known new : Held) (spoken : Bool) (item : Item) (a b : ReaderWork) →
-      KeepsOthers s c.shelf shelf → shelf.now ≡ c.shelf.now → shelf.seat s ≡ c.shelf.seat s → (IsInOrder (seen_by s c.shelf) → Agrees (knows known) (seen_by s c.shelf) → Agrees (knows new) (seen_by s c.shelf)) →
+      KeepsOthers s c.shelf shelf → shelf.now ≡ c.shelf.now → shelf.seat s ≡ c.shelf.seat s → KeepsSpace c.shelf.space shelf.space → (IsInOrder (seen_by s c.shelf) → Agrees (knows known) (seen_by s c.shelf) → Agrees (knows new) (seen_by s c.shelf)) →
       Step M s c (session left total (Reading (reader standing known spoken (Working item a)))) (with_shelf shelf c) (session left total (Reading (reader standing new spoken (Working item b)))) []
-  reads-more s c shelf left total standing known new spoken item a b others now mine more = record {
+  reads-more s c shelf left total standing known new spoken item a b others now mine space more = record {
     word = refl;
     others = record { store = others; locks = λ u other. refl };
     leaves = λ o p g f.
@@ -156,6 +160,7 @@ module _ (M : Model) (orderly : IsOrderly M) where
               wants = f.fits.phase.wants;
             };
           };
+          counted = counted-on o p s c.shelf shelf f.counted others now space (λ z. ap writes_of mine);
         };
   }
 
@@ -198,6 +203,7 @@ module _ (M : Model) (orderly : IsOrderly M) where
             tied = line-tied o p c s w.transaction l w.is_open f.fits.phase.wants f.fits.tied;
             phase = line-fits o p g c s standing known spoken (Working item Out) w.transaction l w.is_open f.fits.phase;
           };
+          counted = counted-events o p (Said s i r.choices r.reply ∷ []) c.shelf (tt, tt) f.counted;
         };
   }
 
@@ -220,6 +226,7 @@ module _ (M : Model) (orderly : IsOrderly M) where
             tied = line-tied o p c s w.transaction l w.is_open f.fits.phase.wants f.fits.tied;
             phase = line-fits o p g c s standing known spoken (Working item work) w.transaction l w.is_open f.fits.phase;
           };
+          counted = counted-events o p (Said s i [] NoMemory ∷ []) c.shelf (tt, tt) f.counted;
         };
   }
     where
