@@ -1,7 +1,7 @@
 -- The lines on which EX was got, as a stage comes to want and get the locks of more.
-use Rattle.std.proofs.Common.{◌≡◌, ℕ, zero, suc, ◌+◌, ◌++◌, ◌∷◌, [], ◌||◌, ◌&&◌, not, if◌then◌else◌, Bool, true, false, List, take, refl, ◌∙◌, sym, ap, subst, arith, Option, Some, None, is_some, slice_get}
+use Rattle.std.proofs.Common.{◌≡◌, ℕ, zero, suc, ◌+◌, ◌++◌, ◌∷◌, [], not, if◌then◌else◌, Bool, true, false, List, take, refl, ◌∙◌, sym, ap, subst, arith, Option, Some, is_some, slice_get}
 use Rattle.std.specs.List.{list_any}
-use Rattle.std.proofs.lemmas.Bool.{false≢true, or_left, or_right, and_from}
+use Rattle.std.proofs.lemmas.Bool.{or_left, or_right, and_from}
 use Rattle.std.proofs.lemmas.Option.{none-some, same_Some}
 use Rattle.std.proofs.lemmas.List.Folds.{list_any-append}
 use Rattle.rdb_types.specs.declared.keys.Dbkey.{Dbkey}
@@ -10,10 +10,9 @@ use Rattle.vms_queues.specs.declared.lock_mode.Mode.TheVariants.{EX}
 use Rattle.lock_needs.specs.declared.need.Need.{Need}
 use Rattle.lock_needs.specs.Nodes.{same_node}
 use Rattle.lock_needs.proofs.NodeLaws.{same_node-refl}
-use Rattle.line_view.specs.declared.need.Need.TheVariants as need
 use Rattle.line_view.specs.declared.writes.Write.{Write}
 use Rattle.rdb_account.specs.Events.{Event, Got, need as lock}
-use Rattle.rdb_account.specs.Places.{Opening, Place, Transaction, after, place_from, at, changed, with_need}
+use Rattle.rdb_account.specs.Places.{Opening, Place, Transaction, after, place_from, changed, with_need}
 use Rattle.kept_apart.specs.Guards.{line_node}
 use Rattle.lock_ties.specs.Ties.{wanted_at}
 use Rattle.lock_ties.proofs.Places.{at-same}
@@ -26,7 +25,7 @@ use Rattle.session_states.specs.declared.stage.Laying.TheVariants.{Claiming, Cha
 use Rattle.session_states.specs.declared.stage.End.TheVariants.{Journal, Ready, Committing, RollingBack, Leaving}
 use Rattle.session_states.specs.declared.stage.Stage.{Stage}
 use Rattle.session_states.specs.declared.stage.Stage.TheVariants.{Between, Working, Reserving, Saying, Ending}
-use Rattle.session_states.specs.Locks.{lock_of, lock_of_write}
+use Rattle.session_states.specs.Locks.{lock_of}
 use Rattle.session_states.specs.Turns.{got}
 use Rattle.session_states.specs.Fits.{ClaimsFit}
 use Rattle.session_states.proofs.Locking.{write-at}

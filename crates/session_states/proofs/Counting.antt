@@ -1,15 +1,15 @@
 -- The store stays within the account's counts as a session's transaction ends, and where the store alone moves.
-use Rattle.std.proofs.Common.{◌≡◌, ℕ, ◌+◌, ◌∷◌, [], Bool, true, false, List, length, refl, ◌∙◌, sym, ap, subst, arith, Option, Some, None, is_some}
+use Rattle.std.proofs.Common.{◌≡◌, ℕ, ◌+◌, true, false, List, length, refl, ◌∙◌, sym, ap, Option, Some, None, is_some}
 use Rattle.std.proofs.lemmas.Bool.{false≢true}
 use Rattle.line_view.specs.declared.writes.Write.{Write}
-use Rattle.rdb_account.specs.Events.{Event, Committed, Recovered}
-use Rattle.rdb_account.specs.Places.{Opening, Place, Transaction, after, place_from, at, is_writer, committed_by, ended}
-use Rattle.line_store.specs.Seats.{Seat, outside, beginning, writing, changing, committing, rolling_back, closing, reading, dead, writes_of, committing_by, rolled_back, done_at}
+use Rattle.rdb_account.specs.Events.{Event, Committed}
+use Rattle.rdb_account.specs.Places.{Opening, Place, Transaction, after, place_from, at, is_writer, committed_by}
+use Rattle.line_store.specs.Seats.{Seat, outside, beginning, writing, changing, committing, rolling_back, closing, reading, dead, writes_of, committing_by, rolled_back}
 use Rattle.line_store.specs.Shelves.{Shelf}
-use Rattle.line_store.specs.Calls.{KeepsOthers, KeepsSpace, Moves, Commits}
+use Rattle.line_store.specs.Calls.{Moves, Commits}
 use Rattle.store_counts.specs.Counts.{IsCounted}
 use Rattle.store_counts.specs.Events.{CountNothing}
-use Rattle.store_counts.proofs.Places.{CountsStay, stay-gone}
+use Rattle.store_counts.proofs.Places.{stay-gone}
 use Rattle.store_counts.proofs.Kept.{counted-on, counted-events, counted-stays, counted-commits}
 
 -- ---- what a seat has of writes

@@ -42,7 +42,6 @@ use Rattle.lock_ties.proofs.Places.{at-same}
 use Rattle.store_counts.proofs.Kept.{counted-events}
 use Rattle.session_states.proofs.Counting.{counted-moved, counted-ended, counted-committed}
 
-
 -- ---- states
 
 not-died : (x : Phase) → has_not_died (life_of (state_in x)) ≡ true

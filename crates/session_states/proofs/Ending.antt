@@ -38,7 +38,6 @@ use Rattle.lock_ties.proofs.Places.{at-same}
 use Rattle.store_counts.proofs.Kept.{counted-events}
 use Rattle.session_states.proofs.Counting.{counted-moved, counted-ended, counted-committed, rolled-writes}
 
-
 pub is-open : (x : Option Transaction) (t : Transaction) → x ≡ Some t → has_none x ≡ false
 is-open x t e = ap has_none e
 

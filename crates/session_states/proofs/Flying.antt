@@ -1,7 +1,7 @@
 -- Whose commit is under way has the journal.
 use Rattle.std.proofs.Common.{◌≡◌, ℕ, suc, ◌==◌, Bool, true, false, List, refl, ◌∙◌, sym, ap, subst, arith, Option, Some, None, slice_get}
 use Rattle.std.proofs.lemmas.Bool.{false≢true}
-use Rattle.std.proofs.lemmas.Option.{none-some, same_Some}
+use Rattle.std.proofs.lemmas.Option.{none-some}
 use Rattle.rdo_ast.specs.declared.reply.Standing.{Standing}
 use Rattle.rdo_ast.specs.declared.syntax.Item.{Item}
 use Rattle.lock_needs.specs.declared.need.Need.{Need}

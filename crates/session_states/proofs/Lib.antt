@@ -22,3 +22,4 @@ pub mod Claims
 pub mod Counting
 pub mod Flying
 pub mod Reserving
+pub mod ReaderStarts

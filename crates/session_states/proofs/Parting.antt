@@ -42,7 +42,6 @@ use Rattle.store_counts.proofs.Places.{more-same}
 use Rattle.store_counts.proofs.Kept.{counted-begins}
 use Rattle.session_states.proofs.Counting.{counted-moved, counted-over, committing-writes}
 
-
 nothing-guarded : IsGuarded [] (knows nothing)
 nothing-guarded = record {
   line = λ key what e. absurd (none-some what e);

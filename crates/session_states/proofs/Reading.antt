@@ -45,6 +45,7 @@ use Rattle.session_states.proofs.Forgoing.{and-undone}
 use Rattle.session_states.proofs.Parting.{nothing-agrees, begun-needs, begins-stays}
 use Rattle.session_states.proofs.Resting.{leaves-others, rests-by, found-here, none-dead, time-later}
 use Rattle.session_states.proofs.Storing.{said-needs, said-more}
+use Rattle.session_states.proofs.ReaderStarts.{reader-stays}
 use Rattle.store_counts.proofs.Kept.{counted-on, counted-events, counted-begins}
 use Rattle.session_states.proofs.Counting.{counted-over}
 
@@ -182,22 +183,22 @@ module _ (M : Model) (orderly : IsOrderly M) where
   line-tied o p c s x l is_open closed tied = ended-tied c.locks c.locks s p (after o p (Said s l.item l.choices l.reply)) tied (λ u other. refl) closed refl refl (λ t. said-needs o p s x l is_open t ∙ tied.needs t)
 
   -- its job came back with a record
-  pub answers-to-reader : (s : ℕ) (c : Shared) (left : List Item) (total : ℕ) (standing : Standing) (known : Held) (spoken : Bool) (item : Item) (r : TxRecord) → (spoken || not (leaves_none (uttered_of item) && not (is_done r.reply))) ≡ true →
+  pub answers-to-reader : (s : ℕ) (c : Shared) (left : List Item) (total : ℕ) (standing : Standing) (known : Held) (spoken : Bool) (item : Item) (r : TxRecord) →
       IsFound M c.word standing (uttered_of item) (knows known) (Done r) →
       Step M s c (session left total (Reading (reader standing known spoken (Working item Out)))) c (session left total (Reading (reader ReadOnly known true Between))) (Said s (uttered_of item) r.choices r.reply ∷ [])
-  answers-to-reader s c left total standing known spoken item r may found = record {
+  answers-to-reader s c left total standing known spoken item r found = record {
     word = refl;
     others = leaves-others s c;
     leaves = λ o p g f.
         let i = uttered_of item in
         let w : Reads M p g s standing (Some i) = f.here.stands.state in
         let l : Line = record { item = i; choices = r.choices; reply = r.reply } in
+        let right : IsRight M c.word standing (g.desk s).known (worked_of i r) = subst (λ k. IsRight M c.word standing k (worked_of i r)) (sym f.fits.phase.known) found.right in
         record {
           ground = g;
           steps = answers-reading M orderly o p g s (map uttered_of left) total standing (worked_of i r) f.here
-              (subst (λ (u : List ℕ). IsRight M u standing (g.desk s).known (worked_of i r)) (sym f.word)
-              (subst (λ k. IsRight M c.word standing k (worked_of i r)) (sym f.fits.phase.known) found.right))
-              (stays-open (p.transaction s) spoken i r.reply f.fits.phase.spoken may) (rw f.fits.phase.stage refl);
+              (subst (λ (u : List ℕ). IsRight M u standing (g.desk s).known (worked_of i r)) (sym f.word) right)
+              (stays-open (p.transaction s) spoken i r.reply f.fits.phase.spoken (reader-stays M orderly c.word p g s standing i r spoken w right f.fits.phase.spoken)) (rw f.fits.phase.stage refl);
           fits = record {
             ground = record { now = f.fits.ground.now; time = f.fits.ground.time; dead = f.fits.ground.dead };
             tied = line-tied o p c s w.transaction l w.is_open f.fits.phase.wants f.fits.tied;

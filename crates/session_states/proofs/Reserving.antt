@@ -1,6 +1,6 @@
 -- What a START_TRANSACTION reserves is locked before it is said.
-use Rattle.std.proofs.Common.{◌≡◌, ℕ, ◌∷◌, [], Bool, true, false, List, take, refl, ◌∙◌, sym, ap, subst, Option, Some, None, slice_get}
-use Rattle.std.specs.List.{list_any, AllByRecursion}
+use Rattle.std.proofs.Common.{◌≡◌, ℕ, ◌∷◌, [], Bool, true, List, refl, sym, subst, Some, None}
+use Rattle.std.specs.List.{AllByRecursion}
 use Rattle.rdo_ast.specs.declared.reply.Standing.{Standing}
 use Rattle.rdo_ast.specs.declared.reply.Standing.TheVariants.{Closed}
 use Rattle.rdo_ast.specs.declared.syntax.Item.{Item}

@@ -17,7 +17,7 @@ use Rattle.lock_tree_laws.specs.Parties.{resting}
 use Rattle.lock_tree_laws.specs.Wanted.{needs_of}
 use Rattle.rdb_account.specs.Events.{Said, RolledBack}
 use Rattle.rdb_account.specs.Places.{Opening, Place, Transaction, Line, after, begins, leaves_none, is_done, is_first_refused, place_from}
-use Rattle.rdb_account.specs.Lawful.{IsExcused, has_cause, first_refusal, is_nowait, never_waits}
+use Rattle.rdb_account.specs.Lawful.{IsExcused, has_cause, first_refusal, is_nowait}
 use Rattle.rdb_account.specs.AskedFor.{item_asks}
 use Rattle.rdb_account.specs.Legal.{ends_by}
 use Rattle.rdb_account.proofs.Growth.{place-grown}
@@ -57,7 +57,7 @@ use Rattle.lock_ties.proofs.Places.{at-same}
 use Rattle.session_states.proofs.Claims.{wanted-nothing, both-nothing}
 use Rattle.session_states.proofs.Counting.{counted-ended}
 use Rattle.session_states.proofs.Storing.{said-needs}
-use Rattle.session_states.proofs.Refusing.{asks-free, asks-waits}
+use Rattle.session_states.proofs.Refusing.{asks-free}
 use Rattle.session_states.proofs.Forgoing.{and-undone}
 
 module _ (M : Model) (orderly : IsOrderly M) where

@@ -38,7 +38,7 @@ use Rattle.session_states.specs.declared.stage.Work.TheVariants.{Opening, Lackin
 use Rattle.session_states.specs.declared.stage.Laying.{Laying}
 use Rattle.session_states.specs.declared.stage.Laying.TheVariants.{Claiming, Changing}
 use Rattle.session_states.specs.declared.stage.End.{End}
-use Rattle.session_states.specs.declared.stage.End.TheVariants.{Journal, Ready, Committing, RollingBack, Leaving}
+use Rattle.session_states.specs.declared.stage.End.TheVariants.{Ready, Committing, RollingBack, Leaving}
 use Rattle.session_states.specs.declared.stage.Stage.{Stage}
 use Rattle.session_states.specs.declared.stage.Stage.TheVariants.{Between, Working, Reserving, Saying, Ending}
 use Rattle.session_states.specs.declared.stage.Writer.{Writer}

@@ -1,29 +1,26 @@
 -- A store goes on being within the account's counts.
-use Rattle.std.proofs.Common.{◌≡◌, ◌≤◌, ℕ, suc, ◌+◌, ◌++◌, ◌∷◌, [], ◌==◌, ◌||◌, ◌&&◌, not, cond, if◌then◌else◌, Bool, true, false, List, length, sum_by, refl, ◌∙◌, sym, ap, subst, arith, Option, Some, None, is_some, ◌⊎◌, inl, inr}
+use Rattle.std.proofs.Common.{◌≡◌, ◌≤◌, ℕ, ◌+◌, ◌++◌, ◌∷◌, [], ◌==◌, ◌||◌, not, cond, if◌then◌else◌, Bool, true, false, List, length, refl, ◌∙◌, sym, ap, subst, arith, Option, Some, None, is_some, ◌⊎◌, inl, inr}
 use Rattle.std.specs.List.{list_any, filter}
 use Rattle.std.specs.Ordering.{is_eq}
-use Rattle.std.proofs.lemmas.Bool.{false≢true, or_cases, or_left, or_right, and_parts, and_from}
-use Rattle.std.proofs.lemmas.List.Folds.{list_any-append}
+use Rattle.std.proofs.lemmas.Bool.{false≢true, or_cases, or_left, or_right, and_parts}
 use Rattle.rdb_types.specs.declared.keys.Dbkey.{Dbkey}
 use Rattle.rdb_types.specs.declared.keys.Limits.{Limits as OfStore}
 use Rattle.rdb_types.specs.declared.node.Node.{Node}
 use Rattle.rdb_types.specs.Order.{dbkey_order}
 use Rattle.rdo_ast.specs.declared.reply.Standing.{Standing}
 use Rattle.lock_needs.specs.declared.need.Need.{Need}
-use Rattle.lock_needs.specs.Nodes.{same_node}
 use Rattle.line_view.specs.declared.writes.Write.{Write}
 use Rattle.line_view.specs.Knowledge.{Lines, line_in, laid}
 use Rattle.line_view.specs.Writes.{laid_all}
 use Rattle.line_view.proofs.FullMap.{laid_found}
 use Rattle.rdb_account.specs.Events.{Event, Began, Got}
 use Rattle.rdb_account.specs.Places.{Opening, Place, Transaction, Limits, after, place_from, start, at, begun, changed, with_need, pairs_with, is_new_write, is_line}
-use Rattle.rdb_account.specs.Lawful.{is_taken, is_space_page, file_of, sessions}
-use Rattle.kept_apart.specs.Guards.{line_node}
-use Rattle.line_store.specs.Seats.{Seat, IsMember, writes_of, changing, lines_added, lines_written, is_written, Adds}
-use Rattle.line_store.specs.Shelves.{Space, Shelf}
-use Rattle.line_store.specs.Calls.{KeepsOthers, KeepsSpace, TakesSlots, TakesGroup, Changes, Commits}
+use Rattle.rdb_account.specs.Lawful.{is_taken, is_space_page, file_of}
+use Rattle.line_store.specs.Seats.{Seat, IsMember, writes_of, lines_added, is_written}
+use Rattle.line_store.specs.Shelves.{Shelf}
+use Rattle.line_store.specs.Calls.{KeepsOthers, KeepsSpace, Changes, Commits}
 use Rattle.lock_ties.proofs.Places.{at-same, at-other, number}
-use Rattle.store_counts.specs.Counts.{written_of, is_on_line, is_claimed, AreClaimed, is_laid, unlaid, all_unlaid, AreLimits, AreOnPages, IsCounted, IsCountedFrom, TakesAt}
+use Rattle.store_counts.specs.Counts.{written_of, is_on_line, AreClaimed, is_laid, unlaid, AreLimits, IsCounted, IsCountedFrom, TakesAt}
 use Rattle.store_counts.proofs.Filters.{passes-most}
 use Rattle.store_counts.proofs.Sums.{sum-less, sum-more, sum-fewer}
 use Rattle.store_counts.proofs.Lines.{claimed-key, claimed-added, claimed-on, fewer-left, written-within}

@@ -1,22 +1,21 @@
 -- Where the store refuses at a limit, the account has the cause.
-use Rattle.std.proofs.Common.{◌≡◌, ◌≢◌, ◌≤◌, ◌<◌, ℕ, zero, suc, ◌+◌, ◌-◌, ◌%◌, ◌==◌, ◌||◌, ◌&&◌, [], nat_lt, if◌then◌else◌, Bool, true, false, List, length, sum_by, refl, ◌∙◌, sym, ap, subst, arith, Option, Some, None, is_some, ◌⊎◌, inl, inr}
-use Rattle.std.proofs.lemmas.Bool.{false≢true, or_cases, or_left, or_right, and_parts, and_from}
+use Rattle.std.proofs.Common.{◌≡◌, ◌≢◌, ◌≤◌, ◌<◌, ℕ, zero, suc, ◌-◌, ◌%◌, ◌==◌, ◌||◌, ◌&&◌, [], nat_lt, if◌then◌else◌, Bool, true, false, List, length, refl, ◌∙◌, sym, ap, subst, arith, Option, Some, None, is_some, ◌⊎◌, inl, inr}
+use Rattle.std.proofs.lemmas.Bool.{or_cases, or_left, or_right, and_parts, and_from}
 use Rattle.rdb_types.specs.declared.keys.Dbkey.{Dbkey}
 use Rattle.rdo_ast.specs.declared.reply.Reply.TheVariants as r
 use Rattle.rdb_page.specs.Page.{IsOwner}
 use Rattle.area_files.specs.Areas.{IsSpacePage}
 use Rattle.line_view.specs.declared.writes.Write.{Write}
-use Rattle.line_view.specs.Knowledge.{Lines, line_in}
-use Rattle.line_view.specs.Writes.{laid_all}
+use Rattle.line_view.specs.Knowledge.{line_in}
 use Rattle.rdb_account.specs.Places.{Opening, Place, Transaction}
-use Rattle.rdb_account.specs.Lawful.{has_cause, is_taken, is_space_page, all_taken, file_of, written_by, part_of_other, journal_sum, sessions}
+use Rattle.rdb_account.specs.Lawful.{has_cause, is_taken, is_space_page, all_taken, file_of, written_by, journal_sum}
 use Rattle.line_store.specs.declared.answers.ChangeStop.TheVariants as change
 use Rattle.line_store.specs.declared.answers.CommitStop.TheVariants as commit
-use Rattle.line_store.specs.Seats.{Seat, IsMember, IsWriting, writing, writes_of, lines_added, lines_written, is_written}
+use Rattle.line_store.specs.Seats.{Seat, IsMember, IsWriting, writing, writes_of, is_written}
 use Rattle.line_store.specs.Shelves.{Shelf, seen_from, seen_by}
 use Rattle.line_store.specs.Rooms.{IsFull, first_line}
 use Rattle.line_store.specs.Calls.{MayStopChange, MayStopCommit}
-use Rattle.store_counts.specs.Counts.{written_of, is_on_line, is_claimed, AreClaimed, unlaid, IsCounted}
+use Rattle.store_counts.specs.Counts.{written_of, is_on_line, AreClaimed, unlaid, IsCounted}
 use Rattle.store_counts.proofs.Sums.{sum-part}
 use Rattle.store_counts.proofs.Lines.{claimed-key, added-within, written-within}
 use Rattle.store_counts.proofs.Places.{touched-taken}
@@ -90,7 +89,7 @@ seen-taken : (o : Opening) (p : Place) (h : Shelf) (s : ℕ) (seat : Seat) → h
 seen-taken o p h s (writing ws) at writes c is_open key e =
     elim (or_cases (is_written key ws) (is_some (line_in key h.now)) (laid-found key ws h.now (subst (λ (x : Seat). is_some (line_in key (seen_from x h.now)) ≡ true) at e))) [
       | inl w ↦ touched-taken o p key (and_parts (is_on_line (written_of (p.transaction s)) key) (is_on_line p.touched key)
-            (claimed-key p s ws key (subst (λ (x : Seat). AreClaimed p s (writes_of x)) at (c.claimed s is_open)) w)).1
+          (claimed-key p s ws key (subst (λ (x : Seat). AreClaimed p s (writes_of x)) at (c.claimed s is_open)) w)).1
       | inr l ↦ c.lines key l
     ]
 seen-taken o p h s seat at writes c is_open key e = absurd writes

@@ -1,16 +1,15 @@
 -- What an event leaves of a place's counts.
-use Rattle.std.proofs.Common.{◌≡◌, ◌≤◌, ℕ, suc, ◌+◌, ◌++◌, ◌∷◌, [], ◌==◌, ◌||◌, ◌&&◌, not, cond, if◌then◌else◌, Bool, true, false, List, length, refl, ◌∙◌, sym, ap, subst, arith, Option, Some, None, is_some, inl, inr}
+use Rattle.std.proofs.Common.{◌≡◌, ℕ, ◌++◌, ◌∷◌, [], ◌==◌, ◌||◌, ◌&&◌, if◌then◌else◌, Bool, true, false, List, refl, ◌∙◌, sym, ap, subst, arith, Option, Some, None, is_some, inl, inr}
 use Rattle.std.specs.List.{list_any}
 use Rattle.std.proofs.lemmas.Bool.{false≢true, or_cases, or_left, or_right, and_parts, and_from}
 use Rattle.std.proofs.lemmas.List.Folds.{list_any-append}
 use Rattle.rdb_types.specs.declared.keys.Dbkey.{Dbkey}
 use Rattle.rdb_types.specs.declared.node.Node.{Node}
 use Rattle.rdo_ast.specs.Tree.{Uttered}
-use Rattle.lock_needs.specs.declared.need.Need.{Need}
 use Rattle.lock_needs.specs.Nodes.{same_node}
 use Rattle.lock_needs.proofs.NodeLaws.{same_node-true}
 use Rattle.rdb_account.specs.Events.{Event, Began, Wanted, Got, Demoted, Said, Committed, RolledBack, Died, Recovered}
-use Rattle.rdb_account.specs.Places.{Opening, Place, Transaction, Due, nothing, commit_reply, rollback_reply, rolls_back, after, place_from, changed, ended, committed_by, behind_roll_back, recovered_by, next_item, is_writer, is_line, is_new_write, with_need, pairs_with, at}
+use Rattle.rdb_account.specs.Places.{Opening, Place, Transaction, Due, nothing, commit_reply, rollback_reply, rolls_back, after, place_from, changed, ended, committed_by, behind_roll_back, next_item, is_writer, is_line, at}
 use Rattle.rdb_account.specs.Lawful.{is_taken, is_space_page, file_of}
 use Rattle.kept_apart.specs.Guards.{line_node}
 use Rattle.lock_ties.proofs.Places.{at-same, at-other, number}
@@ -33,9 +32,9 @@ taken-on o p q more file page h =
     elim (or_cases (is_space_page page) (o.has_owner file page || list_any on p.touched) h) [
       | inl e ↦ or_left (is_space_page page) (o.has_owner file page || list_any on q.touched) e
       | inr e ↦ or_right (is_space_page page) (o.has_owner file page || list_any on q.touched) (elim (or_cases (o.has_owner file page) (list_any on p.touched) e) [
-            | inl k ↦ or_left (o.has_owner file page) (list_any on q.touched) k
-            | inr k ↦ or_right (o.has_owner file page) (list_any on q.touched) (more on k)
-          ])
+        | inl k ↦ or_left (o.has_owner file page) (list_any on q.touched) k
+        | inr k ↦ or_right (o.has_owner file page) (list_any on q.touched) (more on k)
+      ])
     ]
   where
     on : Node → Bool

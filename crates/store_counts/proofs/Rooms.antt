@@ -1,5 +1,5 @@
 -- What a store takes for a room.
-use Rattle.std.proofs.Common.{◌≡◌, ◌≢◌, ℕ, ◌==◌, Bool, true, false, refl, ◌∙◌, sym, arith, ◌⊎◌, inl, inr}
+use Rattle.std.proofs.Common.{◌≡◌, ℕ, ◌==◌, Bool, true, false, refl, ◌∙◌, sym, arith, ◌⊎◌, inl, inr}
 use Rattle.rdb_types.specs.declared.keys.Dbkey.{Dbkey}
 use Rattle.rdb_account.specs.Lawful.{file_of}
 use Rattle.line_store.specs.Shelves.{Space, Shelf}

@@ -1,5 +1,5 @@
 -- Sums over the sessions, of which one has another part.
-use Rattle.std.proofs.Common.{◌≡◌, ◌≤◌, ◌<◌, ℕ, zero, suc, ◌+◌, ◌==◌, [], ◌∷◌, Bool, true, false, List, cond, sum_by, refl, sym, ap, subst, arith}
+use Rattle.std.proofs.Common.{◌≡◌, ◌≤◌, ◌<◌, ℕ, zero, suc, ◌+◌, ◌==◌, [], ◌∷◌, Bool, true, false, List, cond, sum_by, refl, ap, subst, arith}
 use Rattle.std.proofs.lemmas.List.Sums.{sum_by-cons}
 use Rattle.rdb_account.specs.Lawful.{sessions}
 use Rattle.line_store.specs.Seats.{IsMember}

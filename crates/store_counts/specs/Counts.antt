@@ -8,7 +8,7 @@ use Rattle.lock_needs.specs.Nodes.{same_node}
 use Rattle.line_view.specs.declared.writes.Write.{Write}
 use Rattle.line_view.specs.Knowledge.{Lines, line_in}
 use Rattle.rdb_account.specs.Places.{Opening, Limits, Place, Transaction}
-use Rattle.rdb_account.specs.Lawful.{is_taken, file_of, written_by, sessions}
+use Rattle.rdb_account.specs.Lawful.{is_taken, file_of, sessions}
 use Rattle.kept_apart.specs.Guards.{line_node}
 use Rattle.line_store.specs.Seats.{Seat, writes_of}
 use Rattle.line_store.specs.Shelves.{Space, Shelf}

@@ -1,4 +1,4 @@
-use Rattle.std.proofs.Common.{◌≡◌, ◌&&◌, Bool, false, refl, ◌∙◌, ap, not}
+use Rattle.std.proofs.Common.{false, refl, ◌∙◌, ap, not}
 use Rattle.rdo_ast.specs.Views.{uttered_of}
 use Rattle.rdb_account.specs.Legal.{ends_by}
 use Rattle.rdo_ast.specs.declared.reply.Reply.TheVariants as r
