@@ -1,5 +1,6 @@
 pub mod Answers
 pub mod Ways
+pub mod Left
 pub mod Coming
 pub mod Acted
 pub mod Defined

@@ -78,13 +78,18 @@ IsDefining (delete_relation n) = Unit {0}
 IsDefining (delete_index n) = Unit {0}
 IsDefining _ = ⊥
 
+-- an action in which a FOR or a statistic has no range
+abbrev pub IsUnranged : Command → Type 0
+IsUnranged (perform a) = (is_bare a ≡ false) × (names_any (act_uses a []) ≡ false)
+IsUnranged _ = ⊥
+
 abbrev pub IsWay : Way → Command → Type 0
 IsWay Plain command = IsPlain command
 IsWay Reserving command = IsReserving command
 IsWay Bare command = IsBare command
 IsWay Acting command = NamesSome command
 IsWay Defining command = IsDefining command
-IsWay Strange command = Unit {0}
+IsWay Strange command = IsUnranged command
 
 -- it is worked over a view
 abbrev pub IsViewing : Command → Type 0
