@@ -1,7 +1,7 @@
 -- What an action comes to that is done over no lines.
 use Rattle.std.proofs.Common.{◌≡◌, ◌++◌, ℕ, true, false, cond, List, [], ◌∷◌, Some, None, option_map, refl, sym, ap, subst, ◌∙◌}
 use Rattle.rdo_ast.specs.declared.reply.Standing.{Standing}
-use Rattle.rdo_ast.specs.Tree.{Act, perform, said}
+use Rattle.rdo_ast.specs.Tree.{Act, Command, store, for_each, print, modify, erase, perform, said}
 use Rattle.rdb_meaning.specs.declared.tables.Tables.{Tables}
 use Rattle.rdb_meaning.specs.Contents.{no_tables, relation_named}
 use Rattle.rdb_meaning.specs.Checks.{Use, act_uses}
@@ -9,7 +9,7 @@ use Rattle.line_view.specs.declared.need.Need.TheVariants.{Line, Area, Room}
 use Rattle.catalog.specs.declared.reading.Catalog.{Catalog}
 use Rattle.catalog.specs.declared.directory.PlacedLine.{PlacedLine}
 use Rattle.catalog.specs.Reading.{IsCatalogOf, line_keys}
-use Rattle.catalog.specs.Tables.{catalog_tables}
+use Rattle.catalog.specs.Schema.{catalog_tables}
 use Rattle.schema_alone.specs.Schema.{bare}
 use Rattle.statement_view.specs.Areas.{is_among}
 use Rattle.used_areas.specs.Areas.{relation_areas, areas_read, areas_changed}
@@ -21,7 +21,7 @@ use Rattle.sound_maps.specs.Laws.{empty}
 use Rattle.session_jobs.specs.declared.jobs.Found.{Found}
 use Rattle.session_jobs.specs.declared.jobs.Found.TheVariants as found
 use Rattle.rdo_exec.specs.Answers.{IsUnmeant, IsAnswered}
-use Rattle.rdo_exec.specs.Ways.{IsDefining, is_bare}
+use Rattle.rdo_exec.specs.Ways.{IsDefining, HasNoRange, is_bare}
 use Rattle.rdo_exec.specs.Coming.{Comes, ActStays}
 use Rattle.rdo_exec.specs.Acted.{IsSettled, IsAlone}
 use Rattle.rdo_exec.proofs.BareActions.{does_everywhere}
@@ -77,11 +77,17 @@ none_there a known c decodes h =
     let there = subst (λ (t : Tables). option_map bare (relation_named h.name t) ≡ Some (bare (h.unwritable).relation)) same (h.unwritable).there in
     let bad : ⊥ = cc in bad
 
+bare_ranged : (a : Act) → is_bare a ≡ true → HasNoRange a → ⊥
+bare_ranged (store s as') bare_act none = none
+bare_ranged (for_each r cs body) bare_act none = let bad : ⊥ = cc in bad
+bare_ranged (print items) bare_act none = let is = none.0 in let bad : ⊥ = cc in bad
+bare_ranged (modify n as') bare_act none = none
+bare_ranged (erase n) bare_act none = none
+
 left_alone : (word : List ℕ) (standing : Standing) (a : Act) (known : Knowledge) → is_bare a ≡ true → IsLeftOver word standing (said (perform a)) known [] no_tables → IsUnmeant word standing (said (perform a))
 left_alone word standing a known bare_act (strange command is why) =
     let same : command ≡ perform a = cc in
-    let unranged : IsStrange (perform a) = subst IsStrange same why in
-    let bad : ⊥ = cc (bare_act, unranged.0) in absurd bad
+    absurd (bare_ranged a bare_act (subst IsStrange same why))
 left_alone word standing a known bare_act (unmeant choices reply after behind does means) = record {
   choices = choices;
   reply = reply;
@@ -95,7 +101,7 @@ left_alone word standing a known bare_act (no_room command is defines rooms) =
     absurd (subst IsDefining same defines)
 left_alone word standing a known bare_act (no_index_room d c base is decodes same rooms) = let bad : ⊥ = cc in absurd bad
 left_alone word standing a known bare_act (full_index d c base is decodes same full) = let bad : ⊥ = cc in absurd bad
-left_alone word standing a known bare_act (astray d need is lacks elsewhere) = let bad : ⊥ = cc in absurd bad
+left_alone word standing a known bare_act (astray d c need is decodes lacks elsewhere) = let bad : ⊥ = cc in absurd bad
 
 pub alone_answers : (word : List ℕ) (standing : Standing) (a : Act) (known : Knowledge) (f g : Found) → is_bare a ≡ true → Agrees known [] → Comes word standing (said (perform a)) known f → IsAlone f g →
     IsAnswered word standing (said (perform a)) g

@@ -11,7 +11,10 @@ use Rattle.rdb_checks.specs.declared.stop.Stop.{Stop as CheckStop}
 use Rattle.rdb_checks.specs.declared.stop.Stop.TheVariants as check
 use Rattle.rdb_checks.specs.Answers.{Finds}
 use Rattle.rdb_account.specs.Lawful.{first_refusal}
-use Rattle.session_jobs.specs.Jobs.{NamesNoNeed}
+use Rattle.line_view.specs.Held.{knows}
+use Rattle.rdo_ast.specs.Views.{uttered_of}
+use Rattle.session_jobs.specs.declared.jobs.Job.{Job}
+use Rattle.session_jobs.specs.Jobs.{NamesNoNeed, HasCause}
 use Rattle.rdo_ast.specs.declared.reply.Reply.{Reply}
 use Rattle.rdo_ast.specs.declared.reply.Standing.{Standing}
 use Rattle.rdo_ast.specs.Tree.{Uttered, said, syntax_fault, invoke, start_read_only, start_read_write, commit, rollback, finish, perform, define_field, define_relation, define_index, delete_relation, delete_index}
@@ -45,6 +48,17 @@ says_nothing word standing item known f is = subst (λ (x : Found). Comes word s
 
 pub left : (word : List ℕ) (standing : Standing) (item : Uttered) (known : Knowledge) (f : Found) → f ≡ found.Unworked → IsLeft word standing item known → Comes word standing item known f
 left word standing item known f is why = subst (λ (x : Found). Comes word standing item known x) (sym is) (record { usual = tt; once = tt; over = why })
+
+pub why_left : (word : List ℕ) (standing : Standing) (item : Uttered) (known : Knowledge) (f : Found) → Comes word standing item known f → f ≡ found.Unworked → IsLeft word standing item known
+why_left word standing item known f comes is = (subst (λ (x : Found). Comes word standing item known x) is comes).over
+
+-- the same as the clause of who works statements
+pub has_cause : (job : Job) (f : Found) → (f ≡ found.Unworked → IsLeft job.word job.standing (uttered_of job.item) (knows job.known)) → HasCause IsLeft job f
+has_cause job (found.Done r) why = tt
+has_cause job (found.Missing next later) why = tt
+has_cause job (found.Bad key) why = tt
+has_cause job found.Unworked why = why refl
+has_cause job found.NoMemory why = tt
 
 -- ---- where the catalog can't be read
 

@@ -34,7 +34,10 @@ use Rattle.rdo_exec.specs.Answers.{answer_of}
 use Rattle.rdo_exec.specs.Ways.{IsDefining}
 use Rattle.rdo_exec.specs.Coming.{IsCatalogOfKnown, Comes}
 use Rattle.rdo_exec.specs.Defined.{IsMade, IsUnmade, IsWritten, of_deletion}
-use Rattle.rdo_exec.specs.Left.{IsLeftOver, no_room}
+use Rattle.rdb_meaning.specs.Contents.{relation_named}
+use Rattle.rdo_ast.specs.declared.syntax.IndexDefinition.{IndexDefinition}
+use Rattle.index_writes.specs.Definition.{IsNotIndexed, DefinesIndex}
+use Rattle.rdo_exec.specs.Left.{IsLeftOver, IsLeft, IsElsewhere, no_room, no_index_room, full_index, astray}
 use Rattle.rdo_exec.proofs.Answered.{says_nothing, left, answer_comes}
 
 -- ---- what the meaning is
@@ -168,3 +171,21 @@ module _ (word : List ℕ) (standing : Standing) (command : Command) (c : Catalo
         comes_of_defines told f written
         (subst (Defines old new c refusal (after command)) (sym same_end)
         (λ t all view. as_definition (λ u. IsCarriedOut new (refusal t) (after command t) all) (λ need. (refusal t ≡ None) × Lacks (knows old.base) need) (refusal t) old.base end (deletes t all view)))
+
+-- ---- why an index isn't defined
+
+module _ (word : List ℕ) (standing : Standing) (c : Catalog) (known : Knowledge) (decodes : IsCatalogOfKnown known c) (d : IndexDefinition) (base : Held) (same : knows base ≡ known) where
+  pub index_causes : (why : SchemaRefusal) (all : Lines) (t : Tables) → Agrees known all → IsUnasked why → IsNotIndexed base c d t why → IsLeftOver word standing (said (define_index d)) known all t
+  index_causes (Refused reply) all t agrees asked h = absurd asked
+  index_causes NoRoom all t agrees asked h = no_index_room d c base refl (decodes all agrees) same h.1
+  index_causes Full all t agrees asked h = full_index d c base refl (decodes all agrees) same h.1
+
+-- it lacks a line that isn't its relation's
+pub strays : (word : List ℕ) (standing : Standing) (c : Catalog) (known : Knowledge) → IsCatalogOfKnown known c → (d : IndexDefinition) (old new : Over) → knows old.base ≡ known → old.lines ≡ [] →
+    ((all : Lines) → IsInOrder all → Agrees known all → Stands old all) → (end : Result (Unit {0}) SchemaStop) (need : Need) → end ≡ Err (stop.Missing need) → IsElsewhere (relation_named d.relation c.tables) need → DefinesIndex old new c d end →
+    IsLeft word standing (said (define_index d)) known
+strays word standing c known decodes d old new base none stands end need is elsewhere defines = λ all t sound agrees.
+    let whole = begins known c all t sound.0 agrees (decodes all agrees) sound.1 sound.2 in
+    let seen : IsSoundView old c t all = record { stands = stands all sound.0 agrees; sound = subst (λ ls. IsSoundAs (laid_over ls all) c t) (sym none) whole } in
+    let said_so : DefinesIndex old new c d (Err (stop.Missing need)) = subst (DefinesIndex old new c d) is defines in
+    astray d c need refl (decodes all agrees) (subst (λ (k : Knowledge). Lacks k need) base (said_so t all seen).1) elsewhere

@@ -122,8 +122,11 @@ module _ (word : List ℕ) (standing : Standing) (a : Act) (c : Catalog) (known 
     comes_of (Missing needs) f so h = subst (λ (x : Found). Comes word standing item known x) (sym so.is) (record {
       usual = tt;
       once = (tt, tt);
-      over = λ all t sound agrees. ((recursion_from_All (Lacks known) (so.next ∷ so.others)
-          (subst (λ (ns : List Need). All (Lacks known) ns) so.all (h all t agrees (sound_as all t sound agrees)))).0, tt);
+      over = λ all t sound agrees. (
+        (recursion_from_All (Lacks known) (so.next ∷ so.others)
+            (subst (λ (ns : List Need). All (Lacks known) ns) so.all (h all t agrees (sound_as all t sound agrees)))).0,
+        tt,
+      );
     })
     comes_of (Bad key) f so h = subst (λ (x : Found). Comes word standing item known x) (sym so) (record { usual = tt; once = tt; over = λ all t sound agrees. h all t agrees (sound_as all t sound agrees) })
     comes_of NoMemory f so h = says_nothing word standing item known f so

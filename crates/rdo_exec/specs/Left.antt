@@ -1,13 +1,13 @@
 -- Why an item is left unworked.
-use Rattle.std.specs.Prelude.{◌≡◌, ◌≢◌, ℕ, true, List}
+use Rattle.std.specs.Prelude.{◌≡◌, ◌≢◌, ℕ, true, List, Option, Some}
 use Rattle.rdb_types.specs.declared.keys.Dbkey.{Dbkey}
 use Rattle.rdo_ast.specs.declared.reply.Reply.{Reply}
 use Rattle.rdo_ast.specs.declared.reply.Standing.{Standing}
 use Rattle.rdo_ast.specs.declared.syntax.IndexDefinition.{IndexDefinition}
 use Rattle.rdo_ast.specs.Tree.{Act, Command, Uttered, said, invoke, start_read_only, start_read_write, commit, rollback, finish, perform, define_field, define_relation, define_index, delete_relation, delete_index}
 use Rattle.rdb_meaning.specs.declared.tables.Tables.{Tables}
+use Rattle.rdb_meaning.specs.declared.tables.Relation.{Relation}
 use Rattle.rdb_meaning.specs.Contents.{relation_named}
-use Rattle.rdb_meaning.specs.Execution.{area_of}
 use Rattle.rdb_meaning.specs.Meaning.{Does}
 use Rattle.rdb_meaning.specs.Usual.{is_refusal_of_means}
 use Rattle.line_view.specs.declared.need.Need.{Need}
@@ -41,11 +41,11 @@ IsStrange commit = ⊥
 IsStrange rollback = ⊥
 IsStrange finish = ⊥
 
--- a line, or all lines, of another area than this
-abbrev pub IsElsewhere : ℕ → Need → Type 0
-IsElsewhere area (Line key) = key.area ≢ area
-IsElsewhere area (Area other) = other ≢ area
-IsElsewhere area (Room room) = ⊥
+-- a line, or all lines, of another area than that of the relation
+abbrev pub IsElsewhere : Option Relation → Need → Type 0
+IsElsewhere rel (Line key) = (r : Relation) → rel ≡ Some r → key.area ≢ r.area
+IsElsewhere rel (Area area) = (r : Relation) → rel ≡ Some r → area ≢ r.area
+IsElsewhere rel (Room room) = ⊥
 
 -- Why an item is left, over one sound map with its tables.
 pub data IsLeftOver (word : List ℕ) (standing : Standing) (item : Uttered) (known : Knowledge) (all : Lines) (t : Tables) : Type 0 where
@@ -61,7 +61,7 @@ pub data IsLeftOver (word : List ℕ) (standing : Standing) (item : Uttered) (kn
   no_index_room : (d : IndexDefinition) (c : Catalog) (base : Held) → item ≡ said (define_index d) → IsCatalogOf all c → knows base ≡ known → HasNoRoom base c → IsLeftOver word standing item known all t
   full_index : (d : IndexDefinition) (c : Catalog) (base : Held) → item ≡ said (define_index d) → IsCatalogOf all c → knows base ≡ known → IsFullIn base c → IsLeftOver word standing item known all t
   -- DEFINE INDEX lacks a line that isn't its relation's: one of the new index, for which nobody may ask
-  astray : (d : IndexDefinition) (need : Need) → item ≡ said (define_index d) → Lacks known need → IsElsewhere (area_of (relation_named d.relation t)) need → IsLeftOver word standing item known all t
+  astray : (d : IndexDefinition) (c : Catalog) (need : Need) → item ≡ said (define_index d) → IsCatalogOf all c → Lacks known need → IsElsewhere (relation_named d.relation c.tables) need → IsLeftOver word standing item known all t
 
 -- the same over each sound map with which what is known agrees
 abbrev pub IsLeft : List ℕ → Standing → Uttered → Knowledge → Type 0
