@@ -45,7 +45,8 @@ pub struct Said {
 }
 
 struct Worked {
-    answer: Answer,
+    job: Job,
+    found: Found,
     learnt: Learnt,
 }
 
@@ -135,25 +136,29 @@ impl<S: Statements> Session<S> {
         }
     }
 
-    // Works a job until it lacks nothing, or what can't be learnt.
+    // Works a job until it lacks nothing, or what can't be learnt. Nothing is kept from one try to the next.
     fn work(&mut self, alloc: Global, job: Job) -> Result<Worked, NoMemory> {
-        let mut answer = S::work(job);
+        let Answer {
+            mut job,
+            mut found,
+            ..
+        } = S::work(job, S::nothing());
+        let mut learnt = Learnt::All;
         for _ in 0..MAX_TRIES {
-            let Found::Missing { next, later } = &answer.found else {
-                return Ok(Worked {
-                    answer,
-                    learnt: Learnt::All,
-                });
+            let Found::Missing { next, later } = &found else {
+                return Ok(Worked { job, found, learnt });
             };
-            let known = &mut answer.job.known;
-            let learnt = self.learn_all(alloc, *next, later.as_slice(), known)?;
+            learnt = self.learn_all(alloc, *next, later.as_slice(), &mut job.known)?;
             if !matches!(learnt, Learnt::All) {
-                return Ok(Worked { answer, learnt });
+                return Ok(Worked { job, found, learnt });
             }
-            answer = S::work(answer.job);
+            let answer = S::work(job, S::nothing());
+            job = answer.job;
+            found = answer.found;
         }
         Ok(Worked {
-            answer,
+            job,
+            found,
             learnt: Learnt::Endless,
         })
     }
@@ -196,8 +201,8 @@ impl<S: Statements> Session<S> {
         Ok(())
     }
 
-    fn take_back(&mut self, answer: Answer, learnt: Learnt) -> Result<Said, NoMemory> {
-        let Answer { job, found } = answer;
+    fn take_back(&mut self, worked: Worked) -> Result<Said, NoMemory> {
+        let Worked { job, found, learnt } = worked;
         let Job {
             word,
             standing,
@@ -218,8 +223,8 @@ impl<S: Statements> Session<S> {
     /// Says an item: it is worked until it lacks nothing, and what it wrote stands on the lines.
     pub fn say(&mut self, alloc: Global, word: Word, item: Item) -> Result<Said, NoMemory> {
         let job = self.job_of(alloc, word, item);
-        let Worked { answer, learnt } = self.work(alloc, job)?;
-        let said = self.take_back(answer, learnt)?;
+        let worked = self.work(alloc, job)?;
+        let said = self.take_back(worked)?;
         if let Came::Done(record) = &said.came {
             self.follow(alloc, &said.item, record)?;
         }
