@@ -40,7 +40,8 @@ impl Counts {
             Reply::Done(_) => self.done = self.done.wrapping_add(1),
             _ => self.refused = self.refused.wrapping_add(1),
         }
-        self.writes = self.writes.wrapping_add(record.writes.len() as u32);
+        let writes = u32::try_from(record.writes.len()).unwrap_or(u32::MAX);
+        self.writes = self.writes.wrapping_add(writes);
     }
 
     pub fn told(&self, alloc: Global) -> Result<Bytes, NoMemory> {
