@@ -1,5 +1,5 @@
 -- All that a job lacked is locked and read in turn.
-use Rattle.std.proofs.Common.{◌≡◌, ℕ, suc, zero, ◌+◌, ◌∷◌, [], Bool, List, refl, ◌∙◌, sym, ap, subst, Option, Some, None, slice_get}
+use Rattle.std.proofs.Common.{◌≡◌, ℕ, suc, zero, ◌+◌, ◌∷◌, [], Bool, List, refl, ◌∙◌, sym, ap, subst, Option, Some, slice_get}
 use Rattle.std.specs.List.{AllByRecursion}
 use Rattle.std.proofs.lemmas.Option.{none-some, same_Some}
 use Rattle.rdo_ast.specs.declared.reply.Standing.{Standing}
@@ -38,7 +38,7 @@ use Rattle.session_states.specs.declared.stage.Phase.TheVariants.{Writing}
 use Rattle.session_states.specs.Locks.{lock_of}
 use Rattle.session_states.specs.States.{writer, session}
 use Rattle.session_states.specs.Shared.{Shared, with_shelf}
-use Rattle.session_states.specs.Fits.{IsLacked, AreLacked, GatherFits, WantsAtMost, Learns}
+use Rattle.session_states.specs.Fits.{IsLacked, AreLacked, GatherFits, Learns}
 use Rattle.session_states.specs.Steps.{Finds, Step}
 use Rattle.session_states.proofs.Basics.{wants-none}
 use Rattle.session_states.proofs.Resting.{rests-by, learns-on, learnt_desk}

@@ -21,7 +21,7 @@ pub use laws::wanting::locks_are_wanted;
 pub use laws::working::{statements_are_worked, what_is_locked_is_read};
 pub use locks::lock_of;
 pub use stage::{
-    End, Gather, Laying, Life, LockNeeds, Member, Phase, Reader, ReaderStage, ReaderWork, Stage, Work,
-    Writer,
+    End, Gather, Laying, Life, LockNeeds, Member, Phase, Reader, ReaderStage, ReaderWork, Stage,
+    Work, Writer,
 };
 pub use turns::{Spoken, behind_got, come_back, speak, take_up};

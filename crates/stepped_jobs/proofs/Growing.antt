@@ -1,15 +1,15 @@
 -- What is known grows as lines and areas are read, so that each map with which it agrees agrees with what was known before.
-use Rattle.std.proofs.Common.{◌≡◌, ℕ, Bool, true, false, cond, List, [], ◌∷◌, take, Option, Some, None, Result, Ok, ◌⊎◌, inl, inr, refl, sym, ap, subst, ◌∙◌, is_some}
+use Rattle.std.proofs.Common.{◌≡◌, ℕ, Bool, true, false, cond, List, [], ◌∷◌, take, Option, Some, None, Result, Ok, inl, inr, refl, sym, ap, subst, ◌∙◌, is_some}
 use Rattle.std.specs.Ordering.{is_eq, nat_cmp}
 use Rattle.std.specs.Cmp.{nat_cmp_total}
-use Rattle.std.specs.FinMap.Entries.{find, put, find-put}
+use Rattle.std.specs.FinMap.Entries.{find, find-put}
 use Rattle.std.proofs.lemmas.Bool.{false≢true}
 use Rattle.std.proofs.lemmas.Option.{none-some}
 use Rattle.rdb_types.specs.declared.keys.Dbkey.{Dbkey}
 use Rattle.rdb_types.specs.Order.{dbkey_order}
 use Rattle.rdb_types.specs.OrderLaws.{dbkey_total}
 use Rattle.line_view.specs.declared.need.Room.{Room}
-use Rattle.line_view.specs.Knowledge.{Lines, Agrees, line_in, lines_in, keys_of}
+use Rattle.line_view.specs.Knowledge.{Lines, Agrees, lines_in, keys_of}
 use Rattle.line_view.specs.Held.{Held, knows, usable, unless_present, ordered, with_line, with_lines, with_area, room_order}
 use Rattle.line_view.proofs.Agreements.{room_is}
 use Rattle.line_store.specs.declared.answers.Progress.{Progress}
