@@ -1,0 +1,17 @@
+pub mod Standings
+pub mod Progresses
+pub mod OthersStay
+pub mod Assembled
+pub mod Settled
+pub mod OwnSeat
+pub mod MemberCalls
+pub mod CommitGoesOn
+pub mod MembersGoOn
+pub mod Begins
+pub mod EndsUndone
+pub mod TakenUp
+pub mod HeldUp
+pub mod CommitTurns
+pub mod Rooted
+pub mod Entered
+pub mod Marked
