@@ -7,13 +7,14 @@ use Rattle.rdb_outside.specs.Moments.{Since}
 use Rattle.root_file.specs.declared.Root.{Root as RootValue}
 use Rattle.root_file.specs.Root.{IsRoot}
 use Rattle.new_database.specs.Maker.{root_file}
+use Rattle.stable_lines.specs.Slots.{Undo, line_at}
 use Rattle.stable_lines.specs.Facts.{Facts}
 use Rattle.stable_lines.specs.History.{StandsFrom}
 use Rattle.line_moves.specs.Calls.{OnlyWrites}
 use Rattle.line_moves.proofs.EveryMoment.{since_written}
 use Rattle.line_moves.proofs.Putting.{nat_cases}
 use Rattle.line_seat.proofs.StageStays.{IsBesideIt}
-use Rattle.disk_seats.specs.Ledgers.{Standing, Commit, Ledger, progress_with, progress_of, set_standing}
+use Rattle.disk_seats.specs.Ledgers.{Standing, entries_of, Commit, Ledger, progress_with, progress_of, set_standing}
 use Rattle.disk_seats.specs.Members.{MemberStands, CommitStands, AreApart, LedgerFacts}
 use Rattle.disk_seats.proofs.Standings.{within, standing_is, standing_there}
 use Rattle.disk_seats.proofs.OthersStay.{LeavesSeats, member_stays, commit_stays, used_stays}
@@ -43,9 +44,10 @@ assembled v w file slot g standing tells rest was facts used members commits apa
 
 -- a call of a member whose commit isn't under way, which comes to stand otherwise
 pub member_called : (v w : View) (file : FileId) (slot member : ℕ) (st : Standing) (g : Ledger) → IsTrue v.tells → OnlyWrites file slot v w → file.kind ≢ Root → LedgerFacts v g → Facts (Pending w) (progress_of g)
+    → ((s i : ℕ) (undo : Undo) → s ≢ member → slice_get (entries_of (g.standing s)) i ≡ Some undo → line_at w.content undo.key ≡ line_at v.content undo.key)
     → ((c : Commit) → g.commit ≡ Some c → c.member ≢ member) → LeavesSeats v w g.base member → ((c : Commit) → g.commit ≡ Some c → IsBesideIt v w g.base c.member)
     → MemberStands w g.base member st → AreApart (set_standing member st g.standing) → LedgerFacts w (record g { standing = set_standing member st g.standing })
-member_called v w file slot member st g tells rest other was facts off leaves beside own apart = assembled v w file slot g (set_standing member st g.standing) tells rest was facts
+member_called v w file slot member st g tells rest other was facts lines off leaves beside own apart = assembled v w file slot g (set_standing member st g.standing) tells rest was facts
     (used_stays v w file slot tells other rest was.used) members
     (λ c is. commit_stays v w g.base g.standing (set_standing member st g.standing) c (standing_there member st g.standing c.member (off c is)) (beside c is)
     (subst (λ (o : Option Commit). Facts (Pending w) (progress_with o g.base)) is facts) (was.commit c is))
@@ -54,16 +56,17 @@ member_called v w file slot member st g tells rest other was facts off leaves be
     members : (m : ℕ) → MemberStands w g.base m (set_standing member st g.standing m)
     members m = ⊎_elim
         (λ here. subst (λ (s : Standing). MemberStands w g.base m s) (sym here.1) (subst (λ (k : ℕ). MemberStands w g.base k st) (sym here.0) own))
-        (λ away. subst (λ (s : Standing). MemberStands w g.base m s) (sym away.1) (member_stays v w g.base member leaves m away.0 (g.standing m) (was.member m)))
+        (λ away. subst (λ (s : Standing). MemberStands w g.base m s) (sym away.1) (member_stays v w g.base member leaves m away.0 (g.standing m) (λ i undo got. lines m i undo away.0 got) (was.member m)))
         (standing_is member st g.standing m)
 
 -- a call of a member whose commit isn't under way, which stands as it did
 pub member_kept : (v w : View) (file : FileId) (slot member : ℕ) (g : Ledger) → IsTrue v.tells → OnlyWrites file slot v w → file.kind ≢ Root → LedgerFacts v g → Facts (Pending w) (progress_of g)
+    → ((s i : ℕ) (undo : Undo) → s ≢ member → slice_get (entries_of (g.standing s)) i ≡ Some undo → line_at w.content undo.key ≡ line_at v.content undo.key)
     → LeavesSeats v w g.base member → ((c : Commit) → g.commit ≡ Some c → IsBesideIt v w g.base c.member)
     → MemberStands w g.base member (g.standing member) → LedgerFacts w g
-member_kept v w file slot member g tells rest other was facts leaves beside own = assembled v w file slot g g.standing tells rest was facts
+member_kept v w file slot member g tells rest other was facts lines leaves beside own = assembled v w file slot g g.standing tells rest was facts
     (used_stays v w file slot tells other rest was.used)
-    (λ m. ⊎_elim (λ (here : m ≡ member). subst (λ (k : ℕ). MemberStands w g.base k (g.standing k)) (sym here) own) (λ away. member_stays v w g.base member leaves m away (g.standing m) (was.member m)) (nat_cases m member))
+    (λ m. ⊎_elim (λ (here : m ≡ member). subst (λ (k : ℕ). MemberStands w g.base k (g.standing k)) (sym here) own) (λ away. member_stays v w g.base member leaves m away (g.standing m) (λ i undo got. lines m i undo away got) (was.member m)) (nat_cases m member))
     (λ c is. commit_stays v w g.base g.standing g.standing c refl (beside c is)
     (subst (λ (o : Option Commit). Facts (Pending w) (progress_with o g.base)) is facts) (was.commit c is))
     was.apart

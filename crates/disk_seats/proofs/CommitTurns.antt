@@ -11,6 +11,7 @@ use Rattle.stable_lines.proofs.Histories.{stays, try_goes_on, commit_goes_on, at
 use Rattle.stable_lines.proofs.Lists.{got_either, got_one}
 use Rattle.stable_lines.proofs.Turns.{some_same, going_here, going_there}
 use Rattle.line_moves.specs.Calls.{OnlyWrites}
+use Rattle.line_moves.specs.Lines.{PutsOnly}
 use Rattle.line_seat.specs.declared.commit.CommitStage.{CommitStage}
 use Rattle.line_seat.specs.declared.commit.CommitStage.TheVariants.{Changing, Imaging, Gathering, Sealing, Landing, Committed}
 use Rattle.line_seat.specs.Seats.{SeatFacts}
@@ -23,12 +24,12 @@ use Rattle.disk_seats.proofs.Progresses.{stands_still, is_flying, either_bool, f
 use Rattle.disk_seats.proofs.OthersStay.{used_stays}
 use Rattle.disk_seats.proofs.Assembled.{since_call}
 use Rattle.disk_seats.proofs.MembersGoOn.{members_go_on}
-use Rattle.disk_seats.proofs.HeldUp.{IsOfCommit, not_root, members_stay, now_is, facts_now}
+use Rattle.disk_seats.proofs.HeldUp.{IsOfCommit, not_root, members_stay, other_lines, now_is, facts_now}
 
 -- ---- the history
 
 -- without its flight a progress is where the history ends, too
-at_base : (h : History) (stage : CommitStage) (base : Progress) (f : Flight) → stage ≢ Committed → base.flight ≡ None → IsAt h (progress_at stage base f) → IsAt h base
+pub at_base : (h : History) (stage : CommitStage) (base : Progress) (f : Flight) → stage ≢ Committed → base.flight ≡ None → IsAt h (progress_at stage base f) → IsAt h base
 at_base h stage base f under quiet at = ⊎_elim
     (λ off. subst (λ (p : Progress). IsAt h p) (stands_still stage base f off under) at)
     (λ up. let there = subst (λ (p : Progress). IsAt h p) (is_flying stage base f up) at in
@@ -58,7 +59,7 @@ reached_at true b c g = refl
 
 -- ---- the ledger
 
-module _ (v w : View) (file : FileId) (slot : ℕ) (t : IsTrue v.tells) (rest : OnlyWrites file slot v w) (of : IsOfCommit file slot) (g : Ledger) (c : Commit) (was : LedgerFacts v g) (commits : g.commit ≡ Some c) (facts : Facts (Pending w) (progress_at c.stage g.base c.flight)) where
+module _ (v w : View) (file : FileId) (slot : ℕ) (t : IsTrue v.tells) (rest : OnlyWrites file slot v w) (of : IsOfCommit file slot) (g : Ledger) (c : Commit) (was : LedgerFacts v g) (commits : g.commit ≡ Some c) (facts : Facts (Pending w) (progress_at c.stage g.base c.flight)) (puts : PutsOnly c.lines v.content w.content) where
   old : CommitStands v g.base g.standing c
   old = was.commit c commits
 
@@ -74,7 +75,7 @@ module _ (v w : View) (file : FileId) (slot : ℕ) (t : IsTrue v.tells) (rest : 
     quiet = was.quiet;
     settled = was.settled;
     used = used_stays v w file slot t (not_root file slot of) rest was.used;
-    member = members_stay v w file slot t rest of g.base g.standing was.member;
+    member = members_stay v w file slot t rest of g.base g.standing c.member c.transaction.entries old.its (other_lines v w file slot t rest of g c was commits facts puts) was.member;
     commit = λ d same. subst (λ (k : Commit). CommitStands w g.base g.standing k) (some_same (commit_at next c) d same) (record { its = old.its; under_way = under; is = old.is; of_entries = old.of_entries; facts = there });
     apart = was.apart;
     at = at_next g c next old.under_way under was.quiet at_stage (flies c.stage) (flies next) refl refl;
@@ -96,7 +97,7 @@ module _ (v w : View) (file : FileId) (slot : ℕ) (t : IsTrue v.tells) (rest : 
       was.apart c.member s of_it.0 i of_it.1 undo (λ same. apart (sym same)) of_it.2 (ap (λ (x : Standing). slice_get (entries_of x) i) is ∙ got) (of_it.3 ∙ equal)))
       refl
 
-  landed_facts : Facts (Pending w) (landed c.flight g.base) → LedgerFacts w (landed_at w.moment c g)
+  pub landed_facts : Facts (Pending w) (landed c.flight g.base) → LedgerFacts w (landed_at w.moment c g)
   landed_facts there = record {
     facts = there;
     quiet = refl;
@@ -104,7 +105,7 @@ module _ (v w : View) (file : FileId) (slot : ℕ) (t : IsTrue v.tells) (rest : 
     used = used_stays v w file slot t (not_root file slot of) rest was.used;
     member = members_go_on w g.base (landed c.flight g.base) c.member resting g.standing
         (λ s apart. going_there g.base c.flight.member None s (λ same. apart (same ∙ old.is.its)))
-        seat_lands (members_stay v w file slot t rest of g.base g.standing was.member)
+        seat_lands (members_stay v w file slot t rest of g.base g.standing c.member c.transaction.entries old.its (other_lines v w file slot t rest of g c was commits facts puts) was.member)
         (ap (landed c.flight g.base).going (sym old.is.its) ∙ going_here g.base c.flight.member None);
     commit = λ d same. let bad : None ≡ Some d = same in absurd (cc);
     apart = apart_fewer g.standing c.member resting was.apart (λ i a got. absurd (nothing i a got));

@@ -2,17 +2,17 @@
 use Rattle.std.proofs.Common.{◌≡◌, ◌≢◌, ℕ, ◌<◌, List, [], Option, Some, None, slice_get, ⊎_elim, ap, sym, subst, ◌∙◌, refl, arith}
 use Rattle.rdb_outside.specs.Disk.{View, Pending}
 use Rattle.stable_lines.specs.Slots.{Undo}
-use Rattle.stable_lines.specs.Progress.{Flight, Progress, without}
+use Rattle.stable_lines.specs.Progress.{Progress, without}
 use Rattle.stable_lines.specs.Facts.{IsNotOpen, Facts}
 use Rattle.stable_lines.specs.History.{IsAt}
-use Rattle.stable_lines.proofs.Turns.{some_same, going_is, going_here, going_there}
+use Rattle.stable_lines.proofs.Turns.{going_is, going_here, going_there}
 use Rattle.stable_lines.proofs.Ending.{undone, no_line_bears}
 use Rattle.stable_lines.proofs.Histories.{at_still}
 use Rattle.line_seat.proofs.SeatGoesOn.{behind_without}
-use Rattle.disk_seats.specs.Ledgers.{Standing, resting, changing, broken, committing, Commit, Ledger, progress_with, progress_of, set_standing, ended_by}
+use Rattle.disk_seats.specs.Ledgers.{Standing, resting, changing, broken, committing, undoing, Commit, Ledger, progress_with, progress_of, set_standing, ended_by}
 use Rattle.disk_seats.specs.Members.{HasOpen, MemberStands, LedgerFacts, MayEnd}
 use Rattle.disk_seats.proofs.Standings.{standing_there, apart_fewer}
-use Rattle.disk_seats.proofs.Progresses.{shape_of, same_going, under_way}
+use Rattle.disk_seats.proofs.Progresses.{not_flying, same_going, under_way}
 use Rattle.disk_seats.proofs.CommitGoesOn.{commit_goes_on, without_with}
 use Rattle.disk_seats.proofs.MembersGoOn.{members_go_on}
 
@@ -21,37 +21,18 @@ has_open v base member resting may was = absurd may
 has_open v base member (changing all n) may was = record { transaction = was.transaction; is_open = was.seat.is_open; entries = was.seat.none_stands }
 has_open v base member broken may was = was
 has_open v base member (committing all) may was = absurd may
+has_open v base member (undoing all left) may was = absurd may
 
-module _ (v : View) (g : Ledger) (member : ℕ) (was : LedgerFacts v g) (may : MayEnd (g.standing member)) (off : (c : Commit) → g.commit ≡ Some c → c.member ≢ member) where
-  its : HasOpen g.base member []
-  its = has_open v g.base member (g.standing member) may (was.member member)
-
-  is_open : (progress_of g).going member ≡ Some its.transaction
-  is_open = same_going v g was member ∙ its.is_open
-
-  not_flying : (f : Flight) → (progress_of g).flight ≡ Some f → f.member ≢ member
-  not_flying f flies_now = ⊎_elim
-      (λ still. let bad : None ≡ Some f = sym (ap (λ (p : Progress). p.flight) still ∙ was.quiet) ∙ flies_now in absurd (cc))
-      (λ up. let same : up.its.flight ≡ f = some_same _ _ (sym (ap (λ (p : Progress). p.flight) up.now_is) ∙ flies_now) in
-      λ equal. off up.its up.is (sym (was.commit up.its up.is).is.its ∙ (ap (λ (h : Flight). h.member) same ∙ equal)))
-      (shape_of v g was)
-
-  facts : Facts (Pending v) (without member (progress_of g))
-  facts = undone (Pending v) (progress_of g) member its.transaction is_open
-      (no_line_bears (Pending v) (progress_of g) member its.transaction is_open was.facts (λ i undo x got p. absurd (nothing i undo (ap (λ (l : List Undo). slice_get l i) (sym its.entries) ∙ got))))
-      not_flying was.facts
-    where
-      nothing : (i : ℕ) (undo : Undo) → slice_get [] i ≡ Some undo → ⊥
-      nothing i undo bad = cc
-
+-- behind a step that ends it
+module _ (v : View) (g : Ledger) (member : ℕ) (was : LedgerFacts v g) (off : (c : Commit) → g.commit ≡ Some c → c.member ≢ member) (facts : Facts (Pending v) (without member (progress_of g))) where
   not_open : (tsn : ℕ) → tsn < g.base.next_tsn → IsNotOpen g.base tsn → IsNotOpen (without member g.base) tsn
   not_open tsn low closed s o is = ⊎_elim (λ here. let bad : None ≡ Some o = sym here.is ∙ is in absurd (cc)) (λ away. closed s o (sym away.is ∙ is)) (going_is g.base member None s)
 
   with_it : progress_with g.commit (without member g.base) ≡ without member (progress_of g)
   with_it = without_with g.commit g.base member (under_way v g was)
 
-  pub ended_facts : LedgerFacts v (ended_by member g)
-  ended_facts = record {
+  pub ended_with : LedgerFacts v (ended_by member g)
+  ended_with = record {
     facts = subst (λ (p : Progress). Facts (Pending v) p) (sym with_it) facts;
     quiet = was.quiet;
     settled = was.settled;
@@ -73,3 +54,21 @@ module _ (v : View) (g : Ledger) (member : ℕ) (was : LedgerFacts v g) (may : M
     where
       nothing : (i : ℕ) (a : Undo) → slice_get [] i ≡ Some a → ⊥
       nothing i a bad = cc
+
+module _ (v : View) (g : Ledger) (member : ℕ) (was : LedgerFacts v g) (may : MayEnd (g.standing member)) (off : (c : Commit) → g.commit ≡ Some c → c.member ≢ member) where
+  its : HasOpen g.base member []
+  its = has_open v g.base member (g.standing member) may (was.member member)
+
+  is_open : (progress_of g).going member ≡ Some its.transaction
+  is_open = same_going v g was member ∙ its.is_open
+
+  ends_now : Facts (Pending v) (without member (progress_of g))
+  ends_now = undone (Pending v) (progress_of g) member its.transaction is_open
+      (no_line_bears (Pending v) (progress_of g) member its.transaction is_open was.facts (λ i undo x got p. absurd (nothing i undo (ap (λ (l : List Undo). slice_get l i) (sym its.entries) ∙ got))))
+      (not_flying v g was member off) was.facts
+    where
+      nothing : (i : ℕ) (undo : Undo) → slice_get [] i ≡ Some undo → ⊥
+      nothing i undo bad = cc
+
+  pub ended_facts : LedgerFacts v (ended_by member g)
+  ended_facts = ended_with v g member was off ends_now

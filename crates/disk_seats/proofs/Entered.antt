@@ -12,7 +12,7 @@ use Rattle.stable_lines.specs.Facts.{Facts}
 use Rattle.stable_lines.proofs.Turns.{some_same}
 use Rattle.line_moves.specs.declared.places.Place.{Place}
 use Rattle.line_moves.specs.Calls.{OnlyWrites}
-use Rattle.line_moves.specs.Changes.{IsPlaceOf}
+use Rattle.line_moves.specs.Changes.{IsPlaceOf, KeepsLines}
 use Rattle.line_moves.specs.Lines.{ChangedLines}
 use Rattle.line_moves.proofs.Putting.{nat_cases}
 use Rattle.line_moves.proofs.KeyPlaces.{file_is}
@@ -24,10 +24,10 @@ use Rattle.disk_seats.proofs.Standings.{within}
 use Rattle.disk_seats.proofs.OthersStay.{member_stays, leaves_aside, used_stays}
 use Rattle.disk_seats.proofs.Assembled.{assembled}
 
-pub space_behind : (v w : View) (n slot : ℕ) (g : Ledger) → IsTrue v.tells → OnlyWrites (area_file n) slot v w → LedgerFacts v g → g.commit ≡ None → Facts (Pending w) (progress_of g) → LedgerFacts w g
-space_behind v w n slot g t rest was none facts = assembled v w (area_file n) slot g g.standing t rest was facts
+pub space_behind : (v w : View) (n slot : ℕ) (g : Ledger) → IsTrue v.tells → OnlyWrites (area_file n) slot v w → LedgerFacts v g → g.commit ≡ None → KeepsLines v.content w.content → Facts (Pending w) (progress_of g) → LedgerFacts w g
+space_behind v w n slot g t rest was none lines facts = assembled v w (area_file n) slot g g.standing t rest was facts
     (used_stays v w (area_file n) slot t (λ k. let bad : Area ≡ Root = k in cc) rest was.used)
-    (λ m. member_stays v w g.base (suc m) (leaves_aside v w g.base (suc m) (area_file n) slot t (λ k. let bad : Area ≡ Ruj = k in cc) rest) m (λ same. let no : m ≡ suc m = same in omega (arith, no)) (g.standing m) (was.member m))
+    (λ m. member_stays v w g.base (suc m) (leaves_aside v w g.base (suc m) (area_file n) slot t (λ k. let bad : Area ≡ Ruj = k in cc) rest) m (λ same. let no : m ≡ suc m = same in omega (arith, no)) (g.standing m) (λ i undo got. lines undo.key) (was.member m))
     (λ c is. let bad : None ≡ Some c = sym none ∙ is in absurd (cc))
     was.apart
 

@@ -15,3 +15,5 @@ pub mod CommitTurns
 pub mod Rooted
 pub mod Entered
 pub mod Marked
+pub mod UndoneTurns
+pub mod GivenUp

@@ -4,7 +4,7 @@ use Rattle.rdb_outside.specs.Disk.{View}
 use Rattle.stable_lines.specs.Slots.{Undo}
 use Rattle.stable_lines.specs.Progress.{Open, Progress}
 use Rattle.line_seat.specs.Seats.{SeatFacts}
-use Rattle.disk_seats.specs.Ledgers.{Standing, resting, changing, broken, committing, set_standing}
+use Rattle.disk_seats.specs.Ledgers.{Standing, resting, changing, broken, committing, undoing, set_standing}
 use Rattle.disk_seats.specs.Members.{MemberStands}
 use Rattle.disk_seats.proofs.Standings.{standing_is}
 
@@ -13,6 +13,7 @@ member_goes_on v base new s going resting seat was = going ∙ was
 member_goes_on v base new s going (changing all n) seat was = record { transaction = was.transaction; seat = seat was.transaction all n refl was.seat }
 member_goes_on v base new s going broken seat was = record { transaction = was.transaction; is_open = going ∙ was.is_open; entries = was.entries }
 member_goes_on v base new s going (committing all) seat was = record { transaction = was.transaction; is_open = going ∙ was.is_open; entries = was.entries }
+member_goes_on v base new s going (undoing all left) seat was = record { transaction = was.transaction; is_open = going ∙ was.is_open; entries = was.entries; within = was.within; undone = was.undone }
 
 -- all of them, one of which stands otherwise
 pub members_go_on : (v : View) (base new : Progress) (member : ℕ) (st : Standing) (standing : ℕ → Standing) → ((s : ℕ) → s ≢ member → new.going s ≡ base.going s)

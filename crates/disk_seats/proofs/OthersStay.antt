@@ -1,33 +1,48 @@
 -- What a call of one member leaves of the others.
-use Rattle.std.proofs.Common.{◌≡◌, ◌≢◌, ℕ, ◌≤◌, IsTrue, List, Some, ◌⊎◌, ap, sym, ◌∙◌, refl, arith}
+use Rattle.std.proofs.Common.{◌≡◌, ◌≢◌, ℕ, ◌≤◌, IsTrue, List, Some, slice_get, ◌⊎◌, ap, sym, ◌∙◌, refl, arith}
 use Rattle.rdb_types.specs.declared.file.FileId.{FileId}
 use Rattle.rdb_types.specs.declared.file.FileKind.TheVariants.{Root, Area, Ruj, Aij}
-use Rattle.rdb_outside.specs.Disk.{View, Pending, OnlyReads}
+use Rattle.rdb_types.specs.declared.keys.Line.{Line}
+use Rattle.rdb_outside.specs.Disk.{View, Image, Pending, OnlyReads}
 use Rattle.new_database.specs.Maker.{root_file, aij_file}
 use Rattle.root_file.specs.declared.Root.{Root as RootValue}
 use Rattle.root_file.specs.Root.{IsRoot}
-use Rattle.stable_lines.specs.Slots.{ruj_file, area_file, named, Undo}
+use Rattle.stable_lines.specs.Slots.{ruj_file, area_file, named, Undo, line_at}
 use Rattle.stable_lines.specs.Progress.{Open, Progress}
 use Rattle.stable_lines.specs.Facts.{Facts}
+use Rattle.line_opening.specs.Undoing.{AreUndone}
 use Rattle.line_moves.specs.Calls.{OnlyWrites}
 use Rattle.line_seat.specs.Seats.{SeatFacts}
 use Rattle.line_seat.specs.Stages.{progress_at}
 use Rattle.line_seat.proofs.SeatStays.{stays_reads, stays_aside, stays_beside, stays_headed}
 use Rattle.line_seat.proofs.StageStays.{IsBesideIt, stage_stays}
-use Rattle.disk_seats.specs.Ledgers.{Standing, resting, changing, broken, committing, Commit}
+use Rattle.disk_seats.specs.Ledgers.{Standing, resting, changing, broken, committing, undoing, entries_of, Commit}
 use Rattle.disk_seats.specs.Members.{MemberStands, CommitStands}
 
 -- ---- members
+
+-- where its lines are as they were, what was undone is undone
+pub still_undone : (old new : Image) (o : Open) (all : List Undo) (left : ℕ) → o.entries ≡ all → ((i : ℕ) (undo : Undo) → slice_get all i ≡ Some undo → line_at new undo.key ≡ line_at old undo.key) → AreUndone old o left → AreUndone new o left
+still_undone old new o all left same lines was i undo le got bears =
+    was i undo le got (ap (λ (l : Line). l.tsn.number) (sym (lines i undo (ap (λ (l : List Undo). slice_get l i) (sym same) ∙ got))) ∙ bears)
 
 -- each seat of another member stays
 pub record LeavesSeats (v w : View) (base : Progress) (member : ℕ) : Type 0 where
   pub seat : (s : ℕ) (o : Open) (all : List Undo) (n : ℕ) → s ≢ member → SeatFacts v base s o all n → SeatFacts w base s o all n
 
-pub member_stays : (v w : View) (base : Progress) (member : ℕ) → LeavesSeats v w base member → (s : ℕ) → s ≢ member → (st : Standing) → MemberStands v base s st → MemberStands w base s st
-member_stays v w base member leaves s apart resting was = was
-member_stays v w base member leaves s apart (changing all n) was = record { transaction = was.transaction; seat = leaves.seat s was.transaction all n apart was.seat }
-member_stays v w base member leaves s apart broken was = was
-member_stays v w base member leaves s apart (committing all) was = was
+pub member_stays : (v w : View) (base : Progress) (member : ℕ) → LeavesSeats v w base member → (s : ℕ) → s ≢ member → (st : Standing)
+    → ((i : ℕ) (undo : Undo) → slice_get (entries_of st) i ≡ Some undo → line_at w.content undo.key ≡ line_at v.content undo.key) → MemberStands v base s st → MemberStands w base s st
+member_stays v w base member leaves s apart resting lines was = was
+member_stays v w base member leaves s apart (changing all n) lines was = record { transaction = was.transaction; seat = leaves.seat s was.transaction all n apart was.seat }
+member_stays v w base member leaves s apart broken lines was = was
+member_stays v w base member leaves s apart (committing all) lines was = was
+member_stays v w base member leaves s apart (undoing all left) lines was = record {
+  transaction = was.transaction;
+  is_open = was.is_open;
+  entries = was.entries;
+  within = was.within;
+  undone = still_undone v.content w.content was.transaction all left was.entries lines was.undone;
+}
 
 pub leaves_reads : (v w : View) (base : Progress) (member : ℕ) → IsTrue v.tells → OnlyReads v w → LeavesSeats v w base member
 leaves_reads v w base member t reads = record { seat = λ s o all n apart was. stays_reads v w t reads base s o all n was }

@@ -10,7 +10,7 @@ use Rattle.stable_lines.proofs.Lists.{got_either, got_one}
 use Rattle.line_moves.specs.Calls.{OnlyWrites}
 use Rattle.line_moves.proofs.Putting.{nat_cases}
 use Rattle.line_seat.specs.Seats.{MayChange, SeatFacts}
-use Rattle.disk_seats.specs.Ledgers.{Standing, resting, changing, broken, committing, entries_of, Commit, Ledger, progress_of, set_standing}
+use Rattle.disk_seats.specs.Ledgers.{Standing, resting, changing, broken, committing, undoing, entries_of, Commit, Ledger, progress_of, set_standing}
 use Rattle.disk_seats.specs.Members.{IsChanging, MemberStands, LedgerFacts, AreApart, IsLeftTo}
 use Rattle.disk_seats.proofs.Standings.{apart_set}
 use Rattle.disk_seats.proofs.Progresses.{same_going, same_limits, free_now}
@@ -60,6 +60,7 @@ standing_entries v base m broken was o is i undo got = absurd (nothing (ap (λ (
     nothing : slice_get [] i ≡ Some undo → ⊥
     nothing bad = cc
 standing_entries v base m (committing all) was o is i undo got = ap (λ (l : List Undo). slice_get l i) (sym (ap (λ (p : Open). p.entries) (some_same o was.transaction (sym is ∙ was.is_open)) ∙ was.entries)) ∙ got
+standing_entries v base m (undoing all left) was o is i undo got = ap (λ (l : List Undo). slice_get l i) (sym (ap (λ (p : Open). p.entries) (some_same o was.transaction (sym is ∙ was.is_open)) ∙ was.entries)) ∙ got
 
 pub may_change : (v : View) (g : Ledger) → LedgerFacts v g → (member : ℕ) (o : Open) (all : List Undo) (n : ℕ) (key : Dbkey) → g.standing member ≡ changing all n → g.base.going member ≡ Some o
     → ((c : Commit) → g.commit ≡ Some c → c.member ≢ member) → named (v.content (ruj_file member) 0) ≡ o.tsn.number → IsNoneOf key all → IsLeftTo member key g.standing → key.page ≤ g.base.limits.pages → MayChange v (progress_of g) member o all key

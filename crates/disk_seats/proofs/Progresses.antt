@@ -114,3 +114,11 @@ seat_base w now base commit is quiet member o all n seat = ⊎_elim
     (λ up. subst (λ (p : Progress). SeatFacts w p member o all n) (grounded up.its.flight base quiet)
     (behind_fall w (flying up.its.flight base) member o all n (subst (λ (p : Progress). SeatFacts w p member o all n) up.now_is seat)))
     is
+
+-- a member whose commit isn't under way doesn't fly
+pub not_flying : (v : View) (g : Ledger) → LedgerFacts v g → (member : ℕ) → ((c : Commit) → g.commit ≡ Some c → c.member ≢ member) → (f : Flight) → (progress_of g).flight ≡ Some f → f.member ≢ member
+not_flying v g was member off f flies_now = ⊎_elim
+    (λ still. let bad : None ≡ Some f = sym (ap (λ (p : Progress). p.flight) still ∙ was.quiet) ∙ flies_now in absurd (cc))
+    (λ up. let same : up.its.flight ≡ f = some_same _ _ (sym (ap (λ (p : Progress). p.flight) up.now_is) ∙ flies_now) in
+    λ equal. off up.its up.is (sym (was.commit up.its up.is).is.its ∙ (ap (λ (h : Flight). h.member) same ∙ equal)))
+    (shape_of v g was)

@@ -1,15 +1,17 @@
 -- A ledger behind a barrier.
-use Rattle.std.proofs.Common.{◌≡◌, ℕ, IsTrue, Some, ap, sym, subst, ◌∙◌, refl}
+use Rattle.std.proofs.Common.{◌≡◌, ℕ, IsTrue, List, Some, ap, sym, subst, ◌∙◌, refl}
 use Rattle.rdb_outside.specs.Disk.{View, Pending, IsStable, OnlyReads}
 use Rattle.new_database.specs.Maker.{root_file}
+use Rattle.stable_lines.specs.Slots.{Undo}
 use Rattle.stable_lines.specs.Facts.{Facts}
 use Rattle.line_moves.proofs.Runs.{writes_none}
 use Rattle.line_seat.proofs.Stable.{holds_all}
 use Rattle.line_seat.proofs.StageStays.{beside_reads}
-use Rattle.disk_seats.specs.Ledgers.{Standing, resting, changing, broken, committing, gained, Commit, Ledger, progress_of, progress_with, all_stable}
-use Rattle.disk_seats.specs.Members.{MemberStands, LedgerFacts}
+use Rattle.disk_seats.specs.Ledgers.{Standing, resting, changing, broken, committing, undoing, gained, Commit, Ledger, progress_of, progress_with, all_stable}
+use Rattle.disk_seats.specs.Members.{IsPuttingBack, MemberStands, LedgerFacts}
 use Rattle.disk_seats.proofs.Standings.{apart_gained}
-use Rattle.disk_seats.proofs.OthersStay.{commit_stays}
+use Rattle.line_moves.proofs.OnlyPut.{keeps_lines}
+use Rattle.disk_seats.proofs.OthersStay.{commit_stays, still_undone}
 use Rattle.disk_seats.proofs.Assembled.{assembled}
 use Rattle.line_seat.proofs.SeatStays.{stays_reads}
 
@@ -17,11 +19,21 @@ module _ (v w : View) (g : Ledger) (t : IsTrue v.tells) (reads : OnlyReads v w) 
   facts_of : (c : Commit) → g.commit ≡ Some c → Facts (Pending w) (progress_with (Some c) g.base)
   facts_of c is = subst (λ o. Facts (Pending w) (progress_with o g.base)) is facts
 
+  undone_still : (m : ℕ) (all : List Undo) (left : ℕ) → IsPuttingBack v g.base m all left → IsPuttingBack w g.base m all left
+  undone_still m all left here = record {
+    transaction = here.transaction;
+    is_open = here.is_open;
+    entries = here.entries;
+    within = here.within;
+    undone = still_undone v.content w.content here.transaction all left here.entries (λ i undo got. keeps_lines v.content w.content (reads.keeps t).content undo.key) here.undone;
+  }
+
   read_member : (m : ℕ) (st : Standing) → MemberStands v g.base m st → MemberStands w g.base m st
   read_member m resting here = here
   read_member m (changing all n) here = record { transaction = here.transaction; seat = stays_reads v w t reads g.base m here.transaction all n here.seat }
   read_member m broken here = here
   read_member m (committing all) here = here
+  read_member m (undoing all left) here = undone_still m all left here
 
   pub read_behind : LedgerFacts w g
   read_behind = assembled v w root_file 0 g g.standing t (writes_none root_file 0 v w reads) was facts
@@ -39,6 +51,7 @@ module _ (v w : View) (g : Ledger) (t : IsTrue v.tells) (reads : OnlyReads v w) 
     }
     gained_member m broken here = here
     gained_member m (committing all) here = here
+    gained_member m (undoing all left) here = undone_still m all left here
 
     pub gained_behind : LedgerFacts w (all_stable g)
     gained_behind = assembled v w root_file 0 g (λ m. gained (g.standing m)) t (writes_none root_file 0 v w reads) was facts

@@ -4,7 +4,7 @@ use Rattle.std.proofs.Common.{◌≡◌, ◌≢◌, ℕ, zero, suc, ◌<◌, ◌
 use Rattle.std.proofs.lemmas.Bool.{eqb-true, eqb-false}
 use Rattle.stable_lines.specs.Slots.{Undo}
 use Rattle.rdb_outside.specs.Disk.{View}
-use Rattle.disk_seats.specs.Ledgers.{Standing, resting, changing, broken, committing, entries_of, gained, Commit, Ledger, set_standing}
+use Rattle.disk_seats.specs.Ledgers.{Standing, resting, changing, broken, committing, undoing, entries_of, gained, Commit, Ledger, set_standing}
 use Rattle.disk_seats.specs.Members.{AreApart, LedgerFacts, MayEnd}
 
 pub within : {A : Type 0} (xs : List A) (i : ℕ) (x : A) → slice_get xs i ≡ Some x → i < length xs
@@ -55,6 +55,7 @@ entries_gained resting = refl
 entries_gained (changing all n) = refl
 entries_gained broken = refl
 entries_gained (committing all) = refl
+entries_gained (undoing all left) = refl
 
 pub apart_gained : (was : ℕ → Standing) → AreApart was → AreApart (λ m. gained (was m))
 apart_gained was before m n i k a b ne p q = before m n i k a b ne
@@ -75,8 +76,8 @@ module _ (v : View) (g : Ledger) (member : ℕ) (was : LedgerFacts v g) where
   pub not_resting : g.standing member ≡ resting → (c : Commit) → g.commit ≡ Some c → c.member ≢ member
   not_resting is c there = commits_not g.standing member c.member c.transaction.entries resting (was.commit c there).its is (λ same. let bad : committing c.transaction.entries ≡ resting = same in cc)
 
-  pub not_broken : g.standing member ≡ broken → (c : Commit) → g.commit ≡ Some c → c.member ≢ member
-  not_broken is c there = commits_not g.standing member c.member c.transaction.entries broken (was.commit c there).its is (λ same. let bad : committing c.transaction.entries ≡ broken = same in cc)
+  pub not_undoing : (all : List Undo) (n : ℕ) → g.standing member ≡ undoing all n → (c : Commit) → g.commit ≡ Some c → c.member ≢ member
+  not_undoing all n is c there = commits_not g.standing member c.member c.transaction.entries (undoing all n) (was.commit c there).its is (λ same. let bad : committing c.transaction.entries ≡ undoing all n = same in cc)
 
   pub not_ending : MayEnd (g.standing member) → (c : Commit) → g.commit ≡ Some c → c.member ≢ member
   not_ending may c there same = subst (λ (s : Standing). MayEnd s) (ap g.standing (sym same) ∙ (was.commit c there).its) may

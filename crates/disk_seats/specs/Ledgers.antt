@@ -20,6 +20,8 @@ pub data Standing : Type 0 where
   broken : Standing
   -- one that commits, whose before-images stand
   committing : List Undo → Standing
+  -- one whose pages may be written and whose before-images are put back: so many of them are left
+  undoing : List Undo → ℕ → Standing
 
 -- the before-images that are its own
 abbrev pub entries_of : Standing → List Undo
@@ -27,6 +29,7 @@ entries_of resting = []
 entries_of (changing all stable) = all
 entries_of broken = []
 entries_of (committing all) = all
+entries_of (undoing all left) = all
 
 -- all its before-images are stable
 abbrev pub gained : Standing → Standing
@@ -34,6 +37,7 @@ gained resting = resting
 gained (changing all stable) = changing all (length all)
 gained broken = broken
 gained (committing all) = committing all
+gained (undoing all left) = undoing all left
 
 -- The commit that is under way: whose it is, how far it is, and what it commits.
 pub record Commit : Type 0 where
@@ -136,6 +140,10 @@ history_at true b c g = g.history
 -- a call of it failed
 abbrev pub held_up : Commit → Ledger → Ledger
 held_up c g = record g { commit = Some (commit_at (again c.stage) c) }
+
+-- it is given up, and its before-images are to be put back
+abbrev pub given_up : Commit → Ledger → Ledger
+given_up c g = record (stands_as c.member (undoing c.transaction.entries (length c.transaction.entries)) g) { commit = None }
 
 -- it goes on
 abbrev pub gone_on : CommitStage → Commit → Ledger → Ledger

@@ -1,5 +1,5 @@
 -- What a ledger says of a disk.
-use Rattle.std.specs.Prelude.{ℕ, ◌-◌, ◌<◌, ◌≡◌, ◌≢◌, List, [], length, slice_get, Some, None}
+use Rattle.std.specs.Prelude.{ℕ, ◌≤◌, ◌-◌, ◌<◌, ◌≡◌, ◌≢◌, List, [], length, slice_get, Some, None}
 use Rattle.rdb_types.specs.declared.keys.Dbkey.{Dbkey}
 use Rattle.rdb_types.specs.declared.keys.Line.{Line}
 use Rattle.rdb_outside.specs.Disk.{View, Image, Pending}
@@ -13,6 +13,7 @@ use Rattle.stable_lines.specs.Slots.{Undo, area_file}
 use Rattle.stable_lines.specs.Progress.{Open, Progress}
 use Rattle.stable_lines.specs.Facts.{Facts}
 use Rattle.stable_lines.specs.History.{IsAt, StandsFrom}
+use Rattle.line_opening.specs.Undoing.{AreUndone}
 use Rattle.line_moves.specs.declared.places.Place.{Place}
 use Rattle.line_moves.specs.Changes.{IsPlaceOf}
 use Rattle.line_moves.specs.Lines.{ChangedLines}
@@ -20,7 +21,7 @@ use Rattle.line_seat.specs.declared.commit.CommitStage.TheVariants.{Committed}
 use Rattle.line_seat.specs.Seats.{SeatFacts}
 use Rattle.line_seat.specs.Groups.{AreOfEntries, IsCommitting}
 use Rattle.line_seat.specs.Stages.{CommitFacts}
-use Rattle.disk_seats.specs.Ledgers.{Standing, resting, changing, broken, committing, entries_of, Commit, Ledger, progress_of}
+use Rattle.disk_seats.specs.Ledgers.{Standing, resting, changing, broken, committing, undoing, entries_of, Commit, Ledger, progress_of}
 
 -- ---- members
 
@@ -34,11 +35,20 @@ pub record HasOpen (base : Progress) (member : ℕ) (all : List Undo) : Type 0 w
   pub is_open : base.going member ≡ Some transaction
   pub entries : transaction.entries ≡ all
 
+-- one of whose before-images so many are left to be put back: the lines of the others don't bear it any more
+pub record IsPuttingBack (v : View) (base : Progress) (member : ℕ) (all : List Undo) (left : ℕ) : Type 0 where
+  pub transaction : Open
+  pub is_open : base.going member ≡ Some transaction
+  pub entries : transaction.entries ≡ all
+  pub within : left ≤ length all
+  pub undone : AreUndone v.content transaction left
+
 abbrev pub MemberStands : View → Progress → ℕ → Standing → Type 0
 MemberStands v base member resting = base.going member ≡ None
 MemberStands v base member (changing all stable) = IsChanging v base member all stable
 MemberStands v base member broken = HasOpen base member []
 MemberStands v base member (committing all) = HasOpen base member all
+MemberStands v base member (undoing all left) = IsPuttingBack v base member all left
 
 -- a transaction of which no page was written, and none of whose before-images is needed: it may end as undone
 abbrev pub MayEnd : Standing → Type 0
@@ -46,6 +56,7 @@ MayEnd resting = ⊥
 MayEnd (changing all stable) = Unit {0}
 MayEnd broken = Unit {0}
 MayEnd (committing all) = ⊥
+MayEnd (undoing all left) = ⊥
 
 -- no two members have a before-image of one line
 abbrev pub AreApart : (ℕ → Standing) → Type 0

@@ -3,14 +3,17 @@
 
 mod barriers;
 mod commit;
+mod deaths;
 mod entering;
 mod headers;
 mod journalling;
 mod laws;
 mod roots;
+mod undoing;
 
 pub use barriers::settle;
 pub use commit::go_on;
+pub use deaths::{a_commit_is_given_up, a_commit_is_judged, a_member_is_undone};
 pub use entering::enter;
 pub use headers::{close, name_header};
 pub use journalling::journal;
@@ -19,3 +22,4 @@ pub use laws::{
     pages_are_entered,
 };
 pub use roots::raise_ceiling;
+pub use undoing::undo;

@@ -18,5 +18,5 @@ returns-clause-goes_on g c = let v = g.D.Disk.view in
     let old = v c.args.disk.now in let new = v c.commit_step.new.disk in let w = c.commit_step.ensures.writes in
     let its = this_commit member o c.args.stage c.args.group c.args.lines.now c.args.classes.now f in
     let stands = was.commit its commits in
-    step_facts old new w.0 w.1 t w.3 w.2 ledger its was commits (c.commit_step.ensures.keeps t ledger.base member o f stands.is stands.facts)
+    step_facts old new w.0 w.1 t w.3 w.2 ledger its was commits (c.commit_step.ensures.keeps t ledger.base member o f stands.is stands.facts) (c.commit_step.ensures.changes t (progress_of ledger) was.facts)
     next (on t ledger.base member o f stands.is classes stands.facts)) c.commit_step.ensures.goes_on

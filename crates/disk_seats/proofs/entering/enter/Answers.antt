@@ -8,7 +8,7 @@ use Rattle.disk_seats.proofs.entering.enter.Goals as goal
 pub returns-clause-keeps : goal.returns-clause-keeps
 returns-clause-keeps g c = let v = g.D.Disk.view in λ t ledger was none for_area within.
     let old = v c.args.disk.now in let new = v c.enter_page.new.disk in
-    space_behind old new c.args.place.file _ ledger t c.enter_page.ensures.writes was none
+    space_behind old new c.args.place.file _ ledger t c.enter_page.ensures.writes was none (c.enter_page.ensures.lines t (progress_of ledger) was.facts)
     (c.enter_page.ensures.keeps t (progress_of ledger) was.facts for_area (subst (λ l. c.args.place.page ≤ l.pages) (sym (same_limits old ledger was)) within))
 
 pub returns-clause-owned : goal.returns-clause-owned
