@@ -116,6 +116,7 @@ impl<S: Statements> Session<S> {
                 is_learnt = learn(alloc, &mut self.all, *need, known, &mut self.rooms)?;
             }
         }
+        is_learnt = is_learnt && self.rooms.learn(known)?;
         Ok(if is_learnt { Learnt::All } else { Learnt::Full })
     }
 
