@@ -2,6 +2,7 @@
 use itoa::Buffer;
 use rdb_types::{Bytes, NoMemory};
 use rdo_ast::reply::Reply;
+use session_jobs::TxRecord;
 use std::alloc::Global;
 
 #[derive(Clone, Copy, Drop)]
@@ -34,11 +35,13 @@ impl Counts {
         }
     }
 
-    pub fn count_reply(&mut self, reply: &Reply) {
-        match reply {
+    pub fn count(&mut self, record: &TxRecord) {
+        match &record.reply {
             Reply::Done(_) => self.done = self.done.wrapping_add(1),
             _ => self.refused = self.refused.wrapping_add(1),
         }
+        let writes = u32::try_from(record.writes.len()).unwrap_or(u32::MAX);
+        self.writes = self.writes.wrapping_add(writes);
     }
 
     pub fn told(&self, alloc: Global) -> Result<Bytes, NoMemory> {

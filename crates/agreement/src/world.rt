@@ -1,23 +1,23 @@
 // A database as tables, and as lines.
 use crate::compared::same_tables;
 use crate::counts::Counts;
-use case_lines::{MemoryLines, Rooms, is_known, learn};
-use line_view::{Known, Need, Stop};
+use case_lines::{Came, Learnt, Said, Session};
+use line_view::{Need, Stop};
 use ordered_entries::Entries;
 use rdb_account::render;
 use rdb_meaning::Tables;
 use rdb_tables::{Told, does};
-use rdb_types::{Bytes, Copied, Image, Items, NoMemory, Word};
+use rdb_types::{Bytes, Copied, Items, NoMemory, Word};
 use rdo_ast::reply::{Reply, Standing};
 use rdo_ast::syntax::{Item, Statement};
 use rdo_exec::RdoStatements;
 use rdo_parser::Script;
-use session_jobs::{Answer, Found, Job, Statements, TxRecord};
+use session_jobs::TxRecord;
 use sound_lines::read_tables;
 use std::alloc::Global;
 
-/// A statement of a case needs so much at most.
-const MAX_NEEDS: u32 = 100_000;
+/// A database has so many areas at most.
+const MAX_AREAS: u32 = 100_000;
 
 /// A line has so many items at most.
 const MAX_ITEMS: u32 = 1000;
@@ -33,16 +33,13 @@ fn no_tables(alloc: Global) -> Tables {
     }
 }
 
-/// A database as tables and as lines, what the one session knows of these, and both as they were when its transaction began.
+/// A database as tables and as lines, and its tables as they were when its transaction began.
 #[derive(Drop)]
 pub struct World {
+    session: Session<RdoStatements>,
     tables: Tables,
-    all: MemoryLines,
     old_tables: Tables,
-    old_all: MemoryLines,
     standing: Standing,
-    known: Known,
-    rooms: Rooms,
     counts: Counts,
 }
 
@@ -83,119 +80,47 @@ fn same_standing(a: &Standing, b: &Standing) -> bool {
     }
 }
 
+fn put_lacking(learnt: Learnt, out: &mut Bytes) -> Result<(), NoMemory> {
+    match learnt {
+        Learnt::All => out.extend(b"IT LACKS NOTHING\n"),
+        Learnt::Known => out.extend(b"A NEED IS KNOWN\n"),
+        Learnt::Full => out.extend(b"NO ROOM\n"),
+        Learnt::Endless => out.extend(b"IT NEVER ENDS\n"),
+    }
+}
+
 impl World {
     pub fn new(alloc: Global) -> World {
         World {
+            session: Session::new(alloc),
             tables: no_tables(alloc),
-            all: MemoryLines::new(alloc),
             old_tables: no_tables(alloc),
-            old_all: MemoryLines::new(alloc),
             standing: Standing::Closed,
-            known: Known::new(alloc),
-            rooms: Rooms::new(alloc),
             counts: Counts::none(),
         }
     }
 
     pub fn begin(&mut self, alloc: Global) {
+        self.session = Session::new(alloc);
         self.tables = no_tables(alloc);
-        self.all = MemoryLines::new(alloc);
         self.old_tables = no_tables(alloc);
-        self.old_all = MemoryLines::new(alloc);
         self.standing = Standing::Closed;
-        self.known = Known::new(alloc);
     }
 
     pub fn forget(&mut self, alloc: Global) {
-        self.known = Known::new(alloc);
+        self.session.forget(alloc);
     }
 
     pub fn counts(&self) -> &Counts {
         &self.counts
     }
 
-    // Learns what a job lacks. False where it named what is known, or an area has no more rooms.
-    fn learn_all(
-        &mut self,
-        alloc: Global,
-        next: Need,
-        later: &[Need],
-        known: &mut Known,
-        out: &mut Bytes,
-    ) -> Result<bool, NoMemory> {
-        if is_known(known, next) {
-            out.extend(b"A NEED IS KNOWN\n")?;
-            return Ok(false);
-        }
-        self.counts.needs = self.counts.needs.wrapping_add(1);
-        let mut is_learnt = learn(alloc, &mut self.all, next, known, &mut self.rooms)?;
-        for need in later {
-            if is_learnt && !is_known(known, *need) {
-                is_learnt = learn(alloc, &mut self.all, *need, known, &mut self.rooms)?;
-            }
-        }
-        if !is_learnt {
-            out.extend(b"NO ROOM\n")?;
-        }
-        Ok(is_learnt)
-    }
-
-    fn job_of(&mut self, alloc: Global, word: Word, item: Item) -> Job {
-        let mut known = Known::new(alloc);
-        std::mem::swap(&mut known, &mut self.known);
-        known.forget_rooms();
-        self.rooms.clear();
-        let mut standing = Standing::Closed;
-        std::mem::swap(&mut standing, &mut self.standing);
-        Job {
-            alloc,
-            word,
-            standing,
-            item,
-            known,
-        }
-    }
-
-    // Works a job until it lacks nothing, or what can't be learnt.
-    fn work(&mut self, alloc: Global, job: Job, out: &mut Bytes) -> Result<Answer, NoMemory> {
-        let mut job = job;
-        for _ in 0..MAX_NEEDS {
-            let mut answer = RdoStatements::work(job);
-            let Found::Missing { next, later } = &answer.found else {
-                return Ok(answer);
-            };
-            let known = &mut answer.job.known;
-            if !self.learn_all(alloc, *next, later.as_slice(), known, out)? {
-                return Ok(answer);
-            }
-            job = answer.job;
-        }
-        out.extend(b"IT NEVER ENDS\n")?;
-        Ok(Answer {
-            job,
-            found: Found::Unworked,
-        })
-    }
-
-    // Lays the writes of a record over the lines, and over what is known.
-    fn follow(&mut self, alloc: Global, record: &TxRecord) -> Result<(), NoMemory> {
-        for write in record.writes.as_slice() {
-            let image = write.image.as_ref();
-            let image = image.map(|image| Image::from_bytes(image.bytes()));
-            let again = write.image.as_ref();
-            let again = again.map(|image| Image::from_bytes(image.bytes()));
-            self.all.lay(alloc, write.key, image)?;
-            self.known.put(alloc, write.key, again)?;
-            self.counts.writes = self.counts.writes.wrapping_add(1);
-        }
-        Ok(())
-    }
-
     fn read_all(&mut self, alloc: Global, out: &mut Bytes) -> Result<Option<Tables>, NoMemory> {
-        for _ in 0..MAX_NEEDS {
-            match read_tables(alloc, self.all.view()) {
+        for _ in 0..MAX_AREAS {
+            let lines = self.session.lines();
+            match read_tables(alloc, lines.view()) {
                 Ok(tables) => return Ok(Some(tables)),
-                Err(Stop::Missing(Need::Area(area))) => self.all.begin_area(alloc, area)?,
+                Err(Stop::Missing(Need::Area(area))) => lines.begin_area(alloc, area)?,
                 Err(Stop::NoMemory) => return Err(NoMemory {}),
                 Err(_) => {
                     out.extend(b"THE LINES HAVE NO TABLES\n")?;
@@ -230,12 +155,9 @@ impl World {
         match item {
             Item::Statement(Statement::StartReadWrite { .. }) => {
                 self.old_tables = self.tables.copied(alloc)?;
-                self.old_all = self.all.copied(alloc)?;
             }
             Item::Statement(Statement::Rollback) if was_writer => {
                 self.tables = self.old_tables.copied(alloc)?;
-                self.all = self.old_all.copied(alloc)?;
-                self.known = Known::new(alloc);
             }
             _ => {}
         }
@@ -259,7 +181,7 @@ impl World {
         Ok(())
     }
 
-    fn follow_and_compare(
+    fn follow(
         &mut self,
         alloc: Global,
         word: &Word,
@@ -269,8 +191,7 @@ impl World {
     ) -> Result<(), NoMemory> {
         let was_writer = matches!(&self.standing, Standing::ReadWrite { .. });
         self.does_too(alloc, word, item, record, out)?;
-        self.follow(alloc, record)?;
-        self.counts.count_reply(&record.reply);
+        self.counts.count(record);
         if !record.writes.is_empty() {
             self.compare_tables(alloc, out)?;
         }
@@ -280,51 +201,42 @@ impl World {
         Ok(())
     }
 
-    // What was found, over tables too. What it comes to is added to what is told.
-    fn say_found(
+    // Says over tables what was said over lines. What it comes to is added to what is told.
+    fn say_too(
         &mut self,
         alloc: Global,
-        answer: Answer,
+        said: &Said,
         told: &mut Bytes,
         out: &mut Bytes,
     ) -> Result<(), NoMemory> {
-        let Answer { job, found } = answer;
-        let Job {
-            word,
-            standing,
-            item,
-            known,
-            ..
-        } = job;
-        self.standing = standing;
-        self.known = known;
-        match found {
-            Found::Done(record) => {
-                self.follow_and_compare(alloc, &word, &item, &record, out)?;
+        match &said.came {
+            Came::Done(record) => {
+                self.follow(alloc, &said.word, &said.item, record, out)?;
                 render(&record.reply, told)
             }
-            Found::Unworked => {
+            Came::Unworked => {
                 self.counts.unworked = self.counts.unworked.wrapping_add(1);
                 told.extend(b"not worked\n")
             }
-            Found::Bad(_) => out.extend(b"A BAD LINE\n"),
-            Found::NoMemory => Err(NoMemory {}),
-            Found::Missing { .. } => Ok(()),
+            Came::Bad(_) => out.extend(b"A BAD LINE\n"),
+            Came::Lacking(learnt) => put_lacking(*learnt, out),
         }
     }
 
-    fn say_job(
+    fn say_item(
         &mut self,
         alloc: Global,
-        job: Job,
+        item: Item,
         tells: bool,
         out: &mut Bytes,
     ) -> Result<(), NoMemory> {
         let before = out.as_slice().len();
         let mut told = Bytes::new(alloc);
         self.counts.statements = self.counts.statements.wrapping_add(1);
-        let answer = self.work(alloc, job, out)?;
-        self.say_found(alloc, answer, &mut told, out)?;
+        let word = Word::from_slice(alloc, b"PERS")?;
+        let said = self.session.say(alloc, word, item)?;
+        self.counts.needs = self.counts.needs.wrapping_add(said.tries);
+        self.say_too(alloc, &said, &mut told, out)?;
         if out.as_slice().len() > before {
             self.counts.differ = self.counts.differ.wrapping_add(1);
         }
@@ -347,12 +259,10 @@ impl World {
         }
         let mut script = Script::new(line);
         for _ in 0..MAX_ITEMS {
-            let word = Word::from_slice(alloc, b"PERS")?;
             let Some(item) = script.next_item(alloc)? else {
                 return Ok(());
             };
-            let job = self.job_of(alloc, word, item);
-            self.say_job(alloc, job, tells, out)?;
+            self.say_item(alloc, item, tells, out)?;
         }
         out.extend(b"A LINE HAS TOO MANY ITEMS\n")
     }

@@ -4,7 +4,7 @@ use line_view::{Known, Need, Seen, View};
 use rdb_types::NoMemory;
 use std::alloc::Global;
 
-/// Learns a need. The rooms that were given to the statement are known behind that of a room. False where an area has no more rooms.
+/// Learns a need, or gives a room, which is known once the rooms are learnt. False where an area has no more rooms.
 pub fn learn(
     alloc: Global,
     all: &mut MemoryLines,
@@ -18,12 +18,7 @@ pub fn learn(
             let lines = all.lines_of(alloc, area)?;
             known.learn_area(alloc, area, &lines)?;
         }
-        Need::Room(room) => {
-            if !rooms.give(all, room)? {
-                return Ok(false);
-            }
-            return rooms.learn(known);
-        }
+        Need::Room(room) => return rooms.give(all, room),
     }
     Ok(true)
 }

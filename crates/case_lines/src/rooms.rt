@@ -61,7 +61,7 @@ impl Rooms {
     }
 
     /// Knows the rooms that were given, and no other. False where one isn't of its area, or not on a page behind those before it.
-    pub(crate) fn learn(&self, known: &mut Known) -> Result<bool, NoMemory> {
+    pub fn learn(&self, known: &mut Known) -> Result<bool, NoMemory> {
         learn_rooms(known, self.given.as_slice())
     }
 }
