@@ -4,5 +4,6 @@ pub mod Ends
 pub mod Areas
 pub mod Stops
 pub mod Printing
+pub mod Ahead
 pub mod Acted
 pub mod Told
