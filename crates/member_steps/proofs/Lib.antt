@@ -1,0 +1,3 @@
+pub mod OwnersSaid
+pub mod Journals
+pub mod Told
