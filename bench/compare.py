@@ -249,15 +249,19 @@ def used(words, text, folder):
     return best, printed
 
 
-def lines_rows(name, count):
-    """A relation with a unique index and so many rows, as RDO and as SQL."""
-    rdo = f"DEFINE RELATION {name}. A DATATYPE IS SIGNED LONGWORD. B DATATYPE IS TEXT SIZE IS 20. END {name} RELATION.\nDEFINE INDEX {name}_A FOR {name} DUPLICATES ARE NOT ALLOWED. A. END {name}_A INDEX.\n"
+def lines_rows(name, count, behind="!\n"):
+    """A relation with a unique index and so many rows, as RDO and as SQL. DEFINE INDEX has read its lines, which are forgotten."""
+    rdo = f"DEFINE RELATION {name}. A DATATYPE IS SIGNED LONGWORD. B DATATYPE IS TEXT SIZE IS 20. END {name} RELATION.\nDEFINE INDEX {name}_A FOR {name} DUPLICATES ARE NOT ALLOWED. A. END {name}_A INDEX.\n" + behind
     sql = f"CREATE TABLE {name} (A INTEGER, B TEXT);\nCREATE UNIQUE INDEX {name}_A ON {name} (A);\n"
     return rdo + rdo_rows(name, mixed(count)), sql + sql_rows(name, mixed(count))
 
 
 def lines_stores(count):
     return (*lines_rows("R", 0), *lines_rows("S", count))
+
+
+def lines_known(count):
+    return (*lines_rows("R", 0), *lines_rows("S", count, ""))
 
 
 def lines_finds(count):
@@ -342,6 +346,7 @@ with tempfile.TemporaryDirectory() as folder:
     compare_index(5000, 20, folder)
     growth_of_locks(16, 40000, folder)
     compare_lines("20,000 STOREs under a unique index", lines_stores, 20000, folder)
+    compare_lines("5,000 STOREs where all lines of the relation are known", lines_known, 5000, folder)
     compare_lines("20,000 look-ups by key", lines_finds, 20000, folder)
     compare_lines("10 scans of 20,000 rows", lines_scan, 20000, folder)
     compare_lines("10 joins of 2,000 by 2,000 rows by an index", lines_join, 2000, folder)
