@@ -5,8 +5,10 @@ mod file_slots;
 mod laws;
 mod pushing;
 mod reading;
+mod snapshot_slots;
 
 pub use file_slots::FileSlots;
 pub use laws::{slots_are_held, slots_come_free};
 pub use pushing::push_line;
 pub use reading::line_for_reader;
+pub use snapshot_slots::{SnapshotSlots, Wanted};
