@@ -34,7 +34,7 @@ module _ (old new : Image) (course : Course) (kept : KeepsEntries old new course
   back : (file chain : ℕ) (e : SnapEntry) → course.followed file chain ≡ true → StandsIn new file chain e → StandsIn old file chain e
   back file chain e held s = record { number = s.number; is = subst (λ (b : List ℕ). IsEntry b e) (kept file chain s.number held) s.is }
 
-  right_still : (now : Dbkey → Line) → AreRight (entries_in old) now course → AreRight (entries_in new) now course
+  pub right_still : (now : Dbkey → Line) → AreRight (entries_in old) now course → AreRight (entries_in new) now course
   right_still now was = entries_other (entries_in old) (entries_in new) course.followed now course (λ f c e s held needed. (forth f c e held s, held)) was
 
   exact_still : (now : Dbkey → Line) → AreRight (entries_in old) now course → AreExact (entries_in old) course → AreExact (entries_in new) course

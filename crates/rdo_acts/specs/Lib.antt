@@ -1,7 +1,9 @@
+pub mod Unwritten
 pub mod Scopes
 pub mod Ends
 pub mod Areas
 pub mod Stops
 pub mod Printing
+pub mod Ahead
 pub mod Acted
 pub mod Told

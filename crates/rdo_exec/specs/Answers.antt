@@ -19,7 +19,7 @@ abbrev pub answer_unless : Bool → Reply → Standing → Found
 answer_unless true reply behind = Unworked
 answer_unless false reply behind = Done (record { choices = []; reply = reply; standing = behind; writes = [] })
 
--- the record of an item that stores and writes nothing; no item means a reply of locks or limits
+-- the record of an item that stores and writes nothing; no item means a reply of locks or limits, so that no sound map agrees where the item would be left
 abbrev pub answer_of : Reply → Standing → Found
 answer_of reply behind = answer_unless (is_refusal_of_means reply) reply behind
 
@@ -45,5 +45,5 @@ IsAnswered word standing item (Done x) =
     ((t : Tables) → Does word standing item x.choices t x.reply t x.standing) × (is_refusal_of_means x.reply ≡ false) × (x.writes ≡ [])
 IsAnswered word standing item (Missing next later) = ⊥
 IsAnswered word standing item (Bad key) = ⊥
-IsAnswered word standing item Unworked = Unit {0}
+IsAnswered word standing item Unworked = ⊥
 IsAnswered word standing item no_memory = Unit {0}

@@ -1,5 +1,5 @@
 // STORE, FOR, PRINT, MODIFY and ERASE.
-ghost use Rattle.std.specs.Prelude.{◌≡◌, ◌≢◌, ◌⊎◌, ℕ, List, [], None, IfOk};
+ghost use Rattle.std.specs.Prelude.{◌≡◌, ◌⊎◌, ℕ, List, [], None, IfOk};
 ghost use Rattle.rdo_ast.specs.declared.reply.Standing.{Standing as State};
 ghost use Rattle.rdo_ast.specs.Tree.{said, perform};
 ghost use Rattle.rdo_ast.specs.Views.{act_of};
@@ -8,8 +8,8 @@ ghost use Rattle.rdb_checks.specs.Answers.{Finds};
 ghost use Rattle.line_view.specs.Held.{knows};
 ghost use Rattle.rdo_bind.specs.Acting.{act_of as bound_act_of, written_act, IsBoundAct};
 ghost use Rattle.rdo_acts.specs.Ends.{reply_of};
-ghost use Rattle.rdo_acts.specs.Acted.{NamesNeeds};
-ghost use Rattle.rdo_exec.specs.Coming.{IsCatalogOfKnown, Comes, ActAsks};
+ghost use Rattle.rdo_acts.specs.Acted.{AreNeeds, NamesNeeds};
+ghost use Rattle.rdo_exec.specs.Coming.{IsCatalogOfKnown, Comes, ActStays};
 ghost use Rattle.rdo_exec.specs.Acted.{found_refused, Lists, AreTogether, IsFoundOf};
 
 use crate::records::{Returned, answered_by};
@@ -70,19 +70,19 @@ fn refused(alloc: Global, refusal: Refusal<'_>, given: Keys, behind: Standing) -
     }
 }
 
-// The need that the work wants next, and the others.
-fn lacking(needs: Items<Need>) -> Found
-    requires { needs ≢ [] }
-    ensures { Lists needs result }
+// The need that the work wants next, and those behind it.
+fn lacking(known: &Known, needs: Items<Need>) -> Found
+    requires { AreNeeds needs (knows known.now) }
+    ensures { Lists needs (knows known.now) result }
 {
     let mut later = needs;
     let next = later.remove(0);
     Found::Missing { next, later }
 }
 
-fn found_of(alloc: Global, outcome: Outcome<'_>, behind: Standing) -> Found
-    requires { NamesNeeds outcome }
-    ensures { IsFoundOf outcome.entry behind result }
+fn found_of(alloc: Global, known: &Known, outcome: Outcome<'_>, behind: Standing) -> Found
+    requires { NamesNeeds outcome (knows known.now) }
+    ensures { IsFoundOf outcome.entry (knows known.now) behind result }
 {
     match outcome {
         Outcome::Done(
@@ -98,7 +98,7 @@ fn found_of(alloc: Global, outcome: Outcome<'_>, behind: Standing) -> Found
             writes,
         }),
         Outcome::Refused { refusal, given } => refused(alloc, refusal, given, behind),
-        Outcome::Missing(needs) => lacking(needs),
+        Outcome::Missing(needs) => lacking(known, needs),
         Outcome::Bad(key) => Found::Bad(key),
         Outcome::NoMemory => Found::NoMemory,
     }
@@ -117,7 +117,7 @@ fn run_from<'a>(
     requires catalog { IsCatalogOfKnown (knows known) schema.now }
     requires bound { IsBoundAct (bound_act_of action.now) schema.now.tables [] }
     ensures known { result.known ≡ known }
-    ensures asked { ActAsks (written_act action.now) (knows known) result.found }
+    ensures stays { ActStays (written_act action.now) (knows known) result.found }
     ensures comes { (word : List ℕ) (standing : State) → act_refusal (written_act action.now) standing schema.now.tables ≡ None → behind ≡ standing_for (written_act action.now) standing
         → Comes word standing (said (perform (written_act action.now))) (knows known) result.found }
 {
@@ -127,7 +127,7 @@ fn run_from<'a>(
         sources,
     };
     let Ended { known, outcome } = act(&given, known, action);
-    let found = found_of(alloc, outcome, behind);
+    let found = found_of(alloc, &known, outcome, behind);
     Returned { known, found }
 }
 
@@ -144,7 +144,7 @@ fn run_with<'a>(
     requires catalog { IsCatalogOfKnown (knows known) schema.now }
     requires bound { IsBoundAct (bound_act_of action.now) schema.now.tables [] }
     ensures known { result.known ≡ known }
-    ensures asked { ActAsks (written_act action.now) (knows known) result.found }
+    ensures stays { ActStays (written_act action.now) (knows known) result.found }
     ensures comes { (word : List ℕ) (standing : State) → act_refusal (written_act action.now) standing schema.now.tables ≡ None → behind ≡ standing_for (written_act action.now) standing
         → Comes word standing (said (perform (written_act action.now))) (knows known) result.found }
 {
@@ -162,7 +162,7 @@ fn run(
     requires catalog { IsCatalogOfKnown (knows known) schema.now }
     requires bound { IsBoundAct (bound_act_of action.now) schema.now.tables [] }
     ensures known { result.known ≡ known }
-    ensures asked { ActAsks (written_act action.now) (knows known) result.found }
+    ensures stays { ActStays (written_act action.now) (knows known) result.found }
     ensures comes { (word : List ℕ) (standing : State) → act_refusal (written_act action.now) standing schema.now.tables ≡ None → behind ≡ standing_for (written_act action.now) standing
         → Comes word standing (said (perform (written_act action.now))) (knows known) result.found }
 {
@@ -186,7 +186,7 @@ fn run_behind(
     requires catalog { IsCatalogOfKnown (knows known) schema.now }
     requires bound { IsBoundAct (bound_act_of action.now) schema.now.tables [] }
     ensures known { result.known ≡ known }
-    ensures asked { ActAsks (written_act action.now) (knows known) result.found }
+    ensures stays { ActStays (written_act action.now) (knows known) result.found }
     ensures comes { (word : List ℕ) (standing : State) → act_refusal (written_act action.now) standing schema.now.tables ≡ None → IfOk behind (λ left. left ≡ standing_for (written_act action.now) standing)
         → Comes word standing (said (perform (written_act action.now))) (knows known) result.found }
 {
@@ -209,7 +209,7 @@ pub(crate) fn act_by(
 ) -> Returned
     requires catalog { IsCatalogOfKnown (knows known) schema.now }
     ensures known { result.known ≡ known }
-    ensures asked { ActAsks (act_of action.now) (knows known) result.found }
+    ensures stays { ActStays (act_of action.now) (knows known) result.found }
     ensures comes { (word : List ℕ) → Comes word standing.now (said (perform (act_of action.now))) (knows known) result.found }
 {
     let behind = standing_for(alloc, standing, action);

@@ -8,11 +8,20 @@ use rdb_types::{Items, NoMemory};
 use rdo_ast::reply::{Reply, Standing};
 use session_jobs::{Found, TxRecord};
 use std::alloc::Global;
+use stored_schema::Schema;
 
 /// What was known, given back, and what the work came to.
 #[derive(Drop)]
 pub(crate) struct Returned {
     pub known: Known,
+    pub found: Found,
+}
+
+/// The same, with the catalog that is kept.
+#[derive(Drop)]
+pub(crate) struct Worked {
+    pub known: Known,
+    pub kept: Option<Schema>,
     pub found: Found,
 }
 
@@ -43,7 +52,7 @@ fn is_unmeant(reply: &Reply) -> bool
     }
 }
 
-/// The record of an item that stores and writes nothing.
+/// The record of an item that stores and writes nothing. No item means a reply of locks, limits or memory; the test spares showing it of each refusal anew.
 pub(crate) fn answered(alloc: Global, reply: Reply, behind: Standing) -> Found
     ensures { result ≡ answer_of reply behind }
 {
