@@ -3,3 +3,4 @@ pub mod Journals
 pub mod Told
 pub mod Begun
 pub mod Standings
+pub mod Ceilings
