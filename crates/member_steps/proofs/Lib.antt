@@ -4,3 +4,4 @@ pub mod Told
 pub mod Begun
 pub mod Standings
 pub mod Ceilings
+pub mod Left

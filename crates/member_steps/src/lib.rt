@@ -13,4 +13,4 @@ pub use committing::{CommitTurn, commit_next};
 pub use journalling::{Journalled, journal_next};
 pub use judging::has_commit;
 pub use laws::{a_ceiling_is_stable, a_ceiling_stays, pages_for_areas};
-pub use reading::lines_that_stand;
+pub use reading::{lines_that_stand, what_a_crash_leaves};
