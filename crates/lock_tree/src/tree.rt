@@ -1,4 +1,4 @@
-ghost use Rattle.std.specs.Prelude.{◌≡◌, [], true, false, None, Some, is_some, option_map, slice_get, IfOk, OnOk, OnErr};
+ghost use Rattle.std.specs.Prelude.{◌≡◌, ◌≤◌, ◌+◌, [], length, true, false, None, Some, is_some, option_map, slice_get, IfOk, OnOk, OnErr};
 ghost use Rattle.rdb_types.specs.declared.node.Node.{Node};
 ghost use Rattle.vms_queues.specs.declared.lock_mode.Mode.TheVariants.{NL};
 ghost use Rattle.vms_queues.specs.Modes.{at_most};
@@ -79,6 +79,7 @@ impl Tree {
         requires same { IsOf need (party_of self.old.parties owner).opened }
 
         ensures trail { IfOk result (λ a. AddsAsks owner need (trail_of_want self.old owner) self.new.trail) }
+        ensures few { IfOk result (λ a. length self.new.trail ≤ length (trail_of_want self.old owner) + 4) }
         ensures by_rule { IfOk result (λ a. GoesDown owner need wait (Finishes owner a) (entered self.old owner) self.new) }
         ensures locks { IfOk result (λ a. KeepsLocks owner self.old.table self.new.table) }
         ensures no_weaker { IfOk result (λ a. LeavesLocks owner self.old.table self.new.table) }
