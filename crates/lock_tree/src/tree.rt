@@ -20,7 +20,7 @@ use crate::notice::{Demotion, answer_notice};
 use crate::parties::forget;
 use crate::parts::Parts;
 use crate::releasing::release_owner;
-use crate::trail::nth_ask;
+use crate::trail::{count_asks, nth_ask};
 use indexmap::IndexMap;
 use lock_needs::{Need, Node};
 use lock_tree_laws::Want;
@@ -103,10 +103,17 @@ impl Tree {
 
     /// The node at this place, from 0, at which the owner's last want was asked, open or ended; None exactly where there are no
     /// more.
-    pub fn asked(&self, owner: u32, nth: u32) -> Option<Node>
+    pub fn asked(&self, owner: u32, nth: usize) -> Option<Node>
         ensures { result ≡ option_map (λ a. a.node) (slice_get (asks_of self.now.trail owner) nth) }
     {
         nth_ask(&self.parts.trail, owner, nth)
+    }
+
+    /// At how many nodes the owner's last want was asked, open or ended.
+    pub fn count_asks(&self, owner: u32) -> usize
+        ensures { result ≡ length (asks_of self.now.trail owner) }
+    {
+        count_asks(&self.parts.trail, owner)
     }
 
     /// Serves a notice at the node: where the owner's lock there is stronger than it has to be, it comes down to the least mode that
