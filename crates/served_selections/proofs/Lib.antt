@@ -1,0 +1,4 @@
+pub mod Lists
+pub mod Lengths
+pub mod Along
+pub mod Lacked
