@@ -1,0 +1,5 @@
+pub mod Stands
+pub mod Jobs
+pub mod Tests
+pub mod Fetched
+pub mod Unchanged
