@@ -3,3 +3,7 @@ pub mod Jobs
 pub mod Tests
 pub mod Fetched
 pub mod Unchanged
+pub mod Asked
+pub mod Called
+pub mod Serves
+pub mod Falls

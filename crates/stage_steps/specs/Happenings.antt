@@ -15,7 +15,7 @@ abbrev pub said_by : ℕ → Answer → Event
 said_by s a = event.Said s (uttered_of a.item) a.keys a.reply
 
 abbrev pub asked_by : ℕ → Asking → List Event
-asked_by s x = wanted_at s x.need x.nodes.items
+asked_by s x = wanted_at s x.need x.nodes
 
 abbrev pub events_of : ℕ → Happening → List Event
 events_of s Quiet = []

@@ -1,14 +1,13 @@
 // What happened in one step of a session, and where it leaves the session.
 ghost use Rattle.std.specs.Prelude.{◌≡◌};
 
+use crate::asks::Asks;
 use line_store::{ChangeStop, CommitStop, Fault};
 use lock_needs::Need;
 use rdb_types::{Keys, Moment, Node};
 use rdo_ast::reply::{Reply, Standing};
 use rdo_ast::syntax::Item;
 use session_states::Phase;
-use smallvec::SmallVec;
-use std::alloc::Global;
 use vms_queues::Mode;
 
 /// An item with its answer, and the Dbkeys that its new rows were given.
@@ -23,7 +22,7 @@ pub struct Answer {
 #[derive(Drop)]
 pub struct Asking {
     pub need: Need,
-    pub nodes: SmallVec<Node, 4, Global>,
+    pub nodes: Asks,
 }
 
 /// What happened in one step.

@@ -2,7 +2,9 @@
 //! the step that the laws of sessions have of it.
 #![tactic(auto)]
 
+mod asks;
 mod common;
+mod dying;
 mod ending;
 mod fetching;
 mod happening;
@@ -10,11 +12,15 @@ mod items;
 mod outside;
 mod reading;
 mod saying;
+mod serving;
 mod storing;
 mod terms;
+mod wanting;
 mod working;
 
+pub use asks::Asks;
 pub use common::Common;
+pub use dying::{Recovery, die, recover};
 pub use ending::{commit, go_away, land, leave, roll_back};
 pub use fetching::fetch_locked;
 pub use happening::{Answer, Asking, Happening, Turned};
@@ -23,5 +29,7 @@ pub use reading::{
     compute_reading, fetch_reading, forgo_reading, hand_out_reading, leave_reading, take_up_reading,
 };
 pub use saying::{change, lay};
+pub use serving::serve;
 pub use terms::{ReaderTerms, Terms};
+pub use wanting::{want, want_journal};
 pub use working::{compute, forgo, hand_out, open, take_back, take_up};
