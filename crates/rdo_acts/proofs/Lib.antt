@@ -21,3 +21,4 @@ pub mod UsesWithin
 pub mod AreasRead
 pub mod AreasWritten
 pub mod ScopeUses
+pub mod Lacking

@@ -6,3 +6,6 @@ returns-clause-runs c all t holds = c.run_action.ensures.runs all t t holds (sym
 
 pub returns-clause-areas : goal.returns-clause-areas
 returns-clause-areas c all t holds = c.run_action.ensures.areas all t t holds (sym c.new-values.ensures)
+
+pub returns-clause-lacks : goal.returns-clause-lacks
+returns-clause-lacks c none first t sound = c.run_action.ensures.lacks none first t sound (sym c.new-values.ensures)
