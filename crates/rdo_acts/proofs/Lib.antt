@@ -22,3 +22,5 @@ pub mod AreasRead
 pub mod AreasWritten
 pub mod ScopeUses
 pub mod Lacking
+pub mod Wanting
+pub mod WantingRows

@@ -1,4 +1,7 @@
 use Rattle.std.proofs.Common.{sym}
+use Rattle.std.proofs.Common.{Result, Err, Ok}
+use Rattle.rdo_bind.specs.Acting.{act_of}
+use Rattle.rdo_acts.proofs.Wanting.{begin_wants}
 use Rattle.rdo_acts.proofs.acting.begin.Goals as goal
 
 pub returns-clause-runs : goal.returns-clause-runs
@@ -9,3 +12,6 @@ returns-clause-areas c all t holds = c.run_action.ensures.areas all t t holds (s
 
 pub returns-clause-lacks : goal.returns-clause-lacks
 returns-clause-lacks c none first t sound = c.run_action.ensures.lacks none first t sound (sym c.new-values.ensures)
+
+pub returns-clause-wants : goal.returns-clause-wants
+returns-clause-wants c all t holds = begin_wants c.args.given.now all t (act_of c.args.action.now) c.run_action.result (c.run_action.ensures.wants all t t holds (sym c.new-values.ensures))

@@ -1,4 +1,4 @@
-use Rattle.std.proofs.Common.{◌≡◌, map, length, Ok, Err, refl, sym, ap, subst, ◌∙◌, rules, arith}
+use Rattle.std.proofs.Common.{◌≡◌, ◌++◌, map, length, Ok, Err, refl, sym, ap, subst, ◌∙◌, rules, arith}
 use Rattle.std.proofs.lemmas.Result.{err_from_is_err_and}
 use Rattle.rdb_meaning.specs.Evaluation.{bind_tuple, bind_sources}
 use Rattle.rdb_meaning.specs.Execution.{done}
@@ -32,6 +32,14 @@ use Rattle.row_writes.specs.Rows.{IsSoundView}
 use Rattle.row_writes.proofs.AreaLists.{StopsAt}
 use Rattle.rdo_acts.specs.Selections.{chosen_in_act, chosen_in_acts, IsReadAmong, RunsAmong}
 use Rattle.rdo_acts.proofs.Lacking.{action_among, tuple_values, form_among, none_writes, for_stops_among, for_runs_among}
+use Rattle.std.proofs.Common.{◌⊎◌, inl, inr}
+use Rattle.row_writes.proofs.AreaLists.{stops_at}
+use Rattle.rdo_acts.specs.Wanted.{IsOneOf, ActWants, ActsWant, Then, IsRowOf, RunsWanting}
+use Rattle.rdo_acts.proofs.Bodies.{tuple_now, bound_is}
+use Rattle.rdo_acts.proofs.Turns.{one_now}
+use Rattle.rdo_acts.proofs.Wanting.{then_so, part_wants, form_wants, print_wanting, for_stops_wanting, for_runs_wanting, bound_row, tuple_among}
+use Rattle.sorted_index_laws.specs.Nodes.{AnyByRecursion}
+use Rattle.rdo_select.specs.declared.crossing.Found.{Found}
 use Rattle.rdo_acts.proofs.running.+run.Goals as goal
 
 -- ---- the actions of a body that doesn't write
@@ -423,3 +431,141 @@ run_action-returns-in-Ok-clause-lacks t c none =
     (for_runs_among given c.requires.together scope c.args.values.now c.args.work.now s body (bound_so given scope action c.requires.bound (for_each s body) e) c.run_over.result (ranges_of ranges) c.in-Ok.found c.as_slice-in-For.result.now
     (ranges_same given scope action c.requires.bound s slice e ranges c.as_slice-ranges.ensures) c.as_slice-in-For.ensures c.in-Ok.ensures.values
     (c.run_over.ensures.lacks (ap may_write (sym e) ∙ none)))
+
+-- ---- what is lacked, part by part
+
+pub run_reading-returns-in_err-run_action-clause-wants : goal.run_reading-returns-in_err-run_action-clause-wants
+run_reading-returns-in_err-run_action-clause-wants t c all start u holds is =
+    let p = err_from_is_err_and c.from_residual.result c.from_residual.ensures.1 in
+    let given = c.args.given.now in
+    let scope = scope_of c.args.scope.now in
+    let body = c.args.body.now in
+    let i = c.loop-action.action-index in
+    let x = c.action-item.result in
+    let mid = c.loop-action.work in
+    let sources = given.sources.now.entries in
+    let vs = variables_of scope in
+    let now = body_holds given scope body i c.args.work.now mid all start u (ap (λ o. o.base) c.loop-action.invariant.view) (c.loop-action.invariant.goes all start u holds is) in
+    let own = ap (λ tables. row_of tables scope) (one_now given c.args.work.now mid all start u now.0 c.loop-action.invariant.view holds now.1) ∙ is in
+    rw (p.1, p.2)
+    (stops_at (λ need. IsRowOf scope need ⊎ Then given all start (λ v. ActWants v sources (act_of x) vs need)) (λ need. IsRowOf scope need ⊎ Then given all start (λ v. ActsWant v sources (acts_of (map act_of body)) vs need))
+    (λ need wanted. elim wanted as (λ w. IsRowOf scope need ⊎ Then given all start (λ v. ActsWant v sources (acts_of (map act_of body)) vs need)) [
+      | inl row ↦ inl row
+      | inr part ↦ inr (then_so given all start (λ v. ActWants v sources (act_of x) vs need) (λ v. ActsWant v sources (acts_of (map act_of body)) vs need) (λ v. part_wants v sources vs need body i x (omega arith) c.action-item.is) part)
+    ])
+    c.in_err-run_action.field-0.0 (c.in_err-run_action.ensures.wants all start now.0 now.1 own))
+
+pub run_anew-returns-in_err-run_action-clause-wants : goal.run_anew-returns-in_err-run_action-clause-wants
+run_anew-returns-in_err-run_action-clause-wants t c values all start u holds is =
+    let p = err_from_is_err_and c.from_residual.result c.from_residual.ensures.1 in
+    let given = c.args.given.now in
+    let scope = scope_of c.args.scope.now in
+    let body = c.args.body.now in
+    let i = c.loop-action.action-index in
+    let x = c.action-item.result in
+    let mid = c.loop-action.work in
+    let sources = given.sources.now.entries in
+    let vs = variables_of scope in
+    let now = body_holds given scope body i c.args.work.now mid all start u c.loop-action.invariant.known (c.loop-action.invariant.goes all start u holds) in
+    rw (p.1, p.2)
+    (stops_at (λ need. IsRowOf scope need ⊎ Then given all start (λ v. ActWants v sources (act_of x) vs need)) (λ need. IsRowOf scope need ⊎ Then given all start (λ v. ActsWant v sources (acts_of (map act_of body)) vs need))
+    (λ need wanted. elim wanted as (λ w. IsRowOf scope need ⊎ Then given all start (λ v. ActsWant v sources (acts_of (map act_of body)) vs need)) [
+      | inl row ↦ inl row
+      | inr part ↦ inr (then_so given all start (λ v. ActWants v sources (act_of x) vs need) (λ v. ActsWant v sources (acts_of (map act_of body)) vs need) (λ v. part_wants v sources vs need body i x (omega arith) c.action-item.is) part)
+    ])
+    c.in_err-run_action.field-0.0 (c.in_err-run_action.ensures.wants all start now.0 now.1 (sym (c.in-Ok.ensures.values all now.0 (sound_view given mid all start now.0 now.1)))))
+
+pub run_anew-returns-in-Err-clause-wants : goal.run_anew-returns-in-Err-clause-wants
+run_anew-returns-in-Err-clause-wants t c values all start u holds is =
+    let given = c.args.given.now in
+    let scope = scope_of c.args.scope.now in
+    let Wanted = λ need. IsRowOf scope need ⊎ Then given all start (λ v. ActsWant v given.sources.now.entries (acts_of (map act_of c.args.body.now)) (variables_of scope) need) in
+    subst (StopsAt Wanted) (sym c.of_view.ensures) (stops_at (IsRowOf scope) Wanted (λ need row. inl row) (of_view c.in-Err.stop) (view_at (IsRowOf scope) Refusal c.in-Err.stop c.in-Err.ensures.lines))
+
+pub run_body-returns-else-writing-clause-wants : goal.run_body-returns-else-writing-clause-wants
+run_body-returns-else-writing-clause-wants t c seen same all start u holds is = c.run_reading.ensures.wants all start u holds (is ∙ same c.if-writing.false)
+
+pub run_over-returns-in_err-run_body-clause-wants : goal.run_over-returns-in_err-run_body-clause-wants
+run_over-returns-in_err-run_body-clause-wants t c all start u holds have =
+    let p = err_from_is_err_and c.from_residual-in_err-run_body.result c.from_residual-in_err-run_body.ensures.1 in
+    let given = c.args.given.now in
+    let scope = scope_of c.args.scope.now in
+    let acts = acts_of (map act_of c.args.body.now) in
+    let ss = ranges_of c.args.ranges.now in
+    let tuples = c.args.tuples.now in
+    let i = c.loop-found.found-index in
+    let x = c.found-item.result in
+    let bound = scope_of c.as_slice-in-loop-found.result.now in
+    let sources = given.sources.now.entries in
+    let binds = λ long. ap scope_of c.as_slice-in-loop-found.ensures ∙ c.in_ok-bound.ensures.tuple (ap length c.as_slice.ensures ∙ long) ∙ ap (λ ks. bind_tuple ss ks scope) c.as_slice.ensures in
+    let now = tuple_now given (named_acts acts) scope c.args.ranges.now tuples i x bound (omega arith) c.found-item.is binds
+        c.args.work.now c.loop-found.work c.run_body.new.work c.loop-found.invariant.known all start u holds have (c.loop-found.invariant.goes all start u holds have)
+        c.any_writes-writing.result (λ none. c.loop-found.invariant.reads (sym c.any_writes-writing.ensures ∙ none)) in
+    let around = bound_is given (named_acts acts) scope c.args.ranges.now tuples i x bound (omega arith) c.found-item.is binds
+        c.args.work.now c.loop-found.work c.run_body.new.work c.loop-found.invariant.known all start u holds have (c.loop-found.invariant.goes all start u holds have) in
+    let variables = ap (λ b. variables_of (scope_of b)) c.as_slice-in-loop-found.ensures ∙ c.in_ok-bound.ensures.variables in
+    rw (p.1, p.2)
+    (stops_at (λ need. IsRowOf bound need ⊎ Then given all start (λ v. ActsWant v sources acts (variables_of bound) need))
+    (λ need. IsRowOf scope need ⊎ (AnyByRecursion (λ (f : Found). IsOneOf f.tuple need) tuples ⊎ Then given all start (λ v. ActsWant v sources acts (variables_of scope ++ ss) need)))
+    (λ need wanted. elim wanted as (λ w. IsRowOf scope need ⊎ (AnyByRecursion (λ (f : Found). IsOneOf f.tuple need) tuples ⊎ Then given all start (λ v. ActsWant v sources acts (variables_of scope ++ ss) need))) [
+      | inl row ↦ elim (bound_row need scope ss x.tuple (subst (λ s. IsRowOf s need) around row)) as (λ w. IsRowOf scope need ⊎ (AnyByRecursion (λ (f : Found). IsOneOf f.tuple need) tuples ⊎ Then given all start (λ v. ActsWant v sources acts (variables_of scope ++ ss) need))) [
+        | inl outside ↦ inl outside
+        | inr own ↦ inr (inl (tuple_among need tuples i x (omega arith) c.found-item.is own))
+      ]
+      | inr part ↦ inr (inr (then_so given all start (λ v. ActsWant v sources acts (variables_of bound) need) (λ v. ActsWant v sources acts (variables_of scope ++ ss) need) (λ v h. subst (λ vs. ActsWant v sources acts vs need) variables h) part))
+    ])
+    c.in_err-run_body.field-0.0 (c.in_err-run_body.ensures.wants (row_of now.0 bound) now.2 all start now.0 now.1 refl))
+
+pub run_action-returns-in-Print-clause-wants : goal.run_action-returns-in-Print-clause-wants
+run_action-returns-in-Print-clause-wants t c all start u holds is =
+    let given = c.args.given.now in
+    let scope = scope_of c.args.scope.now in
+    let items = c.as_slice.result.now in
+    let e = is_print c.args.action.now c.in-Print.items items c.in-Print.is c.as_slice.ensures in
+    print_wanting c.print.result given scope c.args.values.now c.args.action.now items c.args.work.now e (c.print.ensures.lacks scope (bound_so given scope c.args.action.now c.requires.bound (print items) e)) all start u holds is
+
+pub run_action-returns-in-Store-clause-wants : goal.run_action-returns-in-Store-clause-wants
+run_action-returns-in-Store-clause-wants t c =
+    let given = c.args.given.now in
+    let scope = scope_of c.args.scope.now in
+    let assigns = c.as_slice-in-Store.result.now in
+    let a = store c.in-Store.range assigns in
+    let e = is_store c.args.action.now c.in-Store.range c.in-Store.assigns assigns c.in-Store.is c.as_slice-in-Store.ensures in
+    form_wants c.store.result given scope c.args.values.now c.args.action.now a c.args.work.now e (c.store.ensures.wants scope (bound_so given scope c.args.action.now c.requires.bound a e))
+
+pub run_action-returns-in-Modify-clause-wants : goal.run_action-returns-in-Modify-clause-wants
+run_action-returns-in-Modify-clause-wants t c =
+    let assigns = c.as_slice-in-Modify.result.now in
+    form_wants c.modify.result c.args.given.now (scope_of c.args.scope.now) c.args.values.now c.args.action.now (modify c.in-Modify.variable assigns) c.args.work.now
+    (is_modify c.args.action.now c.in-Modify.variable c.in-Modify.assigns assigns c.in-Modify.is c.as_slice-in-Modify.ensures) c.modify.ensures.wants
+
+pub run_action-returns-in-Erase-clause-wants : goal.run_action-returns-in-Erase-clause-wants
+run_action-returns-in-Erase-clause-wants t c =
+    form_wants c.erase.result c.args.given.now (scope_of c.args.scope.now) c.args.values.now c.args.action.now (erase c.in-Erase.variable) c.args.work.now
+    (is_erase c.args.action.now c.in-Erase.variable c.in-Erase.is) (c.erase.ensures.wants c.args.values.now)
+
+pub run_action-returns-in-Err-clause-wants : goal.run_action-returns-in-Err-clause-wants
+run_action-returns-in-Err-clause-wants t c =
+    let given = c.args.given.now in
+    let scope = scope_of c.args.scope.now in
+    let action = c.args.action.now in
+    let s = c.in-For.selection in
+    let body = acts_of (map act_of c.in-For.body) in
+    let e = is_for action s c.in-For.body c.in-For.body c.in-For.is refl in
+    form_wants (Err c.of_select.result) given scope c.args.values.now action (for_each s body) c.args.work.now e
+    (subst (λ (w : ActStop). RunsWanting (Err w) given scope c.args.values.now (for_each s body) c.args.work.now) (sym c.of_select.ensures)
+    (for_stops_wanting given c.requires.together scope c.args.values.now c.args.work.now s body (bound_so given scope action c.requires.bound (for_each s body) e) c.in-Err.stop c.in-Err.ensures.work))
+
+pub run_action-returns-in-Ok-clause-wants : goal.run_action-returns-in-Ok-clause-wants
+run_action-returns-in-Ok-clause-wants t c =
+    let given = c.args.given.now in
+    let scope = scope_of c.args.scope.now in
+    let action = c.args.action.now in
+    let s = c.in-For.selection in
+    let slice = c.as_slice-in-For-2.result.now in
+    let body = acts_of (map act_of slice) in
+    let ranges = c.as_slice-ranges.result.now in
+    let e = is_for action s c.in-For.body slice c.in-For.is c.as_slice-in-For-2.ensures in
+    form_wants c.run_over.result given scope c.args.values.now action (for_each s body) c.args.work.now e
+    (for_runs_wanting given c.requires.together scope c.args.values.now c.args.work.now s body (bound_so given scope action c.requires.bound (for_each s body) e) c.run_over.result (ranges_of ranges) c.in-Ok.found c.as_slice-in-For.result.now
+    (ranges_same given scope action c.requires.bound s slice e ranges c.as_slice-ranges.ensures) c.as_slice-in-For.ensures c.in-Ok.ensures.tuples c.in-Ok.ensures.values c.run_over.ensures.wants)
