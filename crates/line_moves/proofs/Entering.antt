@@ -1,6 +1,6 @@
 -- A page gets its owner on its space page.
 use Rattle.std.proofs.Common.{◌≡◌, ℕ, ◌-◌, ◌%◌, ◌≤◌, List, inr, ⊎_elim, sym, subst, ◌∙◌, arith}
-use Rattle.area_files.specs.Areas.{IsPage, IsDataPage, space_page_of}
+use Rattle.area_files.specs.Areas.{IsPage, IsDataPage, IsSpacePage, space_page_of}
 use Rattle.space_pages.specs.Space.{IsSpace, IsWritten, IsBeside, owner_of}
 use Rattle.stable_lines.specs.Slots.{area_file, owner_at, IsAreaFile}
 use Rattle.stable_lines.specs.Progress.{Progress}
@@ -22,6 +22,13 @@ space_last page last le = omega arith
 
 is_space : (page : ℕ) → 1 ≤ page → (space_page_of page - 1) % 200 ≡ 0
 is_space page first = omega arith
+
+-- the space page of a data page is one
+pub space_there : (P : PendingContents) (now : Progress) (file page : ℕ) (old : List ℕ) → IsAreaFile file → IsDataPage page → Facts P now → P (area_file file) (space_page_of page - 1) old → IsSpace old (space_page_of page)
+space_there P now file page old file_is plain was pending = was.pages.space file (space_page_of page) old file_is (record { first = space_first page plain.is_page.first; last = space_last page 65536 plain.is_page.last }) (is_space page plain.is_page.first) pending
+
+pub space_behind : (number : ℕ) (bytes : List ℕ) → IsSpacePage number → IsWritten bytes number → IsSpace bytes number
+space_behind number bytes page is = record { page = page; bytes = inr is }
 
 module _ (P Q : PendingContents) (now : Progress) (file page area : ℕ) (old new : List ℕ) (file_is : IsAreaFile file) (plain : IsDataPage page) (more : More Q P (area_file file) (space_page_of page - 1) new) (was : Facts P now)
     (pending : P (area_file file) (space_page_of page - 1) old) (sets : SetsOwner page area old new) (own : (x : List ℕ) → P (area_file file) (page - 1) x → 1 ≤ owner_at x → owner_at x ≡ area) (within : page ≤ now.limits.pages) where

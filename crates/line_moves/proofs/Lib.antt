@@ -15,3 +15,4 @@ pub mod Commits
 pub mod EveryMoment
 pub mod Entering
 pub mod Journalled
+pub mod OnlyPut

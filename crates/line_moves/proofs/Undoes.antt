@@ -117,3 +117,6 @@ entry_there P now member index o slot undo was is first got there =
 
 pub key_there : (slot : List ℕ) (e : RujEntry) (tsn : Tsn) (index : ℕ) (undo : Undo) → IsEntry slot e → IsEntry slot (entry_at tsn index undo) → e.key ≡ undo.key
 key_there slot e tsn index undo reads stands = ap (λ (a : RujEntry). a.key) (one_entry slot e (entry_at tsn index undo) reads stands)
+
+pub before_there : (slot : List ℕ) (e : RujEntry) (tsn : Tsn) (index : ℕ) (undo : Undo) → IsEntry slot e → IsEntry slot (entry_at tsn index undo) → e.before ≡ undo.before
+before_there slot e tsn index undo reads stands = ap (λ (a : RujEntry). a.before) (one_entry slot e (entry_at tsn index undo) reads stands)

@@ -1,13 +1,14 @@
--- When a line may be put on its page, a page be given to a logical area, a commit slot be written.
+-- When a line may be put on its page, a page be given to a logical area, a commit slot be written; and what a call makes of the lines.
 use Rattle.std.specs.Prelude.{ℕ, ◌-◌, ◌≤◌, ◌<◌, ◌≡◌, ◌≢◌, ◌⊎◌, true, List, length, Some}
 use Rattle.rdb_types.specs.declared.keys.Dbkey.{Dbkey}
 use Rattle.rdb_types.specs.declared.keys.Line.{Line}
 use Rattle.rdb_types.specs.declared.keys.Tsn.{Tsn}
 use Rattle.area_files.specs.Areas.{IsDataPage, space_page_of}
+use Rattle.rdb_outside.specs.Disk.{Image}
 use Rattle.space_pages.specs.Space.{owner_of}
 use Rattle.rdb_page.specs.Lines.{IsAllowedLine}
 use Rattle.rdb_page.specs.Page.{IsOwner, class_at}
-use Rattle.stable_lines.specs.Slots.{area_file, owner_at, has_place}
+use Rattle.stable_lines.specs.Slots.{area_file, owner_at, has_place, line_at}
 use Rattle.stable_lines.specs.Journal.{next_slot}
 use Rattle.stable_lines.specs.Progress.{Open, Flight, Progress}
 use Rattle.stable_lines.specs.Facts.{PendingContents, IsCommitted, IsChanged, Facts}
@@ -56,3 +57,11 @@ pub record IsCommitOf (now : Progress) (f : Flight) (slot number : ℕ) (tsn : T
   pub numbered : number ≡ f.group.number
   pub its : tsn ≡ f.group.tsn
   pub count : lines ≡ length f.group.lines
+
+-- Each line is as it was, or it is the one of this key, and is this now.
+abbrev pub PutsOne : Dbkey → Line → Image → Image → Type 0
+PutsOne key value old new = (other : Dbkey) → (line_at new other ≡ line_at old other) ⊎ ((other ≡ key) × (line_at new other ≡ value))
+
+-- No line is another than before.
+abbrev pub KeepsLines : Image → Image → Type 0
+KeepsLines old new = (key : Dbkey) → line_at new key ≡ line_at old key

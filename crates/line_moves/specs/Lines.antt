@@ -64,3 +64,15 @@ pub record IsStarted (place : Place) (owner class : ℕ) (old new : List ℕ) : 
 -- They all have their place on the page as it is begun.
 abbrev pub AllFitBegun : ChangedLines → ℕ → Place → ℕ → List ℕ → Type 0
 AllFitBegun lines from place class old = (first : Dbkey × Line) (begun : List ℕ) → slice_get lines from ≡ Some first → IsStarted place first.0.area class old begun → AllFit lines from begun
+
+-- one of the lines has this key, and is this
+pub record HasLine (lines : ChangedLines) (key : Dbkey) (value : Line) : Type 0 where
+  pub index : ℕ
+  pub line : Dbkey × Line
+  pub is : slice_get lines index ≡ Some line
+  pub key_is : line.0 ≡ key
+  pub value_is : line.1 ≡ value
+
+-- Each line is as it was, or one of these.
+abbrev pub PutsOnly : ChangedLines → Image → Image → Type 0
+PutsOnly lines old new = (key : Dbkey) → (line_at new key ≡ line_at old key) ⊎ HasLine lines key (line_at new key)

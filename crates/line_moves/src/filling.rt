@@ -10,7 +10,7 @@ ghost use Rattle.stable_lines.specs.Progress.{Progress};
 ghost use Rattle.stable_lines.specs.Facts.{Facts};
 ghost use Rattle.line_moves.specs.Calls.{OnlyWrites};
 ghost use Rattle.line_moves.specs.Changes.{IsPlaceOf};
-ghost use Rattle.line_moves.specs.Lines.{AllFit, AllFitBegun, AreDistinct, ArePut, Fills, MayBegin, IsStarted, MayPutAll};
+ghost use Rattle.line_moves.specs.Lines.{AllFit, AllFitBegun, AreDistinct, ArePut, Fills, MayBegin, IsStarted, MayPutAll, PutsOnly};
 
 use crate::pages::{NoPlace, put_on};
 use crate::places::{Place, area_file};
@@ -118,6 +118,11 @@ pub fn write_page<D: Disk>(
         → let old = (D.view disk.old).content (file_named place.file) (place.page - 1) in
         let new = (D.view disk.new).content (file_named place.file) (place.page - 1) in
         (IsUnused old → class_at new ≡ class) × ((IsUnused old → ⊥) → class_at new ≡ class_at old)) }
+
+    // Whatever it answers, each line is as it was, or one of these.
+    ensures changes { IsTrue (D.view disk.old).tells → (now : Progress)
+        → Facts (Pending (D.view disk.old)) now
+        → PutsOnly lines.now (D.view disk.old).content (D.view disk.new).content }
 
     // Whatever it answers, the facts stay, where the lines may be put and the space page has the page's owner.
     ensures keeps { IsTrue (D.view disk.old).tells → (now : Progress)

@@ -1,8 +1,8 @@
 // After-images, commit slots, and the root.
-ghost use Rattle.std.specs.Prelude.{◌≡◌, ◌≤◌, ◌<◌, ◌+◌, ◌^◌, ◌⊎◌, ℕ, Some, None, IsSome, OnOk, IsTrue};
+ghost use Rattle.std.specs.Prelude.{◌≡◌, ◌≤◌, ◌<◌, ◌+◌, ◌^◌, ◌⊎◌, ℕ, List, Some, None, IsSome, OnOk, IsTrue};
 ghost use Rattle.rdb_outside.specs.Disk.{Pending, Counts};
 ghost use Rattle.aij_journal.specs.Part.{IsAllowedWhat};
-ghost use Rattle.root_file.specs.Root.{IsAllowed};
+ghost use Rattle.root_file.specs.Root.{IsAllowed, IsRoot};
 ghost use Rattle.journal_scan.specs.Standing.{what_stands};
 ghost use Rattle.new_database.specs.Maker.{aij_file as aij_named, root_file as root_named};
 ghost use Rattle.stable_lines.specs.Journal.{next_slot, commit_of};
@@ -82,6 +82,13 @@ pub fn write_root<D: Disk>(disk: &mut D, root: &Root) -> Result<(), Failed>
     requires whole { root.now.state ≡ 1 }
     ensures counts { Counts (D.view disk.old) (D.view disk.new) result }
     ensures writes { OnlyWrites root_named 0 (D.view disk.old) (D.view disk.new) }
+    ensures stands { OnOk result (IsTrue (D.view disk.old).tells
+        → IsRoot ((D.view disk.new).content root_named 0) root.now) }
+
+    // Each root that a crash may leave then is one of those before, or this one.
+    ensures roots { IsTrue (D.view disk.old).tells → (content : List ℕ)
+        → Pending (D.view disk.new) root_named 0 content
+        → Pending (D.view disk.old) root_named 0 content ⊎ IsRoot content root.now }
 
     // Whatever it answers, the facts stay.
     ensures keeps { IsTrue (D.view disk.old).tells → (now : Progress)

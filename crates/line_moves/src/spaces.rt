@@ -4,12 +4,12 @@ ghost use Rattle.rdb_types.specs.declared.file.FileId.{FileId as File};
 ghost use Rattle.rdb_outside.specs.Causes.{Rose};
 ghost use Rattle.rdb_outside.specs.Disk.{Pending};
 ghost use Rattle.area_files.specs.Areas.{IsDataPage, space_page_of as space_of};
-ghost use Rattle.space_pages.specs.Space.{IsSpace, owner_of};
+ghost use Rattle.space_pages.specs.Space.{IsSpace, IsBeside, owner_of};
 ghost use Rattle.stable_lines.specs.Slots.{area_file as file_named, IsAreaFile};
 ghost use Rattle.stable_lines.specs.Progress.{Progress};
 ghost use Rattle.stable_lines.specs.Facts.{Facts};
 ghost use Rattle.line_moves.specs.Calls.{OnlyWrites};
-ghost use Rattle.line_moves.specs.Changes.{IsForArea};
+ghost use Rattle.line_moves.specs.Changes.{IsForArea, KeepsLines};
 
 use crate::places::{Place, area_file};
 use area_files::{slot_of, space_page_of};
@@ -32,6 +32,15 @@ pub fn enter_page<D: Disk>(disk: &mut D, place: Place, area: u32) -> Result<(), 
     ensures entered { OnOk result (IsTrue (D.view disk.old).tells
         → owner_of place.page
         ((D.view disk.new).content (file_named place.file) (space_of place.page - 1)) ≡ area) }
+
+    // Whatever it answers, the other pages have their owners, and no line is another.
+    ensures beside { IsTrue (D.view disk.old).tells → (other : ℕ) → IsBeside place.page other
+        → owner_of other ((D.view disk.new).content (file_named place.file) (space_of place.page - 1))
+        ≡ owner_of other
+        ((D.view disk.old).content (file_named place.file) (space_of place.page - 1)) }
+    ensures lines { IsTrue (D.view disk.old).tells → (now : Progress)
+        → Facts (Pending (D.view disk.old)) now
+        → KeepsLines (D.view disk.old).content (D.view disk.new).content }
 
     // Whatever it answers, the facts stay, where no other area has the page.
     ensures keeps { IsTrue (D.view disk.old).tells → (now : Progress)

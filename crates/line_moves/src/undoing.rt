@@ -1,14 +1,16 @@
 // Before-images put back.
-ghost use Rattle.std.specs.Prelude.{◌≡◌, ◌≢◌, ◌-◌, ◌⊎◌, length, slice_get, ℕ, Some, OnOk, IsErrOf, IsTrue};
+ghost use Rattle.std.specs.Prelude.{◌≡◌, ◌≢◌, ◌-◌, ◌+◌, ◌⊎◌, length, slice_get, ℕ, Some, Ok, OnOk, IsErrOf, IsTrue};
 ghost use Rattle.rdb_types.specs.declared.file.FileId.{FileId as File};
 ghost use Rattle.rdb_types.specs.declared.keys.Dbkey.{Dbkey as Key};
 ghost use Rattle.rdb_outside.specs.Causes.{Rose};
-ghost use Rattle.rdb_outside.specs.Disk.{Pending};
-ghost use Rattle.stable_lines.specs.Slots.{Undo, line_at as line_named};
+ghost use Rattle.rdb_outside.specs.Disk.{Pending, OnlyReads};
+ghost use Rattle.area_files.specs.Areas.{IsDataPage};
+ghost use Rattle.stable_lines.specs.Slots.{Undo, area_file as file_named, line_at as line_named};
 ghost use Rattle.stable_lines.specs.Progress.{Open, Progress};
 ghost use Rattle.stable_lines.specs.Facts.{IsNotOpen, Facts};
+ghost use Rattle.line_moves.specs.declared.undoing.Undone.TheVariants.{Nothing};
 ghost use Rattle.line_moves.specs.Calls.{OnlyWrites};
-ghost use Rattle.line_moves.specs.Changes.{IsUndoing};
+ghost use Rattle.line_moves.specs.Changes.{IsUndoing, PutsOne};
 
 use crate::lines::line_at;
 use crate::pages::change_line;
@@ -39,9 +41,10 @@ pub fn undo_line<D: Disk>(
     requires { length page.old ≡ 1024 }
     ensures size { length page.new ≡ 1024 }
 
-    // It writes one slot at most.
-    ensures writes { (file : File) × (slot : ℕ)
-        × OnlyWrites file slot (D.view disk.old) (D.view disk.new) }
+    // It writes one page at most.
+    ensures writes { (number : ℕ) × (slot : ℕ) × IsDataPage (slot + 1)
+        × OnlyWrites (file_named number) slot (D.view disk.old) (D.view disk.new) }
+    ensures nothing { result ≡ Ok Nothing → OnlyReads (D.view disk.old) (D.view disk.new) }
 
     // Whatever it answers, the facts stay.
     ensures keeps { IsTrue (D.view disk.old).tells → (now : Progress) (transaction : Open)
@@ -70,6 +73,13 @@ pub fn undo_line<D: Disk>(
         → tsn ≡ transaction.tsn
         → (line_named (D.view disk.new).content key ≡ line_named (D.view disk.old).content key)
         ⊎ IsNotOpen now (line_named (D.view disk.new).content key).tsn.number) }
+
+    // Whatever it answers, each line is as it was, or it is the entry's and is the before-image again: its image, its transaction and its chain.
+    ensures restores { IsTrue (D.view disk.old).tells
+        → (now : Progress) (transaction : Open) (undo : Undo)
+        → IsUndoing (Pending (D.view disk.old)) now member transaction index pages
+        → tsn ≡ transaction.tsn → slice_get transaction.entries (index - 1) ≡ Some undo
+        → PutsOne undo.key undo.before (D.view disk.old).content (D.view disk.new).content }
 
     // No page is refused.
     ensures bad { (file : File) (slot : ℕ) → IsErrOf result (Fault.Bad file slot)

@@ -1,13 +1,15 @@
 // The entries of a member's transaction, undone.
-ghost use Rattle.std.specs.Prelude.{◌≡◌, ◌≤◌, ◌<◌, ◌⊎◌, ℕ, length, IfOk, OnOk, IsErrOf, IsTrue};
+ghost use Rattle.std.specs.Prelude.{◌≡◌, ◌≤◌, ◌<◌, ◌+◌, ◌⊎◌, ℕ, length, IfOk, OnOk, IsErrOf, IsTrue};
 ghost use Rattle.rdb_types.specs.declared.file.FileId.{FileId as File};
 ghost use Rattle.rdb_types.specs.declared.keys.Dbkey.{Dbkey as Key};
 ghost use Rattle.rdb_outside.specs.Causes.{Rose};
 ghost use Rattle.rdb_outside.specs.Disk.{Pending, LeavesOnly};
-ghost use Rattle.stable_lines.specs.Slots.{line_at as line_named};
+ghost use Rattle.area_files.specs.Areas.{IsDataPage};
+ghost use Rattle.stable_lines.specs.Slots.{area_file as file_named, line_at as line_named};
 ghost use Rattle.stable_lines.specs.Progress.{Open, Progress};
 ghost use Rattle.stable_lines.specs.Facts.{IsNotOpen, Facts, StandsAs};
-ghost use Rattle.line_opening.specs.Undoing.{AreUndone, MayUndo};
+ghost use Rattle.line_moves.specs.Calls.{OnlyWrites};
+ghost use Rattle.line_opening.specs.Undoing.{AreUndone, MayUndo, PutsBack};
 
 use line_moves::{Undone, undo_line};
 use line_store::Fault;
@@ -30,6 +32,16 @@ pub fn undo_next<D: Disk>(
     ensures failed { IsErrOf result Fault.Failed
         → Rose (D.view disk.old).faults (D.view disk.new).faults }
     ensures fewer { IfOk result (λ rest. 1 ≤ entries → rest < entries) }
+
+    // It writes one page at most.
+    ensures writes { (number : ℕ) × (slot : ℕ) × IsDataPage (slot + 1)
+        × OnlyWrites (file_named number) slot (D.view disk.old) (D.view disk.new) }
+
+    // Whatever it answers, each line is as it was, or its before-image in an entry: the image, the transaction and the chain.
+    ensures restores { IsTrue (D.view disk.old).tells → (now : Progress) (transaction : Open)
+        → MayUndo (Pending (D.view disk.old)) now member transaction entries pages
+        → tsn ≡ transaction.tsn
+        → PutsBack transaction (D.view disk.old).content (D.view disk.new).content }
 
     // Whatever it answers, the facts stay.
     ensures keeps { IsTrue (D.view disk.old).tells → (now : Progress) (transaction : Open)

@@ -1,10 +1,16 @@
 // A commit, stage by stage.
-ghost use Rattle.std.specs.Prelude.{◌≡◌, ◌+◌, ◌≤◌, ◌<◌, ◌^◌, ℕ, Some, length, IfOk, IsErrOf, IsTrue};
+ghost use Rattle.std.specs.Prelude.{◌≡◌, ◌+◌, ◌≤◌, ◌<◌, ◌^◌, ◌⊎◌, ℕ, Some, length, IfOk, IsErrOf, IsTrue};
+ghost use Rattle.rdb_types.specs.declared.file.FileId.{FileId as File};
+ghost use Rattle.rdb_types.specs.declared.file.FileKind.TheVariants.{Aij};
 ghost use Rattle.rdb_outside.specs.Causes.{Rose};
 ghost use Rattle.rdb_outside.specs.Disk.{Pending};
+ghost use Rattle.area_files.specs.Areas.{IsDataPage};
+ghost use Rattle.new_database.specs.Maker.{aij_file as aij_named};
+ghost use Rattle.stable_lines.specs.Slots.{area_file as file_named};
 ghost use Rattle.stable_lines.specs.Progress.{Open, Flight, Progress};
 ghost use Rattle.stable_lines.specs.Facts.{Facts};
-ghost use Rattle.line_moves.specs.Lines.{AreDistinct};
+ghost use Rattle.line_moves.specs.Calls.{OnlyWrites};
+ghost use Rattle.line_moves.specs.Lines.{AreDistinct, PutsOnly};
 ghost use Rattle.line_seat.specs.Groups.{AreAllowed, ArePlaced, HaveClasses, IsCommitting, group_line};
 ghost use Rattle.line_seat.specs.Stages.{CommitFacts, progress_at};
 ghost use Rattle.line_seat.specs.declared.commit.CommitStage.TheVariants.{Changing, Imaging, Gathering};
@@ -84,8 +90,13 @@ fn change_page<D: Disk>(
     requires placed { ArePlaced lines.now }
     requires classes { length classes.now ≡ length lines.now }
     requires allowed { AreAllowed lines.now classes.now }
+    ensures writes { (file : ℕ) × (slot : ℕ) × IsDataPage (slot + 1)
+        × OnlyWrites (file_named file) slot (D.view disk.old) (D.view disk.new) }
     ensures failed { IsErrOf result Fault.Failed
         → Rose (D.view disk.old).faults (D.view disk.new).faults }
+    ensures changes { IsTrue (D.view disk.old).tells → (now : Progress)
+        → Facts (Pending (D.view disk.old)) now
+        → PutsOnly lines.now (D.view disk.old).content (D.view disk.new).content }
     ensures goes_on { IfOk result (λ next. IsTrue (D.view disk.old).tells
         → (now : Progress) (group : _) (flight : Flight)
         → CommitFacts (Changing at) (D.view disk.old) now group lines.now flight
@@ -118,6 +129,7 @@ fn journal_image<D: Disk>(
     requires room { group.slot + (length lines.now + 1) < 2 ^ 32 }
     requires number { group.number ≤ 2 ^ 62 }
     requires tsn { group.tsn.number < 2 ^ 62 }
+    ensures writes { (slot : ℕ) × OnlyWrites aij_named slot (D.view disk.old) (D.view disk.new) }
     ensures failed { IsErrOf result Fault.Failed
         → Rose (D.view disk.old).faults (D.view disk.new).faults }
     ensures goes_on { IfOk result (λ next. IsTrue (D.view disk.old).tells
@@ -158,8 +170,18 @@ pub fn commit_step<D: Disk>(
     requires room { group.slot + (length lines.now + 1) < 2 ^ 32 }
     requires number { group.number ≤ 2 ^ 62 }
     requires tsn { group.tsn.number < 2 ^ 62 }
+
+    // It writes one slot at most, of a data page or of the after-image journal.
+    ensures writes { (file : File) × (slot : ℕ)
+        × (((n : ℕ) × (file ≡ file_named n) × IsDataPage (slot + 1)) ⊎ (file.kind ≡ Aij))
+        × OnlyWrites file slot (D.view disk.old) (D.view disk.new) }
     ensures failed { IsErrOf result Fault.Failed
         → Rose (D.view disk.old).faults (D.view disk.new).faults }
+
+    // Whatever it answers, each line is as it was, or one of these.
+    ensures changes { IsTrue (D.view disk.old).tells → (now : Progress)
+        → Facts (Pending (D.view disk.old)) now
+        → PutsOnly lines.now (D.view disk.old).content (D.view disk.new).content }
 
     // What the commit rests on at a stage, it rests on at the next. At the last one the group is committed.
     ensures goes_on { IfOk result (λ next. IsTrue (D.view disk.old).tells

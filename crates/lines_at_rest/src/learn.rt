@@ -51,6 +51,9 @@ pub fn learn_area<D: Disk>(
     area: u32,
     known: &mut Known,
 ) -> Result<(), OpeningFault>
+    // What is known of the area is all of it, whatever the disk tells.
+    ensures known { OnOk result ((found : Lines) × (known.new ≡ with_area area found known.old)) }
+
     // They are the area's of the map that the disk's content stands for.
     ensures learnt { OnOk result (IsTrue (D.view disk.old).tells
         → (file : ℕ) → IsOwner file area → (groups : List Group) (lines : Lines)

@@ -89,8 +89,18 @@ module _ (given : Given) (a : Act) (old new : Work) (all : Lines) (t : Tables) (
       let after : all_so.tables ≡ right.after = one_tables (laid_all what.writes all) all_so.tables right.after (are_tables (laid_all what.writes all) c all_so.tables sound) right.tables in
       (right, subst (λ (u : Tables). IsSoundAs (laid_all what.writes all) c u) after sound)
 
-  pub refused : (o : Option Reply) → IsSoundAs all c t → Refuses o known c all t job (stage old) new.given t → IsRefusedOver o new.given a all t
-  refused None sound h = tt
+  pub refused : (o : Option Reply) → IsSoundAs all c t → Refuses o known c all t job (stage old) new.given t → IsRefusedOver o new.given a known c all t
+  refused None sound h = record {
+    given = h.goes.fresh;
+    now = h.goes.tables;
+    lines = h.at.lines;
+    name = h.name;
+    own = h.own;
+    row = h.row;
+    rest = h.rest;
+    comes = λ left. ap (λ ls. job (world t (h.goes.fresh ++ left) ls)) (sym lines) ∙ h.goes.comes left;
+    unwritable = h.unwritable;
+  }
   refused (Some reply) sound h = λ word standing free.
       subst (λ (ks : List Dbkey). IsRightOver word standing (perform a) (record { choices = ks; reply = reply; writes = [] }) all t) h.given_there
       (act_refused known c word standing a reply h.at all t free sound (from_nothing (refusing reply) h.at h.goes))

@@ -1,5 +1,5 @@
 -- A row stored, in the words of the meaning.
-use Rattle.std.proofs.Common.{◌≡◌, true, false, cond, List, [], ◌∷◌, ◌++◌, map, length, replicate, Option, Some, None, Result, Ok, Err, sym, ap, subst, ◌∙◌, append-nil}
+use Rattle.std.proofs.Common.{◌≡◌, ℕ, refl, true, false, cond, List, [], ◌∷◌, ◌++◌, map, length, replicate, Option, Some, None, option_map, Result, Ok, Err, sym, ap, subst, ◌∙◌, append-nil}
 use Rattle.rdb_types.specs.declared.values.Field.{Field}
 use Rattle.rdb_types.specs.declared.keys.Dbkey.{Dbkey}
 use Rattle.rdb_types.specs.declared.values.Value.TheVariants.{Missing as MissingValue}
@@ -19,7 +19,8 @@ use Rattle.line_view.specs.Stops.{Stops, Lacks}
 use Rattle.catalog.specs.declared.reading.Catalog.{Catalog}
 use Rattle.sound_changes.specs.Standing.{IsSoundAs}
 use Rattle.sound_changes.proofs.Given.{may_be}
-use Rattle.statement_view.specs.Over.{Over, laid_over}
+use Rattle.statement_view.specs.Over.{Over, laid_over, all_rooms, AreRoomsKnown}
+use Rattle.schema_alone.specs.Schema.{bare}
 use Rattle.view_stages.specs.Stages.{Goes}
 use Rattle.stored_rows.specs.declared.images.Unstored.TheVariants as unstored
 use Rattle.row_writes.specs.declared.target.TargetRelation.{TargetRelation}
@@ -40,6 +41,7 @@ use Rattle.rdo_acts.specs.declared.work.Given.{Given}
 use Rattle.rdo_acts.specs.declared.work.Work.{Work}
 use Rattle.rdo_acts.specs.Ends.{ActStop, reply_of, IsUnassigned, Computes, stage, HoldsIn, IsRefusedAt, Refuses, Ends, Runs}
 use Rattle.rdo_acts.specs.Stops.{IsRefusalOf, IsStopOfRow}
+use Rattle.rdo_acts.specs.Unwritten.{IsInTheWay, IsUnwrittenAt}
 use Rattle.rdo_acts.proofs.Viewing.{sound_view, holds_sound, one_schema, range_there}
 use Rattle.rdo_acts.proofs.RowMade.{MakesNewRow}
 
@@ -76,7 +78,7 @@ module _ (given : Given) (s : Range) (as' : List Assignment) (scope : Scope) (ol
   unassigns : (refusal : Refusal) → IsUnassigned (reply_of refusal) made → new.given ≡ old.given → Refuses (reply_of refusal) known c all start job (stage old) new.given t
   unassigns refusal h same =
       elim (reply_of refusal) as (λ o. IsUnassigned o made → Refuses o known c all start job (stage old) new.given t) [
-        | None ↦ λ h. tt
+        | None ↦ λ h. absurd h
         | Some reply ↦ λ h. refuses_at reply (λ left. made_is left ∙ ap (store_assigned n start (world t left old.lines)) h) same
       ] h
 
@@ -133,13 +135,34 @@ module _ (given : Given) (s : Range) (as' : List Assignment) (scope : Scope) (ol
     refused_so : (o o' : Option Reply) → o' ≡ o → Refuses o known c all start job (stage old) new.given t → Refuses o' known c all start job (stage old) new.given t
     refused_so o o' same h = subst (λ (x : Option Reply). Refuses x known c all start job (stage old) new.given t) (sym same) h
 
+    -- a row that can't be stored
+    unwritten : (why : RowRefusal) → IsInTheWay old.view.base target row why → IsUnwrittenAt known c all start job (stage old) t
+    unwritten why way = record {
+      at = stage old;
+      name = n;
+      own = nowhere;
+      row = row;
+      rest = λ w. place_row n row start w w.choices;
+      goes = record { tables = t; holds = holds; fresh = []; gives = sym (append-nil old.given); comes = λ left. made_is left ∙ ap (store_assigned n start (world t left old.lines)) assigns };
+      unwritable = record {
+        relation = rel;
+        there = one_schema given old all start t holds n ∙ ap (option_map bare) named;
+        target = target;
+        is = is.is;
+        base = old.view.base;
+        same = refl;
+        why = why;
+        in_the_way = way;
+      };
+    }
+
     not_stored : (refusal : RowRefusal) (own : Refusal) → IsRefusalOf refusal target.indexes.now own → IsNotStored old.view.base rel target row refusal → new.given ≡ old.given → Refuses (reply_of own) known c all start job (stage old) new.given t
     not_stored (NoImage unstored.TooLong) own so why same = refused_so (Some r.TooLong) (reply_of own) (ap reply_of so) (too_long why same)
-    not_stored (NoImage unstored.Misfit) own so why same = refused_so None (reply_of own) (ap reply_of so) tt
-    not_stored NoRoom own so why same = refused_so None (reply_of own) (ap reply_of so) tt
+    not_stored (NoImage unstored.Misfit) own so why same = refused_so None (reply_of own) (ap reply_of so) (unwritten (NoImage unstored.Misfit) why)
+    not_stored NoRoom own so why same = refused_so None (reply_of own) (ap reply_of so) (unwritten NoRoom (subst (λ (area : ℕ). AreRoomsKnown known area target.class all_rooms) is.is.area why))
     not_stored (Pair at pair.Duplicate) own so why same = refused_so (Some (r.Duplicate (why.index).name)) (reply_of own) (so why.index why.stands) (duplicate (why.index).name why.short why.refused same)
-    not_stored (Pair at pair.LongKey) own so why same = refused_so None (reply_of own) (ap reply_of so) tt
-    not_stored (Pair at pair.Full) own so why same = refused_so None (reply_of own) (ap reply_of so) tt
+    not_stored (Pair at pair.LongKey) own so why same = refused_so None (reply_of own) (ap reply_of so) (unwritten (Pair at pair.LongKey) (why.index, why.stands, why.refused))
+    not_stored (Pair at pair.Full) own so why same = refused_so None (reply_of own) (ap reply_of so) (unwritten (Pair at pair.Full) (why.index, why.stands, why.refused))
 
     pub stops_storing : (stop : RowStop) (own : ActStop) → IsStopOfRow stop target.indexes.now own → StoresRow old.view new.view target row (Err stop) → new.given ≡ old.given → Ends (Err own) given all start job old new t
     stops_storing (Missing need) own so row_stored same = subst (λ (x : ActStop). Ends (Err x) given all start job old new t) (sym so) (row_stored c n rel t all (sound_view given old all start t holds) named is.is)

@@ -52,6 +52,8 @@ use Rattle.rdo_acts.specs.declared.work.Work.{Work}
 use Rattle.rdo_acts.specs.Ends.{ActStop, reply_of, IsUnassigned, Computes, stage, HoldsIn, IsRefusedAt, Refuses, Ends, Runs}
 use Rattle.rdo_acts.specs.Scopes.{binding_of, scope_of, AreRowsOf}
 use Rattle.rdo_acts.specs.Stops.{IsRefusalOf, IsStopOfRow}
+use Rattle.schema_alone.specs.Schema.{bare}
+use Rattle.rdo_acts.specs.Unwritten.{IsInTheWay, IsUnwrittenAt}
 use Rattle.rdo_acts.proofs.Viewing.{sound_view, holds_sound, one_schema, range_there}
 use Rattle.rdo_acts.proofs.RowMade.{MakesRow}
 use Rattle.rdo_acts.proofs.RowsInArea.{has_rows, row_in_area, nothing_goes}
@@ -132,7 +134,7 @@ module _ (given : Given) (v : Name) (as' : List Assignment) (scope : Scope) (old
     unmodified : (refusal : Refusal) → IsUnassigned (reply_of refusal) row_made → new.given ≡ old.given → Refuses (reply_of refusal) known c all start job (stage old) new.given t
     unmodified refusal h same =
         elim (reply_of refusal) as (λ o. IsUnassigned o row_made → Refuses o known c all start job (stage old) new.given t) [
-          | None ↦ λ h. tt
+          | None ↦ λ h. absurd h
           | Some reply ↦ λ h. refuses_at reply (λ left. made_is left ∙ ap (modify_assigned b.relation k (world t left old.lines)) h) same
         ] h
 
@@ -175,13 +177,34 @@ module _ (given : Given) (v : Name) (as' : List Assignment) (scope : Scope) (old
       refused_so : (o o' : Option Reply) → o' ≡ o → Refuses o known c all start job (stage old) new.given t → Refuses o' known c all start job (stage old) new.given t
       refused_so o o' same h = subst (λ (x : Option Reply). Refuses x known c all start job (stage old) new.given t) (sym same) h
 
+      -- a row that can't be changed so
+      unchanged : (why : RowRefusal) → IsInTheWay old.view.base target row why → IsUnwrittenAt known c all start job (stage old) t
+      unchanged why way = record {
+        at = stage old;
+        name = b.relation;
+        own = k;
+        row = row;
+        rest = λ w. ran (record w { tables = with_row b.relation k row w.tables });
+        goes = record { tables = t; holds = holds; fresh = []; gives = sym (append-nil old.given); comes = λ left. made_is left ∙ ap (modify_assigned b.relation k (world t left old.lines)) assigns };
+        unwritable = record {
+          relation = rel;
+          there = one_schema given old all start t holds b.relation ∙ ap (option_map bare) named;
+          target = target;
+          is = is.is;
+          base = old.view.base;
+          same = refl;
+          why = why;
+          in_the_way = way;
+        };
+      }
+
       not_changed : (refusal : RowRefusal) (own : Refusal) → IsRefusalOf refusal target.indexes.now own → IsNotChanged old.view.base rel target k row refusal → new.given ≡ old.given → Refuses (reply_of own) known c all start job (stage old) new.given t
       not_changed (NoImage unstored.TooLong) own so why same = refused_so (Some r.TooLong) (reply_of own) (ap reply_of so) (too_long why same)
-      not_changed (NoImage unstored.Misfit) own so why same = refused_so None (reply_of own) (ap reply_of so) tt
+      not_changed (NoImage unstored.Misfit) own so why same = refused_so None (reply_of own) (ap reply_of so) (unchanged (NoImage unstored.Misfit) why)
       not_changed NoRoom own so why same = absurd why
       not_changed (Pair at pair.Duplicate) own so why same = refused_so (Some (r.Duplicate (why.index).name)) (reply_of own) (so why.index why.stands) (duplicate (why.index).name why.short why.refused same)
-      not_changed (Pair at pair.LongKey) own so why same = refused_so None (reply_of own) (ap reply_of so) tt
-      not_changed (Pair at pair.Full) own so why same = refused_so None (reply_of own) (ap reply_of so) tt
+      not_changed (Pair at pair.LongKey) own so why same = refused_so None (reply_of own) (ap reply_of so) (unchanged (Pair at pair.LongKey) (why.index, why.stands, why.refused))
+      not_changed (Pair at pair.Full) own so why same = refused_so None (reply_of own) (ap reply_of so) (unchanged (Pair at pair.Full) (why.index, why.stands, why.refused))
 
       stops_changing : (stop : RowStop) (own : ActStop) → IsStopOfRow stop target.indexes.now own → Stops (Lacks known) (λ at. ⊥) (IsNotChanged old.view.base rel target k row) stop → new.given ≡ old.given → Ends (Err own) given all start job old new t
       stops_changing (Missing need) own so stopped same = subst (λ (x : ActStop). Ends (Err x) given all start job old new t) (sym so) stopped

@@ -1,9 +1,12 @@
 -- Jobs in turn over the view of a statement, and how one of them ends all.
-use Rattle.std.proofs.Common.{◌≡◌, List, [], ◌++◌, Option, Some, None, Result, Ok, Err, sym, ap, subst, ◌∙◌, append_assoc, append-nil}
+use Rattle.std.proofs.Common.{◌≡◌, Bool, true, false, cond, refl, List, [], ◌++◌, Option, Some, None, Result, Ok, Err, sym, ap, subst, ◌∙◌, append_assoc, append-nil}
 use Rattle.rdb_types.specs.declared.keys.Dbkey.{Dbkey}
 use Rattle.rdo_ast.specs.declared.reply.Reply.{Reply}
+use Rattle.rdo_ast.specs.declared.reply.Reply.TheVariants.{TooLong}
+use Rattle.rdo_ast.specs.Tree.{Name}
 use Rattle.rdb_meaning.specs.declared.tables.Tables.{Tables}
-use Rattle.rdb_meaning.specs.Execution.{World, world, Ran, ran, and_then}
+use Rattle.rdb_meaning.specs.Contents.{Row, relation_named, fields_of, is_too_long}
+use Rattle.rdb_meaning.specs.Execution.{World, world, Ran, ran, refused, and_then, taken_by, unless_taken, writing}
 use Rattle.line_view.specs.declared.stop.Stop.{Stop}
 use Rattle.line_view.specs.declared.stop.Stop.TheVariants.{Missing, Bad, NoMemory, Own}
 use Rattle.line_view.specs.declared.stop.Never.{Never}
@@ -23,6 +26,16 @@ use Rattle.rdo_acts.specs.Ends.{ActStop, reply_of, stage, HoldsIn, Refuses, Comp
 
 abbrev pub then : (World → Ran) → (World → Ran) → World → Ran
 then job next w = and_then (job w) next
+
+then_unless : (long : Bool) (reply : Reply) (keys : List Dbkey) (taken : Option Name) (w : World) (x : Ran) (next : World → Ran) →
+    and_then (cond long (refused reply keys) (unless_taken taken w x)) next ≡ cond long (refused reply keys) (unless_taken taken w (and_then x next))
+then_unless true reply keys taken w x next = refl
+then_unless false reply keys (Some index) w x next = refl
+then_unless false reply keys None w x next = refl
+
+-- what comes behind the writing of a row, and then a job
+writing_then : (n : Name) (row : Row) (own : Dbkey) (w : World) (x : Ran) (next : World → Ran) → and_then (writing n row own w x) next ≡ writing n row own w (and_then x next)
+writing_then n row own w x next = then_unless (is_too_long (fields_of (relation_named n w.tables)) row) TooLong w.choices (taken_by n row own w.tables) w x next
 
 -- `Ends`, with what was known at the start of the statement
 abbrev pub EndsAs : Result (Unit {0}) ActStop → Knowledge → Catalog → Lines → Tables → (World → Ran) → Stage → Stage → Tables → Type 0
@@ -68,7 +81,15 @@ module _ (known : Knowledge) (c : Catalog) (all : Lines) (start : Tables) where
   }
 
   refuses_through : (o : Option Reply) (job mid : World → Ran) (from at : Stage) (given : List Dbkey) (t : Tables) (one : Goes known c all start job mid from at t) → Refuses o known c all start mid at given one.tables → Refuses o known c all start job from given t
-  refuses_through None job mid from at given t one h = tt
+  refuses_through None job mid from at given t one h = record {
+    at = h.at;
+    name = h.name;
+    own = h.own;
+    row = h.row;
+    rest = h.rest;
+    goes = through job mid (λ w. writing h.name h.row h.own w (h.rest w)) from at h.at t one h.goes;
+    unwritable = h.unwritable;
+  }
   refuses_through (Some reply) job mid from at given t one h = record {
     at = h.at;
     given_there = h.given_there;
@@ -76,7 +97,23 @@ module _ (known : Knowledge) (c : Catalog) (all : Lines) (start : Tables) where
   }
 
   refuses_first : (o : Option Reply) (job next : World → Ran) (from : Stage) (given : List Dbkey) (t : Tables) → Refuses o known c all start job from given t → Refuses o known c all start (then job next) from given t
-  refuses_first None job next from given t h = tt
+  refuses_first None job next from given t h = record {
+    at = h.at;
+    name = h.name;
+    own = h.own;
+    row = h.row;
+    rest = λ w. and_then (h.rest w) next;
+    goes = record {
+      tables = h.goes.tables;
+      holds = h.goes.holds;
+      fresh = h.goes.fresh;
+      gives = h.goes.gives;
+      comes = λ left.
+          ap (λ r. and_then r next) (h.goes.comes left)
+          ∙ writing_then h.name h.row h.own (world h.goes.tables left h.at.lines) (h.rest (world h.goes.tables left h.at.lines)) next;
+    };
+    unwritable = h.unwritable;
+  }
   refuses_first (Some reply) job next from given t h = record { at = h.at; given_there = h.given_there; goes = first_refused job next reply from h.at t h.goes }
 
   -- what a job has come to ends so

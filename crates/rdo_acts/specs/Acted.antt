@@ -20,6 +20,7 @@ use Rattle.rdo_acts.specs.declared.acting.Acted.{Acted}
 use Rattle.rdo_acts.specs.declared.acting.Outcome.{Outcome}
 use Rattle.rdo_acts.specs.declared.acting.Outcome.TheVariants.{Done, Refused, Missing, Bad, NoMemory}
 use Rattle.rdo_acts.specs.Ends.{reply_of}
+use Rattle.rdo_acts.specs.Unwritten.{IsUnwrittenOver}
 
 -- the record of an action that was done
 abbrev pub said_of : Acted → Said
@@ -34,16 +35,16 @@ abbrev pub IsActedOver : Acted → Act → Catalog → Lines → Tables → Type
 IsActedOver acted a c all t = (word : List ℕ) (standing : Standing) → act_refusal a standing t ≡ None →
     (right : IsRightOver word standing (perform a) (said_of acted) all t) × IsSoundAs (laid_all acted.writes all) c right.after
 
--- Where nothing refuses the action before it is done, the meaning of the action over these tables with the Dbkeys given comes to this refusal; nothing is said where a row can't be written.
-abbrev pub IsRefusedOver : Option Reply → List Dbkey → Act → Lines → Tables → Type 0
-IsRefusedOver (Some reply) given a all t = (word : List ℕ) (standing : Standing) → act_refusal a standing t ≡ None →
+-- Where nothing refuses the action before it is done, the meaning of the action over these tables with the Dbkeys given comes to this refusal, or to the writing of a row that can't be written over what is known.
+abbrev pub IsRefusedOver : Option Reply → List Dbkey → Act → Knowledge → Catalog → Lines → Tables → Type 0
+IsRefusedOver (Some reply) given a known c all t = (word : List ℕ) (standing : Standing) → act_refusal a standing t ≡ None →
     IsRightOver word standing (perform a) (said_refused reply given) all t
-IsRefusedOver None given a all t = Unit {0}
+IsRefusedOver None given a known c all t = IsUnwrittenOver known c a t
 
 -- What comes of an action over a map that is sound with this catalog and has these tables, and with which what is known agrees: it is done, or refused; or none of the needs is known; a line is never bad, and want of memory says nothing.
 abbrev pub ComesOf : Outcome → Act → Knowledge → Catalog → Lines → Tables → Type 0
 ComesOf (Done acted) a known c all t = IsActedOver acted a c all t
-ComesOf (Refused refusal given) a known c all t = IsRefusedOver (reply_of refusal) given a all t
+ComesOf (Refused refusal given) a known c all t = IsRefusedOver (reply_of refusal) given a known c all t
 ComesOf (Missing needs) a known c all t = All (Lacks known) needs
 ComesOf (Bad key) a known c all t = ⊥
 ComesOf NoMemory a known c all t = Unit {0}

@@ -27,6 +27,7 @@ use Rattle.rdo_acts.specs.declared.stop.Refusal.{Refusal}
 use Rattle.rdo_acts.specs.declared.stop.Refusal.TheVariants.{Overflow, TooLong, Duplicate, Unwritten}
 use Rattle.rdo_acts.specs.declared.work.Given.{Given}
 use Rattle.rdo_acts.specs.declared.work.Work.{Work}
+use Rattle.rdo_acts.specs.Unwritten.{IsUnwrittenAt}
 
 -- ---- what is given
 
@@ -71,10 +72,10 @@ pub record IsRefusedAt (known : Knowledge) (c : Catalog) (all : Lines) (start : 
   pub given_there : at.given ≡ given
   pub goes : Goes known c all start job (refusing reply) from at t
 
--- nothing is said where a row can't be written
+-- the same, or it comes to the writing of a row that can't be written
 abbrev pub Refuses : Option Reply → Knowledge → Catalog → Lines → Tables → (World → Ran) → Stage → List Dbkey → Tables → Type 0
 Refuses (Some reply) known c all start job from given t = IsRefusedAt known c all start job reply from given t
-Refuses None known c all start job from given t = Unit {0}
+Refuses None known c all start job from given t = IsUnwrittenAt known c all start job from t
 
 -- The job is done; or it is refused; or what is missing isn't known, and no line is bad. Want of memory says nothing.
 abbrev pub Ends : Result (Unit {0}) ActStop → Given → Lines → Tables → (World → Ran) → Work → Work → Tables → Type 0

@@ -1,3 +1,4 @@
+pub mod Unwritten
 pub mod Scopes
 pub mod Ends
 pub mod Areas

@@ -11,7 +11,10 @@ use Rattle.rdb_checks.specs.declared.stop.Stop.{Stop as CheckStop}
 use Rattle.rdb_checks.specs.declared.stop.Stop.TheVariants as check
 use Rattle.rdb_checks.specs.Answers.{Finds}
 use Rattle.rdb_account.specs.Lawful.{first_refusal}
-use Rattle.session_jobs.specs.Jobs.{NamesNoNeed}
+use Rattle.line_view.specs.Held.{knows}
+use Rattle.rdo_ast.specs.Views.{uttered_of}
+use Rattle.session_jobs.specs.declared.jobs.Job.{Job}
+use Rattle.session_jobs.specs.Jobs.{NamesNoNeed, HasCause}
 use Rattle.rdo_ast.specs.declared.reply.Reply.{Reply}
 use Rattle.rdo_ast.specs.declared.reply.Standing.{Standing}
 use Rattle.rdo_ast.specs.Tree.{Uttered, said, syntax_fault, invoke, start_read_only, start_read_write, commit, rollback, finish, perform, define_field, define_relation, define_index, delete_relation, delete_index}
@@ -31,14 +34,31 @@ use Rattle.session_jobs.specs.declared.jobs.Found.{Found}
 use Rattle.session_jobs.specs.declared.jobs.Found.TheVariants as found
 use Rattle.session_jobs.specs.Records.{DoesSo}
 use Rattle.rdo_exec.specs.Answers.{answer_unless, answer_of, answer_by, found_of_stop}
+use Rattle.rdo_exec.specs.Left.{IsLeft, unmeant}
+use Rattle.rdo_exec.specs.Areas.{FoundIn}
 use Rattle.rdo_exec.specs.Coming.{Comes, AsksIn}
 use Rattle.rdo_exec.specs.Defined.{IsUnchecked}
 
 -- ---- what says nothing
 
-pub says_nothing : (word : List ℕ) (standing : Standing) (item : Uttered) (known : Knowledge) (f : Found) → (f ≡ found.NoMemory) ⊎ (f ≡ found.Unworked) → Comes word standing item known f
-says_nothing word standing item known f (inl is) = subst (λ (x : Found). Comes word standing item known x) (sym is) (record { usual = tt; over = λ all t sound agrees. tt })
-says_nothing word standing item known f (inr is) = subst (λ (x : Found). Comes word standing item known x) (sym is) (record { usual = tt; over = λ all t sound agrees. tt })
+pub says_nothing : (word : List ℕ) (standing : Standing) (item : Uttered) (known : Knowledge) (f : Found) → f ≡ found.NoMemory → Comes word standing item known f
+says_nothing word standing item known f is = subst (λ (x : Found). Comes word standing item known x) (sym is) (record { usual = tt; once = tt; over = λ all t sound agrees. tt })
+
+-- ---- what is left
+
+pub left : (word : List ℕ) (standing : Standing) (item : Uttered) (known : Knowledge) (f : Found) → f ≡ found.Unworked → IsLeft word standing item known → Comes word standing item known f
+left word standing item known f is why = subst (λ (x : Found). Comes word standing item known x) (sym is) (record { usual = tt; once = tt; over = why })
+
+pub why_left : (word : List ℕ) (standing : Standing) (item : Uttered) (known : Knowledge) (f : Found) → Comes word standing item known f → f ≡ found.Unworked → IsLeft word standing item known
+why_left word standing item known f comes is = (subst (λ (x : Found). Comes word standing item known x) is comes).over
+
+-- the same as the clause of who works statements
+pub has_cause : (job : Job) (f : Found) → (f ≡ found.Unworked → IsLeft job.word job.standing (uttered_of job.item) (knows job.known)) → HasCause IsLeft job f
+has_cause job (found.Done r) why = tt
+has_cause job (found.Missing next later) why = tt
+has_cause job (found.Bad key) why = tt
+has_cause job found.Unworked why = why refl
+has_cause job found.NoMemory why = tt
 
 -- ---- where the catalog can't be read
 
@@ -48,9 +68,9 @@ next_lacks known (Line key) h = h.1
 next_lacks known (Room room) h = absurd h
 
 pub unread : (word : List ℕ) (standing : Standing) (item : Uttered) (known : Knowledge) (why : Stop Never) → StopsCatalog known why → Comes word standing item known (found_of_stop why)
-unread word standing item known (stop.Missing need) h = record { usual = tt; over = λ all t sound agrees. (next_lacks known need h, tt) }
-unread word standing item known (stop.Bad key) h = record { usual = tt; over = λ all t sound agrees. agreements.no_catalog known all key sound.2.catalog agrees h sound.2.decodes }
-unread word standing item known stop.NoMemory h = record { usual = tt; over = λ all t sound agrees. tt }
+unread word standing item known (stop.Missing need) h = record { usual = tt; once = (tt, tt); over = λ all t sound agrees. (next_lacks known need h, tt) }
+unread word standing item known (stop.Bad key) h = record { usual = tt; once = tt; over = λ all t sound agrees. agreements.no_catalog known all key sound.2.catalog agrees h sound.2.decodes }
+unread word standing item known stop.NoMemory h = record { usual = tt; once = tt; over = λ all t sound agrees. tt }
 unread word standing item known (stop.Own never) h = elim never [ ]
 
 -- ---- what is answered, and nothing written
@@ -58,8 +78,12 @@ unread word standing item known (stop.Own never) h = elim never [ ]
 answer_comes_by : (word : List ℕ) (standing : Standing) (item : Uttered) (known : Knowledge) (reply : Reply) (behind : Standing) (limits : Bool) → is_refusal_of_means reply ≡ limits →
     ((all : Lines) (t : Tables) → IsSoundWith all t → Agrees known all → DoesSo IsSoundWith word standing (record { item = item; choices = []; reply = reply; behind = behind; writes = [] }) all t) →
     Comes word standing item known (answer_unless limits reply behind)
-answer_comes_by word standing item known reply behind true is so = record { usual = tt; over = λ all t sound agrees. tt }
-answer_comes_by word standing item known reply behind false is so = record { usual = is; over = so }
+answer_comes_by word standing item known reply behind true is so = record {
+  usual = tt;
+  once = tt;
+  over = λ all t sound agrees. let does = so all t sound agrees in unmeant [] reply does.then behind does.does is;
+}
+answer_comes_by word standing item known reply behind false is so = record { usual = is; once = tt; over = so }
 
 pub answer_comes : (word : List ℕ) (standing : Standing) (item : Uttered) (known : Knowledge) (reply : Reply) (behind : Standing) →
     ((all : Lines) (t : Tables) → IsSoundWith all t → Agrees known all → DoesSo IsSoundWith word standing (record { item = item; choices = []; reply = reply; behind = behind; writes = [] }) all t) →
@@ -70,8 +94,8 @@ answer_comes word standing item known reply behind so = answer_comes_by word sta
 pub answer_by_comes : (word : List ℕ) (standing : Standing) (item : Uttered) (known : Knowledge) (reply : Result Reply NoMemory) (behind : Result Standing NoMemory) →
     ((r : Reply) (b : Standing) → reply ≡ Ok r → behind ≡ Ok b → Comes word standing item known (answer_of r b)) → Comes word standing item known (answer_by reply behind)
 answer_by_comes word standing item known (Ok r) (Ok b) so = so r b refl refl
-answer_by_comes word standing item known (Ok r) (Err failed) so = record { usual = tt; over = λ all t sound agrees. tt }
-answer_by_comes word standing item known (Err failed) behind so = record { usual = tt; over = λ all t sound agrees. tt }
+answer_by_comes word standing item known (Ok r) (Err failed) so = record { usual = tt; once = tt; over = λ all t sound agrees. tt }
+answer_by_comes word standing item known (Err failed) behind so = record { usual = tt; once = tt; over = λ all t sound agrees. tt }
 
 -- ---- what an answer asks for
 
@@ -83,6 +107,16 @@ pub answer_asks : (standing : Standing) (item : Uttered) (t : Tables) (reply : R
 answer_asks standing item t (Ok r) (Ok b) = answer_unless_asks standing item t (is_refusal_of_means r) r b
 answer_asks standing item t (Ok r) (Err failed) = tt
 answer_asks standing item t (Err failed) behind = tt
+
+answer_unless_stays : (read changed : List ℕ) (limits : Bool) (reply : Reply) (behind : Standing) → FoundIn read changed (answer_unless limits reply behind)
+answer_unless_stays read changed true reply behind = tt
+answer_unless_stays read changed false reply behind = tt
+
+-- it reads and writes nothing
+pub answer_stays : (read changed : List ℕ) (reply : Result Reply NoMemory) (behind : Result Standing NoMemory) → FoundIn read changed (answer_by reply behind)
+answer_stays read changed (Ok r) (Ok b) = answer_unless_stays read changed (is_refusal_of_means r) r b
+answer_stays read changed (Ok r) (Err failed) = tt
+answer_stays read changed (Err failed) behind = tt
 
 answer_unless_names : (limits : Bool) (reply : Reply) (behind : Standing) → NamesNoNeed (answer_unless limits reply behind)
 answer_unless_names true reply behind = tt
@@ -126,14 +160,14 @@ pub refused_comes : (word : List ℕ) (standing : Standing) (item : Uttered) (kn
 refused_comes word standing item known reply (Ok b) refuses same =
     subst (λ (s : Standing). Comes word standing item known (answer_of reply s)) (sym same)
     (answer_comes word standing item known reply standing (λ all t sound agrees. record { then = t; does = refused_first word standing item reply t refuses; stands = sound }))
-refused_comes word standing item known reply (Err failed) refuses same = record { usual = tt; over = λ all t sound agrees. tt }
+refused_comes word standing item known reply (Err failed) refuses same = record { usual = tt; once = tt; over = λ all t sound agrees. tt }
 
 -- ---- what a check refuses
 
 pub unchecked_comes : (word : List ℕ) (standing : Standing) (item : Uttered) (known : Knowledge) (why : CheckStop) (f : Found) → IsUnchecked why standing f → ((reply : Reply) → why ≡ check.Refused reply → Comes word standing item known (answer_of reply standing)) → Comes word standing item known f
 unchecked_comes word standing item known (check.Refused reply) f (inl is) so = subst (λ (x : Found). Comes word standing item known x) (sym is) (so reply refl)
-unchecked_comes word standing item known (check.Refused reply) f (inr is) so = says_nothing word standing item known f (inl is)
-unchecked_comes word standing item known check.Memory f is so = says_nothing word standing item known f (inl is)
+unchecked_comes word standing item known (check.Refused reply) f (inr is) so = says_nothing word standing item known f is
+unchecked_comes word standing item known check.Memory f is so = says_nothing word standing item known f is
 
 pub unchecked_asks : (standing : Standing) (item : Uttered) (t : Tables) (behind : Standing) (why : CheckStop) (f : Found) → IsUnchecked why behind f → AsksIn standing item f t
 unchecked_asks standing item t behind (check.Refused reply) f (inl is) = subst (λ (x : Found). AsksIn standing item x t) (sym is) (answer_unless_asks standing item t (is_refusal_of_means reply) reply behind)

@@ -41,7 +41,7 @@ use Rattle.session_jobs.specs.Asked.{area_mode, is_lock_for, AsksFor}
 use Rattle.session_jobs.specs.Jobs.{IsFound, IsLacking, AreAsked}
 use Rattle.rdo_exec.specs.Answers.{found_of_stop, IsAnswered}
 use Rattle.rdo_exec.specs.Ways.{names_any, IsViewing}
-use Rattle.rdo_exec.specs.Coming.{IsCatalogOfKnown, Comes, AsksIn, Asks, ActAsks}
+use Rattle.rdo_exec.specs.Coming.{IsCatalogOfKnown, Comes, AsksIn, Asks, ActStays}
 use Rattle.rdo_exec.specs.Acted.{found_refused, IsFoundOf}
 use Rattle.rdo_exec.specs.Areas.{FoundIn}
 
@@ -127,18 +127,23 @@ acted_stays us t behind (Refused refusal given) f (inl is) stays = subst (FoundI
 acted_stays us t behind (Refused refusal given) f (inr is) stays = subst (FoundIn (areas_read t us) (areas_changed t us)) (sym is) tt
 acted_stays us t behind (Missing needs) f is stays =
     subst (FoundIn (areas_read t us) (areas_changed t us)) (sym is.is)
-    (recursion_from_All (IsNeedOf (areas_read t us) (areas_changed t us)) (is.next ∷ is.later) (subst (λ (ns : List Need). All (IsNeedOf (areas_read t us) (areas_changed t us)) ns) is.all stays))
+    ((recursion_from_All (IsNeedOf (areas_read t us) (areas_changed t us)) (is.next ∷ is.others) (subst (λ (ns : List Need). All (IsNeedOf (areas_read t us) (areas_changed t us)) ns) is.all stays)).0, tt)
 acted_stays us t behind (Bad key) f is stays = subst (FoundIn (areas_read t us) (areas_changed t us)) (sym is) tt
 acted_stays us t behind NoMemory f is stays = subst (FoundIn (areas_read t us) (areas_changed t us)) (sym is) tt
 
-pub acted_asks : (a : Act) (c : Catalog) (known : Knowledge) (behind : Standing) → IsCatalogOfKnown known c → (outcome : Outcome) (f : Found) → IsFoundOf outcome behind f → StaysFor outcome a known c → ActAsks a known f
-acted_asks a c known behind decodes outcome f is stays standing none names = λ all t sound agrees.
+pub acted_so : (a : Act) (c : Catalog) (known : Knowledge) (behind : Standing) → IsCatalogOfKnown known c → (outcome : Outcome) (f : Found) → IsFoundOf outcome behind f → StaysFor outcome a known c → ActStays a known f
+acted_so a c known behind decodes outcome f is stays = λ all t sound agrees.
+    acted_stays (act_uses a []) t behind outcome f is (stays all t agrees (begins known c all t sound.0 agrees (decodes all agrees) sound.1 sound.2))
+
+-- where the transaction that is open doesn't refuse an action that names a relation, it asks for what it came to
+pub acted_asks : (a : Act) (known : Knowledge) (standing : Standing) (f : Found) → standing_refusal (perform a) standing ≡ None → names_any (act_uses a []) ≡ true → ActStays a known f → Asks standing (said (perform a)) known f
+acted_asks a known standing f none names stays = λ all t sound agrees.
     let us = act_uses a [] in
     let some = some_use us names in
     found_asks standing (said (perform a)) t (areas_read t us) (areas_changed t us) f
     (λ need of. action_asks standing a t some.0 some.1 need none some.2 (need_wider (areas_read t us) (areas_changed t us) (1 ∷ areas_read t us) (areas_changed t us) (one_more_area 1 (areas_read t us)) (λ area h. h) need of))
     (λ writes each. action_writes standing a t writes none each)
-    (acted_stays us t behind outcome f is (stays all t agrees (begins known c all t sound.0 agrees (decodes all agrees) sound.1 sound.2)))
+    (stays all t sound agrees)
 
 -- ---- all together
 

@@ -1,5 +1,5 @@
 -- Whether one of two lists of uses names a relation.
-use Rattle.std.proofs.Common.{◌≡◌, ◌||◌, ℕ, suc, true, false, not, arith, rules, map, nat_eq, length, List, [], ◌∷◌, ◌++◌, refl, ap, ◌∙◌}
+use Rattle.std.proofs.Common.{◌≡◌, ◌||◌, ℕ, suc, true, false, not, arith, rules, map, nat_eq, length, List, [], ◌∷◌, ◌++◌, refl, sym, ap, subst, ◌∙◌}
 use Rattle.std.proofs.lemmas.Bool.Decides.{nat_tests}
 use Rattle.rdo_ast.specs.declared.syntax.Action.{Action}
 use Rattle.rdo_ast.specs.declared.syntax.Action as actions
@@ -8,7 +8,8 @@ use Rattle.rdo_ast.specs.Tree.{for_each}
 use Rattle.rdo_ast.specs.Views.{ranging_of, act_of, acts_of}
 use Rattle.rdo_ast.specs.declared.syntax.Range.{Range}
 use Rattle.rdb_meaning.specs.Checks.{Use, source_uses, ranging_uses, act_uses}
-use Rattle.rdo_exec.specs.Ways.{names_any}
+use Rattle.rdb_meaning.specs.Evaluation.{sources_of}
+use Rattle.rdo_exec.specs.Ways.{names_any, HasNoRange}
 
 pub names_append : (us vs : List Use) → names_any (us ++ vs) ≡ (names_any us || names_any vs)
 names_append [] vs = refl
@@ -29,3 +30,9 @@ pub for_names : (action : Action) (s : Selection) (body body' : List Action) →
 for_names action s body body' is same some =
     let it : act_of action ≡ for_each (ranging_of s.inner) s.clauses (acts_of (map act_of body')) = search (rules, actions.the_lemmas) in
     ap (λ a. names_any (act_uses a [])) it ∙ some_first (ranging_uses (ranging_of s.inner)) _ some
+
+-- a FOR has no range where its selection has none
+pub for_unranged : (action : Action) (s : Selection) (body : List Action) → action ≡ actions.For s body → names_any (source_uses (sources_of (ranging_of s.inner))) ≡ false → HasNoRange (act_of action)
+for_unranged action s body is none =
+    let it : act_of action ≡ for_each (ranging_of s.inner) s.clauses (acts_of (map act_of body)) = search (rules, actions.the_lemmas) in
+    subst HasNoRange (sym it) none

@@ -34,6 +34,7 @@ use Rattle.rdo_acts.specs.Acted.{said_of, said_refused, IsRefusedOver, ComesOf}
 use Rattle.std.specs.Prelude.{IfOk}
 use Rattle.rdb_types.specs.declared.memory.NoMemory.{NoMemory as Failed}
 use Rattle.rdo_exec.specs.Answers.{answer_of, answer_by}
+use Rattle.rdo_exec.specs.Left.{unwritten}
 use Rattle.rdo_exec.specs.Coming.{IsCatalogOfKnown, Comes}
 use Rattle.rdo_exec.proofs.Answered.{says_nothing, answer_comes}
 use Rattle.rdo_exec.specs.Acted.{found_refused, IsFoundOf}
@@ -87,10 +88,15 @@ module _ (word : List ℕ) (standing : Standing) (a : Act) (c : Catalog) (known 
   module _ (free : act_refusal a standing c.tables ≡ None) where
     -- it is refused on the way
     refused_on : (o : Option Reply) (given : List Dbkey) → ((reply : Reply) → o ≡ Some reply → is_refusal_of_means reply ≡ false) →
-        ((all : Lines) (t : Tables) → Agrees known all → IsSoundAs all c t → IsRefusedOver o given a all t) → Comes word standing item known (found_refused o given behind)
-    refused_on None given usual h = record { usual = tt; over = λ all t sound agrees. tt }
+        ((all : Lines) (t : Tables) → Agrees known all → IsSoundAs all c t → IsRefusedOver o given a known c all t) → Comes word standing item known (found_refused o given behind)
+    refused_on None given usual h = record {
+      usual = tt;
+      once = tt;
+      over = λ all t sound agrees. unwritten a c refl (decodes all agrees) (h all t agrees (sound_as all t sound agrees));
+    }
     refused_on (Some reply) given usual h = record {
       usual = usual reply refl;
+      once = tt;
       over = λ all t sound agrees. let whole = sound_as all t sound agrees in
           does_so (said_refused reply given) all t sound.0 (h all t agrees whole word standing (sym (same_refusal all t whole) ∙ free));
     }
@@ -106,22 +112,27 @@ module _ (word : List ℕ) (standing : Standing) (a : Act) (c : Catalog) (known 
         Comes word standing item known f
     comes_of (Done acted) f so h = subst (λ (x : Found). Comes word standing item known x) (sym so) (record {
       usual = refl;
+      once = tt;
       over = λ all t sound agrees. let whole = sound_as all t sound agrees in
           let right = h all t agrees whole word standing (sym (same_refusal all t whole) ∙ free) in
           does_so (said_of acted) all t (right.1).sorted right.0;
     })
     comes_of (Refused refusal given) f (inl so) h = subst (λ (x : Found). Comes word standing item known x) (sym so) (refused_on (reply_of refusal) given (usual_reply refusal) h)
-    comes_of (Refused refusal given) f (inr so) h = says_nothing word standing item known f (inl so)
+    comes_of (Refused refusal given) f (inr so) h = says_nothing word standing item known f so
     comes_of (Missing needs) f so h = subst (λ (x : Found). Comes word standing item known x) (sym so.is) (record {
       usual = tt;
-      over = λ all t sound agrees. recursion_from_All (Lacks known) (so.next ∷ so.later)
-          (subst (λ (ns : List Need). All (Lacks known) ns) so.all (h all t agrees (sound_as all t sound agrees)));
+      once = (tt, tt);
+      over = λ all t sound agrees. (
+        (recursion_from_All (Lacks known) (so.next ∷ so.others)
+            (subst (λ (ns : List Need). All (Lacks known) ns) so.all (h all t agrees (sound_as all t sound agrees)))).0,
+        tt,
+      );
     })
-    comes_of (Bad key) f so h = subst (λ (x : Found). Comes word standing item known x) (sym so) (record { usual = tt; over = λ all t sound agrees. h all t agrees (sound_as all t sound agrees) })
-    comes_of NoMemory f so h = says_nothing word standing item known f (inl so)
+    comes_of (Bad key) f so h = subst (λ (x : Found). Comes word standing item known x) (sym so) (record { usual = tt; once = tt; over = λ all t sound agrees. h all t agrees (sound_as all t sound agrees) })
+    comes_of NoMemory f so h = says_nothing word standing item known f so
 
 -- the same, where memory may have failed
 pub barred_by : (word : List ℕ) (standing : Standing) (a : Act) (c : Catalog) (known : Knowledge) → IsCatalogOfKnown known c → (reply : Reply) (copied : Result Standing Failed) → IfOk copied (λ left. left ≡ standing_for a standing) → act_refusal a standing c.tables ≡ Some reply →
     Comes word standing (said (perform a)) known (answer_by (Ok reply) copied)
 barred_by word standing a c known decodes reply (Ok left) is refuses = barred word standing a c known left decodes is reply refuses
-barred_by word standing a c known decodes reply (Err failed) is refuses = record { usual = tt; over = λ all t sound agrees. tt }
+barred_by word standing a c known decodes reply (Err failed) is refuses = record { usual = tt; once = tt; over = λ all t sound agrees. tt }

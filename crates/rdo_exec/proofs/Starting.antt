@@ -99,7 +99,7 @@ pub reserves_comes : (word : List ℕ) (c : Catalog) (known : Knowledge) (wait :
     Comes word Closed (said (start_read_write wait rs)) known (answer_by (Ok reply) behind)
 reserves_comes word c known wait rs reply (Ok s) decodes free same is =
     subst (λ (x : Found). Comes word Closed (said (start_read_write wait rs)) known x) (λ i. answer_of (sym same i) (sym is i)) (reserves word c known decodes wait rs free)
-reserves_comes word c known wait rs reply (Err failed) decodes free same is = record { usual = tt; over = λ all t sound agrees. tt }
+reserves_comes word c known wait rs reply (Err failed) decodes free same is = record { usual = tt; once = tt; over = λ all t sound agrees. tt }
 
 or_left : (a b : Bool) → a ≡ true → (a || b) ≡ true
 or_left a b is = ap (λ x. x || b) is

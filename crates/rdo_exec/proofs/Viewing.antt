@@ -11,7 +11,8 @@ use Rattle.rdo_ast.specs.Views.{command_of}
 use Rattle.rdb_meaning.specs.Checks.{is_retrieval}
 use Rattle.rdb_meaning.specs.Meaning.{needs_closed, needs_read_write, standing_refusal}
 use Rattle.rdb_account.specs.Places.{begins}
-use Rattle.rdo_exec.specs.Ways.{IsReserving, IsDefining, IsViewing, NamesSome}
+use Rattle.rdo_exec.specs.Left.{IsStrange}
+use Rattle.rdo_exec.specs.Ways.{IsUnranged, IsReserving, IsDefining, IsViewing, NamesSome}
 
 -- what isn't an action is a definition or a deletion
 pub defining_not_act : (x : Statement) → ((a : Action) → x ≡ s.Act a → ⊥) → IsViewing (command_of x) → IsDefining (command_of x)
@@ -27,6 +28,20 @@ defining_not_act (s.DefineRelation n fs) never way = tt
 defining_not_act (s.DefineIndex d) never way = tt
 defining_not_act (s.DeleteRelation n) never way = tt
 defining_not_act (s.DeleteIndex n) never way = tt
+
+pub unranged_strange : (command : Command) → IsUnranged command → IsStrange command
+unranged_strange (perform a) is = is
+unranged_strange (invoke words) is = absurd is
+unranged_strange start_read_only is = absurd is
+unranged_strange (start_read_write wait rs) is = absurd is
+unranged_strange commit is = absurd is
+unranged_strange rollback is = absurd is
+unranged_strange finish is = absurd is
+unranged_strange (define_field n type) is = absurd is
+unranged_strange (define_relation n fs) is = absurd is
+unranged_strange (define_index d) is = absurd is
+unranged_strange (delete_relation n) is = absurd is
+unranged_strange (delete_index n) is = absurd is
 
 pub defining_writes : (command : Command) (standing : Standing) → IsDefining command → standing_refusal command standing ≡ None → needs_read_write standing ≡ None
 defining_writes (define_field n type) standing is none = none

@@ -32,12 +32,12 @@ abbrev pub found_refused : Option Reply → List Dbkey → Standing → Found
 found_refused (Some reply) given behind = found.Done (record { choices = given; reply = reply; standing = behind; writes = [] })
 found_refused None given behind = found.Unworked
 
--- the first need is that which is wanted next
+-- the first need is that which is wanted next, and the one that is told
 pub record Lists (needs : List Need) (f : Found) : Type 0 where
   pub next : Need
-  pub later : List Need
-  pub all : needs ≡ next ∷ later
-  pub is : f ≡ found.Missing next later
+  pub others : List Need
+  pub all : needs ≡ next ∷ others
+  pub is : f ≡ found.Missing next []
 
 -- What a job comes to by what comes of its action, where this is the standing that the action leaves.
 abbrev pub IsFoundOf : Outcome → Standing → Found → Type 0
@@ -47,10 +47,16 @@ IsFoundOf (Missing needs) behind f = Lists needs f
 IsFoundOf (Bad key) behind f = f ≡ found.Bad key
 IsFoundOf NoMemory behind f = f ≡ found.NoMemory
 
--- the same without writes; an action that reads no relation lacks nothing and finds no bad line
+-- nothing is lacked, and no line is bad
+abbrev pub IsSettled : Found → Type 0
+IsSettled (found.Missing next later) = ⊥
+IsSettled (found.Bad key) = ⊥
+IsSettled _ = Unit {0}
+
+-- the same without writes, where an action lacked nothing
 abbrev pub IsAlone : Found → Found → Type 0
 IsAlone (found.Done x) f = f ≡ found.Done (record x { writes = [] })
-IsAlone (found.Missing next later) f = f ≡ found.Unworked
-IsAlone (found.Bad key) f = f ≡ found.Unworked
+IsAlone (found.Missing next later) f = ⊥
+IsAlone (found.Bad key) f = ⊥
 IsAlone found.Unworked f = f ≡ found.Unworked
 IsAlone found.NoMemory f = f ≡ found.NoMemory

@@ -1,11 +1,10 @@
 -- What an item comes to over what is known, and that it may ask for the locks of it.
-use Rattle.std.specs.Prelude.{◌≡◌, ℕ, true, false, List, [], ◌∷◌, None}
+use Rattle.std.specs.Prelude.{◌≡◌, ℕ, false, List, [], ◌∷◌, Option, Some, None}
 use Rattle.std.specs.List.{AllByRecursion}
 use Rattle.rdo_ast.specs.declared.reply.Standing.{Standing}
 use Rattle.rdo_ast.specs.Tree.{Act, Uttered, said, perform}
 use Rattle.rdb_meaning.specs.declared.tables.Tables.{Tables}
 use Rattle.rdb_meaning.specs.Checks.{act_uses}
-use Rattle.rdb_meaning.specs.Meaning.{standing_refusal}
 use Rattle.rdb_meaning.specs.Usual.{is_refusal_of_means}
 use Rattle.line_view.specs.Knowledge.{Knowledge, Lines, Agrees}
 use Rattle.line_view.specs.Stops.{Lacks}
@@ -13,22 +12,24 @@ use Rattle.session_jobs.specs.declared.jobs.Found.{Found}
 use Rattle.session_jobs.specs.declared.jobs.Found.TheVariants.{Done, Missing, Bad, Unworked, NoMemory}
 use Rattle.session_jobs.specs.Records.{DoesSo}
 use Rattle.session_jobs.specs.Asked.{is_lock_for, AsksFor}
-use Rattle.session_jobs.specs.Jobs.{worked_of, WhereItAgrees, AreAsked}
+use Rattle.session_jobs.specs.Jobs.{worked_of, WhereItAgrees, AreAsked, NamesOnce}
 use Rattle.catalog.specs.declared.reading.Catalog.{Catalog}
-use Rattle.catalog.specs.Reading.{IsCatalogOf}
+use Rattle.catalog.specs.Reading.{IsCatalogOf, IsWhole}
 use Rattle.sound_maps.specs.Maps.{IsSoundWith}
-use Rattle.rdo_exec.specs.Ways.{names_any}
+use Rattle.rdo_exec.specs.Left.{IsLeftOver}
+use Rattle.rdo_exec.specs.Areas.{FoundIn}
+use Rattle.used_areas.specs.Areas.{areas_read, areas_changed}
 
 -- what is known has this catalog
 abbrev pub IsCatalogOfKnown : Knowledge → Catalog → Type 0
 IsCatalogOfKnown known c = (all : Lines) → Agrees known all → IsCatalogOf all c
 
--- Over a sound map with these tables the record is right, or none of the needs is known; no line is bad. Want of memory, and an item that isn't worked, say nothing.
+-- Over a sound map with these tables the record is right, or none of the needs is known, or the item is left for a cause; no line is bad. Want of memory says nothing.
 abbrev pub ComesOver : List ℕ → Standing → Uttered → Knowledge → Found → Lines → Tables → Type 0
 ComesOver word standing item known (Done r) all t = DoesSo IsSoundWith word standing (worked_of item r) all t
 ComesOver word standing item known (Missing next later) all t = AllByRecursion (Lacks known) (next ∷ later)
 ComesOver word standing item known (Bad key) all t = ⊥
-ComesOver word standing item known Unworked all t = Unit {0}
+ComesOver word standing item known Unworked all t = IsLeftOver word standing item known all t
 ComesOver word standing item known NoMemory all t = Unit {0}
 
 abbrev pub IsUsual : Found → Type 0
@@ -38,6 +39,7 @@ IsUsual _ = Unit {0}
 -- It comes to this over each sound map with which what is known agrees.
 pub record Comes (word : List ℕ) (standing : Standing) (item : Uttered) (known : Knowledge) (found : Found) : Type 0 where
   pub usual : IsUsual found
+  pub once : NamesOnce found
   pub over : (all : Lines) (t : Tables) → IsSoundWith all t → Agrees known all → ComesOver word standing item known found all t
 
 -- ---- locks
@@ -54,6 +56,11 @@ AsksIn standing item NoMemory t = Unit {0}
 abbrev pub Asks : Standing → Uttered → Knowledge → Found → Type 0
 Asks standing item known found = WhereItAgrees IsSoundWith known (AsksIn standing item found)
 
--- Where the transaction that is open doesn't refuse an action that names a relation, it asks for what it came to.
-abbrev pub ActAsks : Act → Knowledge → Found → Type 0
-ActAsks a known found = (standing : Standing) → standing_refusal (perform a) standing ≡ None → names_any (act_uses a []) ≡ true → Asks standing (said (perform a)) known found
+-- Over each sound map with which what is known agrees, what an action came to is in the areas of the relations that it names.
+abbrev pub ActStays : Act → Knowledge → Found → Type 0
+ActStays a known found = WhereItAgrees IsSoundWith known (λ t. FoundIn (areas_read t (act_uses a [])) (areas_changed t (act_uses a [])) found)
+
+-- what is kept of the catalog is the catalog of what is known
+abbrev pub FitsKnown : Option Catalog → Knowledge → Type 0
+FitsKnown (Some c) known = IsCatalogOfKnown known c × IsWhole c
+FitsKnown None known = Unit {0}

@@ -2,7 +2,8 @@
 use Rattle.std.specs.Prelude.{◌≡◌, ◌&&◌, Bool, true, false, List, [], ◌∷◌}
 use Rattle.rdo_ast.specs.declared.syntax.Reservation.{Reservation}
 use Rattle.rdo_ast.specs.Tree.{Expression, number, text, field, negative, chain, count, statistic, Operations, no_operation, operation, Shown, value, all_fields, Act, store, for_each, print, modify, erase, Command, invoke, start_read_only, start_read_write, commit, rollback, finish, perform, define_field, define_relation, define_index, delete_relation, delete_index}
-use Rattle.rdb_meaning.specs.Checks.{Use, act_uses}
+use Rattle.rdb_meaning.specs.Checks.{Use, source_uses, shown_uses, act_uses}
+use Rattle.rdb_meaning.specs.Evaluation.{sources_of}
 use Rattle.rdo_exec.specs.declared.way.Way.{Way}
 use Rattle.rdo_exec.specs.declared.way.Way.TheVariants.{Plain, Reserving, Bare, Acting, Defining, Strange}
 
@@ -78,13 +79,25 @@ IsDefining (delete_relation n) = Unit {0}
 IsDefining (delete_index n) = Unit {0}
 IsDefining _ = ⊥
 
+-- a FOR without a range, or a PRINT of a statistic in which no range is
+abbrev pub HasNoRange : Act → Type 0
+HasNoRange (store s as') = ⊥
+HasNoRange (for_each r cs body) = names_any (source_uses (sources_of r)) ≡ false
+HasNoRange (print items) = (all_plain items ≡ false) × (names_any (shown_uses items) ≡ false)
+HasNoRange (modify n as') = ⊥
+HasNoRange (erase n) = ⊥
+
+abbrev pub IsUnranged : Command → Type 0
+IsUnranged (perform a) = HasNoRange a
+IsUnranged _ = ⊥
+
 abbrev pub IsWay : Way → Command → Type 0
 IsWay Plain command = IsPlain command
 IsWay Reserving command = IsReserving command
 IsWay Bare command = IsBare command
 IsWay Acting command = NamesSome command
 IsWay Defining command = IsDefining command
-IsWay Strange command = Unit {0}
+IsWay Strange command = IsUnranged command
 
 -- it is worked over a view
 abbrev pub IsViewing : Command → Type 0

@@ -9,10 +9,10 @@ ghost use Rattle.line_view.specs.Held.{knows};
 ghost use Rattle.rdo_bind.specs.Acting.{act_of as bound_act_of, written_act, IsBoundAct};
 ghost use Rattle.rdo_acts.specs.Ends.{reply_of};
 ghost use Rattle.rdo_acts.specs.Acted.{NamesNeeds};
-ghost use Rattle.rdo_exec.specs.Coming.{IsCatalogOfKnown, Comes, ActAsks};
+ghost use Rattle.rdo_exec.specs.Coming.{IsCatalogOfKnown, Comes, ActStays};
 ghost use Rattle.rdo_exec.specs.Acted.{found_refused, Lists, AreTogether, IsFoundOf};
 
-use crate::records::{Returned, answered_by};
+use crate::records::{Returned, answered_by, missing};
 use crate::standing::standing_for;
 use line_view::{Known, Need};
 use rdb_checks::{Stop as CheckStop, check_action};
@@ -70,14 +70,13 @@ fn refused(alloc: Global, refusal: Refusal<'_>, given: Keys, behind: Standing) -
     }
 }
 
-// The need that the work wants next, and the others.
-fn lacking(needs: Items<Need>) -> Found
+// The need that the work wants next.
+fn lacking(alloc: Global, needs: Items<Need>) -> Found
     requires { needs ≢ [] }
     ensures { Lists needs result }
 {
-    let mut later = needs;
-    let next = later.remove(0);
-    Found::Missing { next, later }
+    let mut needs = needs;
+    missing(alloc, needs.remove(0))
 }
 
 fn found_of(alloc: Global, outcome: Outcome<'_>, behind: Standing) -> Found
@@ -98,7 +97,7 @@ fn found_of(alloc: Global, outcome: Outcome<'_>, behind: Standing) -> Found
             writes,
         }),
         Outcome::Refused { refusal, given } => refused(alloc, refusal, given, behind),
-        Outcome::Missing(needs) => lacking(needs),
+        Outcome::Missing(needs) => lacking(alloc, needs),
         Outcome::Bad(key) => Found::Bad(key),
         Outcome::NoMemory => Found::NoMemory,
     }
@@ -117,7 +116,7 @@ fn run_from<'a>(
     requires catalog { IsCatalogOfKnown (knows known) schema.now }
     requires bound { IsBoundAct (bound_act_of action.now) schema.now.tables [] }
     ensures known { result.known ≡ known }
-    ensures asked { ActAsks (written_act action.now) (knows known) result.found }
+    ensures stays { ActStays (written_act action.now) (knows known) result.found }
     ensures comes { (word : List ℕ) (standing : State) → act_refusal (written_act action.now) standing schema.now.tables ≡ None → behind ≡ standing_for (written_act action.now) standing
         → Comes word standing (said (perform (written_act action.now))) (knows known) result.found }
 {
@@ -144,7 +143,7 @@ fn run_with<'a>(
     requires catalog { IsCatalogOfKnown (knows known) schema.now }
     requires bound { IsBoundAct (bound_act_of action.now) schema.now.tables [] }
     ensures known { result.known ≡ known }
-    ensures asked { ActAsks (written_act action.now) (knows known) result.found }
+    ensures stays { ActStays (written_act action.now) (knows known) result.found }
     ensures comes { (word : List ℕ) (standing : State) → act_refusal (written_act action.now) standing schema.now.tables ≡ None → behind ≡ standing_for (written_act action.now) standing
         → Comes word standing (said (perform (written_act action.now))) (knows known) result.found }
 {
@@ -162,7 +161,7 @@ fn run(
     requires catalog { IsCatalogOfKnown (knows known) schema.now }
     requires bound { IsBoundAct (bound_act_of action.now) schema.now.tables [] }
     ensures known { result.known ≡ known }
-    ensures asked { ActAsks (written_act action.now) (knows known) result.found }
+    ensures stays { ActStays (written_act action.now) (knows known) result.found }
     ensures comes { (word : List ℕ) (standing : State) → act_refusal (written_act action.now) standing schema.now.tables ≡ None → behind ≡ standing_for (written_act action.now) standing
         → Comes word standing (said (perform (written_act action.now))) (knows known) result.found }
 {
@@ -186,7 +185,7 @@ fn run_behind(
     requires catalog { IsCatalogOfKnown (knows known) schema.now }
     requires bound { IsBoundAct (bound_act_of action.now) schema.now.tables [] }
     ensures known { result.known ≡ known }
-    ensures asked { ActAsks (written_act action.now) (knows known) result.found }
+    ensures stays { ActStays (written_act action.now) (knows known) result.found }
     ensures comes { (word : List ℕ) (standing : State) → act_refusal (written_act action.now) standing schema.now.tables ≡ None → IfOk behind (λ left. left ≡ standing_for (written_act action.now) standing)
         → Comes word standing (said (perform (written_act action.now))) (knows known) result.found }
 {
@@ -209,7 +208,7 @@ pub(crate) fn act_by(
 ) -> Returned
     requires catalog { IsCatalogOfKnown (knows known) schema.now }
     ensures known { result.known ≡ known }
-    ensures asked { ActAsks (act_of action.now) (knows known) result.found }
+    ensures stays { ActStays (act_of action.now) (knows known) result.found }
     ensures comes { (word : List ℕ) → Comes word standing.now (said (perform (act_of action.now))) (knows known) result.found }
 {
     let behind = standing_for(alloc, standing, action);

@@ -6,7 +6,7 @@ ghost use Rattle.line_view.specs.Knowledge.{Agrees};
 ghost use Rattle.line_view.specs.Held.{knows};
 ghost use Rattle.rdo_exec.specs.Answers.{IsAnswered};
 ghost use Rattle.rdo_exec.specs.Ways.{is_bare};
-ghost use Rattle.rdo_exec.specs.Acted.{IsAlone};
+ghost use Rattle.rdo_exec.specs.Acted.{IsSettled, IsAlone};
 
 use crate::acting::act_by;
 use crate::records::Returned;
@@ -18,8 +18,9 @@ use rdo_ast::syntax::Action;
 use session_jobs::{Found, TxRecord};
 use std::alloc::Global;
 
-// Such an action writes no line and reads none.
+// Such an action writes no line and reads none, so it lacks none.
 fn alone(alloc: Global, found: Found) -> Found
+    requires { IsSettled found }
     ensures { IsAlone found result }
 {
     match found {
@@ -36,8 +37,9 @@ fn alone(alloc: Global, found: Found) -> Found
             standing,
             writes: Items::new(alloc),
         }),
+        Found::Unworked => Found::Unworked,
         Found::NoMemory => Found::NoMemory,
-        Found::Missing { .. } | Found::Bad(_) | Found::Unworked => Found::Unworked,
+        Found::Missing { .. } | Found::Bad(_) => unreachable!(),
     }
 }
 

@@ -1,21 +1,26 @@
 // START_TRANSACTION with reservations, definitions and deletions.
-ghost use Rattle.std.specs.Prelude.{◌≡◌, ◌⊎◌, ◌∷◌, [], ℕ, List, None, true, false};
+ghost use Rattle.std.specs.Prelude.{◌≡◌, ◌≢◌, ◌⊎◌, ◌∷◌, [], ℕ, List, Some, None, Err, true, false};
 ghost use Rattle.std.specs.FinMap.Entries.{find};
 ghost use Rattle.rdb_types.specs.Order.{chars_order};
 ghost use Rattle.rdo_ast.specs.Tree.{said, start_read_write, define_field, define_relation, define_index, delete_relation, delete_index};
 ghost use Rattle.rdo_ast.specs.Views.{command_of};
 ghost use Rattle.rdo_ast.specs.declared.reply.Standing.TheVariants.{Closed as closed};
+ghost use Rattle.rdb_meaning.specs.declared.tables.Relation.{Relation as Table};
 ghost use Rattle.rdb_meaning.specs.Contents.{relation_named};
 ghost use Rattle.rdb_meaning.specs.Checks.{or_else, needs_some, use_of, reservation_refusal};
 ghost use Rattle.rdb_meaning.specs.Defining.{index_names};
 ghost use Rattle.rdb_meaning.specs.Meaning.{needs_read_write, reservations_of, index_uses};
 ghost use Rattle.rdb_checks.specs.Answers.{Finds};
 ghost use Rattle.line_view.specs.Held.{knows};
+ghost use Rattle.line_view.specs.declared.need.Need.{Need as Needed};
+ghost use Rattle.line_view.specs.declared.stop.Stop.TheVariants as stops;
+ghost use Rattle.catalog_lines.specs.Parts.{IsName, IsType};
 ghost use Rattle.catalog.specs.Reading.{IsWhole};
 ghost use Rattle.statement_view.specs.Areas.{is_among};
 ghost use Rattle.used_areas.specs.Areas.{areas_read};
 ghost use Rattle.rdo_exec.specs.Areas.{IsReadOf, ReadsOf};
 ghost use Rattle.rdo_exec.specs.Ways.{reserves, IsDefining};
+ghost use Rattle.rdo_exec.specs.Left.{IsElsewhere};
 ghost use Rattle.rdo_exec.specs.Coming.{IsCatalogOfKnown, Asks, Comes};
 ghost use Rattle.rdo_exec.specs.Defined.{IsUnchecked, IsRefused, IsWritten, of_deletion};
 
@@ -125,6 +130,13 @@ fn written(
     Returned { known, found }
 }
 
+fn is_field_definition(name: &Chars, kind: FieldType) -> bool
+    ensures yes { result ≡ true → IsName name.now × IsType kind }
+    ensures no { result ≡ false → IsName name.now × IsType kind → ⊥ }
+{
+    is_name(name.as_slice()) && is_type(kind)
+}
+
 fn field_defined(
     alloc: Global,
     catalog: &Catalog,
@@ -140,7 +152,7 @@ fn field_defined(
     ensures asked { Asks standing.now (said (define_field name.now kind.now)) (knows known) result.found }
     ensures comes { (word : List ℕ) → Comes word standing.now (said (define_field name.now kind.now)) (knows known) result.found }
 {
-    if !is_name(name.as_slice()) || !is_type(*kind) {
+    if !is_field_definition(name, *kind) {
         return Returned {
             known,
             found: Found::Unworked,
@@ -190,7 +202,8 @@ fn check_index_comes(
 }
 
 fn is_area_of(tables: &Tables, relation: &Chars, area: u32) -> bool
-    ensures { result ≡ true → is_among (areas_read tables.now (use_of false relation.now ∷ [])) area ≡ true }
+    ensures yes { result ≡ true → is_among (areas_read tables.now (use_of false relation.now ∷ [])) area ≡ true }
+    ensures no { result ≡ false → (r : Table) → relation_named relation.now tables.now ≡ Some r → area ≢ r.area }
 {
     match tables.relation(relation) {
         Some(found) => found.area == area,
@@ -200,7 +213,8 @@ fn is_area_of(tables: &Tables, relation: &Chars, area: u32) -> bool
 
 // Whether a need is a room, or of the area of the relation.
 fn is_read(tables: &Tables, relation: &Chars, need: &Need) -> bool
-    ensures { result ≡ true → IsReadOf (areas_read tables.now (use_of false relation.now ∷ [])) need.now }
+    ensures yes { result ≡ true → IsReadOf (areas_read tables.now (use_of false relation.now ∷ [])) need.now }
+    ensures no { result ≡ false → IsElsewhere (relation_named relation.now tables.now) need.now }
 {
     match need {
         Need::Line(key) => is_area_of(tables, relation, key.area),
@@ -212,7 +226,8 @@ fn is_read(tables: &Tables, relation: &Chars, need: &Need) -> bool
 // Whether DEFINE INDEX lacks lines that aren't its relation's: these can be of the new index alone. What is read there was written before by the same statement, so
 // nothing of it is lacked; but no clause says so, and the account's rule lets nobody ask for such a line.
 fn lacks_others(tables: &Tables, relation: &Chars, end: &Result<(), SchemaStop>) -> bool
-    ensures { result ≡ false → ReadsOf (areas_read tables.now (use_of false relation.now ∷ [])) end.now }
+    ensures no { result ≡ false → ReadsOf (areas_read tables.now (use_of false relation.now ∷ [])) end.now }
+    ensures yes { result ≡ true → (need : Needed) × (end.now ≡ Err (stops.Missing need)) × IsElsewhere (relation_named relation.now tables.now) need }
 {
     match end {
         Err(Stop::Missing(need)) => !is_read(tables, relation, need),

@@ -1,8 +1,9 @@
 // Whether an action names a relation, and so reads the catalog.
-ghost use Rattle.std.specs.Prelude.{◌≡◌, true, map, []};
+ghost use Rattle.std.specs.Prelude.{◌≡◌, true, false, map, []};
 ghost use Rattle.rdo_ast.specs.Views.{expression_of, applied_of, operations_of, testing_of, conjunction_of, condition_of, ranging_of, shown_of, act_of};
 ghost use Rattle.rdb_meaning.specs.Checks.{expression_uses, operations_uses, testing_uses, conjunction_uses, condition_uses, ranging_uses, source_uses, shown_uses, act_uses};
-ghost use Rattle.rdo_exec.specs.Ways.{names_any};
+ghost use Rattle.rdb_meaning.specs.Evaluation.{sources_of};
+ghost use Rattle.rdo_exec.specs.Ways.{names_any, is_bare, HasNoRange};
 
 use rdo_ast::syntax::{
     Action, Condition, Conjunction, Expression, Inner, Operation, PrintItem, Range, Test,
@@ -99,7 +100,8 @@ fn inner_names(inner: &Inner) -> bool
 }
 
 fn is_ranging(inner: &Inner) -> bool
-    ensures { result ≡ true → names_any (ranging_uses (ranging_of inner.now)) ≡ true }
+    ensures named { result ≡ true → names_any (ranging_uses (ranging_of inner.now)) ≡ true }
+    ensures ranges { result ≡ false → names_any (source_uses (sources_of (ranging_of inner.now))) ≡ false }
 {
     has_ranges(inner.ranges.as_slice())
 }
@@ -118,7 +120,8 @@ fn items_name(items: &[PrintItem]) -> bool
 
 /// Whether an action that isn't bare names a relation. No script has a FOR or a statistic without a range.
 pub(crate) fn names_relation(action: &Action) -> bool
-    ensures { result ≡ true → names_any (act_uses (act_of action.now) []) ≡ true }
+    ensures named { result ≡ true → names_any (act_uses (act_of action.now) []) ≡ true }
+    ensures ranges { result ≡ false → is_bare (act_of action.now) ≡ false → HasNoRange (act_of action.now) }
 {
     match action {
         Action::Print(items) => items_name(items.as_slice()),

@@ -8,11 +8,20 @@ use rdb_types::{Items, NoMemory};
 use rdo_ast::reply::{Reply, Standing};
 use session_jobs::{Found, TxRecord};
 use std::alloc::Global;
+use stored_schema::Schema;
 
 /// What was known, given back, and what the work came to.
 #[derive(Drop)]
 pub(crate) struct Returned {
     pub known: Known,
+    pub found: Found,
+}
+
+/// The same, with the catalog that is kept.
+#[derive(Drop)]
+pub(crate) struct Worked {
+    pub known: Known,
+    pub kept: Option<Schema>,
     pub found: Found,
 }
 

@@ -1,5 +1,5 @@
 // Who works statements over lines.
-ghost use Rattle.std.specs.Prelude.{◌≡◌, ℕ, List, None};
+ghost use Rattle.std.specs.Prelude.{◌≡◌, ℕ, List, None, IfOk, IfErr};
 ghost use Rattle.rdo_ast.specs.Tree.{said};
 ghost use Rattle.rdo_ast.specs.Views.{command_of, uttered_of};
 ghost use Rattle.rdo_ast.specs.declared.reply.Standing.TheVariants.{Closed as closed};
@@ -7,22 +7,23 @@ ghost use Rattle.rdb_meaning.specs.Meaning.{standing_refusal};
 ghost use Rattle.rdb_account.specs.Lawful.{first_refusal as refusal_first};
 ghost use Rattle.rdb_account.specs.Places.{begins};
 ghost use Rattle.line_view.specs.Held.{knows};
-ghost use Rattle.catalog.specs.Reading.{IsWhole};
+ghost use Rattle.catalog.specs.Reading.{IsWhole, StopsCatalog};
 ghost use Rattle.sound_maps.specs.Maps.{IsSoundWith};
-ghost use Rattle.session_jobs.specs.Jobs.{IsFound, NamesNoNeed};
+ghost use Rattle.session_jobs.specs.Jobs.{IsFound, NamesOnce, NamesNoNeed};
 ghost use Rattle.rdo_exec.specs.Answers.{IsAnswered};
+ghost use Rattle.rdo_exec.specs.Left.{IsLeft};
 ghost use Rattle.rdo_exec.specs.Ways.{IsBare, IsReserving, IsViewing};
-ghost use Rattle.rdo_exec.specs.Coming.{IsCatalogOfKnown, Asks, Comes};
+ghost use Rattle.rdo_exec.specs.Coming.{IsCatalogOfKnown, Asks, Comes, FitsKnown};
 
 use crate::acting::act_by;
 use crate::bare::act_bare;
 use crate::defining::{define_by, reserve};
 use crate::plain::plain;
-use crate::records::{Returned, answered_by, stopped};
+use crate::records::{Returned, Worked, answered_by, stopped};
 use crate::schema::schema_of;
 use crate::standing::first_refusal;
 use crate::way::{Way, way_of};
-use line_view::Known;
+use line_view::{Known, Never, Stop};
 use rdb_types::{Copied, Word};
 use rdo_ast::reply::Standing;
 use rdo_ast::syntax::{Item, Statement};
@@ -41,7 +42,7 @@ fn bare(alloc: Global, standing: &Standing, statement: &Statement) -> Found
 {
     match statement {
         Statement::Act(action) => act_bare(alloc, standing, action),
-        _ => Found::Unworked,
+        _ => unreachable!(),
     }
 }
 
@@ -54,7 +55,7 @@ fn reserving(alloc: Global, standing: &Standing, statement: &Statement, known: &
 {
     match statement {
         Statement::StartReadWrite { wait, reserved } => reserve(alloc, known, *wait, reserved),
-        _ => Found::Unworked,
+        _ => unreachable!(),
     }
 }
 
@@ -80,24 +81,51 @@ fn work_by(
     }
 }
 
+// The catalog that was kept, or else that of what is known.
+fn catalog_of(alloc: Global, known: &Known, kept: Option<Schema>) -> Result<Schema, Stop<Never>>
+    requires { FitsKnown kept (knows known.now) }
+    ensures catalog { IfOk result (IsCatalogOfKnown (knows known.now)) }
+    ensures whole { IfOk result IsWhole }
+    ensures stop { IfErr result (StopsCatalog (knows known.now)) }
+{
+    match kept {
+        Some(schema) => Ok(schema),
+        None => schema_of(alloc, known),
+    }
+}
+
 // Works a statement over a view of its own.
-fn viewed(alloc: Global, standing: &Standing, statement: &Statement, known: Known) -> Returned
+fn viewed(
+    alloc: Global,
+    standing: &Standing,
+    statement: &Statement,
+    known: Known,
+    kept: Option<Schema>,
+) -> Worked
     requires way { IsViewing (command_of statement.now) }
     requires standing { standing_refusal (command_of statement.now) standing.now ≡ None }
+    requires kept { FitsKnown kept (knows known) }
     ensures known { result.known ≡ known }
+    ensures kept { FitsKnown result.kept (knows known) }
     ensures asked { Asks standing.now (said (command_of statement.now)) (knows known) result.found }
     ensures comes { (word : List ℕ) → Comes word standing.now (said (command_of statement.now)) (knows known) result.found }
 {
-    let schema = match schema_of(alloc, &known) {
+    let schema = match catalog_of(alloc, &known, kept) {
         Ok(schema) => schema,
         Err(stop) => {
-            return Returned {
+            return Worked {
                 known,
+                kept: None,
                 found: stopped(alloc, stop),
             };
         }
     };
-    work_by(alloc, &schema, standing, statement, known)
+    let Returned { known, found } = work_by(alloc, &schema, standing, statement, known);
+    Worked {
+        known,
+        kept: Some(schema),
+        found,
+    }
 }
 
 // Works a statement that the transaction that is open doesn't refuse.
@@ -107,71 +135,114 @@ fn work_statement(
     standing: &Standing,
     statement: &Statement,
     known: Known,
-) -> Returned
-    requires { standing_refusal (command_of statement.now) standing.now ≡ None }
+    kept: Option<Schema>,
+) -> Worked
+    requires standing { standing_refusal (command_of statement.now) standing.now ≡ None }
+    requires kept { FitsKnown kept (knows known) }
     ensures known { result.known ≡ known }
+    ensures kept { FitsKnown result.kept (knows known) }
     ensures asked { Asks standing.now (said (command_of statement.now)) (knows known) result.found }
     ensures comes { Comes word.now standing.now (said (command_of statement.now)) (knows known) result.found }
     ensures outside { standing.now ≡ closed → begins (said (command_of statement.now)) ≡ None → NamesNoNeed result.found }
 {
     match way_of(statement) {
-        Way::Acting => viewed(alloc, standing, statement, known),
-        Way::Defining => viewed(alloc, standing, statement, known),
-        Way::Plain => Returned {
+        Way::Acting => viewed(alloc, standing, statement, known, kept),
+        Way::Defining => viewed(alloc, standing, statement, known, kept),
+        Way::Plain => Worked {
             known,
+            kept,
             found: plain(alloc, word, standing, statement),
         },
-        Way::Bare => Returned {
+        Way::Bare => Worked {
             known,
+            kept,
             found: bare(alloc, standing, statement),
         },
         Way::Reserving => {
             let found = reserving(alloc, standing, statement, &known);
-            Returned { known, found }
+            Worked { known, kept, found }
         }
-        Way::Strange => Returned {
+        Way::Strange => Worked {
             known,
+            kept,
             found: Found::Unworked,
         },
     }
 }
 
 // Works an item that the transaction that is open doesn't refuse.
-fn work_on(alloc: Global, word: &Word, standing: &Standing, item: &Item, known: Known) -> Returned
-    requires { refusal_first standing.now (uttered_of item.now) ≡ None }
+fn work_on(
+    alloc: Global,
+    word: &Word,
+    standing: &Standing,
+    item: &Item,
+    known: Known,
+    kept: Option<Schema>,
+) -> Worked
+    requires standing { refusal_first standing.now (uttered_of item.now) ≡ None }
+    requires kept { FitsKnown kept (knows known) }
     ensures known { result.known ≡ known }
+    ensures kept { FitsKnown result.kept (knows known) }
     ensures asked { Asks standing.now (uttered_of item.now) (knows known) result.found }
     ensures comes { Comes word.now standing.now (uttered_of item.now) (knows known) result.found }
     ensures outside { standing.now ≡ closed → begins (uttered_of item.now) ≡ None → NamesNoNeed result.found }
 {
     match item {
-        Item::Statement(statement) => work_statement(alloc, word, standing, statement, known),
+        Item::Statement(statement) => {
+            work_statement(alloc, word, standing, statement, known, kept)
+        }
         Item::SyntaxAt { .. } => unreachable!(),
     }
 }
 
 // Works an item: what the transaction that is open refuses comes first.
-fn worked(alloc: Global, word: &Word, standing: &Standing, item: &Item, known: Known) -> Returned
+fn worked(
+    alloc: Global,
+    word: &Word,
+    standing: &Standing,
+    item: &Item,
+    known: Known,
+    kept: Option<Schema>,
+) -> Worked
+    requires { FitsKnown kept (knows known) }
     ensures known { result.known ≡ known }
+    ensures kept { FitsKnown result.kept (knows known) }
     ensures right { IsFound IsSoundWith word.now standing.now (uttered_of item.now) (knows known) result.found }
+    ensures left { result.found ≡ Found.Unworked → IsLeft word.now standing.now (uttered_of item.now) (knows known) }
+    ensures once { NamesOnce result.found }
     ensures outside { standing.now ≡ closed → begins (uttered_of item.now) ≡ None → NamesNoNeed result.found }
 {
     match first_refusal(standing, item) {
-        Some(reply) => Returned {
+        Some(reply) => Worked {
             known,
+            kept,
             found: answered_by(alloc, Ok(reply), standing.copied(alloc)),
         },
-        None => work_on(alloc, word, standing, item, known),
+        None => work_on(alloc, word, standing, item, known, kept),
     }
 }
 
 impl Statements for RdoStatements {
     ghost use Rattle.sound_maps.specs.Maps.{IsSoundWith};
     ghost use Rattle.sound_maps.specs.Laws.{orderly, empty};
+    ghost use Rattle.rdo_exec.specs.Coming.{FitsKnown};
+    ghost use Rattle.rdo_exec.specs.Left.{IsLeft};
+    ghost use Rattle.rdo_exec.specs.Lasting.{lasts};
+
+    // The catalog of what is known, once it was read.
+    type Kept = Option<Schema>;
 
     ghost stands = { IsSoundWith };
 
-    fn work(job: Job) -> Answer {
+    ghost fits = { FitsKnown };
+
+    ghost leaves = { IsLeft };
+
+    fn nothing() -> Option<Schema> {
+        None
+    }
+
+    fn work(job: Job, kept: Option<Schema>) -> Answer<Option<Schema>> {
         let Job {
             alloc,
             word,
@@ -179,7 +250,7 @@ impl Statements for RdoStatements {
             item,
             known,
         } = job;
-        let Returned { known, found } = worked(alloc, &word, &standing, &item, known);
+        let Worked { known, kept, found } = worked(alloc, &word, &standing, &item, known, kept);
         Answer {
             job: Job {
                 alloc,
@@ -188,6 +259,7 @@ impl Statements for RdoStatements {
                 item,
                 known,
             },
+            kept,
             found,
         }
     }
@@ -195,4 +267,6 @@ impl Statements for RdoStatements {
     ghost orderly = { orderly };
 
     ghost empty = { empty };
+
+    ghost lasts = { lasts };
 }

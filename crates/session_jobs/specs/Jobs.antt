@@ -1,5 +1,5 @@
 -- What is promised of what a job comes to.
-use Rattle.std.specs.Prelude.{◌≡◌, ℕ, List, ◌∷◌, None}
+use Rattle.std.specs.Prelude.{◌≡◌, ◌≢◌, ℕ, List, [], ◌∷◌, None}
 use Rattle.std.specs.List.{AllByRecursion}
 use Rattle.rdo_ast.specs.declared.reply.Standing.{Standing}
 use Rattle.rdo_ast.specs.declared.reply.Standing.TheVariants.{Closed}
@@ -41,7 +41,7 @@ pub record IsRecord (M : Model) (word : List ℕ) (standing : Standing) (item : 
   pub right : IsRight M word standing known (worked_of item r)
   pub asked : WhereItAgrees M known (AreAsked standing item r.writes)
 
--- What was found over what is known: a right record; needs that aren't known; or a line with which no sound map agrees. A job that isn't worked, and want of memory, say nothing.
+-- What was found over what is known: a right record; needs that aren't known; or a line with which no sound map agrees. Of a job that isn't worked nothing more is said than its cause; want of memory says nothing.
 abbrev pub IsFound : Model → List ℕ → Standing → Uttered → Knowledge → Found → Type 0
 IsFound M word standing item known (Done r) = IsRecord M word standing item known r
 IsFound M word standing item known (Missing next later) = WhereItAgrees M known (λ t. AllByRecursion (IsLacking standing item known t) (next ∷ later))
@@ -52,6 +52,15 @@ IsFound M word standing item known NoMemory = Unit {0}
 abbrev pub IsFoundFor : Model → Job → Found → Type 0
 IsFoundFor M job found = IsFound M job.word job.standing (uttered_of job.item) (knows job.known) found
 
+-- why an item, said in a database of this word and in this standing over what is known, may be left unworked
+abbrev pub Cause : Type 1
+Cause = List ℕ → Standing → Uttered → Knowledge → Type 0
+
+-- a job is left unworked only for such a cause
+abbrev pub HasCause : Cause → Job → Found → Type 0
+HasCause L job Unworked = L job.word job.standing (uttered_of job.item) (knows job.known)
+HasCause L job _ = Unit {0}
+
 -- its item is said outside a transaction, and begins none
 pub record IsOutside (job : Job) : Type 0 where
   pub closed : job.standing ≡ Closed
@@ -61,7 +70,23 @@ abbrev pub NamesNoNeed : Found → Type 0
 NamesNoNeed (Missing next later) = ⊥
 NamesNoNeed _ = Unit {0}
 
+-- each of these is named once
+abbrev pub AreNamedOnce : List Need → Type 0
+AreNamedOnce [] = Unit {0}
+AreNamedOnce (need ∷ needs) = AllByRecursion (λ other. need ≢ other) needs × AreNamedOnce needs
+
+abbrev pub NamesOnce : Found → Type 0
+NamesOnce (Missing next later) = AreNamedOnce (next ∷ later)
+NamesOnce _ = Unit {0}
+
 -- a job with what it came to
 pub record Answered : Type 0 where
   pub job : Job
   pub found : Found
+
+-- What was found is right for the job, is left for a cause, and names each need once; what is kept is true.
+pub record IsWellFound (M : Model) (L : Cause) (IsKept : Type 0) (job : Job) (found : Found) : Type 0 where
+  pub right : IsFoundFor M job found
+  pub cause : HasCause L job found
+  pub once : NamesOnce found
+  pub kept : IsKept

@@ -1,3 +1,4 @@
 pub mod Records
 pub mod Asked
 pub mod Jobs
+pub mod Kept

@@ -42,14 +42,15 @@ pub enum Found {
     },
     /// This line's bytes are none of its kind.
     Bad(Dbkey),
-    /// It isn't worked, and nothing is said of it: its values are none that a script gives, a relation or an index can grow no more, or who works it works no such statement.
+    /// It isn't worked, for a cause that its executor names (`leaves` of `Statements`).
     Unworked,
     NoMemory,
 }
 
-/// A job that was worked, as it was, and what it came to. Who works owns the job, so that what is known needn't be copied for a view of it.
+/// A job that was worked, as it was, what it came to, and what is kept for the next. Who works owns the job, so that what is known needn't be copied for a view of it.
 #[derive(Drop)]
-pub struct Answer {
+pub struct Answer<K> {
     pub job: Job,
+    pub kept: K,
     pub found: Found,
 }

@@ -2,19 +2,40 @@ use crate::{Answer, Job};
 
 /// Who works statements.
 pub trait Statements {
-    ghost use Rattle.std.specs.Prelude.{◌≡◌, []};
-    ghost use Rattle.line_view.specs.Knowledge.{Lines, IsInOrder};
+    ghost use Rattle.std.specs.Prelude.{◌≡◌, ℕ, List, []};
+    ghost use Rattle.rdo_ast.specs.declared.reply.Standing.{Standing};
+    ghost use Rattle.rdo_ast.specs.Tree.{Uttered};
+    ghost use Rattle.line_view.specs.Knowledge.{Knowledge, Lines, IsInOrder};
+    ghost use Rattle.line_view.specs.Held.{knows};
     ghost use Rattle.rdb_meaning.specs.declared.tables.Tables.{Tables};
     ghost use Rattle.rdb_meaning.specs.Contents.{no_tables};
-    ghost use Rattle.session_jobs.specs.Jobs.{IsFoundFor, IsOutside, NamesNoNeed};
+    ghost use Rattle.session_jobs.specs.Jobs.{IsFoundFor, HasCause, NamesOnce, IsOutside, NamesNoNeed};
+    ghost use Rattle.session_jobs.specs.Kept.{HasCatalogOf};
+
+    /// What is kept from job to job, so that nothing is worked out twice.
+    type Kept: Drop;
 
     /// Which maps of lines are sound and stand for which tables.
     ghost stands: { Lines → Tables → Type 0 };
 
-    /// What the job comes to. It reads nothing but the job, and gives it back.
-    fn work(job: Job) -> Answer
+    /// What is kept is true of what is known.
+    ghost fits: { Self.Kept → Knowledge → Type 0 };
+
+    /// Why an item, said in a database of this word and in this standing over what is known, may be left unworked.
+    ghost leaves: { List ℕ → Standing → Uttered → Knowledge → Type 0 };
+
+    /// What is kept before the first job.
+    fn nothing() -> Self::Kept
+        ensures { (known : Knowledge) → fits result known };
+
+    /// What the job comes to. It reads nothing but the job and what is kept, and gives both back.
+    fn work(job: Job, kept: Self::Kept) -> Answer<Self::Kept>
+        requires { fits kept (knows job.known) }
         ensures job { result.job ≡ job }
+        ensures kept { fits result.kept (knows job.known) }
         ensures right { IsFoundFor stands job result.found }
+        ensures cause { HasCause leaves job result.found }
+        ensures once { NamesOnce result.found }
 
         // What begins no transaction and is said outside one reads no lines.
         ensures outside { IsOutside job → NamesNoNeed result.found };
@@ -24,4 +45,7 @@ pub trait Statements {
 
     /// The empty map stands for no tables.
     ghost empty: { stands [] no_tables };
+
+    /// What is kept goes on being true where no line of the catalog is other than it was.
+    ghost lasts: { (kept : Self.Kept) (old new : Knowledge) → fits kept old → HasCatalogOf new old → fits kept new };
 }

@@ -1,5 +1,5 @@
 -- A lock that a stage wants is asked for, got, or refused.
-use Rattle.std.proofs.Common.{◌≡◌, ℕ, ◌++◌, ◌∷◌, [], Bool, true, false, List, map, refl, ◌∙◌, sym, ap, subst, if◌then◌else◌, Option, Some, None, inl, inr}
+use Rattle.std.proofs.Common.{◌≡◌, ℕ, ◌++◌, ◌∷◌, [], Bool, true, false, List, map, refl, ◌∙◌, sym, ap, subst, if◌then◌else◌, is_some, Option, Some, None, inl, inr}
 use Rattle.rdo_ast.specs.declared.reply.Standing.{Standing}
 use Rattle.rdo_ast.specs.declared.syntax.Item.{Item}
 use Rattle.rdo_ast.specs.Views.{uttered_of}
@@ -30,7 +30,10 @@ use Rattle.session_states.specs.Locks.{lock_of}
 use Rattle.session_states.specs.Turns.{got}
 use Rattle.session_states.specs.States.{item_of, writer, session}
 use Rattle.session_states.specs.Shared.{Shared, with_locks}
-use Rattle.session_states.specs.Fits.{has_said, StageFits, WantsAtMost}
+use Rattle.session_states.specs.Fits.{has_said, StageFits, ClaimsFit, WantsAtMost}
+use Rattle.store_counts.specs.Counts.{IsCounted}
+use Rattle.store_counts.proofs.Kept.{counted-events, counted-gets}
+use Rattle.session_states.proofs.Claims.{claims-stay, claims-got, wanted-nothing}
 use Rattle.session_states.specs.Steps.{Step}
 use Rattle.session_states.proofs.Basics.{said-wants, said-got, nowait-wants, nowait-got, wants-none}
 use Rattle.session_states.proofs.Locking.{under-way, item-got, desk-wanting, desk-asks, stage-got, lock-asks, ends-got}
@@ -83,8 +86,10 @@ module _ (M : Model) (orderly : IsOrderly M) where
               stage = subst (λ ws. StageFits M c.word ws standing known spoken stage) (sym (wants-needs o p s x n nodes is_open s)) f.fits.phase.stage;
               wants = wants-of (lock_of stage) n (opened_of locks s) wants (subst (λ (y : Party). IsOf n y.opened) (sym stands) is);
               ends = f.fits.phase.ends;
+              claims = claims-stay o p (wanted_at s n nodes) s (wanted-nothing s n nodes) (ap is_some (wants-open o p s x n nodes is_open).1) stage f.fits.phase.claims;
             };
           };
+          counted = counted-events o p (wanted_at s n nodes) c.shelf (wanted-nothing s n nodes) f.counted;
         };
   }
 
@@ -127,7 +132,9 @@ module _ (M : Model) (orderly : IsOrderly M) where
               stage = subst (λ ws. StageFits M c.word ws standing known spoken (got stage)) (sym (ap (λ (y : Place). needs_at y s) grown ∙ has)) (stage-got M orderly c.word (needs_at p s) standing known spoken stage n wants f.fits.phase.stage);
               wants = wants-none (lock_of (got stage)) (opened_of locks s) (ap (λ (y : Party). y.opened) rests);
               ends = ends-got left stage n wants;
+              claims = subst (λ (y : Place). ClaimsFit y s (got stage)) (sym grown) (claims-got o q s there.0 stage n there.1 wants (claims-stay o p (wanted_at s n nodes) s (wanted-nothing s n nodes) (ap is_some there.1) stage f.fits.phase.claims));
             };
           };
+          counted = subst (λ (y : Place). IsCounted o y c.shelf) (sym grown) (counted-gets o q s there.0 n c.shelf there.1 (counted-events o p (wanted_at s n nodes) c.shelf (wanted-nothing s n nodes) f.counted));
         };
   }

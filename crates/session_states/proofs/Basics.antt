@@ -116,7 +116,7 @@ own-take got [] k w found may own = absurd (none-some w found)
 own-take got (v ∷ ws) zero w found may own = (subst (λ (u : Write). may_write got (line_node u.key) ≡ true) (sym (same_Some v w found)) may, own-none got ws)
 own-take got (v ∷ ws) (suc k) w found may own = (own.0, own-take got ws k w found may own.1)
 
-pub take-all : (ws : List Write) (k : ℕ) → slice_get ws k ≡ None → take k ws ≡ ws
+pub take-all : {A : Type 0} (ws : List A) (k : ℕ) → slice_get ws k ≡ None → take k ws ≡ ws
 take-all [] zero none = refl
 take-all [] (suc k) none = refl
 take-all (w ∷ ws) zero none = absurd (none-some w (sym none))

@@ -1,5 +1,5 @@
 -- A session dies where it stands, and is recovered.
-use Rattle.std.proofs.Common.{◌≡◌, ◌≤◌, ℕ, ◌+◌, ◌-◌, ◌++◌, ◌∷◌, [], ◌&&◌, not, Bool, true, false, List, map, refl, ◌∙◌, sym, ap, subst, arith, Option, Some}
+use Rattle.std.proofs.Common.{◌≡◌, ◌≤◌, ℕ, ◌+◌, ◌-◌, ◌++◌, ◌∷◌, [], ◌&&◌, not, Bool, true, false, List, map, refl, ◌∙◌, sym, ap, subst, arith, Option, Some, None}
 use Rattle.std.proofs.lemmas.Bool.{false≢true}
 use Rattle.std.proofs.lemmas.Option.{none-some, same_Some}
 use Rattle.rdb_types.specs.declared.session.Cause.{Cause}
@@ -18,7 +18,7 @@ use Rattle.line_view.specs.Writes.{laid_all}
 use Rattle.session_jobs.specs.Records.{Model, IsOrderly}
 use Rattle.line_store.specs.Seats.{Seat, outside as seat_outside, beginning, writing as seat_writing, changing, committing, rolling_back, closing, reading as seat_reading, dead, is_committing, writes_of, in_flight, done_at, died}
 use Rattle.line_store.specs.Shelves.{Shelf}
-use Rattle.line_store.specs.Calls.{Moves, GoesOn, IsUndone, IsSaved}
+use Rattle.line_store.specs.Calls.{Moves, IsUndone, IsSaved}
 use Rattle.line_steps.specs.Members.{State, member, fallen, recovered, writing, awaited, life_of}
 use Rattle.line_steps.specs.Right.{Desk, Ground, Writes, with_dead, at_recovery}
 use Rattle.line_steps.specs.Steps.{Found, Steps}
@@ -28,7 +28,7 @@ use Rattle.session_states.specs.declared.stage.Work.TheVariants.{Opening as Open
 use Rattle.session_states.specs.declared.stage.Laying.TheVariants.{Claiming, Changing}
 use Rattle.session_states.specs.declared.stage.End.TheVariants.{Journal, Ready, Committing, RollingBack, Leaving}
 use Rattle.session_states.specs.declared.stage.Stage.{Stage}
-use Rattle.session_states.specs.declared.stage.Stage.TheVariants.{Between, Working, Saying, Ending}
+use Rattle.session_states.specs.declared.stage.Stage.TheVariants.{Between, Working, Reserving, Saying, Ending}
 use Rattle.session_states.specs.declared.stage.Phase.{Phase}
 use Rattle.session_states.specs.declared.stage.Phase.TheVariants.{Outside, Closing, Writing, Reading, Over}
 use Rattle.session_states.specs.States.{item_of, state_in, commits_at, commits_in, session, dead_session, gone_session}
@@ -37,6 +37,10 @@ use Rattle.session_states.specs.Fits.{DeskFits, PhaseFits}
 use Rattle.session_states.specs.Steps.{Fall}
 use Rattle.session_states.proofs.Basics.{at_time}
 use Rattle.session_states.proofs.Ends.{committed-place, gone-tied}
+use Rattle.session_states.proofs.Flying.{phase-journal}
+use Rattle.lock_ties.proofs.Places.{at-same}
+use Rattle.store_counts.proofs.Kept.{counted-events}
+use Rattle.session_states.proofs.Counting.{counted-moved, counted-ended, counted-committed}
 
 -- ---- states
 
@@ -50,6 +54,7 @@ not-died Over = refl
 stage-commits : (stage : Stage) → commits_at stage ≡ true → item_of stage ≡ Some (said commit)
 stage-commits Between h = absurd (false≢true h)
 stage-commits (Working item work) h = absurd (false≢true h)
+stage-commits (Reserving item r locks place) h = absurd (false≢true h)
 stage-commits (Saying item r laying) h = absurd (false≢true h)
 stage-commits (Ending Journal) h = absurd (false≢true h)
 stage-commits (Ending Ready) h = absurd (false≢true h)
@@ -99,6 +104,7 @@ module _ (M : Model) (orderly : IsOrderly M) where
   stage-seat p g c s standing known (Working item (Housing room key)) f = idle g c s (ap is_committing f.1)
   stage-seat p g c s standing known (Working item (Fetching lack)) f = idle g c s (ap is_committing f.1)
   stage-seat p g c s standing known (Working item (Lodging room key)) f = idle g c s (ap is_committing f.1)
+  stage-seat p g c s standing known (Reserving item r locks place) f = idle g c s (ap is_committing f.1)
   stage-seat p g c s standing known (Saying item r (Claiming place)) f = idle g c s (ap is_committing f.1)
   stage-seat p g c s standing known (Saying item r Changing) f = idle g c s (ap is_committing f.seat)
   stage-seat p g c s standing known (Ending Journal) f = idle g c s (ap is_committing f.1)
@@ -137,8 +143,9 @@ module _ (M : Model) (orderly : IsOrderly M) where
           fits = record {
             ground = record { now = f.fits.ground.now ∙ sym moves.now; time = refl; dead = ap (λ (d : ℕ). d + 1) f.fits.ground.dead };
             tied = record { needs = f.fits.tied.needs; asks = f.fits.tied.asks; wants = f.fits.tied.wants };
-            phase = record { writes = writes_of (c.shelf.seat s); seat = moves.mine ∙ ap (λ b. dead b (writes_of (c.shelf.seat s))) seat.0; same = seat.1 };
+            phase = record { writes = writes_of (c.shelf.seat s); seat = moves.mine ∙ ap (λ b. dead b (writes_of (c.shelf.seat s))) seat.0; same = seat.1; flies = phase-journal M orderly p g c s left x f.fits.phase f.fits.tied };
           };
+          counted = counted-events o p (Died s cause ∷ []) shelf (tt, tt) (counted-moved o p s (died (c.shelf.seat s)) c.shelf shelf moves (λ e. refl) f.counted);
         };
   }
 
@@ -148,19 +155,20 @@ module _ (M : Model) (orderly : IsOrderly M) where
   left_desk g = record { known = knows nothing; writes = []; start = g.now }
 
   -- the store has more to do for it
-  pub recovers-more : (o : Opening) (s : ℕ) (c : Shared) (shelf : Shelf) (left : List Item) (total : ℕ) (x : Phase) → GoesOn s c.shelf shelf →
+  pub recovers-more : (o : Opening) (s : ℕ) (c : Shared) (shelf : Shelf) (left : List Item) (total : ℕ) (x : Phase) → Moves s (c.shelf.seat s) c.shelf shelf →
       Fall M o s c (dead_session left total x) (with_shelf shelf c) (dead_session left total x) []
-  recovers-more o s c shelf left total x goes = record {
+  recovers-more o s c shelf left total x moves = record {
     word = refl;
-    others = record { store = goes.moves.others; locks = λ u other. refl };
+    others = record { store = moves.others; locks = λ u other. refl };
     leaves = λ p g f. record {
       ground = at_time shelf.clock.time g;
-      steps = elapses M orderly o p g s (map uttered_of left) (fallen (state_in x)) total shelf.clock.time f.found (subst (λ (t : ℕ). t ≤ shelf.clock.time) (sym f.fits.ground.time) goes.moves.others.later.later);
+      steps = elapses M orderly o p g s (map uttered_of left) (fallen (state_in x)) total shelf.clock.time f.found (subst (λ (t : ℕ). t ≤ shelf.clock.time) (sym f.fits.ground.time) moves.others.later.later);
       fits = record {
-        ground = record { now = f.fits.ground.now ∙ sym goes.moves.now; time = refl; dead = f.fits.ground.dead };
+        ground = record { now = f.fits.ground.now ∙ sym moves.now; time = refl; dead = f.fits.ground.dead };
         tied = f.fits.tied;
-        phase = record { writes = f.fits.phase.writes; seat = goes.moves.mine ∙ f.fits.phase.seat; same = f.fits.phase.same };
+        phase = record { writes = f.fits.phase.writes; seat = moves.mine ∙ f.fits.phase.seat; same = f.fits.phase.same; flies = f.fits.phase.flies };
       };
+      counted = counted-moved o p s (c.shelf.seat s) c.shelf shelf moves (λ e. refl) f.counted;
     };
   }
 
@@ -185,6 +193,7 @@ module _ (M : Model) (orderly : IsOrderly M) where
             tied = gone-tied p (after o p (Recovered s false moment)) c.locks locks s f.fits.tied rests (λ t. refl) refl;
             phase = (done.moves.mine, rests.ended);
           };
+          counted = counted-ended o p (Recovered s false moment ∷ []) s seat_outside c.shelf shelf (tt, tt) (at-same s None p.transaction) done.moves f.counted;
         };
   }
 
@@ -220,5 +229,6 @@ module _ (M : Model) (orderly : IsOrderly M) where
             tied = gone-tied p (after o p (Recovered s true moment)) c.locks locks s f.fits.tied rests (λ t. ap (λ (e : ℕ → Option Transaction). e t) one.0) one.1;
             phase = (done.commits.mine, rests.ended);
           };
+          counted = counted-committed o p (after o p (Recovered s true moment)) s moment w.transaction done.writes seat_outside c.shelf shelf w.is_open w.writes (sym (ap writes_of done.was)) done.commits (λ t. ap (λ (e : ℕ → Option Transaction). e t) one.0) refl refl refl f.counted;
         };
   }

@@ -27,6 +27,7 @@ use Rattle.session_states.proofs.Basics.{said-first}
 use Rattle.session_states.proofs.Ends.{needs-still}
 use Rattle.session_states.proofs.Locking.{desk-resting}
 use Rattle.session_states.proofs.Resting.{leaves-others}
+use Rattle.store_counts.proofs.Kept.{counted-events}
 use Rattle.session_states.proofs.Storing.{said-needs, said-more, nowait-said}
 
 -- what isn't done ends no transaction
@@ -62,7 +63,9 @@ module _ (M : Model) (orderly : IsOrderly M) where
               stage = refl;
               wants = rests.ended;
               ends = tt;
+              claims = tt;
             };
           };
+          counted = counted-events o p (Said s item [] NoMemory ∷ []) c.shelf (tt, tt) f.counted;
         };
   }

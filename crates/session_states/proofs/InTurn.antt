@@ -11,6 +11,7 @@ use Rattle.session_states.specs.declared.stage.Member.{Member}
 use Rattle.session_states.specs.States.{seen}
 use Rattle.session_states.specs.Shared.{Shared, LeavesOthers}
 use Rattle.session_states.specs.Fits.{Fits}
+use Rattle.store_counts.specs.Counts.{IsCounted}
 use Rattle.session_states.specs.Steps.{Leaves, Step}
 use Rattle.session_states.proofs.Resting.{none-dead}
 
@@ -37,10 +38,11 @@ module _ (M : Model) (orderly : IsOrderly M) where
         let q = place_from o p es in
         let none : x.ground.dead ≡ 0 = x.fits.ground.dead ∙ (alive ∙ (sym f.fits.ground.dead ∙ none-dead M orderly o p g s (seen m) f.here)) in
         let here : Here M o q x.ground s (seen n) = subst (λ (y : Place). Here M o y x.ground s (seen n)) (sym x.steps.leads) (arrives M orderly o p g x.ground s (seen m) (seen n) es none f.here x.steps) in
-        let y : Leaves M o q x.ground e s k fs = b.leaves o q x.ground (record { word = f.word ∙ sym a.word; here = here; fits = x.fits }) in
+        let y : Leaves M o q x.ground e s k fs = b.leaves o q x.ground (record { word = f.word ∙ sym a.word; here = here; fits = x.fits; counted = x.counted }) in
         record {
           ground = y.ground;
           steps = in-turn M orderly o p g x.ground y.ground s (seen n) (seen k) es fs x.steps (subst (λ (z : Place). Steps M o z x.ground s (seen k) y.ground fs) x.steps.leads y.steps);
           fits = subst (λ (z : Place). Fits M z y.ground e s k) (sym (place-grown o p es fs)) y.fits;
+          counted = subst (λ (z : Place). IsCounted o z e.shelf) (sym (place-grown o p es fs)) y.counted;
         };
   }

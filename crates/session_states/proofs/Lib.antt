@@ -18,3 +18,8 @@ pub mod Reading
 pub mod ReadingEnds
 pub mod Dying
 pub mod Opened
+pub mod Claims
+pub mod Counting
+pub mod Flying
+pub mod Reserving
+pub mod ReaderStarts

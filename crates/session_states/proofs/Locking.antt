@@ -1,6 +1,8 @@
 -- What a stage that wants a lock is, and what it comes to where the lock is got.
 use Rattle.std.proofs.Common.{◌≡◌, ℕ, zero, suc, ◌+◌, ◌++◌, ◌∷◌, [], ◌==◌, ◌&&◌, not, if◌then◌else◌, Bool, true, false, List, length, take, refl, ◌∙◌, sym, ap, subst, arith, Option, Some, None, slice_get}
-use Rattle.std.proofs.lemmas.Bool.{false≢true}
+use Rattle.std.specs.List.{list_any, AllByRecursion}
+use Rattle.std.proofs.lemmas.Bool.{false≢true, or_left, or_right}
+use Rattle.std.proofs.lemmas.List.Folds.{list_any-append}
 use Rattle.std.proofs.lemmas.Option.{none-some, same_Some}
 use Rattle.vms_queues.specs.declared.lock_mode.Mode.TheVariants.{PR, EX}
 use Rattle.rdb_types.specs.declared.keys.Dbkey.{Dbkey}
@@ -34,19 +36,20 @@ use Rattle.session_states.specs.declared.stage.Work.TheVariants.{Opening as Open
 use Rattle.session_states.specs.declared.stage.Laying.TheVariants.{Claiming, Changing}
 use Rattle.session_states.specs.declared.stage.End.TheVariants.{Journal, Ready, Committing, RollingBack, Leaving}
 use Rattle.session_states.specs.declared.stage.Stage.{Stage}
-use Rattle.session_states.specs.declared.stage.Stage.TheVariants.{Between, Working, Saying, Ending}
+use Rattle.session_states.specs.declared.stage.Stage.TheVariants.{Between, Working, Reserving, Saying, Ending}
 use Rattle.session_states.specs.Locks.{lock_for_area, lock_for_line, lock_of_write, lock_of}
 use Rattle.session_states.specs.Turns.{got}
 use Rattle.rdb_account.specs.Places.{Transaction}
 use Rattle.session_states.specs.declared.stage.Phase.TheVariants.{Writing}
 use Rattle.session_states.specs.States.{item_of, is_at_rest, writer, session}
 use Rattle.session_states.specs.Shared.{Shared}
-use Rattle.session_states.specs.Fits.{has_said, StageFits, DeskFits, IsAtEnd}
+use Rattle.session_states.specs.Fits.{has_said, AreGot, StageFits, DeskFits, IsAtEnd}
+use Rattle.line_steps.specs.Images.{journal_node}
 use Rattle.session_states.specs.Steps.{Finds}
 use Rattle.session_states.proofs.Basics.{guards-new, writes-new, own-take, own-more}
 
 -- the write at a place is that of the lock
-write-at : (ws : List Write) (place : ℕ) (n : LockNeed) → lock_of_write (slice_get ws place) ≡ Some n → (w : Write) × (slice_get ws place ≡ Some w) × (lock (line_node w.key) EX ≡ n)
+pub write-at : (ws : List Write) (place : ℕ) (n : LockNeed) → lock_of_write (slice_get ws place) ≡ Some n → (w : Write) × (slice_get ws place ≡ Some w) × (lock (line_node w.key) EX ≡ n)
 write-at ws place n wants = by (slice_get ws place) refl wants
   where
     by : (x : Option Write) → slice_get ws place ≡ x → lock_of_write x ≡ Some n → (w : Write) × (slice_get ws place ≡ Some w) × (lock (line_node w.key) EX ≡ n)
@@ -91,6 +94,7 @@ line-locked has item key = by (key.area == 1) refl
 pub under-way : (stage : Stage) (n : LockNeed) → lock_of stage ≡ Some n → (item : Uttered) × (item_of stage ≡ Some item)
 under-way Between n wants = absurd (none-some n wants)
 under-way (Working item work) n wants = (uttered_of item, refl)
+under-way (Reserving item r locks place) n wants = (uttered_of item, refl)
 under-way (Saying item r laying) n wants = (uttered_of item, refl)
 under-way (Ending Journal) n wants = (said commit, refl)
 under-way (Ending Ready) n wants = absurd (none-some n wants)
@@ -101,6 +105,7 @@ under-way (Ending Leaving) n wants = absurd (none-some n wants)
 pub item-got : (stage : Stage) → item_of stage ≡ item_of (got stage)
 item-got Between = refl
 item-got (Working item work) = refl
+item-got (Reserving item r locks place) = refl
 item-got (Saying item r laying) = refl
 item-got (Ending Journal) = refl
 item-got (Ending Ready) = refl
@@ -112,12 +117,49 @@ item-got (Ending Leaving) = refl
 pub ends-got : (left : List Item) (stage : Stage) (n : LockNeed) → lock_of stage ≡ Some n → IsAtEnd left (got stage)
 ends-got left Between n wants = absurd (none-some n wants)
 ends-got left (Working item work) n wants = tt
+ends-got left (Reserving item r locks place) n wants = tt
 ends-got left (Saying item r laying) n wants = tt
 ends-got left (Ending Journal) n wants = tt
 ends-got left (Ending Ready) n wants = absurd (none-some n wants)
 ends-got left (Ending Committing) n wants = absurd (none-some n wants)
 ends-got left (Ending RollingBack) n wants = absurd (none-some n wants)
 ends-got left (Ending Leaving) n wants = absurd (none-some n wants)
+
+not-so : (b : Bool) → not b ≡ true → b ≡ false
+not-so true h = sym h
+not-so false h = refl
+
+-- what is so of all is so of one
+at-place : (P : LockNeed → Type 0) (ns : List LockNeed) (place : ℕ) (n : LockNeed) → slice_get ns place ≡ Some n → AllByRecursion P ns → P n
+at-place P [] place n found all = absurd (none-some n found)
+at-place P (m ∷ ns) zero n found all = subst P (same_Some m n found) all.0
+at-place P (m ∷ ns) (suc place) n found all = at-place P ns place n found all.1
+
+-- the lock at the place is got, beside those before
+got-more : (has more ns : List LockNeed) → AreGot has ns → AreGot (has ++ more) ns
+got-more has more [] all = tt
+got-more has more (n ∷ ns) all = (list_any-append (is_need n.node n.mode) has more ∙ or_left (list_any (is_need n.node n.mode) has) (list_any (is_need n.node n.mode) more) all.0, got-more has more ns all.1)
+
+got-last : (has : List LockNeed) (n : LockNeed) → list_any (is_need n.node n.mode) (has ++ n ∷ []) ≡ true
+got-last has n =
+    list_any-append (is_need n.node n.mode) has (n ∷ [])
+    ∙ or_right (list_any (is_need n.node n.mode) has) (list_any (is_need n.node n.mode) (n ∷ [])) (or_left (is_need n.node n.mode n) false (need-self n))
+
+pub got-none : (has ns : List LockNeed) → AreGot has (take 0 ns)
+got-none has [] = tt
+got-none has (n ∷ ns) = tt
+
+got-take : (has ns : List LockNeed) (place : ℕ) (n : LockNeed) → slice_get ns place ≡ Some n → list_any (is_need n.node n.mode) has ≡ true → AreGot has (take place ns) → AreGot has (take (suc place) ns)
+got-take has [] place n found one all = absurd (none-some n found)
+got-take has (m ∷ ns) zero n found one all = (subst (λ (k : LockNeed). list_any (is_need k.node k.mode) has ≡ true) (sym (same_Some m n found)) one, got-none has ns)
+got-take has (m ∷ ns) (suc place) n found one all = (all.0, got-take has ns place n found one all.1)
+
+got-next : (has ns : List LockNeed) (place : ℕ) (n : LockNeed) → slice_get ns place ≡ Some n → AreGot has (take place ns) → AreGot (has ++ n ∷ []) (take (place + 1) ns)
+got-next has ns place n found all =
+    subst (λ (k : ℕ). AreGot (has ++ n ∷ []) (take k ns)) (one place) (got-take (has ++ n ∷ []) ns place n found (got-last has n) (got-more has (n ∷ []) (take place ns) all))
+  where
+    one : (k : ℕ) → suc k ≡ k + 1
+    one k = omega arith
 
 module _ (M : Model) (orderly : IsOrderly M) where
   -- a stage that wants a lock has its desk as it knows, and its seat writes
@@ -131,6 +173,7 @@ module _ (M : Model) (orderly : IsOrderly M) where
   desk-wanting p g c s standing known (Working item (Housing room key)) n wants f = f
   desk-wanting p g c s standing known (Working item (Fetching lack)) n wants f = absurd (none-some n wants)
   desk-wanting p g c s standing known (Working item (Lodging room key)) n wants f = absurd (none-some n wants)
+  desk-wanting p g c s standing known (Reserving item r locks place) n wants f = f
   desk-wanting p g c s standing known (Saying item r (Claiming place)) n wants f = f
   desk-wanting p g c s standing known (Saying item r Changing) n wants f = absurd (none-some n wants)
   desk-wanting p g c s standing known (Ending Journal) n wants f = f
@@ -150,6 +193,7 @@ module _ (M : Model) (orderly : IsOrderly M) where
   desk-resting p g c s standing known (Working item (Housing room key)) idle f = f
   desk-resting p g c s standing known (Working item (Fetching lack)) idle f = f
   desk-resting p g c s standing known (Working item (Lodging room key)) idle f = f
+  desk-resting p g c s standing known (Reserving item r locks place) idle f = f
   desk-resting p g c s standing known (Saying item r (Claiming place)) idle f = f
   desk-resting p g c s standing known (Saying item r Changing) idle f = absurd (false≢true idle)
   desk-resting p g c s standing known (Ending Journal) idle f = f
@@ -169,6 +213,7 @@ module _ (M : Model) (orderly : IsOrderly M) where
   desk-asks p g c s standing known (Working item (Housing room key)) n wants k at = ((k, at), (k, at))
   desk-asks p g c s standing known (Working item (Fetching lack)) n wants k at = absurd (none-some n wants)
   desk-asks p g c s standing known (Working item (Lodging room key)) n wants k at = absurd (none-some n wants)
+  desk-asks p g c s standing known (Reserving item r locks place) n wants k at = ((k, at), (k, at))
   desk-asks p g c s standing known (Saying item r (Claiming place)) n wants k at = ((k, at), (k, at))
   desk-asks p g c s standing known (Saying item r Changing) n wants k at = absurd (none-some n wants)
   desk-asks p g c s standing known (Ending Journal) n wants k at = ((k, at), (k, at))
@@ -204,6 +249,8 @@ module _ (M : Model) (orderly : IsOrderly M) where
       (f.0, (subst (λ (m : LockNeed). is_guarded (has ++ m ∷ []) (line_node key) ≡ true) (same_Some _ n wants) (guards-new has (lock (line_node key) EX) refl), f.1.1))
   stage-got word has standing known spoken (Working item (Fetching lack)) n wants f = absurd (none-some n wants)
   stage-got word has standing known spoken (Working item (Lodging room key)) n wants f = absurd (none-some n wants)
+  stage-got word has standing known spoken (Reserving item r locks place) n wants f =
+      (f.0, record { record_is = f.1.record_is; asked = f.1.asked; reserved = got-next has locks place n wants f.1.reserved })
   stage-got word has standing known spoken (Saying item r (Claiming place)) n wants f =
       let at = write-at r.writes place n wants in
       (f.0, (f.1.0, own-next has r.writes place at.0 n at.1 at.2 f.1.1))
@@ -220,7 +267,8 @@ module _ (M : Model) (orderly : IsOrderly M) where
           (subst (λ (m : LockNeed). may_write (has ++ m ∷ []) (line_node w.key) ≡ true) is (writes-new has (lock (line_node w.key) EX) refl))
           (own-more has (n ∷ []) (take place ws) own))
   stage-got word has standing known spoken (Saying item r Changing) n wants f = absurd (none-some n wants)
-  stage-got word has standing known spoken (Ending Journal) n wants f = f
+  stage-got word has standing known spoken (Ending Journal) n wants f =
+      (f.0, subst (λ (m : LockNeed). may_write (has ++ m ∷ []) journal_node ≡ true) (same_Some _ n wants) (writes-new has (lock journal_node EX) refl))
   stage-got word has standing known spoken (Ending Ready) n wants f = absurd (none-some n wants)
   stage-got word has standing known spoken (Ending Committing) n wants f = absurd (none-some n wants)
   stage-got word has standing known spoken (Ending RollingBack) n wants f = absurd (none-some n wants)
@@ -246,6 +294,8 @@ module _ (M : Model) (orderly : IsOrderly M) where
       subst (λ k. IsAskedOver M standing (Some (uttered_of item)) k n) (sym f.fits.phase.desk.0)
       (statement-asks o p g s standing (knows known) (uttered_of item) (is_lock_for (uttered_of item) (need.Room room)) (lock (line_node key) EX) n f.here.fit.stands f.here.stands.state
       (rw f.fits.phase.stage.1.1 (rw (on-own-line room.area) refl)) (same_Some _ n wants) f.fits.phase.stage.1.0)
+  lock-asks o p g c s left total standing known spoken waits (Reserving item r locks place) n wants f =
+      subst (λ k. IsAskedOver M standing (Some (uttered_of item)) k n) (sym f.fits.phase.desk.0) (at-place (IsAskedOver M standing (Some (uttered_of item)) (knows known)) locks place n wants f.fits.phase.stage.1.asked)
   lock-asks o p g c s left total standing known spoken waits (Working item (Fetching lack)) n wants f = absurd (none-some n wants)
   lock-asks o p g c s left total standing known spoken waits (Working item (Lodging room key)) n wants f = absurd (none-some n wants)
   lock-asks o p g c s left total standing known spoken waits (Saying item r (Claiming place)) n wants f =
@@ -257,13 +307,10 @@ module _ (M : Model) (orderly : IsOrderly M) where
   lock-asks o p g c s left total standing known spoken waits (Ending Journal) n wants f = commit-asks standing (g.desk s).known n (f.here.stands.state.remains (more f.here.stands.state.transaction f.here.stands.state.is_open)) wants
     where
       some-said : (p : Place) (s : ℕ) (spoken : Bool) (x : Transaction) → p.transaction s ≡ Some x → has_said (p.transaction s) ≡ spoken → spoken ≡ true → (length x.lines == 0) ≡ false
-      some-said p s spoken x is_open says is = turn (length x.lines == 0) (sym (ap has_said is_open) ∙ (says ∙ is))
-        where
-          turn : (b : Bool) → not b ≡ true → b ≡ false
-          turn b h = grind arith
+      some-said p s spoken x is_open says is = not-so (length x.lines == 0) (sym (ap has_said is_open) ∙ (says ∙ is))
 
       more : (x : Transaction) → p.transaction s ≡ Some x → (length x.lines == 0) ≡ false
-      more x is_open = some-said p s spoken x is_open f.fits.phase.spoken f.fits.phase.stage
+      more x is_open = some-said p s spoken x is_open f.fits.phase.spoken f.fits.phase.stage.0
   lock-asks o p g c s left total standing known spoken waits (Ending Ready) n wants f = absurd (none-some n wants)
   lock-asks o p g c s left total standing known spoken waits (Ending Committing) n wants f = absurd (none-some n wants)
   lock-asks o p g c s left total standing known spoken waits (Ending RollingBack) n wants f = absurd (none-some n wants)

@@ -13,6 +13,7 @@ use Rattle.session_states.specs.declared.stage.Member.{Member}
 use Rattle.session_states.specs.States.{seen}
 use Rattle.session_states.specs.Shared.{Shared}
 use Rattle.session_states.specs.Fits.{LifeFits}
+use Rattle.store_counts.proofs.Kept.{counted-start}
 use Rattle.session_states.specs.Kept.{IsFresh, IsOpened, AreKept}
 
 map-got : {A B : Type 0} (f : A → B) (xs : List A) (i : ℕ) (y : B) → slice_get (map f xs) i ≡ Some y → (x : A) × (slice_get xs i ≡ Some x) × (f x ≡ y)
@@ -50,4 +51,6 @@ module _ (M : Model) (orderly : IsOrderly M) where
     is_ground = record { now = refl; time = refl; dead = refl };
     tied = none-tied o c is.parties is.trail;
     phases = λ i m e. fresh-fits o c (suc i) m is.parties (fresh i m e);
+    counted = counted-start o c.shelf is.counted;
+    flies = λ t ws e. absurd (none-some ws (sym (is.flies t) ∙ e));
   }

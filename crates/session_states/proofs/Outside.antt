@@ -29,6 +29,7 @@ use Rattle.session_states.specs.Steps.{Finds, Step}
 use Rattle.session_states.proofs.Forgoing.{and-undone}
 use Rattle.session_states.proofs.Parting.{nothing-agrees}
 use Rattle.session_states.proofs.Resting.{leaves-others}
+use Rattle.store_counts.proofs.Kept.{counted-events}
 
 -- outside a transaction a COMMIT or ROLLBACK isn't done
 abbrev EndsNone : Uttered → Meaning → Type 0
@@ -80,6 +81,7 @@ module _ (M : Model) (orderly : IsOrderly M) where
             tied = ended-tied c.locks c.locks s p q f.fits.tied (λ u other. refl) f.fits.phase.1 refl refl (λ t. ap (λ (e : ℕ → Option Transaction). got_of (e t)) same ∙ f.fits.tied.needs t);
             phase = f.fits.phase;
           };
+          counted = counted-events o p (Said s i choices reply ∷ []) c.shelf (tt, tt) f.counted;
         };
   }
 

@@ -15,9 +15,9 @@ use Rattle.line_view.specs.Knowledge.{Lines, Agrees}
 use Rattle.kept_apart.specs.Alike.{IsGuarded}
 use Rattle.kept_apart.proofs.Alike.{alike-refl}
 use Rattle.session_jobs.specs.Records.{Model, IsOrderly}
-use Rattle.line_store.specs.Seats.{outside as seat_outside, beginning, writing as seat_writing, committing_by, done_at}
+use Rattle.line_store.specs.Seats.{writes_of, outside as seat_outside, beginning, writing as seat_writing, committing_by, done_at}
 use Rattle.line_store.specs.Shelves.{Shelf}
-use Rattle.line_store.specs.Calls.{Moves, GoesOn, IsDone}
+use Rattle.line_store.specs.Calls.{Moves, IsDone}
 use Rattle.lock_ties.specs.Ties.{needs_at}
 use Rattle.lock_ties.proofs.Places.{at-same, at-other, number}
 use Rattle.line_steps.specs.Members.{member, outside, writing}
@@ -38,6 +38,9 @@ use Rattle.session_states.specs.Steps.{Step}
 use Rattle.session_states.proofs.Basics.{at_time}
 use Rattle.session_states.proofs.Resting.{rests-on, found-here, none-dead, time-later}
 use Rattle.session_states.proofs.Standing.{phase-stays}
+use Rattle.store_counts.proofs.Places.{more-same}
+use Rattle.store_counts.proofs.Kept.{counted-begins}
+use Rattle.session_states.proofs.Counting.{counted-moved, counted-over, committing-writes}
 
 nothing-guarded : IsGuarded [] (knows nothing)
 nothing-guarded = record {
@@ -113,8 +116,10 @@ module _ (M : Model) (orderly : IsOrderly M) where
               stage = (begins-stays i kind so, tt);
               wants = f.fits.phase.1;
               ends = tt;
+              claims = tt;
             };
           };
+          counted = counted-begins o p s kind shelf f.here.stands.state (ap writes_of moves.mine) (counted-over o p s beginning c.shelf shelf moves f.here.stands.state f.counted);
         };
   }
 
@@ -123,6 +128,7 @@ module _ (M : Model) (orderly : IsOrderly M) where
       Step M s c (session left total (Writing (writer standing known spoken waits (Working item OpeningIt)))) (with_shelf shelf c) (session left total (Writing (writer standing known spoken waits (Working item Due)))) []
   opens-on s c shelf left total standing known spoken waits item done =
       rests-on M orderly s c shelf left total (Writing (writer standing known spoken waits (Working item OpeningIt))) (Writing (writer standing known spoken waits (Working item Due))) refl done.moves.others done.moves.now
+      (λ o p g f. counted-moved o p s done.seat c.shelf shelf done.moves (λ e. ap writes_of (same_Some done.seat (seat_writing []) (sym done.comes ∙ ap done_at f.fits.phase.desk.1.0)) ∙ sym (ap writes_of f.fits.phase.desk.1.0)) f.counted)
       (λ o p g f. record {
         desk = (f.fits.phase.desk.0, done.moves.mine ∙ (same_Some done.seat (seat_writing []) (sym done.comes ∙ ap done_at f.fits.phase.desk.1.0) ∙ ap seat_writing (sym f.fits.phase.desk.1.1)));
         spoken = f.fits.phase.spoken;
@@ -130,19 +136,21 @@ module _ (M : Model) (orderly : IsOrderly M) where
         stage = f.fits.phase.stage;
         wants = f.fits.phase.wants;
         ends = tt;
+        claims = tt;
       })
 
   -- the store has more to do
-  pub goes-on : (s : ℕ) (c : Shared) (shelf : Shelf) (left : List Item) (total : ℕ) (x : Phase) → GoesOn s c.shelf shelf → Step M s c (session left total x) (with_shelf shelf c) (session left total x) []
-  goes-on s c shelf left total x goes =
-      rests-on M orderly s c shelf left total x x refl goes.moves.others goes.moves.now
-      (λ o p g f. phase-stays M orderly p p g (at_time shelf.clock.time g) c (with_shelf shelf c) s refl refl refl goes.moves.mine refl f.here.fit.order f.here.fit.order (alike-refl (needs_at p s) g.now) left x f.fits.phase)
+  pub goes-on : (s : ℕ) (c : Shared) (shelf : Shelf) (left : List Item) (total : ℕ) (x : Phase) → Moves s (c.shelf.seat s) c.shelf shelf → Step M s c (session left total x) (with_shelf shelf c) (session left total x) []
+  goes-on s c shelf left total x moves =
+      rests-on M orderly s c shelf left total x x refl moves.others moves.now (λ o p g f. counted-moved o p s (c.shelf.seat s) c.shelf shelf moves (λ e. refl) f.counted)
+      (λ o p g f. phase-stays M orderly p p g (at_time shelf.clock.time g) c (with_shelf shelf c) s refl refl refl moves.mine refl (more-same p.touched p.touched refl) f.here.fit.order f.here.fit.order (alike-refl (needs_at p s) g.now) left x f.fits.phase)
 
   -- a commit begins
   pub commits-on : (s : ℕ) (c : Shared) (shelf : Shelf) (left : List Item) (total : ℕ) (standing : Standing) (known : Held) (spoken waits : Bool) → Moves s (committing_by (c.shelf.seat s)) c.shelf shelf →
       Step M s c (session left total (Writing (writer standing known spoken waits (Ending Ready)))) (with_shelf shelf c) (session left total (Writing (writer standing known spoken waits (Ending Committing)))) []
   commits-on s c shelf left total standing known spoken waits moves =
       rests-on M orderly s c shelf left total (Writing (writer standing known spoken waits (Ending Ready))) (Writing (writer standing known spoken waits (Ending Committing))) refl moves.others moves.now
+      (λ o p g f. counted-moved o p s (committing_by (c.shelf.seat s)) c.shelf shelf moves (λ e. committing-writes (c.shelf.seat s)) f.counted)
       (λ o p g f. record {
         desk = (f.fits.phase.desk.0, moves.mine ∙ ap committing_by f.fits.phase.desk.1);
         spoken = f.fits.phase.spoken;
@@ -150,11 +158,12 @@ module _ (M : Model) (orderly : IsOrderly M) where
         stage = f.fits.phase.stage;
         wants = f.fits.phase.wants;
         ends = tt;
+        claims = tt;
       })
 
   -- the store has put away what a transaction left
   pub closes-on : (s : ℕ) (c : Shared) (shelf : Shelf) (left : List Item) (total : ℕ) → IsDone s c.shelf shelf →
       Step M s c (session left total Closing) (with_shelf shelf c) (session left total Outside) []
   closes-on s c shelf left total done =
-      rests-on M orderly s c shelf left total Closing Outside refl done.moves.others done.moves.now
+      rests-on M orderly s c shelf left total Closing Outside refl done.moves.others done.moves.now (λ o p g f. counted-over o p s done.seat c.shelf shelf done.moves f.here.stands.state f.counted)
       (λ o p g f. (done.moves.mine ∙ same_Some done.seat seat_outside (sym done.comes ∙ f.fits.phase.0), f.fits.phase.1))

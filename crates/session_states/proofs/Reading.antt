@@ -18,9 +18,9 @@ use Rattle.session_jobs.specs.Records.{Model, IsOrderly, IsRight}
 use Rattle.session_jobs.specs.Jobs.{IsFound, worked_of}
 use Rattle.session_jobs.specs.declared.jobs.TxRecord.{TxRecord}
 use Rattle.session_jobs.specs.declared.jobs.Found.TheVariants.{Done}
-use Rattle.line_store.specs.Seats.{Seat, reading as seat_reading}
+use Rattle.line_store.specs.Seats.{Seat, writes_of, reading as seat_reading}
 use Rattle.line_store.specs.Shelves.{Shelf, seen_from, seen_by}
-use Rattle.line_store.specs.Calls.{Moves, KeepsOthers}
+use Rattle.line_store.specs.Calls.{Moves, KeepsOthers, KeepsSpace}
 use Rattle.lock_ties.specs.Ties.{IsTiedTo}
 use Rattle.lock_ties.proofs.Places.{at-same}
 use Rattle.lock_ties.proofs.Got.{ended-tied}
@@ -45,6 +45,9 @@ use Rattle.session_states.proofs.Forgoing.{and-undone}
 use Rattle.session_states.proofs.Parting.{nothing-agrees, begun-needs, begins-stays}
 use Rattle.session_states.proofs.Resting.{leaves-others, rests-by, found-here, none-dead, time-later}
 use Rattle.session_states.proofs.Storing.{said-needs, said-more}
+use Rattle.session_states.proofs.ReaderStarts.{reader-stays}
+use Rattle.store_counts.proofs.Kept.{counted-on, counted-events, counted-begins}
+use Rattle.session_states.proofs.Counting.{counted-over}
 
 -- Its transaction stays open behind a reply: something was said in it, or the reply is done, or it isn't of a START_TRANSACTION.
 stays-open : (x : Option Transaction) (spoken : Bool) (item : Uttered) (reply : Reply) → has_said x ≡ spoken → (spoken || not (leaves_none item && not (is_done reply))) ≡ true → is_first_refused x item reply ≡ false
@@ -90,6 +93,7 @@ module _ (M : Model) (orderly : IsOrderly M) where
               wants = f.fits.phase.1;
             };
           };
+          counted = counted-begins o p s ReadOnly shelf f.here.stands.state (ap writes_of moves.mine) (counted-over o p s (seat_reading c.shelf.now) c.shelf shelf moves f.here.stands.state f.counted);
         };
   }
 
@@ -108,6 +112,7 @@ module _ (M : Model) (orderly : IsOrderly M) where
         tied = f.fits.tied;
         phase = record { known = f.fits.phase.known; seat = f.fits.phase.seat; spoken = f.fits.phase.spoken; needless = f.fits.phase.needless; stage = stays; wants = f.fits.phase.wants };
       };
+      counted = f.counted;
     };
   }
 
@@ -120,9 +125,9 @@ module _ (M : Model) (orderly : IsOrderly M) where
 
   -- what it lacked is read from the lines at its start
   pub reads-more : (s : ℕ) (c : Shared) (shelf : Shelf) (left : List Item) (total : ℕ) (standing : Standing) (known new : Held) (spoken : Bool) (item : Item) (a b : ReaderWork) →
-      KeepsOthers s c.shelf shelf → shelf.now ≡ c.shelf.now → shelf.seat s ≡ c.shelf.seat s → (IsInOrder (seen_by s c.shelf) → Agrees (knows known) (seen_by s c.shelf) → Agrees (knows new) (seen_by s c.shelf)) →
+      KeepsOthers s c.shelf shelf → shelf.now ≡ c.shelf.now → shelf.seat s ≡ c.shelf.seat s → KeepsSpace c.shelf.space shelf.space → (IsInOrder (seen_by s c.shelf) → Agrees (knows known) (seen_by s c.shelf) → Agrees (knows new) (seen_by s c.shelf)) →
       Step M s c (session left total (Reading (reader standing known spoken (Working item a)))) (with_shelf shelf c) (session left total (Reading (reader standing new spoken (Working item b)))) []
-  reads-more s c shelf left total standing known new spoken item a b others now mine more = record {
+  reads-more s c shelf left total standing known new spoken item a b others now mine space more = record {
     word = refl;
     others = record { store = others; locks = λ u other. refl };
     leaves = λ o p g f.
@@ -156,6 +161,7 @@ module _ (M : Model) (orderly : IsOrderly M) where
               wants = f.fits.phase.wants;
             };
           };
+          counted = counted-on o p s c.shelf shelf f.counted others now space (λ z. ap writes_of mine);
         };
   }
 
@@ -177,27 +183,28 @@ module _ (M : Model) (orderly : IsOrderly M) where
   line-tied o p c s x l is_open closed tied = ended-tied c.locks c.locks s p (after o p (Said s l.item l.choices l.reply)) tied (λ u other. refl) closed refl refl (λ t. said-needs o p s x l is_open t ∙ tied.needs t)
 
   -- its job came back with a record
-  pub answers-to-reader : (s : ℕ) (c : Shared) (left : List Item) (total : ℕ) (standing : Standing) (known : Held) (spoken : Bool) (item : Item) (r : TxRecord) → (spoken || not (leaves_none (uttered_of item) && not (is_done r.reply))) ≡ true →
+  pub answers-to-reader : (s : ℕ) (c : Shared) (left : List Item) (total : ℕ) (standing : Standing) (known : Held) (spoken : Bool) (item : Item) (r : TxRecord) →
       IsFound M c.word standing (uttered_of item) (knows known) (Done r) →
       Step M s c (session left total (Reading (reader standing known spoken (Working item Out)))) c (session left total (Reading (reader ReadOnly known true Between))) (Said s (uttered_of item) r.choices r.reply ∷ [])
-  answers-to-reader s c left total standing known spoken item r may found = record {
+  answers-to-reader s c left total standing known spoken item r found = record {
     word = refl;
     others = leaves-others s c;
     leaves = λ o p g f.
         let i = uttered_of item in
         let w : Reads M p g s standing (Some i) = f.here.stands.state in
         let l : Line = record { item = i; choices = r.choices; reply = r.reply } in
+        let right : IsRight M c.word standing (g.desk s).known (worked_of i r) = subst (λ k. IsRight M c.word standing k (worked_of i r)) (sym f.fits.phase.known) found.right in
         record {
           ground = g;
           steps = answers-reading M orderly o p g s (map uttered_of left) total standing (worked_of i r) f.here
-              (subst (λ (u : List ℕ). IsRight M u standing (g.desk s).known (worked_of i r)) (sym f.word)
-              (subst (λ k. IsRight M c.word standing k (worked_of i r)) (sym f.fits.phase.known) found.right))
-              (stays-open (p.transaction s) spoken i r.reply f.fits.phase.spoken may) (rw f.fits.phase.stage refl);
+              (subst (λ (u : List ℕ). IsRight M u standing (g.desk s).known (worked_of i r)) (sym f.word) right)
+              (stays-open (p.transaction s) spoken i r.reply f.fits.phase.spoken (reader-stays M orderly c.word p g s standing i r spoken w right f.fits.phase.spoken)) (rw f.fits.phase.stage refl);
           fits = record {
             ground = record { now = f.fits.ground.now; time = f.fits.ground.time; dead = f.fits.ground.dead };
             tied = line-tied o p c s w.transaction l w.is_open f.fits.phase.wants f.fits.tied;
             phase = line-fits o p g c s standing known spoken (Working item Out) w.transaction l w.is_open f.fits.phase;
           };
+          counted = counted-events o p (Said s i r.choices r.reply ∷ []) c.shelf (tt, tt) f.counted;
         };
   }
 
@@ -220,6 +227,7 @@ module _ (M : Model) (orderly : IsOrderly M) where
             tied = line-tied o p c s w.transaction l w.is_open f.fits.phase.wants f.fits.tied;
             phase = line-fits o p g c s standing known spoken (Working item work) w.transaction l w.is_open f.fits.phase;
           };
+          counted = counted-events o p (Said s i [] NoMemory ∷ []) c.shelf (tt, tt) f.counted;
         };
   }
     where

@@ -1,5 +1,5 @@
 -- A statement is refused by a lock, in a transaction in which something was said.
-use Rattle.std.proofs.Common.{◌≡◌, ℕ, ◌++◌, ◌∷◌, [], ◌==◌, not, Bool, true, false, List, map, refl, ◌∙◌, sym, ap, subst, Some, None}
+use Rattle.std.proofs.Common.{◌≡◌, ℕ, ◌++◌, ◌∷◌, [], ◌==◌, ◌&&◌, not, Bool, true, false, List, map, refl, ◌∙◌, sym, ap, subst, Some, None}
 use Rattle.std.proofs.lemmas.Bool.{false≢true}
 use Rattle.rdo_ast.specs.declared.reply.Reply.{Reply}
 use Rattle.rdo_ast.specs.declared.reply.Standing.{Standing}
@@ -15,7 +15,7 @@ use Rattle.lock_tree_laws.specs.Forest.{State, party_of}
 use Rattle.lock_tree_laws.specs.Parties.{resting}
 use Rattle.lock_tree_laws.specs.Wanted.{needs_of}
 use Rattle.rdb_account.specs.Events.{Said}
-use Rattle.rdb_account.specs.Places.{Opening, Place, Transaction, Line, after, place_from}
+use Rattle.rdb_account.specs.Places.{Opening, Place, Transaction, Line, after, place_from, is_done}
 use Rattle.rdb_account.specs.Lawful.{IsExcused, has_cause, first_refusal, is_nowait, never_waits}
 use Rattle.rdb_account.specs.AskedFor.{item_asks}
 use Rattle.rdb_account.specs.Legal.{ends_by}
@@ -45,6 +45,8 @@ use Rattle.session_states.proofs.Basics.{said-first, said-wants, nowait-wants}
 use Rattle.session_states.proofs.Locking.{desk-wanting, lock-asks}
 use Rattle.session_states.proofs.Resting.{leaves-others, none-dead}
 use Rattle.session_states.proofs.Asking.{may-call}
+use Rattle.store_counts.proofs.Kept.{counted-events}
+use Rattle.session_states.proofs.Claims.{wanted-nothing, both-nothing}
 use Rattle.session_states.proofs.Storing.{said-needs, said-more, nowait-said}
 
 -- what asks for a need isn't refused by its standing
@@ -68,18 +70,22 @@ asks-waits t n (said (define_index d)) h stays = refl
 asks-waits t n (said (delete_relation name)) h stays = refl
 asks-waits t n (said (delete_index name)) h stays = refl
 
+-- what doesn't end its transaction, whatever its reply
+pub unended : (b d : Bool) → b ≡ false → (b && d) ≡ false
+unended b d h = rw h refl
+
 module _ (M : Model) (orderly : IsOrderly M) where
-  pub refuses-on : (s : ℕ) (c : Shared) (locks : State) (left : List Item) (total : ℕ) (standing : Standing) (known : Held) (waits : Bool) (stage : Stage) (n : Need) (item : Item) (reply : Reply) → lock_of stage ≡ Some n →
-      item_of stage ≡ Some (uttered_of item) → ends_by (uttered_of item) ≡ false → (call : IsCall s n c.locks locks) → party_of locks.parties s ≡ resting (needs_of c.locks s) → is_refusal_of_means reply ≡ true →
-      ((word : List ℕ) (t : Tables) → first_refusal standing (uttered_of item) ≡ None → never_waits (uttered_of item) ≡ false → IsExcused reply word standing t (uttered_of item)) →
+  pub refuses-on : (s : ℕ) (c : Shared) (locks : State) (left : List Item) (total : ℕ) (standing : Standing) (known : Held) (waits : Bool) (stage : Stage) (n : Need) (item : Uttered) (reply : Reply) → lock_of stage ≡ Some n →
+      item_of stage ≡ Some item → (ends_by item && is_done reply) ≡ false → (call : IsCall s n c.locks locks) → party_of locks.parties s ≡ resting (needs_of c.locks s) → is_refusal_of_means reply ≡ true →
+      ((word : List ℕ) (t : Tables) → first_refusal standing item ≡ None → item_asks None t n item ≡ true → IsExcused reply word standing t item) →
       ((o : Opening) (p : Place) (x : Transaction) → p.transaction s ≡ Some x → IsTiedTo p c.locks → is_nowait (p.transaction s) ≡ not waits → has_cause o (place_from o p (wanted_at s n call.asks.nodes)) s reply ≡ true) →
-      Step M s c (session left total (Writing (writer standing known true waits stage))) (with_locks locks c) (session left total (Writing (writer standing known true waits Between))) (wanted_at s n call.asks.nodes ++ Said s (uttered_of item) [] reply ∷ [])
+      Step M s c (session left total (Writing (writer standing known true waits stage))) (with_locks locks c) (session left total (Writing (writer standing known true waits Between))) (wanted_at s n call.asks.nodes ++ Said s item [] reply ∷ [])
   refuses-on s c locks left total standing known waits stage n item reply wants is stays call rests refused excused cause = record {
     word = refl;
     others = record { store = (leaves-others s c).store; locks = call.others };
     leaves = λ o p g f.
         let items = map uttered_of left in
-        let i = uttered_of item in
+        let i = item in
         let m = member items (writing standing (Some i)) total in
         let k = member items (writing standing None) total in
         let x = f.here.stands.state.transaction in
@@ -98,10 +104,10 @@ module _ (M : Model) (orderly : IsOrderly M) where
         let b : Steps M o a.to g s k g (Said s i [] reply ∷ []) =
         refuses-writing M orderly o a.to g s items total standing l (arrives M orderly o p g g s m m (wanted_at s n nodes) none here a) refused
         (λ t sound. let h = asked (laid_all (g.desk s).writes g.now) t sound w.is.agrees in let free = asks-free (first_refusal standing i) t n i h in
-        excused o.word t free (asks-waits t n i (subst (λ (u : Refusal). item_asks u t n i ≡ true) free h) stays))
+        excused o.word t free (subst (λ (u : Refusal). item_asks u t n i ≡ true) free h))
         (subst (λ (y : Place). has_cause o y s reply ≡ true) a.leads (cause o p x is_open f.fits.tied f.fits.phase.waits))
         (said-first (a.to.transaction s) i reply (subst (λ (y : Place). has_said (y.transaction s) ≡ true) a.leads (said-wants o p s x n nodes is_open ∙ f.fits.phase.spoken)))
-        (rw stays refl) in
+        stays in
         let grown : place_from o p (wanted_at s n nodes ++ Said s i [] reply ∷ []) ≡ r = place-grown o p (wanted_at s n nodes) (Said s i [] reply ∷ []) in
         record {
           ground = g;
@@ -118,8 +124,10 @@ module _ (M : Model) (orderly : IsOrderly M) where
               stage = refl;
               wants = ap (λ (y : Party). y.opened) rests;
               ends = tt;
+              claims = tt;
             };
           };
+          counted = counted-events o p (wanted_at s n nodes ++ Said s i [] reply ∷ []) c.shelf (both-nothing (wanted_at s n nodes) (Said s i [] reply ∷ []) (wanted-nothing s n nodes) (tt, tt)) f.counted;
         };
   }
     where

@@ -23,6 +23,7 @@ use Rattle.session_states.specs.declared.stage.Phase.TheVariants.{Writing}
 use Rattle.session_states.specs.States.{item_of, state_in, writer, session}
 use Rattle.session_states.specs.Shared.{Shared, with_shelf, LeavesOthers}
 use Rattle.session_states.specs.Fits.{PhaseFits, WriterFits}
+use Rattle.store_counts.specs.Counts.{IsCounted}
 use Rattle.session_states.specs.Steps.{Finds, Step}
 use Rattle.session_states.proofs.Basics.{at_time}
 
@@ -50,6 +51,7 @@ module _ (M : Model) (orderly : IsOrderly M) where
       ground = g;
       steps = subst (λ (u : State). Steps M o p g s (member (map uttered_of left) u total) g []) same (rests M orderly o p g s (member (map uttered_of left) (state_in x) total) f.here);
       fits = record { ground = f.fits.ground; tied = f.fits.tied; phase = fits o p g f };
+      counted = f.counted;
     };
   }
 
@@ -58,9 +60,10 @@ module _ (M : Model) (orderly : IsOrderly M) where
 
   -- the store does something that the account doesn't see
   pub rests-on : (s : ℕ) (c : Shared) (shelf : Shelf) (left : List Item) (total : ℕ) (x y : Phase) → state_in x ≡ state_in y → KeepsOthers s c.shelf shelf → shelf.now ≡ c.shelf.now →
+      ((o : Opening) (p : Place) (g : Ground) → Finds M o p g c s (session left total x) → IsCounted o p shelf) →
       ((o : Opening) (p : Place) (g : Ground) → Finds M o p g c s (session left total x) → PhaseFits M p (at_time shelf.clock.time g) (with_shelf shelf c) s left y) →
       Step M s c (session left total x) (with_shelf shelf c) (session left total y) []
-  rests-on s c shelf left total x y same others now fits = record {
+  rests-on s c shelf left total x y same others now counts fits = record {
     word = refl;
     others = record { store = others; locks = λ u other. refl };
     leaves = λ o p g f. record {
@@ -68,6 +71,7 @@ module _ (M : Model) (orderly : IsOrderly M) where
       steps = subst (λ (u : State). Steps M o p g s (member (map uttered_of left) u total) (at_time shelf.clock.time g) []) same
           (elapses M orderly o p g s (map uttered_of left) (state_in x) total shelf.clock.time (found-here o p g s (member (map uttered_of left) (state_in x) total) f.here) (time-later o p g s c shelf left total x others f));
       fits = record { ground = record { now = f.fits.ground.now ∙ sym now; time = refl; dead = f.fits.ground.dead }; tied = f.fits.tied; phase = fits o p g f };
+      counted = counts o p g f;
     };
   }
 
@@ -79,10 +83,11 @@ module _ (M : Model) (orderly : IsOrderly M) where
 
   -- it knows more than before
   pub learns-on : (s : ℕ) (c : Shared) (shelf : Shelf) (left : List Item) (total : ℕ) (standing : Standing) (known new : Held) (spoken waits : Bool) (x y : Stage) → item_of x ≡ item_of y → KeepsOthers s c.shelf shelf → shelf.now ≡ c.shelf.now →
+      ((o : Opening) (p : Place) (g : Ground) → Finds M o p g c s (session left total (Writing (writer standing known spoken waits x))) → IsCounted o p shelf) →
       ((o : Opening) (p : Place) (g : Ground) → Finds M o p g c s (session left total (Writing (writer standing known spoken waits x))) → IsGuarded (needs_at p s) (knows new) × Agrees (knows new) (laid_all (g.desk s).writes g.now)) →
       ((o : Opening) (p : Place) (g : Ground) → Finds M o p g c s (session left total (Writing (writer standing known spoken waits x))) → WriterFits M p (learnt s new shelf g) (with_shelf shelf c) s left (writer standing new spoken waits y)) →
       Step M s c (session left total (Writing (writer standing known spoken waits x))) (with_shelf shelf c) (session left total (Writing (writer standing new spoken waits y))) []
-  learns-on s c shelf left total standing known new spoken waits x y same others now good fits = record {
+  learns-on s c shelf left total standing known new spoken waits x y same others now counts good fits = record {
     word = refl;
     others = record { store = others; locks = λ u other. refl };
     leaves = λ o p g f.
@@ -96,5 +101,6 @@ module _ (M : Model) (orderly : IsOrderly M) where
           ground = learnt s new shelf g;
           steps = subst (λ u. Steps M o p g s (member (map uttered_of left) (writing standing u) total) (learnt s new shelf g) []) same ab;
           fits = record { ground = record { now = f.fits.ground.now ∙ sym now; time = refl; dead = f.fits.ground.dead }; tied = f.fits.tied; phase = fits o p g f };
+          counted = counts o p g f;
         };
   }

@@ -20,6 +20,8 @@ use Rattle.session_states.specs.Shared.{Shared, with_locks}
 use Rattle.session_states.specs.Steps.{Step}
 use Rattle.session_states.proofs.Resting.{leaves-others}
 use Rattle.session_states.proofs.Standing.{phase-stays}
+use Rattle.store_counts.proofs.Places.{more-same}
+use Rattle.store_counts.proofs.Kept.{counted-events}
 
 -- the tie speaks of needs, wants and askings alone
 same-tied : (p : Place) (old new : State) → new.parties ≡ old.parties → new.trail ≡ old.trail → IsTiedTo p old → IsTiedTo p new
@@ -41,7 +43,8 @@ module _ (M : Model) (orderly : IsOrderly M) where
           fits = record {
             ground = record { now = f.fits.ground.now; time = f.fits.ground.time; dead = f.fits.ground.dead };
             tied = same-tied p c.locks locks parties trail f.fits.tied;
-            phase = phase-stays M orderly p p g g c (with_locks locks c) s refl refl refl refl (ap (λ (ps : Parties). party_of ps s) parties) f.here.fit.order f.here.fit.order (alike-refl (needs_at p s) g.now) left (Writing w) f.fits.phase;
+            phase = phase-stays M orderly p p g g c (with_locks locks c) s refl refl refl refl (ap (λ (ps : Parties). party_of ps s) parties) (more-same p.touched p.touched refl) f.here.fit.order f.here.fit.order (alike-refl (needs_at p s) g.now) left (Writing w) f.fits.phase;
           };
+          counted = counted-events o p (Demoted s node from to ∷ []) c.shelf (tt, tt) f.counted;
         };
   }

@@ -1,5 +1,5 @@
 -- One step of a session keeps what is true of all of them.
-use Rattle.std.proofs.Common.{◌≡◌, ℕ, zero, suc, ◌++◌, ◌∷◌, [], ◌==◌, true, false, List, refl, ◌∙◌, sym, ap, subst, arith, map, option_map, Some, slice_get, slice_set, ◌⊎◌, inl, inr}
+use Rattle.std.proofs.Common.{◌≡◌, ℕ, zero, suc, ◌++◌, ◌∷◌, [], ◌==◌, Bool, true, false, List, refl, ◌∙◌, sym, ap, subst, arith, map, option_map, Some, slice_get, slice_set, ◌⊎◌, inl, inr}
 use Rattle.rdo_ast.specs.declared.reply.Standing.{Standing}
 use Rattle.rdo_ast.specs.declared.syntax.Item.{Item}
 use Rattle.rdo_ast.specs.Views.{uttered_of}
@@ -19,7 +19,7 @@ use Rattle.kept_apart.proofs.Alike.{alike-agrees, alike-laid-all}
 use Rattle.session_jobs.specs.Records.{Model, IsOrderly, IsRight}
 use Rattle.session_jobs.specs.Jobs.{worked_of}
 use Rattle.session_jobs.specs.declared.jobs.TxRecord.{TxRecord}
-use Rattle.line_store.specs.Seats.{Seat, reading as seat_reading, done_at, Adds}
+use Rattle.line_store.specs.Seats.{Seat, reading as seat_reading, in_flight, done_at, Adds}
 use Rattle.lock_ties.specs.Ties.{IsTiedTo, needs_at}
 use Rattle.line_steps.specs.Members.{Member as Seen}
 use Rattle.line_steps.specs.Right.{Desk, Ground, AreRight}
@@ -27,7 +27,7 @@ use Rattle.line_steps.proofs.Frame.{place-same}
 use Rattle.line_steps.proofs.Kept.{stepped, here}
 use Rattle.session_states.specs.declared.stage.Laying.TheVariants.{Claiming, Changing}
 use Rattle.session_states.specs.declared.stage.Stage.{Stage}
-use Rattle.session_states.specs.declared.stage.Stage.TheVariants.{Between, Working, Saying, Ending}
+use Rattle.session_states.specs.declared.stage.Stage.TheVariants.{Between, Working, Reserving, Saying, Ending}
 use Rattle.session_states.specs.declared.stage.Phase.{Phase}
 use Rattle.session_states.specs.declared.stage.Phase.TheVariants.{Outside, Closing, Writing, Reading, Over}
 use Rattle.session_states.specs.declared.stage.Life.{Life}
@@ -39,6 +39,15 @@ use Rattle.session_states.specs.Shared.{Shared, LeavesOthers}
 use Rattle.session_states.specs.Fits.{has_said, StageFits, HasSeat, IsLaid, DeskFits, WantsAtMost, PhaseFits, LifeFits}
 use Rattle.session_states.specs.Steps.{Finds, Leaves, Step, Fall}
 use Rattle.session_states.specs.Kept.{AreKept}
+use Rattle.lock_tree_laws.specs.Wanted.{needs_of}
+use Rattle.line_view.specs.declared.writes.Write.{Write}
+use Rattle.kept_apart.specs.Guards.{may_write}
+use Rattle.line_steps.specs.Images.{journal_node}
+use Rattle.lock_ties.proofs.Places.{number}
+use Rattle.store_counts.specs.Counts.{written_of, IsCounted}
+use Rattle.store_counts.proofs.Places.{HasMore, more-same, touched-on}
+use Rattle.session_states.proofs.Claims.{claims-more}
+use Rattle.session_states.proofs.Flying.{life-flies}
 
 map-get : {A B : Type 0} (f : A → B) (xs : List A) (i : ℕ) (x : A) → slice_get xs i ≡ Some x → slice_get (map f xs) i ≡ Some (f x)
 map-get f [] i x h = grind arith
@@ -68,7 +77,7 @@ module _ (M : Model) (orderly : IsOrderly M) where
   -- ---- session t, as another steps
 
   module _ (p q : Place) (g h : Ground) (c d : Shared) (t : ℕ) (same : q.transaction t ≡ p.transaction t) (desk : h.desk t ≡ g.desk t) (word : d.word ≡ c.word)
-      (seat : d.shelf.seat t ≡ c.shelf.seat t) (party : party_of d.locks.parties t ≡ party_of c.locks.parties t)
+      (seat : d.shelf.seat t ≡ c.shelf.seat t) (party : party_of d.locks.parties t ≡ party_of c.locks.parties t) (touched : HasMore p.touched q.touched)
       (was : IsInOrder g.now) (is : IsInOrder h.now) (alike : AreAlike (needs_at p t) g.now h.now) where
     needs : needs_at p t ≡ needs_at q t
     needs = sym (ap got_of same)
@@ -94,6 +103,7 @@ module _ (M : Model) (orderly : IsOrderly M) where
     desk-stays : (standing : Standing) (known : Held) (stage : Stage) → DeskFits M p g c t standing known stage → DeskFits M q h d t standing known stage
     desk-stays standing known Between f = plain-stays known Between f
     desk-stays standing known (Working item work) f = plain-stays known (Working item work) f
+    desk-stays standing known (Reserving item r locks place) f = plain-stays known (Reserving item r locks place) f
     desk-stays standing known (Saying item r (Claiming place)) f = plain-stays known (Saying item r (Claiming place)) f
     desk-stays standing known (Saying item r Changing) f = laid-stays standing known item r f
     desk-stays standing known (Ending end) f = plain-stays known (Ending end) f
@@ -108,6 +118,7 @@ module _ (M : Model) (orderly : IsOrderly M) where
       stage = subst (λ (u : List ℕ). StageFits M u (needs_at q t) w.standing w.known w.spoken w.stage) (sym word) (subst (λ ws. StageFits M c.word ws w.standing w.known w.spoken w.stage) needs f.stage);
       wants = subst (λ (y : Party). WantsAtMost (lock_of w.stage) y.opened) (sym party) f.wants;
       ends = f.ends;
+      claims = claims-more p q t touched (more-same (written_of (p.transaction t)) (written_of (q.transaction t)) (sym (ap written_of same))) w.stage f.claims;
     }
     phase-stays left (Reading r) f = record {
       known = ap (λ (x : Desk). x.known) desk ∙ f.known;
@@ -121,10 +132,19 @@ module _ (M : Model) (orderly : IsOrderly M) where
 
     pub life-stays : (left : List Item) (x : Phase) (life : Life) → LifeFits M p g c t left x life → LifeFits M q h d t left x life
     life-stays left x Alive f = phase-stays left x f
-    life-stays left x Dead f = record { writes = f.writes; seat = seat ∙ f.seat; same = λ e. f.same e ∙ sym (ap (λ (y : Desk). y.writes) desk) }
+    life-stays left x Dead f = record { writes = f.writes; seat = seat ∙ f.seat; same = λ e. f.same e ∙ sym (ap (λ (y : Desk). y.writes) desk); flies = λ e. subst (λ (y : Party). may_write y.needs journal_node ≡ true) (sym party) (f.flies e) }
     life-stays left x Gone f = (seat ∙ f.0, ap (λ (y : Party). y.opened) party ∙ f.1)
 
   -- ---- all sessions
+
+  -- whose commit is under way has the journal: the session that steps, and any other
+  flies-still : (q : Place) (h : Ground) (c d : Shared) (s : ℕ) (n : Member) → ((t : ℕ) (ws : List Write) → in_flight (c.shelf.seat t) ≡ Some ws → may_write (needs_of c.locks t) journal_node ≡ true) → LeavesOthers s c d → IsTiedTo q d.locks →
+      LifeFits M q h d s n.left n.phase n.life → (t : ℕ) (b : Bool) → (t == s) ≡ b → (ws : List Write) → in_flight (d.shelf.seat t) ≡ Some ws → may_write (needs_of d.locks t) journal_node ≡ true
+  flies-still q h c d s n was others tied fits t true e ws flies =
+      subst (λ (u : ℕ). may_write (needs_of d.locks u) journal_node ≡ true) (sym (number t s e))
+      (life-flies M orderly q h d s n.left n.phase n.life fits tied ws (subst (λ (u : ℕ). in_flight (d.shelf.seat u) ≡ Some ws) (number t s e) flies))
+  flies-still q h c d s n was others tied fits t false e ws flies =
+      subst (λ (y : Party). may_write y.needs journal_node ≡ true) (sym (others.locks t e)) (was t ws (ap in_flight (sym (others.store.seat t e)) ∙ flies))
 
   -- what a step of one session leaves is kept for all
   leaves-kept : (o : Opening) (c d : Shared) (members : List Member) (events es : List Event) (i : ℕ) (n : Member) → (k : AreKept M o c members events) → d.word ≡ c.word → LeavesOthers (suc i) c d →
@@ -145,9 +165,11 @@ module _ (M : Model) (orderly : IsOrderly M) where
             (elim (set-get members i j n y e) [
               | inl a ↦ subst (λ (t : ℕ). LifeFits M to left.ground d (suc t) y.left y.phase y.life) (sym a.0) (subst (λ (x : Member). LifeFits M to left.ground d (suc i) x.left x.phase x.life) a.1 left.fits.phase)
               | inr a ↦ life-stays p to k.ground left.ground c d (suc j) ((place-same o p es (suc i) (suc j) left.steps.own (differ j i a.0)).transaction)
-                  (left.steps.desks (suc j) (differ j i a.0)) word (others.store.seat (suc j) (differ j i a.0)) (others.locks (suc j) (differ j i a.0))
+                  (left.steps.desks (suc j) (differ j i a.0)) word (others.store.seat (suc j) (differ j i a.0)) (others.locks (suc j) (differ j i a.0)) (touched-on o p es)
                   k.right.fit.order left.steps.fit.order (left.steps.alike (suc j) (differ j i a.0)) y.left y.phase y.life (k.phases j y a.1)
             ]);
+        counted = subst (λ (y : Place). IsCounted o y d.shelf) (sym behind) left.counted;
+        flies = λ t ws e. flies-still to left.ground c d (suc i) n k.flies others left.fits.tied left.fits.phase t (t == suc i) refl ws e;
       }
 
   -- what session i + 1 finds
@@ -156,6 +178,7 @@ module _ (M : Model) (orderly : IsOrderly M) where
     word = k.word;
     here = here M orderly o k.ground (map seen members) events i (seen m) (k.is_ground.dead ∙ alive) k.right (map-get seen members i m found);
     fits = record { ground = k.is_ground; tied = k.tied; phase = k.phases i m found };
+    counted = k.counted;
   }
 
   pub kept : (o : Opening) (c d : Shared) (members : List Member) (events es : List Event) (i : ℕ) (m n : Member) → c.dead ≡ 0 → AreKept M o c members events → slice_get members i ≡ Some m →
@@ -176,4 +199,5 @@ module _ (M : Model) (orderly : IsOrderly M) where
     word = k.word;
     found = record { free = free-nothing (place o events).due k.right.legal.settled; fit = k.right.fit; stands = k.right.each i (seen m) (map-get seen members i m found) };
     fits = record { ground = k.is_ground; tied = k.tied; phase = k.phases i m found };
+    counted = k.counted;
   }))

@@ -17,7 +17,7 @@ use Rattle.lock_tree_laws.specs.Parties.{resting}
 use Rattle.lock_tree_laws.specs.Wanted.{needs_of}
 use Rattle.rdb_account.specs.Events.{Said, RolledBack}
 use Rattle.rdb_account.specs.Places.{Opening, Place, Transaction, Line, after, begins, leaves_none, is_done, is_first_refused, place_from}
-use Rattle.rdb_account.specs.Lawful.{IsExcused, has_cause, first_refusal, is_nowait, never_waits}
+use Rattle.rdb_account.specs.Lawful.{IsExcused, has_cause, first_refusal, is_nowait}
 use Rattle.rdb_account.specs.AskedFor.{item_asks}
 use Rattle.rdb_account.specs.Legal.{ends_by}
 use Rattle.rdb_account.proofs.Growth.{place-grown}
@@ -53,8 +53,11 @@ use Rattle.session_states.proofs.Ends.{start-gone, start-unasked, rolled-place, 
 use Rattle.session_states.proofs.Locking.{desk-wanting, desk-resting, lock-asks}
 use Rattle.session_states.proofs.Resting.{none-dead, time-later}
 use Rattle.session_states.proofs.Asking.{may-call}
+use Rattle.lock_ties.proofs.Places.{at-same}
+use Rattle.session_states.proofs.Claims.{wanted-nothing, both-nothing}
+use Rattle.session_states.proofs.Counting.{counted-ended}
 use Rattle.session_states.proofs.Storing.{said-needs}
-use Rattle.session_states.proofs.Refusing.{asks-free, asks-waits}
+use Rattle.session_states.proofs.Refusing.{asks-free}
 use Rattle.session_states.proofs.Forgoing.{and-undone}
 
 module _ (M : Model) (orderly : IsOrderly M) where
@@ -107,6 +110,7 @@ module _ (M : Model) (orderly : IsOrderly M) where
             tied = gone-tied p (after o (after o p (Said s i r.choices r.reply)) (RolledBack s)) c.locks locks s f.fits.tied rests (start-gone o p s w.transaction l w.is_open) (start-unasked o p s l);
             phase = (closing-seat c shelf s g f.fits.phase.desk.1 moves, rests.ended);
           };
+          counted = counted-ended o p (Said s i r.choices r.reply ∷ RolledBack s ∷ []) s (rolled_back (c.shelf.seat s)) c.shelf shelf (tt, (tt, tt)) (start-gone o p s w.transaction l w.is_open s ∙ at-same s None p.transaction) moves f.counted;
         };
   }
 
@@ -133,22 +137,23 @@ module _ (M : Model) (orderly : IsOrderly M) where
             tied = gone-tied p (after o (after o p (Said s item [] NoMemory)) (RolledBack s)) c.locks locks s f.fits.tied rests (start-gone o p s w.transaction l w.is_open) (start-unasked o p s l);
             phase = (closing-seat c shelf s g at.1 moves, rests.ended);
           };
+          counted = counted-ended o p (Said s item [] NoMemory ∷ RolledBack s ∷ []) s (rolled_back (c.shelf.seat s)) c.shelf shelf (tt, (tt, tt)) (start-gone o p s w.transaction l w.is_open s ∙ at-same s None p.transaction) moves f.counted;
         };
   }
 
   -- a lock refuses it
-  pub start-refuses-on : (s : ℕ) (c : Shared) (shelf : Shelf) (mid locks : State) (left : List Item) (total : ℕ) (standing : Standing) (known : Held) (waits : Bool) (stage : Stage) (n : Need) (item : Item) (reply : Reply) → lock_of stage ≡ Some n →
-      item_of stage ≡ Some (uttered_of item) → ends_by (uttered_of item) ≡ false → (call : IsCall s n c.locks mid) → party_of mid.parties s ≡ resting (needs_of c.locks s) → is_refusal_of_means reply ≡ true →
-      ((word : List ℕ) (t : Tables) → first_refusal standing (uttered_of item) ≡ None → never_waits (uttered_of item) ≡ false → IsExcused reply word standing t (uttered_of item)) →
+  pub start-refuses-on : (s : ℕ) (c : Shared) (shelf : Shelf) (mid locks : State) (left : List Item) (total : ℕ) (standing : Standing) (known : Held) (waits : Bool) (stage : Stage) (n : Need) (item : Uttered) (reply : Reply) → lock_of stage ≡ Some n →
+      item_of stage ≡ Some item → (ends_by item && is_done reply) ≡ false → (call : IsCall s n c.locks mid) → party_of mid.parties s ≡ resting (needs_of c.locks s) → is_refusal_of_means reply ≡ true →
+      ((word : List ℕ) (t : Tables) → first_refusal standing item ≡ None → item_asks None t n item ≡ true → IsExcused reply word standing t item) →
       ((o : Opening) (p : Place) (x : Transaction) → p.transaction s ≡ Some x → IsTiedTo p c.locks → is_nowait (p.transaction s) ≡ not waits → has_cause o (place_from o p (wanted_at s n call.asks.nodes)) s reply ≡ true) →
       Moves s (rolled_back (c.shelf.seat s)) c.shelf shelf → RestsWith s [] mid locks →
-      Step M s c (session left total (Writing (writer standing known false waits stage))) (with_both shelf locks c) (session left total Closing) (wanted_at s n call.asks.nodes ++ Said s (uttered_of item) [] reply ∷ RolledBack s ∷ [])
+      Step M s c (session left total (Writing (writer standing known false waits stage))) (with_both shelf locks c) (session left total Closing) (wanted_at s n call.asks.nodes ++ Said s item [] reply ∷ RolledBack s ∷ [])
   start-refuses-on s c shelf mid locks left total standing known waits stage n item reply wants is stays call ended refused excused cause moves rests = record {
     word = refl;
     others = record { store = moves.others; locks = λ u other. rests.others u other ∙ call.others u other };
     leaves = λ o p g f.
         let items = map uttered_of left in
-        let i = uttered_of item in
+        let i = item in
         let m = member items (writing standing (Some i)) total in
         let n' = member items outside total in
         let x = f.here.stands.state.transaction in
@@ -171,9 +176,9 @@ module _ (M : Model) (orderly : IsOrderly M) where
         start-excused M orderly o a.to g s items total standing l (left_desk g) shelf.clock.time
         (time-later M orderly o p g s c shelf left total (Writing (writer standing known false waits stage)) moves.others f) h refused
         (λ t sound. let e = asked (laid_all (g.desk s).writes g.now) t sound w.is.agrees in let free = asks-free (first_refusal standing i) t n i e in
-        excused o.word t free (asks-waits t n i (subst (λ (u : Refusal). item_asks u t n i ≡ true) free e) stays))
+        excused o.word t free (subst (λ (u : Refusal). item_asks u t n i ≡ true) free e))
         (subst (λ (y : Place). has_cause o y s reply ≡ true) a.leads (cause o p x is_open f.fits.tied f.fits.phase.waits))
-        (first-refused o a.to g s standing i reply w silent (excused-undone reply refused)) (rw stays refl) in
+        (first-refused o a.to g s standing i reply w silent (excused-undone reply refused)) stays in
         let tied : IsTiedTo r mid =
         closed-tied o c.locks mid s n p r x is_open f.fits.tied call (ap (λ (y : Party). y.opened) ended) refl
         (λ t. said-needs o q s there.0 l there.1 t ∙ (wants-needs o p s x n nodes is_open t ∙ (f.fits.tied.needs t ∙ needs-still s c.locks mid call.others (ap (λ (y : Party). y.needs) ended) t))) in
@@ -187,5 +192,6 @@ module _ (M : Model) (orderly : IsOrderly M) where
                 (gone-tied r (after o r (RolledBack s)) mid locks s tied rests (λ t. ap (λ (e : ℕ → Option Transaction). e t) gone.0) gone.1);
             phase = (closing-seat c shelf s g at.1 moves, rests.ended);
           };
+          counted = counted-ended o p (es ++ Said s i [] reply ∷ RolledBack s ∷ []) s (rolled_back (c.shelf.seat s)) c.shelf shelf (both-nothing es (Said s i [] reply ∷ RolledBack s ∷ []) (wanted-nothing s n nodes) (tt, (tt, tt))) (ap (λ (y : Place). y.transaction s) (place-grown o p es (Said s i [] reply ∷ RolledBack s ∷ [])) ∙ (ap (λ (e : ℕ → Option Transaction). e s) gone.0 ∙ at-same s None r.transaction)) moves f.counted;
         };
   }

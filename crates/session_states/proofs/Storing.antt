@@ -21,7 +21,7 @@ use Rattle.kept_apart.proofs.Alike.{laid-all-in-order}
 use Rattle.session_jobs.specs.Records.{Model, IsOrderly, IsRight}
 use Rattle.session_jobs.specs.Jobs.{worked_of}
 use Rattle.session_jobs.specs.declared.jobs.TxRecord.{TxRecord}
-use Rattle.line_store.specs.Seats.{Seat, writing as seat_writing, writes_of, done_at, Adds}
+use Rattle.line_store.specs.Seats.{Seat, IsMember, writing as seat_writing, writes_of, done_at, Adds}
 use Rattle.line_store.specs.Shelves.{Shelf}
 use Rattle.line_store.specs.Calls.{Changes, IsDone}
 use Rattle.lock_ties.specs.Ties.{needs_at}
@@ -41,6 +41,9 @@ use Rattle.session_states.specs.Fits.{has_said, IsLaid, WantsAtMost, Follows}
 use Rattle.session_states.specs.Steps.{Step}
 use Rattle.session_states.proofs.Basics.{at_time, said-first, done-first, take-all, own-added}
 use Rattle.session_states.proofs.Resting.{leaves-others, rests-on, time-later}
+use Rattle.store_counts.specs.Counts.{AreClaimed}
+use Rattle.store_counts.proofs.Kept.{counted-events, counted-changes}
+use Rattle.session_states.proofs.Counting.{counted-moved}
 
 write-none : (x : Option Write) → lock_of_write x ≡ None → x ≡ None
 write-none None h = refl
@@ -83,11 +86,15 @@ module _ (M : Model) (orderly : IsOrderly M) where
   guarded-now o p g s standing under w = subst (λ (y : Option Transaction). IsGuarded (got_of y) (g.desk s).known) (sym w.is_open) w.is.guarded
 
   -- all its lines are locked, and the store begins to lay its writes
-  pub changes-on : (s : ℕ) (c : Shared) (shelf : Shelf) (left : List Item) (total : ℕ) (standing : Standing) (known new : Held) (spoken waits : Bool) (item : Item) (r : TxRecord) (place : ℕ) → lock_of (Saying item r (Claiming place)) ≡ None →
+  pub changes-on : (s : ℕ) (c : Shared) (shelf : Shelf) (left : List Item) (total : ℕ) (standing : Standing) (known new : Held) (spoken waits : Bool) (item : Item) (r : TxRecord) (place : ℕ) → lock_of (Saying item r (Claiming place)) ≡ None → (spoken || is_done r.reply) ≡ true → IsMember s →
       Changes s r.writes c.shelf shelf → Follows r.writes known new →
       Step M s c (session left total (Writing (writer standing known spoken waits (Saying item r (Claiming place))))) (with_shelf shelf c) (session left total (Writing (writer standing new spoken waits (Saying item r Changing)))) []
-  changes-on s c shelf left total standing known new spoken waits item r place needless ch follows =
+  changes-on s c shelf left total standing known new spoken waits item r place needless may member ch follows =
       rests-on M orderly s c shelf left total (Writing (writer standing known spoken waits (Saying item r (Claiming place)))) (Writing (writer standing new spoken waits (Saying item r Changing))) refl ch.others ch.now
+      (λ o p g f.
+      let w : Writes M o p g s standing (Some (uttered_of item)) = f.here.stands.state in
+      let all = take-all r.writes place (write-none (slice_get r.writes place) needless) in
+      counted-changes o p s w.transaction r.writes c.shelf shelf w.is_open member (subst (AreClaimed p s) all f.fits.phase.claims) ch f.counted)
       (λ o p g f.
       let w : Writes M o p g s standing (Some (uttered_of item)) = f.here.stands.state in
       let ws = (g.desk s).writes in
@@ -107,15 +114,16 @@ module _ (M : Model) (orderly : IsOrderly M) where
         };
         spoken = f.fits.phase.spoken;
         waits = f.fits.phase.waits;
-        stage = (f.fits.phase.stage.0, tt);
+        stage = (f.fits.phase.stage.0, may);
         wants = subst (λ l. WantsAtMost l (opened_of c.locks s)) needless f.fits.phase.wants;
         ends = tt;
+        claims = tt;
       })
 
   -- its writes are laid, and it is said
-  pub says-laid : (s : ℕ) (c : Shared) (shelf : Shelf) (left : List Item) (total : ℕ) (standing : Standing) (known : Held) (spoken waits : Bool) (item : Item) (r : TxRecord) → (spoken || is_done r.reply) ≡ true → IsDone s c.shelf shelf →
+  pub says-laid : (s : ℕ) (c : Shared) (shelf : Shelf) (left : List Item) (total : ℕ) (standing : Standing) (known : Held) (spoken waits : Bool) (item : Item) (r : TxRecord) → IsDone s c.shelf shelf →
       Step M s c (session left total (Writing (writer standing known spoken waits (Saying item r Changing)))) (with_shelf shelf c) (session left total (Writing (said_writer r known waits))) (Said s (uttered_of item) r.choices r.reply ∷ [])
-  says-laid s c shelf left total standing known spoken waits item r may done = record {
+  says-laid s c shelf left total standing known spoken waits item r done = record {
     word = refl;
     others = record { store = done.moves.others; locks = λ u other. refl };
     leaves = λ o p g f.
@@ -129,7 +137,7 @@ module _ (M : Model) (orderly : IsOrderly M) where
           ground = h;
           steps = answers-writing M orderly o p g s (map uttered_of left) total standing (worked_of (uttered_of item) r) laid.behind (knows known) shelf.clock.time f.here
               (subst (λ (u : List ℕ). IsRight M u standing (g.desk s).known (worked_of (uttered_of item) r)) (sym f.word) laid.right) laid.own laid.adds.laid
-              (stays-open (p.transaction s) spoken (uttered_of item) r.reply f.fits.phase.spoken may) (rw f.fits.phase.stage.0 refl)
+              (stays-open (p.transaction s) spoken (uttered_of item) r.reply f.fits.phase.spoken f.fits.phase.stage.1) (rw f.fits.phase.stage.0 refl)
               (time-later M orderly o p g s c shelf left total (Writing (writer standing known spoken waits (Saying item r Changing))) done.moves.others f) laid.guarded laid.agrees;
           fits = record {
             ground = record { now = f.fits.ground.now ∙ sym done.moves.now; time = refl; dead = f.fits.ground.dead };
@@ -142,8 +150,11 @@ module _ (M : Model) (orderly : IsOrderly M) where
               stage = refl;
               wants = f.fits.phase.wants;
               ends = tt;
+              claims = tt;
             };
           };
+          counted = counted-events o p (Said s (uttered_of item) r.choices r.reply ∷ []) shelf (tt, tt)
+              (counted-moved o p s done.seat c.shelf shelf done.moves (λ e. ap writes_of (same_Some done.seat (seat_writing laid.behind) (sym done.comes ∙ ap done_at laid.seat)) ∙ sym (ap writes_of laid.seat)) f.counted);
         };
   }
 
@@ -178,7 +189,9 @@ module _ (M : Model) (orderly : IsOrderly M) where
               stage = refl;
               wants = closed;
               ends = tt;
+              claims = tt;
             };
           };
+          counted = counted-events o p (Said s i r.choices r.reply ∷ []) c.shelf (tt, tt) f.counted;
         };
   }

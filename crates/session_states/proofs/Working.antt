@@ -39,7 +39,9 @@ use Rattle.session_states.specs.declared.stage.Phase.TheVariants.{Writing}
 use Rattle.session_states.specs.States.{item_of, writer, session}
 use Rattle.session_states.specs.Shared.{Shared, with_shelf}
 use Rattle.stepped_jobs.specs.Needs.{IsLocked}
-use Rattle.session_states.specs.Fits.{WorkFits, HasSeat, WriterFits, WantsAtMost, Learns}
+use Rattle.session_states.specs.Fits.{WorkFits, HasSeat, ClaimsFit, WriterFits, WantsAtMost, Learns}
+use Rattle.store_counts.specs.Counts.{IsCounted}
+use Rattle.session_states.proofs.Claims.{claimed-none}
 use Rattle.session_states.specs.Steps.{Finds, Step}
 use Rattle.lock_tree_laws.specs.Forest.{opened_of}
 use Rattle.rdb_account.specs.Places.{Transaction}
@@ -62,6 +64,7 @@ module _ (M : Model) (orderly : IsOrderly M) where
       ground = g;
       steps = subst (λ u. Steps M o p g s (member (map uttered_of left) (writing standing u) total) g []) (sym same) (takes-up M orderly o p g s (uttered_of item) (map uttered_of left) total standing f.here);
       fits = record { ground = f.fits.ground; tied = f.fits.tied; phase = fits o p g f };
+      counted = f.counted;
     };
   }
 
@@ -69,13 +72,13 @@ module _ (M : Model) (orderly : IsOrderly M) where
       Step M s c (session (item ∷ left) total (Writing (writer standing known spoken waits Between))) c (session left total (Writing (writer standing known spoken waits (Working item Due)))) []
   takes-statement s c item left total standing known spoken waits stays =
       takes s c item left total standing known spoken waits (Working item Due) refl
-      (λ o p g f. record { desk = f.fits.phase.desk; spoken = f.fits.phase.spoken; waits = f.fits.phase.waits; stage = (stays, tt); wants = f.fits.phase.wants; ends = tt })
+      (λ o p g f. record { desk = f.fits.phase.desk; spoken = f.fits.phase.spoken; waits = f.fits.phase.waits; stage = (stays, tt); wants = f.fits.phase.wants; ends = tt; claims = tt })
 
   pub takes-commit : (s : ℕ) (c : Shared) (item : Item) (left : List Item) (total : ℕ) (standing : Standing) (known : Held) (spoken waits : Bool) → uttered_of item ≡ said commit →
       Step M s c (session (item ∷ left) total (Writing (writer standing known spoken waits Between))) c (session left total (Writing (writer standing known spoken waits (Ending Journal)))) []
   takes-commit s c item left total standing known spoken waits is =
       takes s c item left total standing known spoken waits (Ending Journal) (ap Some (sym is))
-      (λ o p g f. record { desk = f.fits.phase.desk; spoken = f.fits.phase.spoken; waits = f.fits.phase.waits; stage = f.fits.phase.stage; wants = wants-none (lock_of (Ending Journal)) (opened_of c.locks s) f.fits.phase.wants; ends = tt })
+      (λ o p g f. record { desk = f.fits.phase.desk; spoken = f.fits.phase.spoken; waits = f.fits.phase.waits; stage = (f.fits.phase.stage, tt); wants = wants-none (lock_of (Ending Journal)) (opened_of c.locks s) f.fits.phase.wants; ends = tt; claims = tt })
 
   -- ---- its job
 
@@ -83,7 +86,7 @@ module _ (M : Model) (orderly : IsOrderly M) where
       Step M s c (session left total (Writing (writer standing known spoken waits (Working item Due)))) c (session left total (Writing (writer standing known spoken waits (Working item Out)))) []
   hands-out s c left total standing known spoken waits item =
       rests-by M orderly s c left total (Writing (writer standing known spoken waits (Working item Due))) (Writing (writer standing known spoken waits (Working item Out))) refl
-      (λ o p g f. record { desk = f.fits.phase.desk; spoken = f.fits.phase.spoken; waits = f.fits.phase.waits; stage = f.fits.phase.stage; wants = f.fits.phase.wants; ends = tt })
+      (λ o p g f. record { desk = f.fits.phase.desk; spoken = f.fits.phase.spoken; waits = f.fits.phase.waits; stage = f.fits.phase.stage; wants = f.fits.phase.wants; ends = tt; claims = tt })
 
   pub returns-done : (s : ℕ) (c : Shared) (left : List Item) (total : ℕ) (standing : Standing) (known : Held) (spoken waits : Bool) (item : Item) (r : TxRecord) → IsFound M c.word standing (uttered_of item) (knows known) (Done r) →
       Step M s c (session left total (Writing (writer standing known spoken waits (Working item Out)))) c (session left total (Writing (writer standing known spoken waits (Saying item r (Claiming 0))))) []
@@ -96,6 +99,7 @@ module _ (M : Model) (orderly : IsOrderly M) where
         stage = (f.fits.phase.stage.0, (found, own-none (needs_at p s) r.writes));
         wants = wants-none (lock_of (Saying item r (Claiming 0))) (opened_of c.locks s) f.fits.phase.wants;
         ends = tt;
+        claims = claimed-none p s r.writes;
       })
 
   pub returns-lacking : (s : ℕ) (c : Shared) (left : List Item) (total : ℕ) (standing : Standing) (known : Held) (spoken waits : Bool) (item : Item) (next : Need) (later : List Need) → IsFound M c.word standing (uttered_of item) (knows known) (Missing next later) →
@@ -109,6 +113,7 @@ module _ (M : Model) (orderly : IsOrderly M) where
         stage = (f.fits.phase.stage.0, λ all t m agrees. (found all t m agrees).0.asked);
         wants = wants-none (lock_of (Working item (Lacking next))) (opened_of c.locks s) f.fits.phase.wants;
         ends = tt;
+        claims = tt;
       })
 
   -- a line is named for a room
@@ -123,6 +128,7 @@ module _ (M : Model) (orderly : IsOrderly M) where
         stage = (f.fits.phase.stage.0, (f.fits.phase.stage.1, within));
         wants = wants-none (lock_of (Working item (Housing room key))) (opened_of c.locks s) f.fits.phase.wants;
         ends = tt;
+        claims = tt;
       })
 
   -- no line is bad: the committed lines under the session's writes are sound, and agree with what it knows
@@ -138,10 +144,11 @@ module _ (M : Model) (orderly : IsOrderly M) where
   pub reads : (s : ℕ) (c : Shared) (shelf : Shelf) (left : List Item) (total : ℕ) (standing : Standing) (known new : Held) (spoken waits : Bool) (item : Item) (a b : Work) (n : Need) →
       ((got : List LockNeed) → WorkFits M got standing (uttered_of item) (knows known) a → IsLocked got n) → ((got : List LockNeed) → WorkFits M got standing (uttered_of item) (knows known) a → WorkFits M got standing (uttered_of item) (knows new) b) →
       ((ws : List Write) (seat : Seat) → HasSeat (Working item a) ws seat → seat ≡ seat_writing ws) → ((ws : List Write) (seat : Seat) → seat ≡ seat_writing ws → HasSeat (Working item b) ws seat) →
+      ((p : Place) → ClaimsFit p s (Working item a) → ClaimsFit p s (Working item b)) → ((o : Opening) (p : Place) → ClaimsFit p s (Working item a) → IsCounted o p c.shelf → IsCounted o p shelf) →
       lock_of_work (uttered_of item) a ≡ None → KeepsOthers s c.shelf shelf → shelf.now ≡ c.shelf.now → shelf.seat s ≡ c.shelf.seat s → Learns s c.shelf n known new →
       Step M s c (session left total (Writing (writer standing known spoken waits (Working item a)))) (with_shelf shelf c) (session left total (Writing (writer standing new spoken waits (Working item b)))) []
-  reads s c shelf left total standing known new spoken waits item a b n locked fits from to needless others now mine more =
-      learns-on M orderly s c shelf left total standing known new spoken waits (Working item a) (Working item b) refl others now
+  reads s c shelf left total standing known new spoken waits item a b n locked fits from to claims counts needless others now mine more =
+      learns-on M orderly s c shelf left total standing known new spoken waits (Working item a) (Working item b) refl others now (λ o p g f. counts o p f.fits.phase.claims f.counted)
       (λ o p g f.
       let w : Writes M o p g s standing (Some (uttered_of item)) = f.here.stands.state in
       let ws = (g.desk s).writes in
@@ -164,4 +171,5 @@ module _ (M : Model) (orderly : IsOrderly M) where
         stage = (f.fits.phase.stage.0, fits (needs_at p s) f.fits.phase.stage.1);
         wants = wants-none (lock_of (Working item b)) (opened_of c.locks s) (subst (λ l. WantsAtMost l (opened_of c.locks s)) needless f.fits.phase.wants);
         ends = tt;
+        claims = claims p f.fits.phase.claims;
       })

@@ -1,5 +1,6 @@
 -- What ties a stage to the account, the locks and the store.
-use Rattle.std.specs.Prelude.{◌≡◌, ◌==◌, ℕ, Bool, true, false, not, List, [], take, length, Option, Some, None}
+use Rattle.std.specs.Prelude.{◌≡◌, ◌==◌, ◌||◌, ℕ, Bool, true, false, not, List, [], take, length, Option, Some, None}
+use Rattle.std.specs.List.{list_any, AllByRecursion}
 use Rattle.rdo_ast.specs.declared.reply.Standing.{Standing}
 use Rattle.rdo_ast.specs.declared.syntax.Item.{Item}
 use Rattle.rdo_ast.specs.Tree.{Uttered}
@@ -7,8 +8,9 @@ use Rattle.rdo_ast.specs.Views.{uttered_of}
 use Rattle.lock_needs.specs.declared.need.Need.{Need as LockNeed}
 use Rattle.lock_needs.specs.declared.party.OpenWant.{OpenWant}
 use Rattle.lock_tree_laws.specs.Forest.{opened_of}
-use Rattle.lock_tree_laws.specs.Wanted.{IsOf}
-use Rattle.rdb_account.specs.Places.{Place, Transaction}
+use Rattle.lock_tree_laws.specs.Wanted.{IsOf, needs_of}
+use Rattle.rdb_account.specs.Places.{Place, Transaction, is_done}
+use Rattle.rdb_account.specs.AskedFor.{is_need}
 use Rattle.rdb_account.specs.Lawful.{is_nowait}
 use Rattle.rdb_account.specs.Legal.{ends_by}
 use Rattle.line_view.specs.declared.need.Need.{Need}
@@ -17,7 +19,7 @@ use Rattle.line_view.specs.declared.writes.Write.{Write}
 use Rattle.line_view.specs.Held.{Held, knows}
 use Rattle.line_view.specs.Knowledge.{Knowledge, Lines, IsInOrder, Agrees}
 use Rattle.line_view.specs.Writes.{laid_all}
-use Rattle.kept_apart.specs.Guards.{AreOwn, line_node, is_guarded}
+use Rattle.kept_apart.specs.Guards.{AreOwn, line_node, is_guarded, may_write}
 use Rattle.kept_apart.specs.Alike.{IsGuarded}
 use Rattle.session_jobs.specs.Records.{Model, IsRight}
 use Rattle.session_jobs.specs.Asked.{AsksFor, is_lock_for}
@@ -26,15 +28,19 @@ use Rattle.session_jobs.specs.declared.jobs.TxRecord.{TxRecord}
 use Rattle.line_store.specs.Seats.{Seat, outside, beginning, writing, reading, changing, committing, rolling_back, dead, done_at, Adds}
 use Rattle.line_store.specs.Shelves.{Shelf, seen_by}
 use Rattle.lock_ties.specs.Ties.{IsTiedTo, needs_at}
+use Rattle.line_history.specs.Transactions.{IsAskedOver}
+use Rattle.store_counts.specs.Counts.{is_claimed, AreClaimed}
 use Rattle.stepped_jobs.specs.Needs.{IsLocked}
 use Rattle.line_steps.specs.Right.{Ground}
+use Rattle.line_steps.specs.Images.{journal_node}
 use Rattle.session_states.specs.declared.stage.Work.{Work}
 use Rattle.session_states.specs.declared.stage.Work.TheVariants.{Opening, Lacking, Housing, Fetching, Lodging}
 use Rattle.session_states.specs.declared.stage.Laying.{Laying}
 use Rattle.session_states.specs.declared.stage.Laying.TheVariants.{Claiming, Changing}
-use Rattle.session_states.specs.declared.stage.End.TheVariants.{Committing, RollingBack, Leaving}
+use Rattle.session_states.specs.declared.stage.End.{End}
+use Rattle.session_states.specs.declared.stage.End.TheVariants.{Ready, Committing, RollingBack, Leaving}
 use Rattle.session_states.specs.declared.stage.Stage.{Stage}
-use Rattle.session_states.specs.declared.stage.Stage.TheVariants.{Between, Working, Saying, Ending}
+use Rattle.session_states.specs.declared.stage.Stage.TheVariants.{Between, Working, Reserving, Saying, Ending}
 use Rattle.session_states.specs.declared.stage.Writer.{Writer}
 use Rattle.session_states.specs.declared.stage.ReaderStage.{ReaderStage}
 use Rattle.session_states.specs.declared.stage.ReaderStage.TheVariants as look
@@ -61,17 +67,40 @@ WorkFits M got standing item known (Fetching n) = IsLocked got n
 WorkFits M got standing item known (Lodging room key) = (is_guarded got (line_node key) ≡ true) × (key.area ≡ room.area)
 WorkFits M got standing item known _ = Unit {0}
 
--- the record is right for what is known, and the lines of the writes before the place are locked
-abbrev pub LayingFits : Model → List ℕ → List LockNeed → Standing → Uttered → Knowledge → TxRecord → Laying → Type 0
-LayingFits M word got standing item known r (Claiming place) = IsRecord M word standing item known r × AreOwn got (take place r.writes)
-LayingFits M word got standing item known r Changing = Unit {0}
+-- these are among the locks that are got
+abbrev pub AreGot : List LockNeed → List LockNeed → Type 0
+AreGot got = AllByRecursion (λ n. list_any (is_need n.node n.mode) got ≡ true)
+
+-- What a START_TRANSACTION reserves it asks for, and what stands before the place is got. Its record is right for what is known.
+pub record ReservingFits (M : Model) (word : List ℕ) (got : List LockNeed) (standing : Standing) (item : Uttered) (known : Knowledge) (r : TxRecord) (locks : List LockNeed) (place : ℕ) : Type 0 where
+  pub record_is : IsRecord M word standing item known r
+  pub asked : AllByRecursion (IsAskedOver M standing (Some item) known) locks
+  pub reserved : AreGot got (take place locks)
+
+-- The record is right for what is known, and the lines of the writes before the place are locked. Once it is laid, its transaction stays open behind its reply.
+abbrev pub LayingFits : Model → List ℕ → List LockNeed → Standing → Uttered → Knowledge → Bool → TxRecord → Laying → Type 0
+LayingFits M word got standing item known spoken r (Claiming place) = IsRecord M word standing item known r × AreOwn got (take place r.writes)
+LayingFits M word got standing item known spoken r Changing = (spoken || is_done r.reply) ≡ true
+
+-- a COMMIT that is to begin or has begun has the journal for itself
+abbrev pub EndFits : List LockNeed → End → Type 0
+EndFits got Ready = may_write got journal_node ≡ true
+EndFits got Committing = may_write got journal_node ≡ true
+EndFits got end = Unit {0}
 
 -- It doesn't end its transaction. A COMMIT or ROLLBACK comes once something was said.
 abbrev pub StageFits : Model → List ℕ → List LockNeed → Standing → Held → Bool → Stage → Type 0
 StageFits M word got standing known spoken Between = spoken ≡ true
 StageFits M word got standing known spoken (Working item work) = (ends_by (uttered_of item) ≡ false) × WorkFits M got standing (uttered_of item) (knows known) work
-StageFits M word got standing known spoken (Saying item r laying) = (ends_by (uttered_of item) ≡ false) × LayingFits M word got standing (uttered_of item) (knows known) r laying
-StageFits M word got standing known spoken (Ending end) = spoken ≡ true
+StageFits M word got standing known spoken (Reserving item r locks place) = (ends_by (uttered_of item) ≡ false) × ReservingFits M word got standing (uttered_of item) (knows known) r locks place
+StageFits M word got standing known spoken (Saying item r laying) = (ends_by (uttered_of item) ≡ false) × LayingFits M word got standing (uttered_of item) (knows known) spoken r laying
+StageFits M word got standing known spoken (Ending end) = (spoken ≡ true) × EndFits got end
+
+-- The account has it that EX was got on the lines whose locks were wanted, as lines, whatever covers them.
+abbrev pub ClaimsFit : Place → ℕ → Stage → Type 0
+ClaimsFit p s (Working item (Lodging room key)) = is_claimed p s key ≡ true
+ClaimsFit p s (Saying item r (Claiming place)) = AreClaimed p s (take place r.writes)
+ClaimsFit p s stage = Unit {0}
 
 -- ---- the store
 
@@ -122,6 +151,7 @@ pub record WriterFits (M : Model) (p : Place) (g : Ground) (c : Shared) (s : ℕ
   pub stage : StageFits M c.word (needs_at p s) w.standing w.known w.spoken w.stage
   pub wants : WantsAtMost (lock_of w.stage) (opened_of c.locks s)
   pub ends : IsAtEnd left w.stage
+  pub claims : ClaimsFit p s w.stage
 
 -- a reader's statement doesn't end its transaction
 abbrev pub ReaderStageFits : Bool → ReaderStage → Type 0
@@ -144,11 +174,12 @@ PhaseFits M p g c s left (Writing w) = WriterFits M p g c s left w
 PhaseFits M p g c s left (Reading r) = ReaderFits p g c s r
 PhaseFits M p g c s left Over = (c.shelf.seat s ≡ outside) × (opened_of c.locks s ≡ None)
 
--- The store has what a dead session wrote, and whether it died in its commit.
+-- The store has what a dead session wrote, and whether it died in its commit, for which it has the journal still.
 pub record DeadFits (g : Ground) (c : Shared) (s : ℕ) (x : Phase) : Type 0 where
   pub writes : List Write
   pub seat : c.shelf.seat s ≡ dead (commits_in x) writes
   pub same : commits_in x ≡ true → writes ≡ (g.desk s).writes
+  pub flies : commits_in x ≡ true → may_write (needs_of c.locks s) journal_node ≡ true
 
 abbrev pub LifeFits : Model → Place → Ground → Shared → ℕ → List Item → Phase → Life → Type 0
 LifeFits M p g c s left x Alive = PhaseFits M p g c s left x

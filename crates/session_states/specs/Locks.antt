@@ -20,7 +20,7 @@ use Rattle.session_states.specs.declared.stage.Laying.TheVariants.{Claiming, Cha
 use Rattle.session_states.specs.declared.stage.End.{End}
 use Rattle.session_states.specs.declared.stage.End.TheVariants.{Journal}
 use Rattle.session_states.specs.declared.stage.Stage.{Stage}
-use Rattle.session_states.specs.declared.stage.Stage.TheVariants.{Between, Working, Saying, Ending}
+use Rattle.session_states.specs.declared.stage.Stage.TheVariants.{Between, Working, Reserving, Saying, Ending}
 
 abbrev pub lock_for_area : Uttered → ℕ → LockNeed
 lock_for_area item area = need (area_node area) (area_mode item area)
@@ -55,5 +55,6 @@ lock_of_end _ = None
 abbrev pub lock_of : Stage → Option LockNeed
 lock_of Between = None
 lock_of (Working item work) = lock_of_work (uttered_of item) work
+lock_of (Reserving item r locks place) = slice_get locks place
 lock_of (Saying item r laying) = lock_of_laying r.writes laying
 lock_of (Ending end) = lock_of_end end

@@ -4,6 +4,7 @@ use Rattle.rdb_account.specs.Events.{Event}
 use Rattle.rdb_account.specs.Places.{Opening, Place, place_from}
 use Rattle.session_jobs.specs.Records.{Model}
 use Rattle.line_steps.specs.Right.{Ground}
+use Rattle.store_counts.specs.Counts.{IsCounted}
 use Rattle.line_steps.specs.Steps.{Found, Here, Steps}
 use Rattle.session_states.specs.declared.stage.Member.{Member}
 use Rattle.session_states.specs.States.{seen}
@@ -15,12 +16,14 @@ pub record Finds (M : Model) (o : Opening) (p : Place) (g : Ground) (c : Shared)
   pub word : o.word ≡ c.word
   pub here : Here M o p g s (seen m)
   pub fits : Fits M p g c s m
+  pub counted : IsCounted o p c.shelf
 
 -- what it leaves behind the events
 pub record Leaves (M : Model) (o : Opening) (p : Place) (g : Ground) (d : Shared) (s : ℕ) (n : Member) (es : List Event) : Type 0 where
   pub ground : Ground
   pub steps : Steps M o p g s (seen n) ground es
   pub fits : Fits M (place_from o p es) ground d s n
+  pub counted : IsCounted o (place_from o p es) d.shelf
 
 -- A step of s, with these events, from wherever it finds that it fits.
 pub record Step (M : Model) (s : ℕ) (c : Shared) (m : Member) (d : Shared) (n : Member) (es : List Event) : Type 0 where
@@ -33,6 +36,7 @@ pub record FindsAny (M : Model) (o : Opening) (p : Place) (g : Ground) (c : Shar
   pub word : o.word ≡ c.word
   pub found : Found M o p g s (seen m)
   pub fits : Fits M p g c s m
+  pub counted : IsCounted o p c.shelf
 
 -- A step of the death or the recovery of s.
 pub record Fall (M : Model) (o : Opening) (s : ℕ) (c : Shared) (m : Member) (d : Shared) (n : Member) (es : List Event) : Type 0 where

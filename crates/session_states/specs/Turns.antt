@@ -15,7 +15,7 @@ use Rattle.session_states.specs.declared.stage.Laying.TheVariants.{Claiming, Cha
 use Rattle.session_states.specs.declared.stage.End.{End}
 use Rattle.session_states.specs.declared.stage.End.TheVariants.{Journal, Ready, RollingBack}
 use Rattle.session_states.specs.declared.stage.Stage.{Stage}
-use Rattle.session_states.specs.declared.stage.Stage.TheVariants.{Between, Working, Saying, Ending}
+use Rattle.session_states.specs.declared.stage.Stage.TheVariants.{Between, Working, Reserving, Saying, Ending}
 use Rattle.session_states.specs.declared.stage.Writer.{Writer}
 
 -- an item is taken up
@@ -49,6 +49,7 @@ got_end end = end
 abbrev pub got : Stage → Stage
 got Between = Between
 got (Working item work) = Working item (got_work work)
+got (Reserving item r locks place) = Reserving item r locks (place + 1)
 got (Saying item r laying) = Saying item r (got_laying laying)
 got (Ending end) = Ending (got_end end)
 
@@ -57,8 +58,9 @@ abbrev pub IsPlace : List Write → Laying → Type 0
 IsPlace ws (Claiming place) = place < length ws
 IsPlace ws Changing = Unit {0}
 
--- and of the record's
+-- and of the record's, or the reservation is one of these
 abbrev pub IsWithin : Stage → Type 0
+IsWithin (Reserving item r locks place) = place < length locks
 IsWithin (Saying item r laying) = IsPlace r.writes laying
 IsWithin stage = Unit {0}
 

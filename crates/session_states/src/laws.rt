@@ -4,6 +4,7 @@ pub mod endings;
 pub mod outside;
 pub mod reading;
 pub mod refusing;
+pub mod reserving;
 pub mod storing;
 pub mod together;
 pub mod wanting;

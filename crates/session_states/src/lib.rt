@@ -13,12 +13,14 @@ pub use laws::endings::{the_store_works, transactions_end};
 pub use laws::outside::statements_stand_outside;
 pub use laws::reading::{readers_end, readers_step};
 pub use laws::refusing::{locks_are_refused, memory_is_wanting, starts_are_refused};
+pub use laws::reserving::reservations_are_locked;
 pub use laws::storing::records_are_laid_and_said;
 pub use laws::together::sessions_are_kept;
 pub use laws::wanting::locks_are_wanted;
 pub use laws::working::{statements_are_worked, what_is_locked_is_read};
 pub use locks::lock_of;
 pub use stage::{
-    End, Laying, Life, Member, Phase, Reader, ReaderStage, ReaderWork, Stage, Work, Writer,
+    End, Laying, Life, LockNeeds, Member, Phase, Reader, ReaderStage, ReaderWork, Stage, Work,
+    Writer,
 };
 pub use turns::{Spoken, behind_got, come_back, speak, take_up};

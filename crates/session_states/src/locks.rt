@@ -143,6 +143,7 @@ pub fn lock_of(stage: &Stage) -> Option<LockNeed>
     match stage {
         Stage::Between => None,
         Stage::Working(item, work) => lock_of_work(item, *work),
+        Stage::Reserving(_, _, locks, place) => locks.as_slice().get(*place).copied(),
         Stage::Saying(_, worked, laying) => lock_of_laying(&worked.writes, *laying),
         Stage::Ending(end) => lock_of_end(*end),
     }

@@ -1,6 +1,7 @@
 use crate::item_queue::ItemQueue;
 use line_view::{Known, Need, Room};
-use rdb_types::Dbkey;
+use lock_needs::Need as LockNeed;
+use rdb_types::{Dbkey, Items};
 use rdo_ast::reply::Standing;
 use rdo_ast::syntax::Item;
 use session_jobs::TxRecord;
@@ -48,6 +49,9 @@ pub enum End {
     Leaving,
 }
 
+/// Needs of the tree of locks.
+pub type LockNeeds = Items<LockNeed>;
+
 /// How far a read-write transaction has come.
 #[derive(Drop)]
 pub enum Stage {
@@ -55,6 +59,8 @@ pub enum Stage {
     Between,
     /// A statement is worked.
     Working(Item, Work),
+    /// A START_TRANSACTION was worked. What it reserves is locked in turn: the lock at this place is wanted.
+    Reserving(Item, TxRecord, LockNeeds, usize),
     /// A statement was worked, and is said once its writes are laid.
     Saying(Item, TxRecord, Laying),
     Ending(End),

@@ -74,6 +74,11 @@ pub fn behind_got(stage: Stage) -> Stage
     match stage {
         Stage::Between => Stage::Between,
         Stage::Working(item, work) => Stage::Working(item, work_behind_got(work)),
+        Stage::Reserving(item, worked, locks, place) => {
+            // (so the place behind it is a number)
+            let _count = locks.len();
+            Stage::Reserving(item, worked, locks, place + 1)
+        }
         Stage::Saying(item, worked, laying) => {
             let next = laying_behind_got(laying, &worked.writes);
             Stage::Saying(item, worked, next)

@@ -22,10 +22,12 @@ use Rattle.session_jobs.specs.declared.jobs.Found.{Found}
 use Rattle.session_jobs.specs.declared.jobs.Found.TheVariants as found
 use Rattle.line_view.specs.Stops.{Lacks}
 use Rattle.session_jobs.specs.Asked.{locks}
-use Rattle.session_jobs.specs.Jobs.{IsFound, AreAsked}
+use Rattle.session_jobs.specs.declared.jobs.Job.{Job}
+use Rattle.session_jobs.specs.Jobs.{IsFound, AreAsked, HasCause, NamesOnce}
 use Rattle.sound_maps.specs.Maps.{IsSoundWith}
 use Rattle.whole_statements.specs.Sound.{DoneOn}
 use Rattle.whole_statements.specs.Standings.{IsReading}
+use Rattle.whole_statements.specs.Ways.{TakesLocks}
 use Rattle.rdb_meaning.proofs.Unchanged.{is_writing, unchanged}
 use Rattle.rdb_types.specs.declared.keys.Dbkey.{Dbkey}
 use Rattle.rdo_ast.specs.declared.reply.Reply.{Reply}
@@ -87,3 +89,19 @@ done word standing item known tables (found.Missing next later) are h = absurd h
 done word standing item known tables (found.Bad key) are h = absurd h
 done word standing item known tables found.Unworked are h = tt
 done word standing item known tables found.NoMemory are h = tt
+
+-- what is done is worked
+pub done-cause : (word : List ℕ) (standing : Standing) (item : Uttered) (t : Tables) (job : Job) (f : Found) → DoneOn word standing item t f → HasCause TakesLocks job f
+done-cause word standing item t job (found.Done r) h = tt
+done-cause word standing item t job (found.Missing next later) h = tt
+done-cause word standing item t job (found.Bad key) h = tt
+done-cause word standing item t job found.Unworked h = absurd h
+done-cause word standing item t job found.NoMemory h = tt
+
+-- and lacks nothing
+pub done-once : (word : List ℕ) (standing : Standing) (item : Uttered) (t : Tables) (f : Found) → DoneOn word standing item t f → NamesOnce f
+done-once word standing item t (found.Done r) h = tt
+done-once word standing item t (found.Missing next later) h = absurd h
+done-once word standing item t (found.Bad key) h = tt
+done-once word standing item t found.Unworked h = tt
+done-once word standing item t found.NoMemory h = tt

@@ -2,8 +2,9 @@ ghost use Rattle.std.specs.Prelude.{◌≡◌, false};
 ghost use Rattle.rdo_ast.specs.Views.{uttered_of};
 ghost use Rattle.rdb_meaning.specs.Contents.{no_tables as empty_tables};
 ghost use Rattle.session_jobs.specs.Asked.{locks};
-ghost use Rattle.session_jobs.specs.Jobs.{IsFoundFor, IsOutside, NamesNoNeed};
+ghost use Rattle.session_jobs.specs.Jobs.{IsFoundFor, HasCause, NamesOnce, IsOutside, NamesNoNeed};
 ghost use Rattle.whole_statements.specs.Standings.{IsReading};
+ghost use Rattle.whole_statements.specs.Ways.{TakesLocks};
 ghost use Rattle.sound_maps.specs.Maps.{IsSoundWith};
 ghost use Rattle.whole_statements.specs.Sound.{DoneOn};
 
@@ -59,7 +60,9 @@ fn do_on(tables: Tables, job: &Job) -> Found
 fn read_and_do(job: &Job) -> Found
     requires reads { IsReading job.now.standing }
     requires locks { locks job.now.standing (uttered_of job.now.item) ≡ false }
-    ensures { IsFoundFor IsSoundWith job.now result }
+    ensures right { IsFoundFor IsSoundWith job.now result }
+    ensures cause { HasCause TakesLocks job.now result }
+    ensures once { NamesOnce result }
 {
     match read_tables(job.alloc, &job.known) {
         Ok(tables) => do_on(tables, job),
@@ -75,6 +78,8 @@ fn read_and_do(job: &Job) -> Found
 // What the job comes to.
 fn found_for(job: &Job) -> Found
     ensures right { IsFoundFor IsSoundWith job.now result }
+    ensures cause { HasCause TakesLocks job.now result }
+    ensures once { NamesOnce result }
     ensures outside { IsOutside job.now → NamesNoNeed result }
 {
     match way_of(&job.standing, &job.item) {
@@ -87,15 +92,27 @@ fn found_for(job: &Job) -> Found
 impl Statements for WholeStatements {
     ghost use Rattle.sound_maps.specs.Maps.{IsSoundWith};
     ghost use Rattle.sound_maps.specs.Laws.{orderly, empty};
+    ghost use Rattle.whole_statements.specs.Ways.{TakesLocks};
+
+    // Nothing is kept: each job reads all tables.
+    type Kept = ();
 
     ghost stands = { IsSoundWith };
 
-    fn work(job: Job) -> Answer {
+    ghost fits = { λ kept known. Unit {0} };
+
+    ghost leaves = { TakesLocks };
+
+    fn nothing() {}
+
+    fn work(job: Job, kept: ()) -> Answer<()> {
         let found = found_for(&job);
-        Answer { job, found }
+        Answer { job, kept, found }
     }
 
     ghost orderly = { orderly };
 
     ghost empty = { empty };
+
+    ghost lasts = { λ kept old new fits same. tt };
 }

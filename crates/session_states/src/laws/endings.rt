@@ -13,7 +13,7 @@ ghost use Rattle.rdb_account.specs.Lawful.{never_sleeps};
 ghost use Rattle.line_view.specs.Held.{Held, nothing};
 ghost use Rattle.line_store.specs.Seats.{beginning, committing_by, rolled_back};
 ghost use Rattle.line_store.specs.Shelves.{Shelf};
-ghost use Rattle.line_store.specs.Calls.{Moves, GoesOn, IsDone, IsCommitted};
+ghost use Rattle.line_store.specs.Calls.{Moves, IsDone, IsCommitted};
 ghost use Rattle.session_states.specs.declared.stage.Work.TheVariants.{Opening, Due};
 ghost use Rattle.session_states.specs.declared.stage.End.TheVariants.{Ready, Committing, RollingBack, Leaving};
 ghost use Rattle.session_states.specs.declared.stage.Stage.TheVariants.{Between, Working, Ending};
@@ -26,11 +26,11 @@ ghost use Rattle.session_states.specs.Steps.{Step};
 use session_jobs::Statements;
 
 /// A read-write transaction begins as the store is told to begin one. What the store does for a session in a step or more is seen by no
-/// account before it is done; then the transaction is open, or what it left is put away.
+/// account before it is done, also where a step of it fails; then the transaction is open, or what it left is put away.
 pub fn the_store_works<S: Statements>()
     ensures begins { (s : ℕ) (c : Shared) (shelf : Shelf) (item : Item) (left : List Item) (total : ℕ) (kind : Standing) (waits : Bool) → begins (uttered_of item) ≡ Some kind → is_writer kind ≡ true → never_sleeps kind ≡ not waits → Moves s beginning c.shelf shelf → Step S.stands s c (session (item ∷ left) total Outside) (with_shelf shelf c) (session left total (Writing (writer Closed nothing false waits (Working item Opening)))) (Began s kind ∷ []) }
     ensures opens { (s : ℕ) (c : Shared) (shelf : Shelf) (left : List Item) (total : ℕ) (standing : Standing) (known : Held) (spoken waits : Bool) (item : Item) → IsDone s c.shelf shelf → Step S.stands s c (session left total (Writing (writer standing known spoken waits (Working item Opening)))) (with_shelf shelf c) (session left total (Writing (writer standing known spoken waits (Working item Due)))) [] }
-    ensures goes_on { (s : ℕ) (c : Shared) (shelf : Shelf) (left : List Item) (total : ℕ) (x : Phase) → GoesOn s c.shelf shelf → Step S.stands s c (session left total x) (with_shelf shelf c) (session left total x) [] }
+    ensures goes_on { (s : ℕ) (c : Shared) (shelf : Shelf) (left : List Item) (total : ℕ) (x : Phase) → Moves s (c.shelf.seat s) c.shelf shelf → Step S.stands s c (session left total x) (with_shelf shelf c) (session left total x) [] }
     ensures commits { (s : ℕ) (c : Shared) (shelf : Shelf) (left : List Item) (total : ℕ) (standing : Standing) (known : Held) (spoken waits : Bool) → Moves s (committing_by (c.shelf.seat s)) c.shelf shelf → Step S.stands s c (session left total (Writing (writer standing known spoken waits (Ending Ready)))) (with_shelf shelf c) (session left total (Writing (writer standing known spoken waits (Ending Committing)))) [] }
     ensures closes { (s : ℕ) (c : Shared) (shelf : Shelf) (left : List Item) (total : ℕ) → IsDone s c.shelf shelf → Step S.stands s c (session left total Closing) (with_shelf shelf c) (session left total Outside) [] }
 {}

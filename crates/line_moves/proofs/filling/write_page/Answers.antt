@@ -1,12 +1,13 @@
-use Rattle.std.proofs.Common.{arith, inr, ◌≡◌, ◌-◌, ◌≤◌, ◌∙◌, ℕ, List, sym, subst, slice_index_or}
+use Rattle.std.proofs.Common.{arith, inl, inr, ⊎_elim, ◌≡◌, ◌-◌, ◌≤◌, ◌∙◌, ℕ, List, sym, subst, slice_index_or}
 use Rattle.rdb_page.specs.Page.{IsUnused}
-use Rattle.rdb_outside.specs.Disk.{Pending}
+use Rattle.rdb_outside.specs.Disk.{Pending, Puts}
 use Rattle.stable_lines.specs.Slots.{area_file}
-use Rattle.line_moves.specs.Lines.{IsStarted}
+use Rattle.line_moves.specs.Lines.{IsStarted, PutsOnly}
 use Rattle.line_moves.proofs.Runs.{reads_once, facts_read, writes_none, writes_one, more_behind, read_pends, here_at, still_tells}
 use Rattle.line_moves.proofs.KeyPlaces.{area_is}
 use Rattle.line_moves.proofs.PageWrite.{page_written}
 use Rattle.line_moves.proofs.FilledPages.{SameLines, some_there, got_pair, sure_filled, put_more}
+use Rattle.line_moves.proofs.OnlyPut.{keeps_lines, same_behind, elsewhere_behind, puts_only}
 use Rattle.line_moves.proofs.FirstLines.{same_lines, started_page, sure_started, class_started}
 use Rattle.line_moves.proofs.filling.write_page.Goals as goal
 
@@ -144,3 +145,55 @@ returns-in_default-clause-bad g c = let v = g.D.Disk.view in let old = v c.args.
     let same : y ≡ old.content f at = c.in_ok-read.ensures.bytes t ∙ (λ i. old.content (c.area_file-file.ensures i) (c.slot_of-slot.ensures i)) in
     let started = subst (λ (b : List ℕ). IsStarted c.args.place (slice_index_or c.args.lines.now c.args.from c.index-lines-from.result).0.area c.args.class b z) same c.start.ensures.started in
     c.in_default.ensures.refused (started_page _ c.args.place c.args.class (old.content f at) z names started page) (fit _ z got started)
+
+pub returns-in_err-read-clause-changes : goal.returns-in_err-read-clause-changes
+returns-in_err-read-clause-changes g c = let v = g.D.Disk.view in let old = v c.args.disk.now in let mid = v c.read.new.self in
+    let reads = reads_once old mid c.read.result c.read.ensures.counts c.read.ensures.kept in
+    λ t now was key. inl (keeps_lines old.content mid.content (reads.keeps t).content key)
+
+pub returns-in_default-clause-changes : goal.returns-in_default-clause-changes
+returns-in_default-clause-changes g c = let v = g.D.Disk.view in let old = v c.args.disk.now in let mid = v c.read.new.self in
+    let reads = reads_once old mid c.read.result c.read.ensures.counts c.read.ensures.kept in
+    λ t now was key. inl (keeps_lines old.content mid.content (reads.keeps t).content key)
+
+pub returns-in_err-write-clause-changes : goal.returns-in_err-write-clause-changes
+returns-in_err-write-clause-changes g c = let v = g.D.Disk.view in let old = v c.args.disk.now in let mid = v c.read.new.self in
+    let reads = reads_once old mid c.read.result c.read.ensures.counts c.read.ensures.kept in
+    let f = area_file c.args.place.file in let at = c.args.place.page - 1 in
+    let new = v c.write.new.self in let told = still_tells old mid reads.told in
+    let y = c.read.new.into in let z = c.start.new.page in let x = c.fill.new.page in
+    let got = got_pair c.args.lines.now c.args.from c.index-lines-from.result c.index-lines-from.result c.requires.within in
+    let names = c.requires.place _ got in
+    let first = (slice_index_or c.args.lines.now c.args.from c.index-lines-from.result).0 in
+    let further = c.in-Ok.ensures.further in
+    λ t now was.
+    let left = g.met.D.Disk.content_left c.args.disk.now old.moment t (omega arith) in
+    let same : y ≡ old.content f at = c.in_ok-read.ensures.bytes t ∙ (λ i. old.content (c.area_file-file.ensures i) (c.slot_of-slot.ensures i)) in
+    let there = read_pends old left c.area_file-file.result f c.slot_of-slot.result at y c.area_file-file.ensures c.slot_of-slot.ensures (c.in_ok-read.ensures.bytes t) in
+    let is_page = started_page first c.args.place c.args.class y z names c.start.ensures.started (was.pages.page c.args.place.file c.args.place.page y (area_is first c.args.place names) names.is_data there) in
+    let lines_of = subst (λ (b : List ℕ). SameLines c.args.place b z) same (same_lines c.args.place first.area c.args.class y z c.start.ensures.started) in
+    let put : Puts c.area_file-file.result c.slot_of-slot.result x mid.content new.content → PutsOnly c.args.lines.now old.content new.content = λ puts. puts_only old.content new.content c.args.lines.now c.args.from c.in-Ok.next c.args.place z x (omega (arith, further.0)) lines_of (c.in-Ok.ensures.fills is_page)
+    (here_at new c.area_file-file.result f c.slot_of-slot.result at x c.area_file-file.ensures c.slot_of-slot.ensures puts.here)
+    (elsewhere_behind old mid new c.area_file-file.result c.args.place.file c.args.place.page c.slot_of-slot.result x c.area_file-file.ensures c.slot_of-slot.ensures (reads.keeps t).content puts) in
+    ⊎_elim (λ none key. inl (same_behind old mid new (reads.keeps t).content none key)) put (c.in_err-write.ensures.failed (told t))
+
+pub returns-clause-changes : goal.returns-clause-changes
+returns-clause-changes g c = let v = g.D.Disk.view in let old = v c.args.disk.now in let mid = v c.read.new.self in
+    let reads = reads_once old mid c.read.result c.read.ensures.counts c.read.ensures.kept in
+    let f = area_file c.args.place.file in let at = c.args.place.page - 1 in
+    let new = v c.write.new.self in let told = still_tells old mid reads.told in
+    let y = c.read.new.into in let z = c.start.new.page in let x = c.fill.new.page in
+    let got = got_pair c.args.lines.now c.args.from c.index-lines-from.result c.index-lines-from.result c.requires.within in
+    let names = c.requires.place _ got in
+    let first = (slice_index_or c.args.lines.now c.args.from c.index-lines-from.result).0 in
+    let further = c.in-Ok.ensures.further in
+    λ t now was.
+    let left = g.met.D.Disk.content_left c.args.disk.now old.moment t (omega arith) in
+    let same : y ≡ old.content f at = c.in_ok-read.ensures.bytes t ∙ (λ i. old.content (c.area_file-file.ensures i) (c.slot_of-slot.ensures i)) in
+    let there = read_pends old left c.area_file-file.result f c.slot_of-slot.result at y c.area_file-file.ensures c.slot_of-slot.ensures (c.in_ok-read.ensures.bytes t) in
+    let is_page = started_page first c.args.place c.args.class y z names c.start.ensures.started (was.pages.page c.args.place.file c.args.place.page y (area_is first c.args.place names) names.is_data there) in
+    let lines_of = subst (λ (b : List ℕ). SameLines c.args.place b z) same (same_lines c.args.place first.area c.args.class y z c.start.ensures.started) in
+    let put : Puts c.area_file-file.result c.slot_of-slot.result x mid.content new.content → PutsOnly c.args.lines.now old.content new.content = λ puts. puts_only old.content new.content c.args.lines.now c.args.from c.in-Ok.next c.args.place z x (omega (arith, further.0)) lines_of (c.in-Ok.ensures.fills is_page)
+    (here_at new c.area_file-file.result f c.slot_of-slot.result at x c.area_file-file.ensures c.slot_of-slot.ensures puts.here)
+    (elsewhere_behind old mid new c.area_file-file.result c.args.place.file c.args.place.page c.slot_of-slot.result x c.area_file-file.ensures c.slot_of-slot.ensures (reads.keeps t).content puts) in
+    put (c.in_ok-write.ensures.written (told t))

@@ -1,11 +1,12 @@
-use Rattle.std.proofs.Common.{arith, ◌≡◌, ◌-◌, ◌∙◌, ℕ, List, inr, ap, sym, subst}
-use Rattle.rdb_outside.specs.Disk.{Pending}
+use Rattle.std.proofs.Common.{arith, ◌≡◌, ◌-◌, ◌∙◌, ℕ, List, inl, inr, ⊎_elim, ap, sym, subst}
+use Rattle.rdb_outside.specs.Disk.{Pending, Puts}
 use Rattle.stable_lines.specs.Slots.{area_file, line_on}
 use Rattle.line_moves.proofs.Runs.{reads_once, facts_read, writes_none, writes_one, more_behind, read_pends, here_at, still_tells}
 use Rattle.line_moves.proofs.KeyPlaces.{area_is, place_content}
 use Rattle.rdb_page.specs.Whole.{IsPageOf}
-use Rattle.line_moves.specs.Changes.{Fits}
+use Rattle.line_moves.specs.Changes.{Fits, PutsOne}
 use Rattle.line_moves.proofs.LinePut.{line_changed, other_line}
+use Rattle.line_moves.proofs.OnlyPut.{keeps_lines, same_behind, elsewhere_behind, puts_one}
 use Rattle.line_moves.proofs.pages.change_line.Goals as goal
 
 pub returns-in_err-read-clause-writes : goal.returns-in_err-read-clause-writes
@@ -103,3 +104,43 @@ returns-in_default-clause-bad g c = let v = g.D.Disk.view in let old = v c.args.
     λ file slot is t page fits.
     let same : c.read.new.into ≡ old.content f at = c.in_ok-read.ensures.bytes t ∙ (λ i. old.content (c.area_file-file.ensures i) (c.slot_of-slot.ensures i)) in
     c.in_default.ensures.refused (subst (λ (b : List ℕ). IsPageOf c.args.place.file c.args.place.page b) (sym same) page) (subst (λ (b : List ℕ). Fits c.args.key c.args.value.now b) (sym same) fits)
+
+pub returns-in_err-read-clause-changes : goal.returns-in_err-read-clause-changes
+returns-in_err-read-clause-changes g c = let v = g.D.Disk.view in let old = v c.args.disk.now in let mid = v c.read.new.self in
+    let reads = reads_once old mid c.read.result c.read.ensures.counts c.read.ensures.kept in
+    λ t now was key. inl (keeps_lines old.content mid.content (reads.keeps t).content key)
+
+pub returns-in_default-clause-changes : goal.returns-in_default-clause-changes
+returns-in_default-clause-changes g c = let v = g.D.Disk.view in let old = v c.args.disk.now in let mid = v c.read.new.self in
+    let reads = reads_once old mid c.read.result c.read.ensures.counts c.read.ensures.kept in
+    λ t now was key. inl (keeps_lines old.content mid.content (reads.keeps t).content key)
+
+pub returns-in_err-write-clause-changes : goal.returns-in_err-write-clause-changes
+returns-in_err-write-clause-changes g c = let v = g.D.Disk.view in let old = v c.args.disk.now in let mid = v c.read.new.self in
+    let reads = reads_once old mid c.read.result c.read.ensures.counts c.read.ensures.kept in
+    let f = area_file c.args.place.file in let at = c.args.place.page - 1 in
+    let new = v c.write.new.self in let told = still_tells old mid reads.told in
+    λ t now was.
+    let left = g.met.D.Disk.content_left c.args.disk.now old.moment t (omega arith) in
+    let there = read_pends old left c.area_file-file.result f c.slot_of-slot.result at c.read.new.into c.area_file-file.ensures c.slot_of-slot.ensures (c.in_ok-read.ensures.bytes t) in
+    let is_page = was.pages.page c.args.place.file c.args.place.page c.read.new.into (area_is c.args.key c.args.place c.requires.place) c.requires.place.is_data there in
+    let same : c.read.new.into ≡ old.content f at = c.in_ok-read.ensures.bytes t ∙ (λ i. old.content (c.area_file-file.ensures i) (c.slot_of-slot.ensures i)) in
+    let put : Puts c.area_file-file.result c.slot_of-slot.result c.put_on.new.page mid.content new.content → PutsOne c.args.key c.args.value.now old.content new.content = λ puts. puts_one old.content new.content c.args.key c.args.place c.read.new.into c.put_on.new.page c.args.value.now (sym same) (c.in-Ok.ensures.puts is_page) (c.in-Ok.ensures.here is_page)
+    (here_at new c.area_file-file.result f c.slot_of-slot.result at c.put_on.new.page c.area_file-file.ensures c.slot_of-slot.ensures puts.here)
+    (elsewhere_behind old mid new c.area_file-file.result c.args.place.file c.args.place.page c.slot_of-slot.result c.put_on.new.page c.area_file-file.ensures c.slot_of-slot.ensures (reads.keeps t).content puts) in
+    ⊎_elim (λ none key. inl (same_behind old mid new (reads.keeps t).content none key)) put (c.in_err-write.ensures.failed (told t))
+
+pub returns-clause-changes : goal.returns-clause-changes
+returns-clause-changes g c = let v = g.D.Disk.view in let old = v c.args.disk.now in let mid = v c.read.new.self in
+    let reads = reads_once old mid c.read.result c.read.ensures.counts c.read.ensures.kept in
+    let f = area_file c.args.place.file in let at = c.args.place.page - 1 in
+    let new = v c.write.new.self in let told = still_tells old mid reads.told in
+    λ t now was.
+    let left = g.met.D.Disk.content_left c.args.disk.now old.moment t (omega arith) in
+    let there = read_pends old left c.area_file-file.result f c.slot_of-slot.result at c.read.new.into c.area_file-file.ensures c.slot_of-slot.ensures (c.in_ok-read.ensures.bytes t) in
+    let is_page = was.pages.page c.args.place.file c.args.place.page c.read.new.into (area_is c.args.key c.args.place c.requires.place) c.requires.place.is_data there in
+    let same : c.read.new.into ≡ old.content f at = c.in_ok-read.ensures.bytes t ∙ (λ i. old.content (c.area_file-file.ensures i) (c.slot_of-slot.ensures i)) in
+    let put : Puts c.area_file-file.result c.slot_of-slot.result c.put_on.new.page mid.content new.content → PutsOne c.args.key c.args.value.now old.content new.content = λ puts. puts_one old.content new.content c.args.key c.args.place c.read.new.into c.put_on.new.page c.args.value.now (sym same) (c.in-Ok.ensures.puts is_page) (c.in-Ok.ensures.here is_page)
+    (here_at new c.area_file-file.result f c.slot_of-slot.result at c.put_on.new.page c.area_file-file.ensures c.slot_of-slot.ensures puts.here)
+    (elsewhere_behind old mid new c.area_file-file.result c.args.place.file c.args.place.page c.slot_of-slot.result c.put_on.new.page c.area_file-file.ensures c.slot_of-slot.ensures (reads.keeps t).content puts) in
+    put (c.in_ok-write.ensures.written (told t))

@@ -3,6 +3,7 @@ use Rattle.rdb_types.specs.declared.keys.Dbkey.{Dbkey}
 use Rattle.rdb_types.specs.declared.keys.Tsn.{Tsn}
 use Rattle.rdb_types.specs.declared.keys.Line.{Line}
 use Rattle.rdb_outside.specs.Disk.{Pending}
+use Rattle.area_files.specs.Areas.{IsDataPage}
 use Rattle.rdb_outside.specs.Runs.{then_reads}
 use Rattle.stable_lines.specs.Slots.{ruj_file, area_file, file_of, slot_of, line_on, line_at, entry_at}
 use Rattle.stable_lines.specs.Facts.{IsNotOpen}
@@ -10,7 +11,8 @@ use Rattle.line_moves.specs.Changes.{IsPlaceOf, Fits}
 use Rattle.line_moves.proofs.KeyPlaces.{area_is, place_content}
 use Rattle.line_moves.proofs.LinePut.{same_key}
 use Rattle.line_moves.proofs.Runs.{pends, reads_once, facts_read, read_pends, still_tells, writes_none, reads_then_writes}
-use Rattle.line_moves.proofs.Undoes.{may_put_back, changed_by, before_apart, before_ended, fits_back, entry_there, key_there}
+use Rattle.line_moves.proofs.Undoes.{may_put_back, changed_by, before_apart, before_ended, fits_back, entry_there, key_there, before_there}
+use Rattle.line_moves.proofs.OnlyPut.{keeps_lines, some_page}
 use Rattle.line_moves.proofs.Bearing.{key_place, has_its_place, within_limit}
 use Rattle.line_moves.proofs.undoing.undo_line.Goals as goal
 
@@ -97,46 +99,50 @@ returns-in-Err-clause-keeps g c = let v = g.D.Disk.view in let v0 = v c.args.dis
 pub returns-in_err-read-clause-writes : goal.returns-in_err-read-clause-writes
 returns-in_err-read-clause-writes g c = let v = g.D.Disk.view in let v0 = v c.args.disk.now in let v1 = v c.read.new.self in
     let reads = reads_once v0 v1 c.read.result c.read.ensures.counts c.read.ensures.kept in
-    (ruj_file c.args.member, c.args.index, writes_none (ruj_file c.args.member) c.args.index v0 v1 reads)
+    (1, 1, some_page, writes_none (area_file 1) 1 v0 v1 reads)
 
 pub returns-in_default-clause-writes : goal.returns-in_default-clause-writes
 returns-in_default-clause-writes g c = let v = g.D.Disk.view in let v0 = v c.args.disk.now in let v1 = v c.read.new.self in
     let reads = reads_once v0 v1 c.read.result c.read.ensures.counts c.read.ensures.kept in
-    (ruj_file c.args.member, c.args.index, writes_none (ruj_file c.args.member) c.args.index v0 v1 reads)
+    (1, 1, some_page, writes_none (area_file 1) 1 v0 v1 reads)
 
 pub returns-in_default-place_of-clause-writes : goal.returns-in_default-place_of-clause-writes
 returns-in_default-place_of-clause-writes g c = let v = g.D.Disk.view in let v0 = v c.args.disk.now in let v1 = v c.read.new.self in
     let reads = reads_once v0 v1 c.read.result c.read.ensures.counts c.read.ensures.kept in
-    (ruj_file c.args.member, c.args.index, writes_none (ruj_file c.args.member) c.args.index v0 v1 reads)
+    (1, 1, some_page, writes_none (area_file 1) 1 v0 v1 reads)
 
 pub returns-then-place-pages-clause-writes : goal.returns-then-place-pages-clause-writes
 returns-then-place-pages-clause-writes g c = let v = g.D.Disk.view in let v0 = v c.args.disk.now in let v1 = v c.read.new.self in
     let reads = reads_once v0 v1 c.read.result c.read.ensures.counts c.read.ensures.kept in
-    (ruj_file c.args.member, c.args.index, writes_none (ruj_file c.args.member) c.args.index v0 v1 reads)
+    (1, 1, some_page, writes_none (area_file 1) 1 v0 v1 reads)
 
 pub returns-in_err-line-clause-writes : goal.returns-in_err-line-clause-writes
 returns-in_err-line-clause-writes g c = let v = g.D.Disk.view in let v0 = v c.args.disk.now in let v1 = v c.read.new.self in
     let reads = reads_once v0 v1 c.read.result c.read.ensures.counts c.read.ensures.kept in
     let v2 = v c.line_at.new.disk in let both = then_reads v0 v1 v2 reads c.line_at.ensures.reads in
-    (ruj_file c.args.member, c.args.index, writes_none (ruj_file c.args.member) c.args.index v0 v2 both)
+    (1, 1, some_page, writes_none (area_file 1) 1 v0 v2 both)
 
 pub returns-then-line-tsn-clause-writes : goal.returns-then-line-tsn-clause-writes
 returns-then-line-tsn-clause-writes g c = let v = g.D.Disk.view in let v0 = v c.args.disk.now in let v1 = v c.read.new.self in
     let reads = reads_once v0 v1 c.read.result c.read.ensures.counts c.read.ensures.kept in
     let v2 = v c.line_at.new.disk in let both = then_reads v0 v1 v2 reads c.line_at.ensures.reads in
-    (ruj_file c.args.member, c.args.index, writes_none (ruj_file c.args.member) c.args.index v0 v2 both)
+    (1, 1, some_page, writes_none (area_file 1) 1 v0 v2 both)
 
 pub returns-in-Ok-clause-writes : goal.returns-in-Ok-clause-writes
 returns-in-Ok-clause-writes g c = let v = g.D.Disk.view in let v0 = v c.args.disk.now in let v1 = v c.read.new.self in
     let reads = reads_once v0 v1 c.read.result c.read.ensures.counts c.read.ensures.kept in
     let v2 = v c.line_at.new.disk in let both = then_reads v0 v1 v2 reads c.line_at.ensures.reads in let v3 = v c.change_line.new.disk in
-    let place = c.in-Some-place_of.place in (area_file place.file, place.page - 1, reads_then_writes v0 v2 v3 (area_file place.file) (place.page - 1) both c.change_line.ensures.writes)
+    let place = c.in-Some-place_of.place in let plain = c.in-Some-place_of.ensures.found.is_data in let first = plain.is_page.first in
+    let slot : place.page ≡ place.page - 1 + 1 = omega (arith, first) in
+    (place.file, place.page - 1, subst IsDataPage slot plain, reads_then_writes v0 v2 v3 (area_file place.file) (place.page - 1) both c.change_line.ensures.writes)
 
 pub returns-in-Err-clause-writes : goal.returns-in-Err-clause-writes
 returns-in-Err-clause-writes g c = let v = g.D.Disk.view in let v0 = v c.args.disk.now in let v1 = v c.read.new.self in
     let reads = reads_once v0 v1 c.read.result c.read.ensures.counts c.read.ensures.kept in
     let v2 = v c.line_at.new.disk in let both = then_reads v0 v1 v2 reads c.line_at.ensures.reads in let v3 = v c.change_line.new.disk in
-    let place = c.in-Some-place_of.place in (area_file place.file, place.page - 1, reads_then_writes v0 v2 v3 (area_file place.file) (place.page - 1) both c.change_line.ensures.writes)
+    let place = c.in-Some-place_of.place in let plain = c.in-Some-place_of.ensures.found.is_data in let first = plain.is_page.first in
+    let slot : place.page ≡ place.page - 1 + 1 = omega (arith, first) in
+    (place.file, place.page - 1, subst IsDataPage slot plain, reads_then_writes v0 v2 v3 (area_file place.file) (place.page - 1) both c.change_line.ensures.writes)
 
 pub returns-in_default-clause-undone : goal.returns-in_default-clause-undone
 returns-in_default-clause-undone g c = let v = g.D.Disk.view in let v0 = v c.args.disk.now in let v1 = v c.read.new.self in
@@ -338,3 +344,80 @@ returns-in-Err-clause-bad g c = let v = g.D.Disk.view in let v0 = v c.args.disk.
     c.change_line.ensures.bad bad_file bad_slot (search rules) told
     (facts.pages.page place.file place.page (v2.content (area_file place.file) (place.page - 1)) (area_is key place names) names.is_data (pends v2 left (area_file place.file) (place.page - 1)))
     (subst (λ (b : List ℕ). Fits key c.in-Some.entry.before b) (sym at_place) fits_there)
+
+pub returns-in_err-read-clause-restores : goal.returns-in_err-read-clause-restores
+returns-in_err-read-clause-restores g c = let v = g.D.Disk.view in let v0 = v c.args.disk.now in let v1 = v c.read.new.self in
+    let reads = reads_once v0 v1 c.read.result c.read.ensures.counts c.read.ensures.kept in
+    λ t now o undo it same got key. inl (keeps_lines v0.content v1.content (reads.keeps t).content key)
+
+pub returns-in_default-clause-restores : goal.returns-in_default-clause-restores
+returns-in_default-clause-restores g c = let v = g.D.Disk.view in let v0 = v c.args.disk.now in let v1 = v c.read.new.self in
+    let reads = reads_once v0 v1 c.read.result c.read.ensures.counts c.read.ensures.kept in
+    λ t now o undo it same got key. inl (keeps_lines v0.content v1.content (reads.keeps t).content key)
+
+pub returns-in_default-place_of-clause-restores : goal.returns-in_default-place_of-clause-restores
+returns-in_default-place_of-clause-restores g c = let v = g.D.Disk.view in let v0 = v c.args.disk.now in let v1 = v c.read.new.self in
+    let reads = reads_once v0 v1 c.read.result c.read.ensures.counts c.read.ensures.kept in
+    λ t now o undo it same got key. inl (keeps_lines v0.content v1.content (reads.keeps t).content key)
+
+pub returns-then-place-pages-clause-restores : goal.returns-then-place-pages-clause-restores
+returns-then-place-pages-clause-restores g c = let v = g.D.Disk.view in let v0 = v c.args.disk.now in let v1 = v c.read.new.self in
+    let reads = reads_once v0 v1 c.read.result c.read.ensures.counts c.read.ensures.kept in
+    λ t now o undo it same got key. inl (keeps_lines v0.content v1.content (reads.keeps t).content key)
+
+pub returns-in_err-line-clause-restores : goal.returns-in_err-line-clause-restores
+returns-in_err-line-clause-restores g c = let v = g.D.Disk.view in let v0 = v c.args.disk.now in let v1 = v c.read.new.self in
+    let reads = reads_once v0 v1 c.read.result c.read.ensures.counts c.read.ensures.kept in
+    let v2 = v c.line_at.new.disk in let both = then_reads v0 v1 v2 reads c.line_at.ensures.reads in
+    λ t now o undo it same got key. inl (keeps_lines v0.content v2.content (both.keeps t).content key)
+
+pub returns-then-line-tsn-clause-restores : goal.returns-then-line-tsn-clause-restores
+returns-then-line-tsn-clause-restores g c = let v = g.D.Disk.view in let v0 = v c.args.disk.now in let v1 = v c.read.new.self in
+    let reads = reads_once v0 v1 c.read.result c.read.ensures.counts c.read.ensures.kept in
+    let v2 = v c.line_at.new.disk in let both = then_reads v0 v1 v2 reads c.line_at.ensures.reads in
+    λ t now o undo it same got key. inl (keeps_lines v0.content v2.content (both.keeps t).content key)
+
+pub returns-in-Ok-clause-restores : goal.returns-in-Ok-clause-restores
+returns-in-Ok-clause-restores g c = let v = g.D.Disk.view in let v0 = v c.args.disk.now in let v1 = v c.read.new.self in
+    let reads = reads_once v0 v1 c.read.result c.read.ensures.counts c.read.ensures.kept in
+    let v2 = v c.line_at.new.disk in let both = then_reads v0 v1 v2 reads c.line_at.ensures.reads in
+    λ t now o undo it same got key.
+    let left0 = g.met.D.Disk.content_left c.args.disk.now v0.moment t (omega arith) in
+    let there0 = read_pends v0 left0 c.ruj_file-journal.result (ruj_file c.args.member) c.args.index c.args.index c.read.new.into c.ruj_file-journal.ensures refl (c.in_ok-read.ensures.bytes t) in
+    let stands = entry_there (Pending v0) now c.args.member c.args.index o c.read.new.into undo it.facts it.is_open it.first got there0 in
+    ⊎_elim (λ as_was. inl (as_was ∙ keeps_lines v0.content v2.content (both.keeps t).content key))
+    (λ here. inr (here.0 ∙ key_there c.read.new.into c.in-Some.entry o.tsn c.args.index undo c.in-Some.ensures.found stands, here.1 ∙ before_there c.read.new.into c.in-Some.entry o.tsn c.args.index undo c.in-Some.ensures.found stands))
+    (c.change_line.ensures.changes (still_tells v0 v2 both.told t) now (facts_read v0 v2 both t now it.facts) key)
+
+pub returns-in-Err-clause-restores : goal.returns-in-Err-clause-restores
+returns-in-Err-clause-restores g c = let v = g.D.Disk.view in let v0 = v c.args.disk.now in let v1 = v c.read.new.self in
+    let reads = reads_once v0 v1 c.read.result c.read.ensures.counts c.read.ensures.kept in
+    let v2 = v c.line_at.new.disk in let both = then_reads v0 v1 v2 reads c.line_at.ensures.reads in
+    λ t now o undo it same got key.
+    let left0 = g.met.D.Disk.content_left c.args.disk.now v0.moment t (omega arith) in
+    let there0 = read_pends v0 left0 c.ruj_file-journal.result (ruj_file c.args.member) c.args.index c.args.index c.read.new.into c.ruj_file-journal.ensures refl (c.in_ok-read.ensures.bytes t) in
+    let stands = entry_there (Pending v0) now c.args.member c.args.index o c.read.new.into undo it.facts it.is_open it.first got there0 in
+    ⊎_elim (λ as_was. inl (as_was ∙ keeps_lines v0.content v2.content (both.keeps t).content key))
+    (λ here. inr (here.0 ∙ key_there c.read.new.into c.in-Some.entry o.tsn c.args.index undo c.in-Some.ensures.found stands, here.1 ∙ before_there c.read.new.into c.in-Some.entry o.tsn c.args.index undo c.in-Some.ensures.found stands))
+    (c.change_line.ensures.changes (still_tells v0 v2 both.told t) now (facts_read v0 v2 both t now it.facts) key)
+
+pub returns-in_default-clause-nothing : goal.returns-in_default-clause-nothing
+returns-in_default-clause-nothing g c = let v = g.D.Disk.view in let v0 = v c.args.disk.now in let v1 = v c.read.new.self in
+    let reads = reads_once v0 v1 c.read.result c.read.ensures.counts c.read.ensures.kept in
+    λ is. reads
+
+pub returns-in_default-place_of-clause-nothing : goal.returns-in_default-place_of-clause-nothing
+returns-in_default-place_of-clause-nothing g c = let v = g.D.Disk.view in let v0 = v c.args.disk.now in let v1 = v c.read.new.self in
+    let reads = reads_once v0 v1 c.read.result c.read.ensures.counts c.read.ensures.kept in
+    λ is. reads
+
+pub returns-then-place-pages-clause-nothing : goal.returns-then-place-pages-clause-nothing
+returns-then-place-pages-clause-nothing g c = let v = g.D.Disk.view in let v0 = v c.args.disk.now in let v1 = v c.read.new.self in
+    let reads = reads_once v0 v1 c.read.result c.read.ensures.counts c.read.ensures.kept in
+    λ is. reads
+
+pub returns-then-line-tsn-clause-nothing : goal.returns-then-line-tsn-clause-nothing
+returns-then-line-tsn-clause-nothing g c = let v = g.D.Disk.view in let v0 = v c.args.disk.now in let v1 = v c.read.new.self in
+    let reads = reads_once v0 v1 c.read.result c.read.ensures.counts c.read.ensures.kept in
+    let v2 = v c.line_at.new.disk in
+    λ is. then_reads v0 v1 v2 reads c.line_at.ensures.reads

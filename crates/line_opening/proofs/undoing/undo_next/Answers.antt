@@ -1,6 +1,9 @@
-use Rattle.std.proofs.Common.{rules, ◌≡◌, ◌+◌, ◌-◌, ◌≤◌, ◌<◌, ◌∙◌, ℕ, inl, refl, subst, arith}
+use Rattle.std.proofs.Common.{rules, ◌≡◌, ◌+◌, ◌-◌, ◌≤◌, ◌<◌, ◌∙◌, ℕ, inl, inr, ⊎_elim, refl, subst, arith}
 use Rattle.rdb_outside.specs.Disk.{Pending}
-use Rattle.line_moves.proofs.Runs.{still_tells}
+use Rattle.rdb_outside.specs.Runs.{no_calls, then_reads}
+use Rattle.stable_lines.specs.Slots.{area_file}
+use Rattle.line_moves.proofs.Runs.{still_tells, writes_none, reads_then_writes}
+use Rattle.line_moves.proofs.OnlyPut.{keeps_lines, some_page}
 use Rattle.line_moves.proofs.FilledPages.{some_there}
 use Rattle.stable_lines.specs.Facts.{StandsAs}
 use Rattle.line_opening.specs.Undoing.{AreUndone}
@@ -9,7 +12,7 @@ use Rattle.line_opening.proofs.Standing.{stands_now, written_stands, leaves_on, 
 use Rattle.line_opening.proofs.undoing.undo_next.Goals as goal
 
 pub loop-back-init : goal.loop-back-init
-loop-back-init g c = record { size = c.requires; told = refl; no_fewer = omega arith; facts = λ t p o may same. may.facts; undone = λ t p o may same was. let all : c.args.entries ≡ c.args.entries - 0 = omega arith in subst (λ (n : ℕ). AreUndone (g.D.Disk.view c.args.disk.now).content o n) all was; ended = λ t p o key may same. inl refl; leaves = λ t p o may same. stands_now (g.D.Disk.view c.args.disk.now) p may.facts }
+loop-back-init g c = record { size = c.requires; reads = no_calls (g.D.Disk.view c.args.disk.now); told = refl; no_fewer = omega arith; facts = λ t p o may same. may.facts; undone = λ t p o may same was. let all : c.args.entries ≡ c.args.entries - 0 = omega arith in subst (λ (n : ℕ). AreUndone (g.D.Disk.view c.args.disk.now).content o n) all was; ended = λ t p o key may same. inl refl; leaves = λ t p o may same. stands_now (g.D.Disk.view c.args.disk.now) p may.facts }
 
 pub returns-in_err-undo_line-clause-keeps : goal.returns-in_err-undo_line-clause-keeps
 returns-in_err-undo_line-clause-keeps g c = let v = g.D.Disk.view in let before = v c.args.disk.now in let mid = v c.loop-back.disk in let new = v c.undo_line.new.disk in
@@ -42,8 +45,9 @@ loop-back-preserved g c = let v = g.D.Disk.view in let before = v c.args.disk.no
     let less : back < c.args.entries = search rules in
     record {
       size = c.undo_line.ensures.size;
-      told = c.undo_line.ensures.writes.2.told ∙ so_far.told;
-      no_fewer = let first = so_far.no_fewer in let then_no_fewer = c.undo_line.ensures.writes.2.no_fewer in omega (arith, first, then_no_fewer);
+      reads = then_reads before mid new so_far.reads (c.undo_line.ensures.nothing (search rules));
+      told = c.undo_line.ensures.writes.3.told ∙ so_far.told;
+      no_fewer = let first = so_far.no_fewer in let then_no_fewer = c.undo_line.ensures.writes.3.no_fewer in omega (arith, first, then_no_fewer);
       facts = λ t p o may same.
           c.undo_line.ensures.keeps (still_tells before mid so_far.told t) p o (one_of_it (Pending before) (Pending mid) p c.args.member o c.args.entries c.args.pages index may (so_far.facts t p o may same) (omega (arith, less)) (omega arith)) same;
       undone = λ t p o may same was.
@@ -61,7 +65,7 @@ loop-back-preserved g c = let v = g.D.Disk.view in let before = v c.args.disk.no
           let it = one_of_it (Pending before) (Pending mid) p c.args.member o c.args.entries c.args.pages index may (so_far.facts t p o may same) (omega (arith, less)) (omega arith) in
           let told = still_tells before mid so_far.told t in
           leaves_on before mid new (StandsAs p) (so_far.leaves t p o may same)
-          (written_stands mid new c.undo_line.ensures.writes.0 c.undo_line.ensures.writes.1 p c.undo_line.ensures.writes.2 told (so_far.facts t p o may same) (c.undo_line.ensures.keeps told p o it same));
+          (written_stands mid new (area_file c.undo_line.ensures.writes.0) c.undo_line.ensures.writes.1 p c.undo_line.ensures.writes.3 told (so_far.facts t p o may same) (c.undo_line.ensures.keeps told p o it same));
     }
 
 pub returns-clause-keeps : goal.returns-clause-keeps
@@ -81,7 +85,7 @@ returns-in_err-undo_line-clause-stands g c = let v = g.D.Disk.view in let before
     let it = one_of_it (Pending before) (Pending mid) p c.args.member o c.args.entries c.args.pages index may (so_far.facts t p o may same) (omega (arith, less)) (omega arith) in
     let told = still_tells before mid so_far.told t in
     leaves_on before mid new (StandsAs p) (so_far.leaves t p o may same)
-    (written_stands mid new c.undo_line.ensures.writes.0 c.undo_line.ensures.writes.1 p c.undo_line.ensures.writes.2 told (so_far.facts t p o may same) (c.undo_line.ensures.keeps told p o it same))
+    (written_stands mid new (area_file c.undo_line.ensures.writes.0) c.undo_line.ensures.writes.1 p c.undo_line.ensures.writes.3 told (so_far.facts t p o may same) (c.undo_line.ensures.keeps told p o it same))
 
 pub returns-in-Written-clause-stands : goal.returns-in-Written-clause-stands
 returns-in-Written-clause-stands g c = let v = g.D.Disk.view in let before = v c.args.disk.now in let mid = v c.loop-back.disk in let new = v c.undo_line.new.disk in
@@ -91,7 +95,7 @@ returns-in-Written-clause-stands g c = let v = g.D.Disk.view in let before = v c
     let it = one_of_it (Pending before) (Pending mid) p c.args.member o c.args.entries c.args.pages index may (so_far.facts t p o may same) (omega (arith, less)) (omega arith) in
     let told = still_tells before mid so_far.told t in
     leaves_on before mid new (StandsAs p) (so_far.leaves t p o may same)
-    (written_stands mid new c.undo_line.ensures.writes.0 c.undo_line.ensures.writes.1 p c.undo_line.ensures.writes.2 told (so_far.facts t p o may same) (c.undo_line.ensures.keeps told p o it same))
+    (written_stands mid new (area_file c.undo_line.ensures.writes.0) c.undo_line.ensures.writes.1 p c.undo_line.ensures.writes.3 told (so_far.facts t p o may same) (c.undo_line.ensures.keeps told p o it same))
 
 pub returns-in_err-undo_line-clause-bad : goal.returns-in_err-undo_line-clause-bad
 returns-in_err-undo_line-clause-bad g c = let v = g.D.Disk.view in let before = v c.args.disk.now in let mid = v c.loop-back.disk in let new = v c.undo_line.new.disk in
@@ -118,13 +122,52 @@ pub returns-clause-ended : goal.returns-clause-ended
 returns-clause-ended g c = λ t p o key may same. c.loop-back.invariant.ended t p o key may same
 
 pub returns-in_err-undo_line-clause-told : goal.returns-in_err-undo_line-clause-told
-returns-in_err-undo_line-clause-told g c = c.undo_line.ensures.writes.2.told ∙ c.loop-back.invariant.told
+returns-in_err-undo_line-clause-told g c = c.undo_line.ensures.writes.3.told ∙ c.loop-back.invariant.told
 
 pub returns-in_err-undo_line-clause-no_fewer : goal.returns-in_err-undo_line-clause-no_fewer
-returns-in_err-undo_line-clause-no_fewer g c = let first = c.loop-back.invariant.no_fewer in let then_no_fewer = c.undo_line.ensures.writes.2.no_fewer in omega (arith, first, then_no_fewer)
+returns-in_err-undo_line-clause-no_fewer g c = let first = c.loop-back.invariant.no_fewer in let then_no_fewer = c.undo_line.ensures.writes.3.no_fewer in omega (arith, first, then_no_fewer)
 
 pub returns-in-Written-clause-told : goal.returns-in-Written-clause-told
-returns-in-Written-clause-told g c = c.undo_line.ensures.writes.2.told ∙ c.loop-back.invariant.told
+returns-in-Written-clause-told g c = c.undo_line.ensures.writes.3.told ∙ c.loop-back.invariant.told
 
 pub returns-in-Written-clause-no_fewer : goal.returns-in-Written-clause-no_fewer
-returns-in-Written-clause-no_fewer g c = let first = c.loop-back.invariant.no_fewer in let then_no_fewer = c.undo_line.ensures.writes.2.no_fewer in omega (arith, first, then_no_fewer)
+returns-in-Written-clause-no_fewer g c = let first = c.loop-back.invariant.no_fewer in let then_no_fewer = c.undo_line.ensures.writes.3.no_fewer in omega (arith, first, then_no_fewer)
+
+pub returns-in_err-undo_line-clause-writes : goal.returns-in_err-undo_line-clause-writes
+returns-in_err-undo_line-clause-writes g c = let v = g.D.Disk.view in let w = c.undo_line.ensures.writes in
+    (w.0, w.1, w.2, reads_then_writes (v c.args.disk.now) (v c.loop-back.disk) (v c.undo_line.new.disk) (area_file w.0) w.1 c.loop-back.invariant.reads w.3)
+
+pub returns-in_err-undo_line-clause-restores : goal.returns-in_err-undo_line-clause-restores
+returns-in_err-undo_line-clause-restores g c = let v = g.D.Disk.view in let before = v c.args.disk.now in let mid = v c.loop-back.disk in let new = v c.undo_line.new.disk in
+    let so_far = c.loop-back.invariant in let back = c.loop-back.back in let index = c.args.entries - back in
+    let less : back < c.args.entries = search rules in
+    λ t p o may same key.
+    let it = one_of_it (Pending before) (Pending mid) p c.args.member o c.args.entries c.args.pages index may (so_far.facts t p o may same) (omega (arith, less)) (omega arith) in
+    let within = may.within in
+    let u = some_there o.entries (index - 1) (omega (arith, less, within)) in
+    ⊎_elim (λ as_was. inl (as_was ∙ keeps_lines before.content mid.content (so_far.reads.keeps t).content key))
+    (λ here. inr (record { index = index - 1; undo = u.0; is = u.1; key_is = here.0; line_is = here.1 }))
+    (c.undo_line.ensures.restores (still_tells before mid so_far.told t) p o u.0 it same u.1 key)
+
+pub returns-in-Written-clause-writes : goal.returns-in-Written-clause-writes
+returns-in-Written-clause-writes g c = let v = g.D.Disk.view in let w = c.undo_line.ensures.writes in
+    (w.0, w.1, w.2, reads_then_writes (v c.args.disk.now) (v c.loop-back.disk) (v c.undo_line.new.disk) (area_file w.0) w.1 c.loop-back.invariant.reads w.3)
+
+pub returns-in-Written-clause-restores : goal.returns-in-Written-clause-restores
+returns-in-Written-clause-restores g c = let v = g.D.Disk.view in let before = v c.args.disk.now in let mid = v c.loop-back.disk in let new = v c.undo_line.new.disk in
+    let so_far = c.loop-back.invariant in let back = c.loop-back.back in let index = c.args.entries - back in
+    let less : back < c.args.entries = search rules in
+    λ t p o may same key.
+    let it = one_of_it (Pending before) (Pending mid) p c.args.member o c.args.entries c.args.pages index may (so_far.facts t p o may same) (omega (arith, less)) (omega arith) in
+    let within = may.within in
+    let u = some_there o.entries (index - 1) (omega (arith, less, within)) in
+    ⊎_elim (λ as_was. inl (as_was ∙ keeps_lines before.content mid.content (so_far.reads.keeps t).content key))
+    (λ here. inr (record { index = index - 1; undo = u.0; is = u.1; key_is = here.0; line_is = here.1 }))
+    (c.undo_line.ensures.restores (still_tells before mid so_far.told t) p o u.0 it same u.1 key)
+
+pub returns-clause-writes : goal.returns-clause-writes
+returns-clause-writes g c = let v = g.D.Disk.view in (1, 1, some_page, writes_none (area_file 1) 1 (v c.args.disk.now) (v c.loop-back.disk) c.loop-back.invariant.reads)
+
+pub returns-clause-restores : goal.returns-clause-restores
+returns-clause-restores g c = let v = g.D.Disk.view in
+    λ t p o may same key. inl (keeps_lines (v c.args.disk.now).content (v c.loop-back.disk).content (c.loop-back.invariant.reads.keeps t).content key)

@@ -1,6 +1,6 @@
 use Rattle.std.proofs.Common.{◌≡◌, ◌≤◌, ◌-◌, ◌⊎◌, length, IsTrue}
 use Rattle.rdb_types.specs.declared.keys.Dbkey.{Dbkey}
-use Rattle.rdb_outside.specs.Disk.{Pending, LeavesOnly}
+use Rattle.rdb_outside.specs.Disk.{Pending, LeavesOnly, OnlyReads}
 use Rattle.stable_lines.specs.Slots.{line_at}
 use Rattle.stable_lines.specs.Progress.{Open, Progress}
 use Rattle.stable_lines.specs.Facts.{IsNotOpen, Facts, StandsAs}
@@ -12,6 +12,7 @@ invariant-loop-back g l =
     let before = g.D.Disk.view l.fn.disk in let now = g.D.Disk.view l.disk in
     record {
       size : length l.page ≡ 1024;
+      reads : OnlyReads before now;
       told : now.tells ≡ before.tells;
       no_fewer : before.faults ≤ now.faults;
       facts : IsTrue before.tells → (p : Progress) (o : Open) → MayUndo (Pending before) p l.member o l.entries l.pages → l.tsn ≡ o.tsn → Facts (Pending now) p;

@@ -1,4 +1,9 @@
-use Rattle.std.proofs.Common.{rules, ◌≤◌, length}
+use Rattle.std.proofs.Common.{rules, arith, ◌≡◌, ◌+◌, ◌-◌, ◌≤◌, inl, refl, length, subst}
+use Rattle.rdb_outside.specs.Runs.{no_calls}
+use Rattle.area_files.specs.Areas.{IsDataPage}
+use Rattle.line_moves.proofs.Runs.{writes_none}
+use Rattle.line_moves.proofs.OnlyPut.{some_page}
+use Rattle.stable_lines.specs.Slots.{area_file}
 use Rattle.line_seat.proofs.GroupSlots.{got_at}
 use Rattle.line_seat.proofs.CommitSteps.{may_still, entered_still, none_imaged, put_all, place_there}
 use Rattle.line_seat.proofs.commit.change_page.Goals as goal
@@ -46,3 +51,27 @@ pub unreachable-requires : goal.unreachable-requires
 unreachable-requires g c =
     let there = c.requires.placed c.args.at _ (got_at c.args.lines.now c.args.at c.index-lines-at.result (search rules)) in
     c.in_default.ensures.none there.0 there.1
+
+pub returns-then-at-lines-clause-writes : goal.returns-then-at-lines-clause-writes
+returns-then-at-lines-clause-writes g c = let old = g.D.Disk.view c.args.disk.now in (1, 1, some_page, writes_none (area_file 1) 1 old old (no_calls old))
+
+pub returns-then-at-lines-clause-changes : goal.returns-then-at-lines-clause-changes
+returns-then-at-lines-clause-changes g c = λ t now was key. inl refl
+
+pub returns-in_err-next-clause-writes : goal.returns-in_err-next-clause-writes
+returns-in_err-next-clause-writes g c =
+    let plain = (c.in-Some.ensures.found).is_data in let first = plain.is_page.first in
+    let slot : c.in-Some.place.page ≡ c.in-Some.place.page - 1 + 1 = omega (arith, first) in
+    (c.in-Some.place.file, c.in-Some.place.page - 1, subst IsDataPage slot plain, c.write_page.ensures.writes)
+
+pub returns-in_err-next-clause-changes : goal.returns-in_err-next-clause-changes
+returns-in_err-next-clause-changes g c = λ t now was. c.write_page.ensures.changes t now was
+
+pub returns-clause-writes : goal.returns-clause-writes
+returns-clause-writes g c =
+    let plain = (c.in-Some.ensures.found).is_data in let first = plain.is_page.first in
+    let slot : c.in-Some.place.page ≡ c.in-Some.place.page - 1 + 1 = omega (arith, first) in
+    (c.in-Some.place.file, c.in-Some.place.page - 1, subst IsDataPage slot plain, c.write_page.ensures.writes)
+
+pub returns-clause-changes : goal.returns-clause-changes
+returns-clause-changes g c = λ t now was. c.write_page.ensures.changes t now was

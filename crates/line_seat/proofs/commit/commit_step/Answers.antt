@@ -1,5 +1,11 @@
-use Rattle.std.proofs.Common.{◌∙◌, length, sym, subst}
+use Rattle.std.proofs.Common.{◌≡◌, ◌+◌, ◌∙◌, inl, inr, refl, length, sym, subst}
 use Rattle.rdb_outside.specs.Disk.{Pending}
+use Rattle.rdb_outside.specs.Runs.{no_calls}
+use Rattle.rdb_types.specs.declared.file.FileKind.TheVariants.{Area, Aij}
+use Rattle.new_database.specs.Maker.{aij_file}
+use Rattle.stable_lines.specs.Slots.{area_file}
+use Rattle.line_moves.proofs.Runs.{writes_none}
+use Rattle.line_moves.proofs.OnlyPut.{keeps_lines, lines_beside}
 use Rattle.stable_lines.specs.Progress.{flying}
 use Rattle.stable_lines.specs.Facts.{Facts}
 use Rattle.line_seat.specs.declared.commit.CommitStage.{CommitStage}
@@ -72,3 +78,61 @@ returns-in_ok-make_stable-in-Landing-clause-goes_on g c = let v = g.D.Disk.view 
           (c.make_stable-in-Landing.ensures.keeps t (flying f now) s.facts) (commit_of_it now member o c.args.group c.args.lines.now c.args.classes.now f c.requires.classes is) s.done;
       done = tt;
     }
+
+pub returns-in-Changing-clause-writes : goal.returns-in-Changing-clause-writes
+returns-in-Changing-clause-writes g c = let w = c.change_page.ensures.writes in (area_file w.0, w.1, inl (w.0, refl, w.2), w.3)
+
+pub returns-in-Changing-clause-changes : goal.returns-in-Changing-clause-changes
+returns-in-Changing-clause-changes g c = λ t now was. c.change_page.ensures.changes t now was
+
+pub returns-in-Imaging-clause-writes : goal.returns-in-Imaging-clause-writes
+returns-in-Imaging-clause-writes g c = let w = c.journal_image.ensures.writes in (aij_file, w.0, inr refl, w.1)
+
+pub returns-in-Imaging-clause-changes : goal.returns-in-Imaging-clause-changes
+returns-in-Imaging-clause-changes g c = let v = g.D.Disk.view in let w = c.journal_image.ensures.writes in
+    λ t now was key. inl (lines_beside (v c.args.disk.now) (v c.journal_image.new.disk) aij_file w.0 t (λ a. let bad : Aij ≡ Area = a in cc) w.1 key)
+
+pub returns-in_err-write_commit-in-Sealing-clause-writes : goal.returns-in_err-write_commit-in-Sealing-clause-writes
+returns-in_err-write_commit-in-Sealing-clause-writes g c = (aij_file, c.args.group.slot + length c.args.lines.now, inr refl, c.write_commit.ensures.writes)
+
+pub returns-in_err-write_commit-in-Sealing-clause-changes : goal.returns-in_err-write_commit-in-Sealing-clause-changes
+returns-in_err-write_commit-in-Sealing-clause-changes g c = let v = g.D.Disk.view in
+    λ t now was key. inl (lines_beside (v c.args.disk.now) (v c.write_commit.new.disk) aij_file (c.args.group.slot + length c.args.lines.now) t (λ a. let bad : Aij ≡ Area = a in cc) c.write_commit.ensures.writes key)
+
+pub returns-in_ok-write_commit-in-Sealing-clause-writes : goal.returns-in_ok-write_commit-in-Sealing-clause-writes
+returns-in_ok-write_commit-in-Sealing-clause-writes g c = (aij_file, c.args.group.slot + length c.args.lines.now, inr refl, c.write_commit.ensures.writes)
+
+pub returns-in_ok-write_commit-in-Sealing-clause-changes : goal.returns-in_ok-write_commit-in-Sealing-clause-changes
+returns-in_ok-write_commit-in-Sealing-clause-changes g c = let v = g.D.Disk.view in
+    λ t now was key. inl (lines_beside (v c.args.disk.now) (v c.write_commit.new.disk) aij_file (c.args.group.slot + length c.args.lines.now) t (λ a. let bad : Aij ≡ Area = a in cc) c.write_commit.ensures.writes key)
+
+pub returns-in_err-make_stable-in-Gathering-clause-writes : goal.returns-in_err-make_stable-in-Gathering-clause-writes
+returns-in_err-make_stable-in-Gathering-clause-writes g c = let v = g.D.Disk.view in (aij_file, 0, inr refl, writes_none aij_file 0 (v c.args.disk.now) (v c.make_stable.new.disk) c.make_stable.ensures.reads)
+
+pub returns-in_err-make_stable-in-Gathering-clause-changes : goal.returns-in_err-make_stable-in-Gathering-clause-changes
+returns-in_err-make_stable-in-Gathering-clause-changes g c = let v = g.D.Disk.view in
+    λ t now was key. inl (keeps_lines (v c.args.disk.now).content (v c.make_stable.new.disk).content (c.make_stable.ensures.reads.keeps t).content key)
+
+pub returns-in_ok-make_stable-in-Gathering-clause-writes : goal.returns-in_ok-make_stable-in-Gathering-clause-writes
+returns-in_ok-make_stable-in-Gathering-clause-writes g c = let v = g.D.Disk.view in (aij_file, 0, inr refl, writes_none aij_file 0 (v c.args.disk.now) (v c.make_stable.new.disk) c.make_stable.ensures.reads)
+
+pub returns-in_ok-make_stable-in-Gathering-clause-changes : goal.returns-in_ok-make_stable-in-Gathering-clause-changes
+returns-in_ok-make_stable-in-Gathering-clause-changes g c = let v = g.D.Disk.view in
+    λ t now was key. inl (keeps_lines (v c.args.disk.now).content (v c.make_stable.new.disk).content (c.make_stable.ensures.reads.keeps t).content key)
+
+pub returns-in_err-make_stable-in-Landing-clause-writes : goal.returns-in_err-make_stable-in-Landing-clause-writes
+returns-in_err-make_stable-in-Landing-clause-writes g c = let v = g.D.Disk.view in (aij_file, 0, inr refl, writes_none aij_file 0 (v c.args.disk.now) (v c.make_stable-in-Landing.new.disk) c.make_stable-in-Landing.ensures.reads)
+
+pub returns-in_err-make_stable-in-Landing-clause-changes : goal.returns-in_err-make_stable-in-Landing-clause-changes
+returns-in_err-make_stable-in-Landing-clause-changes g c = let v = g.D.Disk.view in
+    λ t now was key. inl (keeps_lines (v c.args.disk.now).content (v c.make_stable-in-Landing.new.disk).content (c.make_stable-in-Landing.ensures.reads.keeps t).content key)
+
+pub returns-in_ok-make_stable-in-Landing-clause-writes : goal.returns-in_ok-make_stable-in-Landing-clause-writes
+returns-in_ok-make_stable-in-Landing-clause-writes g c = let v = g.D.Disk.view in (aij_file, 0, inr refl, writes_none aij_file 0 (v c.args.disk.now) (v c.make_stable-in-Landing.new.disk) c.make_stable-in-Landing.ensures.reads)
+
+pub returns-in_ok-make_stable-in-Landing-clause-changes : goal.returns-in_ok-make_stable-in-Landing-clause-changes
+returns-in_ok-make_stable-in-Landing-clause-changes g c = let v = g.D.Disk.view in
+    λ t now was key. inl (keeps_lines (v c.args.disk.now).content (v c.make_stable-in-Landing.new.disk).content (c.make_stable-in-Landing.ensures.reads.keeps t).content key)
+
+pub returns-in-Committed-clause-writes : goal.returns-in-Committed-clause-writes
+returns-in-Committed-clause-writes g c = let old = g.D.Disk.view c.args.disk.now in (aij_file, 0, inr refl, writes_none aij_file 0 old old (no_calls old))

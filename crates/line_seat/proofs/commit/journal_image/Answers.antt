@@ -1,4 +1,7 @@
 use Rattle.std.proofs.Common.{rules, arith, ◌+◌, ◌≤◌, ◌∙◌, length, Some, slice_get, ap, sym}
+use Rattle.rdb_outside.specs.Runs.{no_calls}
+use Rattle.new_database.specs.Maker.{aij_file}
+use Rattle.line_moves.proofs.Runs.{writes_none}
 use Rattle.aij_journal.specs.declared.part.AijPart.{AijPart}
 use Rattle.journal_scan.specs.declared.group.Group.{Group}
 use Rattle.journal_scan.specs.Whole.{slots_of}
@@ -36,3 +39,12 @@ returns-in-Ok-clause-keeps g c = λ t now member o flight is stands.
 pub returns-in-Err-clause-keeps : goal.returns-in-Err-clause-keeps
 returns-in-Err-clause-keeps g c = λ t now member o flight is stands.
     let first = is.in_slot in c.write_after_image.ensures.keeps t now stands.facts (omega (arith, first)) is.no_former is.no_flight
+
+pub returns-then-at-lines-clause-writes : goal.returns-then-at-lines-clause-writes
+returns-then-at-lines-clause-writes g c = let old = g.D.Disk.view c.args.disk.now in (0, writes_none aij_file 0 old old (no_calls old))
+
+pub returns-in-Ok-clause-writes : goal.returns-in-Ok-clause-writes
+returns-in-Ok-clause-writes g c = (c.args.group.slot + c.args.at, c.write_after_image.ensures.writes)
+
+pub returns-in-Err-clause-writes : goal.returns-in-Err-clause-writes
+returns-in-Err-clause-writes g c = (c.args.group.slot + c.args.at, c.write_after_image.ensures.writes)

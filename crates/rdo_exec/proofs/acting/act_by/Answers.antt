@@ -1,12 +1,14 @@
-use Rattle.std.proofs.Common.{◌≡◌, None, sym, subst}
+use Rattle.std.proofs.Common.{◌≡◌, [], None, sym, subst}
+use Rattle.rdb_meaning.specs.Checks.{act_uses}
+use Rattle.used_areas.specs.Areas.{areas_read, areas_changed}
 use Rattle.std.specs.Prelude.{IfOk, Ok}
 use Rattle.rdo_ast.specs.Tree.{Act, said, perform}
 use Rattle.rdo_ast.specs.Views.{act_of}
 use Rattle.rdb_meaning.specs.Meaning.{act_refusal, standing_for}
 use Rattle.line_view.specs.Held.{knows}
-use Rattle.rdo_exec.specs.Coming.{Comes, ActAsks}
+use Rattle.rdo_exec.specs.Coming.{Comes, ActStays}
 use Rattle.rdo_exec.proofs.RightRecords.{barred_by}
-use Rattle.rdo_exec.proofs.Answered.{answer_asks}
+use Rattle.rdo_exec.proofs.Answered.{answer_stays}
 use Rattle.rdo_exec.proofs.acting.act_by.Goals as goal
 
 pub returns-in-Ok-clause-comes : goal.returns-in-Ok-clause-comes
@@ -24,13 +26,13 @@ returns-in-Err-Refused-clause-comes c = λ word.
     rw c.answered_by.ensures
     (barred_by word a.standing.now (act_of a.action.now) a.schema.now (knows a.known) c.requires.catalog x.reply c.standing_for-behind.result c.standing_for-behind.ensures (rw x.field-0-is at x.ensures.refusal))
 
-pub returns-in-Ok-clause-asked : goal.returns-in-Ok-clause-asked
-returns-in-Ok-clause-asked c = subst (λ (x : Act). ActAsks x (knows c.args.known) c.run_behind.result.found) c.in-Ok.ensures.written c.run_behind.ensures.asked
+pub returns-in-Ok-clause-stays : goal.returns-in-Ok-clause-stays
+returns-in-Ok-clause-stays c = subst (λ (x : Act). ActStays x (knows c.args.known) c.run_behind.result.found) c.in-Ok.ensures.written c.run_behind.ensures.stays
 
-pub returns-in-Err-Refused-clause-asked : goal.returns-in-Err-Refused-clause-asked
-returns-in-Err-Refused-clause-asked c = λ standing none names all t sound agrees.
-    let a = act_of c.args.action.now in
-    rw c.answered_by.ensures (answer_asks standing (said (perform a)) t (Ok c.in-Err-Refused.reply) c.standing_for-behind.result)
+pub returns-in-Err-Refused-clause-stays : goal.returns-in-Err-Refused-clause-stays
+returns-in-Err-Refused-clause-stays c = λ all t sound agrees.
+    let us = act_uses (act_of c.args.action.now) [] in
+    rw c.answered_by.ensures (answer_stays (areas_read t us) (areas_changed t us) (Ok c.in-Err-Refused.reply) c.standing_for-behind.result)
 
-pub returns-in-Err-Memory-clause-asked : goal.returns-in-Err-Memory-clause-asked
-returns-in-Err-Memory-clause-asked c = λ standing none names all t sound agrees. tt
+pub returns-in-Err-Memory-clause-stays : goal.returns-in-Err-Memory-clause-stays
+returns-in-Err-Memory-clause-stays c = λ all t sound agrees. tt

@@ -1,4 +1,4 @@
-use Rattle.std.proofs.Common.{◌≡◌, Result, inl, refl, subst}
+use Rattle.std.proofs.Common.{◌≡◌, Result, refl, subst}
 use Rattle.std.specs.Prelude.{IfOk}
 use Rattle.rdb_types.specs.declared.memory.NoMemory.{NoMemory}
 use Rattle.rdo_ast.specs.declared.reply.Standing.{Standing}
@@ -15,7 +15,7 @@ returns-in-Ok-clause-comes c = λ word standing free is.
     c.run.ensures.comes word standing free (subst (λ (r : Result Standing NoMemory). IfOk r (λ left. left ≡ standing_for (written_act c.args.action.now) standing)) c.in-Ok.is is)
 
 pub returns-in-Err-clause-comes : goal.returns-in-Err-clause-comes
-returns-in-Err-clause-comes c = λ word standing free is. says_nothing word standing (said (perform (written_act c.args.action.now))) (knows c.args.known) found.NoMemory (inl refl)
+returns-in-Err-clause-comes c = λ word standing free is. says_nothing word standing (said (perform (written_act c.args.action.now))) (knows c.args.known) found.NoMemory refl
 
-pub returns-in-Err-clause-asked : goal.returns-in-Err-clause-asked
-returns-in-Err-clause-asked c = λ standing none names all t sound agrees. tt
+pub returns-in-Err-clause-stays : goal.returns-in-Err-clause-stays
+returns-in-Err-clause-stays c = λ all t sound agrees. tt

@@ -1,7 +1,7 @@
 use Rattle.line_view.specs.Held.{knows}
 use Rattle.rdo_bind.specs.Acting.{written_act}
 use Rattle.rdo_exec.proofs.RightRecords.{comes_of}
-use Rattle.rdo_exec.proofs.Locks.{acted_asks}
+use Rattle.rdo_exec.proofs.Locks.{acted_so}
 use Rattle.rdo_exec.proofs.acting.run_from.Goals as goal
 
 pub act-known-requires-clause-together : goal.act-known-requires-clause-together
@@ -11,6 +11,6 @@ pub returns-clause-comes : goal.returns-clause-comes
 returns-clause-comes c = λ word standing free is.
     comes_of word standing (written_act c.args.action.now) c.args.schema.now (knows c.args.known) c.args.behind c.requires.catalog is free c.act-known.result.outcome c.found_of-found.result c.found_of-found.ensures c.act-known.ensures.comes
 
-pub returns-clause-asked : goal.returns-clause-asked
-returns-clause-asked c =
-    acted_asks (written_act c.args.action.now) c.args.schema.now (knows c.args.known) c.args.behind c.requires.catalog c.act-known.result.outcome c.found_of-found.result c.found_of-found.ensures c.act-known.ensures.areas
+pub returns-clause-stays : goal.returns-clause-stays
+returns-clause-stays c =
+    acted_so (written_act c.args.action.now) c.args.schema.now (knows c.args.known) c.args.behind c.requires.catalog c.act-known.result.outcome c.found_of-found.result c.found_of-found.ensures c.act-known.ensures.areas

@@ -1,4 +1,4 @@
-use Rattle.std.proofs.Common.{◌≡◌, Some, None, ap, subst, false, [], ◌∷◌}
+use Rattle.std.proofs.Common.{◌≡◌, Some, None, refl, ap, subst, false, [], ◌∷◌}
 use Rattle.rdo_ast.specs.Tree.{define_index, said}
 use Rattle.rdb_meaning.specs.Checks.{or_else, use_of}
 use Rattle.rdb_meaning.specs.Defining.{index_names}
@@ -8,12 +8,17 @@ use Rattle.catalog_definitions.proofs.KeyPlaces.{first_none}
 use Rattle.statement_view.specs.Over.{Over}
 use Rattle.index_writes.specs.Definition.{definition_refusal, IsNotIndexed}
 use Rattle.rdb_meaning.specs.declared.tables.Tables.{Tables}
+use Rattle.rdb_meaning.specs.Contents.{relation_named}
+use Rattle.rdo_exec.specs.Left.{IsElsewhere}
 use Rattle.rdo_exec.proofs.Answered.{unchecked_comes, finds_refused}
 use Rattle.rdo_exec.proofs.Checked.{index_reserved, defining_index, index_barred}
-use Rattle.rdo_exec.proofs.Definitions.{barred_definition, comes_of_definition}
+use Rattle.rdo_exec.proofs.Definitions.{barred_definition, comes_of_definition, index_causes, strays}
 use Rattle.rdo_exec.proofs.Asking.{index_defined_asks}
 use Rattle.used_areas.specs.Areas.{areas_read}
 use Rattle.rdo_exec.specs.Areas.{ReadsOf}
+use Rattle.session_jobs.specs.declared.jobs.Found.TheVariants.{Unworked}
+use Rattle.rdo_exec.specs.Left.{strange}
+use Rattle.rdo_exec.proofs.Answered.{left}
 use Rattle.rdo_exec.proofs.defining.index_defined.Goals as goal
 
 pub returns-in-Err-clause-comes : goal.returns-in-Err-clause-comes
@@ -35,6 +40,7 @@ returns-clause-comes c = λ word.
     (definition_refusal d) c.new-view.result c.define_index-end.new.view (ap (λ (o : Over). knows o.base) c.new-view.ensures.value) (ap (λ (o : Over). o.lines) c.new-view.ensures.value) c.new-view.ensures.stands
     (λ all t sound. defining_index word d a.standing.now t c.requires.writing reserved)
     (λ (t : Tables). definition_refusal d a.schema.now.tables ≡ None) (λ t. IsNotIndexed c.new-view.result.base a.schema.now d t) (λ t reply h. h)
+    (index_causes word a.standing.now a.schema.now (knows a.known) c.requires.catalog d c.new-view.result.base (ap (λ (o : Over). knows o.base) c.new-view.ensures.value))
     c.define_index-end.result c.written.result.found c.written.ensures.found c.define_index-end.ensures.defines
 
 pub returns-clause-asked : goal.returns-clause-asked
@@ -43,5 +49,19 @@ returns-clause-asked c =
     let d = c.args.definition.now in
     index_defined_asks a.standing.now a.schema.now (knows a.known) c.requires.catalog c.new-view.result c.define_index-end.new.view (ap (λ (o : Over). o.lines) c.new-view.ensures.value) c.new-view.ensures.stands
     d c.requires.writing c.define_index-end.result c.written.result.found c.written.ensures.found
-    (subst (λ (k : Catalog). ReadsOf (areas_read k.tables (use_of false d.relation ∷ [])) c.define_index-end.result) c.catalog-catalog.ensures (c.lacks_others.ensures c.if-lacks_others.false))
+    (subst (λ (k : Catalog). ReadsOf (areas_read k.tables (use_of false d.relation ∷ [])) c.define_index-end.result) c.catalog-catalog.ensures (c.lacks_others.ensures.no c.if-lacks_others.false))
     c.define_index-end.ensures.areas
+
+pub returns-then-not-is_index_definition-clause-comes : goal.returns-then-not-is_index_definition-clause-comes
+returns-then-not-is_index_definition-clause-comes c = λ word.
+    let a = c.args in
+    left word a.standing.now (said (define_index a.definition.now)) (knows a.known) Unworked refl (λ all t sound agrees. strange (define_index a.definition.now) refl (c.is_index_definition.ensures.no c.if-not-is_index_definition.true))
+
+pub returns-then-lacks_others-clause-comes : goal.returns-then-lacks_others-clause-comes
+returns-then-lacks_others-clause-comes c = λ word.
+    let a = c.args in
+    let d = a.definition.now in
+    let lacked = c.lacks_others.ensures.yes c.if-lacks_others.true in
+    left word a.standing.now (said (define_index d)) (knows a.known) Unworked refl
+    (strays word a.standing.now a.schema.now (knows a.known) c.requires.catalog d c.new-view.result c.define_index-end.new.view (ap (λ (o : Over). knows o.base) c.new-view.ensures.value) (ap (λ (o : Over). o.lines) c.new-view.ensures.value) c.new-view.ensures.stands
+    c.define_index-end.result lacked.0 lacked.1 (subst (λ (k : Catalog). IsElsewhere (relation_named d.relation k.tables) lacked.0) c.catalog-catalog.ensures lacked.2) c.define_index-end.ensures.defines)

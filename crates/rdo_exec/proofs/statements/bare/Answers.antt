@@ -9,8 +9,5 @@ use Rattle.rdo_exec.proofs.statements.bare.Goals as goal
 pub act_bare-requires : goal.act_bare-requires
 act_bare-requires c = subst (λ (s : Statement). IsBare (command_of s)) c.in-Act.is c.requires
 
-pub returns-in-Act : goal.returns-in-Act
-returns-in-Act c = λ word. subst (λ (s : Statement). IsAnswered word c.args.standing.now (said (command_of s)) c.act_bare.result) (sym c.in-Act.is) (c.act_bare.ensures word)
-
-pub returns-in_default : goal.returns-in_default
-returns-in_default c = λ word. tt
+pub returns : goal.returns
+returns c = λ word. subst (λ (s : Statement). IsAnswered word c.args.standing.now (said (command_of s)) c.act_bare.result) (sym c.in-Act.is) (c.act_bare.ensures word)

@@ -13,22 +13,16 @@ use Rattle.rdo_exec.proofs.statements.reserving.Goals as goal
 pub reserve-requires : goal.reserve-requires
 reserve-requires c = subst (λ (s : Statement). IsReserving (command_of s)) c.in-StartReadWrite.is c.requires.way
 
-pub returns-in-StartReadWrite-clause-asked : goal.returns-in-StartReadWrite-clause-asked
-returns-in-StartReadWrite-clause-asked c =
+pub returns-clause-asked : goal.returns-clause-asked
+returns-clause-asked c =
     let is = c.in-StartReadWrite.is in
     let shut = is_closed c.args.standing.now (subst (λ (s : Statement). standing_refusal (command_of s) c.args.standing.now ≡ None) is c.requires.standing) in
     subst (λ (s : Statement). Asks c.args.standing.now (said (command_of s)) (knows c.args.known.now) c.reserve.result) (sym is)
     (subst (λ (x : Standing). Asks x (said (start_read_write c.in-StartReadWrite.wait c.in-StartReadWrite.reserved)) (knows c.args.known.now) c.reserve.result) (sym shut) c.reserve.ensures.asked)
 
-pub returns-in-StartReadWrite-clause-comes : goal.returns-in-StartReadWrite-clause-comes
-returns-in-StartReadWrite-clause-comes c = λ word.
+pub returns-clause-comes : goal.returns-clause-comes
+returns-clause-comes c = λ word.
     let is = c.in-StartReadWrite.is in
     let shut = is_closed c.args.standing.now (subst (λ (s : Statement). standing_refusal (command_of s) c.args.standing.now ≡ None) is c.requires.standing) in
     subst (λ (s : Statement). Comes word c.args.standing.now (said (command_of s)) (knows c.args.known.now) c.reserve.result) (sym is)
     (subst (λ (x : Standing). Comes word x (said (start_read_write c.in-StartReadWrite.wait c.in-StartReadWrite.reserved)) (knows c.args.known.now) c.reserve.result) (sym shut) (c.reserve.ensures.comes word))
-
-pub returns-in_default-clause-asked : goal.returns-in_default-clause-asked
-returns-in_default-clause-asked c = λ all t sound agrees. tt
-
-pub returns-in_default-clause-comes : goal.returns-in_default-clause-comes
-returns-in_default-clause-comes c = λ word. record { usual = tt; over = λ all t sound agrees. tt }

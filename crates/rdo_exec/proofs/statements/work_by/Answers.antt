@@ -4,6 +4,8 @@ use Rattle.rdo_ast.specs.Tree.{said}
 use Rattle.rdo_ast.specs.Views.{command_of}
 use Rattle.line_view.specs.Held.{knows}
 use Rattle.rdo_exec.specs.Coming.{Comes, Asks}
+use Rattle.rdo_ast.specs.Views.{act_of}
+use Rattle.rdo_exec.proofs.Locks.{acted_asks}
 use Rattle.rdo_exec.proofs.Viewing.{defining_not_act, defining_writes}
 use Rattle.rdo_exec.specs.Ways.{IsViewing}
 use Rattle.rdb_meaning.specs.Meaning.{standing_refusal}
@@ -24,4 +26,4 @@ pub returns-in-Act-clause-asked : goal.returns-in-Act-clause-asked
 returns-in-Act-clause-asked c =
     let is = c.in-Act.is in
     subst (λ (s : Statement). Asks c.args.standing.now (said (command_of s)) (knows c.args.known) c.act_by.result.found) (sym is)
-    (c.act_by.ensures.asked c.args.standing.now (subst (λ (s : Statement). standing_refusal (command_of s) c.args.standing.now ≡ None) is c.requires.standing) (subst (λ (s : Statement). IsViewing (command_of s)) is c.requires.way))
+    (acted_asks (act_of c.in-Act.action) (knows c.args.known) c.args.standing.now c.act_by.result.found (subst (λ (s : Statement). standing_refusal (command_of s) c.args.standing.now ≡ None) is c.requires.standing) (subst (λ (s : Statement). IsViewing (command_of s)) is c.requires.way) c.act_by.ensures.stays)

@@ -9,8 +9,8 @@ use Rattle.session_jobs.specs.Jobs.{NamesNoNeed}
 use Rattle.rdo_exec.specs.Coming.{Asks, Comes}
 use Rattle.rdo_exec.proofs.statements.work_on.Goals as goal
 
-pub work_statement-requires : goal.work_statement-requires
-work_statement-requires c = subst (λ (i : Item). first_refusal c.args.standing.now (uttered_of i) ≡ None) c.in-Statement.is c.requires
+pub work_statement-requires-clause-standing : goal.work_statement-requires-clause-standing
+work_statement-requires-clause-standing c = subst (λ (i : Item). first_refusal c.args.standing.now (uttered_of i) ≡ None) c.in-Statement.is c.requires.standing
 
 pub returns-clause-asked : goal.returns-clause-asked
 returns-clause-asked c = subst (λ (i : Item). Asks c.args.standing.now (uttered_of i) (knows c.args.known) c.work_statement.result.found) (sym c.in-Statement.is) c.work_statement.ensures.asked

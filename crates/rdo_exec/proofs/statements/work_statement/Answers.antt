@@ -1,4 +1,4 @@
-use Rattle.std.proofs.Common.{◌≡◌, None, subst}
+use Rattle.std.proofs.Common.{◌≡◌, None, refl, subst}
 use Rattle.rdo_ast.specs.declared.reply.Standing.{Standing}
 use Rattle.rdb_meaning.specs.Meaning.{standing_refusal}
 use Rattle.rdo_ast.specs.Tree.{said}
@@ -6,6 +6,10 @@ use Rattle.rdo_ast.specs.Views.{command_of}
 use Rattle.line_view.specs.Held.{knows}
 use Rattle.rdo_exec.specs.declared.way.Way.{Way}
 use Rattle.rdo_exec.specs.Ways.{IsWay}
+use Rattle.session_jobs.specs.declared.jobs.Found.TheVariants.{Unworked}
+use Rattle.rdo_exec.specs.Left.{strange}
+use Rattle.rdo_exec.proofs.Answered.{left}
+use Rattle.rdo_exec.proofs.Viewing.{unranged_strange}
 use Rattle.rdo_exec.proofs.Answering.{answered_comes, answered_reads_nothing}
 use Rattle.rdo_exec.proofs.Locks.{answered_asks}
 use Rattle.rdo_exec.proofs.Viewing.{naming_views, defining_views, viewing_begins, reserving_begins}
@@ -36,7 +40,10 @@ pub returns-in-Strange-clause-asked : goal.returns-in-Strange-clause-asked
 returns-in-Strange-clause-asked c = λ all t sound agrees. tt
 
 pub returns-in-Strange-clause-comes : goal.returns-in-Strange-clause-comes
-returns-in-Strange-clause-comes c = record { usual = tt; over = λ all t sound agrees. tt }
+returns-in-Strange-clause-comes c =
+    let command = command_of c.args.statement.now in
+    let way = subst (λ (w : Way). IsWay w command) c.in-Strange.is c.way_of.ensures in
+    left c.args.word.now c.args.standing.now (said command) (knows c.args.known) Unworked refl (λ all t sound agrees. strange command refl (unranged_strange command way))
 
 pub returns-in-Strange-clause-outside : goal.returns-in-Strange-clause-outside
 returns-in-Strange-clause-outside c = λ shut nothing. tt
@@ -47,7 +54,7 @@ returns-in-Acting-clause-comes c = c.viewed.ensures.comes c.args.word.now
 pub returns-in-Acting-clause-outside : goal.returns-in-Acting-clause-outside
 returns-in-Acting-clause-outside c = λ shut nothing.
     let command = command_of c.args.statement.now in
-    absurd (viewing_begins command (subst (λ (x : Standing). standing_refusal command x ≡ None) shut c.requires) (naming_views command (subst (λ (w : Way). IsWay w command) c.in-Acting.is c.way_of.ensures)) nothing)
+    absurd (viewing_begins command (subst (λ (x : Standing). standing_refusal command x ≡ None) shut c.requires.standing) (naming_views command (subst (λ (w : Way). IsWay w command) c.in-Acting.is c.way_of.ensures)) nothing)
 
 pub returns-in-Defining-clause-comes : goal.returns-in-Defining-clause-comes
 returns-in-Defining-clause-comes c = c.viewed-in-Defining.ensures.comes c.args.word.now
@@ -55,7 +62,7 @@ returns-in-Defining-clause-comes c = c.viewed-in-Defining.ensures.comes c.args.w
 pub returns-in-Defining-clause-outside : goal.returns-in-Defining-clause-outside
 returns-in-Defining-clause-outside c = λ shut nothing.
     let command = command_of c.args.statement.now in
-    absurd (viewing_begins command (subst (λ (x : Standing). standing_refusal command x ≡ None) shut c.requires) (defining_views command (subst (λ (w : Way). IsWay w command) c.in-Defining.is c.way_of.ensures)) nothing)
+    absurd (viewing_begins command (subst (λ (x : Standing). standing_refusal command x ≡ None) shut c.requires.standing) (defining_views command (subst (λ (w : Way). IsWay w command) c.in-Defining.is c.way_of.ensures)) nothing)
 
 pub returns-in-Reserving-clause-comes : goal.returns-in-Reserving-clause-comes
 returns-in-Reserving-clause-comes c = c.reserving-found.ensures.comes c.args.word.now

@@ -1,6 +1,7 @@
 use Rattle.session_states.proofs.InTurn.{steps-on}
 use Rattle.session_states.proofs.Opened.{opened}
 use Rattle.session_states.proofs.Standing.{finds, kept, fell}
+use Rattle.session_states.proofs.Flying.{ready-alone}
 use Rattle.session_states.proofs.laws.together.sessions_are_kept.Goals as goal
 
 pub returns-clause-finds : goal.returns-clause-finds
@@ -17,3 +18,6 @@ returns-clause-fell g c = fell g.S.Statements.stands g.met.S.Statements.orderly
 
 pub returns-clause-opened : goal.returns-clause-opened
 returns-clause-opened g c = opened g.S.Statements.stands g.met.S.Statements.orderly
+
+pub returns-clause-alone : goal.returns-clause-alone
+returns-clause-alone g c = ready-alone g.S.Statements.stands g.met.S.Statements.orderly

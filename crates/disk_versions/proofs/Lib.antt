@@ -1,0 +1,10 @@
+pub mod Choices
+pub mod Moves
+pub mod Beginnings
+pub mod Ends
+pub mod ReaderSteps
+pub mod Pushes
+pub mod SeatLines
+pub mod SeatsBeside
+pub mod Given
+pub mod Flights

@@ -1,0 +1,4 @@
+pub mod Changing
+pub mod Undone
+pub mod AtLimits
+pub mod AtOnce

@@ -1,0 +1,6 @@
+//! Statements of sessions over lines that are refused at a limit of the store.
+#![tactic(auto)]
+
+mod refused;
+
+pub use refused::{limits_refuse, refusals_write_nothing};
