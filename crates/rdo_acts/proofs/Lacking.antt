@@ -1,7 +1,6 @@
 -- What selections, values and actions that write nothing lack is what is read of a relation of their selections.
 use Rattle.std.proofs.Common.{◌≡◌, ℕ, zero, suc, ◌<◌, true, false, List, [], ◌∷◌, ◌++◌, map, length, get_or, Ok, Err, Result, Some, inl, inr, sym, ap, subst, ◌∙◌, append-nil, arith}
 use Rattle.std.specs.List.{AllByRecursion}
-use Rattle.std.proofs.lemmas.List.Elements.{All-nil, All-cons}
 use Rattle.rdb_types.specs.declared.keys.Dbkey.{Dbkey}
 use Rattle.rdo_ast.specs.declared.syntax.Range.{Range}
 use Rattle.rdb_meaning.specs.declared.tables.Tables.{Tables}
@@ -124,14 +123,14 @@ pub form_among : (result : Result (Unit {0}) ActStop) (given : Given) (scope : S
 form_among result given scope values action a old e h = subst (λ (x : Act). RunsAmong result given scope values (chosen_in_act x (variables_of scope)) old) (sym e) h
 
 -- a form that writes isn't one that doesn't
-pub none_writes : {X : Type 0} (action : BoundAction) (a : Act) → act_of action ≡ a → may_write a ≡ true → may_write (act_of action) ≡ false → X
-none_writes action a e writes none = let bad : true ≡ false = sym writes ∙ ap may_write (sym e) ∙ none in absurd (cc)
+pub none_writes : (action : BoundAction) (a : Act) → act_of action ≡ a → may_write a ≡ true → may_write (act_of action) ≡ false → ⊥
+none_writes action a e writes none = let bad : true ≡ false = sym writes ∙ ap may_write (sym e) ∙ none in cc
 
 -- ---- what comes of an action
 
 module _ (t : Tables) (sources : Listed) (cs : List Chosen) where
   why_among : (why : ActStop) (keys : List Dbkey) → StopsAt (IsReadAmong t sources cs) why → IsAmong (stopped_as why keys) t sources cs
-  why_among (Missing need) keys h = let next = IsReadAmong t sources cs in All-cons next need [] h (All-nil next)
+  why_among (Missing need) keys h = h
   why_among (Bad key) keys h = tt
   why_among NoMemory keys h = tt
   why_among (Own refusal) keys h = tt

@@ -2,7 +2,6 @@
 use Rattle.std.proofs.Common.{◌≡◌, ◌⊎◌, ℕ, zero, suc, ◌<◌, true, List, [], ◌∷◌, ◌++◌, map, length, drop, get_or, Option, Some, None, Result, Ok, Err, inl, inr, refl, sym, ap, subst, ◌∙◌, append-nil, arith}
 use Rattle.std.specs.Prelude.{slice_get}
 use Rattle.std.specs.List.{All}
-use Rattle.std.proofs.lemmas.List.Elements.{All-nil, All-cons}
 use Rattle.std.proofs.lemmas.Option.{none-some, same_Some}
 use Rattle.rdb_types.specs.declared.keys.Dbkey.{Dbkey}
 use Rattle.rdb_types.specs.declared.values.Field.{Field}
@@ -248,7 +247,7 @@ module _ (given : Given) (all : Lines) (t : Tables) (a : Act) where
   WantsHere need = Then given all t (λ u. ActWants u given.sources.now.entries a [] need)
 
   why_wanted : (why : ActStop) (keys : List Dbkey) → StopsAt WantsHere why → IsWanted (stopped_as why keys) given all t a
-  why_wanted (stop.Missing need) keys h = All-cons WantsHere need [] h (All-nil WantsHere)
+  why_wanted (stop.Missing need) keys h = h
   why_wanted (stop.Bad key) keys h = tt
   why_wanted stop.NoMemory keys h = tt
   why_wanted (stop.Own refusal) keys h = tt

@@ -110,10 +110,10 @@ module _ (given : Given) (scope : List BoundRow) (v : BoundVariable) (bound : Bo
 
       module _ (k : Dbkey) (row : Row) (key : bound.key ≡ Some k) (some : was ≡ Some row) where
         stands : find dbkey_order k (relation.0).rows ≡ Some row
-          stands = updated.stands given scope v bound at rows is_variable old new all start t holds target was found k row key some
+        stands = updated.stands given scope v bound at rows is_variable old new all start t holds target was found k row key some
 
         area : k.area ≡ (relation.0).area
-          area = updated.area given scope v bound at rows is_variable old new all start t holds target was found k row key some
+        area = updated.area given scope v bound at rows is_variable old new all start t holds target was found k row key some
 
   module _ (assigns : List BoundAssign) (are : All (IsBoundAssign given.schema.now.tables (variables_of (scope_of scope))) assigns) (values : Row) where
     abbrev Modifies : Result (Unit {0}) ActStop → Type 0

@@ -1,6 +1,5 @@
 -- What an action that writes nothing lacks: what is read of a relation of one of its selections.
 use Rattle.std.specs.Prelude.{◌≡◌, false, List, [], ◌∷◌, ◌++◌, Result}
-use Rattle.std.specs.List.{All}
 use Rattle.rdo_ast.specs.declared.syntax.Range.{Range}
 use Rattle.rdb_meaning.specs.declared.tables.Tables.{Tables}
 use Rattle.rdb_meaning.specs.Contents.{Row}
@@ -74,10 +73,15 @@ RunsOverAmong result given scope ss tuples cs old = (first : Lines) (t : Tables)
 
 -- ---- what comes of an action
 
+-- this is true of the first one
+abbrev pub FirstIs : {X : Type 0} → (X → Type 0) → List X → Type 0
+FirstIs P [] = Unit {0}
+FirstIs P (x ∷ xs) = P x
+
 abbrev pub IsAmong : Outcome → Tables → Listed → List Chosen → Type 0
-IsAmong (Missing needs) t sources cs = All (IsReadAmong t sources cs) needs
+IsAmong (Missing needs) t sources cs = FirstIs (IsReadAmong t sources cs) needs
 IsAmong _ t sources cs = Unit {0}
 
--- Each need of an action that writes nothing is what is read of a relation of one of its selections, in the tables of each map that is sound with the catalog and with which what is known agrees.
+-- What an action that writes nothing lacks first is what is read of a relation of one of its selections, in the tables of each map that is sound with the catalog and with which what is known agrees.
 abbrev pub LacksAmong : Outcome → Act → Knowledge → Given → Type 0
 LacksAmong outcome a known given = may_write a ≡ false → (all : Lines) (t : Tables) → Agrees known all → IsSoundAs all given.schema.now t → IsAmong outcome t given.sources.now.entries (chosen_in_act a [])

@@ -1,6 +1,5 @@
 -- What an action lacks, whether it writes or not.
 use Rattle.std.specs.Prelude.{◌≡◌, ◌⊎◌, ℕ, true, List, [], ◌∷◌, ◌++◌, map, Option, Some, Result}
-use Rattle.std.specs.List.{All}
 use Rattle.rdb_types.specs.declared.keys.Dbkey.{Dbkey}
 use Rattle.rdo_ast.specs.declared.syntax.Range.{Range}
 use Rattle.rdo_ast.specs.Tree.{Name}
@@ -34,7 +33,7 @@ use Rattle.rdo_acts.specs.declared.work.Work.{Work}
 use Rattle.rdo_acts.specs.declared.acting.Outcome.{Outcome}
 use Rattle.rdo_acts.specs.declared.acting.Outcome.TheVariants.{Missing}
 use Rattle.rdo_acts.specs.Ends.{ActStop, HoldsIn}
-use Rattle.rdo_acts.specs.Selections.{chosen_in_items, chosen_in_assigns, IsReadAmong}
+use Rattle.rdo_acts.specs.Selections.{chosen_in_items, chosen_in_assigns, IsReadAmong, FirstIs}
 
 -- ---- in tables
 
@@ -106,9 +105,9 @@ TuplesWanting result given scope ss tuples body old = (all : Lines) (start t : T
 -- ---- what comes of an action
 
 abbrev pub IsWanted : Outcome → Given → Lines → Tables → Act → Type 0
-IsWanted (Missing needs) given all start a = All (λ need. Then given all start (λ u. ActWants u given.sources.now.entries a [] need)) needs
+IsWanted (Missing needs) given all start a = FirstIs (λ need. Then given all start (λ u. ActWants u given.sources.now.entries a [] need)) needs
 IsWanted _ given all start a = Unit {0}
 
--- Each need is what a part of the action lacks at a moment of its work, over each map that is sound with the catalog and with which what is known agrees.
+-- What an action lacks first is what one of its parts lacks at a moment of the work, over each map that is sound with the catalog and with which what is known agrees.
 abbrev pub WantsSo : Outcome → Act → Knowledge → Given → Type 0
 WantsSo outcome a known given = (all : Lines) (t : Tables) → Agrees known all → IsSoundAs all given.schema.now t → IsWanted outcome given all t a

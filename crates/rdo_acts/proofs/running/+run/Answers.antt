@@ -34,6 +34,7 @@ use Rattle.rdo_acts.specs.Selections.{chosen_in_act, chosen_in_acts, IsReadAmong
 use Rattle.rdo_acts.proofs.Lacking.{action_among, tuple_values, form_among, none_writes, for_stops_among, for_runs_among}
 use Rattle.std.proofs.Common.{◌⊎◌, inl, inr}
 use Rattle.row_writes.proofs.AreaLists.{stops_at}
+use Rattle.line_view.specs.declared.need.Need.{Need}
 use Rattle.rdo_acts.specs.Wanted.{IsOneOf, ActWants, ActsWant, Then, IsRowOf, RunsWanting}
 use Rattle.rdo_acts.proofs.Bodies.{tuple_now, bound_is}
 use Rattle.rdo_acts.proofs.Turns.{one_now}
@@ -395,15 +396,15 @@ run_action-returns-in-Print-clause-lacks t c none =
 pub run_action-returns-in-Store-clause-lacks : goal.run_action-returns-in-Store-clause-lacks
 run_action-returns-in-Store-clause-lacks t c none =
     let assigns = c.as_slice-in-Store.result.now in
-    none_writes c.args.action.now (store c.in-Store.range assigns) (is_store c.args.action.now c.in-Store.range c.in-Store.assigns assigns c.in-Store.is c.as_slice-in-Store.ensures) refl none
+    absurd (none_writes c.args.action.now (store c.in-Store.range assigns) (is_store c.args.action.now c.in-Store.range c.in-Store.assigns assigns c.in-Store.is c.as_slice-in-Store.ensures) refl none)
 
 pub run_action-returns-in-Modify-clause-lacks : goal.run_action-returns-in-Modify-clause-lacks
 run_action-returns-in-Modify-clause-lacks t c none =
     let assigns = c.as_slice-in-Modify.result.now in
-    none_writes c.args.action.now (modify c.in-Modify.variable assigns) (is_modify c.args.action.now c.in-Modify.variable c.in-Modify.assigns assigns c.in-Modify.is c.as_slice-in-Modify.ensures) refl none
+    absurd (none_writes c.args.action.now (modify c.in-Modify.variable assigns) (is_modify c.args.action.now c.in-Modify.variable c.in-Modify.assigns assigns c.in-Modify.is c.as_slice-in-Modify.ensures) refl none)
 
 pub run_action-returns-in-Erase-clause-lacks : goal.run_action-returns-in-Erase-clause-lacks
-run_action-returns-in-Erase-clause-lacks t c none = none_writes c.args.action.now (erase c.in-Erase.variable) (is_erase c.args.action.now c.in-Erase.variable c.in-Erase.is) refl none
+run_action-returns-in-Erase-clause-lacks t c none = absurd (none_writes c.args.action.now (erase c.in-Erase.variable) (is_erase c.args.action.now c.in-Erase.variable c.in-Erase.is) refl none)
 
 pub run_action-returns-in-Err-clause-lacks : goal.run_action-returns-in-Err-clause-lacks
 run_action-returns-in-Err-clause-lacks t c none =
@@ -479,7 +480,7 @@ pub run_anew-returns-in-Err-clause-wants : goal.run_anew-returns-in-Err-clause-w
 run_anew-returns-in-Err-clause-wants t c values all start u holds is =
     let given = c.args.given.now in
     let scope = scope_of c.args.scope.now in
-    let Wanted = λ need. IsRowOf scope need ⊎ Then given all start (λ v. ActsWant v given.sources.now.entries (acts_of (map act_of c.args.body.now)) (variables_of scope) need) in
+    let Wanted : Need → Type 0 = λ need. IsRowOf scope need ⊎ Then given all start (λ v. ActsWant v given.sources.now.entries (acts_of (map act_of c.args.body.now)) (variables_of scope) need) in
     subst (StopsAt Wanted) (sym c.of_view.ensures) (stops_at (IsRowOf scope) Wanted (λ need row. inl row) (of_view c.in-Err.stop) (view_at (IsRowOf scope) Refusal c.in-Err.stop c.in-Err.ensures.lines))
 
 pub run_body-returns-else-writing-clause-wants : goal.run_body-returns-else-writing-clause-wants
@@ -497,7 +498,7 @@ run_over-returns-in_err-run_body-clause-wants t c all start u holds have =
     let x = c.found-item.result in
     let bound = scope_of c.as_slice-in-loop-found.result.now in
     let sources = given.sources.now.entries in
-    let binds = λ long. ap scope_of c.as_slice-in-loop-found.ensures ∙ c.in_ok-bound.ensures.tuple (ap length c.as_slice.ensures ∙ long) ∙ ap (λ ks. bind_tuple ss ks scope) c.as_slice.ensures in
+    let binds : length x.tuple ≡ length c.args.ranges.now → bound ≡ bind_tuple ss x.tuple scope = λ long. ap scope_of c.as_slice-in-loop-found.ensures ∙ c.in_ok-bound.ensures.tuple (ap length c.as_slice.ensures ∙ long) ∙ ap (λ ks. bind_tuple ss ks scope) c.as_slice.ensures in
     let now = tuple_now given (named_acts acts) scope c.args.ranges.now tuples i x bound (omega arith) c.found-item.is binds
         c.args.work.now c.loop-found.work c.run_body.new.work c.loop-found.invariant.known all start u holds have (c.loop-found.invariant.goes all start u holds have)
         c.any_writes-writing.result (λ none. c.loop-found.invariant.reads (sym c.any_writes-writing.ensures ∙ none)) in
