@@ -234,9 +234,9 @@ module _ (given : Given) (together : GoTogether given) (scope : Scope) (values :
       (λ need wanted. elim wanted as (λ x. IsRowOf scope need ⊎ Then given all start (λ u. ActWants u sources (for_each s body) vs need)) [
         | inl around ↦ inl around
         | inr (inl row) ↦ inr (now given all start old t holds (λ u. ActWants u sources (for_each s body) vs need)
-        (inr (inl (record { scope = scope; variables = refl; tuples = map (λ f. f.tuple) tuples; chosen = are; row = tuples_named need tuples row }))))
+            (inr (inl (record { scope = scope; variables = refl; tuples = map (λ f. f.tuple) tuples; chosen = are; row = tuples_named need tuples row }))))
         | inr (inr parts) ↦ inr (then_so given all start (λ u. ActsWant u sources body (vs ++ ss) need) (λ u. ActWants u sources (for_each s body) vs need)
-        (λ u part. inr (inr (subst (λ (l : List Range). ActsWant u sources body (vs ++ l) need) so part))) parts)
+            (λ u part. inr (inr (subst (λ (l : List Range). ActsWant u sources body (vs ++ l) need) so part))) parts)
       ])
       why (runs all start t holds beside)
 
@@ -265,7 +265,7 @@ module _ (given : Given) (all : Lines) (t : Tables) (a : Act) where
 
   -- behind no variables
   pub no_variables : {E : Type 0} (why : Stop E) → StopsAt (λ need. IsRowOf [] need ⊎ Then given all t (λ u. ActWants u given.sources.now.entries a [] need)) why → StopsAt WantsHere why
-  no_variables why h = stops_at (λ need. IsRowOf [] need ⊎ WantsHere need) WantsHere (λ need wanted. elim wanted as (λ x. WantsHere need) [ | inl none ↦ absurd none | inr own ↦ own ]) why h
+  no_variables why h = stops_at (λ need. IsRowOf [] need ⊎ WantsHere need) WantsHere (λ need wanted. elim wanted as (λ x. WantsHere need) [ inl none ↦ absurd none | inr own ↦ own ]) why h
 
 pub begin_wants : (given : Given) (all : Lines) (t : Tables) (a : Act) (result : Result (Unit {0}) ActStop) → Lacking (λ need. IsRowOf [] need ⊎ Then given all t (λ u. ActWants u given.sources.now.entries a [] need)) result → Lacking (λ need. Then given all t (λ u. ActWants u given.sources.now.entries a [] need)) result
 begin_wants given all t a (Ok done) h = tt

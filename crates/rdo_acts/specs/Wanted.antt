@@ -27,7 +27,7 @@ use Rattle.rdo_bind.specs.Acting.{Act, store, for_each, print, modify, erase, Ac
 use Rattle.rdo_select.specs.declared.crossing.Found.{Found}
 use Rattle.rdo_select.specs.Sources.{Listed}
 use Rattle.rdo_select.specs.Stops.{HaveValues}
-use Rattle.served_selections.specs.Ranges.{chosen_in_ranging}
+use Rattle.served_selections.specs.Ranges.{Chosen, chosen_in_ranging}
 use Rattle.rdo_acts.specs.declared.work.Given.{Given}
 use Rattle.rdo_acts.specs.declared.work.Work.{Work}
 use Rattle.rdo_acts.specs.declared.acting.Outcome.{Outcome}
@@ -59,18 +59,25 @@ pub record IsChosenRow (t : Tables) (s : BoundSelection) (vs : List Range) (need
   pub chosen : selection (named_ranging (ranging_of s.inner)) (map written_clause s.clauses) t scope ≡ these tuples
   pub row : AnyByRecursion (λ ks. IsOneOf ks need) tuples
 
--- What the parts of an action lack in these tables, where the variables around it are vs: what is read of a relation of one of their selections, by a scan or by an index; the row of a tuple that a FOR has chosen; and where a row is written, a line of an index or a room.
+-- What the parts of an action lack in these tables, where the variables around it are vs, and this is what is read of relations of selections: that of one of their selections; the row of a tuple that a FOR has chosen; and where a row is written, a line of an index or a room.
 abbrev mutual
-  pub ActWants : Tables → Listed → Act → List Range → Need → Type 0
-  ActWants t sources (store s as') vs need = IsReadAmong t sources (chosen_in_assigns as' (vs ++ s.range ∷ [])) need ⊎ IsNodeIn t need
-  ActWants t sources (for_each s body) vs need = IsReadAmong t sources (chosen_in_ranging (ranging_of s.inner) vs) need ⊎ (IsChosenRow t s vs need ⊎ ActsWant t sources body (vs ++ ranges_in (ranging_of s.inner)) need)
-  ActWants t sources (print items) vs need = IsReadAmong t sources (chosen_in_items items vs) need
-  ActWants t sources (modify v as') vs need = IsReadAmong t sources (chosen_in_assigns as' vs) need ⊎ IsNodeIn t need
-  ActWants t sources (erase v) vs need = IsNodeIn t need
+  pub ActLacks : Tables → (List Chosen → Need → Type 0) → Act → List Range → Need → Type 0
+  ActLacks t Reads (store s as') vs need = Reads (chosen_in_assigns as' (vs ++ s.range ∷ [])) need ⊎ IsNodeIn t need
+  ActLacks t Reads (for_each s body) vs need = Reads (chosen_in_ranging (ranging_of s.inner) vs) need ⊎ (IsChosenRow t s vs need ⊎ ActsLack t Reads body (vs ++ ranges_in (ranging_of s.inner)) need)
+  ActLacks t Reads (print items) vs need = Reads (chosen_in_items items vs) need
+  ActLacks t Reads (modify v as') vs need = Reads (chosen_in_assigns as' vs) need ⊎ IsNodeIn t need
+  ActLacks t Reads (erase v) vs need = IsNodeIn t need
 
-  pub ActsWant : Tables → Listed → Acts → List Range → Need → Type 0
-  ActsWant t sources no_act vs need = ⊥
-  ActsWant t sources (act a rest) vs need = ActWants t sources a vs need ⊎ ActsWant t sources rest vs need
+  pub ActsLack : Tables → (List Chosen → Need → Type 0) → Acts → List Range → Need → Type 0
+  ActsLack t Reads no_act vs need = ⊥
+  ActsLack t Reads (act a rest) vs need = ActLacks t Reads a vs need ⊎ ActsLack t Reads rest vs need
+
+-- the same, by a scan or by an index
+abbrev pub ActWants : Tables → Listed → Act → List Range → Need → Type 0
+ActWants t sources = ActLacks t (IsReadAmong t sources)
+
+abbrev pub ActsWant : Tables → Listed → Acts → List Range → Need → Type 0
+ActsWant t sources = ActsLack t (IsReadAmong t sources)
 
 -- ---- at a moment of the work
 

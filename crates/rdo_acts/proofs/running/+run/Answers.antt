@@ -380,7 +380,7 @@ run_over-returns-in_err-run_body-clause-lacks t c none first u sound have =
     let stop = c.in_err-run_body.field-0.0 in
     let here = subst (λ (o : Over). IsSoundView o given.schema.now u first) (sym (c.loop-found.invariant.reads none)) sound in
     let own = tuple_values u scope c.args.ranges.now ss c.args.tuples.now c.loop-found.found-index c.found-item.result bound (omega arith) c.found-item.is (sym (length-map c.args.ranges.now (λ (s : BoundRange). s.range)))
-        (λ long. ap scope_of c.as_slice-in-loop-found.ensures ∙ c.in_ok-bound.ensures.tuple (ap length c.as_slice.ensures ∙ long) ∙ ap (λ ks. bind_tuple ss ks scope) c.as_slice.ensures) have in
+    (λ long. ap scope_of c.as_slice-in-loop-found.ensures ∙ c.in_ok-bound.ensures.tuple (ap length c.as_slice.ensures ∙ long) ∙ ap (λ ks. bind_tuple ss ks scope) c.as_slice.ensures) have in
     rw (p.1, p.2)
     (subst (λ vs. StopsAt (IsReadAmong u given.sources.now.entries (chosen_in_acts acts vs)) stop) (ap (λ b. variables_of (scope_of b)) c.as_slice-in-loop-found.ensures ∙ c.in_ok-bound.ensures.variables)
     (c.in_err-run_body.ensures.lacks (c.any_writes-writing.ensures ∙ none) first u here own))
@@ -500,10 +500,10 @@ run_over-returns-in_err-run_body-clause-wants t c all start u holds have =
     let sources = given.sources.now.entries in
     let binds : length x.tuple ≡ length c.args.ranges.now → bound ≡ bind_tuple ss x.tuple scope = λ long. ap scope_of c.as_slice-in-loop-found.ensures ∙ c.in_ok-bound.ensures.tuple (ap length c.as_slice.ensures ∙ long) ∙ ap (λ ks. bind_tuple ss ks scope) c.as_slice.ensures in
     let now = tuple_now given (named_acts acts) scope c.args.ranges.now tuples i x bound (omega arith) c.found-item.is binds
-        c.args.work.now c.loop-found.work c.run_body.new.work c.loop-found.invariant.known all start u holds have (c.loop-found.invariant.goes all start u holds have)
-        c.any_writes-writing.result (λ none. c.loop-found.invariant.reads (sym c.any_writes-writing.ensures ∙ none)) in
+    c.args.work.now c.loop-found.work c.run_body.new.work c.loop-found.invariant.known all start u holds have (c.loop-found.invariant.goes all start u holds have)
+    c.any_writes-writing.result (λ none. c.loop-found.invariant.reads (sym c.any_writes-writing.ensures ∙ none)) in
     let around = bound_is given (named_acts acts) scope c.args.ranges.now tuples i x bound (omega arith) c.found-item.is binds
-        c.args.work.now c.loop-found.work c.run_body.new.work c.loop-found.invariant.known all start u holds have (c.loop-found.invariant.goes all start u holds have) in
+    c.args.work.now c.loop-found.work c.run_body.new.work c.loop-found.invariant.known all start u holds have (c.loop-found.invariant.goes all start u holds have) in
     let variables = ap (λ b. variables_of (scope_of b)) c.as_slice-in-loop-found.ensures ∙ c.in_ok-bound.ensures.variables in
     rw (p.1, p.2)
     (stops_at (λ need. IsRowOf bound need ⊎ Then given all start (λ v. ActsWant v sources acts (variables_of bound) need))
