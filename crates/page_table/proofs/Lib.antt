@@ -3,3 +3,4 @@ pub mod Fitting
 pub mod Said
 pub mod Filling
 pub mod Present
+pub mod KeptAnew

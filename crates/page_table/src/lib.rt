@@ -7,7 +7,7 @@ mod scans;
 mod table;
 mod uses;
 
-pub use laws::the_table_has_the_lines;
-pub use reading::read_table;
+pub use laws::{a_table_is_kept, the_table_has_the_lines};
+pub use reading::{read_table, reread_page};
 pub use table::PageTable;
 pub use uses::{PageUse, Sought};

@@ -1,5 +1,5 @@
 // The table of an area file, read at opening.
-ghost use Rattle.std.specs.Prelude.{◌≡◌, ◌≤◌, ◌<◌, ◌-◌, ℕ, length, slice_index_or, IfOk, OnErr, IsErrOf, IsTrue};
+ghost use Rattle.std.specs.Prelude.{◌≡◌, ◌≤◌, ◌<◌, ◌-◌, ℕ, length, slice_index_or, IfOk, OnOk, OnErr, IsErrOf, IsTrue};
 ghost use Rattle.rdb_types.specs.declared.file.FileId.{FileId as File};
 ghost use Rattle.rdb_outside.specs.Causes.{Rose};
 ghost use Rattle.rdb_outside.specs.Disk.{OnlyReads};
@@ -8,7 +8,8 @@ ghost use Rattle.rdb_page.specs.Page.{lines_of as lines_in, class_at, IsClass, S
 ghost use Rattle.rdb_page.specs.Lines.{IsLine, line_place};
 ghost use Rattle.rdb_page.specs.Whole.{IsPageOf};
 ghost use Rattle.stable_lines.specs.Slots.{area_file as area_named, said_at};
-ghost use Rattle.page_table.specs.Pages.{nobodys};
+ghost use Rattle.page_table.specs.declared.uses.PageUse.{PageUse as PageEntry};
+ghost use Rattle.page_table.specs.Pages.{nobodys, IsWithin, Puts};
 ghost use Rattle.page_table.specs.Reading.{is_present as is_present_in, SaysUse, IsEntryOf, IsTableOf, ArePages};
 
 use crate::table::PageTable;
@@ -156,4 +157,30 @@ pub fn read_table<D: Disk>(
         table.put(slot + 1, used);
     }
     Ok(table)
+}
+
+/// Keeps anew what a page says, behind a write of it. The page is read once, and no memory is taken.
+pub fn reread_page<D: Disk>(
+    disk: &mut D,
+    table: &mut PageTable,
+    file: u32,
+    page: u32,
+) -> Result<(), OpeningFault>
+    requires within { IsWithin table.old page }
+    requires page { IsPage page }
+    ensures reads { OnlyReads (D.view disk.old) (D.view disk.new) }
+    ensures failed { IsErrOf result OpeningFault.Failed
+        → Rose (D.view disk.old).faults (D.view disk.new).faults }
+    ensures same { OnErr result (table.new ≡ table.old) }
+    ensures kept { OnOk result (IsTrue (D.view disk.old).tells
+        → (used : PageEntry)
+        × SaysUse page ((D.view disk.old).content (area_named file) (page - 1)) used
+        × Puts page used table.old table.new) }
+    ensures bad { (f : File) (slot : ℕ) → IsErrOf result (OpeningFault.Bad f slot)
+        → IsTrue (D.view disk.old).tells
+        → IsPageOf file page ((D.view disk.old).content (area_named file) (page - 1)) → ⊥ }
+{
+    let used = read_use(disk, file, page)?;
+    table.put(page, used);
+    Ok(())
 }

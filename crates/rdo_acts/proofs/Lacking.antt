@@ -46,7 +46,7 @@ use Rattle.rdo_acts.specs.Ends.{ActStop, GoTogether}
 use Rattle.rdo_acts.specs.Scopes.{may_write}
 use Rattle.rdo_acts.specs.Selections.{chosen_in_items, chosen_in_act, chosen_in_acts, IsReadAmong, ReadsAmong, RunsAmong, IsAmong, LacksAmong}
 use Rattle.rdo_acts.specs.Stops.{stop_of_select}
-use Rattle.rdo_acts.specs.Told.{Finishes, stopped_as, StopsAs}
+use Rattle.rdo_acts.specs.Told.{Finishes, StopsAs}
 use Rattle.rdo_acts.proofs.Viewing.{shows, sound_view}
 use Rattle.rdo_acts.proofs.ActEnds.{at_start}
 
@@ -129,15 +129,12 @@ none_writes action a e writes none = let bad : true ≡ false = sym writes ∙ a
 -- ---- what comes of an action
 
 module _ (t : Tables) (sources : Listed) (cs : List Chosen) where
-  why_among : (why : ActStop) (keys : List Dbkey) → StopsAt (IsReadAmong t sources cs) why → IsAmong (stopped_as why keys) t sources cs
-  why_among (Missing need) keys h = h
-  why_among (Bad key) keys h = tt
-  why_among NoMemory keys h = tt
-  why_among (Own refusal) keys h = tt
-
-  stopped_among : (o : Outcome) (why : ActStop) (keys : List Dbkey) → StopsAs o why keys → StopsAt (IsReadAmong t sources cs) why → IsAmong o t sources cs
-  stopped_among o why keys (inl is) h = subst (λ (x : Outcome). IsAmong x t sources cs) (sym is) (why_among why keys h)
-  stopped_among o why keys (inr is) h = subst (λ (x : Outcome). IsAmong x t sources cs) (sym is) tt
+  stopped_among : (o : Outcome) (why : ActStop) (keys : List Dbkey) (known : Knowledge) → StopsAs o why keys known → StopsAt (IsReadAmong t sources cs) why → IsAmong o t sources cs
+  stopped_among o (Missing need) keys known (inl is) h = subst (λ (x : Outcome). IsAmong x t sources cs) (sym is.is) h
+  stopped_among o (Missing need) keys known (inr is) h = subst (λ (x : Outcome). IsAmong x t sources cs) (sym is) tt
+  stopped_among o (Bad key) keys known is h = subst (λ (x : Outcome). IsAmong x t sources cs) (sym is) tt
+  stopped_among o NoMemory keys known is h = subst (λ (x : Outcome). IsAmong x t sources cs) (sym is) tt
+  stopped_among o (Own refusal) keys known is h = subst (λ (x : Outcome). IsAmong x t sources cs) (sym is) tt
 
   finished_among : (o : Outcome) (w : Work) → Finishes o w → IsAmong o t sources cs
   finished_among (outcome.Done what) w is = tt
@@ -158,9 +155,9 @@ module _ (given : Given) (a : Act) (known : Held) (view : Over) (w : Work) (fres
   pub act_done_among : (new : Work) (o : Outcome) → Finishes o new → LacksAmong o a (knows known) given
   act_done_among new o is none all t agrees sound = finished_among t given.sources.now.entries (chosen_in_act a []) o new is
 
-  pub act_stopped_among : (keys : List Dbkey) (o : Outcome) (why : ActStop) → StopsAs o why keys
+  pub act_stopped_among : (then : Knowledge) (keys : List Dbkey) (o : Outcome) (why : ActStop) → StopsAs o why keys then
       → (may_write a ≡ false → (first : Lines) (t : Tables) → IsSoundView w.view given.schema.now t first → ReadsAmong {T = Unit {0}} {E = Refusal} t given.sources.now.entries (chosen_in_act a []) (Err why)) → LacksAmong o a (knows known) given
-  act_stopped_among keys o why is reads none all t agrees sound = stopped_among t given.sources.now.entries (chosen_in_act a []) o why keys is (reads none all t (begun_view all t agrees sound))
+  act_stopped_among then keys o why is reads none all t agrees sound = stopped_among t given.sources.now.entries (chosen_in_act a []) o why keys then is (reads none all t (begun_view all t agrees sound))
 
 -- ---- a FOR
 

@@ -15,6 +15,7 @@ pub mod Turns
 pub mod Bodies
 pub mod Selected
 pub mod Writing
+pub mod AheadNeeds
 pub mod ActEnds
 pub mod Arms
 pub mod UsesWithin

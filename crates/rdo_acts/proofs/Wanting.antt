@@ -62,7 +62,7 @@ use Rattle.rdo_acts.specs.Scopes.{binding_of, scope_of, missing_values}
 use Rattle.rdo_acts.specs.Selections.{chosen_in_items, chosen_in_assigns, IsReadAmong, ReadsAmong, RunsAmong}
 use Rattle.rdo_acts.specs.Wanted.{index_areas, IsNodeIn, IsOneOf, IsChosenRow, ActWants, ActsWant, Then, IsRowOf, Lacking, RunsWanting, TuplesWanting, IsWanted, WantsSo}
 use Rattle.rdo_acts.specs.Stops.{stop_of_select}
-use Rattle.rdo_acts.specs.Told.{Finishes, stopped_as, StopsAs}
+use Rattle.rdo_acts.specs.Told.{Finishes, StopsAs}
 use Rattle.rdo_acts.proofs.Viewing.{shows, sound_view}
 use Rattle.rdo_acts.proofs.ActEnds.{at_start}
 use Rattle.rdo_acts.proofs.RowMade.{stored_values}
@@ -246,15 +246,12 @@ module _ (given : Given) (all : Lines) (t : Tables) (a : Act) where
   abbrev WantsHere : Need → Type 0
   WantsHere need = Then given all t (λ u. ActWants u given.sources.now.entries a [] need)
 
-  why_wanted : (why : ActStop) (keys : List Dbkey) → StopsAt WantsHere why → IsWanted (stopped_as why keys) given all t a
-  why_wanted (stop.Missing need) keys h = h
-  why_wanted (stop.Bad key) keys h = tt
-  why_wanted stop.NoMemory keys h = tt
-  why_wanted (stop.Own refusal) keys h = tt
-
-  stopped_wanted : (o : Outcome) (why : ActStop) (keys : List Dbkey) → StopsAs o why keys → StopsAt WantsHere why → IsWanted o given all t a
-  stopped_wanted o why keys (inl is) h = subst (λ (x : Outcome). IsWanted x given all t a) (sym is) (why_wanted why keys h)
-  stopped_wanted o why keys (inr is) h = subst (λ (x : Outcome). IsWanted x given all t a) (sym is) tt
+  stopped_wanted : (o : Outcome) (why : ActStop) (keys : List Dbkey) (known : Knowledge) → StopsAs o why keys known → StopsAt WantsHere why → IsWanted o given all t a
+  stopped_wanted o (stop.Missing need) keys known (inl is) h = subst (λ (x : Outcome). IsWanted x given all t a) (sym is.is) h
+  stopped_wanted o (stop.Missing need) keys known (inr is) h = subst (λ (x : Outcome). IsWanted x given all t a) (sym is) tt
+  stopped_wanted o (stop.Bad key) keys known is h = subst (λ (x : Outcome). IsWanted x given all t a) (sym is) tt
+  stopped_wanted o stop.NoMemory keys known is h = subst (λ (x : Outcome). IsWanted x given all t a) (sym is) tt
+  stopped_wanted o (stop.Own refusal) keys known is h = subst (λ (x : Outcome). IsWanted x given all t a) (sym is) tt
 
   finished_wanted : (o : Outcome) (w : Work) → Finishes o w → IsWanted o given all t a
   finished_wanted (outcome.Done what) w is = tt
@@ -282,6 +279,6 @@ module _ (given : Given) (a : Act) (known : Held) (view : Over) (w : Work) (fres
   pub act_done_wanted : (new : Work) (o : Outcome) → Finishes o new → WantsSo o a (knows known) given
   act_done_wanted new o is all t agrees sound = finished_wanted given all t a o new is
 
-  pub act_stopped_wanted : (keys : List Dbkey) (o : Outcome) (why : ActStop) → StopsAs o why keys
+  pub act_stopped_wanted : (then : Knowledge) (keys : List Dbkey) (o : Outcome) (why : ActStop) → StopsAs o why keys then
       → ((all : Lines) (t : Tables) → HoldsIn given w all t t → Lacking {T = Unit {0}} {E = Refusal} (λ need. Then given all t (λ u. ActWants u given.sources.now.entries a [] need)) (Err why)) → WantsSo o a (knows known) given
-  act_stopped_wanted keys o why is wants all t agrees sound = stopped_wanted given all t a o why keys is (wants all t (begun all t agrees sound))
+  act_stopped_wanted then keys o why is wants all t agrees sound = stopped_wanted given all t a o why keys then is (wants all t (begun all t agrees sound))

@@ -6,5 +6,6 @@ pub mod Selections
 pub mod Wanted
 pub mod Stops
 pub mod Printing
+pub mod Ahead
 pub mod Acted
 pub mod Told
