@@ -7,7 +7,6 @@ use Rattle.rdb_types.specs.declared.keys.Dbkey.{Dbkey}
 use Rattle.rdb_types.specs.declared.values.Field.{Field}
 use Rattle.rdo_ast.specs.declared.syntax.Range.{Range}
 use Rattle.rdo_ast.specs.Tree.{Name}
-use Rattle.rdb_meaning.specs.declared.scope.Binding.{Binding}
 use Rattle.rdb_meaning.specs.declared.tables.Relation.{Relation}
 use Rattle.rdb_meaning.specs.declared.tables.Tables.{Tables}
 use Rattle.rdb_meaning.specs.Contents.{Row, relation_named}
@@ -27,7 +26,6 @@ use Rattle.statement_view.specs.Over.{Over, Stands, knows_over}
 use Rattle.statement_view.specs.Areas.{is_among}
 use Rattle.row_writes.specs.declared.target.TargetRelation.{TargetRelation}
 use Rattle.row_writes.specs.Rows.{IsSoundView}
-use Rattle.row_writes.specs.Stop.{RowStop}
 use Rattle.row_writes.specs.Areas.{areas_of, IsNodeOf}
 use Rattle.row_writes.proofs.AreaLists.{StopsAt, stops_at}
 use Rattle.stored_schema.specs.Targets.{IsTargetIn}
@@ -42,7 +40,7 @@ use Rattle.rdo_bind.specs.declared.action.BoundAction.{BoundAction}
 use Rattle.rdo_bind.specs.declared.assign.BoundAssign.{BoundAssign}
 use Rattle.rdo_bind.specs.Assigning.{IsBoundAssign}
 use Rattle.rdo_bind.specs.declared.action.BoundPrintItem.{BoundPrintItem}
-use Rattle.rdo_bind.specs.Acting.{Act, print, for_each, Acts, act_of, acts_of, named_acts, IsBoundAct}
+use Rattle.rdo_bind.specs.Acting.{Act, print, for_each, Acts, act_of, acts_of, IsBoundAct}
 use Rattle.rdo_bind.proofs.Lists.{variables_behind}
 use Rattle.bound_actions.proofs.Same.{act_same}
 use Rattle.rdo_select.specs.declared.crossing.Found.{Found}
@@ -60,7 +58,7 @@ use Rattle.rdo_acts.specs.declared.acting.Outcome.TheVariants as outcome
 use Rattle.rdo_acts.specs.Ends.{ActStop, GoTogether, HoldsIn}
 use Rattle.rdo_acts.specs.Scopes.{binding_of, scope_of, missing_values}
 use Rattle.rdo_acts.specs.Selections.{chosen_in_items, chosen_in_assigns, IsReadAmong, ReadsAmong, RunsAmong}
-use Rattle.rdo_acts.specs.Wanted.{index_areas, IsNodeIn, IsOneOf, IsChosenRow, ActWants, ActsWant, Then, IsRowOf, Lacking, RunsWanting, TuplesWanting, IsWanted, WantsSo}
+use Rattle.rdo_acts.specs.Wanted.{IsNodeIn, IsOneOf, ActWants, ActsWant, Then, IsRowOf, Lacking, RunsWanting, TuplesWanting, IsWanted, WantsSo}
 use Rattle.rdo_acts.specs.Stops.{stop_of_select}
 use Rattle.rdo_acts.specs.Told.{Finishes, StopsAs}
 use Rattle.rdo_acts.proofs.Viewing.{shows, sound_view}

@@ -1,10 +1,9 @@
 -- What STORE, MODIFY and ERASE lack.
-use Rattle.std.proofs.Common.{◌≡◌, ◌⊎◌, ℕ, List, [], ◌∷◌, ◌++◌, Option, Some, Result, Ok, Err, inl, inr, sym}
+use Rattle.std.proofs.Common.{◌≡◌, ◌⊎◌, List, [], ◌∷◌, ◌++◌, Option, Some, Result, Ok, Err, inl, inr}
 use Rattle.std.specs.Prelude.{slice_get}
 use Rattle.std.specs.List.{All}
 use Rattle.std.specs.FinMap.Entries.{find}
 use Rattle.rdb_types.specs.declared.keys.Dbkey.{Dbkey}
-use Rattle.rdb_types.specs.declared.values.Field.{Field}
 use Rattle.rdb_types.specs.Order.{dbkey_order}
 use Rattle.rdo_ast.specs.Tree.{Name}
 use Rattle.rdb_meaning.specs.declared.tables.Relation.{Relation as Rows}
@@ -16,7 +15,6 @@ use Rattle.line_view.specs.declared.stop.Never.{Never}
 use Rattle.line_view.specs.declared.stop.Stop.{Stop}
 use Rattle.line_view.specs.Knowledge.{Lines}
 use Rattle.line_view.specs.Stops.{of_view}
-use Rattle.catalog_lines.specs.declared.line.IndexLine.{IndexLine}
 use Rattle.sound_changes.specs.Standing.{IsSoundAs}
 use Rattle.row_writes.specs.declared.target.TargetRelation.{TargetRelation}
 use Rattle.row_writes.specs.Stop.{RowStop}
@@ -25,7 +23,7 @@ use Rattle.row_writes.specs.Areas.{areas_of, areas_with, IsNodeOf, StoreNodes, C
 use Rattle.row_writes.proofs.AreaLists.{StopsAt, stops_at}
 use Rattle.stored_schema.specs.Targets.{IsTargetIn}
 use Rattle.rdo_values.specs.declared.bound.BoundRange.{BoundRange}
-use Rattle.rdo_values.specs.Rows.{row_of, variables_of}
+use Rattle.rdo_values.specs.Rows.{variables_of}
 use Rattle.rdo_bind.specs.declared.assign.BoundAssign.{BoundAssign}
 use Rattle.rdo_bind.specs.declared.variable.BoundVariable.{BoundVariable}
 use Rattle.rdo_bind.specs.Acting.{Act, store, modify, erase, IsBoundAct}

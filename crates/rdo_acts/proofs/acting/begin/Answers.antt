@@ -1,5 +1,4 @@
 use Rattle.std.proofs.Common.{sym}
-use Rattle.std.proofs.Common.{Result, Err, Ok}
 use Rattle.rdo_bind.specs.Acting.{act_of}
 use Rattle.rdo_acts.proofs.Wanting.{begin_wants}
 use Rattle.rdo_acts.proofs.acting.begin.Goals as goal
