@@ -7,7 +7,7 @@ ghost use Rattle.area_files.specs.Areas.{IsDataPage};
 ghost use Rattle.stable_lines.specs.Slots.{area_file};
 ghost use Rattle.stable_lines.specs.Progress.{Open, Flight};
 ghost use Rattle.line_moves.specs.Calls.{OnlyWrites};
-ghost use Rattle.line_moves.specs.Lines.{AreDistinct};
+ghost use Rattle.line_moves.specs.Lines.{AreDistinct, PutsOnly};
 ghost use Rattle.line_seat.specs.Groups.{AreAllowed, ArePlaced, HaveClasses};
 ghost use Rattle.line_seat.specs.declared.commit.CommitStage.TheVariants.{Gathering};
 ghost use Rattle.disk_seats.specs.Ledgers.{Ledger, this_commit, held_up, behind_step};
@@ -42,6 +42,11 @@ pub fn go_on<D: Disk>(
         × OnlyWrites file slot (D.view disk.old) (D.view disk.new) }
     ensures failed { IsErrOf result Fault.Failed
         → Rose (D.view disk.old).faults (D.view disk.new).faults }
+
+    // Whatever it answers, each line is as it was, or one of these.
+    ensures changes { IsTrue (D.view disk.old).tells → (ledger : Ledger)
+        → LedgerFacts (D.view disk.old) ledger
+        → PutsOnly lines.now (D.view disk.old).content (D.view disk.new).content }
 
     // Whatever it answers, the commit can go on.
     ensures keeps { IsTrue (D.view disk.old).tells
