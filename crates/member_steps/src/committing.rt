@@ -1,9 +1,14 @@
 // A member's commit, from its pages' owners to its answer.
-ghost use Rattle.std.specs.Prelude.{◌≡◌, ◌+◌, ◌≤◌, ◌<◌, ◌^◌, ℕ, List, length, IfOk, IsErrOf, IsTrue};
+ghost use Rattle.std.specs.Prelude.{◌≡◌, ◌≢◌, ◌+◌, ◌≤◌, ◌<◌, ◌^◌, ℕ, List, length, IfOk, IsErrOf, IsTrue};
+ghost use Rattle.rdb_types.specs.declared.file.FileId.{FileId as File};
+ghost use Rattle.rdb_types.specs.declared.file.FileKind.TheVariants.{Snap};
 ghost use Rattle.rdb_outside.specs.Causes.{Rose};
-ghost use Rattle.stable_lines.specs.Slots.{Undo};
+ghost use Rattle.rdb_outside.specs.Disk.{OnlyReads};
+ghost use Rattle.stable_lines.specs.Slots.{Undo, area_file};
 ghost use Rattle.stable_lines.specs.Progress.{Open, Flight};
-ghost use Rattle.line_moves.specs.Lines.{AreDistinct};
+ghost use Rattle.line_moves.specs.Calls.{OnlyWrites};
+ghost use Rattle.line_moves.specs.Changes.{KeepsLines};
+ghost use Rattle.line_moves.specs.Lines.{AreDistinct, PutsOnly};
 ghost use Rattle.line_seat.specs.Groups.{AreAllowed, ArePlaced, HaveClasses};
 ghost use Rattle.line_seat.specs.declared.commit.CommitStage.TheVariants.{Gathering};
 ghost use Rattle.disk_seats.specs.Ledgers.{Ledger};
@@ -36,8 +41,13 @@ fn enter_next<D: Disk>(
     lines: &[(Dbkey, Line)],
 ) -> Result<CommitTurn, Fault>
     requires placed { ArePlaced lines.now }
+    ensures writes { (file : ℕ) × (slot : ℕ)
+        × OnlyWrites (area_file file) slot (D.view disk.old) (D.view disk.new) }
     ensures failed { IsErrOf result Fault.Failed
         → Rose (D.view disk.old).faults (D.view disk.new).faults }
+    ensures lines { IsTrue (D.view disk.old).tells → (ledger : Ledger)
+        → LedgerFacts (D.view disk.old) ledger
+        → KeepsLines (D.view disk.old).content (D.view disk.new).content }
     ensures keeps { IsTrue (D.view disk.old).tells → (ledger : Ledger) (plan : Plan)
         → LedgerFacts (D.view disk.old) ledger → plan.lines ≡ lines.now
         → TurnFacts (Entering at) (D.view disk.old) ledger plan
@@ -61,6 +71,7 @@ fn enter_next<D: Disk>(
 
 // The barrier behind which the before-images stand and the pages may be written.
 fn secure<D: Disk>(disk: &mut D) -> Result<CommitTurn, Fault>
+    ensures reads { OnlyReads (D.view disk.old) (D.view disk.new) }
     ensures failed { IsErrOf result Fault.Failed
         → Rose (D.view disk.old).faults (D.view disk.new).faults }
     ensures keeps { IsTrue (D.view disk.old).tells → (ledger : Ledger)
@@ -92,8 +103,13 @@ fn go_further<D: Disk>(
     requires room { group.slot + (length lines.now + 1) < 2 ^ 32 }
     requires number { group.number ≤ 2 ^ 62 }
     requires tsn { group.tsn.number < 2 ^ 62 }
+    ensures writes { (file : File) × (slot : ℕ) × (file.kind ≢ Snap)
+        × OnlyWrites file slot (D.view disk.old) (D.view disk.new) }
     ensures failed { IsErrOf result Fault.Failed
         → Rose (D.view disk.old).faults (D.view disk.new).faults }
+    ensures changes { IsTrue (D.view disk.old).tells → (ledger : Ledger)
+        → LedgerFacts (D.view disk.old) ledger
+        → PutsOnly lines.now (D.view disk.old).content (D.view disk.new).content }
     ensures keeps { IsTrue (D.view disk.old).tells
         → (ledger : Ledger) (member : ℕ) (transaction : Open) (all : List Undo) (flight : Flight)
         → LedgerFacts (D.view disk.old) ledger
@@ -130,8 +146,17 @@ pub fn commit_next<D: Disk>(
     requires room { group.slot + (length lines.now + 1) < 2 ^ 32 }
     requires number { group.number ≤ 2 ^ 62 }
     requires tsn { group.tsn.number < 2 ^ 62 }
+
+    // It writes one slot at most, and none of a snapshot file.
+    ensures writes { (file : File) × (slot : ℕ) × (file.kind ≢ Snap)
+        × OnlyWrites file slot (D.view disk.old) (D.view disk.new) }
     ensures failed { IsErrOf result Fault.Failed
         → Rose (D.view disk.old).faults (D.view disk.new).faults }
+
+    // Whatever it answers, each line is as it was, or one of these.
+    ensures changes { IsTrue (D.view disk.old).tells → (ledger : Ledger)
+        → LedgerFacts (D.view disk.old) ledger
+        → PutsOnly lines.now (D.view disk.old).content (D.view disk.new).content }
 
     // Whatever it answers, the ledger stays, and the commit can go on.
     ensures keeps { IsTrue (D.view disk.old).tells
