@@ -14,7 +14,7 @@ ghost use Rattle.line_seat.specs.declared.commit.CommitStage.TheVariants.{Gather
 ghost use Rattle.disk_seats.specs.Ledgers.{Ledger};
 ghost use Rattle.disk_seats.specs.Members.{LedgerFacts};
 ghost use Rattle.member_steps.specs.declared.committing.CommitTurn.TheVariants.{Entering, Securing, Going};
-ghost use Rattle.member_steps.specs.Turns.{Plan, plan_of, TurnFacts, NextFacts, ledger_behind, ledger_held};
+ghost use Rattle.member_steps.specs.Turns.{IsNextTurn, Plan, plan_of, TurnFacts, NextFacts, ledger_behind, ledger_held};
 
 use disk_seats::{enter, go_on, settle};
 use line_moves::place_of;
@@ -48,6 +48,7 @@ fn enter_next<D: Disk>(
     ensures lines { IsTrue (D.view disk.old).tells → (ledger : Ledger)
         → LedgerFacts (D.view disk.old) ledger
         → KeepsLines (D.view disk.old).content (D.view disk.new).content }
+    ensures order { IfOk result (IsNextTurn (Entering at)) }
     ensures keeps { IsTrue (D.view disk.old).tells → (ledger : Ledger) (plan : Plan)
         → LedgerFacts (D.view disk.old) ledger → plan.lines ≡ lines.now
         → TurnFacts (Entering at) (D.view disk.old) ledger plan
@@ -72,6 +73,7 @@ fn enter_next<D: Disk>(
 // The barrier behind which the before-images stand and the pages may be written.
 fn secure<D: Disk>(disk: &mut D) -> Result<CommitTurn, Fault>
     ensures reads { OnlyReads (D.view disk.old) (D.view disk.new) }
+    ensures order { IfOk result (IsNextTurn Securing) }
     ensures failed { IsErrOf result Fault.Failed
         → Rose (D.view disk.old).faults (D.view disk.new).faults }
     ensures keeps { IsTrue (D.view disk.old).tells → (ledger : Ledger)
@@ -116,6 +118,7 @@ fn go_further<D: Disk>(
         → let plan = plan_of member transaction all group lines.now classes.now flight in
         TurnFacts (Going stage) (D.view disk.old) ledger plan
         → LedgerFacts (D.view disk.new) (ledger_held (Going stage) plan ledger) }
+    ensures order { IfOk result (IsNextTurn (Going stage)) }
     ensures goes_on { IfOk result (λ next. IsTrue (D.view disk.old).tells
         → (ledger : Ledger) (member : ℕ) (transaction : Open) (all : List Undo) (flight : Flight)
         → LedgerFacts (D.view disk.old) ledger
@@ -165,6 +168,9 @@ pub fn commit_next<D: Disk>(
         → let plan = plan_of member transaction all group lines.now classes.now flight in
         TurnFacts turn (D.view disk.old) ledger plan
         → LedgerFacts (D.view disk.new) (ledger_held turn plan ledger) }
+
+    // The turns come one behind another.
+    ensures order { IfOk result (IsNextTurn turn) }
 
     // It is further. At the last turn the lines are committed, since this moment.
     ensures goes_on { IfOk result (λ next. IsTrue (D.view disk.old).tells
