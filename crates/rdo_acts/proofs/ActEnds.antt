@@ -1,6 +1,6 @@
 -- What comes of an action, from its work on a view in which nothing was written.
 use Rattle.std.proofs.Common.{◌≡◌, true, false, List, [], ◌++◌, Option, Some, None, Result, Ok, Err, sym, ap, subst, ◌∙◌, inl, inr}
-use Rattle.std.proofs.lemmas.List.Elements.{All-nil, All-cons}
+use Rattle.std.proofs.lemmas.List.Elements.{All-cons}
 use Rattle.rdb_types.specs.declared.keys.Dbkey.{Dbkey}
 use Rattle.rdo_ast.specs.declared.reply.Reply.{Reply}
 use Rattle.rdo_ast.specs.Tree.{Act, perform}
@@ -33,7 +33,8 @@ use Rattle.rdo_acts.specs.declared.acting.Outcome.TheVariants.{Done, Refused, Mi
 use Rattle.rdo_acts.specs.Ends.{ActStop, reply_of, stage, HoldsIn, Refuses, Ends}
 use Rattle.rdo_acts.specs.Acted.{IsActedOver, IsRefusedOver, ComesOf, Comes, IsOrdered, NamesNeeds}
 use Rattle.rdo_acts.specs.Areas.{KeepsFor, IsFor, StaysFor}
-use Rattle.rdo_acts.specs.Told.{Finishes, stopped_as, StopsAs}
+use Rattle.rdo_acts.specs.Told.{Finishes, StopsAs}
+use Rattle.rdo_acts.proofs.AheadNeeds.{ahead_lack, ahead_among}
 use Rattle.rdo_acts.proofs.Viewing.{laid_writes}
 
 -- at the start of the work nothing is written
@@ -113,16 +114,14 @@ module _ (given : Given) (a : Act) (old new : Work) (all : Lines) (t : Tables) (
   comes_done (Bad key) is goes = absurd is
   comes_done NoMemory is goes = tt
 
-  why_comes : (why : ActStop) → IsSoundAs all c t → Ends (Err why) given all t job old new t → ComesOf (stopped_as why new.given) a known c all t
-  why_comes (stop.Missing need) sound h = All-cons (Lacks known) need [] h (All-nil (Lacks known))
-  why_comes (stop.Bad key) sound h = h
-  why_comes stop.NoMemory sound h = tt
-  why_comes (stop.Own refusal) sound h = refused (reply_of refusal) sound h
-
   -- what comes of an action that stopped
-  pub comes_stopped : (outcome : Outcome) (why : ActStop) → StopsAs outcome why new.given → IsSoundAs all c t → Ends (Err why) given all t job old new t → ComesOf outcome a known c all t
-  comes_stopped outcome why (inl is) sound h = subst (λ (o : Outcome). ComesOf o a known c all t) (sym is) (why_comes why sound h)
-  comes_stopped outcome why (inr is) sound h = subst (λ (o : Outcome). ComesOf o a known c all t) (sym is) tt
+  pub comes_stopped : (outcome : Outcome) (why : ActStop) → StopsAs outcome why new.given known → IsSoundAs all c t → Ends (Err why) given all t job old new t → ComesOf outcome a known c all t
+  comes_stopped outcome (stop.Missing need) (inl lacking) sound h =
+      subst (λ (o : Outcome). ComesOf o a known c all t) (sym lacking.is) (All-cons (Lacks known) need lacking.behind h (ahead_lack known need lacking.behind lacking.ahead))
+  comes_stopped outcome (stop.Missing need) (inr is) sound h = subst (λ (o : Outcome). ComesOf o a known c all t) (sym is) tt
+  comes_stopped outcome (stop.Bad key) is sound h = subst (λ (o : Outcome). ComesOf o a known c all t) (sym is) h
+  comes_stopped outcome stop.NoMemory is sound h = subst (λ (o : Outcome). ComesOf o a known c all t) (sym is) tt
+  comes_stopped outcome (stop.Own refusal) is sound h = subst (λ (o : Outcome). ComesOf o a known c all t) (sym is) (refused (reply_of refusal) sound h)
 
 pub finishes_ordered : (outcome : Outcome) (w : Work) → Finishes outcome w → IsOrdered outcome
 finishes_ordered (Done what) w is = is.ordered
@@ -131,32 +130,26 @@ finishes_ordered (Missing needs) w is = tt
 finishes_ordered (Bad key) w is = tt
 finishes_ordered NoMemory w is = tt
 
-pub finishes_named : (outcome : Outcome) (w : Work) → Finishes outcome w → NamesNeeds outcome
-finishes_named (Done what) w is = tt
-finishes_named (Refused refusal given) w is = tt
-finishes_named (Missing needs) w is = absurd is
-finishes_named (Bad key) w is = tt
-finishes_named NoMemory w is = tt
+pub finishes_named : (outcome : Outcome) (w : Work) (known : Knowledge) → Finishes outcome w → NamesNeeds outcome known
+finishes_named (Done what) w known is = tt
+finishes_named (Refused refusal given) w known is = tt
+finishes_named (Missing needs) w known is = absurd is
+finishes_named (Bad key) w known is = tt
+finishes_named NoMemory w known is = tt
 
-stopped_ordered : (why : ActStop) (given : List Dbkey) → IsOrdered (stopped_as why given)
-stopped_ordered (stop.Missing need) given = tt
-stopped_ordered (stop.Bad key) given = tt
-stopped_ordered stop.NoMemory given = tt
-stopped_ordered (stop.Own refusal) given = tt
+pub stops_ordered : (outcome : Outcome) (why : ActStop) (given : List Dbkey) (known : Knowledge) → StopsAs outcome why given known → IsOrdered outcome
+stops_ordered outcome (stop.Missing need) given known (inl lacking) = subst IsOrdered (sym lacking.is) tt
+stops_ordered outcome (stop.Missing need) given known (inr is) = subst IsOrdered (sym is) tt
+stops_ordered outcome (stop.Bad key) given known is = subst IsOrdered (sym is) tt
+stops_ordered outcome stop.NoMemory given known is = subst IsOrdered (sym is) tt
+stops_ordered outcome (stop.Own refusal) given known is = subst IsOrdered (sym is) tt
 
-stopped_named : (why : ActStop) (given : List Dbkey) → NamesNeeds (stopped_as why given)
-stopped_named (stop.Missing need) given = λ h. let bad : ⊥ = cc in bad
-stopped_named (stop.Bad key) given = tt
-stopped_named stop.NoMemory given = tt
-stopped_named (stop.Own refusal) given = tt
-
-pub stops_ordered : (outcome : Outcome) (why : ActStop) (given : List Dbkey) → StopsAs outcome why given → IsOrdered outcome
-stops_ordered outcome why given (inl is) = subst IsOrdered (sym is) (stopped_ordered why given)
-stops_ordered outcome why given (inr is) = subst IsOrdered (sym is) tt
-
-pub stops_named : (outcome : Outcome) (why : ActStop) (given : List Dbkey) → StopsAs outcome why given → NamesNeeds outcome
-stops_named outcome why given (inl is) = subst NamesNeeds (sym is) (stopped_named why given)
-stops_named outcome why given (inr is) = subst NamesNeeds (sym is) tt
+pub stops_named : (outcome : Outcome) (why : ActStop) (given : List Dbkey) (known : Knowledge) → StopsAs outcome why given known → NamesNeeds outcome known
+stops_named outcome (stop.Missing need) given known (inl lacking) = subst (λ (o : Outcome). NamesNeeds o known) (sym lacking.is) lacking.ahead
+stops_named outcome (stop.Missing need) given known (inr is) = subst (λ (o : Outcome). NamesNeeds o known) (sym is) tt
+stops_named outcome (stop.Bad key) given known is = subst (λ (o : Outcome). NamesNeeds o known) (sym is) tt
+stops_named outcome stop.NoMemory given known is = subst (λ (o : Outcome). NamesNeeds o known) (sym is) tt
+stops_named outcome (stop.Own refusal) given known is = subst (λ (o : Outcome). NamesNeeds o known) (sym is) tt
 
 -- ---- in which areas
 
@@ -174,15 +167,14 @@ module _ (us : List Use) (t : Tables) (old new : Work) (none : old.view.lines �
   done_for (Bad key) is keeps = tt
   done_for NoMemory is keeps = tt
 
-  why_for : (why : ActStop) (given : List Dbkey) → KeepsFor {T = Unit {0}} {E = Refusal} t us old.view new.view (Err why) → IsFor (stopped_as why given) us t
-  why_for (stop.Missing need) given keeps = let next = IsNeedOf (areas_read t us) (areas_changed t us) in All-cons next need [] keeps (All-nil next)
-  why_for (stop.Bad key) given keeps = tt
-  why_for stop.NoMemory given keeps = tt
-  why_for (stop.Own refusal) given keeps = tt
-
-  pub stopped_for : (outcome : Outcome) (why : ActStop) (given : List Dbkey) → StopsAs outcome why given → KeepsFor {T = Unit {0}} {E = Refusal} t us old.view new.view (Err why) → IsFor outcome us t
-  stopped_for outcome why given (inl is) keeps = subst (λ (o : Outcome). IsFor o us t) (sym is) (why_for why given keeps)
-  stopped_for outcome why given (inr is) keeps = subst (λ (o : Outcome). IsFor o us t) (sym is) tt
+  pub stopped_for : (outcome : Outcome) (why : ActStop) (given : List Dbkey) (known : Knowledge) → StopsAs outcome why given known → KeepsFor {T = Unit {0}} {E = Refusal} t us old.view new.view (Err why) → IsFor outcome us t
+  stopped_for outcome (stop.Missing need) given known (inl lacking) keeps =
+      let next = IsNeedOf (areas_read t us) (areas_changed t us) in
+      subst (λ (o : Outcome). IsFor o us t) (sym lacking.is) (All-cons next need lacking.behind keeps (ahead_among (areas_read t us) (areas_changed t us) known need lacking.behind keeps lacking.ahead))
+  stopped_for outcome (stop.Missing need) given known (inr is) keeps = subst (λ (o : Outcome). IsFor o us t) (sym is) tt
+  stopped_for outcome (stop.Bad key) given known is keeps = subst (λ (o : Outcome). IsFor o us t) (sym is) tt
+  stopped_for outcome stop.NoMemory given known is keeps = subst (λ (o : Outcome). IsFor o us t) (sym is) tt
+  stopped_for outcome (stop.Own refusal) given known is keeps = subst (λ (o : Outcome). IsFor o us t) (sym is) tt
 
 -- ---- from what is known
 
@@ -209,7 +201,7 @@ module _ (given : Given) (a : Act) (known : Held) (view : Over) (w : Work) (fres
       (comes_done given a w new all t (ap (λ (x : Work). x.lines) empty) (ap (λ (x : Work). x.given) empty) outcome is (runs all t (begun_holds all t agrees sound)))
 
   -- an action that stopped
-  pub act_stopped : (new : Work) (outcome : Outcome) (why : ActStop) → StopsAs outcome why new.given → Begins (Err why) new → Comes outcome a (knows known) given.schema.now
+  pub act_stopped : (new : Work) (outcome : Outcome) (why : ActStop) → StopsAs outcome why new.given (knows w.view.base) → Begins (Err why) new → Comes outcome a (knows known) given.schema.now
   act_stopped new outcome why is runs all t agrees sound =
       comes_known outcome all t
       (comes_stopped given a w new all t (ap (λ (x : Work). x.lines) empty) (ap (λ (x : Work). x.given) empty) outcome why is sound (runs all t (begun_holds all t agrees sound)))
@@ -223,5 +215,5 @@ module _ (given : Given) (a : Act) (known : Held) (view : Over) (w : Work) (fres
   pub act_done_for : (new : Work) (outcome : Outcome) → Finishes outcome new → KeepsTo (Ok tt) new → StaysFor outcome a (knows known) given.schema.now
   act_done_for new outcome is keeps all t agrees sound = done_for (act_uses a []) t w new begun_lines outcome is (keeps all t (begun_holds all t agrees sound))
 
-  pub act_stopped_for : (new : Work) (outcome : Outcome) (why : ActStop) → StopsAs outcome why new.given → KeepsTo (Err why) new → StaysFor outcome a (knows known) given.schema.now
-  act_stopped_for new outcome why is keeps all t agrees sound = stopped_for (act_uses a []) t w new begun_lines outcome why new.given is (keeps all t (begun_holds all t agrees sound))
+  pub act_stopped_for : (new : Work) (outcome : Outcome) (why : ActStop) → StopsAs outcome why new.given (knows known) → KeepsTo (Err why) new → StaysFor outcome a (knows known) given.schema.now
+  act_stopped_for new outcome why is keeps all t agrees sound = stopped_for (act_uses a []) t w new begun_lines outcome why new.given (knows known) is (keeps all t (begun_holds all t agrees sound))

@@ -15,9 +15,13 @@ pub mod Turns
 pub mod Bodies
 pub mod Selected
 pub mod Writing
+pub mod AheadNeeds
 pub mod ActEnds
 pub mod Arms
 pub mod UsesWithin
 pub mod AreasRead
 pub mod AreasWritten
 pub mod ScopeUses
+pub mod Lacking
+pub mod Wanting
+pub mod WantingRows

@@ -1,5 +1,5 @@
 -- What comes of an action, over a map of lines with its tables.
-use Rattle.std.specs.Prelude.{◌≡◌, ◌≢◌, ℕ, List, [], map, Option, Some, None}
+use Rattle.std.specs.Prelude.{◌≡◌, ℕ, List, [], ◌∷◌, map, Option, Some, None}
 use Rattle.std.specs.List.{All}
 use Rattle.std.specs.List.Sorted.{IsStrictlySortedBy}
 use Rattle.rdb_types.specs.declared.keys.Dbkey.{Dbkey}
@@ -19,6 +19,8 @@ use Rattle.view_stages.specs.Records.{Said, IsRightOver}
 use Rattle.rdo_acts.specs.declared.acting.Acted.{Acted}
 use Rattle.rdo_acts.specs.declared.acting.Outcome.{Outcome}
 use Rattle.rdo_acts.specs.declared.acting.Outcome.TheVariants.{Done, Refused, Missing, Bad, NoMemory}
+use Rattle.line_view.specs.declared.need.Need.{Need}
+use Rattle.rdo_acts.specs.Ahead.{AreAhead}
 use Rattle.rdo_acts.specs.Ends.{reply_of}
 use Rattle.rdo_acts.specs.Unwritten.{IsUnwrittenOver}
 
@@ -58,7 +60,12 @@ abbrev pub IsOrdered : Outcome → Type 0
 IsOrdered (Done acted) = IsStrictlySortedBy dbkey_order (map (λ write. write.key) acted.writes)
 IsOrdered _ = Unit {0}
 
--- something is named that is needed
-abbrev pub NamesNeeds : Outcome → Type 0
-NamesNeeds (Missing needs) = needs ≢ []
-NamesNeeds _ = Unit {0}
+-- a first need, and others that come behind it
+abbrev pub AreNeeds : List Need → Knowledge → Type 0
+AreNeeds [] known = ⊥
+AreNeeds (first ∷ needs) known = AreAhead known first needs
+
+-- something is named that is needed, and what else is named comes behind it
+abbrev pub NamesNeeds : Outcome → Knowledge → Type 0
+NamesNeeds (Missing needs) known = AreNeeds needs known
+NamesNeeds _ known = Unit {0}

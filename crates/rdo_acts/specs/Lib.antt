@@ -2,7 +2,10 @@ pub mod Unwritten
 pub mod Scopes
 pub mod Ends
 pub mod Areas
+pub mod Selections
+pub mod Wanted
 pub mod Stops
 pub mod Printing
+pub mod Ahead
 pub mod Acted
 pub mod Told

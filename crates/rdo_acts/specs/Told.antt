@@ -1,17 +1,19 @@
 -- How the end of the work is told.
-use Rattle.std.specs.Prelude.{◌≡◌, ◌⊎◌, true, List, [], ◌∷◌, map}
+use Rattle.std.specs.Prelude.{◌≡◌, ◌⊎◌, true, List, ◌∷◌, map}
 use Rattle.std.specs.List.{AllByRecursion}
 use Rattle.std.specs.List.Sorted.{IsStrictlySortedBy}
 use Rattle.rdb_types.specs.declared.keys.Dbkey.{Dbkey}
 use Rattle.rdb_types.specs.Order.{dbkey_order}
 use Rattle.line_view.specs.declared.stop.Stop.TheVariants as stop
-use Rattle.line_view.specs.Knowledge.{Lines}
+use Rattle.line_view.specs.declared.need.Need.{Need}
+use Rattle.line_view.specs.Knowledge.{Knowledge, Lines}
 use Rattle.line_view.specs.Writes.{laid_all}
 use Rattle.statement_view.specs.Over.{laid_over, is_written}
 use Rattle.rdo_acts.specs.declared.work.Work.{Work}
 use Rattle.rdo_acts.specs.declared.acting.Acted.{Acted}
 use Rattle.rdo_acts.specs.declared.acting.Outcome.{Outcome}
 use Rattle.rdo_acts.specs.declared.acting.Outcome.TheVariants.{Done, Refused, Missing, Bad, NoMemory}
+use Rattle.rdo_acts.specs.Ahead.{AreAhead}
 use Rattle.rdo_acts.specs.Ends.{ActStop}
 
 -- what was done: the lines printed, the Dbkeys given and the writes are those of the work
@@ -30,13 +32,15 @@ Finishes (Missing needs) w = ⊥
 Finishes (Bad key) w = ⊥
 Finishes NoMemory w = Unit {0}
 
--- work that stopped, where these Dbkeys were given before
-abbrev pub stopped_as : ActStop → List Dbkey → Outcome
-stopped_as (stop.Missing need) given = Missing (need ∷ [])
-stopped_as (stop.Bad key) given = Bad key
-stopped_as stop.NoMemory given = NoMemory
-stopped_as (stop.Own refusal) given = Refused refusal given
+-- the first need, and those that come behind it
+pub record IsLacking (outcome : Outcome) (known : Knowledge) (first : Need) : Type 0 where
+  pub behind : List Need
+  pub is : outcome ≡ Missing (first ∷ behind)
+  pub ahead : AreAhead known first behind
 
--- the same, unless there is no memory to tell it
-abbrev pub StopsAs : Outcome → ActStop → List Dbkey → Type 0
-StopsAs outcome why given = (outcome ≡ stopped_as why given) ⊎ (outcome ≡ NoMemory)
+-- Work that stopped, where these Dbkeys were given before and this is known; needs are told unless there is no memory for it.
+abbrev pub StopsAs : Outcome → ActStop → List Dbkey → Knowledge → Type 0
+StopsAs outcome (stop.Missing need) given known = IsLacking outcome known need ⊎ (outcome ≡ NoMemory)
+StopsAs outcome (stop.Bad key) given known = outcome ≡ Bad key
+StopsAs outcome stop.NoMemory given known = outcome ≡ NoMemory
+StopsAs outcome (stop.Own refusal) given known = outcome ≡ Refused refusal given

@@ -1,5 +1,5 @@
 // An action of a statement, from what is known to what comes of it.
-ghost use Rattle.std.specs.Prelude.{◌≡◌, ◌∷◌, [], IfOk};
+ghost use Rattle.std.specs.Prelude.{◌≡◌, ◌∷◌, [], false, IfOk};
 ghost use Rattle.rdb_meaning.specs.declared.tables.Tables.{Tables as Kept};
 ghost use Rattle.rdb_meaning.specs.Checks.{act_uses};
 ghost use Rattle.rdb_meaning.specs.Execution.{done as doing};
@@ -9,8 +9,15 @@ ghost use Rattle.rdo_bind.specs.Acting.{act_of, written_act, IsBoundAct};
 ghost use Rattle.rdo_acts.specs.Ends.{GoTogether, HoldsIn, Ends};
 ghost use Rattle.rdo_acts.specs.Acted.{Comes, IsOrdered, NamesNeeds};
 ghost use Rattle.rdo_acts.specs.Areas.{KeepsFor, StaysFor};
-ghost use Rattle.rdo_acts.specs.Told.{Finishes, StopsAs};
+ghost use Rattle.rdo_acts.specs.Scopes.{may_write};
+ghost use Rattle.rdo_acts.specs.Selections.{chosen_in_act, ReadsAmong, LacksAmong};
+ghost use Rattle.rdo_acts.specs.Wanted.{ActWants, Then, Lacking, WantsSo};
+ghost use Rattle.row_writes.specs.Rows.{IsSoundView};
+ghost use Rattle.rdo_acts.specs.Ahead.{AreAhead};
+ghost use Rattle.rdo_acts.specs.Told.{Finishes, IsLacking, StopsAs};
 
+use crate::ahead::Batch;
+use crate::looking::{Sight, lines_ahead, rows_ahead};
 use crate::running::run_action;
 use crate::stop::{ActStop, Refusal};
 use crate::work::{Given, Work};
@@ -37,7 +44,7 @@ pub enum Outcome<'a> {
     Done(Acted),
     /// It was refused, and nothing is written; the rows that it had stored before got these Dbkeys.
     Refused { refusal: Refusal<'a>, given: Keys },
-    /// These needs are known none of; the first is what the work wants next.
+    /// These needs are known none of. The first is what the work wants next; the others are ones that it will want if nothing refuses it: rows that an index found, rooms for the rows that are left to be stored.
     Missing(Items<Need>),
     /// No sound map of lines has this line with these bytes.
     Bad(Dbkey),
@@ -58,30 +65,85 @@ fn begin<'a>(given: &Given<'a>, action: &BoundAction, work: &mut Work) -> Result
     ensures runs { (all : Lines) (t : Kept) → HoldsIn given.now work.old all t t → Ends result given.now all t (doing (written_act action.now) t []) work.old work.new t }
     ensures known { work.new.view.base ≡ work.old.view.base }
     ensures areas { (all : Lines) (t : Kept) → HoldsIn given.now work.old all t t → KeepsFor t (act_uses (written_act action.now) []) work.old.view work.new.view result }
+    ensures lacks { may_write (act_of action.now) ≡ false → (first : Lines) (t : Kept) → IsSoundView work.old.view given.now.schema.now t first → ReadsAmong t given.now.sources.now.entries (chosen_in_act (act_of action.now) []) result }
+    ensures wants { (all : Lines) (t : Kept) → HoldsIn given.now work.old all t t → Lacking (λ need. Then given.now all t (λ u. ActWants u given.now.sources.now.entries (act_of action.now) [] need)) result }
 {
     let values = Items::new(given.alloc);
     run_action(given, &[], &values, action, work)
 }
 
-fn lacking<'a>(alloc: Global, need: Need) -> Result<Outcome<'a>, NoMemory>
-    ensures { IfOk result (λ outcome. outcome ≡ Outcome.Missing (need ∷ [])) }
+// What comes behind the first need: rows that an index found, rooms for the rows that are left to be stored.
+fn needs_behind(
+    given: &Given<'_>,
+    known: &Known,
+    action: &BoundAction,
+    first: Need,
+    stored: &[Dbkey],
+) -> Result<Items<Need>, NoMemory>
+    ensures { IfOk result (AreAhead (knows known.now) first) }
+{
+    let sight = Sight {
+        alloc: given.alloc,
+        known,
+        sources: given.sources,
+    };
+    let mut batch = Batch::new(given.alloc, first);
+    match first {
+        Need::Line(_) => {
+            let keys = lines_ahead(sight, action)?;
+            batch.add_lines(known, &keys)?;
+        }
+        Need::Room(room) => {
+            let more = rows_ahead(sight, action, stored, room.area);
+            batch.add_rooms(known, room, more)?;
+        }
+        Need::Area(_) => {}
+    }
+    Ok(batch.needs)
+}
+
+fn lacking<'a>(alloc: Global, first: Need, behind: Items<Need>) -> Result<Outcome<'a>, NoMemory>
+    ensures { IfOk result (λ outcome. outcome ≡ Outcome.Missing (first ∷ behind)) }
 {
     let mut needs = Items::new(alloc);
-    needs.push(need)?;
+    needs.push(first)?;
+    needs.append(behind)?;
     Ok(Outcome::Missing(needs))
 }
 
-fn stopped<'a>(alloc: Global, stop: ActStop<'a>, given: Keys) -> Outcome<'a>
-    ensures { StopsAs result stop.entry given }
+fn missing<'a>(
+    given: &Given<'_>,
+    known: &Known,
+    action: &BoundAction,
+    first: Need,
+    stored: &[Dbkey],
+) -> Result<Outcome<'a>, NoMemory>
+    ensures { IfOk result (λ outcome. IsLacking outcome (knows known.now) first) }
+{
+    let behind = needs_behind(given, known, action, first, stored)?;
+    lacking(given.alloc, first, behind)
+}
+
+fn stopped<'a>(
+    given: &Given<'a>,
+    known: &Known,
+    action: &BoundAction,
+    stop: ActStop<'a>,
+    stored: Keys,
+) -> Outcome<'a>
+    ensures { StopsAs result stop.entry stored (knows known.now) }
 {
     match stop {
-        Stop::Missing(need) => match lacking(alloc, need) {
+        Stop::Missing(need) => match missing(given, known, action, need, stored.as_slice()) {
             Ok(outcome) => outcome,
             Err(_) => Outcome::NoMemory,
         },
         Stop::Bad(key) => Outcome::Bad(key),
         Stop::NoMemory => Outcome::NoMemory,
-        Stop::Own(refusal) => Outcome::Refused { refusal, given },
+        Stop::Own(refusal) => Outcome::Refused {
+            refusal,
+            given: stored,
+        },
     }
 }
 
@@ -107,16 +169,23 @@ fn finished<'a>(alloc: Global, work: Work) -> Ended<'a>
     }
 }
 
-fn abandoned<'a>(alloc: Global, work: Work, stop: ActStop<'a>) -> Ended<'a>
+fn abandoned<'a>(
+    given: &Given<'a>,
+    action: &BoundAction,
+    work: Work,
+    stop: ActStop<'a>,
+) -> Ended<'a>
     ensures known { result.known ≡ work.view.base }
-    ensures outcome { StopsAs result.outcome stop.entry work.given }
+    ensures outcome { StopsAs result.outcome stop.entry work.given (knows work.view.base) }
 {
-    let Work { view, given, .. } = work;
-    let outcome = stopped(alloc, stop, given);
-    Ended {
-        known: view.into_known(),
-        outcome,
-    }
+    let Work {
+        view,
+        given: stored,
+        ..
+    } = work;
+    let known = view.into_known();
+    let outcome = stopped(given, &known, action, stop, stored);
+    Ended { known, outcome }
 }
 
 /// Does an action over what is known, whose rooms were forgotten at the beginning of the statement. The action is bound to the catalog of the schema, and the sources are the schema's. What was known is given back.
@@ -126,12 +195,14 @@ pub fn act<'a>(given: &Given<'a>, known: Known, action: &BoundAction) -> Ended<'
     ensures known { result.known ≡ known }
     ensures comes { Comes result.outcome (written_act action.now) (knows known) given.now.schema.now }
     ensures ordered { IsOrdered result.outcome }
-    ensures needs { NamesNeeds result.outcome }
+    ensures needs { NamesNeeds result.outcome (knows known) }
     ensures areas { StaysFor result.outcome (written_act action.now) (knows known) given.now.schema.now }
+    ensures lacks { LacksAmong result.outcome (act_of action.now) (knows known) given.now }
+    ensures wants { WantsSo result.outcome (act_of action.now) (knows known) given.now }
 {
     let mut work = Work::new(given.alloc, Changed::new(given.alloc, known));
     match begin(given, action, &mut work) {
         Ok(()) => finished(given.alloc, work),
-        Err(stop) => abandoned(given.alloc, work, stop),
+        Err(stop) => abandoned(given, action, work, stop),
     }
 }

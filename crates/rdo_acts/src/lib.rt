@@ -2,7 +2,9 @@
 #![tactic(auto)]
 
 mod acting;
+mod ahead;
 mod assigning;
+mod looking;
 mod printing;
 mod running;
 mod scope;

@@ -121,19 +121,19 @@ module _ (read changed : List ℕ) (behind : Standing) where
   refused_stays (Some reply) given = tt
   refused_stays None given = tt
 
-acted_stays : (us : List Use) (t : Tables) (behind : Standing) (outcome : Outcome) (f : Found) → IsFoundOf outcome behind f → IsFor outcome us t → FoundIn (areas_read t us) (areas_changed t us) f
-acted_stays us t behind (Done acted) f is stays = subst (FoundIn (areas_read t us) (areas_changed t us)) (sym is) stays
-acted_stays us t behind (Refused refusal given) f (inl is) stays = subst (FoundIn (areas_read t us) (areas_changed t us)) (sym is) (refused_stays (areas_read t us) (areas_changed t us) behind (reply_of refusal) given)
-acted_stays us t behind (Refused refusal given) f (inr is) stays = subst (FoundIn (areas_read t us) (areas_changed t us)) (sym is) tt
-acted_stays us t behind (Missing needs) f is stays =
+acted_stays : (us : List Use) (t : Tables) (known : Knowledge) (behind : Standing) (outcome : Outcome) (f : Found) → IsFoundOf outcome known behind f → IsFor outcome us t → FoundIn (areas_read t us) (areas_changed t us) f
+acted_stays us t known behind (Done acted) f is stays = subst (FoundIn (areas_read t us) (areas_changed t us)) (sym is) stays
+acted_stays us t known behind (Refused refusal given) f (inl is) stays = subst (FoundIn (areas_read t us) (areas_changed t us)) (sym is) (refused_stays (areas_read t us) (areas_changed t us) behind (reply_of refusal) given)
+acted_stays us t known behind (Refused refusal given) f (inr is) stays = subst (FoundIn (areas_read t us) (areas_changed t us)) (sym is) tt
+acted_stays us t known behind (Missing needs) f is stays =
     subst (FoundIn (areas_read t us) (areas_changed t us)) (sym is.is)
-    ((recursion_from_All (IsNeedOf (areas_read t us) (areas_changed t us)) (is.next ∷ is.others) (subst (λ (ns : List Need). All (IsNeedOf (areas_read t us) (areas_changed t us)) ns) is.all stays)).0, tt)
-acted_stays us t behind (Bad key) f is stays = subst (FoundIn (areas_read t us) (areas_changed t us)) (sym is) tt
-acted_stays us t behind NoMemory f is stays = subst (FoundIn (areas_read t us) (areas_changed t us)) (sym is) tt
+    (recursion_from_All (IsNeedOf (areas_read t us) (areas_changed t us)) (is.next ∷ is.later) (subst (λ (ns : List Need). All (IsNeedOf (areas_read t us) (areas_changed t us)) ns) is.all stays))
+acted_stays us t known behind (Bad key) f is stays = subst (FoundIn (areas_read t us) (areas_changed t us)) (sym is) tt
+acted_stays us t known behind NoMemory f is stays = subst (FoundIn (areas_read t us) (areas_changed t us)) (sym is) tt
 
-pub acted_so : (a : Act) (c : Catalog) (known : Knowledge) (behind : Standing) → IsCatalogOfKnown known c → (outcome : Outcome) (f : Found) → IsFoundOf outcome behind f → StaysFor outcome a known c → ActStays a known f
+pub acted_so : (a : Act) (c : Catalog) (known : Knowledge) (behind : Standing) → IsCatalogOfKnown known c → (outcome : Outcome) (f : Found) → IsFoundOf outcome known behind f → StaysFor outcome a known c → ActStays a known f
 acted_so a c known behind decodes outcome f is stays = λ all t sound agrees.
-    acted_stays (act_uses a []) t behind outcome f is (stays all t agrees (begins known c all t sound.0 agrees (decodes all agrees) sound.1 sound.2))
+    acted_stays (act_uses a []) t known behind outcome f is (stays all t agrees (begins known c all t sound.0 agrees (decodes all agrees) sound.1 sound.2))
 
 -- where the transaction that is open doesn't refuse an action that names a relation, it asks for what it came to
 pub acted_asks : (a : Act) (known : Knowledge) (standing : Standing) (f : Found) → standing_refusal (perform a) standing ≡ None → names_any (act_uses a []) ≡ true → ActStays a known f → Asks standing (said (perform a)) known f

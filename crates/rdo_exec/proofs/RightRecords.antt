@@ -37,6 +37,7 @@ use Rattle.rdo_exec.specs.Answers.{answer_of, answer_by}
 use Rattle.rdo_exec.specs.Left.{unwritten}
 use Rattle.rdo_exec.specs.Coming.{IsCatalogOfKnown, Comes}
 use Rattle.rdo_exec.proofs.Answered.{says_nothing, answer_comes}
+use Rattle.rdo_exec.proofs.Needs.{named_once}
 use Rattle.rdo_exec.specs.Acted.{found_refused, IsFoundOf}
 
 -- ---- the standing that an action leaves, whatever it is answered
@@ -108,7 +109,7 @@ module _ (word : List ℕ) (standing : Standing) (a : Act) (c : Catalog) (known 
     usual_reply (Unwritten why) reply h = cc
 
     -- what a job comes to by what comes of its action
-    pub comes_of : (outcome : Outcome) (f : Found) → IsFoundOf outcome behind f → ((all : Lines) (t : Tables) → Agrees known all → IsSoundAs all c t → ComesOf outcome a known c all t) →
+    pub comes_of : (outcome : Outcome) (f : Found) → IsFoundOf outcome known behind f → ((all : Lines) (t : Tables) → Agrees known all → IsSoundAs all c t → ComesOf outcome a known c all t) →
         Comes word standing item known f
     comes_of (Done acted) f so h = subst (λ (x : Found). Comes word standing item known x) (sym so) (record {
       usual = refl;
@@ -121,12 +122,9 @@ module _ (word : List ℕ) (standing : Standing) (a : Act) (c : Catalog) (known 
     comes_of (Refused refusal given) f (inr so) h = says_nothing word standing item known f so
     comes_of (Missing needs) f so h = subst (λ (x : Found). Comes word standing item known x) (sym so.is) (record {
       usual = tt;
-      once = (tt, tt);
-      over = λ all t sound agrees. (
-        (recursion_from_All (Lacks known) (so.next ∷ so.others)
-            (subst (λ (ns : List Need). All (Lacks known) ns) so.all (h all t agrees (sound_as all t sound agrees)))).0,
-        tt,
-      );
+      once = named_once known so.next so.later so.ahead;
+      over = λ all t sound agrees. recursion_from_All (Lacks known) (so.next ∷ so.later)
+          (subst (λ (ns : List Need). All (Lacks known) ns) so.all (h all t agrees (sound_as all t sound agrees)));
     })
     comes_of (Bad key) f so h = subst (λ (x : Found). Comes word standing item known x) (sym so) (record { usual = tt; once = tt; over = λ all t sound agrees. h all t agrees (sound_as all t sound agrees) })
     comes_of NoMemory f so h = says_nothing word standing item known f so

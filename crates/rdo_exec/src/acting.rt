@@ -1,5 +1,5 @@
 // STORE, FOR, PRINT, MODIFY and ERASE.
-ghost use Rattle.std.specs.Prelude.{◌≡◌, ◌≢◌, ◌⊎◌, ℕ, List, [], None, IfOk};
+ghost use Rattle.std.specs.Prelude.{◌≡◌, ◌⊎◌, ℕ, List, [], None, IfOk};
 ghost use Rattle.rdo_ast.specs.declared.reply.Standing.{Standing as State};
 ghost use Rattle.rdo_ast.specs.Tree.{said, perform};
 ghost use Rattle.rdo_ast.specs.Views.{act_of};
@@ -8,11 +8,11 @@ ghost use Rattle.rdb_checks.specs.Answers.{Finds};
 ghost use Rattle.line_view.specs.Held.{knows};
 ghost use Rattle.rdo_bind.specs.Acting.{act_of as bound_act_of, written_act, IsBoundAct};
 ghost use Rattle.rdo_acts.specs.Ends.{reply_of};
-ghost use Rattle.rdo_acts.specs.Acted.{NamesNeeds};
+ghost use Rattle.rdo_acts.specs.Acted.{AreNeeds, NamesNeeds};
 ghost use Rattle.rdo_exec.specs.Coming.{IsCatalogOfKnown, Comes, ActStays};
 ghost use Rattle.rdo_exec.specs.Acted.{found_refused, Lists, AreTogether, IsFoundOf};
 
-use crate::records::{Returned, answered_by, missing};
+use crate::records::{Returned, answered_by};
 use crate::standing::standing_for;
 use line_view::{Known, Need};
 use rdb_checks::{Stop as CheckStop, check_action};
@@ -70,18 +70,19 @@ fn refused(alloc: Global, refusal: Refusal<'_>, given: Keys, behind: Standing) -
     }
 }
 
-// The need that the work wants next.
-fn lacking(alloc: Global, needs: Items<Need>) -> Found
-    requires { needs ≢ [] }
-    ensures { Lists needs result }
+// The need that the work wants next, and those behind it.
+fn lacking(known: &Known, needs: Items<Need>) -> Found
+    requires { AreNeeds needs (knows known.now) }
+    ensures { Lists needs (knows known.now) result }
 {
-    let mut needs = needs;
-    missing(alloc, needs.remove(0))
+    let mut later = needs;
+    let next = later.remove(0);
+    Found::Missing { next, later }
 }
 
-fn found_of(alloc: Global, outcome: Outcome<'_>, behind: Standing) -> Found
-    requires { NamesNeeds outcome }
-    ensures { IsFoundOf outcome.entry behind result }
+fn found_of(alloc: Global, known: &Known, outcome: Outcome<'_>, behind: Standing) -> Found
+    requires { NamesNeeds outcome (knows known.now) }
+    ensures { IsFoundOf outcome.entry (knows known.now) behind result }
 {
     match outcome {
         Outcome::Done(
@@ -97,7 +98,7 @@ fn found_of(alloc: Global, outcome: Outcome<'_>, behind: Standing) -> Found
             writes,
         }),
         Outcome::Refused { refusal, given } => refused(alloc, refusal, given, behind),
-        Outcome::Missing(needs) => lacking(alloc, needs),
+        Outcome::Missing(needs) => lacking(known, needs),
         Outcome::Bad(key) => Found::Bad(key),
         Outcome::NoMemory => Found::NoMemory,
     }
@@ -126,7 +127,7 @@ fn run_from<'a>(
         sources,
     };
     let Ended { known, outcome } = act(&given, known, action);
-    let found = found_of(alloc, outcome, behind);
+    let found = found_of(alloc, &known, outcome, behind);
     Returned { known, found }
 }
 

@@ -1,4 +1,6 @@
-use Rattle.line_view.specs.Held.{knows}
+use Rattle.std.proofs.Common.{subst}
+use Rattle.line_view.specs.Held.{Held, knows}
+use Rattle.rdo_exec.specs.Acted.{IsFoundOf}
 use Rattle.rdo_bind.specs.Acting.{written_act}
 use Rattle.rdo_exec.proofs.RightRecords.{comes_of}
 use Rattle.rdo_exec.proofs.Locks.{acted_so}
@@ -9,8 +11,8 @@ act-known-requires-clause-together c = record { tables = c.requires.together.tab
 
 pub returns-clause-comes : goal.returns-clause-comes
 returns-clause-comes c = λ word standing free is.
-    comes_of word standing (written_act c.args.action.now) c.args.schema.now (knows c.args.known) c.args.behind c.requires.catalog is free c.act-known.result.outcome c.found_of-found.result c.found_of-found.ensures c.act-known.ensures.comes
+    comes_of word standing (written_act c.args.action.now) c.args.schema.now (knows c.args.known) c.args.behind c.requires.catalog is free c.act-known.result.outcome c.found_of-found.result (subst (λ (b : Held). IsFoundOf c.act-known.result.outcome (knows b) c.args.behind c.found_of-found.result) c.act-known.ensures.known c.found_of-found.ensures) c.act-known.ensures.comes
 
 pub returns-clause-stays : goal.returns-clause-stays
 returns-clause-stays c =
-    acted_so (written_act c.args.action.now) c.args.schema.now (knows c.args.known) c.args.behind c.requires.catalog c.act-known.result.outcome c.found_of-found.result c.found_of-found.ensures c.act-known.ensures.areas
+    acted_so (written_act c.args.action.now) c.args.schema.now (knows c.args.known) c.args.behind c.requires.catalog c.act-known.result.outcome c.found_of-found.result (subst (λ (b : Held). IsFoundOf c.act-known.result.outcome (knows b) c.args.behind c.found_of-found.result) c.act-known.ensures.known c.found_of-found.ensures) c.act-known.ensures.areas
