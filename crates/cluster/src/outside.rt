@@ -81,11 +81,7 @@ fn in_the_way(lock: &WriterLock, kind: &Standing) -> Option<Session>
     ensures holder { never_sleeps kind.now ≡ true → option_map (λ s. s.number) result ≡ first_of lock.now }
     ensures nobody { never_sleeps kind.now ≡ false → result ≡ None }
 {
-    if is_nowait(kind) {
-        lock.holder()
-    } else {
-        None
-    }
+    if is_nowait(kind) { lock.holder() } else { None }
 }
 
 /// Begins a read-write transaction, which asks for the lock, or is refused where it would wait and may not.
