@@ -24,7 +24,7 @@ use Rattle.session_states.specs.declared.stage.Work.TheVariants.{Opening as Open
 use Rattle.session_states.specs.declared.stage.Laying.TheVariants.{Claiming, Changing}
 use Rattle.session_states.specs.declared.stage.End.TheVariants.{Journal, Ready, Committing, RollingBack, Leaving}
 use Rattle.session_states.specs.declared.stage.Stage.{Stage}
-use Rattle.session_states.specs.declared.stage.Stage.TheVariants.{Between, Working, Reserving, Saying, Ending}
+use Rattle.session_states.specs.declared.stage.Stage.TheVariants.{Between, Working, Gathering, Reserving, Saying, Ending}
 use Rattle.session_states.specs.Locks.{lock_of}
 use Rattle.session_states.specs.Turns.{got}
 use Rattle.session_states.specs.Fits.{ClaimsFit}
@@ -40,6 +40,7 @@ claims-more p q s touched written (Working item (Lacking n)) h = tt
 claims-more p q s touched written (Working item (Housing room key)) h = tt
 claims-more p q s touched written (Working item (Fetching n)) h = tt
 claims-more p q s touched written (Working item (Lodging room key)) h = claimed-more p q s s touched written key h
+claims-more p q s touched written (Gathering item gather later place) h = tt
 claims-more p q s touched written (Reserving item r locks place) h = tt
 claims-more p q s touched written (Saying item r (Claiming place)) h = claimed-on p q s s (claimed-more p q s s touched written) (take place r.writes) h
 claims-more p q s touched written (Saying item r Changing) h = tt
@@ -108,6 +109,7 @@ claims-got o q s y (Working item (Housing room key)) n is_open wants h =
     subst (λ (m : Need). is_claimed (after o q (Got s m)) s key ≡ true) (same_Some (line_lock key) n wants) (got-claimed o q s y key is_open)
 claims-got o q s y (Working item (Fetching m)) n is_open wants h = tt
 claims-got o q s y (Working item (Lodging room key)) n is_open wants h = absurd (none-some n wants)
+claims-got o q s y (Gathering item gather later place) n is_open wants h = tt
 claims-got o q s y (Reserving item r locks place) n is_open wants h = tt
 claims-got o q s y (Saying item r (Claiming place)) n is_open wants h =
     let at = write-at r.writes place n wants in

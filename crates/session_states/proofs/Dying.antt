@@ -28,7 +28,7 @@ use Rattle.session_states.specs.declared.stage.Work.TheVariants.{Opening as Open
 use Rattle.session_states.specs.declared.stage.Laying.TheVariants.{Claiming, Changing}
 use Rattle.session_states.specs.declared.stage.End.TheVariants.{Journal, Ready, Committing, RollingBack, Leaving}
 use Rattle.session_states.specs.declared.stage.Stage.{Stage}
-use Rattle.session_states.specs.declared.stage.Stage.TheVariants.{Between, Working, Reserving, Saying, Ending}
+use Rattle.session_states.specs.declared.stage.Stage.TheVariants.{Between, Working, Gathering, Reserving, Saying, Ending}
 use Rattle.session_states.specs.declared.stage.Phase.{Phase}
 use Rattle.session_states.specs.declared.stage.Phase.TheVariants.{Outside, Closing, Writing, Reading, Over}
 use Rattle.session_states.specs.States.{item_of, state_in, commits_at, commits_in, session, dead_session, gone_session}
@@ -54,6 +54,7 @@ not-died Over = refl
 stage-commits : (stage : Stage) → commits_at stage ≡ true → item_of stage ≡ Some (said commit)
 stage-commits Between h = absurd (false≢true h)
 stage-commits (Working item work) h = absurd (false≢true h)
+stage-commits (Gathering item gather later place) h = absurd (false≢true h)
 stage-commits (Reserving item r locks place) h = absurd (false≢true h)
 stage-commits (Saying item r laying) h = absurd (false≢true h)
 stage-commits (Ending Journal) h = absurd (false≢true h)
@@ -104,6 +105,7 @@ module _ (M : Model) (orderly : IsOrderly M) where
   stage-seat p g c s standing known (Working item (Housing room key)) f = idle g c s (ap is_committing f.1)
   stage-seat p g c s standing known (Working item (Fetching lack)) f = idle g c s (ap is_committing f.1)
   stage-seat p g c s standing known (Working item (Lodging room key)) f = idle g c s (ap is_committing f.1)
+  stage-seat p g c s standing known (Gathering item gather later place) f = idle g c s (ap is_committing f.1)
   stage-seat p g c s standing known (Reserving item r locks place) f = idle g c s (ap is_committing f.1)
   stage-seat p g c s standing known (Saying item r (Claiming place)) f = idle g c s (ap is_committing f.1)
   stage-seat p g c s standing known (Saying item r Changing) f = idle g c s (ap is_committing f.seat)

@@ -22,7 +22,7 @@ use Rattle.session_states.specs.declared.stage.Work.TheVariants.{Opening as Open
 use Rattle.session_states.specs.declared.stage.Laying.TheVariants.{Claiming, Changing}
 use Rattle.session_states.specs.declared.stage.End.TheVariants.{Journal, Ready, Committing, RollingBack, Leaving}
 use Rattle.session_states.specs.declared.stage.Stage.{Stage}
-use Rattle.session_states.specs.declared.stage.Stage.TheVariants.{Between, Working, Reserving, Saying, Ending}
+use Rattle.session_states.specs.declared.stage.Stage.TheVariants.{Between, Working, Gathering, Reserving, Saying, Ending}
 use Rattle.session_states.specs.declared.stage.Phase.{Phase}
 use Rattle.session_states.specs.declared.stage.Phase.TheVariants.{Outside, Closing, Writing, Reading, Over}
 use Rattle.session_states.specs.declared.stage.Life.{Life}
@@ -66,6 +66,7 @@ module _ (M : Model) (orderly : IsOrderly M) where
   stage-flies word p g c s standing known spoken (Working item (Housing room key)) f st ws h = absurd (idle-seat (c.shelf.seat s) (writing (g.desk s).writes) ws f.1 refl h)
   stage-flies word p g c s standing known spoken (Working item (Fetching n)) f st ws h = absurd (idle-seat (c.shelf.seat s) (writing (g.desk s).writes) ws f.1 refl h)
   stage-flies word p g c s standing known spoken (Working item (Lodging room key)) f st ws h = absurd (idle-seat (c.shelf.seat s) (writing (g.desk s).writes) ws f.1 refl h)
+  stage-flies word p g c s standing known spoken (Gathering item gather later place) f st ws h = absurd (idle-seat (c.shelf.seat s) (writing (g.desk s).writes) ws f.1 refl h)
   stage-flies word p g c s standing known spoken (Reserving item r locks place) f st ws h = absurd (idle-seat (c.shelf.seat s) (writing (g.desk s).writes) ws f.1 refl h)
   stage-flies word p g c s standing known spoken (Saying item r (Claiming place)) f st ws h = absurd (idle-seat (c.shelf.seat s) (writing (g.desk s).writes) ws f.1 refl h)
   stage-flies word p g c s standing known spoken (Saying item r Changing) f st ws h = absurd (idle-seat (c.shelf.seat s) (changing f.behind) ws f.seat refl h)
@@ -93,6 +94,7 @@ module _ (M : Model) (orderly : IsOrderly M) where
   stage-journal : (word : List ℕ) (got : List Need) (standing : Standing) (known : Held) (spoken : Bool) (stage : Stage) → StageFits M word got standing known spoken stage → commits_at stage ≡ true → may_write got journal_node ≡ true
   stage-journal word got standing known spoken Between f h = absurd (false≢true h)
   stage-journal word got standing known spoken (Working item work) f h = absurd (false≢true h)
+  stage-journal word got standing known spoken (Gathering item gather later place) f h = absurd (false≢true h)
   stage-journal word got standing known spoken (Reserving item r locks place) f h = absurd (false≢true h)
   stage-journal word got standing known spoken (Saying item r laying) f h = absurd (false≢true h)
   stage-journal word got standing known spoken (Ending Journal) f h = absurd (false≢true h)

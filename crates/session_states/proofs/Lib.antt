@@ -23,3 +23,4 @@ pub mod Counting
 pub mod Flying
 pub mod Reserving
 pub mod ReaderStarts
+pub mod Gathering

@@ -33,10 +33,11 @@ use Rattle.lock_ties.proofs.Single.{need-self}
 use Rattle.line_steps.specs.Right.{Ground, Writes}
 use Rattle.line_steps.proofs.Wants.{takes-locks}
 use Rattle.session_states.specs.declared.stage.Work.TheVariants.{Opening as OpeningIt, Due, Out, Lacking, Housing, Fetching, Lodging}
+use Rattle.session_states.specs.declared.stage.Gather.TheVariants.{Locking, Reading}
 use Rattle.session_states.specs.declared.stage.Laying.TheVariants.{Claiming, Changing}
 use Rattle.session_states.specs.declared.stage.End.TheVariants.{Journal, Ready, Committing, RollingBack, Leaving}
 use Rattle.session_states.specs.declared.stage.Stage.{Stage}
-use Rattle.session_states.specs.declared.stage.Stage.TheVariants.{Between, Working, Reserving, Saying, Ending}
+use Rattle.session_states.specs.declared.stage.Stage.TheVariants.{Between, Working, Gathering, Reserving, Saying, Ending}
 use Rattle.session_states.specs.Locks.{lock_for_area, lock_for_line, lock_of_write, lock_of}
 use Rattle.session_states.specs.Turns.{got}
 use Rattle.rdb_account.specs.Places.{Transaction}
@@ -94,6 +95,7 @@ line-locked has item key = by (key.area == 1) refl
 pub under-way : (stage : Stage) (n : LockNeed) → lock_of stage ≡ Some n → (item : Uttered) × (item_of stage ≡ Some item)
 under-way Between n wants = absurd (none-some n wants)
 under-way (Working item work) n wants = (uttered_of item, refl)
+under-way (Gathering item gather later place) n wants = (uttered_of item, refl)
 under-way (Reserving item r locks place) n wants = (uttered_of item, refl)
 under-way (Saying item r laying) n wants = (uttered_of item, refl)
 under-way (Ending Journal) n wants = (said commit, refl)
@@ -105,6 +107,7 @@ under-way (Ending Leaving) n wants = absurd (none-some n wants)
 pub item-got : (stage : Stage) → item_of stage ≡ item_of (got stage)
 item-got Between = refl
 item-got (Working item work) = refl
+item-got (Gathering item gather later place) = refl
 item-got (Reserving item r locks place) = refl
 item-got (Saying item r laying) = refl
 item-got (Ending Journal) = refl
@@ -117,6 +120,7 @@ item-got (Ending Leaving) = refl
 pub ends-got : (left : List Item) (stage : Stage) (n : LockNeed) → lock_of stage ≡ Some n → IsAtEnd left (got stage)
 ends-got left Between n wants = absurd (none-some n wants)
 ends-got left (Working item work) n wants = tt
+ends-got left (Gathering item gather later place) n wants = tt
 ends-got left (Reserving item r locks place) n wants = tt
 ends-got left (Saying item r laying) n wants = tt
 ends-got left (Ending Journal) n wants = tt
@@ -173,6 +177,7 @@ module _ (M : Model) (orderly : IsOrderly M) where
   desk-wanting p g c s standing known (Working item (Housing room key)) n wants f = f
   desk-wanting p g c s standing known (Working item (Fetching lack)) n wants f = absurd (none-some n wants)
   desk-wanting p g c s standing known (Working item (Lodging room key)) n wants f = absurd (none-some n wants)
+  desk-wanting p g c s standing known (Gathering item gather later place) n wants f = f
   desk-wanting p g c s standing known (Reserving item r locks place) n wants f = f
   desk-wanting p g c s standing known (Saying item r (Claiming place)) n wants f = f
   desk-wanting p g c s standing known (Saying item r Changing) n wants f = absurd (none-some n wants)
@@ -193,6 +198,7 @@ module _ (M : Model) (orderly : IsOrderly M) where
   desk-resting p g c s standing known (Working item (Housing room key)) idle f = f
   desk-resting p g c s standing known (Working item (Fetching lack)) idle f = f
   desk-resting p g c s standing known (Working item (Lodging room key)) idle f = f
+  desk-resting p g c s standing known (Gathering item gather later place) idle f = f
   desk-resting p g c s standing known (Reserving item r locks place) idle f = f
   desk-resting p g c s standing known (Saying item r (Claiming place)) idle f = f
   desk-resting p g c s standing known (Saying item r Changing) idle f = absurd (false≢true idle)
@@ -213,6 +219,7 @@ module _ (M : Model) (orderly : IsOrderly M) where
   desk-asks p g c s standing known (Working item (Housing room key)) n wants k at = ((k, at), (k, at))
   desk-asks p g c s standing known (Working item (Fetching lack)) n wants k at = absurd (none-some n wants)
   desk-asks p g c s standing known (Working item (Lodging room key)) n wants k at = absurd (none-some n wants)
+  desk-asks p g c s standing known (Gathering item gather later place) n wants k at = ((k, at), (k, at))
   desk-asks p g c s standing known (Reserving item r locks place) n wants k at = ((k, at), (k, at))
   desk-asks p g c s standing known (Saying item r (Claiming place)) n wants k at = ((k, at), (k, at))
   desk-asks p g c s standing known (Saying item r Changing) n wants k at = absurd (none-some n wants)
@@ -249,6 +256,12 @@ module _ (M : Model) (orderly : IsOrderly M) where
       (f.0, (subst (λ (m : LockNeed). is_guarded (has ++ m ∷ []) (line_node key) ≡ true) (same_Some _ n wants) (guards-new has (lock (line_node key) EX) refl), f.1.1))
   stage-got word has standing known spoken (Working item (Fetching lack)) n wants f = absurd (none-some n wants)
   stage-got word has standing known spoken (Working item (Lodging room key)) n wants f = absurd (none-some n wants)
+  stage-got word has standing known spoken (Gathering item (Locking (need.Line key)) later place) n wants f =
+      (f.0, subst (λ (m : LockNeed). is_guarded (has ++ m ∷ []) (line_node key) ≡ true) (same_Some _ n wants) (line-locked has (uttered_of item) key), f.2)
+  stage-got word has standing known spoken (Gathering item (Locking (need.Area area)) later place) n wants f =
+      (f.0, subst (λ (m : LockNeed). is_guarded (has ++ m ∷ []) (area_node area) ≡ true) (same_Some _ n wants) (guards-new has (lock (area_node area) (area_mode (uttered_of item) area)) (strong-area (uttered_of item) area)), f.2)
+  stage-got word has standing known spoken (Gathering item (Locking (need.Room room)) later place) n wants f = absurd (none-some n wants)
+  stage-got word has standing known spoken (Gathering item (Reading lack) later place) n wants f = absurd (none-some n wants)
   stage-got word has standing known spoken (Reserving item r locks place) n wants f =
       (f.0, record { record_is = f.1.record_is; asked = f.1.asked; reserved = got-next has locks place n wants f.1.reserved })
   stage-got word has standing known spoken (Saying item r (Claiming place)) n wants f =
@@ -294,6 +307,16 @@ module _ (M : Model) (orderly : IsOrderly M) where
       subst (λ k. IsAskedOver M standing (Some (uttered_of item)) k n) (sym f.fits.phase.desk.0)
       (statement-asks o p g s standing (knows known) (uttered_of item) (is_lock_for (uttered_of item) (need.Room room)) (lock (line_node key) EX) n f.here.fit.stands f.here.stands.state
       (rw f.fits.phase.stage.1.1 (rw (on-own-line room.area) refl)) (same_Some _ n wants) f.fits.phase.stage.1.0)
+  lock-asks o p g c s left total standing known spoken waits (Gathering item (Locking (need.Line key)) later place) n wants f =
+      subst (λ k. IsAskedOver M standing (Some (uttered_of item)) k n) (sym f.fits.phase.desk.0)
+      (statement-asks o p g s standing (knows known) (uttered_of item) (is_lock_for (uttered_of item) (need.Line key)) (lock_for_line (uttered_of item) key) n f.here.fit.stands f.here.stands.state
+      (line-asked (uttered_of item) key) (same_Some _ n wants) f.fits.phase.stage.1)
+  lock-asks o p g c s left total standing known spoken waits (Gathering item (Locking (need.Area area)) later place) n wants f =
+      subst (λ k. IsAskedOver M standing (Some (uttered_of item)) k n) (sym f.fits.phase.desk.0)
+      (statement-asks o p g s standing (knows known) (uttered_of item) (is_lock_for (uttered_of item) (need.Area area)) (lock (area_node area) (area_mode (uttered_of item) area)) n f.here.fit.stands f.here.stands.state
+      (need-self (lock (area_node area) (area_mode (uttered_of item) area))) (same_Some _ n wants) f.fits.phase.stage.1)
+  lock-asks o p g c s left total standing known spoken waits (Gathering item (Locking (need.Room room)) later place) n wants f = absurd (none-some n wants)
+  lock-asks o p g c s left total standing known spoken waits (Gathering item (Reading lack) later place) n wants f = absurd (none-some n wants)
   lock-asks o p g c s left total standing known spoken waits (Reserving item r locks place) n wants f =
       subst (λ k. IsAskedOver M standing (Some (uttered_of item)) k n) (sym f.fits.phase.desk.0) (at-place (IsAskedOver M standing (Some (uttered_of item)) (knows known)) locks place n wants f.fits.phase.stage.1.asked)
   lock-asks o p g c s left total standing known spoken waits (Working item (Fetching lack)) n wants f = absurd (none-some n wants)

@@ -27,7 +27,7 @@ use Rattle.line_steps.proofs.Frame.{place-same}
 use Rattle.line_steps.proofs.Kept.{stepped, here}
 use Rattle.session_states.specs.declared.stage.Laying.TheVariants.{Claiming, Changing}
 use Rattle.session_states.specs.declared.stage.Stage.{Stage}
-use Rattle.session_states.specs.declared.stage.Stage.TheVariants.{Between, Working, Reserving, Saying, Ending}
+use Rattle.session_states.specs.declared.stage.Stage.TheVariants.{Between, Working, Gathering, Reserving, Saying, Ending}
 use Rattle.session_states.specs.declared.stage.Phase.{Phase}
 use Rattle.session_states.specs.declared.stage.Phase.TheVariants.{Outside, Closing, Writing, Reading, Over}
 use Rattle.session_states.specs.declared.stage.Life.{Life}
@@ -103,6 +103,7 @@ module _ (M : Model) (orderly : IsOrderly M) where
     desk-stays : (standing : Standing) (known : Held) (stage : Stage) → DeskFits M p g c t standing known stage → DeskFits M q h d t standing known stage
     desk-stays standing known Between f = plain-stays known Between f
     desk-stays standing known (Working item work) f = plain-stays known (Working item work) f
+    desk-stays standing known (Gathering item gather later place) f = plain-stays known (Gathering item gather later place) f
     desk-stays standing known (Reserving item r locks place) f = plain-stays known (Reserving item r locks place) f
     desk-stays standing known (Saying item r (Claiming place)) f = plain-stays known (Saying item r (Claiming place)) f
     desk-stays standing known (Saying item r Changing) f = laid-stays standing known item r f

@@ -35,12 +35,14 @@ use Rattle.line_steps.specs.Right.{Ground}
 use Rattle.line_steps.specs.Images.{journal_node}
 use Rattle.session_states.specs.declared.stage.Work.{Work}
 use Rattle.session_states.specs.declared.stage.Work.TheVariants.{Opening, Lacking, Housing, Fetching, Lodging}
+use Rattle.session_states.specs.declared.stage.Gather.{Gather}
+use Rattle.session_states.specs.declared.stage.Gather.TheVariants.{Locking, Reading as ReadingOf}
 use Rattle.session_states.specs.declared.stage.Laying.{Laying}
 use Rattle.session_states.specs.declared.stage.Laying.TheVariants.{Claiming, Changing}
 use Rattle.session_states.specs.declared.stage.End.{End}
 use Rattle.session_states.specs.declared.stage.End.TheVariants.{Ready, Committing, RollingBack, Leaving}
 use Rattle.session_states.specs.declared.stage.Stage.{Stage}
-use Rattle.session_states.specs.declared.stage.Stage.TheVariants.{Between, Working, Reserving, Saying, Ending}
+use Rattle.session_states.specs.declared.stage.Stage.TheVariants.{Between, Working, Gathering, Reserving, Saying, Ending}
 use Rattle.session_states.specs.declared.stage.Writer.{Writer}
 use Rattle.session_states.specs.declared.stage.ReaderStage.{ReaderStage}
 use Rattle.session_states.specs.declared.stage.ReaderStage.TheVariants as look
@@ -67,6 +69,14 @@ WorkFits M got standing item known (Fetching n) = IsLocked got n
 WorkFits M got standing item known (Lodging room key) = (is_guarded got (line_node key) ≡ true) × (key.area ≡ room.area)
 WorkFits M got standing item known _ = Unit {0}
 
+-- so it does for each of these
+abbrev pub AreLacked : Model → Standing → Uttered → Knowledge → List Need → Type 0
+AreLacked M standing item known = AllByRecursion (IsLacked M standing item known)
+
+abbrev pub GatherFits : Model → List LockNeed → Standing → Uttered → Knowledge → Gather → Type 0
+GatherFits M got standing item known (Locking n) = IsLacked M standing item known n
+GatherFits M got standing item known (ReadingOf n) = IsLocked got n
+
 -- these are among the locks that are got
 abbrev pub AreGot : List LockNeed → List LockNeed → Type 0
 AreGot got = AllByRecursion (λ n. list_any (is_need n.node n.mode) got ≡ true)
@@ -92,6 +102,7 @@ EndFits got end = Unit {0}
 abbrev pub StageFits : Model → List ℕ → List LockNeed → Standing → Held → Bool → Stage → Type 0
 StageFits M word got standing known spoken Between = spoken ≡ true
 StageFits M word got standing known spoken (Working item work) = (ends_by (uttered_of item) ≡ false) × WorkFits M got standing (uttered_of item) (knows known) work
+StageFits M word got standing known spoken (Gathering item gather later place) = (ends_by (uttered_of item) ≡ false) × GatherFits M got standing (uttered_of item) (knows known) gather × AreLacked M standing (uttered_of item) (knows known) later
 StageFits M word got standing known spoken (Reserving item r locks place) = (ends_by (uttered_of item) ≡ false) × ReservingFits M word got standing (uttered_of item) (knows known) r locks place
 StageFits M word got standing known spoken (Saying item r laying) = (ends_by (uttered_of item) ≡ false) × LayingFits M word got standing (uttered_of item) (knows known) spoken r laying
 StageFits M word got standing known spoken (Ending end) = (spoken ≡ true) × EndFits got end

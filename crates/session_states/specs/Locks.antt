@@ -15,12 +15,14 @@ use Rattle.session_jobs.specs.Asked.{area_mode}
 use Rattle.line_steps.specs.Images.{journal_node}
 use Rattle.session_states.specs.declared.stage.Work.{Work}
 use Rattle.session_states.specs.declared.stage.Work.TheVariants.{Lacking, Housing}
+use Rattle.session_states.specs.declared.stage.Gather.{Gather}
+use Rattle.session_states.specs.declared.stage.Gather.TheVariants.{Locking, Reading}
 use Rattle.session_states.specs.declared.stage.Laying.{Laying}
 use Rattle.session_states.specs.declared.stage.Laying.TheVariants.{Claiming, Changing}
 use Rattle.session_states.specs.declared.stage.End.{End}
 use Rattle.session_states.specs.declared.stage.End.TheVariants.{Journal}
 use Rattle.session_states.specs.declared.stage.Stage.{Stage}
-use Rattle.session_states.specs.declared.stage.Stage.TheVariants.{Between, Working, Reserving, Saying, Ending}
+use Rattle.session_states.specs.declared.stage.Stage.TheVariants.{Between, Working, Gathering, Reserving, Saying, Ending}
 
 abbrev pub lock_for_area : Uttered → ℕ → LockNeed
 lock_for_area item area = need (area_node area) (area_mode item area)
@@ -40,6 +42,10 @@ lock_of_work item (Lacking n) = lock_for item n
 lock_of_work item (Housing room key) = Some (need (line_node key) EX)
 lock_of_work item _ = None
 
+abbrev pub lock_of_gather : Uttered → Gather → Option LockNeed
+lock_of_gather item (Locking n) = lock_for item n
+lock_of_gather item (Reading n) = None
+
 abbrev pub lock_of_write : Option Write → Option LockNeed
 lock_of_write (Some w) = Some (need (line_node w.key) EX)
 lock_of_write None = None
@@ -55,6 +61,7 @@ lock_of_end _ = None
 abbrev pub lock_of : Stage → Option LockNeed
 lock_of Between = None
 lock_of (Working item work) = lock_of_work (uttered_of item) work
+lock_of (Gathering item gather later place) = lock_of_gather (uttered_of item) gather
 lock_of (Reserving item r locks place) = slice_get locks place
 lock_of (Saying item r laying) = lock_of_laying r.writes laying
 lock_of (Ending end) = lock_of_end end

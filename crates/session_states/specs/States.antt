@@ -11,7 +11,7 @@ use Rattle.session_states.specs.declared.stage.Laying.TheVariants.{Changing}
 use Rattle.session_states.specs.declared.stage.End.{End}
 use Rattle.session_states.specs.declared.stage.End.TheVariants.{Journal, Ready, Committing, RollingBack, Leaving}
 use Rattle.session_states.specs.declared.stage.Stage.{Stage}
-use Rattle.session_states.specs.declared.stage.Stage.TheVariants.{Between, Working, Reserving, Saying, Ending}
+use Rattle.session_states.specs.declared.stage.Stage.TheVariants.{Between, Working, Gathering, Reserving, Saying, Ending}
 use Rattle.session_states.specs.declared.stage.Writer.{Writer}
 use Rattle.session_states.specs.declared.stage.ReaderStage.{ReaderStage}
 use Rattle.session_states.specs.declared.stage.ReaderStage.TheVariants as look
@@ -33,6 +33,7 @@ item_at_end Leaving = None
 abbrev pub item_of : Stage → Option Uttered
 item_of Between = None
 item_of (Working item work) = Some (uttered_of item)
+item_of (Gathering item gather later place) = Some (uttered_of item)
 item_of (Reserving item r locks place) = Some (uttered_of item)
 item_of (Saying item r laying) = Some (uttered_of item)
 item_of (Ending end) = item_at_end end

@@ -10,12 +10,14 @@ use Rattle.line_view.specs.Held.{Held}
 use Rattle.line_view.specs.declared.writes.Write.{Write}
 use Rattle.session_states.specs.declared.stage.Work.{Work}
 use Rattle.session_states.specs.declared.stage.Work.TheVariants.{Due, Lacking, Housing, Fetching, Lodging}
+use Rattle.session_states.specs.declared.stage.Gather.{Gather}
+use Rattle.session_states.specs.declared.stage.Gather.TheVariants.{Locking, Reading}
 use Rattle.session_states.specs.declared.stage.Laying.{Laying}
 use Rattle.session_states.specs.declared.stage.Laying.TheVariants.{Claiming, Changing}
 use Rattle.session_states.specs.declared.stage.End.{End}
 use Rattle.session_states.specs.declared.stage.End.TheVariants.{Journal, Ready, RollingBack}
 use Rattle.session_states.specs.declared.stage.Stage.{Stage}
-use Rattle.session_states.specs.declared.stage.Stage.TheVariants.{Between, Working, Reserving, Saying, Ending}
+use Rattle.session_states.specs.declared.stage.Stage.TheVariants.{Between, Working, Gathering, Reserving, Saying, Ending}
 use Rattle.session_states.specs.declared.stage.Writer.{Writer}
 
 -- an item is taken up
@@ -27,7 +29,7 @@ taken item = Working item Due
 -- a job came back; where it wasn't worked, or no memory was found, the item is left
 abbrev pub returned : Item → Found → Result Stage Item
 returned item (Done r) = Ok (Saying item r (Claiming 0))
-returned item (Missing next later) = Ok (Working item (Lacking next))
+returned item (Missing next later) = Ok (Gathering item (Locking next) later 0)
 returned item (Bad key) = Ok (Working item Due)
 returned item Unworked = Err item
 returned item NoMemory = Err item
@@ -36,6 +38,10 @@ abbrev pub got_work : Work → Work
 got_work (Lacking n) = Fetching n
 got_work (Housing room key) = Lodging room key
 got_work work = work
+
+abbrev pub got_gather : Gather → Gather
+got_gather (Locking n) = Reading n
+got_gather (Reading n) = Reading n
 
 abbrev pub got_laying : Laying → Laying
 got_laying (Claiming place) = Claiming (place + 1)
@@ -49,6 +55,7 @@ got_end end = end
 abbrev pub got : Stage → Stage
 got Between = Between
 got (Working item work) = Working item (got_work work)
+got (Gathering item gather later place) = Gathering item (got_gather gather) later place
 got (Reserving item r locks place) = Reserving item r locks (place + 1)
 got (Saying item r laying) = Saying item r (got_laying laying)
 got (Ending end) = Ending (got_end end)

@@ -1,6 +1,7 @@
 // The law of each step of a stage: its events in the account, and that the stage that it comes to fits.
 pub mod dying;
 pub mod endings;
+pub mod gathering;
 pub mod outside;
 pub mod reading;
 pub mod refusing;

@@ -4,9 +4,9 @@ ghost use Rattle.rdo_ast.specs.Views.{uttered_of};
 ghost use Rattle.rdb_account.specs.AskedFor.{area_node as node_of};
 ghost use Rattle.kept_apart.specs.Guards.{line_node as node_at};
 ghost use Rattle.session_jobs.specs.Asked.{area_mode as mode_of, is_definition as defines};
-ghost use Rattle.session_states.specs.Locks.{lock_for_area as lock_on_area, lock_for_line as lock_on_line, lock_for as lock_to_read, lock_of_work as lock_in_work, lock_of_write as lock_to_write, lock_of_laying as lock_in_laying, lock_of_end as lock_at_end, lock_of as lock_in};
+ghost use Rattle.session_states.specs.Locks.{lock_for_area as lock_on_area, lock_for_line as lock_on_line, lock_for as lock_to_read, lock_of_work as lock_in_work, lock_of_gather as lock_in_gather, lock_of_write as lock_to_write, lock_of_laying as lock_in_laying, lock_of_end as lock_at_end, lock_of as lock_in};
 
-use crate::stage::{End, Laying, Stage, Work};
+use crate::stage::{End, Gather, Laying, Stage, Work};
 use line_view::{Need, Writes};
 use lock_needs::Need as LockNeed;
 use rdb_types::{Dbkey, Level, Node};
@@ -104,6 +104,15 @@ fn lock_of_work(item: &Item, work: Work) -> Option<LockNeed>
     }
 }
 
+fn lock_of_gather(item: &Item, gather: Gather) -> Option<LockNeed>
+    ensures { result ≡ lock_in_gather (uttered_of item.now) gather }
+{
+    match gather {
+        Gather::Locking(need) => lock_for(item, need),
+        Gather::Reading(_) => None,
+    }
+}
+
 fn lock_of_laying(writes: &Writes, laying: Laying) -> Option<LockNeed>
     ensures { result ≡ lock_in_laying writes.now laying }
 {
@@ -143,6 +152,7 @@ pub fn lock_of(stage: &Stage) -> Option<LockNeed>
     match stage {
         Stage::Between => None,
         Stage::Working(item, work) => lock_of_work(item, *work),
+        Stage::Gathering(item, gather, _, _) => lock_of_gather(item, *gather),
         Stage::Reserving(_, _, locks, place) => locks.as_slice().get(*place).copied(),
         Stage::Saying(_, worked, laying) => lock_of_laying(&worked.writes, *laying),
         Stage::Ending(end) => lock_of_end(*end),

@@ -4,7 +4,7 @@ use lock_needs::Need as LockNeed;
 use rdb_types::{Dbkey, Items};
 use rdo_ast::reply::Standing;
 use rdo_ast::syntax::Item;
-use session_jobs::TxRecord;
+use session_jobs::{Needs, TxRecord};
 
 /// How the job of a statement goes on.
 #[derive(Clone, Copy)]
@@ -23,6 +23,15 @@ pub enum Work {
     Fetching(Need),
     /// The line that was named for a room is locked; it is read, and its page is taken.
     Lodging(Room, Dbkey),
+}
+
+/// How far a need of a job has come, of those that are read in turn.
+#[derive(Clone, Copy)]
+pub enum Gather {
+    /// The lock on it is wanted.
+    Locking(Need),
+    /// It is locked, and is read.
+    Reading(Need),
 }
 
 /// What is done before the record of a statement is said.
@@ -59,6 +68,8 @@ pub enum Stage {
     Between,
     /// A statement is worked.
     Working(Item, Work),
+    /// All that a statement's job named is locked and read in turn, before it is due again: this need, and then those from this place on.
+    Gathering(Item, Gather, Needs, usize),
     /// A START_TRANSACTION was worked. What it reserves is locked in turn: the lock at this place is wanted.
     Reserving(Item, TxRecord, LockNeeds, usize),
     /// A statement was worked, and is said once its writes are laid.

@@ -1,8 +1,8 @@
 // What a stage comes to: the next item is taken up, a job has come back, a lock is got, a record is said.
 ghost use Rattle.std.specs.Prelude.{◌≡◌};
-ghost use Rattle.session_states.specs.Turns.{taken, returned, got_work, got_laying, got_end, got, IsPlace, IsWithin, said_writer};
+ghost use Rattle.session_states.specs.Turns.{taken, returned, got_work, got_gather, got_laying, got_end, got, IsPlace, IsWithin, said_writer};
 
-use crate::stage::{End, Laying, Stage, Work, Writer};
+use crate::stage::{End, Gather, Laying, Stage, Work, Writer};
 use line_view::{Known, Writes};
 use rdb_types::Keys;
 use rdo_ast::reply::Reply;
@@ -27,7 +27,9 @@ pub fn come_back(item: Item, found: Found) -> Result<Stage, Item>
 {
     match found {
         Found::Done(worked) => Ok(Stage::Saying(item, worked, Laying::Claiming(0))),
-        Found::Missing { next, later: _ } => Ok(Stage::Working(item, Work::Lacking(next))),
+        Found::Missing { next, later } => {
+            Ok(Stage::Gathering(item, Gather::Locking(next), later, 0))
+        }
         Found::Bad(_) => Ok(Stage::Working(item, Work::Due)),
         Found::Unworked | Found::NoMemory => Err(item),
     }
@@ -40,6 +42,15 @@ fn work_behind_got(work: Work) -> Work
         Work::Lacking(need) => Work::Fetching(need),
         Work::Housing(room, key) => Work::Lodging(room, key),
         work => work,
+    }
+}
+
+fn gather_behind_got(gather: Gather) -> Gather
+    ensures { result ≡ got_gather gather }
+{
+    match gather {
+        Gather::Locking(need) => Gather::Reading(need),
+        Gather::Reading(need) => Gather::Reading(need),
     }
 }
 
@@ -74,6 +85,9 @@ pub fn behind_got(stage: Stage) -> Stage
     match stage {
         Stage::Between => Stage::Between,
         Stage::Working(item, work) => Stage::Working(item, work_behind_got(work)),
+        Stage::Gathering(item, gather, later, place) => {
+            Stage::Gathering(item, gather_behind_got(gather), later, place)
+        }
         Stage::Reserving(item, worked, locks, place) => {
             // (so the place behind it is a number)
             let _count = locks.len();

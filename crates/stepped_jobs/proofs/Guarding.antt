@@ -34,7 +34,7 @@ equal Less h = absurd (false≢true h)
 equal Equal h = refl
 equal Greater h = absurd (false≢true h)
 
-done-or : (r : Result Progress ReadStop) → (r ≡ Ok Done) ⊎ (r ≡ Ok Done → ⊥)
+pub done-or : (r : Result Progress ReadStop) → (r ≡ Ok Done) ⊎ (r ≡ Ok Done → ⊥)
 done-or (Ok Done) = inl refl
 done-or (Ok More) = inr (λ e. absurd (cc))
 done-or (Err stop) = inr (λ e. absurd (cc))

@@ -9,6 +9,7 @@ ghost use Rattle.line_store.specs.Shelves.{seen_by};
 ghost use Rattle.line_store.specs.Calls.{IsRead};
 ghost use Rattle.kept_apart.specs.Alike.{IsGuarded};
 ghost use Rattle.stepped_jobs.specs.Needs.{IsRead as IsReadFrom, IsLocked};
+ghost use Rattle.stepped_jobs.specs.More.{KnowsMore};
 
 use line_store::{LineStore, Progress, ReadStop};
 use line_view::{Known, Need};
@@ -28,6 +29,7 @@ pub fn fetch<L: LineStore>(
     ensures agrees { IsInOrder (seen_by s.number (L.shelf store.old)) → Agrees (knows known.old) (seen_by s.number (L.shelf store.old))
         → Agrees (knows known.new) (seen_by s.number (L.shelf store.old)) }
     ensures guarded { (got : List LockNeed) → IsLocked got need → IsGuarded got (knows known.old) → IsGuarded got (knows known.new) }
+    ensures more { KnowsMore known.old known.new }
     ensures read { IsRead s.number (L.shelf store.old) (L.shelf store.new) result }
 {
     match need {

@@ -1,15 +1,19 @@
-//! Cases of versions of lines as text, over a disk in memory. Each line of standard input pushes a version aside, begins a reader, or says how a line stands; it is echoed on standard output, and below it stands what comes of it.
+//! Cases of versions of lines as text, over a disk in memory. Each line of standard input pushes a version aside, begins a reader, says how a line stands, or changes a line on its page; it is echoed on standard output, and below it stands what comes of it.
 #![tactic(auto)]
 
 ghost use Rattle.std.specs.Prelude.{◌<◌, ◌^◌};
 ghost use Rattle.snapshot_file.specs.Entry.{IsVersion};
 
+mod pages;
+
 use case_words::{key_of, number_of, put_bytes, put_key};
+use pages::{tell_change, tell_given, tell_read};
 use rdb_outside::{Disk, MemoryDisk};
 use rdb_types::{Dbkey, Image, Line, LineState, NoMemory, Tsn};
 use std::alloc::Global;
 use std::process::ExitCode;
 use version_reading::{Reader, bytes_of, push_version, reader_version};
+use version_writing::FileSlots;
 
 /// No reader reads more slots.
 const LIMIT: u32 = 8;
@@ -19,12 +23,19 @@ const LIMIT: u32 = 8;
 struct World {
     disk: MemoryDisk,
     reader: Reader,
+    /// The slots of the snapshot file of relations.
+    slots: FileSlots,
 }
 
 fn new_world(alloc: Global) -> Result<World, NoMemory> {
     let disk = MemoryDisk::new(alloc, LIMIT, 1_000, &[])?;
     let reader = Reader::new(Tsn { number: 1 }, Vec::new(alloc));
-    Ok(World { disk, reader })
+    let slots = FileSlots::new(alloc, LIMIT)?;
+    Ok(World {
+        disk,
+        reader,
+        slots,
+    })
 }
 
 /// The number at this place, from 0; 0 where there is none.
@@ -103,24 +114,28 @@ fn tell_seen(rt: &HostRuntime, world: &mut World, words: &str) {
     let _ = print!(rt; " ");
     put_key(rt, key);
     match reader_version(&mut world.disk, LIMIT, &world.reader, key, line_of(stands)) {
-        Ok(Some(version)) => {
-            let number = version.tsn.number;
-            let _ = print!(rt; " of transaction {number}:");
-            match bytes_of(Some(version)) {
-                Some(image) => put_bytes(rt, image.bytes()),
-                None => {
-                    let _ = print!(rt; " erased");
-                }
-            }
-            let _ = println!(rt; "");
-        }
-        Ok(None) => {
-            let _ = println!(rt; " isn't there");
-        }
+        Ok(seen) => put_seen(rt, seen),
         Err(_) => {
             let _ = println!(rt; " fails");
         }
     }
+}
+
+/// The version that a reader sees.
+fn put_seen(rt: &HostRuntime, seen: Option<Line>) {
+    let Some(version) = seen else {
+        let _ = println!(rt; " isn't there");
+        return;
+    };
+    let number = version.tsn.number;
+    let _ = print!(rt; " of transaction {number}:");
+    match bytes_of(Some(version)) {
+        Some(image) => put_bytes(rt, image.bytes()),
+        None => {
+            let _ = print!(rt; " erased");
+        }
+    }
+    let _ = println!(rt; "");
 }
 
 fn say(rt: &HostRuntime, world: &mut World, text: &str) -> Result<(), NoMemory> {
@@ -133,6 +148,9 @@ fn say(rt: &HostRuntime, world: &mut World, text: &str) -> Result<(), NoMemory> 
             world.reader = Reader::new(tsn_at(rest, 0), active);
         }
         "line" => tell_seen(rt, world, rest),
+        "change" => tell_change(rt, world, rest),
+        "read" => tell_read(rt, world, rest),
+        "given" => tell_given(rt, world, rest),
         _ => {
             let _ = println!(rt; "  NO SUCH CASE");
         }

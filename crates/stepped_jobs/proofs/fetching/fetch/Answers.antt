@@ -7,6 +7,7 @@ use Rattle.line_view.specs.Stops.{Lacks}
 use Rattle.line_view.specs.Held.{Held, knows}
 use Rattle.line_store.specs.Shelves.{seen_by}
 use Rattle.stepped_jobs.proofs.Following.{line-learnt, area-learnt}
+use Rattle.stepped_jobs.proofs.Growing.{line-grows, area-grows}
 use Rattle.stepped_jobs.proofs.fetching.fetch.Goals as goal
 
 pub returns-in-Line-clause-learnt : goal.returns-in-Line-clause-learnt
@@ -29,3 +30,12 @@ pub returns-in-Area-clause-guarded : goal.returns-in-Area-clause-guarded
 returns-in-Area-clause-guarded g c got locked guarded =
     area-read got c.learn_area.result c.in-Area.area (seen_by c.args.s.number (g.L.LineStore.shelf c.args.store.now)) c.args.known.now c.learn_area.new.known c.learn_area.ensures.done c.learn_area.ensures.not_yet
     (subst (IsLocked got) c.in-Area.is locked) guarded
+
+pub returns-in-Line-clause-more : goal.returns-in-Line-clause-more
+returns-in-Line-clause-more g c =
+    let key = c.in-Line.key in
+    line-grows c.learn_line.result key (line_in key (seen_by c.args.s.number (g.L.LineStore.shelf c.args.store.now))) c.args.known.now c.learn_line.new.known c.learn_line.ensures.done c.learn_line.ensures.not_yet
+
+pub returns-in-Area-clause-more : goal.returns-in-Area-clause-more
+returns-in-Area-clause-more g c =
+    area-grows c.learn_area.result c.in-Area.area (seen_by c.args.s.number (g.L.LineStore.shelf c.args.store.now)) c.args.known.now c.learn_area.new.known c.learn_area.ensures.done c.learn_area.ensures.not_yet

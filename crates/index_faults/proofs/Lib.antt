@@ -1,0 +1,5 @@
+pub mod Reached
+pub mod Bounds
+pub mod Walked
+pub mod Lists
+pub mod Rows

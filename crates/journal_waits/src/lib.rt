@@ -1,0 +1,6 @@
+//! That no cycle of waits goes through the journal, where who has it never waits.
+#![tactic(auto)]
+
+mod laws;
+
+pub use laws::no_cycle_goes_through_the_journal;

@@ -1,0 +1,5 @@
+pub mod Standings
+pub mod Restanding
+pub mod MembersEnd
+pub mod LinesJoin
+pub mod Written

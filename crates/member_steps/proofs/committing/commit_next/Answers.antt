@@ -1,0 +1,51 @@
+use Rattle.std.proofs.Common.{◌∙◌, ap, refl, sym, subst}
+use Rattle.line_seat.proofs.CommitSteps.{if_ok}
+use Rattle.member_steps.specs.declared.committing.CommitTurn.{CommitTurn}
+use Rattle.member_steps.specs.declared.committing.CommitTurn.TheVariants.{Going}
+use Rattle.disk_seats.specs.Members.{LedgerFacts}
+use Rattle.member_steps.specs.Turns.{plan_of, TurnFacts, NextFacts, ledger_behind, ledger_held}
+use Rattle.member_steps.proofs.committing.commit_next.Goals as goal
+
+pub returns-in-Entering-clause-keeps : goal.returns-in-Entering-clause-keeps
+returns-in-Entering-clause-keeps g c = let v = g.D.Disk.view in λ t ledger member o all flight was facts.
+    let plan = plan_of member o all c.args.group c.args.lines.now c.args.classes.now flight in
+    let old = v c.args.disk.now in let new = v c.enter_next.new.disk in
+    subst (λ (u : CommitTurn). LedgerFacts new (ledger_held u plan ledger)) (sym c.in-Entering.is)
+    (c.enter_next.ensures.keeps t ledger plan was refl (subst (λ (u : CommitTurn). TurnFacts u old ledger plan) c.in-Entering.is facts)).0
+
+pub returns-in-Entering-clause-goes_on : goal.returns-in-Entering-clause-goes_on
+returns-in-Entering-clause-goes_on g c = let v = g.D.Disk.view in
+    if_ok _ _ c.enter_next.result (λ next on t ledger member o all flight was classes facts.
+    let plan = plan_of member o all c.args.group c.args.lines.now c.args.classes.now flight in
+    let old = v c.args.disk.now in let new = v c.enter_next.new.disk in
+    subst (λ (u : CommitTurn). LedgerFacts new (ledger_behind u next new.moment plan ledger) × NextFacts next new (ledger_behind u next new.moment plan ledger) plan) (sym c.in-Entering.is)
+    (on t ledger plan was refl (subst (λ (u : CommitTurn). TurnFacts u old ledger plan) c.in-Entering.is facts))) c.enter_next.ensures.goes_on
+
+pub returns-in-Securing-clause-keeps : goal.returns-in-Securing-clause-keeps
+returns-in-Securing-clause-keeps g c = let v = g.D.Disk.view in λ t ledger member o all flight was facts.
+    let plan = plan_of member o all c.args.group c.args.lines.now c.args.classes.now flight in
+    let new = v c.secure.new.disk in
+    subst (λ (u : CommitTurn). LedgerFacts new (ledger_held u plan ledger)) (sym c.in-Securing.is) (c.secure.ensures.keeps t ledger was)
+
+pub returns-in-Securing-clause-goes_on : goal.returns-in-Securing-clause-goes_on
+returns-in-Securing-clause-goes_on g c = let v = g.D.Disk.view in
+    if_ok _ _ c.secure.result (λ next on t ledger member o all flight was classes facts.
+    let plan = plan_of member o all c.args.group c.args.lines.now c.args.classes.now flight in
+    let old = v c.args.disk.now in let new = v c.secure.new.disk in
+    subst (λ (u : CommitTurn). LedgerFacts new (ledger_behind u next new.moment plan ledger) × NextFacts next new (ledger_behind u next new.moment plan ledger) plan) (sym c.in-Securing.is)
+    (on t ledger plan was (subst (λ (u : CommitTurn). TurnFacts u old ledger plan) c.in-Securing.is facts))) c.secure.ensures.goes_on
+
+pub returns-in-Going-clause-keeps : goal.returns-in-Going-clause-keeps
+returns-in-Going-clause-keeps g c = let v = g.D.Disk.view in λ t ledger member o all flight was facts.
+    let plan = plan_of member o all c.args.group c.args.lines.now c.args.classes.now flight in
+    let old = v c.args.disk.now in let new = v c.go_further.new.disk in
+    subst (λ (u : CommitTurn). LedgerFacts new (ledger_held u plan ledger)) (sym c.in-Going.is)
+    (c.go_further.ensures.keeps t ledger member o all flight was (subst (λ (u : CommitTurn). TurnFacts u old ledger plan) c.in-Going.is facts))
+
+pub returns-in-Going-clause-goes_on : goal.returns-in-Going-clause-goes_on
+returns-in-Going-clause-goes_on g c = let v = g.D.Disk.view in
+    if_ok _ _ c.go_further.result (λ next on t ledger member o all flight was classes facts.
+    let plan = plan_of member o all c.args.group c.args.lines.now c.args.classes.now flight in
+    let old = v c.args.disk.now in let new = v c.go_further.new.disk in
+    subst (λ (u : CommitTurn). LedgerFacts new (ledger_behind u next new.moment plan ledger) × NextFacts next new (ledger_behind u next new.moment plan ledger) plan) (sym c.in-Going.is)
+    (on t ledger member o all flight was (λ gathers. classes (c.in-Going.is ∙ ap Going gathers)) (subst (λ (u : CommitTurn). TurnFacts u old ledger plan) c.in-Going.is facts))) c.go_further.ensures.goes_on

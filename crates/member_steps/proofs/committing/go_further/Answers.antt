@@ -1,0 +1,15 @@
+use Rattle.member_steps.specs.Turns.{plan_of}
+use Rattle.member_steps.proofs.OwnersSaid.{goes_so}
+use Rattle.member_steps.proofs.committing.go_further.Goals as goal
+
+pub returns-in_err-next-clause-keeps : goal.returns-in_err-next-clause-keeps
+returns-in_err-next-clause-keeps g c = λ t ledger member o all flight was facts. c.go_on.ensures.keeps t ledger member (record { tsn = o.tsn; entries = all }) flight was facts
+
+pub returns-clause-keeps : goal.returns-clause-keeps
+returns-clause-keeps g c = λ t ledger member o all flight was facts. c.go_on.ensures.keeps t ledger member (record { tsn = o.tsn; entries = all }) flight was facts
+
+pub returns-clause-goes_on : goal.returns-clause-goes_on
+returns-clause-goes_on g c = let w = g.D.Disk.view c.go_on.new.disk in λ t ledger member o all flight was classes facts. (
+  c.in_ok-next.ensures.goes_on t ledger member (record { tsn = o.tsn; entries = all }) flight was classes facts,
+  goes_so c.in_ok-next.next w w.moment ledger (plan_of member o all c.args.group c.args.lines.now c.args.classes.now flight) c.args.stage,
+)

@@ -1,0 +1,159 @@
+// A member's commit, from its pages' owners to its answer.
+ghost use Rattle.std.specs.Prelude.{◌≡◌, ◌+◌, ◌≤◌, ◌<◌, ◌^◌, ℕ, List, length, IfOk, IsErrOf, IsTrue};
+ghost use Rattle.rdb_outside.specs.Causes.{Rose};
+ghost use Rattle.stable_lines.specs.Slots.{Undo};
+ghost use Rattle.stable_lines.specs.Progress.{Open, Flight};
+ghost use Rattle.line_moves.specs.Lines.{AreDistinct};
+ghost use Rattle.line_seat.specs.Groups.{AreAllowed, ArePlaced, HaveClasses};
+ghost use Rattle.line_seat.specs.declared.commit.CommitStage.TheVariants.{Gathering};
+ghost use Rattle.disk_seats.specs.Ledgers.{Ledger};
+ghost use Rattle.disk_seats.specs.Members.{LedgerFacts};
+ghost use Rattle.member_steps.specs.declared.committing.CommitTurn.TheVariants.{Entering, Securing, Going};
+ghost use Rattle.member_steps.specs.Turns.{Plan, plan_of, TurnFacts, NextFacts, ledger_behind, ledger_held};
+
+use disk_seats::{enter, go_on, settle};
+use line_moves::place_of;
+use line_seat::{CommitStage, GroupPlace};
+use line_store::Fault;
+use rdb_outside::Disk;
+use rdb_types::{Dbkey, Line};
+
+/// Where a member's commit is.
+#[derive(Clone, Copy, Debug, PartialEq, Eq)]
+pub enum CommitTurn {
+    /// The pages of the lines before this one are their areas', by their space pages.
+    Entering(usize),
+    /// Owners and before-images are to be made stable.
+    Securing,
+    /// Pages and group are written.
+    Going(CommitStage),
+}
+
+// Says on its space page whose the page of the line at a place is, or goes on to the barrier where there is none.
+fn enter_next<D: Disk>(
+    disk: &mut D,
+    at: usize,
+    lines: &[(Dbkey, Line)],
+) -> Result<CommitTurn, Fault>
+    requires placed { ArePlaced lines.now }
+    ensures failed { IsErrOf result Fault.Failed
+        → Rose (D.view disk.old).faults (D.view disk.new).faults }
+    ensures keeps { IsTrue (D.view disk.old).tells → (ledger : Ledger) (plan : Plan)
+        → LedgerFacts (D.view disk.old) ledger → plan.lines ≡ lines.now
+        → TurnFacts (Entering at) (D.view disk.old) ledger plan
+        → LedgerFacts (D.view disk.new) ledger × TurnFacts (Entering 0) (D.view disk.new) ledger plan }
+    ensures goes_on { IfOk result (λ next. IsTrue (D.view disk.old).tells
+        → (ledger : Ledger) (plan : Plan)
+        → LedgerFacts (D.view disk.old) ledger → plan.lines ≡ lines.now
+        → TurnFacts (Entering at) (D.view disk.old) ledger plan
+        → LedgerFacts (D.view disk.new) ledger × NextFacts next (D.view disk.new) ledger plan) }
+{
+    if at >= lines.len() {
+        return Ok(CommitTurn::Securing);
+    }
+    let key = lines[at].0;
+    let Some(place) = place_of(key) else {
+        unreachable!();
+    };
+    enter(disk, place, key.area)?;
+    Ok(CommitTurn::Entering(at + 1))
+}
+
+// The barrier behind which the before-images stand and the pages may be written.
+fn secure<D: Disk>(disk: &mut D) -> Result<CommitTurn, Fault>
+    ensures failed { IsErrOf result Fault.Failed
+        → Rose (D.view disk.old).faults (D.view disk.new).faults }
+    ensures keeps { IsTrue (D.view disk.old).tells → (ledger : Ledger)
+        → LedgerFacts (D.view disk.old) ledger → LedgerFacts (D.view disk.new) ledger }
+    ensures goes_on { IfOk result (λ next. IsTrue (D.view disk.old).tells
+        → (ledger : Ledger) (plan : Plan) → LedgerFacts (D.view disk.old) ledger
+        → TurnFacts Securing (D.view disk.old) ledger plan
+        → let behind = ledger_behind Securing next (D.view disk.new).moment plan ledger in
+        LedgerFacts (D.view disk.new) behind × NextFacts next (D.view disk.new) behind plan) }
+{
+    settle(disk)?;
+    Ok(CommitTurn::Going(CommitStage::Changing(0)))
+}
+
+// Goes on with pages and group.
+fn go_further<D: Disk>(
+    disk: &mut D,
+    stage: CommitStage,
+    group: GroupPlace,
+    lines: &[(Dbkey, Line)],
+    classes: &[u16],
+    page: &mut [u8],
+) -> Result<CommitTurn, Fault>
+    requires size { length page.old ≡ 1024 }
+    requires distinct { AreDistinct lines.now }
+    requires placed { ArePlaced lines.now }
+    requires classes { length classes.now ≡ length lines.now }
+    requires allowed { AreAllowed lines.now classes.now }
+    requires room { group.slot + (length lines.now + 1) < 2 ^ 32 }
+    requires number { group.number ≤ 2 ^ 62 }
+    requires tsn { group.tsn.number < 2 ^ 62 }
+    ensures failed { IsErrOf result Fault.Failed
+        → Rose (D.view disk.old).faults (D.view disk.new).faults }
+    ensures keeps { IsTrue (D.view disk.old).tells
+        → (ledger : Ledger) (member : ℕ) (transaction : Open) (all : List Undo) (flight : Flight)
+        → LedgerFacts (D.view disk.old) ledger
+        → let plan = plan_of member transaction all group lines.now classes.now flight in
+        TurnFacts (Going stage) (D.view disk.old) ledger plan
+        → LedgerFacts (D.view disk.new) (ledger_held (Going stage) plan ledger) }
+    ensures goes_on { IfOk result (λ next. IsTrue (D.view disk.old).tells
+        → (ledger : Ledger) (member : ℕ) (transaction : Open) (all : List Undo) (flight : Flight)
+        → LedgerFacts (D.view disk.old) ledger
+        → (stage ≡ Gathering → HaveClasses (D.view disk.old).content ledger.base flight)
+        → let plan = plan_of member transaction all group lines.now classes.now flight in
+        TurnFacts (Going stage) (D.view disk.old) ledger plan
+        → let behind = ledger_behind (Going stage) next (D.view disk.new).moment plan ledger in
+        LedgerFacts (D.view disk.new) behind × NextFacts next (D.view disk.new) behind plan) }
+{
+    let next = go_on(disk, stage, group, lines, classes, page)?;
+    Ok(CommitTurn::Going(next))
+}
+
+/// Goes on with a member's commit: one write or one barrier at most. It begins at `Entering(0)`, when all before-images are written, and is through at `Going(Committed)`. The lines stand in the order of their keys, with the class of each; `page` is room for a page. Behind a fault it is made again: the owners of pages from the first on, a barrier as it was, and what comes behind it as `go_on` says.
+pub fn commit_next<D: Disk>(
+    disk: &mut D,
+    turn: CommitTurn,
+    group: GroupPlace,
+    lines: &[(Dbkey, Line)],
+    classes: &[u16],
+    page: &mut [u8],
+) -> Result<CommitTurn, Fault>
+    requires size { length page.old ≡ 1024 }
+    requires distinct { AreDistinct lines.now }
+    requires placed { ArePlaced lines.now }
+    requires classes { length classes.now ≡ length lines.now }
+    requires allowed { AreAllowed lines.now classes.now }
+    requires room { group.slot + (length lines.now + 1) < 2 ^ 32 }
+    requires number { group.number ≤ 2 ^ 62 }
+    requires tsn { group.tsn.number < 2 ^ 62 }
+    ensures failed { IsErrOf result Fault.Failed
+        → Rose (D.view disk.old).faults (D.view disk.new).faults }
+
+    // Whatever it answers, the ledger stays, and the commit can go on.
+    ensures keeps { IsTrue (D.view disk.old).tells
+        → (ledger : Ledger) (member : ℕ) (transaction : Open) (all : List Undo) (flight : Flight)
+        → LedgerFacts (D.view disk.old) ledger
+        → let plan = plan_of member transaction all group lines.now classes.now flight in
+        TurnFacts turn (D.view disk.old) ledger plan
+        → LedgerFacts (D.view disk.new) (ledger_held turn plan ledger) }
+
+    // It is further. At the last turn the lines are committed, since this moment.
+    ensures goes_on { IfOk result (λ next. IsTrue (D.view disk.old).tells
+        → (ledger : Ledger) (member : ℕ) (transaction : Open) (all : List Undo) (flight : Flight)
+        → LedgerFacts (D.view disk.old) ledger
+        → (turn ≡ Going Gathering → HaveClasses (D.view disk.old).content ledger.base flight)
+        → let plan = plan_of member transaction all group lines.now classes.now flight in
+        TurnFacts turn (D.view disk.old) ledger plan
+        → let behind = ledger_behind turn next (D.view disk.new).moment plan ledger in
+        LedgerFacts (D.view disk.new) behind × NextFacts next (D.view disk.new) behind plan) }
+{
+    match turn {
+        CommitTurn::Entering(at) => enter_next(disk, at, lines),
+        CommitTurn::Securing => secure(disk),
+        CommitTurn::Going(stage) => go_further(disk, stage, group, lines, classes, page),
+    }
+}
