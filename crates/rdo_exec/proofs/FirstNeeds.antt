@@ -1,5 +1,5 @@
 -- What an item lacks first.
-use Rattle.std.proofs.Common.{◌≡◌, ◌⊎◌, inl, inr, List, [], ◌∷◌, Option, Some, None, Result, refl, sym, subst}
+use Rattle.std.proofs.Common.{◌⊎◌, inl, inr, List, [], Option, Some, None, refl, sym, subst}
 use Rattle.rdb_types.specs.declared.keys.Dbkey.{Dbkey}
 use Rattle.rdo_ast.specs.declared.reply.Reply.{Reply}
 use Rattle.rdo_ast.specs.declared.reply.Standing.{Standing}
@@ -11,10 +11,8 @@ use Rattle.line_view.specs.declared.stop.Never.{Never}
 use Rattle.line_view.specs.declared.stop.Stop.{Stop}
 use Rattle.line_view.specs.declared.stop.Stop.TheVariants as stop
 use Rattle.line_view.specs.Knowledge.{Knowledge, Lines, Agrees}
-use Rattle.catalog.specs.declared.reading.Catalog.{Catalog}
 use Rattle.catalog.specs.Reading.{StopsCatalog}
 use Rattle.sound_changes.specs.Standing.{IsSoundAs}
-use Rattle.sound_maps.specs.Maps.{IsSoundWith}
 use Rattle.session_jobs.specs.declared.jobs.Found.{Found}
 use Rattle.session_jobs.specs.declared.jobs.Found.TheVariants as found
 use Rattle.session_jobs.specs.Jobs.{NamesNoNeed}
@@ -23,8 +21,8 @@ use Rattle.rdo_acts.specs.declared.work.Given.{Given}
 use Rattle.rdo_acts.specs.declared.acting.Outcome.{Outcome}
 use Rattle.rdo_acts.specs.declared.acting.Outcome.TheVariants.{Done, Refused, Missing, Bad, NoMemory}
 use Rattle.rdo_acts.specs.Ends.{reply_of}
-use Rattle.rdo_acts.specs.Selections.{IsReadAmong, FirstIs, LacksAmong, IsAmong, chosen_in_act}
-use Rattle.rdo_acts.specs.Wanted.{ActWants, Then, IsWanted, WantsSo}
+use Rattle.rdo_acts.specs.Selections.{IsReadAmong, FirstIs, LacksAmong, chosen_in_act}
+use Rattle.rdo_acts.specs.Wanted.{ActWants, Then, WantsSo}
 use Rattle.rdo_exec.specs.Acted.{found_refused, IsFoundOf, AreTogether}
 use Rattle.rdo_exec.specs.Answers.{found_of_stop}
 use Rattle.rdo_exec.specs.Coming.{IsCatalogOfKnown}

@@ -1,5 +1,5 @@
 -- What an item lacks first, by what it reads.
-use Rattle.std.specs.Prelude.{◌≡◌, ◌⊎◌, ℕ, false, List, []}
+use Rattle.std.specs.Prelude.{◌≡◌, ◌⊎◌, false, []}
 use Rattle.rdo_ast.specs.Tree.{Act, Uttered, said, perform}
 use Rattle.rdb_meaning.specs.declared.tables.Tables.{Tables}
 use Rattle.line_view.specs.declared.need.Need.{Need}

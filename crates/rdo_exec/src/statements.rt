@@ -9,7 +9,7 @@ ghost use Rattle.rdb_account.specs.Places.{begins};
 ghost use Rattle.line_view.specs.Held.{knows};
 ghost use Rattle.catalog.specs.Reading.{IsWhole, StopsCatalog};
 ghost use Rattle.sound_maps.specs.Maps.{IsSoundWith};
-ghost use Rattle.session_jobs.specs.Jobs.{IsFound, NamesOnce, NamesNoNeed};
+ghost use Rattle.session_jobs.specs.Jobs.{IsFound, IsFoundFor, HasCause, NamesOnce, IsOutside, NamesNoNeed};
 ghost use Rattle.rdo_exec.specs.Answers.{IsAnswered};
 ghost use Rattle.rdo_exec.specs.Left.{IsLeft};
 ghost use Rattle.rdo_exec.specs.Needed.{ItemNeeds};
@@ -248,7 +248,17 @@ impl Statements for RdoStatements {
         None
     }
 
-    fn work(job: Job, kept: Option<Schema>) -> Answer<Option<Schema>> {
+    // Beside what each executor promises: what the item lacks first.
+    fn work(job: Job, kept: Option<Schema>) -> Answer<Option<Schema>>
+        requires { FitsKnown kept (knows job.known) }
+        ensures job { result.job ≡ job }
+        ensures kept { FitsKnown result.kept (knows job.known) }
+        ensures right { IsFoundFor IsSoundWith job result.found }
+        ensures cause { HasCause IsLeft job result.found }
+        ensures once { NamesOnce result.found }
+        ensures outside { IsOutside job → NamesNoNeed result.found }
+        ensures needs { ItemNeeds (uttered_of job.item) (knows job.known) result.found }
+    {
         let Job {
             alloc,
             word,
