@@ -3,4 +3,4 @@
 
 mod laws;
 
-pub use laws::{a_table_follows_commits, rooms_are_free, used_lines_are_committed};
+pub use laws::{a_table_begins, a_table_follows_commits, rooms_are_free, used_lines_are_committed};
