@@ -1,9 +1,10 @@
 //! A session that has no transaction open.
-ghost use Rattle.std.specs.Prelude.{◌≡◌, ℕ, List, [], ◌∷◌, false, true, None, Some};
+ghost use Rattle.std.specs.Prelude.{◌≡◌, ℕ, List, [], ◌∷◌, false, true, None, Some, option_map};
 ghost use Rattle.rdo_ast.specs.Views.{uttered_of};
 ghost use Rattle.rdo_ast.specs.declared.syntax.Item.{Item as Syntax};
 ghost use Rattle.rdb_account.specs.Places.{begins, is_writer};
 ghost use Rattle.rdb_account.specs.Lawful.{never_sleeps};
+ghost use Rattle.vms_queues.specs.Queues.{first_of};
 ghost use Rattle.session_steps.specs.Members.{member};
 ghost use Rattle.session_steps.specs.Right.{is_in};
 ghost use Rattle.session_steps.specs.Steps.{Comes};
@@ -75,6 +76,14 @@ fn queue_up(alloc: Global, lock: &mut WriterLock, s: Session, item: Item, kind: 
     }
 }
 
+/// Who has the lock, where the transaction may not wait for it.
+fn in_the_way(lock: &WriterLock, kind: &Standing) -> Option<Session>
+    ensures holder { never_sleeps kind.now ≡ true → option_map (λ s. s.number) result ≡ first_of lock.now }
+    ensures nobody { never_sleeps kind.now ≡ false → result ≡ None }
+{
+    if is_nowait(kind) { lock.holder() } else { None }
+}
+
 /// Begins a read-write transaction, which asks for the lock, or is refused where it would wait and may not.
 fn ask(alloc: Global, lock: &mut WriterLock, s: Session, item: Item, kind: Standing) -> Stepped
     requires absent { is_in s.number lock.old ≡ false }
@@ -82,25 +91,19 @@ fn ask(alloc: Global, lock: &mut WriterLock, s: Session, item: Item, kind: Stand
     requires writes { is_writer kind ≡ true }
     ensures { (word : List ℕ) (committed : Tables) (left : List Syntax) (total : ℕ) → Comes word s.number (member (item ∷ left) State.Outside total) committed lock.old (member left result.state total) committed lock.new (Outcome.Happened result.happening) }
 {
-    match lock.holder() {
+    match in_the_way(lock, &kind) {
         None => queue_up(alloc, lock, s, item, kind),
-        Some(holder) => {
-            if is_nowait(&kind) {
-                Stepped {
-                    state: State::Outside,
-                    happening: Happening::Refused(
-                        kind,
-                        Answer {
-                            item,
-                            keys: Items::new(alloc),
-                            reply: Reply::LockConflict(holder.number),
-                        },
-                    ),
-                }
-            } else {
-                queue_up(alloc, lock, s, item, kind)
-            }
-        }
+        Some(holder) => Stepped {
+            state: State::Outside,
+            happening: Happening::Refused(
+                kind,
+                Answer {
+                    item,
+                    keys: Items::new(alloc),
+                    reply: Reply::LockConflict(holder.number),
+                },
+            ),
+        },
     }
 }
 

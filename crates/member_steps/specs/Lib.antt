@@ -1,2 +1,4 @@
 pub mod Turns
 pub mod Journalling
+pub mod Beginning
+pub mod Standing

@@ -1,6 +1,6 @@
 -- What comes of an action, from its work on a view in which nothing was written.
 use Rattle.std.proofs.Common.{◌≡◌, true, false, List, [], ◌++◌, Option, Some, None, Result, Ok, Err, sym, ap, subst, ◌∙◌, inl, inr}
-use Rattle.std.proofs.lemmas.List.Elements.{All-nil, All-cons}
+use Rattle.std.proofs.lemmas.List.Elements.{All-cons}
 use Rattle.rdb_types.specs.declared.keys.Dbkey.{Dbkey}
 use Rattle.rdo_ast.specs.declared.reply.Reply.{Reply}
 use Rattle.rdo_ast.specs.Tree.{Act, perform}
@@ -33,7 +33,7 @@ use Rattle.rdo_acts.specs.declared.acting.Outcome.TheVariants.{Done, Refused, Mi
 use Rattle.rdo_acts.specs.Ends.{ActStop, reply_of, stage, HoldsIn, Refuses, Ends}
 use Rattle.rdo_acts.specs.Acted.{IsActedOver, IsRefusedOver, ComesOf, Comes, IsOrdered, NamesNeeds}
 use Rattle.rdo_acts.specs.Areas.{KeepsFor, IsFor, StaysFor}
-use Rattle.rdo_acts.specs.Told.{Finishes, IsLacking, StopsAs}
+use Rattle.rdo_acts.specs.Told.{Finishes, StopsAs}
 use Rattle.rdo_acts.proofs.AheadNeeds.{ahead_lack, ahead_among}
 use Rattle.rdo_acts.proofs.Viewing.{laid_writes}
 

@@ -138,7 +138,7 @@ module _ (given : Given) (body : Acts) (scope : Scope) (ranges : List BoundRange
     own : (length x.tuple ≡ length ss) × (x.row ≡ row_of t (bind_tuple ss x.tuple scope))
     own = each_at (λ (f : Found). (length f.tuple ≡ length ss) × (f.row ≡ row_of t (bind_tuple ss f.tuple scope))) tuples i x have within read
 
-    bound_is : bound ≡ bind_tuple ss x.tuple scope
+    pub bound_is : bound ≡ bind_tuple ss x.tuple scope
     bound_is = binds (own.0 ∙ length-map ranges (λ (s : BoundRange). s.range))
 
     abbrev rest : World → Ran
@@ -158,6 +158,12 @@ module _ (given : Given) (body : Acts) (scope : Scope) (ranges : List BoundRange
       body_ends result runs =
           let there = holds_now given old now kept all start first_tuple.tables first_tuple.holds in
           runs (row_of first_tuple.tables bound) (λ none. beside (views none) first_tuple.tables there) all start first_tuple.tables there refl
+
+      -- where the work stands, with the values beside the tuple
+      pub tuple_now : (u : Tables) × HoldsIn given now all start u × (writes ≡ false → row_of u bound ≡ x.row)
+      tuple_now =
+          let there = holds_now given old now kept all start first_tuple.tables first_tuple.holds in
+          (first_tuple.tables, there, λ none. beside (views none) first_tuple.tables there)
 
       -- in the areas of these uses
       pub body_keeps : (result : Result (Unit {0}) ActStop) (us : List Use) → ((seen : Row) → (writes ≡ false → seen ≡ x.row) → RunsFor result given bound seen us now new) → KeepsFor start us now.view new.view result

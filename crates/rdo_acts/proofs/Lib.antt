@@ -22,3 +22,6 @@ pub mod UsesWithin
 pub mod AreasRead
 pub mod AreasWritten
 pub mod ScopeUses
+pub mod Lacking
+pub mod Wanting
+pub mod WantingRows

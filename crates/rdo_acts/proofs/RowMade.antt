@@ -24,7 +24,7 @@ use Rattle.rdo_acts.proofs.VariableRow.{none_values, row_joined}
 
 -- ---- the values of the variable that is stored
 
-stored_values : (t : Tables) (scope : Scope) (s : Range) (table : Relation) (fields : List Field) → relation_named s.relation t ≡ Some table → table.fields ≡ fields → row_of t (scope ++ bind_source s None ∷ []) ≡ row_of t scope ++ missing_values (length fields)
+pub stored_values : (t : Tables) (scope : Scope) (s : Range) (table : Relation) (fields : List Field) → relation_named s.relation t ≡ Some table → table.fields ≡ fields → row_of t (scope ++ bind_source s None ∷ []) ≡ row_of t scope ++ missing_values (length fields)
 stored_values t scope s table fields named same =
     row_joined t scope (bind_source s None ∷ [])
     ∙ ap (λ (vs : Row). row_of t scope ++ vs) (append-nil (values_of (fields_of (relation_named s.relation t)) []))

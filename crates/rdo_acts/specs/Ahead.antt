@@ -2,7 +2,7 @@
 use Rattle.std.specs.Prelude.{◌≡◌, ◌<◌, ◌+◌, ◌*◌, ℕ, List, [], ◌∷◌}
 use Rattle.rdb_types.specs.declared.keys.Dbkey.{Dbkey}
 use Rattle.line_view.specs.declared.need.Need.{Need}
-use Rattle.line_view.specs.declared.need.Need.TheVariants.{Line, Area, Room}
+use Rattle.line_view.specs.declared.need.Need.TheVariants.{Line, Room}
 use Rattle.line_view.specs.Knowledge.{Knowledge}
 use Rattle.line_view.specs.Stops.{Lacks}
 

@@ -2,6 +2,8 @@ pub mod Unwritten
 pub mod Scopes
 pub mod Ends
 pub mod Areas
+pub mod Selections
+pub mod Wanted
 pub mod Stops
 pub mod Printing
 pub mod Ahead

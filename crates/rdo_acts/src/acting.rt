@@ -1,5 +1,5 @@
 // An action of a statement, from what is known to what comes of it.
-ghost use Rattle.std.specs.Prelude.{◌≡◌, ◌∷◌, [], IfOk};
+ghost use Rattle.std.specs.Prelude.{◌≡◌, ◌∷◌, [], false, IfOk};
 ghost use Rattle.rdb_meaning.specs.declared.tables.Tables.{Tables as Kept};
 ghost use Rattle.rdb_meaning.specs.Checks.{act_uses};
 ghost use Rattle.rdb_meaning.specs.Execution.{done as doing};
@@ -9,6 +9,10 @@ ghost use Rattle.rdo_bind.specs.Acting.{act_of, written_act, IsBoundAct};
 ghost use Rattle.rdo_acts.specs.Ends.{GoTogether, HoldsIn, Ends};
 ghost use Rattle.rdo_acts.specs.Acted.{Comes, IsOrdered, NamesNeeds};
 ghost use Rattle.rdo_acts.specs.Areas.{KeepsFor, StaysFor};
+ghost use Rattle.rdo_acts.specs.Scopes.{may_write};
+ghost use Rattle.rdo_acts.specs.Selections.{chosen_in_act, ReadsAmong, LacksAmong};
+ghost use Rattle.rdo_acts.specs.Wanted.{ActWants, Then, Lacking, WantsSo};
+ghost use Rattle.row_writes.specs.Rows.{IsSoundView};
 ghost use Rattle.rdo_acts.specs.Ahead.{AreAhead};
 ghost use Rattle.rdo_acts.specs.Told.{Finishes, IsLacking, StopsAs};
 
@@ -61,6 +65,8 @@ fn begin<'a>(given: &Given<'a>, action: &BoundAction, work: &mut Work) -> Result
     ensures runs { (all : Lines) (t : Kept) → HoldsIn given.now work.old all t t → Ends result given.now all t (doing (written_act action.now) t []) work.old work.new t }
     ensures known { work.new.view.base ≡ work.old.view.base }
     ensures areas { (all : Lines) (t : Kept) → HoldsIn given.now work.old all t t → KeepsFor t (act_uses (written_act action.now) []) work.old.view work.new.view result }
+    ensures lacks { may_write (act_of action.now) ≡ false → (first : Lines) (t : Kept) → IsSoundView work.old.view given.now.schema.now t first → ReadsAmong t given.now.sources.now.entries (chosen_in_act (act_of action.now) []) result }
+    ensures wants { (all : Lines) (t : Kept) → HoldsIn given.now work.old all t t → Lacking (λ need. Then given.now all t (λ u. ActWants u given.now.sources.now.entries (act_of action.now) [] need)) result }
 {
     let values = Items::new(given.alloc);
     run_action(given, &[], &values, action, work)
@@ -191,6 +197,8 @@ pub fn act<'a>(given: &Given<'a>, known: Known, action: &BoundAction) -> Ended<'
     ensures ordered { IsOrdered result.outcome }
     ensures needs { NamesNeeds result.outcome (knows known) }
     ensures areas { StaysFor result.outcome (written_act action.now) (knows known) given.now.schema.now }
+    ensures lacks { LacksAmong result.outcome (act_of action.now) (knows known) given.now }
+    ensures wants { WantsSo result.outcome (act_of action.now) (knows known) given.now }
 {
     let mut work = Work::new(given.alloc, Changed::new(given.alloc, known));
     match begin(given, action, &mut work) {

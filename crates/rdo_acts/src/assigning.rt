@@ -11,6 +11,7 @@ ghost use Rattle.rdo_bind.specs.Assigning.{written_assign, IsBoundAssign};
 ghost use Rattle.row_writes.specs.Rows.{IsSoundView};
 ghost use Rattle.rdo_acts.specs.Ends.{GoTogether, Computes, IsUnassigned, reply_of};
 ghost use Rattle.rdo_acts.specs.Areas.{ReadsFor};
+ghost use Rattle.rdo_acts.specs.Selections.{chosen_in_assigns, ReadsAmong};
 
 use crate::stop::{ActStop, of_misfit, of_select};
 use crate::work::Given;
@@ -42,6 +43,7 @@ fn assign_one<'a>(
     ensures assigns { (first : Lines) (t : Kept) (scope : Scope) → IsSoundView view.now given.now.schema.now t first → IsBoundAssign t (variables_of scope) assign.now → row_of t scope ≡ values.now
         → Computes result view.now (λ done. assigning (written_assign assign.now ∷ []) fields.now t scope row.old ≡ assigned row.new) (λ refusal. IsUnassigned (reply_of refusal) (assigning (written_assign assign.now ∷ []) fields.now t scope row.old)) }
     ensures areas { (first : Lines) (t : Kept) (scope : Scope) → IsSoundView view.now given.now.schema.now t first → IsBoundAssign t (variables_of scope) assign.now → row_of t scope ≡ values.now → ReadsFor t (assignments_uses (written_assign assign.now ∷ [])) result }
+    ensures lacks { (first : Lines) (t : Kept) (scope : Scope) → IsSoundView view.now given.now.schema.now t first → IsBoundAssign t (variables_of scope) assign.now → row_of t scope ≡ values.now → ReadsAmong t given.now.sources.now.entries (chosen_in_assigns (assign.now ∷ []) (variables_of scope)) result }
 {
     let Some(found) = field_of(fields, &assign.left.reference.field) else {
         return Ok(());
@@ -73,6 +75,7 @@ pub(crate) fn assign_all<'a>(
     ensures assigns { (first : Lines) (t : Kept) (scope : Scope) → IsSoundView view.now given.now.schema.now t first → All (IsBoundAssign t (variables_of scope)) assigns.now → row_of t scope ≡ values.now
         → Computes result view.now (λ done. assigning (map written_assign assigns.now) fields.now t scope row.old ≡ assigned row.new) (λ refusal. IsUnassigned (reply_of refusal) (assigning (map written_assign assigns.now) fields.now t scope row.old)) }
     ensures areas { (first : Lines) (t : Kept) (scope : Scope) → IsSoundView view.now given.now.schema.now t first → All (IsBoundAssign t (variables_of scope)) assigns.now → row_of t scope ≡ values.now → ReadsFor t (assignments_uses (map written_assign assigns.now)) result }
+    ensures lacks { (first : Lines) (t : Kept) (scope : Scope) → IsSoundView view.now given.now.schema.now t first → All (IsBoundAssign t (variables_of scope)) assigns.now → row_of t scope ≡ values.now → ReadsAmong t given.now.sources.now.entries (chosen_in_assigns assigns.now (variables_of scope)) result }
 {
     for assign in assigns {
         assign_one(given, view, fields, assign, values, row)?;

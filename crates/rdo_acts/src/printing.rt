@@ -13,6 +13,7 @@ ghost use Rattle.row_writes.specs.Rows.{IsSoundView};
 ghost use Rattle.rdo_acts.specs.Printing.{values_line, IsNoLine, prints};
 ghost use Rattle.rdo_acts.specs.Ends.{GoTogether, Computes, Runs};
 ghost use Rattle.rdo_acts.specs.Areas.{ReadsFor, RunsFor};
+ghost use Rattle.rdo_acts.specs.Selections.{chosen_in_items, ReadsAmong, RunsAmong};
 
 use crate::stop::{ActStop, of_select};
 use crate::work::{Given, Work};
@@ -90,6 +91,7 @@ fn item_line<'a>(
     ensures line { (first : Lines) (t : Kept) (scope : Scope) → IsSoundView view.now given.now.schema.now t first → IsBoundItem t (variables_of scope) item.now → row_of t scope ≡ values.now
         → Computes result view.now (λ line. line_of_item (written_item item.now) t scope ≡ printed line) (λ refusal. IsNoLine refusal (line_of_item (written_item item.now) t scope)) }
     ensures areas { (first : Lines) (t : Kept) (scope : Scope) → IsSoundView view.now given.now.schema.now t first → IsBoundItem t (variables_of scope) item.now → row_of t scope ≡ values.now → ReadsFor t (shown_uses (written_item item.now ∷ [])) result }
+    ensures lacks { (first : Lines) (t : Kept) (scope : Scope) → IsSoundView view.now given.now.schema.now t first → IsBoundItem t (variables_of scope) item.now → row_of t scope ≡ values.now → ReadsAmong t given.now.sources.now.entries (chosen_in_items (item.now ∷ []) (variables_of scope)) result }
 {
     match item {
         BoundPrintItem::Value(expression) => {
@@ -113,6 +115,7 @@ fn printed_line<'a>(
     ensures line { (first : Lines) (t : Kept) (scope : Scope) → IsSoundView view.now given.now.schema.now t first → All (IsBoundItem t (variables_of scope)) items.now → row_of t scope ≡ values.now
         → Computes result view.now (λ line. line_of_items (map written_item items.now) t scope ≡ printed line) (λ refusal. IsNoLine refusal (line_of_items (map written_item items.now) t scope)) }
     ensures areas { (first : Lines) (t : Kept) (scope : Scope) → IsSoundView view.now given.now.schema.now t first → All (IsBoundItem t (variables_of scope)) items.now → row_of t scope ≡ values.now → ReadsFor t (shown_uses (map written_item items.now)) result }
+    ensures lacks { (first : Lines) (t : Kept) (scope : Scope) → IsSoundView view.now given.now.schema.now t first → All (IsBoundItem t (variables_of scope)) items.now → row_of t scope ≡ values.now → ReadsAmong t given.now.sources.now.entries (chosen_in_items items.now (variables_of scope)) result }
 {
     let mut line = Items::new(given.alloc);
     for item in items {
@@ -133,6 +136,7 @@ pub(crate) fn print<'a>(
     ensures runs { (scope : Scope) → All (IsBoundItem given.now.schema.now.tables (variables_of scope)) items.now → Runs result given.now scope values.now (prints (map written_item items.now) scope) work.old work.new }
     ensures view { work.new.view ≡ work.old.view }
     ensures areas { (scope : Scope) → All (IsBoundItem given.now.schema.now.tables (variables_of scope)) items.now → RunsFor result given.now scope values.now (shown_uses (map written_item items.now)) work.old work.new }
+    ensures lacks { (scope : Scope) → All (IsBoundItem given.now.schema.now.tables (variables_of scope)) items.now → RunsAmong result given.now scope values.now (chosen_in_items items.now (variables_of scope)) work.old }
 {
     let line = printed_line(given, &work.view, items, values)?;
     work.lines.push(line)?;

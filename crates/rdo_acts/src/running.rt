@@ -10,6 +10,8 @@ ghost use Rattle.rdo_select.specs.Crossed.{ranges_of};
 ghost use Rattle.rdo_acts.specs.Scopes.{scope_of, AreRowsOf, may_write, may_write_any};
 ghost use Rattle.rdo_acts.specs.Ends.{GoTogether, Runs, RunsOver};
 ghost use Rattle.rdo_acts.specs.Areas.{action_uses, body_uses, RunsFor, RunsOverFor};
+ghost use Rattle.rdo_acts.specs.Selections.{chosen_in_act, chosen_in_acts, RunsAmong, RunsOverAmong};
+ghost use Rattle.rdo_acts.specs.Wanted.{RunsWanting, BodyWanting, TuplesWanting};
 
 use crate::printing::print;
 use crate::scope::{BoundRow, bound_to, values_now};
@@ -62,6 +64,8 @@ pub(crate) fn run_action<'a, 'b>(
     ensures reads { may_write (act_of action.now) ≡ false → work.new.view ≡ work.old.view }
     ensures known { work.new.view.base ≡ work.old.view.base }
     ensures areas { RunsFor result given.now (scope_of scope.now) values.now (action_uses (act_of action.now) (scope_of scope.now)) work.old work.new }
+    ensures lacks { may_write (act_of action.now) ≡ false → RunsAmong result given.now (scope_of scope.now) values.now (chosen_in_act (act_of action.now) (variables_of (scope_of scope.now))) work.old }
+    ensures wants { RunsWanting result given.now (scope_of scope.now) values.now (act_of action.now) work.old }
 {
     match action {
         BoundAction::Print(items) => print(given, items.as_slice(), values, work),
@@ -109,6 +113,8 @@ fn run_over<'a, 'b>(
     ensures reads { may_write_any (acts_of (map act_of body.now)) ≡ false → work.new.view ≡ work.old.view }
     ensures known { work.new.view.base ≡ work.old.view.base }
     ensures areas { RunsOverFor result given.now (scope_of scope.now) (ranges_of ranges.now) tuples.now (body_uses (acts_of (map act_of body.now)) (bind_sources (ranges_of ranges.now) (scope_of scope.now))) work.old work.new }
+    ensures lacks { may_write_any (acts_of (map act_of body.now)) ≡ false → RunsOverAmong result given.now (scope_of scope.now) (ranges_of ranges.now) tuples.now (chosen_in_acts (acts_of (map act_of body.now)) (variables_of (scope_of scope.now) ++ ranges_of ranges.now)) work.old }
+    ensures wants { TuplesWanting result given.now (scope_of scope.now) (ranges_of ranges.now) tuples.now (acts_of (map act_of body.now)) work.old }
 {
     let writing = any_writes(body);
     for found in tuples {
@@ -136,6 +142,8 @@ fn run_body<'a, 'b>(
     ensures reads { writing ≡ false → work.new.view ≡ work.old.view }
     ensures known { work.new.view.base ≡ work.old.view.base }
     ensures areas { (seen : Values) → (writing ≡ false → seen ≡ values.now) → RunsFor result given.now (scope_of scope.now) seen (body_uses (acts_of (map act_of body.now)) (scope_of scope.now)) work.old work.new }
+    ensures lacks { writing ≡ false → RunsAmong result given.now (scope_of scope.now) values.now (chosen_in_acts (acts_of (map act_of body.now)) (variables_of (scope_of scope.now))) work.old }
+    ensures wants { (seen : Values) → (writing ≡ false → seen ≡ values.now) → BodyWanting result given.now (scope_of scope.now) seen (acts_of (map act_of body.now)) work.old }
 {
     if writing {
         run_anew(given, scope, body, work)
@@ -158,6 +166,7 @@ fn run_anew<'a, 'b>(
     ensures runs { (values : Values) → Runs result given.now (scope_of scope.now) values (λ start. done_all (named_acts (acts_of (map act_of body.now))) start (scope_of scope.now)) work.old work.new }
     ensures known { work.new.view.base ≡ work.old.view.base }
     ensures areas { (values : Values) → RunsFor result given.now (scope_of scope.now) values (body_uses (acts_of (map act_of body.now)) (scope_of scope.now)) work.old work.new }
+    ensures wants { (values : Values) → BodyWanting result given.now (scope_of scope.now) values (acts_of (map act_of body.now)) work.old }
 {
     for action in body {
         let values = match values_now(given, &work.view, scope) {
@@ -185,6 +194,8 @@ fn run_reading<'a, 'b>(
     ensures runs { Runs result given.now (scope_of scope.now) values.now (λ start. done_all (named_acts (acts_of (map act_of body.now))) start (scope_of scope.now)) work.old work.new }
     ensures reads { work.new.view ≡ work.old.view }
     ensures areas { RunsFor result given.now (scope_of scope.now) values.now (body_uses (acts_of (map act_of body.now)) (scope_of scope.now)) work.old work.new }
+    ensures lacks { RunsAmong result given.now (scope_of scope.now) values.now (chosen_in_acts (acts_of (map act_of body.now)) (variables_of (scope_of scope.now))) work.old }
+    ensures wants { BodyWanting result given.now (scope_of scope.now) values.now (acts_of (map act_of body.now)) work.old }
 {
     for action in body {
         run_action(given, scope, values, action, work)?;

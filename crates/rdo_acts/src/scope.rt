@@ -1,5 +1,5 @@
 // The variables around an action, and the values of their rows.
-ghost use Rattle.std.specs.Prelude.{◌≡◌, ◌++◌, ◌∷◌, [], length, option_and_then, IfOk};
+ghost use Rattle.std.specs.Prelude.{◌≡◌, ◌++◌, ◌∷◌, [], Some, length, option_and_then, IfOk};
 ghost use Rattle.std.specs.FinMap.Entries.{find};
 ghost use Rattle.rdb_types.specs.Order.{dbkey_order};
 ghost use Rattle.rdb_meaning.specs.declared.tables.Tables.{Tables as Kept};
@@ -15,6 +15,8 @@ ghost use Rattle.rdo_select.specs.Crossed.{ranges_of};
 ghost use Rattle.rdo_acts.specs.Scopes.{scope_of, AreRowsOf, missing_values};
 ghost use Rattle.rdo_acts.specs.Ends.{GoTogether, Computes};
 ghost use Rattle.rdo_acts.specs.Areas.{ReadsIn, ReadsFor, scope_uses};
+ghost use Rattle.line_view.specs.declared.need.Need.TheVariants.{Line};
+ghost use Rattle.rdo_acts.specs.Wanted.{IsRowOf, Lacking};
 
 use crate::work::Given;
 use line_view::{Never, Stop};
@@ -44,6 +46,7 @@ pub(crate) fn row_at(
 ) -> Result<Option<Row>, Stop<Never>>
     ensures row { (all : Lines) (table : Table) → IsInOrder all → Agrees (knows_over view.now) all → HasRows all relation.now table → Computes result view.now (λ found. found ≡ option_and_then (λ k. find dbkey_order k table.rows) key) (λ never. ⊥) }
     ensures areas { ReadsIn (relation.now.area ∷ []) result }
+    ensures line { Lacking (λ need. (k : _) × (key ≡ Some k) × (need ≡ Line k)) result }
 {
     let Some(at) = key else {
         return Ok(None);
@@ -71,6 +74,7 @@ fn values_of(given: &Given<'_>, view: &Changed, variable: BoundRow<'_>) -> Resul
     requires row { AreRowsOf given.now.schema.now.tables (variable ∷ []) }
     ensures values { (first : Lines) (t : Kept) → IsSoundView view.now given.now.schema.now t first → Computes result view.now (λ values. values ≡ row_of t (scope_of (variable.entry ∷ []))) (λ never. ⊥) }
     ensures areas { (first : Lines) (t : Kept) → IsSoundView view.now given.now.schema.now t first → ReadsFor t (scope_uses (scope_of (variable.entry ∷ []))) result }
+    ensures line { Lacking (IsRowOf (scope_of (variable.entry ∷ []))) result }
 {
     let Some(source) = given.sources.get(&variable.range.area) else {
         unreachable!();
@@ -92,6 +96,7 @@ pub(crate) fn values_now(
     requires rows { AreRowsOf given.now.schema.now.tables scope.now }
     ensures values { (first : Lines) (t : Kept) → IsSoundView view.now given.now.schema.now t first → Computes result view.now (λ values. values ≡ row_of t (scope_of scope.now)) (λ never. ⊥) }
     ensures areas { (first : Lines) (t : Kept) → IsSoundView view.now given.now.schema.now t first → ReadsFor t (scope_uses (scope_of scope.now)) result }
+    ensures lines { Lacking (IsRowOf (scope_of scope.now)) result }
 {
     let mut values = Items::new(given.alloc);
     for variable in scope {

@@ -16,6 +16,8 @@ ghost use Rattle.row_writes.specs.Rows.{IsSoundView};
 ghost use Rattle.rdo_acts.specs.Scopes.{missing_values};
 ghost use Rattle.rdo_acts.specs.Ends.{GoTogether, Computes, IsUnassigned, reply_of, Runs};
 ghost use Rattle.rdo_acts.specs.Areas.{ReadsFor, RunsFor};
+ghost use Rattle.rdo_acts.specs.Selections.{chosen_in_assigns, ReadsAmong};
+ghost use Rattle.rdo_acts.specs.Wanted.{RunsWanting};
 
 use crate::assigning::assign_all;
 use crate::scope::{missing_row, with_missing};
@@ -42,6 +44,8 @@ fn new_row<'a>(
         (λ refusal. IsUnassigned (reply_of refusal) (assigning (map written_assign assigns.now) fields.now t (scope ++ bind_source s None ∷ []) (missing_values (length fields.now)))) }
     ensures areas { (first : Lines) (t : Kept) (scope : Scope) (s : Ranged) (table : Table) → IsSoundView view.now given.now.schema.now t first → relation_named s.relation t ≡ Some table → table.fields ≡ fields.now
         → All (IsBoundAssign t (variables_of scope ++ s ∷ [])) assigns.now → row_of t scope ≡ values.now → ReadsFor t (assignments_uses (map written_assign assigns.now)) result }
+    ensures lacks { (first : Lines) (t : Kept) (scope : Scope) (s : Ranged) (table : Table) → IsSoundView view.now given.now.schema.now t first → relation_named s.relation t ≡ Some table → table.fields ≡ fields.now
+        → All (IsBoundAssign t (variables_of scope ++ s ∷ [])) assigns.now → row_of t scope ≡ values.now → ReadsAmong t given.now.sources.now.entries (chosen_in_assigns assigns.now (variables_of scope ++ s ∷ [])) result }
 {
     let all = with_missing(given.alloc, values, fields.len())?;
     let mut row = missing_row(given.alloc, fields.len())?;
@@ -64,6 +68,7 @@ pub(crate) fn store<'a>(
     ensures known { work.new.view.base ≡ work.old.view.base }
     ensures areas { (scope : Scope) → IsBoundAct (store_act range.now assigns.now) given.now.schema.now.tables (variables_of scope)
         → RunsFor result given.now scope values.now (act_uses (named_act (store_act range.now assigns.now)) scope) work.old work.new }
+    ensures wants { (scope : Scope) → IsBoundAct (store_act range.now assigns.now) given.now.schema.now.tables (variables_of scope) → RunsWanting result given.now scope values.now (store_act range.now assigns.now) work.old }
 {
     let Some(target) = given.schema.target(&range.range.relation) else {
         unreachable!();

@@ -16,6 +16,7 @@ ghost use Rattle.stored_schema.specs.Targets.{IsTargetIn};
 ghost use Rattle.rdo_acts.specs.Scopes.{scope_of, AreRowsOf};
 ghost use Rattle.rdo_acts.specs.Ends.{GoTogether, Computes, Runs};
 ghost use Rattle.rdo_acts.specs.Areas.{ReadsIn, RunsFor};
+ghost use Rattle.rdo_acts.specs.Wanted.{IsRowOf, Lacking, RunsWanting};
 
 use crate::assigning::assign_all;
 use crate::scope::{BoundRow, row_at};
@@ -36,6 +37,7 @@ fn row_now<'a>(
     ensures row { (first : Lines) (t : Kept) (table : Table) → IsSoundView work.now.view given.now.schema.now t first → relation_named variable.entry.range.now.range.relation t ≡ Some table
         → Computes result work.now.view (λ found. IsTargetIn given.now.schema.now t variable.entry.range.now.range.relation table found.0 × (found.1 ≡ option_and_then (λ k. find dbkey_order k table.rows) variable.entry.key)) (λ never. ⊥) }
     ensures areas { (first : Lines) (t : Kept) (table : Table) → IsSoundView work.now.view given.now.schema.now t first → relation_named variable.entry.range.now.range.relation t ≡ Some table → ReadsIn (table.area ∷ []) result }
+    ensures line { Lacking (IsRowOf (scope_of (variable.entry ∷ []))) result }
 {
     let Some(target) = given.schema.target(&variable.range.range.relation) else {
         unreachable!();
@@ -59,6 +61,7 @@ pub(crate) fn modify<'a>(
     ensures runs { Runs result given.now (scope_of scope.now) values.now (λ start. modified variable.now.variable (map written_assign assigns.now) (scope_of scope.now)) work.old work.new }
     ensures known { work.new.view.base ≡ work.old.view.base }
     ensures areas { RunsFor result given.now (scope_of scope.now) values.now (act_uses (named_act (modify_act variable.now assigns.now)) (scope_of scope.now)) work.old work.new }
+    ensures wants { RunsWanting result given.now (scope_of scope.now) values.now (modify_act variable.now assigns.now) work.old }
 {
     let Some(bound) = scope.get(variable.number) else {
         unreachable!();
@@ -92,6 +95,7 @@ pub(crate) fn erase<'a>(
     ensures runs { (values : Values) → Runs result given.now (scope_of scope.now) values (λ start. erased variable.now.variable (scope_of scope.now)) work.old work.new }
     ensures known { work.new.view.base ≡ work.old.view.base }
     ensures areas { (values : Values) → RunsFor result given.now (scope_of scope.now) values (act_uses (named_act (erase_act variable.now)) (scope_of scope.now)) work.old work.new }
+    ensures wants { (values : Values) → RunsWanting result given.now (scope_of scope.now) values (erase_act variable.now) work.old }
 {
     let Some(bound) = scope.get(variable.number) else {
         unreachable!();

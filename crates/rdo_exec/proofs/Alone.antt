@@ -14,13 +14,13 @@ use Rattle.schema_alone.specs.Schema.{bare}
 use Rattle.statement_view.specs.Areas.{is_among}
 use Rattle.used_areas.specs.Areas.{relation_areas, areas_read, areas_changed}
 use Rattle.rdo_acts.specs.Unwritten.{IsUnwrittenOver}
-use Rattle.rdo_exec.specs.Left.{IsStrange, IsLeftOver, strange, unmeant, unwritten, no_room, no_index_room, full_index, astray}
+use Rattle.rdo_exec.specs.Left.{IsStrange, IsLeftOver, strange, unwritten, no_room, no_index_room, full_index, astray}
 use Rattle.line_view.specs.Knowledge.{Knowledge, Lines, Agrees}
 use Rattle.line_view.specs.Held.{knows, nothing}
 use Rattle.sound_maps.specs.Laws.{empty}
 use Rattle.session_jobs.specs.declared.jobs.Found.{Found}
 use Rattle.session_jobs.specs.declared.jobs.Found.TheVariants as found
-use Rattle.rdo_exec.specs.Answers.{IsUnmeant, IsAnswered}
+use Rattle.rdo_exec.specs.Answers.{IsAnswered}
 use Rattle.rdo_exec.specs.Ways.{IsDefining, HasNoRange, is_bare}
 use Rattle.rdo_exec.specs.Coming.{Comes, ActStays}
 use Rattle.rdo_exec.specs.Acted.{IsSettled, IsAlone}
@@ -45,22 +45,6 @@ none_changed : (us : List Use) → areas_changed no_tables us ≡ []
 none_changed [] = refl
 none_changed (u ∷ us) = elim u.changes as (λ b. cond b (relation_areas no_tables None) [] ++ areas_changed no_tables us ≡ []) [ true ↦ none_changed us | false ↦ none_changed us ]
 
--- over no lines an action finds no bad line, and what it may lack is of no relation
-pub settled : (word : List ℕ) (standing : Standing) (a : Act) (known : Knowledge) (f : Found) → Agrees known [] → Comes word standing (said (perform a)) known f → ActStays a known f → IsSettled f
-settled word standing a known (found.Done x) agrees comes stays = tt
-settled word standing a known (found.Missing (Line key) later) agrees comes stays =
-    let among = subst (λ areas. is_among areas key.area ≡ true) (none_read (act_uses a [])) (stays [] no_tables empty agrees).0 in
-    let bad : ⊥ = cc in bad
-settled word standing a known (found.Missing (Area area) later) agrees comes stays =
-    let among = subst (λ areas. is_among areas area ≡ true) (none_read (act_uses a [])) (stays [] no_tables empty agrees).0 in
-    let bad : ⊥ = cc in bad
-settled word standing a known (found.Missing (Room room) later) agrees comes stays =
-    let among = subst (λ areas. is_among areas room.area ≡ true) (none_changed (act_uses a [])) (stays [] no_tables empty agrees).0 in
-    let bad : ⊥ = cc in bad
-settled word standing a known (found.Bad key) agrees comes stays = comes.over [] no_tables empty agrees
-settled word standing a known found.Unworked agrees comes stays = tt
-settled word standing a known found.NoMemory agrees comes stays = tt
-
 -- ---- the answer
 
 lines_none : (ps : List PlacedLine) → line_keys ps ≡ [] → ps ≡ []
@@ -84,24 +68,33 @@ bare_ranged (print items) bare_act none = let is = none.0 in let bad : ⊥ = cc 
 bare_ranged (modify n as') bare_act none = none
 bare_ranged (erase n) bare_act none = none
 
-left_alone : (word : List ℕ) (standing : Standing) (a : Act) (known : Knowledge) → is_bare a ≡ true → IsLeftOver word standing (said (perform a)) known [] no_tables → IsUnmeant word standing (said (perform a))
+left_alone : (word : List ℕ) (standing : Standing) (a : Act) (known : Knowledge) → is_bare a ≡ true → IsLeftOver word standing (said (perform a)) known [] no_tables → ⊥
 left_alone word standing a known bare_act (strange command is why) =
     let same : command ≡ perform a = cc in
-    absurd (bare_ranged a bare_act (subst IsStrange same why))
-left_alone word standing a known bare_act (unmeant choices reply after behind does means) = record {
-  choices = choices;
-  reply = reply;
-  behind = behind;
-  does = does_everywhere word a standing choices reply after behind bare_act does;
-  unmeant = means;
-}
-left_alone word standing a known bare_act (unwritten b c is decodes h) = absurd (none_there b known c decodes h)
+    bare_ranged a bare_act (subst IsStrange same why)
+left_alone word standing a known bare_act (unwritten b c is decodes h) = none_there b known c decodes h
 left_alone word standing a known bare_act (no_room command is defines rooms) =
     let same : command ≡ perform a = cc in
-    absurd (subst IsDefining same defines)
-left_alone word standing a known bare_act (no_index_room d c base is decodes same rooms) = let bad : ⊥ = cc in absurd bad
-left_alone word standing a known bare_act (full_index d c base is decodes same full) = let bad : ⊥ = cc in absurd bad
-left_alone word standing a known bare_act (astray d c need is decodes lacks elsewhere) = let bad : ⊥ = cc in absurd bad
+    subst IsDefining same defines
+left_alone word standing a known bare_act (no_index_room d c base is decodes same rooms) = let bad : ⊥ = cc in bad
+left_alone word standing a known bare_act (full_index d c base is decodes same full) = let bad : ⊥ = cc in bad
+left_alone word standing a known bare_act (astray d c need is decodes lacks elsewhere) = let bad : ⊥ = cc in bad
+
+-- over no lines an action finds no bad line, and what it may lack is of no relation
+pub settled : (word : List ℕ) (standing : Standing) (a : Act) (known : Knowledge) (f : Found) → is_bare a ≡ true → Agrees known [] → Comes word standing (said (perform a)) known f → ActStays a known f → IsSettled f
+settled word standing a known (found.Done x) alone agrees comes stays = tt
+settled word standing a known (found.Missing (Line key) later) alone agrees comes stays =
+    let among = subst (λ areas. is_among areas key.area ≡ true) (none_read (act_uses a [])) (stays [] no_tables empty agrees).0 in
+    let bad : ⊥ = cc in bad
+settled word standing a known (found.Missing (Area area) later) alone agrees comes stays =
+    let among = subst (λ areas. is_among areas area ≡ true) (none_read (act_uses a [])) (stays [] no_tables empty agrees).0 in
+    let bad : ⊥ = cc in bad
+settled word standing a known (found.Missing (Room room) later) alone agrees comes stays =
+    let among = subst (λ areas. is_among areas room.area ≡ true) (none_changed (act_uses a [])) (stays [] no_tables empty agrees).0 in
+    let bad : ⊥ = cc in bad
+settled word standing a known (found.Bad key) alone agrees comes stays = comes.over [] no_tables empty agrees
+settled word standing a known found.Unworked alone agrees comes stays = left_alone word standing a known alone (comes.over [] no_tables empty agrees)
+settled word standing a known found.NoMemory alone agrees comes stays = tt
 
 pub alone_answers : (word : List ℕ) (standing : Standing) (a : Act) (known : Knowledge) (f g : Found) → is_bare a ≡ true → Agrees known [] → Comes word standing (said (perform a)) known f → IsAlone f g →
     IsAnswered word standing (said (perform a)) g
@@ -111,6 +104,5 @@ alone_answers word standing a known (found.Done x) g alone agrees comes is =
     (does_everywhere word a standing x.choices x.reply so.then x.standing alone so.does, comes.usual, refl)
 alone_answers word standing a known (found.Missing next later) g alone agrees comes is = absurd is
 alone_answers word standing a known (found.Bad key) g alone agrees comes is = absurd is
-alone_answers word standing a known found.Unworked g alone agrees comes is =
-    subst (λ (r : Found). IsAnswered word standing (said (perform a)) r) (sym is) (left_alone word standing a known alone (comes.over [] no_tables empty agrees))
+alone_answers word standing a known found.Unworked g alone agrees comes is = absurd is
 alone_answers word standing a known found.NoMemory g alone agrees comes is = subst (λ (r : Found). IsAnswered word standing (said (perform a)) r) (sym is) tt

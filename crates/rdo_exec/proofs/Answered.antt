@@ -34,7 +34,8 @@ use Rattle.session_jobs.specs.declared.jobs.Found.{Found}
 use Rattle.session_jobs.specs.declared.jobs.Found.TheVariants as found
 use Rattle.session_jobs.specs.Records.{DoesSo}
 use Rattle.rdo_exec.specs.Answers.{answer_unless, answer_of, answer_by, found_of_stop}
-use Rattle.rdo_exec.specs.Left.{IsLeft, unmeant}
+use Rattle.usual_replies.proofs.UsualMeanings.{usual}
+use Rattle.rdo_exec.specs.Left.{IsLeft}
 use Rattle.rdo_exec.specs.Areas.{FoundIn}
 use Rattle.rdo_exec.specs.Coming.{Comes, AsksIn}
 use Rattle.rdo_exec.specs.Defined.{IsUnchecked}
@@ -81,7 +82,10 @@ answer_comes_by : (word : List ℕ) (standing : Standing) (item : Uttered) (know
 answer_comes_by word standing item known reply behind true is so = record {
   usual = tt;
   once = tt;
-  over = λ all t sound agrees. let does = so all t sound agrees in unmeant [] reply does.then behind does.does is;
+  over = λ all t sound agrees.
+      let does = so all t sound agrees in
+      let meant = usual word standing item [] t reply does.then behind does.does in
+      let bad : ⊥ = cc (is, meant) in absurd bad;
 }
 answer_comes_by word standing item known reply behind false is so = record { usual = is; once = tt; over = so }
 

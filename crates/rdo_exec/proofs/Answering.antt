@@ -10,7 +10,6 @@ use Rattle.session_jobs.specs.declared.jobs.Found.{Found}
 use Rattle.session_jobs.specs.declared.jobs.Found.TheVariants as found
 use Rattle.session_jobs.specs.Jobs.{NamesNoNeed}
 use Rattle.rdo_exec.specs.Answers.{IsAnswered}
-use Rattle.rdo_exec.specs.Left.{unmeant}
 use Rattle.rdo_exec.specs.Coming.{Comes}
 
 pub answered_comes : (word : List ℕ) (standing : Standing) (item : Uttered) (known : Knowledge) (f : Found) → IsAnswered word standing item f → Comes word standing item known f
@@ -25,12 +24,12 @@ answered_comes word standing item known (found.Done x) h = record {
 }
 answered_comes word standing item known (found.Missing next later) h = absurd h
 answered_comes word standing item known (found.Bad key) h = absurd h
-answered_comes word standing item known found.Unworked h = record { usual = tt; once = tt; over = λ all t sound agrees. unmeant h.choices h.reply t h.behind (h.does t) h.unmeant }
+answered_comes word standing item known found.Unworked h = absurd h
 answered_comes word standing item known found.NoMemory h = record { usual = tt; once = tt; over = λ all t sound agrees. tt }
 
 pub answered_reads_nothing : (word : List ℕ) (standing : Standing) (item : Uttered) (f : Found) → IsAnswered word standing item f → NamesNoNeed f
 answered_reads_nothing word standing item (found.Done x) h = tt
 answered_reads_nothing word standing item (found.Missing next later) h = absurd h
 answered_reads_nothing word standing item (found.Bad key) h = tt
-answered_reads_nothing word standing item found.Unworked h = tt
+answered_reads_nothing word standing item found.Unworked h = absurd h
 answered_reads_nothing word standing item found.NoMemory h = tt

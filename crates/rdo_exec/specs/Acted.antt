@@ -49,16 +49,18 @@ IsFoundOf (Missing needs) known behind f = Lists needs known f
 IsFoundOf (Bad key) known behind f = f ≡ found.Bad key
 IsFoundOf NoMemory known behind f = f ≡ found.NoMemory
 
--- nothing is lacked, and no line is bad
+-- nothing is lacked, no line is bad, and it isn't left
 abbrev pub IsSettled : Found → Type 0
+IsSettled (found.Done x) = Unit {0}
 IsSettled (found.Missing next later) = ⊥
 IsSettled (found.Bad key) = ⊥
-IsSettled _ = Unit {0}
+IsSettled found.Unworked = ⊥
+IsSettled found.NoMemory = Unit {0}
 
 -- the same without writes, where an action lacked nothing
 abbrev pub IsAlone : Found → Found → Type 0
 IsAlone (found.Done x) f = f ≡ found.Done (record x { writes = [] })
 IsAlone (found.Missing next later) f = ⊥
 IsAlone (found.Bad key) f = ⊥
-IsAlone found.Unworked f = f ≡ found.Unworked
+IsAlone found.Unworked f = ⊥
 IsAlone found.NoMemory f = f ≡ found.NoMemory

@@ -1,7 +1,6 @@
 -- What an item comes to that stores and writes nothing.
 use Rattle.std.specs.Prelude.{◌≡◌, ℕ, Bool, true, false, List, [], Some, None, Result, Ok, Err}
 use Rattle.rdb_types.specs.declared.memory.NoMemory.{NoMemory}
-use Rattle.rdb_types.specs.declared.keys.Dbkey.{Dbkey}
 use Rattle.rdo_ast.specs.declared.reply.Reply.{Reply}
 use Rattle.rdo_ast.specs.declared.reply.Reply.TheVariants as r
 use Rattle.rdo_ast.specs.declared.reply.Standing.{Standing}
@@ -20,7 +19,7 @@ abbrev pub answer_unless : Bool → Reply → Standing → Found
 answer_unless true reply behind = Unworked
 answer_unless false reply behind = Done (record { choices = []; reply = reply; standing = behind; writes = [] })
 
--- the record of an item that stores and writes nothing; no item means a reply of locks or limits
+-- the record of an item that stores and writes nothing; no item means a reply of locks or limits, so that no sound map agrees where the item would be left
 abbrev pub answer_of : Reply → Standing → Found
 answer_of reply behind = answer_unless (is_refusal_of_means reply) reply behind
 
@@ -40,19 +39,11 @@ abbrev pub reply_or_done : Refusal → Reply
 reply_or_done (Some reply) = reply
 reply_or_done None = r.Done []
 
--- Over all tables the item means such a reply, and leaves them.
-pub record IsUnmeant (word : List ℕ) (standing : Standing) (item : Uttered) : Type 0 where
-  pub choices : List Dbkey
-  pub reply : Reply
-  pub behind : Standing
-  pub does : (t : Tables) → Does word standing item choices t reply t behind
-  pub unmeant : is_refusal_of_means reply ≡ true
-
 -- Over all tables the item means this reply, and leaves them. Nothing is written, and no line is read.
 abbrev pub IsAnswered : List ℕ → Standing → Uttered → Found → Type 0
 IsAnswered word standing item (Done x) =
     ((t : Tables) → Does word standing item x.choices t x.reply t x.standing) × (is_refusal_of_means x.reply ≡ false) × (x.writes ≡ [])
 IsAnswered word standing item (Missing next later) = ⊥
 IsAnswered word standing item (Bad key) = ⊥
-IsAnswered word standing item Unworked = IsUnmeant word standing item
+IsAnswered word standing item Unworked = ⊥
 IsAnswered word standing item no_memory = Unit {0}

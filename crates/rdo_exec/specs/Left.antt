@@ -1,15 +1,11 @@
 -- Why an item is left unworked.
-use Rattle.std.specs.Prelude.{◌≡◌, ◌≢◌, ℕ, true, List, Option, Some}
-use Rattle.rdb_types.specs.declared.keys.Dbkey.{Dbkey}
-use Rattle.rdo_ast.specs.declared.reply.Reply.{Reply}
+use Rattle.std.specs.Prelude.{◌≡◌, ◌≢◌, ℕ, List, Option, Some}
 use Rattle.rdo_ast.specs.declared.reply.Standing.{Standing}
 use Rattle.rdo_ast.specs.declared.syntax.IndexDefinition.{IndexDefinition}
 use Rattle.rdo_ast.specs.Tree.{Act, Command, Uttered, said, invoke, start_read_only, start_read_write, commit, rollback, finish, perform, define_field, define_relation, define_index, delete_relation, delete_index}
 use Rattle.rdb_meaning.specs.declared.tables.Tables.{Tables}
 use Rattle.rdb_meaning.specs.declared.tables.Relation.{Relation}
 use Rattle.rdb_meaning.specs.Contents.{relation_named}
-use Rattle.rdb_meaning.specs.Meaning.{Does}
-use Rattle.rdb_meaning.specs.Usual.{is_refusal_of_means}
 use Rattle.line_view.specs.declared.need.Need.{Need}
 use Rattle.line_view.specs.declared.need.Need.TheVariants.{Line, Area, Room}
 use Rattle.line_view.specs.Knowledge.{Knowledge, Lines, Agrees}
@@ -51,8 +47,6 @@ IsElsewhere rel (Room room) = ⊥
 pub data IsLeftOver (word : List ℕ) (standing : Standing) (item : Uttered) (known : Knowledge) (all : Lines) (t : Tables) : Type 0 where
   -- no script has it
   strange : (command : Command) → item ≡ said command → IsStrange command → IsLeftOver word standing item known all t
-  -- it means a reply that only locks, limits and memory give
-  unmeant : (choices : List Dbkey) (reply : Reply) (after : Tables) (behind : Standing) → Does word standing item choices t reply after behind → is_refusal_of_means reply ≡ true → IsLeftOver word standing item known all t
   -- what it means comes to the writing of a row that can't be written
   unwritten : (a : Act) (c : Catalog) → item ≡ said (perform a) → IsCatalogOf all c → IsUnwrittenOver known c a t → IsLeftOver word standing item known all t
   -- a definition finds all numbers of rooms of the catalog known

@@ -37,9 +37,8 @@ fn alone(alloc: Global, found: Found) -> Found
             standing,
             writes: Items::new(alloc),
         }),
-        Found::Unworked => Found::Unworked,
         Found::NoMemory => Found::NoMemory,
-        Found::Missing { .. } | Found::Bad(_) => unreachable!(),
+        Found::Missing { .. } | Found::Bad(_) | Found::Unworked => unreachable!(),
     }
 }
 

@@ -52,7 +52,7 @@ fn is_unmeant(reply: &Reply) -> bool
     }
 }
 
-/// The record of an item that stores and writes nothing.
+/// The record of an item that stores and writes nothing. No item means a reply of locks, limits or memory; the test spares showing it of each refusal anew.
 pub(crate) fn answered(alloc: Global, reply: Reply, behind: Standing) -> Found
     ensures { result ≡ answer_of reply behind }
 {

@@ -13,7 +13,7 @@ use Rattle.catalog_lines.specs.declared.line.IndexLine.{IndexLine}
 use Rattle.sound_changes.proofs.Basics.{all_of}
 use Rattle.statement_view.specs.Over.{Over}
 use Rattle.statement_view.specs.Areas.{is_among, IsNeedOf, WritesOf, KeepsTo}
-use Rattle.row_writes.specs.Areas.{areas_of}
+use Rattle.row_writes.specs.Areas.{areas_of, IsNodeOf, KeepsToNodes}
 
 -- ---- lists of areas
 
@@ -71,6 +71,16 @@ need_wider read changed reads changes more also (Line key) h = more key.area h
 need_wider read changed reads changes more also (Area area) h = more area h
 need_wider read changed reads changes more also (Room room) h = also room.area h
 
+pub node_wider : (lines rooms more also : List ℕ) → Wider lines more → Wider rooms also → (need : Need) → IsNodeOf lines rooms need → IsNodeOf more also need
+node_wider lines rooms more also one two (Line key) h = one key.area h
+node_wider lines rooms more also one two (Area area) h = absurd h
+node_wider lines rooms more also one two (Room room) h = two room.area h
+
+node_needed : (lines rooms read : List ℕ) → Wider lines read → (need : Need) → IsNodeOf lines rooms need → IsNeedOf read rooms need
+node_needed lines rooms read wider (Line key) h = wider key.area h
+node_needed lines rooms read wider (Area area) h = absurd h
+node_needed lines rooms read wider (Room room) h = h
+
 abbrev pub StopsAt : {E : Type 0} → (Need → Type 0) → Stop E → Type 0
 StopsAt next = Stops next (λ key. Unit {0}) (λ own. Unit {0})
 
@@ -85,3 +95,8 @@ stops_at next other because (Own reason) said = tt
 pub keeps_wider : {T E : Type 0} (read changed reads changes : List ℕ) (old new : Over) → Wider read reads → Wider changed changes → (result : Result T (Stop E)) → KeepsTo read changed old new result → KeepsTo reads changes old new result
 keeps_wider read changed reads changes old new more also (Ok given) keeps = writes_wider changed changes old new also keeps
 keeps_wider read changed reads changes old new more also (Err stop) keeps = stops_at (IsNeedOf read changed) (IsNeedOf reads changes) (need_wider read changed reads changes more also) stop keeps
+
+-- who keeps to nodes keeps to their areas
+pub keeps_areas : {T E : Type 0} (lines rooms read : List ℕ) (old new : Over) → Wider lines read → (result : Result T (Stop E)) → KeepsToNodes lines rooms old new result → KeepsTo read rooms old new result
+keeps_areas lines rooms read old new wider (Ok given) keeps = keeps
+keeps_areas lines rooms read old new wider (Err stop) keeps = stops_at (IsNodeOf lines rooms) (IsNeedOf read rooms) (node_needed lines rooms read wider) stop keeps

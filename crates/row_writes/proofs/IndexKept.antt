@@ -1,6 +1,6 @@
 -- The work on the pair of a row keeps to the area of its index.
 use Rattle.std.proofs.Common.{◌≡◌, ◌≢◌, ℕ, true, List, [], ◌∷◌, Some, sym, ap, subst, ◌∙◌}
-use Rattle.std.specs.Prelude.{Ok, Err}
+use Rattle.std.specs.Prelude.{Result, Ok, Err}
 use Rattle.std.specs.List.{AllByRecursion}
 use Rattle.rdb_types.specs.declared.keys.Dbkey.{Dbkey}
 use Rattle.rdb_types.specs.declared.values.Value.{Value}
@@ -21,13 +21,13 @@ use Rattle.sorted_index_laws.specs.Search.{first_unknown}
 use Rattle.sorted_index_laws.specs.Insertion.{IsNew, Inserts, lines_read}
 use Rattle.sorted_index_laws.proofs.After.{areas}
 use Rattle.statement_view.specs.Over.{Over, knows_over, laid_over}
-use Rattle.statement_view.specs.Areas.{is_among, IsNeedOf, WritesOf}
+use Rattle.statement_view.specs.Areas.{is_among, WritesOf}
 use Rattle.row_writes.specs.declared.stop.PairRefusal.{PairRefusal}
 use Rattle.row_writes.specs.declared.stop.PairRefusal.TheVariants.{Full}
 use Rattle.row_writes.specs.Stop.{PairStop}
 use Rattle.row_writes.specs.Pairs.{Tells, TellsRoom}
-use Rattle.row_writes.specs.Areas.{KeepsToIndex}
-use Rattle.row_writes.proofs.AreaLists.{first_area, StopsAt}
+use Rattle.row_writes.specs.Areas.{IsNodeOf, KeepsToIndex, NodesOfIndex}
+use Rattle.row_writes.proofs.AreaLists.{first_area, StopsAt, keeps_areas}
 use Rattle.row_writes.proofs.NodesRead.{path_within, read_within, first_among}
 use Rattle.row_writes.proofs.Trees.{a_line, no_area, no_room, ChangesAll, InsertsAll}
 
@@ -43,7 +43,7 @@ HasNot x row key level tree = IsNew (pair_of (key_of x.fields row) key) (pairs l
 -- ---- what is lacked
 
 abbrev pub Within : {E : Type 0} → ℕ → Stop E → Type 0
-Within area = StopsAt (IsNeedOf (area ∷ []) (area ∷ []))
+Within area = StopsAt (IsNodeOf (area ∷ []) (area ∷ []))
 
 is_one : (a area : ℕ) → a ≡ area → is_among (area ∷ []) a ≡ true
 is_one a area is = subst (λ (b : ℕ). is_among (area ∷ []) b ≡ true) (sym is) (first_area area [])
@@ -62,7 +62,7 @@ room_at_area base area room NoMemory is tells = tt
 
 -- ---- a pair taken out
 
-pub taken_keeps : (old new : Over) (x : IndexLine) (key : Dbkey) (k : List Value) (said writes : List Write) → writes ≡ said → ChangesAll old x k key (Ok said) → WritesArea old new writes → KeepsToIndex {E = PairRefusal} old new x.root SomeTree (Ok tt)
+pub taken_keeps : (old new : Over) (x : IndexLine) (key : Dbkey) (k : List Value) (said writes : List Write) → writes ≡ said → ChangesAll old x k key (Ok said) → WritesArea old new writes → NodesOfIndex {E = PairRefusal} old new x.root SomeTree (Ok tt)
 taken_keeps old new x key k said writes same changes wrote = λ first level tree st index has.
     wrote x.root.area (subst (AllByRecursion (λ (w : Write). (w.key).area ≡ x.root.area)) (sym same) (changes (laid_over old.lines first) level tree st.agrees index).0.0.in_area)
 
@@ -77,13 +77,13 @@ taking_told old first root level tree pair left index (Bad q) told tells said = 
 taking_told old first root level tree pair left index (Own d) told tells said = absurd said
 taking_told old first root level tree pair left index NoMemory told tells said = subst (Within root.area) (sym tells) tt
 
-pub taking_keeps : (old new : Over) (x : IndexLine) (key : Dbkey) (k : List Value) (stop : IndexStop) (told : PairStop) → ChangesAll old x k key (Err stop) → Tells old.base stop told → KeepsToIndex old new x.root SomeTree (Err told)
+pub taking_keeps : (old new : Over) (x : IndexLine) (key : Dbkey) (k : List Value) (stop : IndexStop) (told : PairStop) → ChangesAll old x k key (Err stop) → Tells old.base stop told → NodesOfIndex old new x.root SomeTree (Err told)
 taking_keeps old new x key k stop told changes tells = λ first level tree st index has.
     taking_told old first x.root level tree (pair_of k key) (without_pair (pair_of k key) (pairs level tree)) index stop told tells (changes (laid_over old.lines first) level tree st.agrees index)
 
 -- ---- a pair put in
 
-pub added_keeps : (old new : Over) (x : IndexLine) (row : Row) (key : Dbkey) (k : List Value) (said writes : List Write) → k ≡ key_of x.fields row → writes ≡ said → InsertsAll old x k key (Ok said) → WritesArea old new writes → KeepsToIndex {E = PairRefusal} old new x.root (HasNot x row key) (Ok tt)
+pub added_keeps : (old new : Over) (x : IndexLine) (row : Row) (key : Dbkey) (k : List Value) (said writes : List Write) → k ≡ key_of x.fields row → writes ≡ said → InsertsAll old x k key (Ok said) → WritesArea old new writes → NodesOfIndex {E = PairRefusal} old new x.root (HasNot x row key) (Ok tt)
 added_keeps old new x row key k said writes is same inserts wrote = λ first level tree st index fresh.
     wrote x.root.area (subst (AllByRecursion (λ (w : Write). (w.key).area ≡ x.root.area)) (sym same) (subst (λ k. InsertsAll old x k key (Ok said)) is inserts (laid_over old.lines first) level tree st.agrees index fresh).0.in_area)
 
@@ -101,6 +101,10 @@ adding_told old first x row key level tree index (Own d) told root others said =
 adding_told old first x row key level tree index NoMemory told root others said = subst (Within x.root.area) (sym (others (λ same. let bad : ⊥ = cc in bad))) tt
 
 pub adding_keeps : (old new : Over) (x : IndexLine) (row : Row) (key : Dbkey) (k : List Value) (stop : IndexStop) (told : PairStop) → k ≡ key_of x.fields row → InsertsAll old x k key (Err stop) →
-    (stop ≡ Bad x.root → told ≡ Own Full) → (stop ≢ Bad x.root → Tells old.base stop told) → KeepsToIndex old new x.root (HasNot x row key) (Err told)
+    (stop ≡ Bad x.root → told ≡ Own Full) → (stop ≢ Bad x.root → Tells old.base stop told) → NodesOfIndex old new x.root (HasNot x row key) (Err told)
 adding_keeps old new x row key k stop told is inserts root others = λ first level tree st index fresh.
     adding_told old first x row key level tree index stop told root others (subst (λ k. InsertsAll old x k key (Err stop)) is inserts (laid_over old.lines first) level tree st.agrees index fresh)
+
+-- who keeps to the nodes of an index keeps to its area
+pub index_keeps : (old new : Over) (root : Dbkey) (Has : (level : ℕ) → Tree level → Type 0) (result : Result (Unit {0}) PairStop) → NodesOfIndex old new root Has result → KeepsToIndex old new root Has result
+index_keeps old new root Has result keeps = λ first level tree st index has. keeps_areas (root.area ∷ []) (root.area ∷ []) (root.area ∷ []) old new (λ a h. h) result (keeps first level tree st index has)

@@ -23,7 +23,7 @@ use Rattle.sound_changes.proofs.Named.{Fits, all_fit, root_area}
 use Rattle.sound_changes.proofs.IndexLaid.{at_place}
 use Rattle.sound_changes.proofs.RowLaid.{row_goes as line_erased}
 use Rattle.statement_view.specs.Over.{Over, Stands, laid_over, knows_over, room_at}
-use Rattle.statement_view.specs.Areas.{is_among, IsNeedOf, WritesOf, KeepsTo}
+use Rattle.statement_view.specs.Areas.{is_among, WritesOf}
 use Rattle.row_writes.specs.declared.target.TargetRelation.{TargetRelation}
 use Rattle.row_writes.specs.declared.stop.PairRefusal.{PairRefusal}
 use Rattle.row_writes.specs.Stop.{PairStop, RowStop}
@@ -31,8 +31,8 @@ use Rattle.row_writes.specs.Target.{AreOwn, IsTarget}
 use Rattle.row_writes.specs.Pairs.{TakesPair}
 use Rattle.row_writes.specs.Changes.{Underway, tables_to, row_stop_of}
 use Rattle.row_writes.specs.Rows.{IsSoundView, TellsNoRoom}
-use Rattle.row_writes.specs.Areas.{KeepsToIndex, PairKeeps, areas_of, PairsKeep, areas_with, StoreKeeps, ChangeKeeps, EraseKeeps}
-use Rattle.row_writes.proofs.AreaLists.{Wider, one_more_area, first_area, one_of, index_among, nothing_written, writes_then, writes_wider, need_wider, stops_at}
+use Rattle.row_writes.specs.Areas.{IsNodeOf, KeepsToNodes, NodesOfIndex, PairKeeps, areas_of, PairsKeep, areas_with, StoreKeeps, ChangeKeeps, EraseKeeps, StoreNodes, ChangeNodes, EraseNodes}
+use Rattle.row_writes.proofs.AreaLists.{Wider, one_more_area, first_area, one_of, index_among, nothing_written, writes_then, writes_wider, node_wider, keeps_areas, stops_at}
 use Rattle.row_writes.proofs.IndexKept.{SomeTree, HasNot}
 use Rattle.row_writes.proofs.Steps.{waits, index, fresh, gone, left_index, left_fresh}
 use Rattle.row_writes.proofs.InTurn.{ChangesSome, split}
@@ -51,16 +51,16 @@ root_of all c t seen area x sound own =
     root_area d u own.line.key x (ap (λ l. stands d u own.line.key l) (sym own.is) ∙ fits.stood)
 
 -- in the words of a map with a tree of the index
-keeps_here : (old new : Over) (first : Lines) (x : IndexLine) (Has : (level : ℕ) → Tree level → Type 0) (level : ℕ) (tree : Tree level) → x.root.area ≡ x.area → Stands old first → IsIndex (laid_over old.lines first) x.root level tree → Has level tree → (result : Result (Unit {0}) PairStop) → KeepsToIndex old new x.root Has result → KeepsTo (x.area ∷ []) (x.area ∷ []) old new result
-keeps_here old new first x Has level tree root st index has result keeps = subst (λ (a : ℕ). KeepsTo (a ∷ []) (a ∷ []) old new result) root (keeps first level tree st index has)
+keeps_here : (old new : Over) (first : Lines) (x : IndexLine) (Has : (level : ℕ) → Tree level → Type 0) (level : ℕ) (tree : Tree level) → x.root.area ≡ x.area → Stands old first → IsIndex (laid_over old.lines first) x.root level tree → Has level tree → (result : Result (Unit {0}) PairStop) → NodesOfIndex old new x.root Has result → KeepsToNodes (x.area ∷ []) (x.area ∷ []) old new result
+keeps_here old new first x Has level tree root st index has result keeps = subst (λ (a : ℕ). KeepsToNodes (a ∷ []) (a ∷ []) old new result) root (keeps first level tree st index has)
 
-pub pair_keeps : (old new : Over) (x : IndexLine) (was to : Option Row) (key : Dbkey) (result : Result (Unit {0}) PairStop) → KeepsToIndex old new x.root SomeTree result → PairKeeps old new x was to key result
+pub pair_keeps : (old new : Over) (x : IndexLine) (was to : Option Row) (key : Dbkey) (result : Result (Unit {0}) PairStop) → NodesOfIndex old new x.root SomeTree result → PairKeeps old new x was to key result
 pair_keeps old new x was to key result keeps = λ c n rel t first done st own unused.
     let index = waits old x was to key c n rel t first done st own unused in
     let root = root_of (laid_over old.lines first) c (tables_to n key to t) (tables_for rel.area done t (tables_to n key to t)) rel.area x st.sound own in
     keeps_here old new first x SomeTree index.is.level index.is.tree root st.stands index.is.is tt result keeps
 
-pub stored_keeps : (old new : Over) (x : IndexLine) (row : Row) (key : Dbkey) (result : Result (Unit {0}) PairStop) → KeepsToIndex old new x.root (HasNot x row key) result → PairKeeps old new x None (Some row) key result
+pub stored_keeps : (old new : Over) (x : IndexLine) (row : Row) (key : Dbkey) (result : Result (Unit {0}) PairStop) → NodesOfIndex old new x.root (HasNot x row key) result → PairKeeps old new x None (Some row) key result
 stored_keeps old new x row key result keeps = λ c n rel t first done st own unused.
     let here = index old new x row key c n rel t first done st own unused in
     let root = root_of (laid_over old.lines first) c (tables_to n key (Some row) t) (tables_for rel.area done t (tables_to n key (Some row) t)) rel.area x st.sound own in
@@ -69,11 +69,11 @@ stored_keeps old new x row key result keeps = λ c n rel t first done st own unu
 pub unmoved_keeps : (o : Over) (x : IndexLine) (was to : Option Row) (key : Dbkey) → PairKeeps o o x was to key (Ok tt)
 unmoved_keeps o x was to key = λ c n rel t first done st own unused. nothing_written (x.area ∷ []) o
 
-behind_taking : (areas : List ℕ) (old mid new : Over) (result : Result (Unit {0}) PairStop) → WritesOf areas old mid → KeepsTo areas areas mid new result → KeepsTo areas areas old new result
+behind_taking : (areas : List ℕ) (old mid new : Over) (result : Result (Unit {0}) PairStop) → WritesOf areas old mid → KeepsToNodes areas areas mid new result → KeepsToNodes areas areas old new result
 behind_taking areas old mid new (Ok u) one two = writes_then areas old mid new one two
 behind_taking areas old mid new (Err stop) one two = two
 
-pub moved_keeps : (old mid new : Over) (x : IndexLine) (was row : Row) (key : Dbkey) (result : Result (Unit {0}) PairStop) → TakesPair old mid x was key (Ok tt) → mid.base ≡ old.base → KeepsToIndex {E = PairRefusal} old mid x.root SomeTree (Ok tt) → KeepsToIndex mid new x.root (HasNot x row key) result →
+pub moved_keeps : (old mid new : Over) (x : IndexLine) (was row : Row) (key : Dbkey) (result : Result (Unit {0}) PairStop) → TakesPair old mid x was key (Ok tt) → mid.base ≡ old.base → NodesOfIndex {E = PairRefusal} old mid x.root SomeTree (Ok tt) → NodesOfIndex mid new x.root (HasNot x row key) result →
     PairKeeps old new x (Some was) (Some row) key result
 moved_keeps old mid new x was row key result takes base taking adding = λ c n rel t first done st own unused.
     let index = waits old x (Some was) (Some row) key c n rel t first done st own unused in
@@ -95,7 +95,7 @@ module _ (old mid new : Over) (xs : List IndexLine) (i : ℕ) (x : IndexLine) (w
   wider : Wider (x.area ∷ []) (areas_of xs)
   wider = one_of x.area (areas_of xs) (index_among xs i x at)
 
-  kept_here : (result : Result (Unit {0}) PairStop) → PairKeeps mid new x was to key result → (c : Catalog) (n : Name) (rel : Rows) (t : Tables) (first : Lines) → Underway c n rel t key was to old first [] → AreOwn c rel.area [] xs → KeepsTo (x.area ∷ []) (x.area ∷ []) mid new result
+  kept_here : (result : Result (Unit {0}) PairStop) → PairKeeps mid new x was to key result → (c : Catalog) (n : Name) (rel : Rows) (t : Tables) (first : Lines) → Underway c n rel t key was to old first [] → AreOwn c rel.area [] xs → KeepsToNodes (x.area ∷ []) (x.area ∷ []) mid new result
   kept_here result keeps c n rel t first st own =
       let so = some c n rel t first st own in
       let mine = subst (AreOwn c rel.area so.done) (split old mid new xs i x was to key inside is some) so.own in
@@ -106,8 +106,8 @@ module _ (old mid new : Over) (xs : List IndexLine) (i : ℕ) (x : IndexLine) (w
 
   pub one_stops_at : (stop : PairStop) → PairKeeps mid new x was to key (Err stop) → PairsKeep old new xs was to key (Err (row_stop_of i stop))
   one_stops_at stop keeps = λ c n rel t first st own.
-      row_stops (IsNeedOf (areas_of xs) (areas_of xs)) (λ k. Unit {0}) (λ reason. Unit {0}) (λ reason. Unit {0}) i (λ r said. tt) stop
-      (stops_at (IsNeedOf (x.area ∷ []) (x.area ∷ [])) (IsNeedOf (areas_of xs) (areas_of xs)) (need_wider (x.area ∷ []) (x.area ∷ []) (areas_of xs) (areas_of xs) wider wider) stop (kept_here (Err stop) keeps c n rel t first st own))
+      row_stops (IsNodeOf (areas_of xs) (areas_of xs)) (λ k. Unit {0}) (λ reason. Unit {0}) (λ reason. Unit {0}) i (λ r said. tt) stop
+      (stops_at (IsNodeOf (x.area ∷ []) (x.area ∷ [])) (IsNodeOf (areas_of xs) (areas_of xs)) (node_wider (x.area ∷ []) (x.area ∷ []) (areas_of xs) (areas_of xs) wider wider) stop (kept_here (Err stop) keeps c n rel t first st own))
 
 -- ---- the row's line, and then its pairs
 
@@ -118,39 +118,39 @@ module _ (old mid new : Over) (rel : Rows) (xs : List IndexLine) (key : Dbkey) (
   of_line : WritesOf (areas_with rel xs) old mid
   of_line = writes_wider (rel.area ∷ []) (areas_with rel xs) old mid (one_of rel.area (areas_with rel xs) (first_area rel.area (areas_of xs))) (subst (λ (a : ℕ). WritesOf (a ∷ []) old mid) area wrote)
 
-  row_keeps : (result : Result (Unit {0}) RowStop) → KeepsTo (areas_of xs) (areas_of xs) mid new result → KeepsTo (areas_with rel xs) (areas_with rel xs) old new result
+  row_keeps : (result : Result (Unit {0}) RowStop) → KeepsToNodes (areas_of xs) (areas_of xs) mid new result → KeepsToNodes (areas_of xs) (areas_with rel xs) old new result
   row_keeps (Ok u) keeps = writes_then (areas_with rel xs) old mid new of_line (writes_wider (areas_of xs) (areas_with rel xs) mid new of_pairs keeps)
-  row_keeps (Err stop) keeps = stops_at (IsNeedOf (areas_of xs) (areas_of xs)) (IsNeedOf (areas_with rel xs) (areas_with rel xs)) (need_wider (areas_of xs) (areas_of xs) (areas_with rel xs) (areas_with rel xs) of_pairs of_pairs) stop keeps
+  row_keeps (Err stop) keeps = stops_at (IsNodeOf (areas_of xs) (areas_of xs)) (IsNodeOf (areas_of xs) (areas_with rel xs)) (node_wider (areas_of xs) (areas_of xs) (areas_of xs) (areas_with rel xs) (λ a h. h) of_pairs) stop keeps
 
 module _ (old mid new : Over) (r : TargetRelation) (row : Row) (image : List ℕ) (image_is : IsRowImage image r.stored.version row) (fits : IsRowFor r.stored.version r.stored.fields.now row) (short : is_too_long r.stored.fields.now row ≡ false)
     (key : Dbkey) (stay : Stays old mid) (put : Laid old mid key (Some image)) (base : mid.base ≡ old.base) (wrote : WritesOf (key.area ∷ []) old mid) where
   module _ (is_room : (knows_over old).room (room_at r.stored.area r.class 0) ≡ Some key) where
     stored_here : (result : Result (Unit {0}) RowStop) → PairsKeep mid new r.indexes.now None (Some row) key result → (c : Catalog) (n : Name) (rel : Rows) (t : Tables) (first : Lines) → IsSoundView old c t first → relation_named n t ≡ Some rel → IsTarget c n rel r →
-        KeepsTo (areas_with rel r.indexes.now) (areas_with rel r.indexes.now) old new result
+        KeepsToNodes (areas_of r.indexes.now) (areas_with rel r.indexes.now) old new result
     stored_here result keeps c n rel t first view named target =
         let area = view.stands.agrees.within (room_at r.stored.area r.class 0) key is_room ∙ sym target.area in
         row_keeps old mid new rel r.indexes.now key area wrote result
         (keeps c n rel t first (starts old mid new r row image image_is fits short key stay put base is_room c n rel t first view named target) target.indexes)
 
-    pub store_keeps : PairsKeep mid new r.indexes.now None (Some row) key (Ok tt) → StoreKeeps old new r (Ok key)
+    pub store_keeps : PairsKeep mid new r.indexes.now None (Some row) key (Ok tt) → StoreNodes old new r (Ok key)
     store_keeps keeps = λ c n rel t first view named target. stored_here (Ok tt) keeps c n rel t first view named target
 
-    pub store_stops : (stop : RowStop) → PairsKeep mid new r.indexes.now None (Some row) key (Err stop) → StoreKeeps old new r (Err stop)
+    pub store_stops : (stop : RowStop) → PairsKeep mid new r.indexes.now None (Some row) key (Err stop) → StoreNodes old new r (Err stop)
     store_stops stop keeps = λ c n rel t first view named target. stored_here (Err stop) keeps c n rel t first view named target
 
-  pub change_keeps : (was : Row) (result : Result (Unit {0}) RowStop) → PairsKeep mid new r.indexes.now (Some was) (Some row) key result → ChangeKeeps old new r key was result
+  pub change_keeps : (was : Row) (result : Result (Unit {0}) RowStop) → PairsKeep mid new r.indexes.now (Some was) (Some row) key result → ChangeNodes old new r key was result
   change_keeps was result keeps = λ c n rel t first view named target found area.
       row_keeps old mid new rel r.indexes.now key area wrote result
       (keeps c n rel t first (begun old mid key (Some was) (Some row) (Some image) c n rel t first view named found stay put (line_sound old mid new r row image image_is fits short key stay put base c n rel t first view named target area)) target.indexes)
 
-pub erase_keeps : (old mid new : Over) (xs : List IndexLine) (was : Row) (key : Dbkey) (result : Result (Unit {0}) RowStop) → Stays old mid → Laid old mid key None → WritesOf (key.area ∷ []) old mid → PairsKeep mid new xs (Some was) None key result → EraseKeeps old new xs key was result
+pub erase_keeps : (old mid new : Over) (xs : List IndexLine) (was : Row) (key : Dbkey) (result : Result (Unit {0}) RowStop) → Stays old mid → Laid old mid key None → WritesOf (key.area ∷ []) old mid → PairsKeep mid new xs (Some was) None key result → EraseNodes old new xs key was result
 erase_keeps old mid new xs was key result stay put wrote keeps = λ c n rel t first view named own found area.
     row_keeps old mid new rel xs key area wrote result
     (keeps c n rel t first (begun old mid key (Some was) None None c n rel t first view named found stay put (line_erased (laid_over old.lines first) c t n rel key view.sound named area)) own)
 
 -- ---- no room
 
-pub no_room_keeps : (old new : Over) (r : TargetRelation) (base : Held) (class : ℕ) (stop : RowStop) → TellsNoRoom base r.stored.area class stop → StoreKeeps old new r (Err stop)
+pub no_room_keeps : (old new : Over) (r : TargetRelation) (base : Held) (class : ℕ) (stop : RowStop) → TellsNoRoom base r.stored.area class stop → StoreNodes old new r (Err stop)
 no_room_keeps old new r base class (Missing (Line key)) tells = absurd tells.1
 no_room_keeps old new r base class (Missing (Area area)) tells = absurd tells.1
 no_room_keeps old new r base class (Missing (Room room)) tells = λ c n rel t first view named target.
@@ -158,3 +158,19 @@ no_room_keeps old new r base class (Missing (Room room)) tells = λ c n rel t fi
 no_room_keeps old new r base class (Own refusal) tells = λ c n rel t first view named target. tt
 no_room_keeps old new r base class (Bad key) tells = absurd tells
 no_room_keeps old new r base class NoMemory tells = absurd tells
+
+-- ---- nodes and their areas
+
+pub store_areas : (old new : Over) (r : TargetRelation) (result : Result Dbkey RowStop) → StoreNodes old new r result → StoreKeeps old new r result
+store_areas old new r result keeps = λ c n rel t first view named target.
+    let xs = r.indexes.now in
+    keeps_areas (areas_of xs) (areas_with rel xs) (areas_with rel xs) old new (one_more_area rel.area (areas_of xs)) result (keeps c n rel t first view named target)
+
+pub change_areas : (old new : Over) (r : TargetRelation) (key : Dbkey) (was : Row) (result : Result (Unit {0}) RowStop) → ChangeNodes old new r key was result → ChangeKeeps old new r key was result
+change_areas old new r key was result keeps = λ c n rel t first view named target found area.
+    let xs = r.indexes.now in
+    keeps_areas (areas_of xs) (areas_with rel xs) (areas_with rel xs) old new (one_more_area rel.area (areas_of xs)) result (keeps c n rel t first view named target found area)
+
+pub erase_areas : (old new : Over) (xs : List IndexLine) (key : Dbkey) (was : Row) (result : Result (Unit {0}) RowStop) → EraseNodes old new xs key was result → EraseKeeps old new xs key was result
+erase_areas old new xs key was result keeps = λ c n rel t first view named own found area.
+    keeps_areas (areas_of xs) (areas_with rel xs) (areas_with rel xs) old new (one_more_area rel.area (areas_of xs)) result (keeps c n rel t first view named own found area)

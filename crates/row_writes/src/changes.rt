@@ -23,7 +23,7 @@ fn move_pair(
     at: Dbkey,
 ) -> Result<(), PairStop>
     ensures moves { ChangesPair view.old view.new index.now (Some was.now) (Some row.now) at result }
-    ensures areas { PairKeeps view.old view.new index.now (Some was.now) (Some row.now) at result }
+    ensures nodes { PairKeeps view.old view.new index.now (Some was.now) (Some row.now) at result }
     ensures known { view.new.base ≡ view.old.base }
 {
     if have_one_key(index.fields.as_slice(), was, row) {
@@ -41,7 +41,7 @@ fn change_pair(
     at: Dbkey,
 ) -> Result<(), PairStop>
     ensures changes { ChangesPair view.old view.new index.now (row_before change.entry) (row_behind change.entry) at result }
-    ensures areas { PairKeeps view.old view.new index.now (row_before change.entry) (row_behind change.entry) at result }
+    ensures nodes { PairKeeps view.old view.new index.now (row_before change.entry) (row_behind change.entry) at result }
     ensures known { view.new.base ≡ view.old.base }
 {
     match change {
@@ -71,7 +71,7 @@ pub(crate) fn change_pairs(
     at: Dbkey,
 ) -> Result<(), RowStop>
     ensures changes { ChangesPairs view.old view.new indexes.now (row_before change.entry) (row_behind change.entry) at result }
-    ensures areas { PairsKeep view.old view.new indexes.now (row_before change.entry) (row_behind change.entry) at result }
+    ensures nodes { PairsKeep view.old view.new indexes.now (row_before change.entry) (row_behind change.entry) at result }
     ensures known { view.new.base ≡ view.old.base }
 {
     for (place, index) in indexes.iter().enumerate() {

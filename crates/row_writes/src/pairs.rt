@@ -12,7 +12,7 @@ ghost use Rattle.statement_view.specs.Over.{Stands, laid_over};
 ghost use Rattle.statement_view.specs.Areas.{WritesOf};
 ghost use Rattle.row_writes.specs.declared.stop.PairRefusal.TheVariants as refusals;
 ghost use Rattle.row_writes.specs.Pairs.{Tells, TakesPair, AddsPair};
-ghost use Rattle.row_writes.specs.Areas.{KeepsToIndex};
+ghost use Rattle.row_writes.specs.Areas.{KeepsToIndex, NodesOfIndex};
 
 use crate::stop::{PairRefusal, PairStop};
 use catalog_lines::IndexLine;
@@ -83,7 +83,7 @@ pub(crate) fn take_pair(
     at: Dbkey,
 ) -> Result<(), PairStop>
     ensures takes { TakesPair view.old view.new index.now row.now at result }
-    ensures areas { KeepsToIndex view.old view.new index.now.root (λ level tree. Unit {0}) result }
+    ensures nodes { NodesOfIndex view.old view.new index.now.root (λ level tree. Unit {0}) result }
     ensures known { view.new.base ≡ view.old.base }
 {
     let key = key_of(alloc, index.fields.as_slice(), row)?;
@@ -105,6 +105,7 @@ pub fn add_pair(
 ) -> Result<(), PairStop>
     ensures adds { AddsPair view.old view.new index.now row.now at result }
     ensures areas { KeepsToIndex view.old view.new index.now.root (λ level tree. IsNew (pair_of (key_in index.now.fields row.now) at) (pairs_in level tree)) result }
+    ensures nodes { NodesOfIndex view.old view.new index.now.root (λ level tree. IsNew (pair_of (key_in index.now.fields row.now) at) (pairs_in level tree)) result }
     ensures known { view.new.base ≡ view.old.base }
 {
     let key = key_of(alloc, index.fields.as_slice(), row)?;

@@ -1,7 +1,7 @@
 // A row stored, changed or erased.
 ghost use Rattle.std.specs.Prelude.{◌≡◌};
 ghost use Rattle.row_writes.specs.Rows.{StoresRow, ChangesRow, ErasesRow, TellsNoRoom};
-ghost use Rattle.row_writes.specs.Areas.{StoreKeeps, ChangeKeeps, EraseKeeps};
+ghost use Rattle.row_writes.specs.Areas.{StoreKeeps, ChangeKeeps, EraseKeeps, StoreNodes, ChangeNodes, EraseNodes};
 
 use crate::changes::change_pairs;
 use crate::stop::{RowRefusal, RowStop};
@@ -31,6 +31,7 @@ pub fn store_row(
 ) -> Result<Dbkey, RowStop>
     ensures stores { StoresRow view.old view.new relation.now row.now result }
     ensures areas { StoreKeeps view.old view.new relation.now result }
+    ensures nodes { StoreNodes view.old view.new relation.now result }
     ensures known { view.new.base ≡ view.old.base }
 {
     let stored = relation.stored;
@@ -57,6 +58,7 @@ pub fn change_row(
 ) -> Result<(), RowStop>
     ensures changes { ChangesRow view.old view.new relation.now at was.now row.now result }
     ensures areas { ChangeKeeps view.old view.new relation.now at was.now result }
+    ensures nodes { ChangeNodes view.old view.new relation.now at was.now result }
     ensures known { view.new.base ≡ view.old.base }
 {
     let image = match row_image(relation.stored.version, relation.stored.fields, row) {
@@ -83,6 +85,7 @@ pub fn erase_row(
 ) -> Result<(), RowStop>
     ensures erases { ErasesRow view.old view.new indexes.now at was.now result }
     ensures areas { EraseKeeps view.old view.new indexes.now at was.now result }
+    ensures nodes { EraseNodes view.old view.new indexes.now at was.now result }
     ensures known { view.new.base ≡ view.old.base }
 {
     view.put(at, None)?;

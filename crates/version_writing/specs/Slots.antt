@@ -1,10 +1,10 @@
 -- What is kept in memory of the slots of a snapshot file, and that it says what the versions rest on.
-use Rattle.std.specs.Prelude.{ℕ, ◌-◌, ◌≤◌, ◌≡◌, ◌≢◌, ◌⊎◌, ◌==◌, ◌&&◌, Bool, true, false, List, length, slice_index_or}
+use Rattle.std.specs.Prelude.{ℕ, ◌+◌, ◌-◌, ◌<◌, ◌≤◌, ◌≡◌, ◌≢◌, ◌⊎◌, ◌==◌, ◌&&◌, Bool, true, false, List, length, slice_index_or}
 use Rattle.rdb_types.specs.declared.keys.Dbkey.{Dbkey}
 use Rattle.rdb_types.specs.declared.keys.Tsn.{Tsn}
 use Rattle.rdb_outside.specs.Disk.{Image}
 use Rattle.snapshot_file.specs.declared.entry.SnapEntry.{SnapEntry}
-use Rattle.snapshot_file.specs.Slots.{is_free}
+use Rattle.snapshot_file.specs.Slots.{is_free, left_in}
 use Rattle.line_versions.specs.Versions.{Followed, snap_of}
 use Rattle.line_versions.specs.Files.{entries_in}
 use Rattle.line_versions.specs.Course.{pushed}
@@ -28,6 +28,23 @@ pusher_at pushers chain = slice_index_or pushers (chain - 1) nobody
 pub record IsTable (slots : List Bool) (pushers : List Tsn) : Type 0 where
   pub long : length pushers ≡ length slots
   pub agrees : (chain : ℕ) → 1 ≤ chain → chain ≤ length slots → is_free slots chain ≡ ((pusher_at pushers chain).number == 0)
+
+-- so many slots, all of them free
+pub record AreFree (table : SlotTable) (limit : ℕ) : Type 0 where
+  pub long : length table.slots ≡ limit
+  pub free : (chain : ℕ) → 1 ≤ chain → chain ≤ limit → is_free table.slots chain ≡ true
+  pub aside : table.aside ≡ 0
+
+abbrev pub with_aside : ℕ → SlotTable → SlotTable
+with_aside more table = record { slots = table.slots; aside = table.aside + more; pushers = table.pushers }
+
+abbrev pub without_aside : ℕ → SlotTable → SlotTable
+without_aside more table = record { slots = table.slots; aside = table.aside - more; pushers = table.pushers }
+
+-- fewer are free and not set aside than are wanted
+pub record IsFullOf (table : SlotTable) (more limit : ℕ) : Type 0 where
+  pub limit_is : limit ≡ length table.slots
+  pub fewer : left_in table.slots < table.aside + more
 
 -- the slot of the chain is one that the transaction has taken
 pub record IsMine (table : SlotTable) (chain : ℕ) (tsn : Tsn) : Type 0 where

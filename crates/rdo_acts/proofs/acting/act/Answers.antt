@@ -3,6 +3,9 @@ use Rattle.line_view.specs.Held.{Held, knows}
 use Rattle.rdo_acts.specs.Told.{StopsAs}
 use Rattle.rdo_bind.specs.Acting.{written_act}
 use Rattle.rdo_acts.proofs.ActEnds.{begun_base, act_done, act_stopped, finishes_ordered, finishes_named, stops_ordered, stops_named, act_done_for, act_stopped_for}
+use Rattle.rdo_bind.specs.Acting.{act_of}
+use Rattle.rdo_acts.proofs.Lacking.{act_done_among, act_stopped_among}
+use Rattle.rdo_acts.proofs.Wanting.{act_done_wanted, act_stopped_wanted}
 use Rattle.rdo_acts.proofs.acting.act.Goals as goal
 
 pub returns-in-Ok-clause-known : goal.returns-in-Ok-clause-known
@@ -52,3 +55,23 @@ returns-in-Err-clause-areas c =
     (subst (λ (b : Held). StopsAs c.abandoned.result.outcome c.in-Err.stop c.begin.new.work.given (knows b))
     (c.begin.ensures.known ∙ begun_base c.args.given.now (written_act c.args.action.now) c.args.known c.new.result c.new-work.result c.new.ensures.value c.new.ensures.stands c.new-work.ensures) c.abandoned.ensures.outcome)
     c.in-Err.ensures.areas
+
+pub returns-in-Ok-clause-lacks : goal.returns-in-Ok-clause-lacks
+returns-in-Ok-clause-lacks c =
+    act_done_among c.args.given.now (act_of c.args.action.now) c.args.known c.new.result c.new-work.result c.new.ensures.value c.new.ensures.stands c.new-work.ensures
+    c.begin.new.work c.finished.result.outcome c.finished.ensures.outcome
+
+pub returns-in-Err-clause-lacks : goal.returns-in-Err-clause-lacks
+returns-in-Err-clause-lacks c =
+    act_stopped_among c.args.given.now (act_of c.args.action.now) c.args.known c.new.result c.new-work.result c.new.ensures.value c.new.ensures.stands c.new-work.ensures
+    (knows c.begin.new.work.view.base) c.begin.new.work.given c.abandoned.result.outcome c.in-Err.stop c.abandoned.ensures.outcome c.in-Err.ensures.lacks
+
+pub returns-in-Ok-clause-wants : goal.returns-in-Ok-clause-wants
+returns-in-Ok-clause-wants c =
+    act_done_wanted c.args.given.now (act_of c.args.action.now) c.args.known c.new.result c.new-work.result c.new.ensures.value c.new.ensures.stands c.new-work.ensures
+    c.begin.new.work c.finished.result.outcome c.finished.ensures.outcome
+
+pub returns-in-Err-clause-wants : goal.returns-in-Err-clause-wants
+returns-in-Err-clause-wants c =
+    act_stopped_wanted c.args.given.now (act_of c.args.action.now) c.args.known c.new.result c.new-work.result c.new.ensures.value c.new.ensures.stands c.new-work.ensures
+    (knows c.begin.new.work.view.base) c.begin.new.work.given c.abandoned.result.outcome c.in-Err.stop c.abandoned.ensures.outcome c.in-Err.ensures.wants

@@ -12,6 +12,7 @@ use Rattle.rdo_acts.proofs.Stopping.{stops_so}
 use Rattle.rdo_acts.proofs.RowAssigned.{alone, assign_goes, assign_ends}
 use Rattle.rdb_meaning.specs.Checks.{assignments_uses}
 use Rattle.rdo_acts.proofs.UsesWithin.{assign_within, reads_within}
+use Rattle.rdo_acts.proofs.Wanting.{assign_among}
 use Rattle.rdo_acts.proofs.assigning.assign_all.Goals as goal
 
 pub loop-assign-init : goal.loop-assign-init
@@ -51,3 +52,12 @@ returns-in_err-assign_one-clause-areas c = λ first t scope sound are same.
     rw (p.1, p.2)
     (reads_within t (assignments_uses (written_assign x ∷ [])) (assignments_uses (map written_assign c.args.assigns.now)) (assign_within t c.args.assigns.now i x c.loop-assign-test.true c.assign-item.is) c.in_err-assign_one.field-0.0
     (c.in_err-assign_one.ensures.areas first t scope sound bound same))
+
+pub returns-in_err-assign_one-clause-lacks : goal.returns-in_err-assign_one-clause-lacks
+returns-in_err-assign_one-clause-lacks c = λ first t scope sound are same.
+    let p = err_from_is_err_and c.from_residual.result c.from_residual.ensures.1 in
+    let i = c.loop-assign.assign-index in
+    let x = c.assign-item.result in
+    let bound = subst (IsBoundAssign t (variables_of scope)) (sym c.assign-item.is) (are i x c.loop-assign-test.true) in
+    rw (p.1, p.2)
+    (assign_among t c.args.given.now.sources.now.entries c.in_err-assign_one.field-0.0 (variables_of scope) c.args.assigns.now i x c.loop-assign-test.true c.assign-item.is (c.in_err-assign_one.ensures.lacks first t scope sound bound same))

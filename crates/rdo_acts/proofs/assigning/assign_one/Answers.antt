@@ -14,6 +14,12 @@ use Rattle.row_writes.proofs.AreaLists.{StopsAt}
 use Rattle.rdo_acts.proofs.AreasRead.{value_reads, misfit_at}
 use Rattle.rdo_acts.proofs.UsesWithin.{before, reads_within}
 use Rattle.rdo_acts.specs.Stops.{stop_of_select}
+use Rattle.statement_view.specs.Over.{knows_over}
+use Rattle.rdo_values.specs.Rows.{variables_of}
+use Rattle.std.proofs.Common.{◌++◌}
+use Rattle.served_selections.specs.Ranges.{chosen_in}
+use Rattle.rdo_acts.specs.Selections.{IsReadAmong}
+use Rattle.rdo_acts.proofs.Lacking.{value_among, stops_left}
 use Rattle.rdo_acts.proofs.assigning.assign_one.Goals as goal
 
 pub returns-in_default-clause-assigns : goal.returns-in_default-clause-assigns
@@ -56,4 +62,20 @@ returns-in-Err-clause-areas c = λ first t scope sound bound same.
 pub returns-in-Err-fit-clause-areas : goal.returns-in-Err-fit-clause-areas
 returns-in-Err-fit-clause-areas c = λ first t scope sound bound same.
     let next = IsNeedOf (areas_read t (assignments_uses (written_assign c.args.assign.now ∷ []))) [] in
+    subst (StopsAt next) (sym c.of_misfit.ensures) (misfit_at next c.in-Err-fit.misfit)
+
+pub returns-in-Err-clause-lacks : goal.returns-in-Err-clause-lacks
+returns-in-Err-clause-lacks c = λ first t scope sound bound same.
+    let given = c.args.given.now in
+    let view = c.args.view.now in
+    let sources = given.sources.now.entries in
+    let e = expression_of c.args.assign.now.right in
+    let shown = shows given c.requires view t first sound in
+    let cs = chosen_in e (variables_of scope) in
+    subst (StopsAt (IsReadAmong t sources (cs ++ []))) (sym c.of_select.ensures)
+    (stops_left t sources (stop_of_select c.in-Err.stop) cs [] (value_among (knows_over view) sources t shown scope c.in-Err.stop e bound.1 (c.in-Err.ensures.work t scope shown bound.1 same)))
+
+pub returns-in-Err-fit-clause-lacks : goal.returns-in-Err-fit-clause-lacks
+returns-in-Err-fit-clause-lacks c = λ first t scope sound bound same.
+    let next = IsReadAmong t c.args.given.now.sources.now.entries (chosen_in (expression_of c.args.assign.now.right) (variables_of scope) ++ []) in
     subst (StopsAt next) (sym c.of_misfit.ensures) (misfit_at next c.in-Err-fit.misfit)

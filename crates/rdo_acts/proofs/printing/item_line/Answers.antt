@@ -18,6 +18,10 @@ use Rattle.row_writes.proofs.AreaLists.{StopsAt}
 use Rattle.rdo_acts.specs.Stops.{stop_of_select}
 use Rattle.rdo_acts.proofs.AreasRead.{value_reads}
 use Rattle.rdo_acts.proofs.UsesWithin.{before, reads_within}
+use Rattle.statement_view.specs.Over.{knows_over}
+use Rattle.served_selections.specs.Ranges.{chosen_in}
+use Rattle.rdo_acts.specs.Selections.{IsReadAmong}
+use Rattle.rdo_acts.proofs.Lacking.{value_among, stops_left}
 use Rattle.rdo_acts.proofs.printing.item_line.Goals as goal
 
 pub returns-in-Err-clause-line : goal.returns-in-Err-clause-line
@@ -57,3 +61,16 @@ returns-in-Err-clause-areas c = λ first t scope sound bound same.
     rw c.in-Value.is
     (subst (StopsAt (IsNeedOf (areas_read t (us ++ [])) [])) (sym c.of_select.ensures)
     (reads_within t us (us ++ []) (before t us []) (stop_of_select c.in-Err.stop) (value_reads given c.requires view t first sound e scope c.in-Err.stop own (c.in-Err.ensures.work t scope shown own same))))
+
+pub returns-in-Err-clause-lacks : goal.returns-in-Err-clause-lacks
+returns-in-Err-clause-lacks c = λ first t scope sound bound same.
+    let given = c.args.given.now in
+    let view = c.args.view.now in
+    let sources = given.sources.now.entries in
+    let e = expression_of c.in-Value.expression in
+    let own = subst (IsBoundItem t (variables_of scope)) c.in-Value.is bound in
+    let shown = shows given c.requires view t first sound in
+    let cs = chosen_in e (variables_of scope) in
+    rw c.in-Value.is
+    (subst (StopsAt (IsReadAmong t sources (cs ++ []))) (sym c.of_select.ensures)
+    (stops_left t sources (stop_of_select c.in-Err.stop) cs [] (value_among (knows_over view) sources t shown scope c.in-Err.stop e own (c.in-Err.ensures.work t scope shown own same))))

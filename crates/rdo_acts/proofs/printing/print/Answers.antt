@@ -17,6 +17,7 @@ use Rattle.rdb_meaning.specs.Checks.{shown_uses}
 use Rattle.used_areas.specs.Areas.{areas_changed}
 use Rattle.row_writes.proofs.AreaLists.{nothing_written}
 use Rattle.rdo_acts.proofs.AreasRead.{reading_keeps, at_start}
+use Rattle.rdo_acts.proofs.Lacking.{one_schema_of}
 use Rattle.rdo_acts.proofs.printing.print.Goals as goal
 
 pub returns-in_err-line-clause-runs : goal.returns-in_err-line-clause-runs
@@ -52,3 +53,10 @@ returns-in_err-line-clause-areas c = λ scope bound all start t holds same.
 
 pub returns-clause-areas : goal.returns-clause-areas
 returns-clause-areas c = λ scope bound all start t holds same. nothing_written (areas_changed start (shown_uses (map written_item c.args.items.now))) c.args.work.now.view
+
+pub returns-in_err-line-clause-lacks : goal.returns-in_err-line-clause-lacks
+returns-in_err-line-clause-lacks c = λ scope bound first t sound same.
+    let p = err_from_is_err_and c.from_residual.result c.from_residual.ensures.1 in
+    let given = c.args.given.now in
+    let are = act_same given.schema.now.tables t (one_schema_of given c.args.work.now.view t first sound) (print c.args.items.now) (variables_of scope) bound in
+    rw (p.1, p.2) (c.in_err-line.ensures.lacks first t scope sound are same)

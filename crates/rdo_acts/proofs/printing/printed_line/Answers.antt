@@ -10,6 +10,7 @@ use Rattle.rdo_acts.proofs.Stopping.{stops_so}
 use Rattle.rdo_acts.proofs.PrintedValues.{whole, none_printed, all_printed, item_printed, item_refused}
 use Rattle.rdb_meaning.specs.Checks.{shown_uses}
 use Rattle.rdo_acts.proofs.UsesWithin.{print_within, reads_within}
+use Rattle.rdo_acts.proofs.Lacking.{item_among}
 use Rattle.rdo_acts.proofs.printing.printed_line.Goals as goal
 
 pub loop-item-init : goal.loop-item-init
@@ -45,3 +46,12 @@ returns-in_err-piece-clause-areas c = λ first t scope sound are same.
     rw (p.1, p.2)
     (reads_within t (shown_uses (written_item x ∷ [])) (shown_uses (map written_item c.args.items.now)) (print_within t c.args.items.now i x c.loop-item-test.true c.item-item.is) c.in_err-piece.field-0.0
     (c.in_err-piece.ensures.areas first t scope sound bound same))
+
+pub returns-in_err-piece-clause-lacks : goal.returns-in_err-piece-clause-lacks
+returns-in_err-piece-clause-lacks c = λ first t scope sound are same.
+    let p = err_from_is_err_and c.from_residual.result c.from_residual.ensures.1 in
+    let i = c.loop-item.item-index in
+    let x = c.item-item.result in
+    let bound = subst (IsBoundItem t (variables_of scope)) (sym c.item-item.is) (are i x c.loop-item-test.true) in
+    rw (p.1, p.2)
+    (item_among t c.args.given.now.sources.now.entries c.in_err-piece.field-0.0 (variables_of scope) c.args.items.now i x c.loop-item-test.true c.item-item.is (c.in_err-piece.ensures.lacks first t scope sound bound same))

@@ -1,10 +1,12 @@
-use Rattle.std.proofs.Common.{◌≡◌, map, length, Ok, Err, refl, sym, ap, subst, ◌∙◌, rules, arith}
+use Rattle.std.proofs.Common.{◌≡◌, ◌++◌, map, length, Ok, Err, refl, sym, ap, subst, ◌∙◌, rules, arith}
 use Rattle.std.proofs.lemmas.Result.{err_from_is_err_and}
 use Rattle.rdb_meaning.specs.Evaluation.{bind_tuple, bind_sources}
 use Rattle.rdb_meaning.specs.Execution.{done}
 use Rattle.rdo_values.specs.Rows.{row_of, variables_of}
 use Rattle.rdo_bind.specs.declared.action.BoundAction as actions
-use Rattle.rdo_bind.specs.Acting.{act_of, acts_of, named_act, named_acts, print, store, modify, erase}
+use Rattle.rdo_bind.specs.Acting.{act_of, acts_of, named_act, named_acts, for_each, print, store, modify, erase}
+use Rattle.std.proofs.lemmas.List.{length-map}
+use Rattle.rdo_values.specs.declared.bound.BoundRange.{BoundRange}
 use Rattle.rdo_select.specs.Crossed.{ranges_of}
 use Rattle.rdo_acts.specs.Scopes.{scope_of}
 use Rattle.rdo_acts.specs.Ends.{Ends, Runs, ActStop}
@@ -12,7 +14,8 @@ use Rattle.rdo_acts.proofs.Writing.{acts_at, reads_at}
 use Rattle.rdo_acts.proofs.Viewing.{sound_view}
 use Rattle.rdo_acts.proofs.Turns.{holds_now, stops_now}
 use Rattle.rdo_acts.proofs.Bodies.{body_job, action_job, body_begins, body_done, action_goes, action_ends, read_anew, read_before, tuples_begin, tuples_done, tuple_goes, tuple_ends, keeps_anew, keeps_before, body_holds, body_keeps}
-use Rattle.rdo_acts.proofs.Arms.{is_print, is_store, is_modify, is_erase, is_for, print_runs, store_runs, modify_runs, erase_runs, for_runs, for_ends, arm_keeps, for_keeps, for_stops_for, bound_so}
+use Rattle.rdo_acts.specs.Scopes.{may_write}
+use Rattle.rdo_acts.proofs.Arms.{ranges_same, is_print, is_store, is_modify, is_erase, is_for, print_runs, store_runs, modify_runs, erase_runs, for_runs, for_ends, arm_keeps, for_keeps, for_stops_for, bound_so}
 use Rattle.rdb_meaning.specs.Checks.{acts_uses}
 use Rattle.statement_view.specs.Over.{Over}
 use Rattle.statement_view.specs.Areas.{IsNeedOf, WritesOf}
@@ -25,6 +28,19 @@ use Rattle.rdo_acts.proofs.AreasRead.{view_at, reading_keeps, at_start}
 use Rattle.rdo_acts.proofs.UsesWithin.{before, act_within, keeps_within}
 use Rattle.rdo_acts.proofs.ScopeUses.{body_same}
 use Rattle.line_view.specs.Stops.{of_view}
+use Rattle.row_writes.specs.Rows.{IsSoundView}
+use Rattle.row_writes.proofs.AreaLists.{StopsAt}
+use Rattle.rdo_acts.specs.Selections.{chosen_in_act, chosen_in_acts, IsReadAmong, RunsAmong}
+use Rattle.rdo_acts.proofs.Lacking.{action_among, tuple_values, form_among, none_writes, for_stops_among, for_runs_among}
+use Rattle.std.proofs.Common.{◌⊎◌, inl, inr}
+use Rattle.row_writes.proofs.AreaLists.{stops_at}
+use Rattle.line_view.specs.declared.need.Need.{Need}
+use Rattle.rdo_acts.specs.Wanted.{IsOneOf, ActWants, ActsWant, Then, IsRowOf, RunsWanting}
+use Rattle.rdo_acts.proofs.Bodies.{tuple_now, bound_is}
+use Rattle.rdo_acts.proofs.Turns.{one_now}
+use Rattle.rdo_acts.proofs.Wanting.{then_so, part_wants, form_wants, print_wanting, for_stops_wanting, for_runs_wanting, bound_row, tuple_among}
+use Rattle.sorted_index_laws.specs.Nodes.{AnyByRecursion}
+use Rattle.rdo_select.specs.declared.crossing.Found.{Found}
 use Rattle.rdo_acts.proofs.running.+run.Goals as goal
 
 -- ---- the actions of a body that doesn't write
@@ -335,3 +351,222 @@ run_action-returns-in-Ok-clause-areas t c =
     for_keeps c.args.given.now (scope_of c.args.scope.now) c.args.action.now c.requires.bound c.args.values.now c.args.work.now c.run_over.new.work c.run_over.result
     c.in-For.selection body (is_for c.args.action.now c.in-For.selection c.in-For.body body c.in-For.is c.as_slice-in-For-2.ensures) c.as_slice-ranges.result.now c.as_slice-ranges.ensures
     c.requires.together c.in-Ok.found c.as_slice-in-For.result.now c.as_slice-in-For.ensures c.in-Ok.ensures.values c.run_over.ensures.areas
+
+-- ---- what is lacked where nothing is written
+
+pub run_reading-returns-in_err-run_action-clause-lacks : goal.run_reading-returns-in_err-run_action-clause-lacks
+run_reading-returns-in_err-run_action-clause-lacks t c first u sound is =
+    let p = err_from_is_err_and c.from_residual.result c.from_residual.ensures.1 in
+    let given = c.args.given.now in
+    let scope = scope_of c.args.scope.now in
+    let i = c.loop-action.action-index in
+    let x = c.action-item.result in
+    let here = subst (λ (o : Over). IsSoundView o given.schema.now u first) (sym c.loop-action.invariant.view) sound in
+    rw (p.1, p.2)
+    (action_among u given.sources.now.entries c.in_err-run_action.field-0.0 (variables_of scope) c.args.body.now i x (omega arith) c.action-item.is
+    (c.in_err-run_action.ensures.lacks (reads_at c.args.body.now i x c.requires.reading (omega arith) c.action-item.is) first u here is))
+
+pub run_body-returns-else-writing-clause-lacks : goal.run_body-returns-else-writing-clause-lacks
+run_body-returns-else-writing-clause-lacks t c none = c.run_reading.ensures.lacks
+
+pub run_over-returns-in_err-run_body-clause-lacks : goal.run_over-returns-in_err-run_body-clause-lacks
+run_over-returns-in_err-run_body-clause-lacks t c none first u sound have =
+    let p = err_from_is_err_and c.from_residual-in_err-run_body.result c.from_residual-in_err-run_body.ensures.1 in
+    let given = c.args.given.now in
+    let scope = scope_of c.args.scope.now in
+    let acts = acts_of (map act_of c.args.body.now) in
+    let ss = ranges_of c.args.ranges.now in
+    let bound = scope_of c.as_slice-in-loop-found.result.now in
+    let stop = c.in_err-run_body.field-0.0 in
+    let here = subst (λ (o : Over). IsSoundView o given.schema.now u first) (sym (c.loop-found.invariant.reads none)) sound in
+    let own = tuple_values u scope c.args.ranges.now ss c.args.tuples.now c.loop-found.found-index c.found-item.result bound (omega arith) c.found-item.is (sym (length-map c.args.ranges.now (λ (s : BoundRange). s.range)))
+    (λ long. ap scope_of c.as_slice-in-loop-found.ensures ∙ c.in_ok-bound.ensures.tuple (ap length c.as_slice.ensures ∙ long) ∙ ap (λ ks. bind_tuple ss ks scope) c.as_slice.ensures) have in
+    rw (p.1, p.2)
+    (subst (λ vs. StopsAt (IsReadAmong u given.sources.now.entries (chosen_in_acts acts vs)) stop) (ap (λ b. variables_of (scope_of b)) c.as_slice-in-loop-found.ensures ∙ c.in_ok-bound.ensures.variables)
+    (c.in_err-run_body.ensures.lacks (c.any_writes-writing.ensures ∙ none) first u here own))
+
+pub run_action-returns-in-Print-clause-lacks : goal.run_action-returns-in-Print-clause-lacks
+run_action-returns-in-Print-clause-lacks t c none =
+    let given = c.args.given.now in
+    let scope = scope_of c.args.scope.now in
+    let items = c.as_slice.result.now in
+    let e = is_print c.args.action.now c.in-Print.items items c.in-Print.is c.as_slice.ensures in
+    form_among c.print.result given scope c.args.values.now c.args.action.now (print items) c.args.work.now e (c.print.ensures.lacks scope (bound_so given scope c.args.action.now c.requires.bound (print items) e))
+
+pub run_action-returns-in-Store-clause-lacks : goal.run_action-returns-in-Store-clause-lacks
+run_action-returns-in-Store-clause-lacks t c none =
+    let assigns = c.as_slice-in-Store.result.now in
+    absurd (none_writes c.args.action.now (store c.in-Store.range assigns) (is_store c.args.action.now c.in-Store.range c.in-Store.assigns assigns c.in-Store.is c.as_slice-in-Store.ensures) refl none)
+
+pub run_action-returns-in-Modify-clause-lacks : goal.run_action-returns-in-Modify-clause-lacks
+run_action-returns-in-Modify-clause-lacks t c none =
+    let assigns = c.as_slice-in-Modify.result.now in
+    absurd (none_writes c.args.action.now (modify c.in-Modify.variable assigns) (is_modify c.args.action.now c.in-Modify.variable c.in-Modify.assigns assigns c.in-Modify.is c.as_slice-in-Modify.ensures) refl none)
+
+pub run_action-returns-in-Erase-clause-lacks : goal.run_action-returns-in-Erase-clause-lacks
+run_action-returns-in-Erase-clause-lacks t c none = absurd (none_writes c.args.action.now (erase c.in-Erase.variable) (is_erase c.args.action.now c.in-Erase.variable c.in-Erase.is) refl none)
+
+pub run_action-returns-in-Err-clause-lacks : goal.run_action-returns-in-Err-clause-lacks
+run_action-returns-in-Err-clause-lacks t c none =
+    let given = c.args.given.now in
+    let scope = scope_of c.args.scope.now in
+    let action = c.args.action.now in
+    let s = c.in-For.selection in
+    let body = acts_of (map act_of c.in-For.body) in
+    let e = is_for action s c.in-For.body c.in-For.body c.in-For.is refl in
+    form_among (Err c.of_select.result) given scope c.args.values.now action (for_each s body) c.args.work.now e
+    (subst (λ (w : ActStop). RunsAmong (Err w) given scope c.args.values.now (chosen_in_act (for_each s body) (variables_of scope)) c.args.work.now) (sym c.of_select.ensures)
+    (for_stops_among given c.requires.together scope c.args.values.now c.args.work.now s body (bound_so given scope action c.requires.bound (for_each s body) e) c.in-Err.stop c.in-Err.ensures.work))
+
+pub run_action-returns-in-Ok-clause-lacks : goal.run_action-returns-in-Ok-clause-lacks
+run_action-returns-in-Ok-clause-lacks t c none =
+    let given = c.args.given.now in
+    let scope = scope_of c.args.scope.now in
+    let action = c.args.action.now in
+    let s = c.in-For.selection in
+    let slice = c.as_slice-in-For-2.result.now in
+    let body = acts_of (map act_of slice) in
+    let ranges = c.as_slice-ranges.result.now in
+    let e = is_for action s c.in-For.body slice c.in-For.is c.as_slice-in-For-2.ensures in
+    form_among c.run_over.result given scope c.args.values.now action (for_each s body) c.args.work.now e
+    (for_runs_among given c.requires.together scope c.args.values.now c.args.work.now s body (bound_so given scope action c.requires.bound (for_each s body) e) c.run_over.result (ranges_of ranges) c.in-Ok.found c.as_slice-in-For.result.now
+    (ranges_same given scope action c.requires.bound s slice e ranges c.as_slice-ranges.ensures) c.as_slice-in-For.ensures c.in-Ok.ensures.values
+    (c.run_over.ensures.lacks (ap may_write (sym e) ∙ none)))
+
+-- ---- what is lacked, part by part
+
+pub run_reading-returns-in_err-run_action-clause-wants : goal.run_reading-returns-in_err-run_action-clause-wants
+run_reading-returns-in_err-run_action-clause-wants t c all start u holds is =
+    let p = err_from_is_err_and c.from_residual.result c.from_residual.ensures.1 in
+    let given = c.args.given.now in
+    let scope = scope_of c.args.scope.now in
+    let body = c.args.body.now in
+    let i = c.loop-action.action-index in
+    let x = c.action-item.result in
+    let mid = c.loop-action.work in
+    let sources = given.sources.now.entries in
+    let vs = variables_of scope in
+    let now = body_holds given scope body i c.args.work.now mid all start u (ap (λ o. o.base) c.loop-action.invariant.view) (c.loop-action.invariant.goes all start u holds is) in
+    let own = ap (λ tables. row_of tables scope) (one_now given c.args.work.now mid all start u now.0 c.loop-action.invariant.view holds now.1) ∙ is in
+    rw (p.1, p.2)
+    (stops_at (λ need. IsRowOf scope need ⊎ Then given all start (λ v. ActWants v sources (act_of x) vs need)) (λ need. IsRowOf scope need ⊎ Then given all start (λ v. ActsWant v sources (acts_of (map act_of body)) vs need))
+    (λ need wanted. elim wanted as (λ w. IsRowOf scope need ⊎ Then given all start (λ v. ActsWant v sources (acts_of (map act_of body)) vs need)) [
+      | inl row ↦ inl row
+      | inr part ↦ inr (then_so given all start (λ v. ActWants v sources (act_of x) vs need) (λ v. ActsWant v sources (acts_of (map act_of body)) vs need) (λ v. part_wants v sources vs need body i x (omega arith) c.action-item.is) part)
+    ])
+    c.in_err-run_action.field-0.0 (c.in_err-run_action.ensures.wants all start now.0 now.1 own))
+
+pub run_anew-returns-in_err-run_action-clause-wants : goal.run_anew-returns-in_err-run_action-clause-wants
+run_anew-returns-in_err-run_action-clause-wants t c values all start u holds is =
+    let p = err_from_is_err_and c.from_residual.result c.from_residual.ensures.1 in
+    let given = c.args.given.now in
+    let scope = scope_of c.args.scope.now in
+    let body = c.args.body.now in
+    let i = c.loop-action.action-index in
+    let x = c.action-item.result in
+    let mid = c.loop-action.work in
+    let sources = given.sources.now.entries in
+    let vs = variables_of scope in
+    let now = body_holds given scope body i c.args.work.now mid all start u c.loop-action.invariant.known (c.loop-action.invariant.goes all start u holds) in
+    rw (p.1, p.2)
+    (stops_at (λ need. IsRowOf scope need ⊎ Then given all start (λ v. ActWants v sources (act_of x) vs need)) (λ need. IsRowOf scope need ⊎ Then given all start (λ v. ActsWant v sources (acts_of (map act_of body)) vs need))
+    (λ need wanted. elim wanted as (λ w. IsRowOf scope need ⊎ Then given all start (λ v. ActsWant v sources (acts_of (map act_of body)) vs need)) [
+      | inl row ↦ inl row
+      | inr part ↦ inr (then_so given all start (λ v. ActWants v sources (act_of x) vs need) (λ v. ActsWant v sources (acts_of (map act_of body)) vs need) (λ v. part_wants v sources vs need body i x (omega arith) c.action-item.is) part)
+    ])
+    c.in_err-run_action.field-0.0 (c.in_err-run_action.ensures.wants all start now.0 now.1 (sym (c.in-Ok.ensures.values all now.0 (sound_view given mid all start now.0 now.1)))))
+
+pub run_anew-returns-in-Err-clause-wants : goal.run_anew-returns-in-Err-clause-wants
+run_anew-returns-in-Err-clause-wants t c values all start u holds is =
+    let given = c.args.given.now in
+    let scope = scope_of c.args.scope.now in
+    let Wanted : Need → Type 0 = λ need. IsRowOf scope need ⊎ Then given all start (λ v. ActsWant v given.sources.now.entries (acts_of (map act_of c.args.body.now)) (variables_of scope) need) in
+    subst (StopsAt Wanted) (sym c.of_view.ensures) (stops_at (IsRowOf scope) Wanted (λ need row. inl row) (of_view c.in-Err.stop) (view_at (IsRowOf scope) Refusal c.in-Err.stop c.in-Err.ensures.lines))
+
+pub run_body-returns-else-writing-clause-wants : goal.run_body-returns-else-writing-clause-wants
+run_body-returns-else-writing-clause-wants t c seen same all start u holds is = c.run_reading.ensures.wants all start u holds (is ∙ same c.if-writing.false)
+
+pub run_over-returns-in_err-run_body-clause-wants : goal.run_over-returns-in_err-run_body-clause-wants
+run_over-returns-in_err-run_body-clause-wants t c all start u holds have =
+    let p = err_from_is_err_and c.from_residual-in_err-run_body.result c.from_residual-in_err-run_body.ensures.1 in
+    let given = c.args.given.now in
+    let scope = scope_of c.args.scope.now in
+    let acts = acts_of (map act_of c.args.body.now) in
+    let ss = ranges_of c.args.ranges.now in
+    let tuples = c.args.tuples.now in
+    let i = c.loop-found.found-index in
+    let x = c.found-item.result in
+    let bound = scope_of c.as_slice-in-loop-found.result.now in
+    let sources = given.sources.now.entries in
+    let binds : length x.tuple ≡ length c.args.ranges.now → bound ≡ bind_tuple ss x.tuple scope = λ long. ap scope_of c.as_slice-in-loop-found.ensures ∙ c.in_ok-bound.ensures.tuple (ap length c.as_slice.ensures ∙ long) ∙ ap (λ ks. bind_tuple ss ks scope) c.as_slice.ensures in
+    let now = tuple_now given (named_acts acts) scope c.args.ranges.now tuples i x bound (omega arith) c.found-item.is binds
+    c.args.work.now c.loop-found.work c.run_body.new.work c.loop-found.invariant.known all start u holds have (c.loop-found.invariant.goes all start u holds have)
+    c.any_writes-writing.result (λ none. c.loop-found.invariant.reads (sym c.any_writes-writing.ensures ∙ none)) in
+    let around = bound_is given (named_acts acts) scope c.args.ranges.now tuples i x bound (omega arith) c.found-item.is binds
+    c.args.work.now c.loop-found.work c.run_body.new.work c.loop-found.invariant.known all start u holds have (c.loop-found.invariant.goes all start u holds have) in
+    let variables = ap (λ b. variables_of (scope_of b)) c.as_slice-in-loop-found.ensures ∙ c.in_ok-bound.ensures.variables in
+    rw (p.1, p.2)
+    (stops_at (λ need. IsRowOf bound need ⊎ Then given all start (λ v. ActsWant v sources acts (variables_of bound) need))
+    (λ need. IsRowOf scope need ⊎ (AnyByRecursion (λ (f : Found). IsOneOf f.tuple need) tuples ⊎ Then given all start (λ v. ActsWant v sources acts (variables_of scope ++ ss) need)))
+    (λ need wanted. elim wanted as (λ w. IsRowOf scope need ⊎ (AnyByRecursion (λ (f : Found). IsOneOf f.tuple need) tuples ⊎ Then given all start (λ v. ActsWant v sources acts (variables_of scope ++ ss) need))) [
+      | inl row ↦ elim (bound_row need scope ss x.tuple (subst (λ s. IsRowOf s need) around row)) as (λ w. IsRowOf scope need ⊎ (AnyByRecursion (λ (f : Found). IsOneOf f.tuple need) tuples ⊎ Then given all start (λ v. ActsWant v sources acts (variables_of scope ++ ss) need))) [
+        | inl outside ↦ inl outside
+        | inr own ↦ inr (inl (tuple_among need tuples i x (omega arith) c.found-item.is own))
+      ]
+      | inr part ↦ inr (inr (then_so given all start (λ v. ActsWant v sources acts (variables_of bound) need) (λ v. ActsWant v sources acts (variables_of scope ++ ss) need) (λ v h. subst (λ vs. ActsWant v sources acts vs need) variables h) part))
+    ])
+    c.in_err-run_body.field-0.0 (c.in_err-run_body.ensures.wants (row_of now.0 bound) now.2 all start now.0 now.1 refl))
+
+pub run_action-returns-in-Print-clause-wants : goal.run_action-returns-in-Print-clause-wants
+run_action-returns-in-Print-clause-wants t c all start u holds is =
+    let given = c.args.given.now in
+    let scope = scope_of c.args.scope.now in
+    let items = c.as_slice.result.now in
+    let e = is_print c.args.action.now c.in-Print.items items c.in-Print.is c.as_slice.ensures in
+    print_wanting c.print.result given scope c.args.values.now c.args.action.now items c.args.work.now e (c.print.ensures.lacks scope (bound_so given scope c.args.action.now c.requires.bound (print items) e)) all start u holds is
+
+pub run_action-returns-in-Store-clause-wants : goal.run_action-returns-in-Store-clause-wants
+run_action-returns-in-Store-clause-wants t c =
+    let given = c.args.given.now in
+    let scope = scope_of c.args.scope.now in
+    let assigns = c.as_slice-in-Store.result.now in
+    let a = store c.in-Store.range assigns in
+    let e = is_store c.args.action.now c.in-Store.range c.in-Store.assigns assigns c.in-Store.is c.as_slice-in-Store.ensures in
+    form_wants c.store.result given scope c.args.values.now c.args.action.now a c.args.work.now e (c.store.ensures.wants scope (bound_so given scope c.args.action.now c.requires.bound a e))
+
+pub run_action-returns-in-Modify-clause-wants : goal.run_action-returns-in-Modify-clause-wants
+run_action-returns-in-Modify-clause-wants t c =
+    let assigns = c.as_slice-in-Modify.result.now in
+    form_wants c.modify.result c.args.given.now (scope_of c.args.scope.now) c.args.values.now c.args.action.now (modify c.in-Modify.variable assigns) c.args.work.now
+    (is_modify c.args.action.now c.in-Modify.variable c.in-Modify.assigns assigns c.in-Modify.is c.as_slice-in-Modify.ensures) c.modify.ensures.wants
+
+pub run_action-returns-in-Erase-clause-wants : goal.run_action-returns-in-Erase-clause-wants
+run_action-returns-in-Erase-clause-wants t c =
+    form_wants c.erase.result c.args.given.now (scope_of c.args.scope.now) c.args.values.now c.args.action.now (erase c.in-Erase.variable) c.args.work.now
+    (is_erase c.args.action.now c.in-Erase.variable c.in-Erase.is) (c.erase.ensures.wants c.args.values.now)
+
+pub run_action-returns-in-Err-clause-wants : goal.run_action-returns-in-Err-clause-wants
+run_action-returns-in-Err-clause-wants t c =
+    let given = c.args.given.now in
+    let scope = scope_of c.args.scope.now in
+    let action = c.args.action.now in
+    let s = c.in-For.selection in
+    let body = acts_of (map act_of c.in-For.body) in
+    let e = is_for action s c.in-For.body c.in-For.body c.in-For.is refl in
+    form_wants (Err c.of_select.result) given scope c.args.values.now action (for_each s body) c.args.work.now e
+    (subst (λ (w : ActStop). RunsWanting (Err w) given scope c.args.values.now (for_each s body) c.args.work.now) (sym c.of_select.ensures)
+    (for_stops_wanting given c.requires.together scope c.args.values.now c.args.work.now s body (bound_so given scope action c.requires.bound (for_each s body) e) c.in-Err.stop c.in-Err.ensures.work))
+
+pub run_action-returns-in-Ok-clause-wants : goal.run_action-returns-in-Ok-clause-wants
+run_action-returns-in-Ok-clause-wants t c =
+    let given = c.args.given.now in
+    let scope = scope_of c.args.scope.now in
+    let action = c.args.action.now in
+    let s = c.in-For.selection in
+    let slice = c.as_slice-in-For-2.result.now in
+    let body = acts_of (map act_of slice) in
+    let ranges = c.as_slice-ranges.result.now in
+    let e = is_for action s c.in-For.body slice c.in-For.is c.as_slice-in-For-2.ensures in
+    form_wants c.run_over.result given scope c.args.values.now action (for_each s body) c.args.work.now e
+    (for_runs_wanting given c.requires.together scope c.args.values.now c.args.work.now s body (bound_so given scope action c.requires.bound (for_each s body) e) c.run_over.result (ranges_of ranges) c.in-Ok.found c.as_slice-in-For.result.now
+    (ranges_same given scope action c.requires.bound s slice e ranges c.as_slice-ranges.ensures) c.as_slice-in-For.ensures c.in-Ok.ensures.tuples c.in-Ok.ensures.values c.run_over.ensures.wants)

@@ -1,6 +1,7 @@
 use Rattle.std.proofs.lemmas.Bool.{ne_eqb}
 use Rattle.rdo_acts.proofs.RowFound.{none_beside, row_answer}
 use Rattle.rdo_acts.proofs.AreasRead.{row_reads}
+use Rattle.rdo_acts.proofs.Wanting.{line_lacked}
 use Rattle.rdo_acts.proofs.scope.row_at.Goals as goal
 
 pub returns-then-at-relation-clause-row : goal.returns-then-at-relation-clause-row
@@ -13,3 +14,6 @@ returns-clause-row c = λ all table sorted agrees has.
 
 pub returns-clause-areas : goal.returns-clause-areas
 returns-clause-areas c = row_reads c.args.relation.now.area c.in-Some.at c.row.result c.if-at-relation.false c.row.ensures.missing
+
+pub returns-clause-line : goal.returns-clause-line
+returns-clause-line c = line_lacked c.args.key c.in-Some.at c.row.result c.in-Some.is c.row.ensures.missing

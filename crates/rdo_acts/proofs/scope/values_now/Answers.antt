@@ -7,6 +7,9 @@ use Rattle.std.proofs.Common.{◌∷◌, []}
 use Rattle.rdo_acts.specs.Scopes.{scope_of}
 use Rattle.rdo_acts.specs.Areas.{scope_uses}
 use Rattle.rdo_acts.proofs.UsesWithin.{variable_within, reads_within}
+use Rattle.row_writes.proofs.AreaLists.{stops_at}
+use Rattle.rdo_acts.specs.Wanted.{IsRowOf}
+use Rattle.rdo_acts.proofs.Wanting.{row_among}
 use Rattle.rdo_acts.proofs.scope.values_now.Goals as goal
 
 pub values_of-requires-clause-row : goal.values_of-requires-clause-row
@@ -33,3 +36,10 @@ returns-in_err-own-clause-areas c = λ first t sound.
     rw (p.1, p.2)
     (reads_within t (scope_uses (scope_of (v ∷ []))) (scope_uses (scope_of c.args.scope.now)) (variable_within t c.args.scope.now c.loop-variable.variable-index v c.loop-variable-test.true c.variable-item.is) c.in_err-own.field-0.0
     (c.in_err-own.ensures.areas first t sound))
+
+pub returns-in_err-own-clause-lines : goal.returns-in_err-own-clause-lines
+returns-in_err-own-clause-lines c =
+    let p = err_from_is_err_and c.from_residual.result c.from_residual.ensures.1 in
+    let v = c.variable-item.result in
+    rw (p.1, p.2)
+    (stops_at (IsRowOf (scope_of (v ∷ []))) (IsRowOf (scope_of c.args.scope.now)) (λ need. row_among need c.args.scope.now c.loop-variable.variable-index v c.loop-variable-test.true c.variable-item.is) c.in_err-own.field-0.0 c.in_err-own.ensures.line)

@@ -5,6 +5,7 @@ use Rattle.statement_view.specs.Over.{laid_over}
 use Rattle.rdo_select.specs.Sources.{source_at}
 use Rattle.rdo_acts.proofs.VariableRow.{has_source, table, has_rows, some_values, no_values, table_named}
 use Rattle.rdo_acts.proofs.AreasRead.{variable_reads}
+use Rattle.rdo_acts.proofs.Wanting.{row_lacked}
 use Rattle.rdo_acts.proofs.scope.values_of.Goals as goal
 
 pub unreachable-requires : goal.unreachable-requires
@@ -52,3 +53,8 @@ returns-in_err-found-clause-areas c = λ first t sound.
     let named = table_named given view first t c.args.variable source c.requires.together c.requires.row there sound in
     let has = has_rows given view first t c.args.variable source c.requires.together c.requires.row there sound in
     rw (p.1, p.2) (variable_reads t false c.args.variable.range.now.range.relation rel source.relation.area named has.area c.in_err-found.field-0.0 c.in_err-found.ensures.areas)
+
+pub returns-in_err-found-clause-line : goal.returns-in_err-found-clause-line
+returns-in_err-found-clause-line c =
+    let p = err_from_is_err_and c.from_residual.result c.from_residual.ensures.1 in
+    rw (p.1, p.2) (row_lacked c.args.variable c.in_err-found.field-0.0 c.in_err-found.ensures.line)

@@ -6,6 +6,7 @@ use Rattle.rdo_acts.specs.declared.work.Work.{Work}
 use Rattle.rdo_acts.proofs.Viewing.{relation_there}
 use Rattle.rdo_acts.proofs.RowStored.{store_unmade, store_stopped, store_done}
 use Rattle.rdo_acts.proofs.AreasWritten.{store_unmade_for, stored_for, unstored_for}
+use Rattle.rdo_acts.proofs.WantingRows.{store_unmade_wanting, unstored_wanting}
 use Rattle.rdo_acts.proofs.storing.store.Goals as goal
 
 pub unreachable-requires : goal.unreachable-requires
@@ -54,3 +55,19 @@ pub returns-clause-areas : goal.returns-clause-areas
 returns-clause-areas c =
     let new : Work = record c.args.work.now { view = c.store_row.new.view } in
     unstored_for c.args.given.now c.args.range.now c.args.assigns.now c.args.values.now c.in-Some.target c.in-Some.ensures.target c.args.work.now new c.in-Err.stop c.of_row.result c.of_row.ensures c.in-Err.ensures.areas
+
+pub returns-in_err-row-clause-wants : goal.returns-in_err-row-clause-wants
+returns-in_err-row-clause-wants c =
+    let p = err_from_is_err_and c.from_residual.result c.from_residual.ensures.1 in
+    rw (p.1, p.2)
+    (store_unmade_wanting c.args.given.now c.args.range.now c.args.assigns.now c.args.values.now c.in-Some.target c.in-Some.ensures.target c.args.work.now c.args.work.now c.in_err-row.field-0.0 c.in_err-row.ensures.lacks)
+
+pub returns-in_err-push-in-Ok-clause-wants : goal.returns-in_err-push-in-Ok-clause-wants
+returns-in_err-push-in-Ok-clause-wants c = λ scope bound all start t holds own.
+    let p = err_from_is_err_and c.from_residual-in_err-push-in-Ok.result c.from_residual-in_err-push-in-Ok.ensures.1 in
+    rw (p.1, p.2) tt
+
+pub returns-clause-wants : goal.returns-clause-wants
+returns-clause-wants c =
+    let new : Work = record c.args.work.now { view = c.store_row.new.view } in
+    unstored_wanting c.args.given.now c.args.range.now c.args.assigns.now c.args.values.now c.in-Some.target c.in-Some.ensures.target c.args.work.now new c.in-Err.stop c.of_row.result c.of_row.ensures c.in-Err.ensures.nodes

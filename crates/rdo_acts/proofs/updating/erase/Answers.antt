@@ -12,6 +12,8 @@ use Rattle.rdb_meaning.specs.Checks.{act_uses}
 use Rattle.rdo_bind.specs.Acting.{erase, named_act}
 use Rattle.rdo_acts.specs.Scopes.{scope_of}
 use Rattle.row_writes.specs.Areas.{EraseKeeps}
+use Rattle.row_writes.specs.Areas.{EraseNodes}
+use Rattle.rdo_acts.proofs.WantingRows.{erase_unread_wanting, unerased_wanting}
 use Rattle.rdo_acts.proofs.updating.erase.Goals as goal
 use Rattle.rdo_acts.proofs.updating.erase.Goals.{in_default-2-via-in-Some+in_default, in_default-2-via-in_default}
 
@@ -89,3 +91,19 @@ returns-clause-areas c =
 pub returns-in_default-2-clause-areas : goal.returns-in_default-2-clause-areas
 returns-in_default-2-clause-areas c = λ values all start t holds own.
     nothing_written (areas_changed start (act_uses (named_act (erase c.args.variable.now)) (scope_of c.args.scope.now))) c.args.work.now.view
+
+pub returns-in-Err-clause-wants : goal.returns-in-Err-clause-wants
+returns-in-Err-clause-wants c =
+    let bound = c.in-Some.bound in
+    let at = variable_at c.args.scope.now c.args.variable.now.number bound c.in-Some.ensures.lookup in
+    rw c.of_view.ensures (erase_unread_wanting c.args.given.now c.args.scope.now c.args.variable.now bound.now at c.requires.rows c.requires.bound c.args.work.now c.args.work.now c.in-Err.stop c.in-Err.ensures.line)
+
+pub returns-clause-wants : goal.returns-clause-wants
+returns-clause-wants c =
+    let bound = c.in-Some.bound in
+    let at = variable_at c.args.scope.now c.args.variable.now.number bound c.in-Some.ensures.lookup in
+    let target = c.in-Ok.found.0 in
+    let stop = c.in-Err-erase_row.stop in
+    let new : Work = record c.args.work.now { view = c.erase_row.new.view } in
+    unerased_wanting c.args.given.now c.args.scope.now c.args.variable.now bound.now at c.requires.rows c.requires.bound c.args.work.now new target c.in-Ok.found.1 c.in-Some-Some.at c.in-Some-Some.was c.in-Ok.ensures.row c.in-Some-Some.is-0 c.in-Some-Some.is-1 stop c.of_row.result c.of_row.ensures
+    (subst (λ (r : Row). EraseNodes c.args.work.now.view c.erase_row.new.view target.indexes.now c.in-Some-Some.at r (Err stop)) c.as_slice.ensures c.in-Err-erase_row.ensures.nodes)

@@ -14,6 +14,8 @@ use Rattle.rdb_meaning.specs.Checks.{act_uses}
 use Rattle.rdo_bind.specs.Acting.{modify, named_act}
 use Rattle.rdo_acts.specs.Scopes.{scope_of}
 use Rattle.row_writes.specs.Areas.{ChangeKeeps}
+use Rattle.row_writes.specs.Areas.{ChangeNodes}
+use Rattle.rdo_acts.proofs.WantingRows.{modify_unread_wanting, modify_unmade_wanting, unmodified_wanting}
 use Rattle.rdo_acts.proofs.updating.modify.Goals as goal
 use Rattle.rdo_acts.proofs.updating.modify.Goals.{in_default-2-via-in-Some+in_default, in_default-2-via-in_default}
 
@@ -122,3 +124,26 @@ returns-clause-areas c =
 pub returns-in_default-2-clause-areas : goal.returns-in_default-2-clause-areas
 returns-in_default-2-clause-areas c = λ all start t holds own.
     nothing_written (areas_changed start (act_uses (named_act (modify c.args.variable.now c.args.assigns.now)) (scope_of c.args.scope.now))) c.args.work.now.view
+
+pub returns-in-Err-clause-wants : goal.returns-in-Err-clause-wants
+returns-in-Err-clause-wants c =
+    let bound = c.in-Some.bound in
+    let at = variable_at c.args.scope.now c.args.variable.now.number bound c.in-Some.ensures.lookup in
+    rw c.of_view.ensures (modify_unread_wanting c.args.given.now c.args.scope.now c.args.variable.now bound.now at c.requires.rows c.requires.bound.0 c.args.work.now c.args.work.now c.args.assigns.now c.requires.bound.1 c.args.values.now c.in-Err.stop c.in-Err.ensures.line)
+
+pub returns-in_err-assign_all-clause-wants : goal.returns-in_err-assign_all-clause-wants
+returns-in_err-assign_all-clause-wants c =
+    let bound = c.in-Some.bound in
+    let at = variable_at c.args.scope.now c.args.variable.now.number bound c.in-Some.ensures.lookup in
+    let p = err_from_is_err_and c.from_residual-in_err-assign_all.result c.from_residual-in_err-assign_all.ensures.1 in
+    rw (p.1, p.2) (modify_unmade_wanting c.args.given.now c.args.scope.now c.args.variable.now bound.now at c.requires.rows c.requires.bound.0 c.args.work.now c.args.work.now c.args.assigns.now c.requires.bound.1 c.args.values.now c.in_err-assign_all.field-0.0 c.in_err-assign_all.ensures.lacks)
+
+pub returns-clause-wants : goal.returns-clause-wants
+returns-clause-wants c =
+    let bound = c.in-Some.bound in
+    let at = variable_at c.args.scope.now c.args.variable.now.number bound c.in-Some.ensures.lookup in
+    let target = c.in-Ok.found.0 in
+    let stop = c.in-Err-change_row.stop in
+    let new : Work = record c.args.work.now { view = c.change_row.new.view } in
+    unmodified_wanting c.args.given.now c.args.scope.now c.args.variable.now bound.now at c.requires.rows c.requires.bound.0 c.args.work.now new c.args.assigns.now c.requires.bound.1 c.args.values.now target c.in-Ok.found.1 c.in-Some-Some.at c.in-Some-Some.was c.in-Ok.ensures.row c.in-Some-Some.is-0 c.in-Some-Some.is-1 stop c.of_row.result c.of_row.ensures
+    (subst (λ (r : Row). ChangeNodes c.args.work.now.view c.change_row.new.view target c.in-Some-Some.at r (Err stop)) c.as_slice-was.ensures c.in-Err-change_row.ensures.nodes)

@@ -6,6 +6,7 @@ use Rattle.std.proofs.Common.{ℕ, [], ◌∷◌, sym, subst}
 use Rattle.statement_view.specs.Over.{laid_over}
 use Rattle.statement_view.specs.Areas.{IsNeedOf}
 use Rattle.row_writes.proofs.AreaLists.{StopsAt}
+use Rattle.rdo_acts.proofs.Wanting.{row_lacked}
 use Rattle.rdo_acts.proofs.updating.row_now.Goals as goal
 
 pub unreachable-requires : goal.unreachable-requires
@@ -26,3 +27,8 @@ returns-in_err-row-clause-areas c = λ first t table sound named.
     let p = err_from_is_err_and c.from_residual.result c.from_residual.ensures.1 in
     let is = c.in-Some.ensures.target (laid_over c.args.work.now.view.lines first) t table sound.sound named in
     rw (p.1, p.2) (subst (λ (a : ℕ). StopsAt (IsNeedOf (a ∷ []) []) c.in_err-row.field-0.0) (sym is.is.area) c.in_err-row.ensures.areas)
+
+pub returns-in_err-row-clause-line : goal.returns-in_err-row-clause-line
+returns-in_err-row-clause-line c =
+    let p = err_from_is_err_and c.from_residual.result c.from_residual.ensures.1 in
+    rw (p.1, p.2) (row_lacked c.args.variable c.in_err-row.field-0.0 c.in_err-row.ensures.line)

@@ -6,7 +6,7 @@ use Rattle.rdo_exec.proofs.bare.act_bare.Goals as goal
 
 pub alone-requires : goal.alone-requires
 alone-requires c =
-    settled [] c.args.standing.now (act_of c.args.action.now) (knows c.in-Ok.known) c.act_by-found.result.found c.in-Ok.ensures (c.act_by-found.ensures.comes []) c.act_by-found.ensures.stays
+    settled [] c.args.standing.now (act_of c.args.action.now) (knows c.in-Ok.known) c.act_by-found.result.found c.requires c.in-Ok.ensures (c.act_by-found.ensures.comes []) c.act_by-found.ensures.stays
 
 pub returns-in-Ok-schema_of : goal.returns-in-Ok-schema_of
 returns-in-Ok-schema_of c = λ word.

@@ -16,12 +16,12 @@ returns-in-Erased-clause-changes c =
     subst (λ (change : RowChange). ChangesPair c.args.view.now c.take_pair.new.view c.args.index.now (row_before change) (row_behind change) c.args.at c.take_pair.result) (sym c.in-Erased.is)
     (erased c.args.view.now c.take_pair.new.view c.args.index.now c.in-Erased.was.now c.args.at c.take_pair.result c.take_pair.ensures.takes)
 
-pub returns-in-Stored-clause-areas : goal.returns-in-Stored-clause-areas
-returns-in-Stored-clause-areas c =
+pub returns-in-Stored-clause-nodes : goal.returns-in-Stored-clause-nodes
+returns-in-Stored-clause-nodes c =
     subst (λ (change : RowChange). PairKeeps c.args.view.now c.add_pair.new.view c.args.index.now (row_before change) (row_behind change) c.args.at c.add_pair.result) (sym c.in-Stored.is)
-    (stored_keeps c.args.view.now c.add_pair.new.view c.args.index.now c.in-Stored.row.now c.args.at c.add_pair.result c.add_pair.ensures.areas)
+    (stored_keeps c.args.view.now c.add_pair.new.view c.args.index.now c.in-Stored.row.now c.args.at c.add_pair.result c.add_pair.ensures.nodes)
 
-pub returns-in-Erased-clause-areas : goal.returns-in-Erased-clause-areas
-returns-in-Erased-clause-areas c =
+pub returns-in-Erased-clause-nodes : goal.returns-in-Erased-clause-nodes
+returns-in-Erased-clause-nodes c =
     subst (λ (change : RowChange). PairKeeps c.args.view.now c.take_pair.new.view c.args.index.now (row_before change) (row_behind change) c.args.at c.take_pair.result) (sym c.in-Erased.is)
-    (pair_keeps c.args.view.now c.take_pair.new.view c.args.index.now (Some c.in-Erased.was.now) None c.args.at c.take_pair.result c.take_pair.ensures.areas)
+    (pair_keeps c.args.view.now c.take_pair.new.view c.args.index.now (Some c.in-Erased.was.now) None c.args.at c.take_pair.result c.take_pair.ensures.nodes)

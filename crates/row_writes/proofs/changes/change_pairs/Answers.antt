@@ -21,18 +21,18 @@ loop-place-preserved c = record {
   some = one_more c.args.view.now c.loop-place.view c.change_pair.new.view c.args.indexes.now c.loop-place.place c.index-indexes-place.result (row_before c.args.change) (row_behind c.args.change) c.args.at
       (search rules) (search rules) c.loop-place.invariant.some c.in_default.ensures.changes;
   wrote = one_keeps c.args.view.now c.loop-place.view c.change_pair.new.view c.args.indexes.now c.loop-place.place c.index-indexes-place.result (row_before c.args.change) (row_behind c.args.change) c.args.at
-      (search rules) (search rules) c.loop-place.invariant.some (slice_get-get_or c.args.indexes.now c.loop-place.place c.index-indexes-place.result (search rules) ∙ ap Some (sym c.index-indexes-place.is)) c.loop-place.invariant.wrote c.in_default.ensures.areas;
+      (search rules) (search rules) c.loop-place.invariant.some (slice_get-get_or c.args.indexes.now c.loop-place.place c.index-indexes-place.result (search rules) ∙ ap Some (sym c.index-indexes-place.is)) c.loop-place.invariant.wrote c.in_default.ensures.nodes;
   base = search rules;
 }
 
 pub returns-clause-changes : goal.returns-clause-changes
 returns-clause-changes c = all_changed c.args.view.now c.loop-place.view c.args.indexes.now c.loop-place.place (row_before c.args.change) (row_behind c.args.change) c.args.at (search rules) c.loop-place.invariant.some
 
-pub returns-in-Err-clause-areas : goal.returns-in-Err-clause-areas
-returns-in-Err-clause-areas c =
+pub returns-in-Err-clause-nodes : goal.returns-in-Err-clause-nodes
+returns-in-Err-clause-nodes c =
     subst (λ s. PairsKeep c.args.view.now c.change_pair.new.view c.args.indexes.now (row_before c.args.change) (row_behind c.args.change) c.args.at (Err s)) (sym c.row_stop.ensures)
     (one_stops_at c.args.view.now c.loop-place.view c.change_pair.new.view c.args.indexes.now c.loop-place.place c.index-indexes-place.result (row_before c.args.change) (row_behind c.args.change) c.args.at
-    (search rules) c.index-indexes-place.is c.loop-place.invariant.some (slice_get-get_or c.args.indexes.now c.loop-place.place c.index-indexes-place.result (search rules) ∙ ap Some (sym c.index-indexes-place.is)) c.in-Err.stop c.in-Err.ensures.areas)
+    (search rules) c.index-indexes-place.is c.loop-place.invariant.some (slice_get-get_or c.args.indexes.now c.loop-place.place c.index-indexes-place.result (search rules) ∙ ap Some (sym c.index-indexes-place.is)) c.in-Err.stop c.in-Err.ensures.nodes)
 
-pub returns-clause-areas : goal.returns-clause-areas
-returns-clause-areas c = c.loop-place.invariant.wrote
+pub returns-clause-nodes : goal.returns-clause-nodes
+returns-clause-nodes c = c.loop-place.invariant.wrote

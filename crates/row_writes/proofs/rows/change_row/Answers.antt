@@ -1,5 +1,5 @@
 use Rattle.row_writes.proofs.Lines.{no_image_changed, row_changed}
-use Rattle.row_writes.proofs.RowKept.{change_keeps}
+use Rattle.row_writes.proofs.RowKept.{change_keeps, change_areas}
 use Rattle.row_writes.proofs.rows.change_row.Goals as goal
 
 pub returns-in-Err-clause-changes : goal.returns-in-Err-clause-changes
@@ -12,5 +12,11 @@ returns-clause-changes c =
 
 pub returns-clause-areas : goal.returns-clause-areas
 returns-clause-areas c =
+    change_areas c.args.view.now c.change_pairs.new.view c.args.relation.now c.args.at c.args.was.now c.change_pairs.result
+    (change_keeps c.args.view.now c.put.new.self c.change_pairs.new.view c.args.relation.now c.args.row.now c.in-Ok.image c.in-Ok.ensures.image c.in-Ok.ensures.fits c.in-Ok.ensures.short
+    c.args.at c.in_ok-put.ensures.stands c.in_ok-put.ensures.laid c.put.ensures.known c.in_ok-put.ensures.areas c.args.was.now c.change_pairs.result c.change_pairs.ensures.nodes)
+
+pub returns-clause-nodes : goal.returns-clause-nodes
+returns-clause-nodes c =
     change_keeps c.args.view.now c.put.new.self c.change_pairs.new.view c.args.relation.now c.args.row.now c.in-Ok.image c.in-Ok.ensures.image c.in-Ok.ensures.fits c.in-Ok.ensures.short
-    c.args.at c.in_ok-put.ensures.stands c.in_ok-put.ensures.laid c.put.ensures.known c.in_ok-put.ensures.areas c.args.was.now c.change_pairs.result c.change_pairs.ensures.areas
+    c.args.at c.in_ok-put.ensures.stands c.in_ok-put.ensures.laid c.put.ensures.known c.in_ok-put.ensures.areas c.args.was.now c.change_pairs.result c.change_pairs.ensures.nodes

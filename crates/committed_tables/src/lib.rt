@@ -1,0 +1,6 @@
+//! Laws alone: the table of pages that a store keeps has the committed lines, if a line is put into it when its commit is answered, and a page when it is taken.
+#![tactic(auto)]
+
+mod laws;
+
+pub use laws::{a_table_begins, a_table_follows_commits, rooms_are_free, used_lines_are_committed};

@@ -1,0 +1,80 @@
+// The beginning, behind an opening.
+ghost use Rattle.std.specs.Prelude.{◌≡◌, ◌+◌, ◌≤◌, None, IfSome, IfOk, OnErr, IsErrOf, IsTrue};
+ghost use Rattle.rdb_outside.specs.Causes.{Rose};
+ghost use Rattle.rdb_outside.specs.Disk.{Pending, OnlyReads};
+ghost use Rattle.root_file.specs.Root.{IsAllowed};
+ghost use Rattle.stable_lines.specs.Progress.{Progress};
+ghost use Rattle.stable_lines.specs.Facts.{Facts};
+ghost use Rattle.disk_seats.specs.Ledgers.{new_ledger};
+ghost use Rattle.disk_seats.specs.Members.{LedgerFacts};
+ghost use Rattle.member_steps.specs.Beginning.{IsRaised, HasCeiling, IsAtRest};
+
+use line_moves::{make_stable, root_file, write_root};
+use line_store::Fault;
+use rdb_outside::Disk;
+use root_file::{Root, read_root};
+
+/// How many transaction numbers a ceiling leaves free when it is raised.
+pub const NUMBERS: u64 = 64;
+
+const LAST_CEILING: u64 = 4_611_686_018_427_387_904;
+
+// The root of a whole database with room for more transactions, or none where the numbers are used up.
+fn raised(root: &Root, next_tsn: u64) -> Option<Root>
+    requires { IsAllowed root.now }
+    ensures { IfSome result (IsRaised root.now next_tsn) }
+{
+    if next_tsn > LAST_CEILING - NUMBERS {
+        return None;
+    }
+    Some(Root {
+        format: root.format,
+        state: 1,
+        limits: root.limits,
+        ceiling: next_tsn + NUMBERS,
+        applied: root.applied,
+    })
+}
+
+// The root that leaves room behind a transaction number, as it is to be written.
+fn next_root<D: Disk>(disk: &mut D, next_tsn: u64) -> Result<Root, Fault>
+    ensures reads { OnlyReads (D.view disk.old) (D.view disk.new) }
+    ensures failed { IsErrOf result Fault.Failed
+        → Rose (D.view disk.old).faults (D.view disk.new).faults }
+    ensures raised { IfOk result (λ root. IsAllowed root × (root.state ≡ 1)
+        × (root.ceiling ≡ next_tsn + 64)) }
+    ensures limits { IfOk result (λ root. IsTrue (D.view disk.old).tells → (base : Progress)
+        → Facts (Pending (D.view disk.old)) base → root.limits ≡ base.limits) }
+{
+    let mut slot = [0; 1024];
+    disk.read(root_file(), 0, &mut slot)?;
+    let Ok(root) = read_root(&slot) else {
+        return Err(Fault::Bad(root_file(), 0));
+    };
+    let Some(next) = raised(&root, next_tsn) else {
+        return Err(Fault::Bad(root_file(), 0));
+    };
+    Ok(next)
+}
+
+/// Begins the transactions of a database at whose opening nothing is open: raises the ceiling, so that so many numbers may be drawn, and says of a restored database that it is used. One write and one barrier.
+pub fn begin_members<D: Disk>(disk: &mut D, next_tsn: u64) -> Result<Root, Fault>
+    ensures failed { IsErrOf result Fault.Failed
+        → Rose (D.view disk.old).faults (D.view disk.new).faults }
+
+    // Whatever it answers, the facts stay.
+    ensures keeps { IsTrue (D.view disk.old).tells → (base : Progress)
+        → Facts (Pending (D.view disk.old)) base → base.next_tsn ≡ next_tsn
+        → Facts (Pending (D.view disk.new)) base }
+
+    // The ledger begins, and so many numbers may be drawn.
+    ensures begins { IfOk result (λ root. IsTrue (D.view disk.old).tells → (base : Progress)
+        → Facts (Pending (D.view disk.old)) base → base.next_tsn ≡ next_tsn → IsAtRest base
+        → LedgerFacts (D.view disk.new) (new_ledger base (D.view disk.new).moment)
+        × HasCeiling (Pending (D.view disk.new)) (next_tsn + 64)) }
+{
+    let root = next_root(disk, next_tsn)?;
+    write_root(disk, &root)?;
+    make_stable(disk)?;
+    Ok(root)
+}

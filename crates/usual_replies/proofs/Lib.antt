@@ -1,0 +1,2 @@
+pub mod UsualReplies
+pub mod UsualMeanings
