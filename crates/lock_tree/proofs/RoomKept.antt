@@ -1,5 +1,5 @@
 -- Room that was taken at the start of a call lasts to its end.
-use Rattle.std.proofs.Common.{◌≡◌, ℕ, ◌+◌, ◌*◌, ◌-◌, ◌≤◌, Bool, true, refl, sym, ◌∙◌, ap, subst, inl, inr, List, length, vec_len, vec_capacity, arith}
+use Rattle.std.proofs.Common.{◌≡◌, ℕ, ◌+◌, ◌*◌, ◌-◌, ◌≤◌, Bool, true, refl, sym, ◌∙◌, ap, subst, inl, inr, List, [], ◌∷◌, ◌++◌, length, length-append, vec_len, vec_capacity, arith}
 use Rattle.std.specs.Prelude.{◌==◌, Some, is_some}
 use Rattle.std.proofs.lemmas.Bool.{false≢true, cases_Bool, eqb-true}
 use Rattle.std.proofs.lemmas.Nat.{mul-le}
@@ -9,6 +9,7 @@ use Rattle.rdb_types.specs.declared.node.Node.{Node}
 use Rattle.vms_locks.specs.Table.{Table}
 use Rattle.lock_needs.specs.declared.need.Need.{Need}
 use Rattle.lock_needs.specs.declared.party.OpenWant.{OpenWant}
+use Rattle.lock_needs.specs.declared.party.Asked.{Asked}
 use Rattle.lock_needs.specs.Party.{Party}
 use Rattle.lock_needs.specs.Nodes.{is_above, level_over, above_of}
 use Rattle.lock_needs.proofs.Above.{above-contains, above-level}
@@ -118,7 +119,7 @@ room-fewer owner p few many h r =
     let places : ℕ = length (needs_of (state_of p) owner) + 1 in
     record { table = omega (arith, mul-le few places many places h (omega arith), r.table); trail = omega (arith, h, r.trail) }
 
-shallow : (l : Level) → depth l ≤ 3
+pub shallow : (l : Level) → depth l ≤ 3
 shallow Area = omega arith
 shallow Range = omega arith
 shallow Page = omega arith
@@ -138,13 +139,17 @@ lower-level Line h = refl
 lower-level l h = absurd (false≢true h)
 
 -- one node further down
-lower-left : (n up : Node) → above_of n ≡ Some up → (4 - depth n.level) + 1 ≡ 4 - depth up.level
+pub lower-left : (n up : Node) → above_of n ≡ Some up → (4 - depth n.level) + 1 ≡ 4 - depth up.level
 lower-left n up e =
     subst (λ (l : Level). (4 - depth n.level) + 1 ≡ 4 - depth l) (sym (above-level n up e))
     (lower-level n.level (subst (λ (l : Level). is_above l n.level ≡ true) (above-level n up e) (contains-above up n (above-contains n up e))))
 
 pub room-lower : (owner : ℕ) (old new : Parts) (n up : Node) → above_of n ≡ Some up → ((nodes : ℕ) → HasRoomFor (nodes + 1) owner old → HasRoomFor nodes owner new) → HasRoomFor (4 - depth up.level) owner old → HasRoomFor (4 - depth n.level) owner new
 room-lower owner old new n up e leaves r = leaves (4 - depth n.level) (subst (λ (k : ℕ). HasRoomFor k owner old) (sym (lower-left n up e)) r)
+
+-- one entry more
+pub one-more : (trail new : List Asked) (a : Asked) → new ≡ trail ++ a ∷ [] → length new ≤ length trail + 1
+one-more trail new a e = subst (λ (xs : List Asked). length xs ≤ length trail + 1) (sym e) (omega (arith, length-append trail (a ∷ [])))
 
 -- ---- nothing that shows
 

@@ -1,6 +1,6 @@
 //! The steps of an open want, from the topmost node on its way down to the node of its need.
 
-ghost use Rattle.std.specs.Prelude.{◌≡◌, ◌<◌, ◌-◌, ◌++◌, ◌∷◌, [], Bool, true, false, Some, length, vec_len, vec_capacity};
+ghost use Rattle.std.specs.Prelude.{◌≡◌, ◌<◌, ◌≤◌, ◌+◌, ◌-◌, ◌++◌, ◌∷◌, [], Bool, true, false, Some, length, vec_len, vec_capacity};
 ghost use Rattle.vms_queues.specs.Modes.{at_most};
 ghost use Rattle.vms_queues.specs.Owners.{is_owner};
 ghost use Rattle.lock_needs.specs.Needs.{is_covered, is_plain};
@@ -194,6 +194,7 @@ impl Parts {
         requires plain { is_plain want.need ≡ true }
 
         ensures went { GoesDown owner want.need wait (StepFinishes owner result) (state_of self.old) (state_of self.new) }
+        ensures few { length self.new.trail.items ≤ length self.old.trail.items + 1 }
         ensures step { Steps (needs_of (state_of self.old) owner) (state_of self.new) owner want wait result }
         ensures progress { StepsOn owner (state_of self.old) (state_of self.new) result }
         ensures room { LeavesRoom owner self.old self.new result }
@@ -233,6 +234,7 @@ impl Parts {
         requires plain { is_plain want.need ≡ true }
 
         ensures went { GoesDown owner want.need wait (StepFinishes owner result) (state_of self.old) (state_of self.new) }
+        ensures few { length self.new.trail.items ≤ length self.old.trail.items + 1 }
         ensures step { Steps (needs_of (state_of self.old) owner) (state_of self.new) owner want wait result }
         ensures progress { StepsOn owner (state_of self.old) (state_of self.new) result }
         ensures room { LeavesRoom owner self.old self.new result }
@@ -260,6 +262,7 @@ impl Parts {
         requires plain { is_plain want.need ≡ true }
 
         ensures went { GoesDown owner want.need wait (Finishes owner result) (state_of self.old) (state_of self.new) }
+        ensures few { length self.new.trail.items ≤ length self.old.trail.items + (4 - depth want.here.level) }
         ensures answer { Answered (needs_of (state_of self.old) owner) (state_of self.new) owner want.need wait result }
         ensures progress { MovesOn owner (state_of self.old) (state_of self.new) result }
         ensures covered { is_covered (granted_at self.old.locks owner) want.need ≡ true → (result ≡ Got) × (self.new.locks ≡ self.old.locks) × (self.new.trail ≡ self.old.trail) }

@@ -1,4 +1,4 @@
-ghost use Rattle.std.specs.Prelude.{◌≡◌, ◌≤◌, ◌&&◌, ℕ, option_map, slice_get, vec_len, vec_capacity};
+ghost use Rattle.std.specs.Prelude.{◌≡◌, ◌≤◌, ◌&&◌, ℕ, length, option_map, slice_get, vec_len, vec_capacity};
 ghost use Rattle.rdb_types.specs.declared.node.Node.{Node};
 ghost use Rattle.lock_tree_laws.specs.Parties.{was_asked as was_asked_at};
 ghost use Rattle.lock_tree_laws.specs.Forest.{asks_of, is_asked_at, KeepsAsks};
@@ -25,7 +25,7 @@ pub(crate) fn cut_asks(trail: &mut Vec<Asked>, owner: u32, want: OpenWant)
 }
 
 // The node of the owner's entry at this place, from 0; None exactly where it has no more.
-pub(crate) fn nth_ask(trail: &[Asked], owner: u32, nth: u32) -> Option<Node>
+pub(crate) fn nth_ask(trail: &[Asked], owner: u32, nth: usize) -> Option<Node>
     ensures { result ≡ option_map (λ a. a.node) (slice_get (asks_of trail.now owner) nth) }
 {
     let mut left = nth;
@@ -38,4 +38,11 @@ pub(crate) fn nth_ask(trail: &[Asked], owner: u32, nth: u32) -> Option<Node>
         }
     }
     None
+}
+
+// How many entries the owner has.
+pub(crate) fn count_asks(trail: &[Asked], owner: u32) -> usize
+    ensures { result ≡ length (asks_of trail.now owner) }
+{
+    trail.iter().filter(|asked| asked.owner == owner).count()
 }

@@ -1,4 +1,4 @@
-ghost use Rattle.std.specs.Prelude.{◌≡◌, [], true, false, None, Some, is_some, option_map, slice_get, IfOk, OnOk, OnErr};
+ghost use Rattle.std.specs.Prelude.{◌≡◌, ◌≤◌, ◌+◌, [], length, true, false, None, Some, is_some, option_map, slice_get, IfOk, OnOk, OnErr};
 ghost use Rattle.rdb_types.specs.declared.node.Node.{Node};
 ghost use Rattle.vms_queues.specs.declared.lock_mode.Mode.TheVariants.{NL};
 ghost use Rattle.vms_queues.specs.Modes.{at_most};
@@ -20,7 +20,7 @@ use crate::notice::{Demotion, answer_notice};
 use crate::parties::forget;
 use crate::parts::Parts;
 use crate::releasing::release_owner;
-use crate::trail::nth_ask;
+use crate::trail::{count_asks, nth_ask};
 use indexmap::IndexMap;
 use lock_needs::{Need, Node};
 use lock_tree_laws::Want;
@@ -79,6 +79,7 @@ impl Tree {
         requires same { IsOf need (party_of self.old.parties owner).opened }
 
         ensures trail { IfOk result (λ a. AddsAsks owner need (trail_of_want self.old owner) self.new.trail) }
+        ensures few { IfOk result (λ a. length self.new.trail ≤ length (trail_of_want self.old owner) + 4) }
         ensures by_rule { IfOk result (λ a. GoesDown owner need wait (Finishes owner a) (entered self.old owner) self.new) }
         ensures locks { IfOk result (λ a. KeepsLocks owner self.old.table self.new.table) }
         ensures no_weaker { IfOk result (λ a. LeavesLocks owner self.old.table self.new.table) }
@@ -102,10 +103,17 @@ impl Tree {
 
     /// The node at this place, from 0, at which the owner's last want was asked, open or ended; None exactly where there are no
     /// more.
-    pub fn asked(&self, owner: u32, nth: u32) -> Option<Node>
+    pub fn asked(&self, owner: u32, nth: usize) -> Option<Node>
         ensures { result ≡ option_map (λ a. a.node) (slice_get (asks_of self.now.trail owner) nth) }
     {
         nth_ask(&self.parts.trail, owner, nth)
+    }
+
+    /// At how many nodes the owner's last want was asked, open or ended.
+    pub fn count_asks(&self, owner: u32) -> usize
+        ensures { result ≡ length (asks_of self.now.trail owner) }
+    {
+        count_asks(&self.parts.trail, owner)
     }
 
     /// Serves a notice at the node: where the owner's lock there is stronger than it has to be, it comes down to the least mode that

@@ -74,6 +74,7 @@ impl Parts {
         requires plain { is_plain need ≡ true }
 
         ensures went { IfOk result (λ a. GoesDown owner need wait (Finishes owner a) (entered (state_of self.old) owner) (state_of self.new)) }
+        ensures few { IfOk result (λ a. length self.new.trail.items ≤ length (trail_of_want (state_of self.old) owner) + 4) }
         ensures answer { IfOk result (Answered (needs_of (state_of self.old) owner) (state_of self.new) owner need wait) }
         ensures covered { is_covered (granted_at self.old.locks owner) need ≡ true → IfOk result (GotAtOnce owner (state_of self.old) (state_of self.new)) }
         ensures strong { is_covered (granted_at self.old.locks owner) need ≡ false → MayTakeWhole self.old.locks owner (opening_of need) → IfOk result (GotWhole owner (opening_of need) (state_of self.old) (state_of self.new)) }
@@ -98,6 +99,7 @@ impl Parts {
         requires plain { is_plain want.need ≡ true }
 
         ensures went { GoesDown owner want.need wait (Finishes owner result) (state_of self.old) (state_of self.new) }
+        ensures few { length self.new.trail.items ≤ length self.old.trail.items + 4 }
         ensures answer { Answered (needs_of (state_of self.old) owner) (state_of self.new) owner want.need wait result }
         ensures progress { MovesOn owner (state_of self.old) (state_of self.new) result }
         ensures whole { IsWhole (state_of self.new) }
@@ -118,6 +120,7 @@ impl Parts {
         requires same { IsOf need (open_want_of (state_of self.old) owner) }
 
         ensures went { IfOk result (λ a. GoesDown owner need wait (Finishes owner a) (entered (state_of self.old) owner) (state_of self.new)) }
+        ensures few { IfOk result (λ a. length self.new.trail.items ≤ length (trail_of_want (state_of self.old) owner) + 4) }
         ensures answer { IfOk result (Answered (needs_of (state_of self.old) owner) (state_of self.new) owner need wait) }
         ensures progress { is_some (open_want_of (state_of self.old) owner) ≡ true → IfOk result (MovesOn owner (state_of self.old) (state_of self.new)) }
         ensures covered { is_covered (granted_at self.old.locks owner) need ≡ true → IsLooking (open_want_of (state_of self.old) owner) → IfOk result (GotAtOnce owner (state_of self.old) (state_of self.new)) }
@@ -141,6 +144,7 @@ impl Parts {
         requires same { IsOf need (open_want_of (state_of self.old) owner) }
 
         ensures went { IfOk result (λ a. GoesDown owner need wait (Finishes owner a) (entered (state_of self.old) owner) (state_of self.new)) }
+        ensures few { IfOk result (λ a. length self.new.trail.items ≤ length (trail_of_want (state_of self.old) owner) + 4) }
         ensures trail { IfOk result (λ a. AddsAsks owner need (trail_of_want (state_of self.old) owner) self.new.trail.items) }
         ensures locks { IfOk result (λ a. KeepsLocks owner self.old.locks self.new.locks) }
         ensures no_weaker { IfOk result (λ a. LeavesLocks owner self.old.locks self.new.locks) }

@@ -1,4 +1,4 @@
-use Rattle.std.proofs.Common.{◌≡◌, ◌∙◌, refl, sym, ap, subst, inl, inr, true, false, List}
+use Rattle.std.proofs.Common.{arith, ◌≡◌, ◌∙◌, refl, sym, ap, subst, inl, inr, true, false, List}
 use Rattle.lock_needs.specs.declared.need.Need.{Need}
 use Rattle.lock_needs.specs.declared.party.OpenWant.{OpenWant}
 use Rattle.lock_needs.specs.Needs.{is_covered}
@@ -12,7 +12,7 @@ use Rattle.lock_tree.specs.declared.steps.Step.TheVariants.{Down, Ends}
 use Rattle.lock_tree.specs.declared.parts.Parts.{Parts}
 use Rattle.lock_tree_laws.specs.declared.answer.Want.TheVariants.{Got}
 use Rattle.lock_tree.proofs.AtOnce.{EndsHere, GotHere, no-step_down, same-answer, still}
-use Rattle.lock_tree.proofs.RoomKept.{room-one, room-lower}
+use Rattle.lock_tree.proofs.RoomKept.{room-one, room-lower, lower-left, shallow}
 use Rattle.lock_tree.specs.States.{state_of}
 use Rattle.lock_tree_laws.proofs.MeasureFalls.{never-then, never-moves, stays-never}
 use Rattle.lock_tree.proofs.parts.Parts.go_down.Goals as goal
@@ -30,6 +30,7 @@ loop-next-init c = (
   c.requires.room,
   stays-never (state_of c.args.self.now) c.args.owner,
   λ h. (refl, refl),
+  omega arith,
   goes-none c.args.owner c.args.want.need c.args.wait _ (state_of c.args.self.now) (state_of c.args.self.now) refl refl,
 )
 
@@ -46,7 +47,8 @@ loop-next-preserved c =
       λ h. absurd (no-step_down c.args.owner c.loop-next.self c.loop-next.want c.in-Down.next
           (still (EndsHere c.args.owner) c.args.self.now c.loop-next.self c.args.want c.loop-next.want (c.loop-next.invariant.7 h) h)
           (λ covered. (c.in-Down.ensures.covered covered).0) (λ bare may. (c.in-Down.ensures.strong bare may).0)),
-      goes-then c.args.owner c.args.want.need c.args.wait _ (state_of c.args.self.now) (state_of c.loop-next.self) (state_of c.step.new.self) c.loop-next.invariant.3 c.loop-next.invariant.8
+      omega (arith, c.in-Down.ensures.few, lower-left c.in-Down.next.here c.loop-next.want.here step.3, c.loop-next.invariant.8),
+      goes-then c.args.owner c.args.want.need c.args.wait _ (state_of c.args.self.now) (state_of c.loop-next.self) (state_of c.step.new.self) c.loop-next.invariant.3 c.loop-next.invariant.9
           (subst (λ (n : Need). GoesDown c.args.owner n c.args.wait (StepFinishes c.args.owner (Down c.in-Down.next)) (state_of c.loop-next.self) (state_of c.step.new.self)) c.loop-next.invariant.2 c.in-Down.ensures.went),
     )
 
@@ -79,5 +81,8 @@ returns-in-Ends-clause-answer c =
 
 pub returns-in-Ends-clause-went : goal.returns-in-Ends-clause-went
 returns-in-Ends-clause-went c =
-    goes-then c.args.owner c.args.want.need c.args.wait _ (state_of c.args.self.now) (state_of c.loop-next.self) (state_of c.step.new.self) c.loop-next.invariant.3 c.loop-next.invariant.8
+    goes-then c.args.owner c.args.want.need c.args.wait _ (state_of c.args.self.now) (state_of c.loop-next.self) (state_of c.step.new.self) c.loop-next.invariant.3 c.loop-next.invariant.9
     (subst (λ (n : Need). GoesDown c.args.owner n c.args.wait (StepFinishes c.args.owner (Ends c.in-Ends.answer)) (state_of c.loop-next.self) (state_of c.step.new.self)) c.loop-next.invariant.2 c.in-Ends.ensures.went)
+
+pub returns-in-Ends-clause-few : goal.returns-in-Ends-clause-few
+returns-in-Ends-clause-few c = omega (arith, c.in-Ends.ensures.few, c.loop-next.invariant.8, shallow c.loop-next.want.here.level)

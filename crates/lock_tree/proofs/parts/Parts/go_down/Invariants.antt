@@ -1,4 +1,4 @@
-use Rattle.std.proofs.Common.{◌≡◌, ◌-◌, Some}
+use Rattle.std.proofs.Common.{◌≡◌, ◌-◌, ◌+◌, ◌≤◌, length, Some}
 use Rattle.lock_tree_laws.specs.Parties.{unasked}
 use Rattle.lock_tree_laws.specs.Forest.{IsWhole, KeepsParties, opened_of}
 use Rattle.lock_tree_laws.specs.Progress.{NeverRises}
@@ -17,6 +17,8 @@ invariant-loop-next l =
     × HasRoomFor (4 - depth l.want.here.level) l.owner l.self × NeverRises l.owner (state_of l.fn.self) (state_of l.self)
     -- where the want can end at once, this is the first step
     × (EndsHere l.owner l.fn.self l.fn.want → (l.self ≡ l.fn.self) × (l.want ≡ l.fn.want))
+    -- each node that was asked lies above its own
+    × (length l.self.trail.items + (4 - depth l.want.here.level) ≤ length l.fn.self.trail.items + (4 - depth l.fn.want.here.level))
     × GoesDown l.owner l.fn.want.need l.fn.wait (λ last new. new.entries ≡ last.entries) (state_of l.fn.self) (state_of l.self)
 
 abbrev pub decreases-loop-next : goal.decreases-loop-next

@@ -1,8 +1,9 @@
-use Rattle.std.proofs.Common.{◌≡◌, List, sym, ◌∙◌, ap, subst, true, false, refl, arith}
+use Rattle.std.proofs.Common.{◌≡◌, List, length, sym, ◌∙◌, ap, subst, true, false, refl, arith}
 use Rattle.std.proofs.lemmas.Bool.{false≢true}
 use Rattle.std.specs.Prelude.{Option, is_some}
 use Rattle.lock_needs.specs.declared.need.Need.{Need}
 use Rattle.lock_needs.specs.declared.party.OpenWant.{OpenWant}
+use Rattle.lock_needs.specs.declared.party.Asked.{Asked}
 use Rattle.lock_needs.specs.Party.{Party}
 use Rattle.lock_needs.specs.Nodes.{is_on}
 use Rattle.lock_needs.specs.Needs.{is_covered}
@@ -122,3 +123,8 @@ returns-clause-went c =
     (goes-none c.args.owner c.args.need c.args.wait _ (entered s c.args.owner) m
     (opened-trail s c.args.owner w c.cut_asks.new.trail.items c.requires.resting c.cut_asks.ensures.cut (never-asked w c.opening-want.ensures.unasked c.opening-want.ensures.top)) refl)
     (subst (λ (n : Need). GoesDown c.args.owner n c.args.wait (Finishes c.args.owner c.go_down.result) m (state_of c.go_down.new.self)) c.opening-want.ensures.need c.go_down.ensures.went)
+
+pub returns-clause-few : goal.returns-clause-few
+returns-clause-few c =
+    let cut = ap (λ (trail : List Asked). length trail) (opened-trail (state_of c.args.self.now) c.args.owner c.opening-want.result c.cut_asks.new.trail.items c.requires.resting c.cut_asks.ensures.cut (never-asked c.opening-want.result c.opening-want.ensures.unasked c.opening-want.ensures.top)) in
+    omega (arith, cut, c.go_down.ensures.few)

@@ -7,7 +7,7 @@ use Rattle.lock_tree.specs.States.{state_of}
 use Rattle.lock_tree_laws.specs.Wanted.{needs_of}
 use Rattle.lock_needs.specs.Party.{Party}
 use Rattle.lock_tree_laws.proofs.KeptPlaces.{places-same}
-use Rattle.lock_tree.proofs.RoomKept.{room-same, leaves-after}
+use Rattle.lock_tree.proofs.RoomKept.{room-same, leaves-after, one-more}
 use Rattle.lock_tree_laws.proofs.Opened.{still-open, unasked-quiet, got-covered_need}
 use Rattle.vms_locks.specs.declared.answer.Enq.TheVariants.{Granted}
 use Rattle.lock_tree_laws.proofs.OthersLeft.{same-leaves, answer-leaves}
@@ -100,3 +100,6 @@ returns-clause-went c =
     goes-then c.args.owner c.args.want.need c.args.wait _ s (state_of c.get_whole.new.self) (state_of c.ask_node.new.self) (ap (λ (p : Party). p.needs) left.0)
     (goes-none c.args.owner c.args.want.need c.args.wait _ s (state_of c.get_whole.new.self) (ap (λ v. v.items) left.2) (ap (λ (t : Table). t.entries) left.1))
     c.ask_node.ensures.went
+
+pub returns-then-get_whole-clause-few : goal.returns-then-get_whole-clause-few
+returns-then-get_whole-clause-few c = one-more c.args.self.now.trail.items c.get_whole.new.self.trail.items _ (c.get_whole.ensures.asked c.if-get_whole.true)

@@ -1,0 +1,9 @@
+pub mod Stands
+pub mod Jobs
+pub mod Tests
+pub mod Fetched
+pub mod Unchanged
+pub mod Asked
+pub mod Called
+pub mod Serves
+pub mod Falls

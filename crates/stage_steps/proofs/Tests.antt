@@ -1,0 +1,14 @@
+-- What tests of two parts say.
+use Rattle.std.proofs.Common.{◌≡◌, ◌||◌, ◌&&◌, Bool, true, false, not, refl, sym}
+use Rattle.std.proofs.lemmas.Bool.{false≢true}
+
+-- the first statement of a transaction that a refusal ends
+pub first-starts : (spoken starts : Bool) → (spoken || not starts) ≡ false → (spoken ≡ false) × (starts ≡ true)
+first-starts true starts h = absurd (false≢true (sym h))
+first-starts false true h = (refl, refl)
+first-starts false false h = absurd (false≢true (sym h))
+
+pub neither : (a b : Bool) → (a || b) ≡ false → (a ≡ false) × (b ≡ false)
+neither true b h = absurd (false≢true (sym h))
+neither false true h = absurd (false≢true (sym h))
+neither false false h = (refl, refl)

@@ -1,0 +1,21 @@
+use Rattle.std.proofs.Common.{◌≡◌, ◌+◌, ◌≤◌, ℕ, refl, sym, ◌∙◌, ap, subst, map, drop, length}
+use Rattle.lock_tree_laws.specs.Forest.{asks_of}
+use Rattle.lock_tree_laws.specs.Wanted.{trail_of_want}
+use Rattle.stage_steps.proofs.Asked.{asked-nodes, few-asked}
+use Rattle.stage_steps.proofs.wanting.call.Goals as goal
+
+pub asked_behind-nodes-requires : goal.asked_behind-nodes-requires
+asked_behind-nodes-requires c =
+    record {
+      few = subst (λ (k : ℕ). length (asks_of c.want.new.self.trail c.args.s.number) ≤ k + 4) (sym c.count_asked-before.ensures) (few-asked c.args.s.number (trail_of_want c.args.tree.now c.args.s.number) c.want.new.self.trail c.in_ok-answer.ensures.trail.nodes c.in_ok-answer.ensures.trail.added c.in_ok-answer.ensures.few);
+    }
+
+pub returns-clause-called : goal.returns-clause-called
+returns-clause-called c =
+    record {
+      call = record { same = c.requires.same; others = c.want.ensures.others; asks = c.in_ok-answer.ensures.trail };
+      nodes = sym (c.asked_behind-nodes.ensures ∙ (ap (λ (k : ℕ). map (λ a. a.node) (drop k (asks_of c.want.new.self.trail c.args.s.number))) c.count_asked-before.ensures ∙ asked-nodes c.args.s.number (trail_of_want c.args.tree.now c.args.s.number) c.want.new.self.trail c.in_ok-answer.ensures.trail.nodes c.in_ok-answer.ensures.trail.added));
+      need = refl;
+      apart = c.mode_of.ensures.apart;
+      answered = c.in_ok-answer.ensures.answer;
+    }

@@ -1,0 +1,38 @@
+-- A call on the tree of locks for a stage's lock.
+use Rattle.std.specs.Prelude.{◌≡◌, ◌⊎◌, ℕ, Bool, false}
+use Rattle.rdo_ast.specs.declared.reply.Reply.{Reply}
+use Rattle.rdo_ast.specs.declared.reply.Reply.TheVariants.{LockConflict, Deadlock as CyclicWait, NoMemory}
+use Rattle.rdo_ast.specs.Tree.{Uttered}
+use Rattle.rdo_ast.specs.Views.{uttered_of}
+use Rattle.rdb_account.specs.Legal.{ends_by}
+use Rattle.session_states.specs.declared.stage.Stage.{Stage}
+use Rattle.session_states.specs.declared.stage.Stage.TheVariants.{Working, Gathering, Reserving, Saying}
+use Rattle.lock_tree_laws.specs.declared.answer.Want.TheVariants.{Conflict, Deadlock}
+use Rattle.lock_needs.specs.declared.need.Need.{Need}
+use Rattle.lock_tree_laws.specs.Forest.{State, NeedsAreApart}
+use Rattle.lock_tree_laws.specs.Wanted.{Answered, needs_of}
+use Rattle.lock_tree_laws.specs.declared.answer.Want.{Want}
+use Rattle.lock_ties.specs.Ties.{IsCall}
+use Rattle.stage_steps.specs.declared.wanting.Called.{Called}
+
+-- a statement is under way that doesn't end its transaction
+abbrev pub IsOfStatement : Stage → Type 0
+IsOfStatement (Working item work) = ends_by (uttered_of item) ≡ false
+IsOfStatement (Gathering item gather later place) = ends_by (uttered_of item) ≡ false
+IsOfStatement (Reserving item worked locks place) = ends_by (uttered_of item) ≡ false
+IsOfStatement (Saying item worked laying) = ends_by (uttered_of item) ≡ false
+IsOfStatement _ = ⊥
+
+-- The reply to an item whose lock is refused so. Where no memory is found to name a cycle, that is said, as it is to a COMMIT.
+abbrev pub IsReplyTo : Uttered → Want → Reply → Type 0
+IsReplyTo item (Conflict t) reply = (reply ≡ LockConflict t) × (ends_by item ≡ false)
+IsReplyTo item (Deadlock cycle) reply = ((reply ≡ CyclicWait cycle) × (ends_by item ≡ false)) ⊎ (reply ≡ NoMemory)
+IsReplyTo item _ reply = ⊥
+
+-- The want was answered so, and was asked at these nodes.
+pub record IsCalled (s : ℕ) (n : Need) (wait : Bool) (old new : State) (x : Called) : Type 0 where
+  pub call : IsCall s n old new
+  pub nodes : call.asks.nodes ≡ x.asking.nodes
+  pub need : x.asking.need ≡ n
+  pub apart : NeedsAreApart new
+  pub answered : Answered (needs_of old s) new s n wait x.answer

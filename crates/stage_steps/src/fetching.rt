@@ -1,0 +1,46 @@
+//! What the job of a statement lacked is read, once it is locked.
+ghost use Rattle.std.specs.Prelude.{◌≡◌, ℕ};
+ghost use Rattle.line_store.specs.Seats.{IsMember, IsWriting};
+ghost use Rattle.stage_steps.specs.Happenings.{events_of};
+ghost use Rattle.stage_steps.specs.Turns.{Comes, at_stage, shared};
+
+use crate::common::Common;
+use crate::happening::{Turned, failed, quiet};
+use crate::terms::Terms;
+use crate::working::forgo;
+use line_store::{LineStore, Progress, ReadStop};
+use line_view::Need;
+use rdb_types::Session;
+use rdo_ast::syntax::Item;
+use session_jobs::Statements;
+use session_states::{Stage, Work};
+use stepped_jobs::fetch;
+
+/// Reads what the job of a statement lacked; then the job is due again.
+pub fn fetch_locked<S: Statements, L: LineStore>(
+    common: &mut Common<L>,
+    s: Session,
+    terms: Terms,
+    item: Item,
+    need: Need,
+) -> Turned
+    requires member { IsMember s.number }
+    requires seat { IsWriting ((L.shelf common.old.store).seat s.number) }
+    ensures { (dead : ℕ) →
+        Comes S.stands s.number (shared common.old.word (L.shelf common.old.store) common.old.tree dead) (at_stage terms (Stage.Working item (Work.Fetching need)))
+        (shared common.new.word (L.shelf common.new.store) common.new.tree dead) result.phase (events_of s.number result.happened) }
+{
+    // (a room is lodged in, and not fetched)
+    if let Need::Room(_) = need {
+        return quiet(terms.at(Stage::Working(item, Work::Due)));
+    }
+    let mut terms = terms;
+    match fetch(&mut common.store, s, need, &mut terms.known) {
+        Ok(Progress::Done) => quiet(terms.at(Stage::Working(item, Work::Due))),
+        Ok(Progress::More) => quiet(terms.at(Stage::Working(item, Work::Fetching(need)))),
+        Err(ReadStop::NoMemory) => forgo::<S, L>(common, s, terms, item),
+        Err(ReadStop::Fault(fault)) => {
+            failed(fault, terms.at(Stage::Working(item, Work::Fetching(need))))
+        }
+    }
+}

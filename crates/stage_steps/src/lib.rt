@@ -1,0 +1,35 @@
+//! The steps of a session over lines, a function a stage: each calls the store, the tree of locks and who works statements, and its contract is
+//! the step that the laws of sessions have of it.
+#![tactic(auto)]
+
+mod asks;
+mod common;
+mod dying;
+mod ending;
+mod fetching;
+mod happening;
+mod items;
+mod outside;
+mod reading;
+mod saying;
+mod serving;
+mod storing;
+mod terms;
+mod wanting;
+mod working;
+
+pub use asks::Asks;
+pub use common::Common;
+pub use dying::{Recovery, die, recover};
+pub use ending::{commit, go_away, land, leave, roll_back};
+pub use fetching::fetch_locked;
+pub use happening::{Answer, Asking, Happening, Turned};
+pub use outside::{put_away, start};
+pub use reading::{
+    compute_reading, fetch_reading, forgo_reading, hand_out_reading, leave_reading, take_up_reading,
+};
+pub use saying::{change, lay};
+pub use serving::serve;
+pub use terms::{ReaderTerms, Terms};
+pub use wanting::{want, want_journal};
+pub use working::{compute, forgo, hand_out, open, take_back, take_up};

@@ -1,0 +1,210 @@
+//! A read-only transaction, which wants no lock and has nothing to undo.
+ghost use Rattle.std.specs.Prelude.{◌≡◌, ◌||◌, ℕ, [], not, true, false};
+ghost use Rattle.rdo_ast.specs.Views.{uttered_of};
+ghost use Rattle.line_store.specs.Seats.{IsMember, IsReader};
+ghost use Rattle.line_view.specs.Held.{knows};
+ghost use Rattle.session_jobs.specs.Jobs.{IsFound};
+ghost use Rattle.session_states.specs.Shared.{Shared, with_shelf};
+ghost use Rattle.session_states.specs.declared.stage.ReaderWork.{ReaderWork as ReaderWorkValue};
+ghost use Rattle.stage_steps.specs.Happenings.{events_of};
+ghost use Rattle.stage_steps.specs.Turns.{Comes, Ends, TakesUp, reads_at};
+
+use crate::happening::{Answer, Happening, Turned, failed, quiet};
+use crate::items::{End, end_of, goes_on, refused};
+use crate::terms::ReaderTerms;
+use line_store::{LineStore, Progress, ReadStop};
+use line_view::Need;
+use rdb_types::{Copied, Session, Word};
+use rdo_ast::reply::{Reply, Standing};
+use rdo_ast::syntax::Item;
+use session_jobs::{Found, Job, Outcome, Statements, TxRecord};
+use session_states::{Phase, ReaderStage, ReaderWork};
+use std::alloc::Global;
+use stepped_jobs::fetch;
+
+/// Takes up the next item. A COMMIT or ROLLBACK is done at once.
+pub fn take_up_reading<S: Statements, L: LineStore>(
+    store: &mut L,
+    s: Session,
+    terms: ReaderTerms,
+    item: Item,
+) -> Turned
+    requires member { IsMember s.number }
+    requires seat { IsReader ((L.shelf store.old).seat s.number) }
+    ensures { (c : Shared) → TakesUp S.stands s.number item (with_shelf (L.shelf store.old) c) (reads_at terms ReaderStage.Between) (with_shelf (L.shelf store.new) c) result.phase (events_of s.number result.happened) }
+{
+    match end_of(&item) {
+        End::Nothing => quiet(terms.at(ReaderStage::Working(item, ReaderWork::Due))),
+        End::Commit => {
+            store.end_reading(s);
+            let moment = store.moment();
+            Turned {
+                phase: Phase::Outside,
+                happened: Happening::Committed(moment),
+            }
+        }
+        End::Rollback => {
+            store.end_reading(s);
+            Turned {
+                phase: Phase::Outside,
+                happened: Happening::RolledBack,
+            }
+        }
+    }
+}
+
+/// The script is at its end, and the transaction with it.
+pub fn leave_reading<S: Statements, L: LineStore>(
+    store: &mut L,
+    s: Session,
+    _terms: ReaderTerms,
+) -> Turned
+    requires member { IsMember s.number }
+    requires seat { IsReader ((L.shelf store.old).seat s.number) }
+    ensures { (c : Shared) → Ends S.stands s.number (with_shelf (L.shelf store.old) c) (reads_at _terms ReaderStage.Between) (with_shelf (L.shelf store.new) c) result.phase (events_of s.number result.happened) }
+{
+    store.end_reading(s);
+    Turned {
+        phase: Phase::Over,
+        happened: Happening::Left,
+    }
+}
+
+/// The job of a statement is handed out.
+pub fn hand_out_reading<S: Statements>(terms: ReaderTerms, item: Item) -> Phase
+    ensures { (s : ℕ) (c : Shared) → Comes S.stands s c (reads_at terms (ReaderStage.Working item ReaderWork.Due)) c result [] }
+{
+    terms.at(ReaderStage::Working(item, ReaderWork::Out))
+}
+
+// The transaction behind a statement that was said.
+fn spoken(terms: ReaderTerms) -> Phase
+    ensures { result ≡ reads_at (record { standing = Standing.ReadOnly; known = terms.known; spoken = true }) ReaderStage.Between }
+{
+    ReaderTerms {
+        standing: Standing::ReadOnly,
+        known: terms.known,
+        spoken: true,
+    }
+    .at(ReaderStage::Between)
+}
+
+/// Refuses a statement, since no memory was found. The refusal of a START_TRANSACTION leaves no transaction.
+pub fn forgo_reading<S: Statements, L: LineStore>(
+    alloc: Global,
+    store: &mut L,
+    s: Session,
+    terms: ReaderTerms,
+    item: Item,
+) -> Turned
+    requires member { IsMember s.number }
+    requires seat { IsReader ((L.shelf store.old).seat s.number) }
+    ensures { (c : Shared) (work : ReaderWorkValue) →
+        Comes S.stands s.number (with_shelf (L.shelf store.old) c) (reads_at terms (ReaderStage.Working item work)) (with_shelf (L.shelf store.new) c) result.phase (events_of s.number result.happened) }
+{
+    if goes_on(terms.spoken, &item) {
+        return Turned {
+            phase: spoken(terms),
+            happened: Happening::Answered(refused(alloc, item, Reply::NoMemory)),
+        };
+    }
+    store.end_reading(s);
+    Turned {
+        phase: Phase::Outside,
+        happened: Happening::Unstarted(refused(alloc, item, Reply::NoMemory)),
+    }
+}
+
+/// Says what a statement came to.
+fn say_reading<S: Statements>(terms: ReaderTerms, item: Item, worked: TxRecord) -> Turned
+    ensures { (s : ℕ) (c : Shared) → IsFound S.stands c.word terms.standing (uttered_of item) (knows terms.known) (Found.Done worked) →
+        Comes S.stands s c (reads_at terms (ReaderStage.Working item ReaderWork.Out)) c result.phase (events_of s result.happened) }
+{
+    Turned {
+        phase: spoken(terms),
+        happened: Happening::Answered(Answer {
+            item,
+            keys: worked.choices,
+            reply: worked.reply,
+        }),
+    }
+}
+
+/// Works the job of a statement at once, and takes what it came to: it is said, or what it lacks is read.
+pub fn compute_reading<S: Statements, L: LineStore>(
+    alloc: Global,
+    word: &Word,
+    store: &mut L,
+    s: Session,
+    terms: ReaderTerms,
+    item: Item,
+) -> Turned
+    requires member { IsMember s.number }
+    requires seat { IsReader ((L.shelf store.old).seat s.number) }
+    ensures { (c : Shared) → c.word ≡ word.now →
+        Comes S.stands s.number (with_shelf (L.shelf store.old) c) (reads_at terms (ReaderStage.Working item ReaderWork.Out)) (with_shelf (L.shelf store.new) c) result.phase (events_of s.number result.happened) }
+{
+    let Ok(word) = word.copied(alloc) else {
+        return forgo_reading::<S, L>(alloc, store, s, terms, item);
+    };
+    let job = Job {
+        alloc,
+        word,
+        standing: terms.standing,
+        item,
+        known: terms.known,
+    };
+    let (job, _, found) = Outcome::<S>::of(job, S::nothing()).into_parts();
+    let back = ReaderTerms {
+        standing: job.standing,
+        known: job.known,
+        spoken: terms.spoken,
+    };
+    match found {
+        Found::Done(worked) => say_reading::<S>(back, job.item, worked),
+        Found::Missing { next, later: _ } => {
+            quiet(back.at(ReaderStage::Working(job.item, ReaderWork::Fetching(next))))
+        }
+        // There is no such line.
+        Found::Bad(_) => quiet(back.at(ReaderStage::Working(job.item, ReaderWork::Due))),
+        Found::Unworked => Turned {
+            phase: back.at(ReaderStage::Working(job.item, ReaderWork::Due)),
+            happened: Happening::Unworked,
+        },
+        Found::NoMemory => forgo_reading::<S, L>(alloc, store, s, back, job.item),
+    }
+}
+
+/// Reads what the job of a statement lacked; then the job is due again.
+pub fn fetch_reading<S: Statements, L: LineStore>(
+    alloc: Global,
+    store: &mut L,
+    s: Session,
+    terms: ReaderTerms,
+    item: Item,
+    need: Need,
+) -> Turned
+    requires member { IsMember s.number }
+    requires seat { IsReader ((L.shelf store.old).seat s.number) }
+    ensures { (c : Shared) →
+        Comes S.stands s.number (with_shelf (L.shelf store.old) c) (reads_at terms (ReaderStage.Working item (ReaderWork.Fetching need))) (with_shelf (L.shelf store.new) c) result.phase (events_of s.number result.happened) }
+{
+    // (readers write on no room)
+    if let Need::Room(_) = need {
+        return quiet(terms.at(ReaderStage::Working(item, ReaderWork::Due)));
+    }
+    let mut terms = terms;
+    match fetch(store, s, need, &mut terms.known) {
+        Ok(Progress::Done) => quiet(terms.at(ReaderStage::Working(item, ReaderWork::Due))),
+        Ok(Progress::More) => {
+            quiet(terms.at(ReaderStage::Working(item, ReaderWork::Fetching(need))))
+        }
+        Err(ReadStop::NoMemory) => forgo_reading::<S, L>(alloc, store, s, terms, item),
+        Err(ReadStop::Fault(fault)) => {
+            failed(
+                fault,
+                terms.at(ReaderStage::Working(item, ReaderWork::Fetching(need))),
+            )
+        }
+    }
+}
