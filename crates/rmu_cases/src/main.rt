@@ -19,7 +19,7 @@ fn say(rt: &HostRuntime, disk: &mut MemoryDisk, text: &str) -> Result<(), NoMemo
         "disk" => *disk = new_disk(rt.alloc(), rest)?,
         "verify" => tell_verified(rt, disk)?,
         "page" => tell_page(rt, disk, rest)?,
-        "dump" => tell_dump(rt, disk)?,
+        "dump" => tell_dump(rt, disk),
         "lines" => tell_lines(rt, disk, rest),
         _ => if !write_bytes(disk, about, rest) {
             let _ = println!(rt; "NO SUCH CASE");

@@ -2,34 +2,19 @@
 use crate::texts::{tell_stop, tell_text};
 use before_images::read_before_images;
 use case_words::{number_of, put_bytes, put_key};
+use database_dump::dump;
 use lines_at_rest::read_area;
 use rdb_outside::MemoryDisk;
-use rdb_types::{Bytes, Items, NoMemory};
-use rmu_dump::{count_groups, root_of};
-use rmu_texts::{Dump, dump_text};
+use rdb_types::Bytes;
 
-// The root and the groups, without relations and indexes.
-fn dump_of(rt: &HostRuntime, disk: &mut MemoryDisk) -> Option<Dump> {
-    let root = root_of(disk).ok()?;
-    let groups = count_groups(disk).ok()?;
-    Some(Dump {
-        root,
-        relations: Items::new(rt.alloc()),
-        indexes: Items::new(rt.alloc()),
-        groups,
-    })
-}
-
-/// The root, and how many groups the journal has.
-pub fn tell_dump(rt: &HostRuntime, disk: &mut MemoryDisk) -> Result<(), NoMemory> {
-    let Some(dump) = dump_of(rt, disk) else {
-        tell_stop(rt);
-        return Ok(());
-    };
+/// The dump of the whole database.
+pub fn tell_dump(rt: &HostRuntime, disk: &mut MemoryDisk) {
     let mut text = Bytes::new(rt.alloc());
-    dump_text(&dump, &mut text)?;
+    if dump(rt.alloc(), disk, &mut text).is_err() {
+        tell_stop(rt);
+        return;
+    }
     tell_text(rt, text.as_slice());
-    Ok(())
 }
 
 /// `lines 16` tells the present lines of logical area 16, with the open transactions undone.
