@@ -1,5 +1,5 @@
 -- A session that died is undone, or its commit stands.
-use Rattle.std.proofs.Common.{◌≡◌, ℕ, ◌∷◌, [], Bool, true, false, List, Ok}
+use Rattle.std.proofs.Common.{ℕ, ◌∷◌, [], Bool, true, false, List, Ok}
 use Rattle.rdb_types.specs.declared.session.Moment.{Moment}
 use Rattle.rdo_ast.specs.declared.syntax.Item.{Item}
 use Rattle.lock_tree_laws.specs.Forest.{State}

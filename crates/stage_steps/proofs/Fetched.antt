@@ -1,5 +1,5 @@
 -- What was locked is read, by a step of the store.
-use Rattle.std.proofs.Common.{◌≡◌, ℕ, Bool, [], List, refl, ap}
+use Rattle.std.proofs.Common.{ℕ, Bool, [], List, refl, ap}
 use Rattle.rdo_ast.specs.declared.reply.Standing.{Standing}
 use Rattle.rdo_ast.specs.declared.syntax.Item.{Item}
 use Rattle.lock_needs.specs.declared.need.Need.{Need as LockNeed}

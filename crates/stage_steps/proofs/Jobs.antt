@@ -1,5 +1,5 @@
 -- What was found for a job is so for the parts that the job was made of.
-use Rattle.std.proofs.Common.{◌≡◌, ℕ, ◌∷◌, [], List, refl, ◌∙◌, sym, ap, subst, None}
+use Rattle.std.proofs.Common.{◌≡◌, ℕ, ◌∷◌, [], List, ◌∙◌, sym, ap, subst, None}
 use Rattle.rdo_ast.specs.declared.reply.Standing.{Standing}
 use Rattle.rdo_ast.specs.declared.reply.Standing.TheVariants.{Closed}
 use Rattle.rdo_ast.specs.declared.syntax.Item.{Item}

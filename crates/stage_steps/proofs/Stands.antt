@@ -1,8 +1,7 @@
 -- The store makes a call for a session and the session stands as it did.
-use Rattle.std.proofs.Common.{◌≡◌, ℕ, [], Bool, not, Ok, Err, List, true, false, refl, ◌∙◌, sym, ap, subst, Some, None}
-use Rattle.std.specs.Prelude.{Option, is_some}
+use Rattle.std.proofs.Common.{◌≡◌, ℕ, [], Bool, not, Ok, Err, true, false, refl, ◌∙◌, sym, ap, subst, None}
+use Rattle.std.specs.Prelude.{is_some}
 use Rattle.std.proofs.lemmas.Bool.{false≢true}
-use Rattle.rdo_ast.specs.declared.syntax.Item.{Item}
 use Rattle.line_store.specs.Seats.{Seat, outside, beginning, writing, changing, committing, rolling_back, closing, reading, dead, done_at, IsUnderWay, is_committing}
 use Rattle.line_store.specs.Shelves.{Shelf}
 use Rattle.line_store.specs.declared.answers.Progress.{Progress}
@@ -21,7 +20,6 @@ use Rattle.lock_tree_laws.specs.Room.{IsAsBefore}
 use Rattle.session_jobs.specs.Records.{Model}
 use Rattle.session_states.specs.declared.stage.Phase.{Phase}
 use Rattle.session_states.specs.Shared.{Shared, RestsWith}
-use Rattle.rdb_account.specs.Events.{Event}
 use Rattle.stage_steps.specs.declared.happening.Happening.{Happening}
 use Rattle.stage_steps.specs.Happenings.{events_of}
 use Rattle.stage_steps.specs.Stores.{HasGoneOn}

@@ -1,7 +1,7 @@
 -- What tests of two parts say.
 use Rattle.line_view.specs.declared.writes.Write.{Write}
 use Rattle.session_limits.specs.Some.{WriteSome}
-use Rattle.std.proofs.Common.{List, [], ◌∷◌, ◌≡◌, ◌||◌, ◌&&◌, Bool, true, false, not, refl, sym}
+use Rattle.std.proofs.Common.{List, [], ◌∷◌, ◌≡◌, ◌||◌, Bool, true, false, not, refl, sym}
 use Rattle.std.proofs.lemmas.Bool.{false≢true}
 
 -- the first statement of a transaction that a refusal ends

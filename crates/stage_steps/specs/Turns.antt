@@ -6,7 +6,6 @@ use Rattle.rdb_account.specs.Events.{Event}
 use Rattle.rdb_account.specs.Legal.{ends_by}
 use Rattle.session_jobs.specs.Records.{Model}
 use Rattle.session_states.specs.declared.stage.Stage.{Stage}
-use Rattle.session_states.specs.declared.stage.Writer.{Writer}
 use Rattle.session_states.specs.declared.stage.Phase.{Phase}
 use Rattle.session_states.specs.declared.stage.Phase.TheVariants.{Writing, Reading}
 use Rattle.session_states.specs.declared.stage.ReaderStage.{ReaderStage}

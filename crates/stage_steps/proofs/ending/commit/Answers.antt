@@ -1,4 +1,4 @@
-use Rattle.std.proofs.Common.{refl, ◌∙◌, ◌≡◌, subst, sym}
+use Rattle.std.proofs.Common.{refl, ◌∙◌, subst, sym}
 use Rattle.session_states.specs.declared.stage.End.TheVariants.{Ready}
 use Rattle.session_states.specs.declared.stage.Stage.TheVariants.{Ending}
 use Rattle.line_store.specs.declared.answers.CommitStop.{CommitStop}

@@ -4,7 +4,6 @@ use Rattle.session_states.specs.declared.stage.Stage.TheVariants.{Working}
 use Rattle.session_states.specs.States.{session}
 use Rattle.session_states.proofs.InTurn.{steps-on}
 use Rattle.stage_steps.specs.Turns.{at_stage, shared}
-use Rattle.stage_steps.specs.Happenings.{events_of}
 use Rattle.stage_steps.proofs.Stands.{as-before, comes-as, was-read, was-more, was-forgone, was-fault}
 use Rattle.stage_steps.proofs.Fetched.{read-on, read-up}
 use Rattle.stage_steps.proofs.fetching.fetch_locked.Goals as goal

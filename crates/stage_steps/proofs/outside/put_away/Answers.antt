@@ -1,4 +1,3 @@
-use Rattle.std.proofs.Common.{◌∙◌}
 use Rattle.session_states.specs.declared.stage.Phase.TheVariants.{Closing}
 use Rattle.session_states.specs.Shared.{with_shelf}
 use Rattle.session_states.proofs.Parting.{goes-on, closes-on}

@@ -1,4 +1,4 @@
-use Rattle.std.proofs.Common.{refl, ap, subst, sym, ◌≡◌, ◌∙◌, ℕ, List}
+use Rattle.std.proofs.Common.{ap, subst, sym, ◌≡◌, ◌∙◌, ℕ, List}
 use Rattle.session_jobs.specs.declared.jobs.Job.{Job}
 use Rattle.session_states.specs.declared.stage.ReaderWork.TheVariants.{Out}
 use Rattle.session_states.specs.declared.stage.ReaderStage.TheVariants.{Working}

@@ -1,4 +1,4 @@
-use Rattle.std.proofs.Common.{◌≡◌, ◌+◌, ◌≤◌, ℕ, refl, sym, ◌∙◌, ap, subst, map, drop, length}
+use Rattle.std.proofs.Common.{◌+◌, ◌≤◌, ℕ, refl, sym, ◌∙◌, ap, subst, map, drop, length}
 use Rattle.lock_tree_laws.specs.Forest.{asks_of}
 use Rattle.lock_tree_laws.specs.Wanted.{trail_of_want}
 use Rattle.stage_steps.proofs.Asked.{asked-nodes, few-asked}

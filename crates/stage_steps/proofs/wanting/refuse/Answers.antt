@@ -1,5 +1,3 @@
-use Rattle.std.proofs.Common.{◌∙◌}
-use Rattle.stage_steps.specs.Turns.{shared}
 use Rattle.stage_steps.proofs.Stands.{as-before, released}
 use Rattle.stage_steps.proofs.Called.{refused-step, unstarted-step}
 use Rattle.stage_steps.proofs.wanting.refuse.Goals as goal

@@ -1,4 +1,3 @@
-use Rattle.std.proofs.Common.{◌∙◌}
 use Rattle.stage_steps.specs.Turns.{shared}
 use Rattle.rdo_ast.specs.Views.{uttered_of}
 use Rattle.session_states.proofs.Forgoing.{forgoes-on}
