@@ -1,5 +1,6 @@
 """Compares rdb with the sqlite3 shell, its disk with plain C, and an index with a map of std. Each work is run several times; the best time of each counts."""
 import os
+import resource
 import shutil
 import subprocess
 import sys
@@ -9,6 +10,7 @@ import time
 RDB = sys.argv[1]
 FILE_BENCH = os.path.abspath(os.path.join(os.path.dirname(RDB), "..", "..", "file_bench", "out", "file_bench"))
 INDEX_BENCH = os.path.abspath(os.path.join(os.path.dirname(RDB), "..", "..", "index_bench", "out", "index_bench"))
+STATEMENT_BENCH = os.path.abspath(os.path.join(os.path.dirname(RDB), "..", "..", "statement_bench", "out", "statement_bench"))
 LOCK_BENCH = os.path.abspath(os.path.join(os.path.dirname(RDB), "..", "..", "lock_bench", "out", "lock_bench"))
 SESSIONS = 16
 ROUNDS = 5
@@ -233,6 +235,87 @@ def compare_index(keys, rounds, folder):
     print(f"{count:,} finds: {ours / count * 1e6:.2f} us each, {visits / count:.1f} nodes each; a map of std and decoding {theirs / count * 1e6:.2f} us, ratio {ours / theirs:.2f}")
 
 
+def used(words, text, folder):
+    """The least seconds of the processor that a program takes over a text, which other work on the machine disturbs less than the clock, and what it writes."""
+    best, printed = None, b""
+    for _ in range(ROUNDS):
+        before = resource.getrusage(resource.RUSAGE_CHILDREN)
+        done = subprocess.run(words, input=text.encode(), capture_output=True, cwd=folder)
+        after = resource.getrusage(resource.RUSAGE_CHILDREN)
+        if done.returncode != 0:
+            return None, done.stdout
+        took = after.ru_utime + after.ru_stime - before.ru_utime - before.ru_stime
+        best, printed = took if best is None else min(best, took), done.stdout
+    return best, printed
+
+
+def lines_rows(name, count, behind="!\n"):
+    """A relation with a unique index and so many rows, as RDO and as SQL. DEFINE INDEX has read its lines, which are forgotten."""
+    rdo = f"DEFINE RELATION {name}. A DATATYPE IS SIGNED LONGWORD. B DATATYPE IS TEXT SIZE IS 20. END {name} RELATION.\nDEFINE INDEX {name}_A FOR {name} DUPLICATES ARE NOT ALLOWED. A. END {name}_A INDEX.\n" + behind
+    sql = f"CREATE TABLE {name} (A INTEGER, B TEXT);\nCREATE UNIQUE INDEX {name}_A ON {name} (A);\n"
+    return rdo + rdo_rows(name, mixed(count)), sql + sql_rows(name, mixed(count))
+
+
+def lines_stores(count):
+    return (*lines_rows("R", 0), *lines_rows("S", count))
+
+
+def lines_known(count):
+    return (*lines_rows("R", 0), *lines_rows("S", count, ""))
+
+
+def lines_finds(count):
+    rdo = "".join(f"FOR X IN R WITH X.A = {n} PRINT X.B END_FOR\n" for n in mixed(count))
+    return (*lines_rows("R", count), rdo, "".join(f"SELECT B FROM R WHERE A = {n};\n" for n in mixed(count)))
+
+
+def lines_scan(count):
+    return (*lines_rows("R", count), "FOR X IN R PRINT X.A, X.B END_FOR\n" * 10, "SELECT A, B FROM R;\n" * 10)
+
+
+def lines_join(count):
+    rdo, sql = (r + s for r, s in zip(lines_rows("R", count), lines_rows("S", count)))
+    return rdo, sql, "FOR X IN R CROSS Y IN S WITH Y.A = X.A PRINT X.B, Y.B END_FOR\n" * 10, "SELECT X.B, Y.B FROM R X CROSS JOIN S Y WHERE Y.A = X.A;\n" * 10
+
+
+def lines_changes(count):
+    rdo = "".join(f"FOR X IN R WITH X.A BETWEEN 0 AND {count - 1} MODIFY X USING X.B = 'time {n}'; END_MODIFY END_FOR\n" for n in range(10))
+    sql = "".join(f"UPDATE R SET B = 'time {n}' WHERE A BETWEEN 0 AND {count - 1};\n" for n in range(10))
+    asked = "PRINT COUNT OF X IN R WITH X.B = 'time 9'\n", "SELECT COUNT(*) FROM R WHERE B = 'time 9';\n"
+    return (*lines_rows("R", 4 * count), rdo + asked[0], sql + asked[1])
+
+
+def lines_work(make, count, folder):
+    """What a work over lines takes beside its set-up, in seconds, the shell's, and whether both write the same."""
+    rdo_before, sql_before, rdo, sql = make(count)
+    rdo_before, sql_before = "START_TRANSACTION READ_WRITE\n" + rdo_before, "BEGIN;\n" + sql_before
+    before, _ = used([STATEMENT_BENCH], rdo_before, folder)
+    whole, printed = used([STATEMENT_BENCH], rdo_before + "!\n" + rdo, folder)
+    if None in (before, whole):
+        return None, None, False
+    if SQLITE is None:
+        return whole - before, None, True
+    shell = [SQLITE, "-separator", " ", ":memory:"]
+    (theirs_before, _), (theirs, answer) = used(shell, sql_before, folder), used(shell, sql_before + sql, folder)
+    return whole - before, theirs - theirs_before, printed == answer
+
+
+def compare_lines(name, make, count, folder):
+    """A work over lines in memory beside the shell, and beside a quarter of it."""
+    if not os.path.exists(STATEMENT_BENCH):
+        print(f"{name}: skipped, statement_bench isn't built (rt run < stdin in crates/statement_bench)")
+        return
+    ours, theirs, is_same = lines_work(make, count, folder)
+    quarter, _, _ = lines_work(make, count // 4, folder)
+    if None in (ours, quarter) or not is_same:
+        print(f"{name}: a program failed, or the outputs differ")
+        return
+    line = f"over lines in memory, {name}: {ours * 1000:.0f} ms"
+    if theirs is not None:
+        line += f", sqlite3 {theirs * 1000:.0f} ms, ratio {ours / theirs:.2f}"
+    print(f"{line}; 4 times the work takes {ours / quarter:.1f} times as long")
+
+
 def growth_of_locks(owners, locks, folder):
     """Line locks of owners that share pages, and what four times the work takes."""
     if not os.path.exists(LOCK_BENCH):
@@ -262,3 +345,9 @@ with tempfile.TemporaryDirectory() as folder:
     growth_of_scan(262144, folder)
     compare_index(5000, 20, folder)
     growth_of_locks(16, 40000, folder)
+    compare_lines("20,000 STOREs under a unique index", lines_stores, 20000, folder)
+    compare_lines("5,000 STOREs where all lines of the relation are known", lines_known, 5000, folder)
+    compare_lines("20,000 look-ups by key", lines_finds, 20000, folder)
+    compare_lines("10 scans of 20,000 rows", lines_scan, 20000, folder)
+    compare_lines("10 joins of 2,000 by 2,000 rows by an index", lines_join, 2000, folder)
+    compare_lines("10 times 5,000 of 20,000 rows changed by an index range", lines_changes, 5000, folder)

@@ -7,9 +7,10 @@ ghost use Rattle.area_files.specs.Areas.{IsDataPage};
 ghost use Rattle.stable_lines.specs.Slots.{area_file};
 ghost use Rattle.stable_lines.specs.Progress.{Open, Flight};
 ghost use Rattle.line_moves.specs.Calls.{OnlyWrites};
-ghost use Rattle.line_moves.specs.Lines.{AreDistinct};
+ghost use Rattle.line_moves.specs.Lines.{AreDistinct, PutsOnly};
 ghost use Rattle.line_seat.specs.Groups.{AreAllowed, ArePlaced, HaveClasses};
 ghost use Rattle.line_seat.specs.declared.commit.CommitStage.TheVariants.{Gathering};
+ghost use Rattle.line_seat.specs.Stages.{IsNextStage};
 ghost use Rattle.disk_seats.specs.Ledgers.{Ledger, this_commit, held_up, behind_step};
 ghost use Rattle.disk_seats.specs.Members.{LedgerFacts};
 
@@ -43,12 +44,20 @@ pub fn go_on<D: Disk>(
     ensures failed { IsErrOf result Fault.Failed
         → Rose (D.view disk.old).faults (D.view disk.new).faults }
 
+    // Whatever it answers, each line is as it was, or one of these.
+    ensures changes { IsTrue (D.view disk.old).tells → (ledger : Ledger)
+        → LedgerFacts (D.view disk.old) ledger
+        → PutsOnly lines.now (D.view disk.old).content (D.view disk.new).content }
+
     // Whatever it answers, the commit can go on.
     ensures keeps { IsTrue (D.view disk.old).tells
         → (ledger : Ledger) (member : ℕ) (transaction : Open) (flight : Flight)
         → LedgerFacts (D.view disk.old) ledger
         → let its = this_commit member transaction stage group lines.now classes.now flight in
         ledger.commit ≡ Some its → LedgerFacts (D.view disk.new) (held_up its ledger) }
+
+    // The stages come one behind another.
+    ensures order { IfOk result (IsNextStage stage) }
 
     // It is further, and at the last stage committed.
     ensures goes_on { IfOk result (λ next. IsTrue (D.view disk.old).tells

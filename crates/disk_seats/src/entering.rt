@@ -7,7 +7,7 @@ ghost use Rattle.area_files.specs.Areas.{IsDataPage, space_page_of};
 ghost use Rattle.space_pages.specs.Space.{IsSpace};
 ghost use Rattle.stable_lines.specs.Slots.{area_file, IsAreaFile};
 ghost use Rattle.line_moves.specs.Calls.{OnlyWrites};
-ghost use Rattle.line_moves.specs.Changes.{IsForArea, IsPlaceOf};
+ghost use Rattle.line_moves.specs.Changes.{IsForArea, IsPlaceOf, KeepsLines};
 ghost use Rattle.line_moves.specs.Lines.{ChangedLines};
 ghost use Rattle.disk_seats.specs.Ledgers.{Ledger};
 ghost use Rattle.disk_seats.specs.Members.{LedgerFacts, AreOwned, IsOneArea};
@@ -34,6 +34,11 @@ pub fn enter<D: Disk>(disk: &mut D, place: Place, area: u32) -> Result<(), Fault
         → slice_get lines at ≡ Some line → IsPlaceOf line.0 place → area ≡ line.0.area
         → IsOneArea lines → AreOwned (D.view disk.old).content lines at
         → AreOwned (D.view disk.new).content lines (at + 1)) }
+
+    // Whatever it answers, no line is another.
+    ensures lines { IsTrue (D.view disk.old).tells → (ledger : Ledger)
+        → LedgerFacts (D.view disk.old) ledger
+        → KeepsLines (D.view disk.old).content (D.view disk.new).content }
 
     // Whatever it answers, the ledger stays, where nobody commits and no other area has the page.
     ensures keeps { IsTrue (D.view disk.old).tells → (ledger : Ledger)

@@ -6,6 +6,7 @@ ghost use Rattle.area_files.specs.Areas.{IsDataPage};
 ghost use Rattle.stable_lines.specs.Slots.{area_file, Undo};
 ghost use Rattle.stable_lines.specs.Progress.{Open};
 ghost use Rattle.line_moves.specs.Calls.{OnlyWrites};
+ghost use Rattle.line_opening.specs.Undoing.{PutsBack};
 ghost use Rattle.disk_seats.specs.Ledgers.{Ledger, undoing, stands_as};
 ghost use Rattle.disk_seats.specs.Members.{LedgerFacts};
 
@@ -39,6 +40,14 @@ pub fn undo<D: Disk>(
         → LedgerFacts (D.view disk.old) ledger → ledger.standing member ≡ undoing all left
         → ledger.base.going member ≡ Some transaction → tsn ≡ transaction.tsn
         → pages ≡ ledger.base.limits.pages → ⊥ }
+
+    // Whatever it answers, each line is as it was, or its before-image again.
+    ensures restores { IsTrue (D.view disk.old).tells
+        → (ledger : Ledger) (transaction : Open) (all : List Undo)
+        → LedgerFacts (D.view disk.old) ledger → ledger.standing member ≡ undoing all left
+        → ledger.base.going member ≡ Some transaction → tsn ≡ transaction.tsn
+        → pages ≡ ledger.base.limits.pages
+        → PutsBack transaction (D.view disk.old).content (D.view disk.new).content }
 
     // Whatever it answers, the ledger stays, and it may be begun again.
     ensures keeps { IsTrue (D.view disk.old).tells

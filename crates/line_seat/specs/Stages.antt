@@ -21,6 +21,18 @@ progress_at Sealing now f = flying f now
 progress_at Landing now f = flying f now
 progress_at Committed now f = landed f now
 
+-- what comes behind a stage
+abbrev pub IsNextStage : CommitStage → CommitStage → Type 0
+IsNextStage (Changing at) (Changing next) = Unit {0}
+IsNextStage (Changing at) (Imaging next) = Unit {0}
+IsNextStage (Imaging at) (Imaging next) = Unit {0}
+IsNextStage (Imaging at) Gathering = Unit {0}
+IsNextStage Gathering Sealing = Unit {0}
+IsNextStage Sealing Landing = Unit {0}
+IsNextStage Landing Committed = Unit {0}
+IsNextStage Committed Committed = Unit {0}
+IsNextStage _ _ = ⊥
+
 -- what was done before the stage
 abbrev pub IsDone : CommitStage → View → Progress → GroupPlace → ChangedLines → Flight → Type 0
 IsDone (Changing at) v now place lines f = MayPutAll (Pending v) now lines × AreEntered (Pending v) lines × ArePut v.content lines at

@@ -12,7 +12,7 @@ ghost use Rattle.stable_lines.specs.Facts.{Facts};
 ghost use Rattle.line_moves.specs.Calls.{OnlyWrites};
 ghost use Rattle.line_moves.specs.Lines.{AreDistinct, PutsOnly};
 ghost use Rattle.line_seat.specs.Groups.{AreAllowed, ArePlaced, HaveClasses, IsCommitting, group_line};
-ghost use Rattle.line_seat.specs.Stages.{CommitFacts, progress_at};
+ghost use Rattle.line_seat.specs.Stages.{CommitFacts, IsNextStage, progress_at};
 ghost use Rattle.line_seat.specs.declared.commit.CommitStage.TheVariants.{Changing, Imaging, Gathering};
 
 use aij_journal::{AijPart, GroupLine};
@@ -97,6 +97,7 @@ fn change_page<D: Disk>(
     ensures changes { IsTrue (D.view disk.old).tells → (now : Progress)
         → Facts (Pending (D.view disk.old)) now
         → PutsOnly lines.now (D.view disk.old).content (D.view disk.new).content }
+    ensures order { IfOk result (IsNextStage (Changing at)) }
     ensures goes_on { IfOk result (λ next. IsTrue (D.view disk.old).tells
         → (now : Progress) (group : _) (flight : Flight)
         → CommitFacts (Changing at) (D.view disk.old) now group lines.now flight
@@ -132,6 +133,7 @@ fn journal_image<D: Disk>(
     ensures writes { (slot : ℕ) × OnlyWrites aij_named slot (D.view disk.old) (D.view disk.new) }
     ensures failed { IsErrOf result Fault.Failed
         → Rose (D.view disk.old).faults (D.view disk.new).faults }
+    ensures order { IfOk result (IsNextStage (Imaging at)) }
     ensures goes_on { IfOk result (λ next. IsTrue (D.view disk.old).tells
         → (now : Progress) (member : ℕ) (transaction : Open) (flight : Flight)
         → IsCommitting now member transaction group lines.now classes.now flight
@@ -182,6 +184,9 @@ pub fn commit_step<D: Disk>(
     ensures changes { IsTrue (D.view disk.old).tells → (now : Progress)
         → Facts (Pending (D.view disk.old)) now
         → PutsOnly lines.now (D.view disk.old).content (D.view disk.new).content }
+
+    // The stages come one behind another.
+    ensures order { IfOk result (IsNextStage stage) }
 
     // What the commit rests on at a stage, it rests on at the next. At the last one the group is committed.
     ensures goes_on { IfOk result (λ next. IsTrue (D.view disk.old).tells

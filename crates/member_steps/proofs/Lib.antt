@@ -3,3 +3,5 @@ pub mod Journals
 pub mod Told
 pub mod Begun
 pub mod Standings
+pub mod Ceilings
+pub mod Left

@@ -15,7 +15,7 @@ use Rattle.disk_seats.specs.Members.{LedgerFacts}
 use Rattle.disk_seats.proofs.Progresses.{shape_of, same_going}
 use Rattle.member_steps.specs.Standing.{IsBefore}
 
-same_lines : (v : View) (g : Ledger) → LedgerFacts v g → (progress_of g).lines ≡ g.base.lines
+pub same_lines : (v : View) (g : Ledger) → LedgerFacts v g → (progress_of g).lines ≡ g.base.lines
 same_lines v g was = ⊎_elim (λ e. ap (λ (p : Progress). p.lines) e) (λ up. ap (λ (p : Progress). p.lines) up.now_is) (shape_of v g was)
 
 module _ (v : View) (left : LeftNow v v.content) (g : Ledger) (was : LedgerFacts v g) (key : Dbkey) where

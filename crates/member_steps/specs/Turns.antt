@@ -12,6 +12,7 @@ use Rattle.line_seat.specs.declared.commit.GroupPlace.{GroupPlace}
 use Rattle.line_seat.specs.declared.commit.CommitStage.{CommitStage}
 use Rattle.line_seat.specs.declared.commit.CommitStage.TheVariants.{Changing, Imaging, Gathering, Sealing, Landing, Committed}
 use Rattle.line_seat.specs.Seats.{secured}
+use Rattle.line_seat.specs.Stages.{IsNextStage}
 use Rattle.line_seat.specs.Groups.{AreOfEntries, IsCommitting}
 use Rattle.disk_seats.specs.Ledgers.{changing, Commit, Ledger, all_stable, this_commit, new_commit, taken_up, held_up, behind_step}
 use Rattle.disk_seats.specs.Members.{AreOwned, IsOneArea}
@@ -46,6 +47,14 @@ plan_of member o all place lines classes flight = record { member = member; tran
 -- the commit of the plan at a stage
 abbrev pub commit_of_plan : Plan → CommitStage → Commit
 commit_of_plan plan stage = this_commit plan.member (record { tsn = plan.transaction.tsn; entries = plan.all }) stage plan.place plan.lines plan.classes plan.flight
+
+-- what comes behind a turn
+abbrev pub IsNextTurn : CommitTurn → CommitTurn → Type 0
+IsNextTurn (Entering at) (Entering next) = Unit {0}
+IsNextTurn (Entering at) Securing = Unit {0}
+IsNextTurn Securing (Going (Changing at)) = Unit {0}
+IsNextTurn (Going stage) (Going next) = IsNextStage stage next
+IsNextTurn _ _ = ⊥
 
 -- what a turn of the commit rests on, beside what the ledger says
 abbrev pub TurnFacts : CommitTurn → View → Ledger → Plan → Type 0

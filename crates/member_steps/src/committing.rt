@@ -1,15 +1,20 @@
 // A member's commit, from its pages' owners to its answer.
-ghost use Rattle.std.specs.Prelude.{◌≡◌, ◌+◌, ◌≤◌, ◌<◌, ◌^◌, ℕ, List, length, IfOk, IsErrOf, IsTrue};
+ghost use Rattle.std.specs.Prelude.{◌≡◌, ◌≢◌, ◌+◌, ◌≤◌, ◌<◌, ◌^◌, ℕ, List, length, IfOk, IsErrOf, IsTrue};
+ghost use Rattle.rdb_types.specs.declared.file.FileId.{FileId as File};
+ghost use Rattle.rdb_types.specs.declared.file.FileKind.TheVariants.{Snap};
 ghost use Rattle.rdb_outside.specs.Causes.{Rose};
-ghost use Rattle.stable_lines.specs.Slots.{Undo};
+ghost use Rattle.rdb_outside.specs.Disk.{OnlyReads};
+ghost use Rattle.stable_lines.specs.Slots.{Undo, area_file};
 ghost use Rattle.stable_lines.specs.Progress.{Open, Flight};
-ghost use Rattle.line_moves.specs.Lines.{AreDistinct};
+ghost use Rattle.line_moves.specs.Calls.{OnlyWrites};
+ghost use Rattle.line_moves.specs.Changes.{KeepsLines};
+ghost use Rattle.line_moves.specs.Lines.{AreDistinct, PutsOnly};
 ghost use Rattle.line_seat.specs.Groups.{AreAllowed, ArePlaced, HaveClasses};
 ghost use Rattle.line_seat.specs.declared.commit.CommitStage.TheVariants.{Gathering};
 ghost use Rattle.disk_seats.specs.Ledgers.{Ledger};
 ghost use Rattle.disk_seats.specs.Members.{LedgerFacts};
 ghost use Rattle.member_steps.specs.declared.committing.CommitTurn.TheVariants.{Entering, Securing, Going};
-ghost use Rattle.member_steps.specs.Turns.{Plan, plan_of, TurnFacts, NextFacts, ledger_behind, ledger_held};
+ghost use Rattle.member_steps.specs.Turns.{IsNextTurn, Plan, plan_of, TurnFacts, NextFacts, ledger_behind, ledger_held};
 
 use disk_seats::{enter, go_on, settle};
 use line_moves::place_of;
@@ -36,8 +41,14 @@ fn enter_next<D: Disk>(
     lines: &[(Dbkey, Line)],
 ) -> Result<CommitTurn, Fault>
     requires placed { ArePlaced lines.now }
+    ensures writes { (file : ℕ) × (slot : ℕ)
+        × OnlyWrites (area_file file) slot (D.view disk.old) (D.view disk.new) }
     ensures failed { IsErrOf result Fault.Failed
         → Rose (D.view disk.old).faults (D.view disk.new).faults }
+    ensures lines { IsTrue (D.view disk.old).tells → (ledger : Ledger)
+        → LedgerFacts (D.view disk.old) ledger
+        → KeepsLines (D.view disk.old).content (D.view disk.new).content }
+    ensures order { IfOk result (IsNextTurn (Entering at)) }
     ensures keeps { IsTrue (D.view disk.old).tells → (ledger : Ledger) (plan : Plan)
         → LedgerFacts (D.view disk.old) ledger → plan.lines ≡ lines.now
         → TurnFacts (Entering at) (D.view disk.old) ledger plan
@@ -61,6 +72,8 @@ fn enter_next<D: Disk>(
 
 // The barrier behind which the before-images stand and the pages may be written.
 fn secure<D: Disk>(disk: &mut D) -> Result<CommitTurn, Fault>
+    ensures reads { OnlyReads (D.view disk.old) (D.view disk.new) }
+    ensures order { IfOk result (IsNextTurn Securing) }
     ensures failed { IsErrOf result Fault.Failed
         → Rose (D.view disk.old).faults (D.view disk.new).faults }
     ensures keeps { IsTrue (D.view disk.old).tells → (ledger : Ledger)
@@ -92,14 +105,20 @@ fn go_further<D: Disk>(
     requires room { group.slot + (length lines.now + 1) < 2 ^ 32 }
     requires number { group.number ≤ 2 ^ 62 }
     requires tsn { group.tsn.number < 2 ^ 62 }
+    ensures writes { (file : File) × (slot : ℕ) × (file.kind ≢ Snap)
+        × OnlyWrites file slot (D.view disk.old) (D.view disk.new) }
     ensures failed { IsErrOf result Fault.Failed
         → Rose (D.view disk.old).faults (D.view disk.new).faults }
+    ensures changes { IsTrue (D.view disk.old).tells → (ledger : Ledger)
+        → LedgerFacts (D.view disk.old) ledger
+        → PutsOnly lines.now (D.view disk.old).content (D.view disk.new).content }
     ensures keeps { IsTrue (D.view disk.old).tells
         → (ledger : Ledger) (member : ℕ) (transaction : Open) (all : List Undo) (flight : Flight)
         → LedgerFacts (D.view disk.old) ledger
         → let plan = plan_of member transaction all group lines.now classes.now flight in
         TurnFacts (Going stage) (D.view disk.old) ledger plan
         → LedgerFacts (D.view disk.new) (ledger_held (Going stage) plan ledger) }
+    ensures order { IfOk result (IsNextTurn (Going stage)) }
     ensures goes_on { IfOk result (λ next. IsTrue (D.view disk.old).tells
         → (ledger : Ledger) (member : ℕ) (transaction : Open) (all : List Undo) (flight : Flight)
         → LedgerFacts (D.view disk.old) ledger
@@ -130,8 +149,17 @@ pub fn commit_next<D: Disk>(
     requires room { group.slot + (length lines.now + 1) < 2 ^ 32 }
     requires number { group.number ≤ 2 ^ 62 }
     requires tsn { group.tsn.number < 2 ^ 62 }
+
+    // It writes one slot at most, and none of a snapshot file.
+    ensures writes { (file : File) × (slot : ℕ) × (file.kind ≢ Snap)
+        × OnlyWrites file slot (D.view disk.old) (D.view disk.new) }
     ensures failed { IsErrOf result Fault.Failed
         → Rose (D.view disk.old).faults (D.view disk.new).faults }
+
+    // Whatever it answers, each line is as it was, or one of these.
+    ensures changes { IsTrue (D.view disk.old).tells → (ledger : Ledger)
+        → LedgerFacts (D.view disk.old) ledger
+        → PutsOnly lines.now (D.view disk.old).content (D.view disk.new).content }
 
     // Whatever it answers, the ledger stays, and the commit can go on.
     ensures keeps { IsTrue (D.view disk.old).tells
@@ -140,6 +168,9 @@ pub fn commit_next<D: Disk>(
         → let plan = plan_of member transaction all group lines.now classes.now flight in
         TurnFacts turn (D.view disk.old) ledger plan
         → LedgerFacts (D.view disk.new) (ledger_held turn plan ledger) }
+
+    // The turns come one behind another.
+    ensures order { IfOk result (IsNextTurn turn) }
 
     // It is further. At the last turn the lines are committed, since this moment.
     ensures goes_on { IfOk result (λ next. IsTrue (D.view disk.old).tells

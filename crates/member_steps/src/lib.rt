@@ -5,10 +5,12 @@ mod beginning;
 mod committing;
 mod journalling;
 mod judging;
+mod laws;
 mod reading;
 
 pub use beginning::{NUMBERS, begin_members};
 pub use committing::{CommitTurn, commit_next};
 pub use journalling::{Journalled, journal_next};
 pub use judging::has_commit;
-pub use reading::lines_that_stand;
+pub use laws::{a_ceiling_is_stable, a_ceiling_stays, pages_for_areas};
+pub use reading::{lines_that_stand, what_a_crash_leaves};

@@ -9,7 +9,8 @@ ghost use Rattle.stable_lines.specs.Progress.{Open};
 ghost use Rattle.stable_lines.specs.Facts.{IsNotOpen};
 ghost use Rattle.disk_seats.specs.Ledgers.{Ledger};
 ghost use Rattle.disk_seats.specs.Members.{LedgerFacts};
-ghost use Rattle.member_steps.specs.Standing.{IsBefore};
+ghost use Rattle.rdb_outside.specs.Disk.{Image, LeftNow};
+ghost use Rattle.member_steps.specs.Standing.{IsBefore, MayBeLeft};
 
 use rdb_outside::Disk;
 
@@ -24,4 +25,10 @@ pub fn lines_that_stand<D: Disk>(disk: &D)
         → ledger.base.going member ≡ Some transaction
         → (line_at (D.view disk.now).content key).tsn.number ≡ transaction.tsn.number
         → IsBefore (D.view disk.now).content ledger.base.lines member transaction key }
+{}
+
+/// What a crash may leave is an image that opening can start from, which stands for what is committed, or for that with the commit that is under way.
+pub fn what_a_crash_leaves<D: Disk>(disk: &D)
+    ensures { (ledger : Ledger) (image : Image) → LedgerFacts (D.view disk.now) ledger
+        → LeftNow (D.view disk.now) image → MayBeLeft ledger image }
 {}

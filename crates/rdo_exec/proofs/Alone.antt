@@ -1,7 +1,7 @@
 -- What an action comes to that is done over no lines.
 use Rattle.std.proofs.Common.{◌≡◌, ◌++◌, ℕ, true, false, cond, List, [], ◌∷◌, Some, None, option_map, refl, sym, ap, subst, ◌∙◌}
 use Rattle.rdo_ast.specs.declared.reply.Standing.{Standing}
-use Rattle.rdo_ast.specs.Tree.{Act, Command, store, for_each, print, modify, erase, perform, said}
+use Rattle.rdo_ast.specs.Tree.{Act, store, for_each, print, modify, erase, perform, said}
 use Rattle.rdb_meaning.specs.declared.tables.Tables.{Tables}
 use Rattle.rdb_meaning.specs.Contents.{no_tables, relation_named}
 use Rattle.rdb_meaning.specs.Checks.{Use, act_uses}

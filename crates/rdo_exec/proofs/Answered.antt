@@ -1,5 +1,5 @@
 -- What says nothing, a catalog that can't be read, and what is answered without a write.
-use Rattle.std.proofs.Common.{◌≡◌, ◌⊎◌, inl, inr, ℕ, Bool, true, false, cond, List, [], Some, None, Result, Ok, Err, refl, sym, ap, subst}
+use Rattle.std.proofs.Common.{◌≡◌, inl, inr, ℕ, Bool, true, false, cond, List, [], Some, None, Result, Ok, Err, refl, sym, ap, subst}
 use Rattle.std.specs.Prelude.{IfOk}
 use Rattle.rdb_types.specs.declared.memory.NoMemory.{NoMemory}
 use Rattle.rdo_ast.specs.declared.reply.Reply.TheVariants as r

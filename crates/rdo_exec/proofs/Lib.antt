@@ -12,3 +12,4 @@ pub mod Needs
 pub mod Asking
 pub mod Viewing
 pub mod Bound
+pub mod FirstNeeds

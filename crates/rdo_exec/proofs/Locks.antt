@@ -67,7 +67,7 @@ at_middle : (P : Dbkey → Type 0) (before behind : List Dbkey) (key : Dbkey) �
 at_middle P [] behind key each = each.0
 at_middle P (k ∷ ks) behind key each = at_middle P ks behind key each.1
 
-next_there : (known : Knowledge) (all : Lines) (key : Dbkey) → Agrees known all → ReadsTo known key → key.area ≡ 1
+pub next_there : (known : Knowledge) (all : Lines) (key : Dbkey) → Agrees known all → ReadsTo known key → key.area ≡ 1
 next_there known all key agrees reads =
     let keys = agrees.area 1 (line_keys reads.before ++ key ∷ reads.behind) reads.keys in
     eq_is key.area 1 (at_middle (λ (k : Dbkey). (k.area == 1) ≡ true) (line_keys reads.before) reads.behind key

@@ -6,3 +6,4 @@ pub mod Lasting
 pub mod Acted
 pub mod Defined
 pub mod Areas
+pub mod Needed

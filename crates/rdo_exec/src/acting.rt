@@ -11,6 +11,7 @@ ghost use Rattle.rdo_acts.specs.Ends.{reply_of};
 ghost use Rattle.rdo_acts.specs.Acted.{AreNeeds, NamesNeeds};
 ghost use Rattle.rdo_exec.specs.Coming.{IsCatalogOfKnown, Comes, ActStays};
 ghost use Rattle.rdo_exec.specs.Acted.{found_refused, Lists, AreTogether, IsFoundOf};
+ghost use Rattle.rdo_exec.specs.Needed.{ActNeeds};
 
 use crate::records::{Returned, answered_by};
 use crate::standing::standing_for;
@@ -118,6 +119,7 @@ fn run_from<'a>(
     requires bound { IsBoundAct (bound_act_of action.now) schema.now.tables [] }
     ensures known { result.known ≡ known }
     ensures stays { ActStays (written_act action.now) (knows known) result.found }
+    ensures needs { ActNeeds (written_act action.now) (knows known) result.found }
     ensures comes { (word : List ℕ) (standing : State) → act_refusal (written_act action.now) standing schema.now.tables ≡ None → behind ≡ standing_for (written_act action.now) standing
         → Comes word standing (said (perform (written_act action.now))) (knows known) result.found }
 {
@@ -145,6 +147,7 @@ fn run_with<'a>(
     requires bound { IsBoundAct (bound_act_of action.now) schema.now.tables [] }
     ensures known { result.known ≡ known }
     ensures stays { ActStays (written_act action.now) (knows known) result.found }
+    ensures needs { ActNeeds (written_act action.now) (knows known) result.found }
     ensures comes { (word : List ℕ) (standing : State) → act_refusal (written_act action.now) standing schema.now.tables ≡ None → behind ≡ standing_for (written_act action.now) standing
         → Comes word standing (said (perform (written_act action.now))) (knows known) result.found }
 {
@@ -163,6 +166,7 @@ fn run(
     requires bound { IsBoundAct (bound_act_of action.now) schema.now.tables [] }
     ensures known { result.known ≡ known }
     ensures stays { ActStays (written_act action.now) (knows known) result.found }
+    ensures needs { ActNeeds (written_act action.now) (knows known) result.found }
     ensures comes { (word : List ℕ) (standing : State) → act_refusal (written_act action.now) standing schema.now.tables ≡ None → behind ≡ standing_for (written_act action.now) standing
         → Comes word standing (said (perform (written_act action.now))) (knows known) result.found }
 {
@@ -187,6 +191,7 @@ fn run_behind(
     requires bound { IsBoundAct (bound_act_of action.now) schema.now.tables [] }
     ensures known { result.known ≡ known }
     ensures stays { ActStays (written_act action.now) (knows known) result.found }
+    ensures needs { ActNeeds (written_act action.now) (knows known) result.found }
     ensures comes { (word : List ℕ) (standing : State) → act_refusal (written_act action.now) standing schema.now.tables ≡ None → IfOk behind (λ left. left ≡ standing_for (written_act action.now) standing)
         → Comes word standing (said (perform (written_act action.now))) (knows known) result.found }
 {
@@ -210,6 +215,7 @@ pub(crate) fn act_by(
     requires catalog { IsCatalogOfKnown (knows known) schema.now }
     ensures known { result.known ≡ known }
     ensures stays { ActStays (act_of action.now) (knows known) result.found }
+    ensures needs { ActNeeds (act_of action.now) (knows known) result.found }
     ensures comes { (word : List ℕ) → Comes word standing.now (said (perform (act_of action.now))) (knows known) result.found }
 {
     let behind = standing_for(alloc, standing, action);

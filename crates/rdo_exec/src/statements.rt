@@ -9,9 +9,10 @@ ghost use Rattle.rdb_account.specs.Places.{begins};
 ghost use Rattle.line_view.specs.Held.{knows};
 ghost use Rattle.catalog.specs.Reading.{IsWhole, StopsCatalog};
 ghost use Rattle.sound_maps.specs.Maps.{IsSoundWith};
-ghost use Rattle.session_jobs.specs.Jobs.{IsFound, NamesOnce, NamesNoNeed};
+ghost use Rattle.session_jobs.specs.Jobs.{IsFound, IsFoundFor, HasCause, NamesOnce, IsOutside, NamesNoNeed};
 ghost use Rattle.rdo_exec.specs.Answers.{IsAnswered};
 ghost use Rattle.rdo_exec.specs.Left.{IsLeft};
+ghost use Rattle.rdo_exec.specs.Needed.{ItemNeeds};
 ghost use Rattle.rdo_exec.specs.Ways.{IsBare, IsReserving, IsViewing};
 ghost use Rattle.rdo_exec.specs.Coming.{IsCatalogOfKnown, Asks, Comes, FitsKnown};
 
@@ -73,6 +74,7 @@ fn work_by(
     requires standing { standing_refusal (command_of statement.now) standing.now ≡ None }
     ensures known { result.known ≡ known }
     ensures asked { Asks standing.now (said (command_of statement.now)) (knows known) result.found }
+    ensures needs { ItemNeeds (said (command_of statement.now)) (knows known) result.found }
     ensures comes { (word : List ℕ) → Comes word standing.now (said (command_of statement.now)) (knows known) result.found }
 {
     match statement {
@@ -108,6 +110,7 @@ fn viewed(
     ensures known { result.known ≡ known }
     ensures kept { FitsKnown result.kept (knows known) }
     ensures asked { Asks standing.now (said (command_of statement.now)) (knows known) result.found }
+    ensures needs { ItemNeeds (said (command_of statement.now)) (knows known) result.found }
     ensures comes { (word : List ℕ) → Comes word standing.now (said (command_of statement.now)) (knows known) result.found }
 {
     let schema = match catalog_of(alloc, &known, kept) {
@@ -142,6 +145,7 @@ fn work_statement(
     ensures known { result.known ≡ known }
     ensures kept { FitsKnown result.kept (knows known) }
     ensures asked { Asks standing.now (said (command_of statement.now)) (knows known) result.found }
+    ensures needs { ItemNeeds (said (command_of statement.now)) (knows known) result.found }
     ensures comes { Comes word.now standing.now (said (command_of statement.now)) (knows known) result.found }
     ensures outside { standing.now ≡ closed → begins (said (command_of statement.now)) ≡ None → NamesNoNeed result.found }
 {
@@ -184,6 +188,7 @@ fn work_on(
     ensures known { result.known ≡ known }
     ensures kept { FitsKnown result.kept (knows known) }
     ensures asked { Asks standing.now (uttered_of item.now) (knows known) result.found }
+    ensures needs { ItemNeeds (uttered_of item.now) (knows known) result.found }
     ensures comes { Comes word.now standing.now (uttered_of item.now) (knows known) result.found }
     ensures outside { standing.now ≡ closed → begins (uttered_of item.now) ≡ None → NamesNoNeed result.found }
 {
@@ -210,6 +215,7 @@ fn worked(
     ensures right { IsFound IsSoundWith word.now standing.now (uttered_of item.now) (knows known) result.found }
     ensures left { result.found ≡ Found.Unworked → IsLeft word.now standing.now (uttered_of item.now) (knows known) }
     ensures once { NamesOnce result.found }
+    ensures needs { ItemNeeds (uttered_of item.now) (knows known) result.found }
     ensures outside { standing.now ≡ closed → begins (uttered_of item.now) ≡ None → NamesNoNeed result.found }
 {
     match first_refusal(standing, item) {
@@ -242,7 +248,17 @@ impl Statements for RdoStatements {
         None
     }
 
-    fn work(job: Job, kept: Option<Schema>) -> Answer<Option<Schema>> {
+    // Beside what each executor promises: what the item lacks first.
+    fn work(job: Job, kept: Option<Schema>) -> Answer<Option<Schema>>
+        requires { FitsKnown kept (knows job.known) }
+        ensures job { result.job ≡ job }
+        ensures kept { FitsKnown result.kept (knows job.known) }
+        ensures right { IsFoundFor IsSoundWith job result.found }
+        ensures cause { HasCause IsLeft job result.found }
+        ensures once { NamesOnce result.found }
+        ensures outside { IsOutside job → NamesNoNeed result.found }
+        ensures needs { ItemNeeds (uttered_of job.item) (knows job.known) result.found }
+    {
         let Job {
             alloc,
             word,

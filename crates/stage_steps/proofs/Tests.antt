@@ -1,5 +1,7 @@
 -- What tests of two parts say.
-use Rattle.std.proofs.Common.{◌≡◌, ◌||◌, ◌&&◌, Bool, true, false, not, refl, sym}
+use Rattle.line_view.specs.declared.writes.Write.{Write}
+use Rattle.session_limits.specs.Some.{WriteSome}
+use Rattle.std.proofs.Common.{List, [], ◌∷◌, ◌≡◌, ◌||◌, ◌&&◌, Bool, true, false, not, refl, sym}
 use Rattle.std.proofs.lemmas.Bool.{false≢true}
 
 -- the first statement of a transaction that a refusal ends
@@ -12,3 +14,7 @@ pub neither : (a b : Bool) → (a || b) ≡ false → (a ≡ false) × (b ≡ fa
 neither true b h = absurd (false≢true (sym h))
 neither false true h = absurd (false≢true (sym h))
 neither false false h = (refl, refl)
+
+pub write-some : (ws : List Write) → (ws ≡ [] → ⊥) → WriteSome ws
+write-some [] h = h refl
+write-some (w ∷ ws) h = tt

@@ -8,11 +8,13 @@ ghost use Rattle.stage_steps.specs.Turns.{Comes, Ends, at_stage, shared};
 
 use crate::common::Common;
 use crate::happening::{Happening, Turned, failed, quiet};
+use crate::limits::refuse_at_limit;
 use crate::storing::work_on;
 use crate::terms::Terms;
 use crate::working::forgo;
 use line_store::{CommitStop, LineStore, Progress, Stepped};
 use rdb_types::Session;
+use rdo_ast::reply::Reply;
 use rdo_ast::syntax::{Item, Statement};
 use session_jobs::Statements;
 use session_states::{End, Phase, Stage};
@@ -45,10 +47,16 @@ pub fn commit<S: Statements, L: LineStore>(
         Err(CommitStop::NoMemory) => {
             forgo::<S, L>(common, s, terms, Item::Statement(Statement::Commit))
         }
-        Err(stop) => Turned {
-            phase: terms.at(Stage::Ending(End::Ready)),
-            happened: Happening::Uncommitted(stop),
-        },
+        Err(CommitStop::AijFull(limit)) => {
+            if terms.spoken {
+                let commit = Item::Statement(Statement::Commit);
+                return refuse_at_limit(common.alloc, terms, commit, Reply::AijFull(limit));
+            }
+            Turned {
+                phase: terms.at(Stage::Ending(End::Ready)),
+                happened: Happening::Uncommitted(CommitStop::AijFull(limit)),
+            }
+        }
     }
 }
 

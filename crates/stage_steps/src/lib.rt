@@ -9,6 +9,7 @@ mod ending;
 mod fetching;
 mod happening;
 mod items;
+mod limits;
 mod outside;
 mod reading;
 mod saying;

@@ -11,6 +11,7 @@ ghost use Rattle.stage_steps.specs.Turns.{Comes, at_stage, shared};
 use crate::common::Common;
 use crate::happening::{Answer, Happening, Turned, failed, quiet};
 use crate::items::stands;
+use crate::limits::refuse_laying;
 use crate::storing::work_on;
 use crate::terms::Terms;
 use crate::working::forgo;
@@ -97,10 +98,7 @@ pub fn lay<S: Statements, L: LineStore>(
     match apply(common.alloc, &mut common.store, s, &mut terms.known, writes) {
         Ok(()) => quiet(terms.at(Stage::Saying(item, worked, Laying::Changing))),
         Err(ChangeStop::NoMemory) => forgo::<S, L>(common, s, terms, item),
-        Err(stop) => Turned {
-            phase: terms.at(Stage::Saying(item, worked, Laying::Claiming(place))),
-            happened: Happening::Unlaid(stop),
-        },
+        Err(stop) => refuse_laying::<S>(common.alloc, terms, item, worked, place, stop),
     }
 }
 

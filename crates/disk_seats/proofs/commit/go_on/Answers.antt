@@ -20,3 +20,6 @@ returns-clause-goes_on g c = let v = g.D.Disk.view in
     let stands = was.commit its commits in
     step_facts old new w.0 w.1 t w.3 w.2 ledger its was commits (c.commit_step.ensures.keeps t ledger.base member o f stands.is stands.facts) (c.commit_step.ensures.changes t (progress_of ledger) was.facts)
     next (on t ledger.base member o f stands.is classes stands.facts)) c.commit_step.ensures.goes_on
+
+pub returns-clause-changes : goal.returns-clause-changes
+returns-clause-changes g c = λ t ledger was. c.commit_step.ensures.changes t (progress_of ledger) was.facts

@@ -15,3 +15,6 @@ pub returns-clause-owned : goal.returns-clause-owned
 returns-clause-owned g c = let v = g.D.Disk.view in
     on_ok _ _ c.enter_page.result (λ entered t lines at line got its same one was.
     owned_more (v c.args.disk.now) (v c.enter_page.new.disk) t c.args.place c.args.area c.requires.page c.enter_page.ensures.writes (entered t) (c.enter_page.ensures.beside t) lines at line got its same one was) c.enter_page.ensures.entered
+
+pub returns-clause-lines : goal.returns-clause-lines
+returns-clause-lines g c = λ t ledger was. c.enter_page.ensures.lines t (progress_of ledger) was.facts

@@ -24,3 +24,7 @@ returns-clause-undone g c = let v = g.D.Disk.view in let some = c.requires.some 
     undone_behind old ledger c.args.member o all c.args.left was stands going new w.0 w.1 t w.2 w.3
     (c.undo_next.ensures.keeps t (progress_of ledger) o may same) (c.undo_next.ensures.restores t (progress_of ledger) o may same)
     rest (omega (arith, less, inside)) (undone t (progress_of ledger) o may same (own_undone old ledger c.args.member o all c.args.left was stands going))) c.undo_next.ensures.fewer c.undo_next.ensures.undone
+
+pub returns-clause-restores : goal.returns-clause-restores
+returns-clause-restores g c = let v = g.D.Disk.view in λ t ledger o all was stands going same limit.
+    c.undo_next.ensures.restores t (progress_of ledger) o (may_undo (v c.args.disk.now) ledger c.args.member o all c.args.left was stands going c.args.pages limit) same

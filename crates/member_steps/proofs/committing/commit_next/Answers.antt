@@ -1,4 +1,7 @@
-use Rattle.std.proofs.Common.{◌∙◌, ap, refl, sym, subst}
+use Rattle.std.proofs.Common.{◌≡◌, ◌∙◌, ap, refl, sym, subst}
+use Rattle.rdb_types.specs.declared.file.FileKind.TheVariants.{Area, Snap}
+use Rattle.stable_lines.specs.Slots.{area_file}
+use Rattle.line_moves.proofs.Runs.{writes_none}
 use Rattle.line_seat.proofs.CommitSteps.{if_ok}
 use Rattle.member_steps.specs.declared.committing.CommitTurn.{CommitTurn}
 use Rattle.member_steps.specs.declared.committing.CommitTurn.TheVariants.{Going}
@@ -49,3 +52,7 @@ returns-in-Going-clause-goes_on g c = let v = g.D.Disk.view in
     let old = v c.args.disk.now in let new = v c.go_further.new.disk in
     subst (λ (u : CommitTurn). LedgerFacts new (ledger_behind u next new.moment plan ledger) × NextFacts next new (ledger_behind u next new.moment plan ledger) plan) (sym c.in-Going.is)
     (on t ledger member o all flight was (λ gathers. classes (c.in-Going.is ∙ ap Going gathers)) (subst (λ (u : CommitTurn). TurnFacts u old ledger plan) c.in-Going.is facts))) c.go_further.ensures.goes_on
+
+pub returns-in-Securing-clause-writes : goal.returns-in-Securing-clause-writes
+returns-in-Securing-clause-writes g c = let v = g.D.Disk.view in
+    (area_file 1, 1, (λ k. let bad : Area ≡ Snap = k in cc), writes_none (area_file 1) 1 (v c.args.disk.now) (v c.secure.new.disk) c.secure.ensures.reads)

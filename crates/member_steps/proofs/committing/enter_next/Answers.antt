@@ -1,4 +1,7 @@
 use Rattle.std.proofs.Common.{rules, arith, ◌≤◌, ◌∙◌, ℕ, length, refl, ap, sym, subst, slice_get}
+use Rattle.rdb_outside.specs.Runs.{no_calls}
+use Rattle.stable_lines.specs.Slots.{area_file}
+use Rattle.line_moves.proofs.Runs.{writes_none}
 use Rattle.line_seat.proofs.GroupSlots.{got_at}
 use Rattle.member_steps.proofs.OwnersSaid.{may_still, none_owned, owned_all}
 use Rattle.member_steps.proofs.committing.enter_next.Goals as goal
@@ -45,3 +48,6 @@ returns-clause-goes_on g c = let v = g.D.Disk.view in λ t ledger plan was same 
         c.in_ok-enter.ensures.owned t plan.lines c.args.at _ got names refl may.one_area facts.1,
       ),
     )
+
+pub returns-then-at-lines-clause-writes : goal.returns-then-at-lines-clause-writes
+returns-then-at-lines-clause-writes g c = let old = g.D.Disk.view c.args.disk.now in (1, 1, writes_none (area_file 1) 1 old old (no_calls old))

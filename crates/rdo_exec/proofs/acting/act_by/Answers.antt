@@ -9,6 +9,9 @@ use Rattle.line_view.specs.Held.{knows}
 use Rattle.rdo_exec.specs.Coming.{Comes, ActStays}
 use Rattle.rdo_exec.proofs.RightRecords.{barred_by}
 use Rattle.rdo_exec.proofs.Answered.{answer_stays}
+use Rattle.rdo_exec.specs.Needed.{ActNeeds}
+use Rattle.rdo_exec.proofs.Answered.{answer_names}
+use Rattle.rdo_exec.proofs.FirstNeeds.{no_needs}
 use Rattle.rdo_exec.proofs.acting.act_by.Goals as goal
 
 pub returns-in-Ok-clause-comes : goal.returns-in-Ok-clause-comes
@@ -36,3 +39,13 @@ returns-in-Err-Refused-clause-stays c = λ all t sound agrees.
 
 pub returns-in-Err-Memory-clause-stays : goal.returns-in-Err-Memory-clause-stays
 returns-in-Err-Memory-clause-stays c = λ all t sound agrees. tt
+
+pub returns-in-Ok-clause-needs : goal.returns-in-Ok-clause-needs
+returns-in-Ok-clause-needs c = subst (λ (x : Act). ActNeeds x (knows c.args.known) c.run_behind.result.found) c.in-Ok.ensures.written c.run_behind.ensures.needs
+
+pub returns-in-Err-Refused-clause-needs : goal.returns-in-Err-Refused-clause-needs
+returns-in-Err-Refused-clause-needs c = λ all t sound agrees.
+    rw c.answered_by.ensures (no_needs _ _ (answer_names (Ok c.in-Err-Refused.reply) c.standing_for-behind.result))
+
+pub returns-in-Err-Memory-clause-needs : goal.returns-in-Err-Memory-clause-needs
+returns-in-Err-Memory-clause-needs c = λ all t sound agrees. tt

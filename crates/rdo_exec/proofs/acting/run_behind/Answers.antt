@@ -19,3 +19,6 @@ returns-in-Err-clause-comes c = λ word standing free is. says_nothing word stan
 
 pub returns-in-Err-clause-stays : goal.returns-in-Err-clause-stays
 returns-in-Err-clause-stays c = λ all t sound agrees. tt
+
+pub returns-in-Err-clause-needs : goal.returns-in-Err-clause-needs
+returns-in-Err-clause-needs c = λ all t sound agrees. tt

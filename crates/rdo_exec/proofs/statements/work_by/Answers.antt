@@ -9,6 +9,8 @@ use Rattle.rdo_exec.proofs.Locks.{acted_asks}
 use Rattle.rdo_exec.proofs.Viewing.{defining_not_act, defining_writes}
 use Rattle.rdo_exec.specs.Ways.{IsViewing}
 use Rattle.rdb_meaning.specs.Meaning.{standing_refusal}
+use Rattle.rdo_exec.specs.Needed.{ItemNeeds}
+use Rattle.rdo_exec.proofs.FirstNeeds.{defining_needs}
 use Rattle.rdo_exec.proofs.statements.work_by.Goals as goal
 
 pub returns-in-Act-clause-comes : goal.returns-in-Act-clause-comes
@@ -27,3 +29,9 @@ returns-in-Act-clause-asked c =
     let is = c.in-Act.is in
     subst (λ (s : Statement). Asks c.args.standing.now (said (command_of s)) (knows c.args.known) c.act_by.result.found) (sym is)
     (acted_asks (act_of c.in-Act.action) (knows c.args.known) c.args.standing.now c.act_by.result.found (subst (λ (s : Statement). standing_refusal (command_of s) c.args.standing.now ≡ None) is c.requires.standing) (subst (λ (s : Statement). IsViewing (command_of s)) is c.requires.way) c.act_by.ensures.stays)
+
+pub returns-in-Act-clause-needs : goal.returns-in-Act-clause-needs
+returns-in-Act-clause-needs c = subst (λ (s : Statement). ItemNeeds (said (command_of s)) (knows c.args.known) c.act_by.result.found) (sym c.in-Act.is) c.act_by.ensures.needs
+
+pub returns-in_default-clause-needs : goal.returns-in_default-clause-needs
+returns-in_default-clause-needs c = defining_needs (command_of c.args.statement.now) (knows c.args.known) c.define_by.result.found (defining_not_act c.args.statement.now c.in_default.not-Act c.requires.way)

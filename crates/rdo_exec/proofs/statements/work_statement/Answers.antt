@@ -13,6 +13,7 @@ use Rattle.rdo_exec.proofs.Viewing.{unranged_strange}
 use Rattle.rdo_exec.proofs.Answering.{answered_comes, answered_reads_nothing}
 use Rattle.rdo_exec.proofs.Locks.{answered_asks}
 use Rattle.rdo_exec.proofs.Viewing.{naming_views, defining_views, viewing_begins, reserving_begins}
+use Rattle.rdo_exec.proofs.FirstNeeds.{item_names_none, reserving_needs}
 use Rattle.rdo_exec.proofs.statements.work_statement.Goals as goal
 
 pub returns-in-Plain-clause-asked : goal.returns-in-Plain-clause-asked
@@ -66,3 +67,21 @@ returns-in-Defining-clause-outside c = λ shut nothing.
 
 pub returns-in-Reserving-clause-comes : goal.returns-in-Reserving-clause-comes
 returns-in-Reserving-clause-comes c = c.reserving-found.ensures.comes c.args.word.now
+
+pub returns-in-Plain-clause-needs : goal.returns-in-Plain-clause-needs
+returns-in-Plain-clause-needs c =
+    let command = command_of c.args.statement.now in
+    item_names_none command (knows c.args.known) c.plain.result (answered_reads_nothing c.args.word.now c.args.standing.now (said command) c.plain.result c.plain.ensures)
+
+pub returns-in-Bare-clause-needs : goal.returns-in-Bare-clause-needs
+returns-in-Bare-clause-needs c =
+    let command = command_of c.args.statement.now in
+    item_names_none command (knows c.args.known) c.bare.result (answered_reads_nothing c.args.word.now c.args.standing.now (said command) c.bare.result (c.bare.ensures c.args.word.now))
+
+pub returns-in-Reserving-clause-needs : goal.returns-in-Reserving-clause-needs
+returns-in-Reserving-clause-needs c =
+    let command = command_of c.args.statement.now in
+    reserving_needs command (knows c.args.known) c.reserving-found.result (subst (λ (w : Way). IsWay w command) c.in-Reserving.is c.way_of.ensures)
+
+pub returns-in-Strange-clause-needs : goal.returns-in-Strange-clause-needs
+returns-in-Strange-clause-needs c = item_names_none (command_of c.args.statement.now) (knows c.args.known) Unworked tt

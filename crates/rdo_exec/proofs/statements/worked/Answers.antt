@@ -8,6 +8,8 @@ use Rattle.sound_maps.specs.Maps.{IsSoundWith}
 use Rattle.rdo_exec.specs.Coming.{Comes}
 use Rattle.rdo_exec.proofs.Answered.{why_left, refused_comes, answer_asks, answer_names}
 use Rattle.rdo_exec.proofs.Locks.{found_by}
+use Rattle.rdo_exec.specs.Needed.{ItemNeeds}
+use Rattle.rdo_exec.proofs.FirstNeeds.{uttered_names_none}
 use Rattle.rdo_exec.proofs.statements.worked.Goals as goal
 
 pub returns-in-Some-clause-right : goal.returns-in-Some-clause-right
@@ -40,3 +42,11 @@ returns-in-None-clause-left c = why_left c.args.word.now c.args.standing.now (ut
 
 pub returns-in-None-clause-once : goal.returns-in-None-clause-once
 returns-in-None-clause-once c = c.work_on.ensures.comes.once
+
+pub returns-in-Some-clause-needs : goal.returns-in-Some-clause-needs
+returns-in-Some-clause-needs c =
+    let item = uttered_of c.args.item.now in
+    subst (λ (f : Found). ItemNeeds item (knows c.args.known) f) (sym c.answered_by.ensures) (uttered_names_none item (knows c.args.known) _ (answer_names (Ok c.in-Some.reply) c.copied.result))
+
+pub returns-in-None-clause-needs : goal.returns-in-None-clause-needs
+returns-in-None-clause-needs c = c.work_on.ensures.needs

@@ -2,13 +2,16 @@ use Rattle.std.proofs.Common.{refl, ◌∙◌, sym, subst, List}
 use Rattle.session_states.specs.declared.stage.Laying.TheVariants.{Claiming}
 use Rattle.session_states.specs.declared.stage.Stage.TheVariants.{Saying}
 use Rattle.line_view.specs.declared.writes.Write.{Write}
-use Rattle.line_store.specs.Calls.{Changes}
+use Rattle.std.proofs.lemmas.Bool.{false≢true}
+use Rattle.line_store.specs.Shelves.{Shelf}
+use Rattle.line_store.specs.Calls.{Changes, MayStopChange}
 use Rattle.session_states.specs.Fits.{Follows}
 use Rattle.session_states.proofs.Storing.{says-at-once, changes-on}
 use Rattle.stage_steps.specs.Happenings.{events_of}
 use Rattle.stage_steps.specs.Turns.{shared}
 use Rattle.stage_steps.proofs.Stands.{as-before, comes-as}
-use Rattle.stage_steps.proofs.Unchanged.{goes-from, stands-still}
+use Rattle.stage_steps.proofs.Unchanged.{goes-from}
+use Rattle.stage_steps.proofs.Tests.{write-some}
 use Rattle.stage_steps.proofs.saying.lay.Goals as goal
 
 pub returns-then-not-stands : goal.returns-then-not-stands
@@ -31,4 +34,7 @@ returns-in-Err-NoMemory g c dead =
 
 pub returns-in-Err : goal.returns-in-Err
 returns-in-Err g c dead =
-    rw c.at-in-Err.ensures (stands-still g.S.Statements.stands g.met.S.Statements.orderly c.args.s.number c.args.common.now.word (g.L.LineStore.shelf c.args.common.now.store) (g.L.LineStore.shelf c.apply.new.store) c.args.common.now.tree dead c.args.terms.standing c.args.terms.known c.apply.new.known c.args.terms.spoken c.args.terms.waits (Saying c.args.item c.args.worked (Claiming c.args.place)) c.in-Err.ensures.err c.in-Err.ensures.kept)
+    let d = shared c.args.common.now.word (g.L.LineStore.shelf c.apply.new.store) c.args.common.now.tree dead in
+    let stop : MayStopChange (g.L.LineStore.shelf c.apply.new.store) c.args.s.number c.args.worked.writes c.in-Err.stop = subst (λ (h : Shelf). MayStopChange h c.args.s.number c.args.worked.writes c.in-Err.stop) (sym c.in-Err.ensures.err) (subst (λ (ws : List Write). MayStopChange (g.L.LineStore.shelf c.args.common.now.store) c.args.s.number ws c.in-Err.stop) c.as_slice-writes.ensures c.in-Err.ensures.cause) in
+    goes-from g.S.Statements.stands g.met.S.Statements.orderly c.args.s.number c.args.common.now.word (g.L.LineStore.shelf c.args.common.now.store) (g.L.LineStore.shelf c.apply.new.store) c.args.common.now.tree dead c.args.terms.standing c.args.terms.known c.apply.new.known c.args.terms.spoken c.args.terms.waits (Saying c.args.item c.args.worked (Claiming c.args.place)) c.in-Err.ensures.err c.in-Err.ensures.kept d c.refuse_laying.result.phase (events_of c.args.s.number c.refuse_laying.result.happened)
+    (c.refuse_laying.ensures c.args.s.number d c.requires.member c.requires.locked (write-some c.args.worked.writes (λ e. false≢true (sym c.if-is_empty.false ∙ c.is_empty.ensures.1 e))) stop)

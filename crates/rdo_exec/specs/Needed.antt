@@ -1,0 +1,48 @@
+-- What an item lacks first, by what it reads.
+use Rattle.std.specs.Prelude.{◌≡◌, ◌⊎◌, false, []}
+use Rattle.rdo_ast.specs.Tree.{Act, Uttered, said, perform}
+use Rattle.rdb_meaning.specs.declared.tables.Tables.{Tables}
+use Rattle.line_view.specs.declared.need.Need.{Need}
+use Rattle.line_view.specs.declared.need.Need.TheVariants.{Line, Area, Room}
+use Rattle.line_view.specs.Knowledge.{Knowledge, Lines, Agrees}
+use Rattle.sound_maps.specs.Maps.{IsSoundWith}
+use Rattle.session_jobs.specs.declared.jobs.Found.{Found}
+use Rattle.session_jobs.specs.declared.jobs.Found.TheVariants.{Missing}
+use Rattle.rdo_bind.specs.Acting.{Act as BoundAct, named_act, IsBoundAct}
+use Rattle.rdo_acts.specs.declared.work.Given.{Given}
+use Rattle.rdo_acts.specs.Scopes.{may_write}
+use Rattle.rdo_acts.specs.Selections.{chosen_in_act, IsReadAmong}
+use Rattle.rdo_acts.specs.Wanted.{ActWants, Then}
+use Rattle.rdo_exec.specs.Coming.{IsCatalogOfKnown}
+use Rattle.rdo_exec.specs.Acted.{AreTogether}
+
+-- the catalog's area, or a line of it
+abbrev pub IsOfCatalog : Need → Type 0
+IsOfCatalog (Line key) = key.area ≡ 1
+IsOfCatalog (Area area) = area ≡ 1
+IsOfCatalog (Room room) = ⊥
+
+-- Bound to the catalog that is known, the action lacks this in its parts: where it writes nothing, it is what is read of a relation of one of its selections; and however it is, it is what a part of it lacks at a moment of the work.
+pub record IsActNeed (a : Act) (known : Knowledge) (all : Lines) (t : Tables) (need : Need) : Type 0 where
+  pub given : Given
+  pub catalog : IsCatalogOfKnown known given.schema.now
+  pub together : AreTogether given.schema.now given.sources.now.entries
+  pub bound : BoundAct
+  pub written : named_act bound ≡ a
+  pub placed : IsBoundAct bound given.schema.now.tables []
+  pub reads : may_write bound ≡ false → IsReadAmong t given.sources.now.entries (chosen_in_act bound []) need
+  pub wants : Then given all t (λ u. ActWants u given.sources.now.entries bound [] need)
+
+-- this is true of the first need, if some are named
+abbrev pub IfMissing : (Need → Type 0) → Found → Type 0
+IfMissing Is (Missing next later) = Is next
+IfMissing Is _ = Unit {0}
+
+-- Over each sound map with which what is known agrees, an action lacks first what is of the catalog, or what its parts lack.
+abbrev pub ActNeeds : Act → Knowledge → Found → Type 0
+ActNeeds a known found = (all : Lines) (t : Tables) → IsSoundWith all t → Agrees known all → IfMissing (λ need. IsOfCatalog need ⊎ IsActNeed a known all t need) found
+
+-- the same of an item that is an action
+abbrev pub ItemNeeds : Uttered → Knowledge → Found → Type 0
+ItemNeeds (said (perform a)) known found = ActNeeds a known found
+ItemNeeds _ known found = Unit {0}

@@ -1,0 +1,73 @@
+ghost use Rattle.std.specs.Prelude.{IfOk};
+ghost use Rattle.line_view.specs.Held.{knows};
+ghost use Rattle.sound_maps.specs.Maps.{IsSoundWith};
+ghost use Rattle.session_jobs.specs.Jobs.{WhereItAgrees};
+ghost use Rattle.reserved_locks.specs.Reserved.{AreLocksOf};
+
+use catalog::read_catalog;
+use line_view::{Known, Stop};
+use rdo_ast::syntax::Reservation;
+use rdo_exec::RdoStatements;
+use reserved_locks::{LockNeeds, Reserves, Unnamed, locks_in};
+use session_jobs::{Answer, Job, Statements};
+use std::alloc::Global;
+use stored_schema::Schema;
+
+/// It works statements as `RdoStatements` does, and names the locks of reservations by the catalog of what is known.
+#[derive(Drop)]
+pub struct ReservingStatements {}
+
+impl Statements for ReservingStatements {
+    ghost use Rattle.sound_maps.specs.Maps.{IsSoundWith};
+    ghost use Rattle.sound_maps.specs.Laws.{orderly, empty};
+    ghost use Rattle.rdo_exec.specs.Coming.{FitsKnown};
+    ghost use Rattle.rdo_exec.specs.Left.{IsLeft};
+    ghost use Rattle.rdo_exec.specs.Lasting.{lasts};
+
+    type Kept = Option<Schema>;
+
+    ghost stands = { IsSoundWith };
+
+    ghost fits = { FitsKnown };
+
+    ghost leaves = { IsLeft };
+
+    fn nothing() -> Option<Schema> {
+        RdoStatements::nothing()
+    }
+
+    fn work(job: Job, kept: Option<Schema>) -> Answer<Option<Schema>> {
+        RdoStatements::work(job, kept)
+    }
+
+    ghost orderly = { orderly };
+
+    ghost empty = { empty };
+
+    ghost lasts = { lasts };
+}
+
+// The locks of reservations, by the catalog of what is known.
+fn locks_by_catalog(
+    alloc: Global,
+    known: &Known,
+    reserved: &[Reservation],
+) -> Result<LockNeeds, Unnamed>
+    ensures { IfOk result (λ locks. WhereItAgrees IsSoundWith (knows known.now) (λ t. AreLocksOf reserved.now t locks)) }
+{
+    match read_catalog(alloc, known) {
+        Ok(catalog) => locks_in(alloc, &catalog.tables, reserved),
+        Err(Stop::NoMemory) => Err(Unnamed::NoMemory),
+        Err(_) => Err(Unnamed::Unknown),
+    }
+}
+
+impl Reserves for ReservingStatements {
+    fn reserved_locks(
+        alloc: Global,
+        known: &Known,
+        reserved: &[Reservation],
+    ) -> Result<LockNeeds, Unnamed> {
+        locks_by_catalog(alloc, known, reserved)
+    }
+}
