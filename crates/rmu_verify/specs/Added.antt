@@ -2,6 +2,8 @@
 use Rattle.std.specs.Prelude.{ℕ, ◌<◌, ◌≡◌, ◌⊎◌, List, ◌++◌}
 use Rattle.rdb_outside.specs.Disk.{Image}
 use Rattle.stable_lines.specs.Slots.{area_file, owner_at}
+use Rattle.catalog_lines.specs.declared.line.CatalogLine.{CatalogLine}
+use Rattle.catalog_lines.specs.declared.line.CatalogLine.TheVariants.{Relation, Global, Field, Index}
 use Rattle.verified_lines.specs.Faults.{IsAmong}
 
 -- some more were added, of which this is true
@@ -15,3 +17,10 @@ AddsOwner owner old new = ((owner ≡ 0) ⊎ IsAmong owner new) × ((area : ℕ)
 -- the owners of the pages of an area file up to one, other than none
 abbrev pub HasOwners : Image → ℕ → ℕ → List ℕ → Type 0
 HasOwners image file count owners = (slot : ℕ) → slot < count → (owner_at (image (area_file file) slot) ≡ 0) ⊎ IsAmong (owner_at (image (area_file file) slot)) owners
+
+-- an index's root lies in its own area
+abbrev pub IsRooted : CatalogLine → Type 0
+IsRooted (Relation r) = Unit {0}
+IsRooted (Global g) = Unit {0}
+IsRooted (Field f) = Unit {0}
+IsRooted (Index x) = x.root.area ≡ x.area

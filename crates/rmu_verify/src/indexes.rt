@@ -1,5 +1,5 @@
 // The indexes.
-ghost use Rattle.std.specs.Prelude.{◌≡◌, ◌++◌, ℕ, List, [], OnOk, IfOk};
+ghost use Rattle.std.specs.Prelude.{◌≡◌, ◌++◌, ℕ, List, [], ◌∷◌, OnOk, IfOk};
 ghost use Rattle.rdb_types.specs.declared.keys.Dbkey.{Dbkey as Place};
 ghost use Rattle.rdo_ast.specs.Tree.{Name};
 ghost use Rattle.rdb_meaning.specs.Contents.{Row};
@@ -9,10 +9,11 @@ ghost use Rattle.index_node.specs.Order.{entry_order};
 ghost use Rattle.index_faults.specs.Contents.{HasTheRows, HoldsRows};
 ghost use Rattle.index_faults.specs.Walks.{IsInOrderWith};
 ghost use Rattle.catalog.specs.Reading.{IsWhole};
-ghost use Rattle.catalog_lines.specs.Lines.{IsIndexLine};
+ghost use Rattle.catalog_lines.specs.Lines.{IsIndexLine, IsAllowedLine};
 ghost use Rattle.sound_lines.specs.Contents.{versions_in};
-ghost use Rattle.verified_lines.specs.Relations.{entry_in as entry_at, IsJudgedOf, FindsIndexes};
+ghost use Rattle.verified_lines.specs.Relations.{entry_in as entry_at, IsJudgedOf, FindsIndex, FindsIndexes};
 ghost use Rattle.areas_at_rest.specs.Runs.{IsQuiet, AtRest};
+ghost use Rattle.rmu_verify.specs.Added.{IsRooted};
 
 use crate::relations::{entry_in, version_of};
 use areas_at_rest::view_of;
@@ -23,7 +24,7 @@ use index_faults::{Judgement, Walk, judge_contents, walk_index};
 use index_node::NodeEntry;
 use line_opening::OpeningFault;
 use rdb_outside::Disk;
-use rdb_types::{Chars, Copied, Dbkey, Items, Keys};
+use rdb_types::{Chars, Copied, Dbkey, Items, Keys, NoMemory};
 use relation_rows::StoredRelation;
 use std::alloc::Global;
 
@@ -76,6 +77,13 @@ fn judged<D: Disk>(
     }
 }
 
+fn add_name(alloc: Global, name: &Chars, names: &mut Items<Chars>) -> Result<(), NoMemory>
+    ensures { OnOk result (names.new ≡ names.old ++ name.now ∷ []) }
+{
+    names.push(name.copied(alloc)?)?;
+    Ok(())
+}
+
 // Adds what is at fault of one index.
 fn verify_index<D: Disk>(
     alloc: Global,
@@ -108,16 +116,38 @@ fn verify_index<D: Disk>(
         version: version_of(catalog.lines.as_slice(), name),
         fields: relation.fields.as_slice(),
     };
-    let judgement = judged(alloc, disk, held, &stored, index, walk.pairs.as_slice())?;
-    if judgement != Judgement::Differs {
-        return Ok(());
+    match judged(alloc, disk, held, &stored, index, walk.pairs.as_slice())? {
+        Judgement::Holds => Ok(()),
+        Judgement::Unjudged => Ok(()),
+        Judgement::Differs => match add_name(alloc, &index.name, &mut found.names) {
+            Ok(()) => Ok(()),
+            Err(_) => Err(OpeningFault::NoMemory),
+        },
     }
-    let Ok(name) = index.name.copied(alloc) else {
-        return Err(OpeningFault::NoMemory);
-    };
-    match found.names.push(name) {
-        Ok(()) => Ok(()),
-        Err(_) => Err(OpeningFault::NoMemory),
+}
+
+// Adds what is at fault of a line of the catalog.
+fn verify_line<D: Disk>(
+    alloc: Global,
+    disk: &mut D,
+    held: &[OpenTransaction],
+    catalog: &Catalog,
+    line: &CatalogLine,
+    found: &mut IndexFaults,
+) -> Result<(), OpeningFault>
+    requires whole { IsWhole catalog.now }
+    requires allowed { IsAllowedLine line.now }
+    requires rooted { IsRooted line.now }
+    ensures found { OnOk result (AtRest (D.view disk.old) held.now (λ all. (nodes : List Place) × (names : List Name)
+        × (found.new.nodes ≡ found.old.nodes ++ nodes) × (found.new.names ≡ found.old.names ++ names)
+        × FindsIndex all (versions_in catalog.now.lines) catalog.now.tables line.now nodes names)) }
+    ensures quiet { IsQuiet (D.view disk.old) (D.view disk.new) result }
+{
+    match line {
+        CatalogLine::Index(index) => verify_index(alloc, disk, held, catalog, index, found),
+        CatalogLine::Relation(_) => Ok(()),
+        CatalogLine::Global(_) => Ok(()),
+        CatalogLine::Field(_) => Ok(()),
     }
 }
 
@@ -136,9 +166,7 @@ pub(crate) fn verify_indexes<D: Disk>(
     ensures quiet { IsQuiet (D.view disk.old) (D.view disk.new) result }
 {
     for line in catalog.lines.as_slice() {
-        if let CatalogLine::Index(index) = &line.line {
-            verify_index(alloc, disk, held, catalog, index, found)?;
-        }
+        verify_line(alloc, disk, held, catalog, &line.line, found)?;
     }
     Ok(())
 }
