@@ -1,34 +1,19 @@
 -- What is found of the relations of a catalog.
-use Rattle.std.proofs.Common.{◌≡◌, ◌<◌, ◌≤◌, ◌+◌, ◌%◌, ◌⊎◌, inl, inr, ℕ, zero, suc, Bool, true, false, cond, List, [], ◌∷◌, ◌++◌, take, drop, length, get_or, Option, Some, None, refl, sym, ap, subst, ◌∙◌, arith}
-use Rattle.std.specs.List.{AllByRecursion}
+use Rattle.std.proofs.Common.{◌≡◌, ◌<◌, ◌+◌, inl, inr, ℕ, Bool, true, false, cond, List, [], ◌∷◌, ◌++◌, drop, length, get_or, Option, Some, refl, sym, ap, subst, ◌∙◌}
 use Rattle.std.specs.Option.{unwrap_or}
 use Rattle.std.specs.Ordering.{is_eq}
-use Rattle.std.specs.declared.cmp.Ordering.{Ordering}
-use Rattle.std.specs.declared.cmp.Ordering.TheVariants.{Less, Equal, Greater}
-use Rattle.std.specs.FinMap.Entries.{find, put, find-put, by_order}
+use Rattle.std.specs.FinMap.Entries.{find, put, find-put}
 use Rattle.std.proofs.lemmas.List.{append_assoc, append-nil, drop_more}
 use Rattle.rdb_types.specs.declared.keys.Dbkey.{Dbkey}
-use Rattle.rdb_types.specs.declared.values.Field.{Field}
 use Rattle.rdb_types.specs.Order.{chars_order}
 use Rattle.rdb_types.specs.OrderLaws.{chars_total}
 use Rattle.rdo_ast.specs.Tree.{Name}
 use Rattle.rdb_meaning.specs.declared.tables.Relation.{Relation as Rows}
-use Rattle.rdb_meaning.specs.declared.tables.Tables.{Tables}
-use Rattle.rdb_meaning.specs.Contents.{no_tables}
-use Rattle.rdb_page.specs.Page.{IsOwner}
 use Rattle.line_view.specs.Knowledge.{Lines, lines_in}
 use Rattle.catalog_lines.specs.declared.line.RelationLine.{RelationLine}
-use Rattle.catalog_lines.specs.declared.line.CatalogLine.{CatalogLine}
-use Rattle.catalog_lines.specs.declared.line.CatalogLine.TheVariants.{Relation, Global, Field as FieldOf, Index}
-use Rattle.catalog_lines.specs.Lines.{IsRelationArea, IsAllowedLine}
 use Rattle.catalog.specs.declared.directory.PlacedLine.{PlacedLine}
-use Rattle.catalog.specs.declared.directory.Directory.{Directory}
-use Rattle.catalog.specs.declared.reading.Catalog.{Catalog}
-use Rattle.catalog.specs.Directory.{directory}
-use Rattle.catalog.specs.Schema.{with_thing, tables_from}
-use Rattle.catalog.specs.Reading.{IsWhole}
 use Rattle.relation_rows.specs.declared.stored.StoredRelation.{StoredRelation}
-use Rattle.sound_lines.specs.Contents.{with_version, versions_from, versions_in, version_of, stored}
+use Rattle.sound_lines.specs.Contents.{with_version, versions_from, versions_in, version_of}
 use Rattle.sound_lines.proofs.RowsRead.{row_alike}
 use Rattle.line_faults.specs.Found.{Finds}
 use Rattle.line_faults.specs.Rows.{IsRowLine, AreRowFaults}

@@ -1,5 +1,5 @@
 -- What is found of the indexes of a catalog.
-use Rattle.std.proofs.Common.{◌≡◌, ◌++◌, ◌∷◌, ◌==◌, ◌&&◌, [], ℕ, Bool, true, false, cond, List, map, Option, Some, None, refl, sym, ap, subst, ◌∙◌}
+use Rattle.std.proofs.Common.{◌≡◌, ◌++◌, ◌∷◌, ◌==◌, [], ℕ, Bool, true, false, cond, List, map, Option, Some, None, refl, sym, ap, subst, ◌∙◌}
 use Rattle.std.specs.Prelude.{if◌then◌else◌}
 use Rattle.std.specs.List.{AllByRecursion}
 use Rattle.std.specs.List.Sorted.{IsStrictlySortedBy}
@@ -19,7 +19,6 @@ use Rattle.sorted_index_laws.proofs.Ordered.{pairs_ascend, sorted}
 use Rattle.catalog_lines.specs.declared.line.IndexLine.{IndexLine}
 use Rattle.catalog_lines.specs.declared.line.CatalogLine.{CatalogLine}
 use Rattle.catalog_lines.specs.declared.line.CatalogLine.TheVariants.{Relation, Global, Field as FieldOf, Index}
-use Rattle.catalog_lines.specs.Lines.{IsAllowedLine}
 use Rattle.catalog.specs.declared.directory.PlacedLine.{PlacedLine}
 use Rattle.catalog.specs.declared.directory.Directory.{Directory}
 use Rattle.catalog.specs.declared.reading.Catalog.{Catalog}
@@ -97,11 +96,16 @@ pub indexes_more : (all : Lines) (versions : List (Name × ℕ)) (t : Tables) (p
     → FindsIndexes all versions t ps nodes names → FindsIndex all versions t p.line ns ws → FindsIndexes all versions t (ps ++ p ∷ []) (nodes ++ ns) (names ++ ws)
 indexes_more all versions t [] p nodes ns names ws finds here =
     (ns, [], ws, [], ap (λ (l : List Dbkey). l ++ ns) finds.0 ∙ sym (append-nil ns), ap (λ (l : List Name). l ++ ws) finds.1 ∙ sym (append-nil ws), here, (refl, refl))
-indexes_more all versions t (q ∷ qs) p nodes ns names ws finds here =
-    (finds.0, finds.1 ++ ns, finds.2, finds.3 ++ ws,
-      ap (λ (l : List Dbkey). l ++ ns) finds.4 ∙ append_assoc finds.0 finds.1 ns,
-      ap (λ (l : List Name). l ++ ws) finds.5 ∙ append_assoc finds.2 finds.3 ws,
-      finds.6, indexes_more all versions t qs p finds.1 ns finds.3 ws finds.7 here)
+indexes_more all versions t (q ∷ qs) p nodes ns names ws finds here = (
+  finds.0,
+  finds.1 ++ ns,
+  finds.2,
+  finds.3 ++ ws,
+  ap (λ (l : List Dbkey). l ++ ns) finds.4 ∙ append_assoc finds.0 finds.1 ns,
+  ap (λ (l : List Name). l ++ ws) finds.5 ∙ append_assoc finds.2 finds.3 ws,
+  finds.6,
+  indexes_more all versions t qs p finds.1 ns finds.3 ws finds.7 here,
+)
 
 -- what was added of some lines, and of one more
 pub record Adds (Are : List Dbkey → List Name → Type 0) (nodes : List Dbkey) (names : List Name) (new_nodes : List Dbkey) (new_names : List Name) : Type 0 where

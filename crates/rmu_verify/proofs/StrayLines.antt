@@ -1,5 +1,5 @@
 -- Lines of areas that no relation has.
-use Rattle.std.proofs.Common.{◌≡◌, ◌⊎◌, inl, inr, ◌<◌, ◌+◌, ◌==◌, ◌++◌, ◌∷◌, [], ℕ, Bool, true, false, List, length, drop, get_or, map, Option, Some, None, is_some, not, refl, sym, ap, subst, ◌∙◌, arith}
+use Rattle.std.proofs.Common.{◌≡◌, inl, inr, ◌==◌, ◌++◌, ◌∷◌, [], ℕ, Bool, true, false, List, map, Option, Some, None, is_some, not, refl, sym, ap, ◌∙◌}
 use Rattle.std.specs.Prelude.{is_none, IfSome, IfNone, if◌then◌else◌}
 use Rattle.std.proofs.lemmas.List.{append_assoc, append-nil}
 use Rattle.rdb_types.specs.declared.keys.Dbkey.{Dbkey}

@@ -8,8 +8,8 @@ ghost use Rattle.verified_lines.specs.Relations.{FindsRows, strays_in};
 ghost use Rattle.areas_at_rest.specs.Runs.{IsQuiet, AtRest};
 ghost use Rattle.rmu_verify.specs.Added.{AddsSome};
 
-use areas_at_rest::view_of;
 use crate::relations::version_of;
+use areas_at_rest::view_of;
 use before_images::OpenTransaction;
 use catalog::Catalog;
 use line_faults::row_faults;

@@ -28,7 +28,6 @@ pub returns-in_default-clause-found : goal.returns-in_default-clause-found
 returns-in_default-clause-found g c = λ t groups lines lays stands.
     ([], [], sym (append-nil _), sym (append-nil _), subst (λ (o : Option (Name × Rows)). IsJudgedOf lines (versions_in c.args.catalog.now.lines) o c.args.index.now [] []) (sym c.in_default.ensures.none) (refl, refl))
 
-
 pub returns-in-Holds-clause-found : goal.returns-in-Holds-clause-found
 returns-in-Holds-clause-found g c = λ t groups lines lays stands.
     let v = g.D.Disk.view in

@@ -1,4 +1,4 @@
-use Rattle.std.proofs.Common.{rules, ◌≡◌, ◌+◌, ◌≤◌, ◌++◌, ◌∷◌, [], ℕ, List, Ok, Err, Result, take, get_or, sym, ap, subst, refl, ◌∙◌}
+use Rattle.std.proofs.Common.{rules, ◌≡◌, ◌+◌, ◌++◌, ◌∷◌, [], List, Err, Result, take, sym, ap, subst, refl, ◌∙◌}
 use Rattle.std.specs.List.{AllByRecursion}
 use Rattle.std.proofs.lemmas.List.{append_assoc, append-nil, take_more, take_all}
 use Rattle.std.proofs.lemmas.Result.{err_from_is_err_and}
@@ -15,7 +15,7 @@ use Rattle.areas_at_rest.specs.Runs.{IsQuiet}
 use Rattle.areas_at_rest.proofs.Quiet.{then as behind_reads, at_rest}
 use Rattle.areas_at_rest.proofs.Defined.{all_at}
 use Rattle.rmu_verify.specs.Added.{IsRooted}
-use Rattle.rmu_verify.proofs.IndexLines.{Adds, all_rooted, indexes_more}
+use Rattle.rmu_verify.proofs.IndexLines.{all_rooted, indexes_more}
 use Rattle.rmu_verify.proofs.indexes.verify_indexes.Goals as goal
 
 pub verify_line-requires-clause-allowed : goal.verify_line-requires-clause-allowed

@@ -1,10 +1,9 @@
-use Rattle.std.proofs.Common.{◌≡◌, ◌≤◌, ◌<◌, ℕ, sym, subst, arith}
+use Rattle.std.proofs.Common.{◌≡◌, ◌≤◌, subst, arith}
 use Rattle.rdb_types.specs.declared.file.FileId.{FileId}
 use Rattle.rdb_outside.specs.Disk.{Image, zeros}
 use Rattle.line_moves.proofs.Runs.{reads_once, still_tells}
 use Rattle.line_opening.proofs.Passed.{image_same}
 use Rattle.line_opening.proofs.Counted.{if_ok}
-use Rattle.stable_lines.specs.Slots.{area_file}
 use Rattle.rmu_verify.specs.Added.{HasOwners}
 use Rattle.areas_at_rest.proofs.Quiet.{then as behind_reads}
 use Rattle.rmu_verify.proofs.Owning.{all_owners}

@@ -1,6 +1,5 @@
-use Rattle.std.proofs.Common.{◌≡◌, ◌∙◌, ℕ, List, sym, subst}
+use Rattle.std.proofs.Common.{◌≡◌, ◌∙◌, ℕ, List, subst}
 use Rattle.std.proofs.lemmas.Result.{err_from_is_err_and}
-use Rattle.rdb_types.specs.declared.file.FileId.{FileId}
 use Rattle.rdb_outside.specs.Runs.{one_call}
 use Rattle.line_moves.proofs.Runs.{still_tells}
 use Rattle.line_opening.proofs.Passed.{image_same}
@@ -26,7 +25,7 @@ loop-slot-preserved g c =
       reads = one_call before mid (v c.read.new.self) c.read.result was.reads c.read.ensures.counts c.read.ensures.kept;
       owners = λ t.
           let bytes : c.read.new.into ≡ before.content (area_file c.args.file) c.loop-slot.slot =
-              c.in_ok-read.ensures.bytes (still_tells before mid was.reads.told t) ∙ (λ i. image_same before mid was.reads t i (c.area_file.ensures i) c.loop-slot.slot) in
+          c.in_ok-read.ensures.bytes (still_tells before mid was.reads.told t) ∙ (λ i. image_same before mid was.reads t i (c.area_file.ensures i) c.loop-slot.slot) in
           owners_more before.content c.args.file c.loop-slot.slot c.loop-slot.owners.keys c.add_owner.new.owners.keys (was.owners t)
           (subst (λ (page : List ℕ). AddsOwner (owner_at page) c.loop-slot.owners.keys c.add_owner.new.owners.keys) bytes c.in-Ok.ensures);
     }

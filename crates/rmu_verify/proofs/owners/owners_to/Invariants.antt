@@ -1,4 +1,4 @@
-use Rattle.std.proofs.Common.{IsTrue, ◌≡◌, length}
+use Rattle.std.proofs.Common.{IsTrue}
 use Rattle.rdb_outside.specs.Disk.{OnlyReads}
 use Rattle.rmu_verify.specs.Added.{HasOwners}
 use Rattle.rmu_verify.proofs.owners.owners_to.Given as goal

@@ -1,8 +1,7 @@
-use Rattle.std.proofs.Common.{◌≡◌, ◌+◌, ◌≤◌, ◌++◌, ◌∷◌, [], ℕ, List, Ok, Err, Result, take, get_or, sym, ap, subst, ◌∙◌, arith}
+use Rattle.std.proofs.Common.{◌≡◌, ◌+◌, ◌++◌, ◌∷◌, [], ℕ, List, Err, Result, take, sym, ap, subst, ◌∙◌}
 use Rattle.std.specs.List.{AllByRecursion}
 use Rattle.std.proofs.lemmas.List.{take_more, take_all}
 use Rattle.std.proofs.lemmas.Result.{err_from_is_err_and}
-use Rattle.rdb_types.specs.declared.keys.Dbkey.{Dbkey}
 use Rattle.rdo_ast.specs.Tree.{Name}
 use Rattle.rdb_meaning.specs.declared.tables.Relation.{Relation as Rows}
 use Rattle.rdb_outside.specs.Runs.{then_reads}
@@ -15,7 +14,7 @@ use Rattle.line_faults.specs.Rows.{AreRowFaults}
 use Rattle.verified_lines.specs.Relations.{FindsRows}
 use Rattle.areas_at_rest.specs.Runs.{IsQuiet}
 use Rattle.rmu_verify.specs.Added.{AddsSome}
-use Rattle.areas_at_rest.proofs.Quiet.{then as behind_reads, stopped, at_rest}
+use Rattle.areas_at_rest.proofs.Quiet.{then as behind_reads, at_rest}
 use Rattle.areas_at_rest.proofs.Defined.{all_at, relation_areas}
 use Rattle.rmu_verify.proofs.Found.{adds_more}
 use Rattle.rmu_verify.proofs.rows.verify_rows.Goals as goal

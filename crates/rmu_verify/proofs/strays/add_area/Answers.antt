@@ -1,4 +1,4 @@
-use Rattle.std.proofs.Common.{◌≡◌, ◌∙◌, ◌++◌, ap}
+use Rattle.std.proofs.Common.{◌∙◌, ◌++◌, ap}
 use Rattle.line_view.specs.Knowledge.{Lines, keys_of}
 use Rattle.rmu_verify.proofs.strays.add_area.Goals as goal
 

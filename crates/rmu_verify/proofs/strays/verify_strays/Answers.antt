@@ -1,4 +1,4 @@
-use Rattle.std.proofs.Common.{rules, ◌≡◌, ◌∙◌, ◌++◌, ℕ, true, false, List, map, Err, Result, refl, sym, subst}
+use Rattle.std.proofs.Common.{rules, ◌≡◌, ◌++◌, ℕ, true, false, List, map, Err, Result, refl, sym, subst}
 use Rattle.std.proofs.lemmas.Iterator.Consumers.{YieldsList-end, YieldsList-from_rest}
 use Rattle.std.proofs.lemmas.Result.{err_from_is_err_and}
 use Rattle.rdb_outside.specs.Runs.{then_reads}
@@ -52,5 +52,5 @@ returns-in_err-add_area-clause-quiet g c =
 pub returns-clause-found : goal.returns-clause-found
 returns-clause-found g c = λ t groups lines lays stands.
     let all : map (λ r. r.now) c.loop-area.yielded ≡ c.in_ok-owners.owners.keys =
-        (YieldsList-end (YieldsList-from_rest {shows = λ r. r.now} c.in_ok-owners.owners.keys c.into_iter-area-iterator.ensures.into_iter_gives.0) c.loop-area.yielded _ c.loop-area.yielded_by _ _ c.in-None.is c.next.ensures.steps).0 in
+    (YieldsList-end (YieldsList-from_rest {shows = λ r. r.now} c.in_ok-owners.owners.keys c.into_iter-area-iterator.ensures.into_iter_gives.0) c.loop-area.yielded _ c.loop-area.yielded_by _ _ c.in-None.is c.next.ensures.steps).0 in
     (c.in_ok-owners.owners.keys, c.in_ok-owners.ensures.owners t, subst (λ (l : List ℕ). StraysOf lines c.args.tables.now l c.args.keys.now c.loop-area.keys) all (c.loop-area.invariant.found t groups lines lays stands))

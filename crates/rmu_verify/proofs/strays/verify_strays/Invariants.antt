@@ -1,8 +1,5 @@
-use Rattle.std.proofs.Common.{◌≡◌, ◌++◌, ℕ, map}
+use Rattle.std.proofs.Common.{map}
 use Rattle.rdb_outside.specs.Disk.{OnlyReads}
-use Rattle.rdb_page.specs.Page.{IsOwner}
-use Rattle.verified_lines.specs.Faults.{IsAmong}
-use Rattle.verified_lines.specs.Relations.{strays_in}
 use Rattle.areas_at_rest.specs.Runs.{AtRest}
 use Rattle.rmu_verify.proofs.StrayLines.{StraysOf}
 use Rattle.rmu_verify.proofs.strays.verify_strays.Given as goal
