@@ -30,7 +30,7 @@ use std::alloc::Global;
 
 /// The nodes that are at fault, and the indexes that don't hold their rows' keys, in the order of the catalog's lines.
 #[derive(Drop)]
-pub(crate) struct IndexFaults {
+pub struct IndexFaults {
     pub nodes: Keys,
     pub names: Items<Chars>,
 }
@@ -152,7 +152,7 @@ fn verify_line<D: Disk>(
 }
 
 /// Adds what is at fault of all indexes of a catalog. The lines of one index's area are in memory at a time, and then its pairs with the lines of its relation's area.
-pub(crate) fn verify_indexes<D: Disk>(
+pub fn verify_indexes<D: Disk>(
     alloc: Global,
     disk: &mut D,
     held: &[OpenTransaction],

@@ -47,7 +47,7 @@ fn owners_to<D: Disk>(
 }
 
 /// The logical areas that own the pages of an area file, in ascending order. One page is in memory at a time.
-pub(crate) fn owners_of<D: Disk>(
+pub fn owners_of<D: Disk>(
     alloc: Global,
     disk: &mut D,
     file: u32,

@@ -46,7 +46,7 @@ fn verify_relation<D: Disk>(
 }
 
 /// Adds the lines of all relations that are no rows of theirs. One area is in memory at a time.
-pub(crate) fn verify_rows<D: Disk>(
+pub fn verify_rows<D: Disk>(
     alloc: Global,
     disk: &mut D,
     held: &[OpenTransaction],

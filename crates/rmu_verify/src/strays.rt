@@ -55,7 +55,7 @@ fn add_area<D: Disk>(
 }
 
 /// Adds the lines of the even logical areas that own pages and that no relation has.
-pub(crate) fn verify_strays<D: Disk>(
+pub fn verify_strays<D: Disk>(
     alloc: Global,
     disk: &mut D,
     held: &[OpenTransaction],
