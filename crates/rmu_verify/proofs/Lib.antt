@@ -1,0 +1,5 @@
+pub mod Covering
+pub mod Found
+pub mod IndexLines
+pub mod Owning
+pub mod StrayLines
