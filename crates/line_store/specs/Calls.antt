@@ -17,7 +17,7 @@ use Rattle.line_store.specs.declared.answers.CommitStop.{CommitStop}
 use Rattle.line_store.specs.declared.answers.CommitStop.TheVariants as commit
 use Rattle.line_store.specs.declared.answers.Stepped.{Stepped}
 use Rattle.line_store.specs.declared.answers.Stepped.TheVariants.{More, Done, Committed, Recovered}
-use Rattle.line_store.specs.Seats.{Seat, outside, changing, committing, closing, dead, in_flight, done_at, writes_of, lines_added, lines_written, is_written, Adds}
+use Rattle.line_store.specs.Seats.{Seat, outside, changing, committing, prepared_by, closing, dead, in_flight, done_at, writes_of, lines_added, lines_written, is_written, Adds}
 use Rattle.line_store.specs.Shelves.{Space, Clock, Shelf, Elapses}
 
 -- ---- seats
@@ -105,12 +105,19 @@ pub record TakesGroup (ws : List Write) (old new : Space) : Type 0 where
   pub snaps : new.snaps ≤ old.snaps
   pub slots : new.slots ≤ old.slots + (1 + lines_written ws)
 
--- The writes are committed at this moment, and session s comes to this seat.
+-- room and memory of the commit are taken
+pub record Prepares (s : ℕ) (old new : Shelf) : Type 0 where
+  pub now : new.now ≡ old.now
+  pub mine : new.seat s ≡ prepared_by (old.seat s)
+  pub others : KeepsOthers s old new
+  pub space : TakesGroup (writes_of (old.seat s)) old.space new.space
+
+-- The writes are committed at this moment, in the room that was taken for them, and session s comes to this seat.
 pub record Commits (s : ℕ) (ws : List Write) (seat : Seat) (moment : ℕ) (old new : Shelf) : Type 0 where
   pub now : new.now ≡ laid_all ws old.now
   pub mine : new.seat s ≡ seat
   pub others : KeepsOthers s old new
-  pub space : TakesGroup ws old.space new.space
+  pub space : KeepsSpace old.space new.space
   pub at : moment ≡ new.clock.time
 
 pub record IsDone (s : ℕ) (old new : Shelf) : Type 0 where

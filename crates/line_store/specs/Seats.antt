@@ -16,6 +16,8 @@ pub data Seat : Type 0 where
   writing : List Write → Seat
   -- the last statement's writes, which are among these, are laid
   changing : List Write → Seat
+  -- room and memory of its commit are taken
+  prepared : List Write → Seat
   committing : List Write → Seat
   rolling_back : List Write → Seat
   -- the transaction is committed, and what its commit left is put away
@@ -32,6 +34,7 @@ pub record IsMember (s : ℕ) : Type 0 where
 abbrev pub writes_of : Seat → List Write
 writes_of (writing ws) = ws
 writes_of (changing ws) = ws
+writes_of (prepared ws) = ws
 writes_of (committing ws) = ws
 writes_of (rolling_back ws) = ws
 writes_of (dead commits ws) = ws
@@ -42,6 +45,10 @@ writes_of _ = []
 abbrev pub IsWriting : Seat → Type 0
 IsWriting (writing ws) = Unit {0}
 IsWriting _ = ⊥
+
+abbrev pub IsPrepared : Seat → Type 0
+IsPrepared (prepared ws) = Unit {0}
+IsPrepared _ = ⊥
 
 abbrev pub IsReader : Seat → Type 0
 IsReader (reading start) = Unit {0}
@@ -56,6 +63,7 @@ IsAtRest _ = ⊥
 abbrev pub IsUnderWay : Seat → Type 0
 IsUnderWay outside = ⊥
 IsUnderWay (writing ws) = ⊥
+IsUnderWay (prepared ws) = ⊥
 IsUnderWay (reading start) = ⊥
 IsUnderWay _ = Unit {0}
 
@@ -75,8 +83,16 @@ in_flight _ = None
 
 -- ---- what a call makes of a seat
 
+abbrev pub prepared_by : Seat → Seat
+prepared_by (writing ws) = prepared ws
+prepared_by seat = seat
+
+abbrev pub given_back : Seat → Seat
+given_back (prepared ws) = writing ws
+given_back seat = seat
+
 abbrev pub committing_by : Seat → Seat
-committing_by (writing ws) = committing ws
+committing_by (prepared ws) = committing ws
 committing_by seat = seat
 
 abbrev pub rolled_back : Seat → Seat

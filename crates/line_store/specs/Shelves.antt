@@ -3,9 +3,9 @@ use Rattle.std.specs.Prelude.{◌≡◌, ◌≤◌, ◌==◌, ℕ, Bool, false, 
 use Rattle.rdb_types.specs.declared.keys.Limits.{Limits}
 use Rattle.line_view.specs.Knowledge.{Lines}
 use Rattle.line_view.specs.Writes.{laid_all}
-use Rattle.line_store.specs.Seats.{Seat, outside, beginning, writing, changing, committing, rolling_back, closing, reading, dead, in_flight}
+use Rattle.line_store.specs.Seats.{Seat, outside, beginning, writing, changing, prepared, committing, rolling_back, closing, reading, dead, in_flight}
 
--- The room that there is: the limits, which pages of the area files are taken, and at most how many slots of the snapshot files and of the after-image journal are in use.
+-- The room that there is: the limits, which pages of the area files are taken, and at most how many slots of the snapshot files and of the after-image journal are in use, or are taken for commits that are prepared.
 pub record Space : Type 0 where
   pub limits : Limits
   pub taken : (file page : ℕ) → Bool
@@ -32,6 +32,7 @@ seen_from outside now = now
 seen_from beginning now = now
 seen_from (writing ws) now = laid_all ws now
 seen_from (changing ws) now = laid_all ws now
+seen_from (prepared ws) now = laid_all ws now
 seen_from (committing ws) now = laid_all ws now
 seen_from (rolling_back ws) now = laid_all ws now
 seen_from closing now = now

@@ -6,7 +6,7 @@ use Rattle.line_store.specs.declared.answers.Progress.{Progress}
 use Rattle.line_store.specs.declared.answers.ReadStop.{ReadStop}
 use Rattle.line_store.specs.declared.answers.Stepped.{Stepped}
 use Rattle.line_store.specs.declared.answers.Stepped.TheVariants.{More, Done, Committed, Recovered}
-use Rattle.line_store.specs.Seats.{Seat, outside, beginning, writing, changing, committing, rolling_back, closing, reading, dead, committing_by, rolled_back, died, is_committing, in_flight, done_at, IsAlive}
+use Rattle.line_store.specs.Seats.{Seat, outside, beginning, writing, changing, prepared, committing, rolling_back, closing, reading, dead, given_back, committing_by, rolled_back, died, is_committing, in_flight, done_at, IsAlive}
 use Rattle.line_store.specs.Shelves.{Shelf}
 use Rattle.line_store.specs.Calls.{Moves, IsRead, Comes, Lasts}
 
@@ -25,6 +25,7 @@ bare outside = outside
 bare beginning = beginning
 bare (writing ws) = writing []
 bare (changing ws) = changing []
+bare (prepared ws) = prepared []
 bare (committing ws) = committing []
 bare (rolling_back ws) = rolling_back []
 bare closing = closing
@@ -63,6 +64,9 @@ BeginsReading s old new = Moves s (reading old.now) old new
 
 abbrev pub BeginsCommit : ℕ → Shelf → Shelf → Type 0
 BeginsCommit s old new = Moves s (committing_by (old.seat s)) old new
+
+abbrev pub GivesBack : ℕ → Shelf → Shelf → Type 0
+GivesBack s old new = Moves s (given_back (old.seat s)) old new
 
 abbrev pub RollsBack : ℕ → Shelf → Shelf → Type 0
 RollsBack s old new = Moves s (rolled_back (old.seat s)) old new

@@ -14,11 +14,11 @@ pub trait LineStore {
     ghost use Rattle.line_view.specs.Held.{knows, with_line, with_area};
     ghost use Rattle.rdb_page.specs.Page.{IsOwner, IsClass};
     ghost use Rattle.line_store.specs.declared.answers.Progress.TheVariants.{Done};
-    ghost use Rattle.line_store.specs.Seats.{outside, beginning, changing, committing, rolling_back, reading, IsMember, IsWriting, IsAtRest, IsReader, IsUnderWay, IsAlive, is_committing, died};
+    ghost use Rattle.line_store.specs.Seats.{outside, beginning, writing, changing, prepared, committing, rolling_back, reading, IsMember, IsWriting, IsPrepared, IsAtRest, IsReader, IsUnderWay, IsAlive, is_committing, died};
     ghost use Rattle.line_store.specs.Shelves.{Shelf, seen_by};
     ghost use Rattle.line_store.specs.Rooms.{IsRoom, IsFull, Takes, IsTaken};
-    ghost use Rattle.line_store.specs.Calls.{Moves, Learns, Changes, MayStopChange, MayStopCommit};
-    ghost use Rattle.line_store.specs.Sights.{Sight, Agrees, Does, Stays, BeginsReading, BeginsCommit, RollsBack, Dies, Reads, Steps, MayAnswer, stepped_to, StandsAlone};
+    ghost use Rattle.line_store.specs.Calls.{Moves, Learns, Changes, MayStopChange, MayStopCommit, Prepares};
+    ghost use Rattle.line_store.specs.Sights.{Sight, Agrees, Does, Stays, BeginsReading, GivesBack, BeginsCommit, RollsBack, Dies, Reads, Steps, MayAnswer, stepped_to, StandsAlone};
 
     /// What the store shows of what it holds.
     ghost sight: { Self → Sight };
@@ -101,14 +101,26 @@ pub trait LineStore {
         ensures err { OnErr result (Stays s.number (sight self.old) (sight self.new)) }
         ensures cause { IfErr result (λ stop. (h : Shelf) → (sight self.old).shows h → MayStopChange h s.number writes.now stop) };
 
-    /// Begins to commit a transaction's writes. Room and memory are taken here, and the steps behind it find none wanting.
-    fn commit(&mut self, s: Session) -> Result<(), CommitStop>
+    /// Takes the room and the memory of a commit, before the journal's lock is wanted. Others may be prepared at once, and commit first.
+    fn prepare(&mut self, s: Session) -> Result<(), CommitStop>
         requires member { IsMember s.number }
         requires writing { IsWriting ((sight self.old).stand s.number) }
-        requires alone { StandsAlone s.number (sight self.old) }
-        ensures ok { OnOk result (Does s.number (committing []) (BeginsCommit s.number) (sight self.old) (sight self.new)) }
+        ensures ok { OnOk result (Does s.number (prepared []) (Prepares s.number) (sight self.old) (sight self.new)) }
         ensures err { OnErr result (Stays s.number (sight self.old) (sight self.new)) }
         ensures cause { IfErr result (λ stop. (h : Shelf) → (sight self.old).shows h → MayStopCommit h s.number stop) };
+
+    /// Gives back what was taken for a commit: the transaction goes on.
+    fn give_back(&mut self, s: Session)
+        requires member { IsMember s.number }
+        requires prepared { IsPrepared ((sight self.old).stand s.number) }
+        ensures does { Does s.number (writing []) (GivesBack s.number) (sight self.old) (sight self.new) };
+
+    /// Begins to commit what is prepared. It can't be refused, and the steps behind it find neither room nor memory wanting.
+    fn commit(&mut self, s: Session)
+        requires member { IsMember s.number }
+        requires prepared { IsPrepared ((sight self.old).stand s.number) }
+        requires alone { StandsAlone s.number (sight self.old) }
+        ensures does { Does s.number (committing []) (BeginsCommit s.number) (sight self.old) (sight self.new) };
 
     /// Begins to undo a transaction, which wants no memory.
     fn roll_back(&mut self, s: Session)
