@@ -158,7 +158,6 @@ Comes s old new (Err fault) = Fails s fault old new
 abbrev pub MayStand : Shelf → Lines → Type 0
 MayStand h lines = (lines ≡ h.now) ⊎ ((s : ℕ) × (ws : List Write) × (in_flight (h.seat s) ≡ Some ws) × (lines ≡ laid_all ws h.now))
 
--- What a crash since a moment might have left, it might have left before the call, or it may stand before the call or behind it. What a crash may leave now, may stand now.
+-- What a crash since a moment might have left, it might have left before the call, or it may stand before the call or behind it.
 pub record Lasts (before behind : ℕ → Lines → Type 0) (old new : Shelf) : Type 0 where
   pub since : (t : ℕ) (lines : Lines) → t ≤ old.clock.time → behind t lines → before t lines ⊎ (MayStand old lines ⊎ MayStand new lines)
-  pub now : (lines : Lines) → behind new.clock.time lines → MayStand new lines

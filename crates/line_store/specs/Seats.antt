@@ -46,6 +46,7 @@ abbrev pub IsWriting : Seat → Type 0
 IsWriting (writing ws) = Unit {0}
 IsWriting _ = ⊥
 
+-- it may commit, and goes on writing only once that is given back
 abbrev pub IsPrepared : Seat → Type 0
 IsPrepared (prepared ws) = Unit {0}
 IsPrepared _ = ⊥

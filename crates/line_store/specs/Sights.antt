@@ -8,7 +8,7 @@ use Rattle.line_store.specs.declared.answers.Stepped.{Stepped}
 use Rattle.line_store.specs.declared.answers.Stepped.TheVariants.{More, Done, Committed, Recovered}
 use Rattle.line_store.specs.Seats.{Seat, outside, beginning, writing, changing, prepared, committing, rolling_back, closing, reading, dead, given_back, committing_by, rolled_back, died, is_committing, in_flight, done_at, IsAlive}
 use Rattle.line_store.specs.Shelves.{Shelf}
-use Rattle.line_store.specs.Calls.{Moves, IsRead, Comes, Lasts}
+use Rattle.line_store.specs.Calls.{Moves, IsRead, Comes, Lasts, MayStand}
 
 -- The memory knows where each session stands. Shelves are shown only where the disk tells its content.
 pub record Sight : Type 1 where
@@ -35,6 +35,10 @@ bare (dead commits ws) = dead commits []
 -- a session stands as on each shelf that is shown
 abbrev pub Agrees : Sight → Type 0
 Agrees sight = (h : Shelf) → sight.shows h → (s : ℕ) → bare (sight.stand s) ≡ bare (h.seat s)
+
+-- what a crash may leave now, may stand on each shelf that is shown
+abbrev pub Stands : Sight → Type 0
+Stands sight = (h : Shelf) → sight.shows h → (lines : Lines) → sight.left h.clock.time lines → MayStand h lines
 
 -- ---- calls
 

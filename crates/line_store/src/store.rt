@@ -18,13 +18,16 @@ pub trait LineStore {
     ghost use Rattle.line_store.specs.Shelves.{Shelf, seen_by};
     ghost use Rattle.line_store.specs.Rooms.{IsRoom, IsFull, Takes, IsTaken};
     ghost use Rattle.line_store.specs.Calls.{Moves, Learns, Changes, MayStopChange, MayStopCommit, Prepares};
-    ghost use Rattle.line_store.specs.Sights.{Sight, Agrees, Does, Stays, BeginsReading, GivesBack, BeginsCommit, RollsBack, Dies, Reads, Steps, MayAnswer, stepped_to, StandsAlone};
+    ghost use Rattle.line_store.specs.Sights.{Sight, Agrees, Stands, Does, Stays, BeginsReading, GivesBack, BeginsCommit, RollsBack, Dies, Reads, Steps, MayAnswer, stepped_to, StandsAlone};
 
     /// What the store shows of what it holds.
     ghost sight: { Self → Sight };
 
     /// Its memory knows where sessions stand.
     ghost agrees: { (store : Self) → Agrees (sight store) };
+
+    /// A crash leaves what is committed, or has the commit that is under way.
+    ghost stands: { (store : Self) → Stands (sight store) };
 
     /// Begins a read-write transaction.
     fn begin(&mut self, s: Session)

@@ -1,15 +1,13 @@
 -- What the store shows behind a call.
-use Rattle.std.proofs.Common.{◌≡◌, ◌==◌, ℕ, true, false, [], Option, Some, refl, sym, ap, subst, ◌∙◌, arith, Result, Ok, Err}
-use Rattle.line_store.specs.declared.answers.Progress.{Progress}
+use Rattle.std.proofs.Common.{◌≡◌, ℕ, true, false, [], Option, Some, refl, sym, ap, subst, ◌∙◌, arith, Ok, Err}
 use Rattle.line_store.specs.declared.answers.Progress.TheVariants.{Done}
-use Rattle.line_store.specs.declared.answers.ReadStop.{ReadStop}
 use Rattle.line_store.specs.declared.answers.ReadStop.TheVariants.{NoMemory}
 use Rattle.line_store.specs.declared.answers.Stepped.{Stepped}
 use Rattle.line_store.specs.declared.answers.Stepped.TheVariants.{More, Done as HasDone, Committed, Recovered}
 use Rattle.line_store.specs.Seats.{Seat, outside, beginning, writing, changing, committing, rolling_back, closing, reading, dead, IsWriting, IsAlive, committing_by, rolled_back, done_at}
 use Rattle.line_store.specs.Shelves.{Shelf}
 use Rattle.line_store.specs.Calls.{Moves, IsCommitted}
-use Rattle.line_store.specs.Sights.{Sight, Behind, Does, Stays, IsSame, Reads, Steps, MayAnswer, stepped_to, bare, seat_or}
+use Rattle.line_store.specs.Sights.{Behind, Does, Stays, IsSame, Reads, Steps, MayAnswer, stepped_to, bare, seat_or}
 use Rattle.std.specs.Prelude.{slice_get, is_some}
 use Rattle.std.proofs.lemmas.Bool.{true≢false}
 use Rattle.rdb_types.specs.declared.session.Moment.{Moment}
@@ -24,7 +22,7 @@ behind k new R h is related = record {
   shelf = shelf_of new;
   shown = refl;
   related = subst (λ (x : Shelf). R x (shelf_of new)) (sym is) related;
-  lasts = record { since = λ t lines early left. absurd left; now = λ lines left. absurd left };
+  lasts = record { since = λ t lines early left. absurd left };
 }
 
 pub moved : (k new : Kept) (s : ℕ) (seat there : Seat) (R : Shelf → Shelf → Type 0) → Moves s seat (shelf_of k) (shelf_of new) → bare seat ≡ bare there → R (shelf_of k) (shelf_of new) → Does s there R (sight_of k) (sight_of new)

@@ -83,6 +83,8 @@ impl LineStore for MemoryStore {
 
     ghost agrees = { λ store h shown s. ap (λ shelf. bare (shelf.seat s)) (sym shown) };
 
+    ghost stands = { λ store h shown lines left. absurd left };
+
     fn begin(&mut self, s: Session) {
         self.put(s, Seat::Beginning);
     }
