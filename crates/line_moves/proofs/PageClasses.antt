@@ -1,9 +1,9 @@
 -- Pages keep the classes of their areas.
-use Rattle.std.proofs.Common.{◌≡◌, ◌≢◌, ℕ, ◌-◌, ◌≤◌, IsTrue, List, ⊎_elim, ap, sym, subst, ◌∙◌, arith}
+use Rattle.std.proofs.Common.{◌≡◌, ◌≢◌, ℕ, ◌-◌, ◌≤◌, IsTrue, List, ⊎_elim, ap, sym, subst, ◌∙◌}
 use Rattle.rdb_page.specs.Page.{class_at}
 use Rattle.rdb_types.specs.declared.file.FileId.{FileId}
 use Rattle.rdb_types.specs.declared.file.FileKind.TheVariants.{Area}
-use Rattle.rdb_outside.specs.Disk.{Image, View, SameContent, OnlyReads, Keeps}
+use Rattle.rdb_outside.specs.Disk.{Image, View, SameContent, OnlyReads}
 use Rattle.area_files.specs.Areas.{IsDataPage, space_page_of}
 use Rattle.stable_lines.specs.Slots.{area_file, owner_at}
 use Rattle.line_moves.specs.declared.places.Place.{Place}
