@@ -33,8 +33,8 @@ class_begun classes place owner class y z started its was = ⊎_elim
 pub classes_behind : (classes : ℕ → ℕ) (old new : Image) (file number : ℕ) (x : List ℕ) → 1 ≤ number → IsElsewhere file number old new → new (area_file file) (number - 1) ≡ x → HasItsClass classes x → HaveTheirClasses classes old → HaveTheirClasses classes new
 classes_behind classes old new file number x first elsewhere here its was f n is on = ⊎_elim
     (λ files. ⊎_elim
-        (λ slots. subst (λ (b : List ℕ). HasItsClass classes b) (sym ((λ k. new (area_file (files k)) (slots k)) ∙ here)) its)
-        (λ off. untouched (λ e at. off at)) (nat_cases (n - 1) (number - 1)))
+    (λ slots. subst (λ (b : List ℕ). HasItsClass classes b) (sym ((λ k. new (area_file (files k)) (slots k)) ∙ here)) its)
+    (λ off. untouched (λ e at. off at)) (nat_cases (n - 1) (number - 1)))
     (λ off. untouched (λ e at. off (ap (λ (k : FileId). k.number) e))) (nat_cases f file)
   where
     untouched : (area_file f ≡ area_file file → n - 1 ≡ number - 1 → ⊥) → HasItsClass classes (new (area_file f) (n - 1))

@@ -1,5 +1,5 @@
 -- At a commit's gathering each line that it commits lies on a page of its area's class.
-use Rattle.std.proofs.Common.{arith, ◌≡◌, ◌≢◌, ℕ, ◌-◌, ◌%◌, ◌≤◌, ◌<◌, IsTrue, nat_eq, Bool, true, false, List, [], ◌∷◌, zero, suc, Some, None, ⊎_elim, absurd, length, ap, sym, subst, ◌∙◌, refl, slice_get}
+use Rattle.std.proofs.Common.{arith, ◌≡◌, ℕ, ◌%◌, ◌≤◌, ◌<◌, nat_eq, Bool, true, false, List, [], ◌∷◌, zero, suc, Some, None, ⊎_elim, length, ap, sym, subst, ◌∙◌, refl, slice_get}
 use Rattle.std.specs.Prelude.{if◌then◌else◌}
 use Rattle.rdb_types.specs.declared.keys.Dbkey.{Dbkey}
 use Rattle.rdb_types.specs.declared.keys.Line.{Line}
@@ -8,14 +8,13 @@ use Rattle.rdb_types.specs.declared.keys.LineState.TheVariants.{Never, Present, 
 use Rattle.rdb_types.specs.declared.keys.Tsn.{Tsn}
 use Rattle.rdb_page.specs.Lines.{never, IsLine}
 use Rattle.rdb_page.specs.Page.{class_at, lines_of}
-use Rattle.rdb_page.specs.Whole.{IsPageOf, IsUsedPage}
-use Rattle.rdb_outside.specs.Disk.{Image, View, LeftNow, Pending}
+use Rattle.rdb_page.specs.Whole.{IsUsedPage}
+use Rattle.rdb_outside.specs.Disk.{View, LeftNow, Pending}
 use Rattle.area_files.specs.Areas.{IsDataPage}
-use Rattle.line_view.specs.Knowledge.{line_in}
 use Rattle.line_versions.specs.Lines.{storage_area, shown, shown_as}
-use Rattle.stable_lines.specs.Slots.{area_file, file_of, slot_of, owner_at, has_place, line_on, IsAreaFile}
+use Rattle.stable_lines.specs.Slots.{file_of, slot_of, owner_at, has_place, line_on, IsAreaFile}
 use Rattle.stable_lines.specs.Kept.{FitsClass}
-use Rattle.stable_lines.specs.Progress.{Flight, Progress, lines_with}
+use Rattle.stable_lines.specs.Progress.{Flight, Progress}
 use Rattle.stable_lines.specs.Facts.{PendingContents, IsCommitted, IsChanged, Facts}
 use Rattle.stable_lines.proofs.Laying.{IsLaid, IsLeft, found_behind}
 use Rattle.stable_lines.proofs.Never.{zeros_owner, space_owner}
@@ -127,5 +126,5 @@ classes_had v now f place lines classes left facts is put had key bytes got = �
     kept l = let was = sym l.found ∙ got in ⊎_elim
         (λ (c : IsCommitted (Pending v) now key (line_on key x)). of_shown (c.shows ∙ was))
         (λ (c : IsChanged (Pending v) now key (line_on key x)). let old = facts.pages.class key bytes x was there in
-            fits_there (Pending v) now facts key x there f.classes bytes its (changed_used (Pending v) now facts key x there c) (subst (λ (n : ℕ). length bytes ≤ n) (sym old.same) old.fits))
+        fits_there (Pending v) now facts key x there f.classes bytes its (changed_used (Pending v) now facts key x there c) (subst (λ (n : ℕ). length bytes ≤ n) (sym old.same) old.fits))
         (facts.line key x there)

@@ -1,6 +1,4 @@
-use Rattle.std.proofs.Common.{◌≡◌, ◌∙◌, ap, sym, subst, arith}
-use Rattle.rdb_outside.specs.Disk.{Pending}
-use Rattle.stable_lines.specs.Facts.{Facts}
+use Rattle.std.proofs.Common.{arith}
 use Rattle.line_moves.proofs.PageClasses.{classes_read, classes_beside}
 use Rattle.member_steps.proofs.ClassesHad.{classes_had}
 use Rattle.member_steps.proofs.laws.pages_have_classes.Goals as goal
