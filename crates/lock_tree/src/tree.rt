@@ -5,7 +5,7 @@ ghost use Rattle.vms_queues.specs.Modes.{at_most};
 ghost use Rattle.vms_queues.specs.Owners.{is_owner};
 ghost use Rattle.lock_needs.specs.Nodes.{same_node, is_on};
 ghost use Rattle.lock_needs.specs.Needs.{is_covered, is_plain};
-ghost use Rattle.lock_needs.specs.Keeping.{is_excess};
+ghost use Rattle.lock_needs.specs.Keeping.{is_excess, needed_on as joined_on};
 ghost use Rattle.lock_needs.specs.Wants.{kept_at};
 ghost use Rattle.lock_tree_laws.specs.LockTable.{granted_at, AllShare, KeepsLocks};
 ghost use Rattle.lock_tree_laws.specs.Forest.{IsWhole, KeepsParties, NeedsAreApart, idle, party_of, has_need, asks_of};
@@ -185,6 +185,17 @@ impl Tree {
         match self.parts.parties.get(&owner) {
             Some(party) => party.needs().iter().any(|held| *held == need),
             None => false,
+        }
+    }
+
+    /// The modes of the needs that the owner has got on the node, joined; NL where it has got none there. Needs on nodes above or below
+    /// aren't looked at.
+    pub fn needed_on(&self, owner: u32, node: Node) -> Mode
+        ensures { result ≡ joined_on (needs_of self.now owner) node }
+    {
+        match self.parts.parties.get(&owner) {
+            Some(party) => party.needed_on(node),
+            None => Mode::NL,
         }
     }
 

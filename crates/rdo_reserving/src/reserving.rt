@@ -4,16 +4,21 @@ ghost use Rattle.sound_maps.specs.Maps.{IsSoundWith};
 ghost use Rattle.session_jobs.specs.Jobs.{WhereItAgrees};
 ghost use Rattle.reserved_locks.specs.Reserved.{AreLocksOf};
 
+use crate::reaching::reached_by_catalog;
 use catalog::read_catalog;
 use line_view::{Known, Stop};
-use rdo_ast::syntax::Reservation;
+use rdb_types::NoMemory;
+use rdo_ast::reply::Standing;
+use rdo_ast::syntax::{Item, Reservation};
 use rdo_exec::RdoStatements;
+use reached_changes::Reaches;
 use reserved_locks::{LockNeeds, Reserves, Unnamed, locks_in};
 use session_jobs::{Answer, Job, Statements};
 use std::alloc::Global;
 use stored_schema::Schema;
 
-/// It works statements as `RdoStatements` does, and names the locks of reservations by the catalog of what is known.
+/// It works statements as `RdoStatements` does, and by the catalog of what is known it names the locks of reservations, and tells of
+/// changes that nothing refuses before their work.
 #[derive(Drop)]
 pub struct ReservingStatements {}
 
@@ -69,5 +74,16 @@ impl Reserves for ReservingStatements {
         reserved: &[Reservation],
     ) -> Result<LockNeeds, Unnamed> {
         locks_by_catalog(alloc, known, reserved)
+    }
+}
+
+impl Reaches for ReservingStatements {
+    fn is_reached(
+        alloc: Global,
+        known: &Known,
+        standing: &Standing,
+        item: &Item,
+    ) -> Result<bool, NoMemory> {
+        reached_by_catalog(alloc, known, standing, item)
     }
 }
