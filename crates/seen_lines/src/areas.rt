@@ -1,5 +1,5 @@
 // The lines of a logical area as a transaction sees them.
-ghost use Rattle.std.specs.Prelude.{◌≡◌, ◌<◌, ◌-◌, ◌^◌, ℕ, List, Option, Some, length, map, slice_get, IfOk, OnOk, IsErrOf, IsTrue};
+ghost use Rattle.std.specs.Prelude.{◌≡◌, ◌<◌, ◌^◌, ℕ, List, Option, Some, length, map, IfOk, OnOk, IsErrOf, IsTrue};
 ghost use Rattle.rdb_types.specs.declared.file.FileId.{FileId as File};
 ghost use Rattle.rdb_outside.specs.Causes.{Rose};
 ghost use Rattle.rdb_outside.specs.Disk.{OnlyReads};
@@ -14,7 +14,7 @@ ghost use Rattle.committed_lines.specs.Seen.{AreSeen};
 ghost use Rattle.committed_tables.specs.Tables.{WereUsed};
 ghost use Rattle.seen_lines.specs.Seen.{IsOfArea, laid_in, seen_by, with_found};
 
-use committed_lines::{MemberSeen, committed_line};
+use committed_lines::{HasBeforeImages, committed_line};
 use line_store::{Fault, ReadStop};
 use line_view::PresentLine;
 use member_memory::MemberLines;
@@ -25,24 +25,23 @@ use rdb_types::{Dbkey, Image, Line, LineState, NoMemory};
 use std::alloc::Global;
 
 // Puts the committed image of a line with the others, where it has one.
-fn gather<D: Disk>(
+fn gather<D: Disk, T: HasBeforeImages>(
     disk: &mut D,
     found: &mut Entries<Dbkey, Image>,
     key: Dbkey,
-    members: &[MemberSeen],
+    members: &[T],
 ) -> Result<(), ReadStop>
-    requires { (i : ℕ) (seen : _) → slice_get members.now i ≡ Some seen
-        → length seen.keys.now < 2 ^ 32 - 1 }
+    requires { length members.now < 2 ^ 32 }
     ensures reads { OnlyReads (D.view disk.old) (D.view disk.new) }
     ensures failed { IsErrOf result (ReadStop.Fault Failed)
         → Rose (D.view disk.old).faults (D.view disk.new).faults }
     ensures gathers { OnOk result ((image : Option (List ℕ)) × (found.new ≡ with_found key image found.old)
         × (IsTrue (D.view disk.old).tells → (ledger : Ledger)
-        → LedgerFacts (D.view disk.old) ledger → AreSeen ledger members.now
+        → LedgerFacts (D.view disk.old) ledger → AreSeen T.seen ledger members.now
         → image ≡ line_in key ledger.base.lines)) }
     ensures bad { (f : File) (s : ℕ) → IsErrOf result (ReadStop.Fault (Bad f s))
         → IsTrue (D.view disk.old).tells → (ledger : Ledger)
-        → LedgerFacts (D.view disk.old) ledger → AreSeen ledger members.now → ⊥ }
+        → LedgerFacts (D.view disk.old) ledger → AreSeen T.seen ledger members.now → ⊥ }
 {
     let image = match committed_line(disk, key, members) {
         Ok(Some(image)) => image,
@@ -56,27 +55,26 @@ fn gather<D: Disk>(
 }
 
 // The committed lines of an area, of those that were ever used by the table.
-fn committed_area<D: Disk>(
+fn committed_area<D: Disk, T: HasBeforeImages>(
     alloc: Global,
     disk: &mut D,
     table: &PageTable,
     area: u32,
-    members: &[MemberSeen],
+    members: &[T],
 ) -> Result<Entries<Dbkey, Image>, ReadStop>
-    requires { (i : ℕ) (seen : _) → slice_get members.now i ≡ Some seen
-        → length seen.keys.now < 2 ^ 32 - 1 }
+    requires { length members.now < 2 ^ 32 }
     ensures reads { OnlyReads (D.view disk.old) (D.view disk.new) }
     ensures failed { IsErrOf result (ReadStop.Fault Failed)
         → Rose (D.view disk.old).faults (D.view disk.new).faults }
     ensures area { IfOk result (IsOfArea area) }
     ensures committed { IfOk result (λ found. IsTrue (D.view disk.old).tells
         → (ledger : Ledger) (file : ℕ)
-        → LedgerFacts (D.view disk.old) ledger → AreSeen ledger members.now
+        → LedgerFacts (D.view disk.old) ledger → AreSeen T.seen ledger members.now
         → IsOwner file area → WereUsed table.now file ledger.base.lines
         → found ≡ lines_in area ledger.base.lines) }
     ensures bad { (f : File) (s : ℕ) → IsErrOf result (ReadStop.Fault (Bad f s))
         → IsTrue (D.view disk.old).tells → (ledger : Ledger)
-        → LedgerFacts (D.view disk.old) ledger → AreSeen ledger members.now → ⊥ }
+        → LedgerFacts (D.view disk.old) ledger → AreSeen T.seen ledger members.now → ⊥ }
 {
     let mut found = Entries::new(alloc);
     let mut from = None;
@@ -128,16 +126,15 @@ fn lay_own(found: &mut Entries<Dbkey, Image>, area: u32, own: &MemberLines) -> R
 }
 
 /// The lines of a logical area as a transaction with these lines of its own sees them, by the table of the area's file.
-pub fn seen_area<D: Disk>(
+pub fn seen_area<D: Disk, T: HasBeforeImages>(
     alloc: Global,
     disk: &mut D,
     table: &PageTable,
     area: u32,
     own: &MemberLines,
-    members: &[MemberSeen],
+    members: &[T],
 ) -> Result<Entries<Dbkey, Image>, ReadStop>
-    requires { (i : ℕ) (seen : _) → slice_get members.now i ≡ Some seen
-        → length seen.keys.now < 2 ^ 32 - 1 }
+    requires { length members.now < 2 ^ 32 }
     ensures reads { OnlyReads (D.view disk.old) (D.view disk.new) }
     ensures failed { IsErrOf result (ReadStop.Fault Failed)
         → Rose (D.view disk.old).faults (D.view disk.new).faults }
@@ -146,14 +143,14 @@ pub fn seen_area<D: Disk>(
     ensures area { IfOk result (IsOfArea area) }
     ensures seen { IfOk result (λ found. IsTrue (D.view disk.old).tells
         → (ledger : Ledger) (file : ℕ)
-        → LedgerFacts (D.view disk.old) ledger → AreSeen ledger members.now
+        → LedgerFacts (D.view disk.old) ledger → AreSeen T.seen ledger members.now
         → IsOwner file area → WereUsed table.now file ledger.base.lines
         → found ≡ lines_in area (seen_by own.now ledger.base.lines)) }
 
     // No slot is refused.
     ensures bad { (f : File) (s : ℕ) → IsErrOf result (ReadStop.Fault (Bad f s))
         → IsTrue (D.view disk.old).tells → (ledger : Ledger)
-        → LedgerFacts (D.view disk.old) ledger → AreSeen ledger members.now → ⊥ }
+        → LedgerFacts (D.view disk.old) ledger → AreSeen T.seen ledger members.now → ⊥ }
 {
     let mut found = match committed_area(alloc, disk, table, area, members) {
         Ok(found) => found,

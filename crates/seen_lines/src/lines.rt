@@ -1,5 +1,5 @@
 // One line as a transaction sees it.
-ghost use Rattle.std.specs.Prelude.{◌≡◌, ◌<◌, ◌-◌, ◌^◌, ℕ, Some, length, slice_get, IfOk, IsErrOf, IsTrue};
+ghost use Rattle.std.specs.Prelude.{◌≡◌, ◌<◌, ◌^◌, ℕ, Some, length, IfOk, IsErrOf, IsTrue};
 ghost use Rattle.rdb_types.specs.declared.file.FileId.{FileId as File};
 ghost use Rattle.rdb_outside.specs.Causes.{Rose};
 ghost use Rattle.rdb_outside.specs.Disk.{OnlyReads};
@@ -10,7 +10,7 @@ ghost use Rattle.disk_seats.specs.Members.{LedgerFacts};
 ghost use Rattle.committed_lines.specs.Seen.{AreSeen};
 ghost use Rattle.seen_lines.specs.Seen.{seen_by};
 
-use committed_lines::{MemberSeen, committed_line};
+use committed_lines::{HasBeforeImages, committed_line};
 use line_store::Fault;
 use member_memory::MemberLines;
 use rdb_outside::Disk;
@@ -28,25 +28,24 @@ fn shown(line: &Line) -> Option<Image>
 }
 
 /// The image of a line as a transaction with these lines of its own sees it, or None. Of a line that it wrote nothing is read.
-pub fn seen_line<D: Disk>(
+pub fn seen_line<D: Disk, T: HasBeforeImages>(
     disk: &mut D,
     key: Dbkey,
     own: &MemberLines,
-    members: &[MemberSeen],
+    members: &[T],
 ) -> Result<Option<Image>, Fault>
-    requires { (i : ℕ) (seen : _) → slice_get members.now i ≡ Some seen
-        → length seen.keys.now < 2 ^ 32 - 1 }
+    requires { length members.now < 2 ^ 32 }
     ensures reads { OnlyReads (D.view disk.old) (D.view disk.new) }
     ensures failed { IsErrOf result Fault.Failed
         → Rose (D.view disk.old).faults (D.view disk.new).faults }
     ensures seen { IfOk result (λ image. IsTrue (D.view disk.old).tells → (ledger : Ledger)
-        → LedgerFacts (D.view disk.old) ledger → AreSeen ledger members.now
+        → LedgerFacts (D.view disk.old) ledger → AreSeen T.seen ledger members.now
         → image ≡ line_in key (seen_by own.now ledger.base.lines)) }
 
     // No slot is refused.
     ensures bad { (f : File) (s : ℕ) → IsErrOf result (Fault.Bad f s)
         → IsTrue (D.view disk.old).tells → (ledger : Ledger)
-        → LedgerFacts (D.view disk.old) ledger → AreSeen ledger members.now → ⊥ }
+        → LedgerFacts (D.view disk.old) ledger → AreSeen T.seen ledger members.now → ⊥ }
 {
     match own.line(key) {
         Some(line) => Ok(shown(line)),

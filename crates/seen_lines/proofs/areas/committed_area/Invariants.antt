@@ -16,7 +16,7 @@ invariant-loop-key g l = let old = g.D.Disk.view l.fn.disk in record {
   reads : OnlyReads old (g.D.Disk.view l.disk);
   of_area : IsOfArea l.area l.found;
   line : (from : Dbkey) → l.from ≡ Some from → IsLineOf l.table from × (from.area ≡ l.area);
-  gathers : IsTrue old.tells → (ledger : Ledger) (file : ℕ) → LedgerFacts old ledger → AreSeen ledger l.members → IsOwner file l.area → WereUsed l.table file ledger.base.lines → Gathers ledger.base.lines l.area l.from l.found;
+  gathers : IsTrue old.tells → (ledger : Ledger) (file : ℕ) → LedgerFacts old ledger → AreSeen g.T.HasBeforeImages.seen ledger l.members → IsOwner file l.area → WereUsed l.table file ledger.base.lines → Gathers ledger.base.lines l.area l.from l.found;
 }
 
 abbrev pub decreases-loop-key : goal.decreases-loop-key
