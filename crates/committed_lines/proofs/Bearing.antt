@@ -23,7 +23,6 @@ pub record HasBefore (v : View) (g : Ledger) (key : Dbkey) (member : ℕ) (seen 
   pub transaction : Open
   pub before : IsBefore v.content g.base.lines member transaction key
   pub placed : slice_get seen.keys before.index ≡ Some key
-  pub once : (i k : ℕ) (other : Dbkey) → slice_get seen.keys i ≡ Some other → slice_get seen.keys k ≡ Some other → i ≡ k
 
 module _ {T : Type 0} (seen_of : T → Option Seen) (v : View) (left : LeftNow v v.content) (g : Ledger) (was : LedgerFacts v g) (members : List T) (are : AreSeen seen_of g members) (key : Dbkey) where
   pub not_open : ((i : ℕ) (its : T) (seen : Seen) → slice_get members i ≡ Some its → seen_of its ≡ Some seen → seen.tsn.number ≡ (line_at v.content key).tsn.number → ⊥) → IsNotOpen g.base (line_at v.content key).tsn.number
@@ -38,13 +37,13 @@ module _ {T : Type 0} (seen_of : T → Option Seen) (v : View) (left : LeftNow v
   has_before member its seen got has bears =
       let e = are.each member its seen got has in
       let b = stands_changed v left g was key member e.0 e.1 (sym bears ∙ ap (λ (t : Tsn). t.number) e.2.tsn) in
-      record { transaction = e.0; before = b; placed = e.2.keys b.index b.undo b.is ∙ ap Some b.key_is; once = e.2.once }
+      record { transaction = e.0; before = b; placed = e.2.keys b.index b.undo b.is ∙ ap Some b.key_is }
 
 -- its entry stands in the slot behind that place
-pub in_slot : (v : View) (g : Ledger) (key : Dbkey) (member : ℕ) (seen : Seen) (b : HasBefore v g key member seen) (place : ℕ) → slice_get seen.keys place ≡ Some key → (image : Image) → image (ruj_file member) (place + 1) ≡ v.content (ruj_file member) (place + 1)
+pub in_slot : (v : View) (g : Ledger) (key : Dbkey) (member : ℕ) (seen : Seen) (b : HasBefore v g key member seen) (place : ℕ) → b.before.index ≡ place → (image : Image) → image (ruj_file member) (place + 1) ≡ v.content (ruj_file member) (place + 1)
     → IsEntry (image (ruj_file member) (place + 1)) (entry_at b.transaction.tsn (b.before.index + 1) b.before.undo)
 in_slot v g key member seen b place at image same =
-    let here : place ≡ b.before.index = b.once place b.before.index key at b.placed in
+    let here : place ≡ b.before.index = sym at in
     subst (λ (bytes : List ℕ). IsEntry bytes (entry_at b.transaction.tsn (b.before.index + 1) b.before.undo))
     (sym (same ∙ ap (λ (n : ℕ). v.content (ruj_file member) (n + 1)) here)) b.before.entry
 

@@ -11,11 +11,10 @@ pub record Seen : Type 0 where
   pub tsn : Tsn
   pub keys : List Dbkey
 
--- It is this open transaction. Each key stands there once.
+-- It is this open transaction.
 pub record IsSeen (o : Open) (seen : Seen) : Type 0 where
   pub tsn : seen.tsn ≡ o.tsn
   pub keys : (i : ℕ) (undo : Undo) → slice_get o.entries i ≡ Some undo → slice_get seen.keys i ≡ Some undo.key
-  pub once : (i k : ℕ) (key : Dbkey) → slice_get seen.keys i ≡ Some key → slice_get seen.keys k ≡ Some key → i ≡ k
 
 -- a member, in the place of its number, of whose transaction before-images stand
 pub record Stands {T : Type 0} (seen_of : T → Option Seen) (members : List T) (member : ℕ) : Type 0 where

@@ -19,10 +19,11 @@ pub trait HasBeforeImages {
         ensures no { result ≡ false → (its : Seen) → seen self.now ≡ Some its
             → its.tsn.number ≡ tsn.number → ⊥ };
 
-    /// The place of a key among those of its before-images.
+    /// The one place of a key among those of its before-images.
     fn place(&self, key: Dbkey) -> Option<u32>
         ensures found { IfSome result (λ place. (place + 1 < 2 ^ 32) × ((its : Seen) → seen self.now ≡ Some its
-            → slice_get its.keys place ≡ Some key)) }
+            → slice_get its.keys place ≡ Some key)
+            × ((its : Seen) (i : ℕ) → seen self.now ≡ Some its → slice_get its.keys i ≡ Some key → i ≡ place)) }
         ensures none { IfNone result ((its : Seen) (i : ℕ) → seen self.now ≡ Some its
             → slice_get its.keys i ≡ Some key → ⊥) };
 }

@@ -54,7 +54,7 @@ returns-in-Ok-before_image-clause-committed g c = let v = g.D.Disk.view c.args.d
     let its = at_place c.args.members.now member c.index-members-member.result found.0 found.2 c.index-members-member.is in
     let b = has_before g.T.HasBeforeImages.seen v left ledger was c.args.members.now are c.args.key member found.0 seen found.2 found.3 (found.4 ∙ ap (λ (l : Line). l.tsn.number) (c.in-Ok.ensures.line t)) in
     let reads = c.line_at.ensures.reads in
-    let at = c.in-Some-place.ensures.found.1 seen (ap g.T.HasBeforeImages.seen its ∙ found.3) in
+    let at = c.in-Some-place.ensures.found.2 seen b.before.index (ap g.T.HasBeforeImages.seen its ∙ found.3) b.placed in
     let entry = in_slot v ledger c.args.key member seen b c.in-Some-place.index at mid.content ((reads.keeps t).content (ruj_file member) (c.in-Some-place.index + 1)) in
     c.shown-in-Ok-before_image.ensures ∙ ap shown (c.in-Ok-before_image.ensures.before (still_tells v mid reads.told t) _ entry) ∙ b.before.shows
 
@@ -68,6 +68,6 @@ returns-in-Err-before_image-clause-bad g c = let v = g.D.Disk.view c.args.disk.n
     let its = at_place c.args.members.now member c.index-members-member.result found.0 found.2 c.index-members-member.is in
     let b = has_before g.T.HasBeforeImages.seen v left ledger was c.args.members.now are c.args.key member found.0 seen found.2 found.3 (found.4 ∙ ap (λ (l : Line). l.tsn.number) (c.in-Ok.ensures.line t)) in
     let reads = c.line_at.ensures.reads in
-    let at = c.in-Some-place.ensures.found.1 seen (ap g.T.HasBeforeImages.seen its ∙ found.3) in
+    let at = c.in-Some-place.ensures.found.2 seen b.before.index (ap g.T.HasBeforeImages.seen its ∙ found.3) b.placed in
     let entry = in_slot v ledger c.args.key member seen b c.in-Some-place.index at mid.content ((reads.keeps t).content (ruj_file member) (c.in-Some-place.index + 1)) in
     c.in-Err-before_image.ensures.bad f s (told_on c.in-Err-before_image.fault (Bad f s) is) (still_tells v mid reads.told t) _ entry
