@@ -1,0 +1,5 @@
+mod Counting
+mod Growing
+mod Adding
+mod Rewriting
+pub mod Laying
