@@ -1,0 +1,246 @@
+// A store, and where its sessions stand.
+ghost use Rattle.std.specs.Prelude.{◌≡◌, true};
+ghost use Rattle.line_store.specs.Seats.{IsMember};
+ghost use Rattle.memory_store.specs.Kept.{sight_of};
+ghost use Rattle.store_cases.specs.Places.{Fits};
+
+use crate::answer::{Answer, is_class, read};
+use crate::place::Place;
+use area_files::storage_area;
+use line_store::{ChangeStop, CommitStop, LineStore, Stepped};
+use line_view::{Known, Write};
+use memory_store::MemoryStore;
+use rdb_types::{Dbkey, Limits, NoMemory, Session};
+use std::alloc::Global;
+
+/// A store, of whose sessions it is known where they stand: so no call is made that isn't allowed there.
+#[derive(Drop)]
+pub(crate) struct Desk {
+    store: MemoryStore,
+    /// Places are numbered as the sessions are, from 1 to 16.
+    places: [Place; 17],
+    ghost fits: { Fits (sight_of store) places },
+}
+
+impl Desk {
+    ghost use Rattle.line_store.specs.Sights.{StandsAlone};
+    ghost use Rattle.store_cases.specs.Places.{place_of};
+    ghost use Rattle.memory_store.specs.Kept.{sight_of};
+
+    pub(crate) fn new(alloc: Global, limits: Limits) -> Result<Desk, NoMemory> {
+        let store = MemoryStore::new(alloc, limits)?;
+        Ok(Desk {
+            store,
+            places: [Place::Outside; 17],
+        })
+    }
+
+    fn place(&self, s: Session) -> Place
+        requires { IsMember s.number }
+        ensures { result ≡ place_of self.now.places s.number }
+    {
+        self.places[s.number as usize]
+    }
+
+    // Whether no other session's commit is under way.
+    fn is_alone(&self, s: Session) -> bool
+        requires { IsMember s.number }
+        ensures { result ≡ true → StandsAlone s.number (sight_of self.now.store) }
+    {
+        for t in 1..17 {
+            if t == s.number {
+                continue;
+            }
+            if self.places[t as usize].is_in_flight() {
+                return false;
+            }
+        }
+        true
+    }
+
+    pub(crate) fn begin(&mut self, s: Session) -> Answer
+        requires { IsMember s.number }
+    {
+        if self.place(s) != Place::Outside {
+            return Answer::NotNow;
+        }
+        self.store.begin(s);
+        self.places[s.number as usize] = Place::Beginning;
+        Answer::Done
+    }
+
+    pub(crate) fn begin_reading(&mut self, s: Session) -> Answer
+        requires { IsMember s.number }
+    {
+        if self.place(s) != Place::Outside {
+            return Answer::NotNow;
+        }
+        if self.store.begin_reading(s).is_err() {
+            return Answer::NoMemory;
+        }
+        self.places[s.number as usize] = Place::Reading;
+        Answer::Done
+    }
+
+    pub(crate) fn end_reading(&mut self, s: Session) -> Answer
+        requires { IsMember s.number }
+    {
+        if self.place(s) != Place::Reading {
+            return Answer::NotNow;
+        }
+        self.store.end_reading(s);
+        self.places[s.number as usize] = Place::Outside;
+        Answer::Done
+    }
+
+    /// Learns a line as the session sees it.
+    pub(crate) fn learn_line(&mut self, s: Session, key: Dbkey, known: &mut Known) -> Answer
+        requires { IsMember s.number }
+    {
+        if !self.place(s).is_at_rest() {
+            return Answer::NotNow;
+        }
+        read(self.store.learn_line(s, key, known))
+    }
+
+    /// Learns the lines of an area as the session sees them.
+    pub(crate) fn learn_area(&mut self, s: Session, area: u32, known: &mut Known) -> Answer
+        requires { IsMember s.number }
+    {
+        if !self.place(s).is_at_rest() {
+            return Answer::NotNow;
+        }
+        read(self.store.learn_area(s, area, known))
+    }
+
+    pub(crate) fn room(&self, s: Session, area: u32, class: u16, from: Option<Dbkey>) -> Answer
+        requires { IsMember s.number }
+    {
+        if self.place(s) != Place::Writing || storage_area(area).is_none() || !is_class(class) {
+            return Answer::NotNow;
+        }
+        match self.store.room(s, area, class, from) {
+            Ok(key) => Answer::Room(key),
+            Err(full) => Answer::Full(full.limit),
+        }
+    }
+
+    pub(crate) fn take_room(&mut self, s: Session, key: Dbkey, class: u16) -> Answer
+        requires { IsMember s.number }
+    {
+        if storage_area(key.area).is_none() || !is_class(class) {
+            return Answer::NotNow;
+        }
+        match self.store.take_room(s, key, class) {
+            Ok(true) => Answer::Done,
+            Ok(false) => Answer::Taken,
+            Err(_) => Answer::NoMemory,
+        }
+    }
+
+    pub(crate) fn change(&mut self, s: Session, writes: &[Write]) -> Answer
+        requires { IsMember s.number }
+    {
+        if self.place(s) != Place::Writing {
+            return Answer::NotNow;
+        }
+        match self.store.change(s, writes) {
+            Ok(()) => {
+                self.places[s.number as usize] = Place::Changing;
+                Answer::Done
+            }
+            Err(ChangeStop::RujFull(limit)) | Err(ChangeStop::SnapFull(limit)) => {
+                Answer::Full(limit)
+            }
+            Err(ChangeStop::Unfit(_)) => Answer::Unfit,
+            Err(ChangeStop::NoMemory) => Answer::NoMemory,
+        }
+    }
+
+    pub(crate) fn prepare(&mut self, s: Session) -> Answer
+        requires { IsMember s.number }
+    {
+        if self.place(s) != Place::Writing {
+            return Answer::NotNow;
+        }
+        match self.store.prepare(s) {
+            Ok(()) => {
+                self.places[s.number as usize] = Place::Prepared;
+                Answer::Done
+            }
+            Err(CommitStop::AijFull(limit)) => Answer::Full(limit),
+            Err(CommitStop::NoMemory) => Answer::NoMemory,
+        }
+    }
+
+    pub(crate) fn give_back(&mut self, s: Session) -> Answer
+        requires { IsMember s.number }
+    {
+        if self.place(s) != Place::Prepared {
+            return Answer::NotNow;
+        }
+        self.store.give_back(s);
+        self.places[s.number as usize] = Place::Writing;
+        Answer::Done
+    }
+
+    pub(crate) fn commit(&mut self, s: Session) -> Answer
+        requires { IsMember s.number }
+    {
+        if self.place(s) != Place::Prepared || !self.is_alone(s) {
+            return Answer::NotNow;
+        }
+        self.store.commit(s);
+        self.places[s.number as usize] = Place::Committing;
+        Answer::Done
+    }
+
+    pub(crate) fn roll_back(&mut self, s: Session) -> Answer
+        requires { IsMember s.number }
+    {
+        if self.place(s) != Place::Writing {
+            return Answer::NotNow;
+        }
+        self.store.roll_back(s);
+        self.places[s.number as usize] = Place::RollingBack;
+        Answer::Done
+    }
+
+    pub(crate) fn die(&mut self, s: Session) -> Answer
+        requires { IsMember s.number }
+    {
+        let place = self.place(s);
+        if !place.is_alive() {
+            return Answer::NotNow;
+        }
+        self.store.die(s);
+        self.places[s.number as usize] = place.fallen();
+        Answer::Done
+    }
+
+    /// One step of what is under way.
+    pub(crate) fn step(&mut self, s: Session) -> Answer
+        requires { IsMember s.number }
+    {
+        let place = self.place(s);
+        if !place.is_under_way() {
+            return Answer::NotNow;
+        }
+        match self.store.step(s) {
+            Ok(Stepped::More) => Answer::More,
+            Ok(Stepped::Done) => {
+                self.places[s.number as usize] = place.done();
+                Answer::Done
+            }
+            Ok(Stepped::Committed(_)) => {
+                self.places[s.number as usize] = Place::Closing;
+                Answer::Committed
+            }
+            Ok(Stepped::Recovered { is_committed, .. }) => {
+                self.places[s.number as usize] = Place::Outside;
+                Answer::Recovered(is_committed)
+            }
+            Err(_) => Answer::Fails,
+        }
+    }
+}
