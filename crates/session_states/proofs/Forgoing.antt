@@ -62,6 +62,7 @@ module _ (M : Model) (orderly : IsOrderly M) where
               waits = nowait-said o p s w.transaction l w.is_open ∙ f.fits.phase.waits;
               stage = refl;
               wants = rests.ended;
+              journal = subst (λ (ws : List LockNeed). converts_at ws journal_node ≡ false) (sym rests.needs) (resting-free stage (needs_of c.locks s) idle f.fits.phase.journal);
               ends = tt;
               claims = tt;
             };

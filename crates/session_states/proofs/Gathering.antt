@@ -29,7 +29,7 @@ use Rattle.line_steps.proofs.Common.{desk-same}
 use Rattle.stepped_jobs.specs.Needs.{IsLocked}
 use Rattle.stepped_jobs.specs.More.{KnowsMore}
 use Rattle.stepped_jobs.proofs.Growing.{agrees-before}
-use Rattle.store_counts.proofs.Kept.{counted-on}
+use Rattle.store_counts.proofs.Kept.{counted-same}
 use Rattle.session_states.specs.declared.stage.Gather.{Gather}
 use Rattle.session_states.specs.declared.stage.Gather.TheVariants.{Locking, Reading}
 use Rattle.session_states.specs.declared.stage.Work.TheVariants.{Out, Lacking, Fetching}
@@ -69,6 +69,7 @@ module _ (M : Model) (orderly : IsOrderly M) where
         waits = f.fits.phase.waits;
         stage = (f.fits.phase.stage.0, λ all t m agrees. (found all t m agrees).0.asked, each-lacked standing (uttered_of item) (knows known) later (λ all t m agrees. (found all t m agrees).1));
         wants = wants-none (lock_of (Gathering item (Locking next) later 0)) (opened_of c.locks s) f.fits.phase.wants;
+        journal = f.fits.phase.journal;
         ends = tt;
         claims = tt;
       })
@@ -78,13 +79,13 @@ module _ (M : Model) (orderly : IsOrderly M) where
       Step M s c (session left total (Writing (writer standing known spoken waits (Gathering item (Locking n) later place)))) c (session left total (Writing (writer standing known spoken waits (Working item (Lacking n))))) []
   drops-on s c left total standing known spoken waits item n later place =
       rests-by M orderly s c left total (Writing (writer standing known spoken waits (Gathering item (Locking n) later place))) (Writing (writer standing known spoken waits (Working item (Lacking n)))) refl
-      (λ o p g f. record { desk = f.fits.phase.desk; spoken = f.fits.phase.spoken; waits = f.fits.phase.waits; stage = (f.fits.phase.stage.0, f.fits.phase.stage.1); wants = f.fits.phase.wants; ends = tt; claims = tt })
+      (λ o p g f. record { desk = f.fits.phase.desk; spoken = f.fits.phase.spoken; waits = f.fits.phase.waits; stage = (f.fits.phase.stage.0, f.fits.phase.stage.1); wants = f.fits.phase.wants; journal = f.fits.phase.journal; ends = tt; claims = tt })
 
   pub drops-read : (s : ℕ) (c : Shared) (left : List Item) (total : ℕ) (standing : Standing) (known : Held) (spoken waits : Bool) (item : Item) (n : Need) (later : List Need) (place : ℕ) →
       Step M s c (session left total (Writing (writer standing known spoken waits (Gathering item (Reading n) later place)))) c (session left total (Writing (writer standing known spoken waits (Working item (Fetching n))))) []
   drops-read s c left total standing known spoken waits item n later place =
       rests-by M orderly s c left total (Writing (writer standing known spoken waits (Gathering item (Reading n) later place))) (Writing (writer standing known spoken waits (Working item (Fetching n)))) refl
-      (λ o p g f. record { desk = f.fits.phase.desk; spoken = f.fits.phase.spoken; waits = f.fits.phase.waits; stage = (f.fits.phase.stage.0, f.fits.phase.stage.1); wants = f.fits.phase.wants; ends = tt; claims = tt })
+      (λ o p g f. record { desk = f.fits.phase.desk; spoken = f.fits.phase.spoken; waits = f.fits.phase.waits; stage = (f.fits.phase.stage.0, f.fits.phase.stage.1); wants = f.fits.phase.wants; journal = f.fits.phase.journal; ends = tt; claims = tt })
 
   -- ---- this one is read
 
@@ -94,7 +95,7 @@ module _ (M : Model) (orderly : IsOrderly M) where
       Step M s c (session left total (Writing (writer standing known spoken waits (Gathering item (Reading n) later place)))) (with_shelf shelf c) (session left total (Writing (writer standing new spoken waits (Gathering item y later behind)))) []
   reads-in-turn s c shelf left total standing known new spoken waits item n later place behind y fits others now mine space learns more =
       learns-on M orderly s c shelf left total standing known new spoken waits (Gathering item (Reading n) later place) (Gathering item y later behind) refl others now
-      (λ o p g f. counted-on o p s c.shelf shelf f.counted others now space (λ e. ap writes_of mine)) (λ o p g f. (good o p g f).0)
+      (λ o p g f. counted-same o p s c.shelf shelf f.counted others now space mine) (λ o p g f. (good o p g f).0)
       (λ o p g f.
       let d : Desk = learnt_desk M orderly s new g in
       let lacked = lacked-still standing (uttered_of item) (knows known) (knows new) (λ all agrees. agrees-before known new (seen_by s c.shelf) all more (good o p g f).1.0 (good o p g f).1.1 agrees) later f.fits.phase.stage.2 in
@@ -107,6 +108,7 @@ module _ (M : Model) (orderly : IsOrderly M) where
         waits = f.fits.phase.waits;
         stage = (f.fits.phase.stage.0, fits (needs_at p s) (knows new) f.fits.phase.stage.1 lacked, lacked);
         wants = wants-none (lock_of (Gathering item y later behind)) (opened_of c.locks s) f.fits.phase.wants;
+        journal = f.fits.phase.journal;
         ends = tt;
         claims = tt;
       })

@@ -15,14 +15,14 @@ use Rattle.session_states.specs.declared.stage.Gather.TheVariants.{Locking, Read
 use Rattle.session_states.specs.declared.stage.Laying.{Laying}
 use Rattle.session_states.specs.declared.stage.Laying.TheVariants.{Claiming, Changing}
 use Rattle.session_states.specs.declared.stage.End.{End}
-use Rattle.session_states.specs.declared.stage.End.TheVariants.{Journal, Ready, RollingBack}
+use Rattle.session_states.specs.declared.stage.End.TheVariants.{Preparing, Journal, Ready, RollingBack}
 use Rattle.session_states.specs.declared.stage.Stage.{Stage}
 use Rattle.session_states.specs.declared.stage.Stage.TheVariants.{Between, Working, Gathering, Reserving, Saying, Ending}
 use Rattle.session_states.specs.declared.stage.Writer.{Writer}
 
 -- an item is taken up
 abbrev pub taken : Item → Stage
-taken (Statement Commit) = Ending Journal
+taken (Statement Commit) = Ending Preparing
 taken (Statement Rollback) = Ending RollingBack
 taken item = Working item Due
 

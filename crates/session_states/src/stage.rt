@@ -46,9 +46,11 @@ pub enum Laying {
 /// How a read-write transaction ends.
 #[derive(Clone, Copy)]
 pub enum End {
-    /// A COMMIT wants the journal.
+    /// Room and memory of a COMMIT are to be taken, for which it may be refused. It wants no lock yet.
+    Preparing,
+    /// The COMMIT has them, and wants the journal.
     Journal,
-    /// The COMMIT has got it.
+    /// It has got the journal.
     Ready,
     /// The store commits.
     Committing,
