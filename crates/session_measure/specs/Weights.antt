@@ -11,7 +11,7 @@ use Rattle.session_states.specs.declared.stage.Gather.TheVariants.{Locking, Read
 use Rattle.session_states.specs.declared.stage.Laying.{Laying}
 use Rattle.session_states.specs.declared.stage.Laying.TheVariants.{Claiming, Changing}
 use Rattle.session_states.specs.declared.stage.End.{End}
-use Rattle.session_states.specs.declared.stage.End.TheVariants.{Journal, Ready}
+use Rattle.session_states.specs.declared.stage.End.TheVariants.{Preparing, Journal, Ready}
 use Rattle.session_states.specs.declared.stage.Stage.{Stage}
 use Rattle.session_states.specs.declared.stage.Stage.TheVariants.{Between, Working, Gathering, Reserving, Saying, Ending}
 use Rattle.session_states.specs.declared.stage.ReaderWork.{ReaderWork}
@@ -50,33 +50,34 @@ items_left m = length m.left + items_in m.phase
 -- ---- how far a transaction, or a statement in it, has come
 
 abbrev pub work_rank : Work → ℕ
-work_rank Opening = 10
-work_rank work = 9
+work_rank Opening = 11
+work_rank work = 10
 
 abbrev pub laying_rank : Laying → ℕ
-laying_rank (Claiming place) = 7
-laying_rank Changing = 6
+laying_rank (Claiming place) = 8
+laying_rank Changing = 7
 
 abbrev pub end_rank : End → ℕ
+end_rank Preparing = 6
 end_rank Journal = 5
 end_rank Ready = 4
 end_rank end = 3
 
 abbrev pub stage_rank : Stage → ℕ
-stage_rank Between = 11
+stage_rank Between = 12
 stage_rank (Working item work) = work_rank work
-stage_rank (Gathering item gather later place) = 9
-stage_rank (Reserving item r locks place) = 8
+stage_rank (Gathering item gather later place) = 10
+stage_rank (Reserving item r locks place) = 9
 stage_rank (Saying item r laying) = laying_rank laying
 stage_rank (Ending end) = end_rank end
 
 abbrev pub reader_rank : ReaderStage → ℕ
-reader_rank look.Between = 11
-reader_rank (look.Working item work) = 9
+reader_rank look.Between = 12
+reader_rank (look.Working item work) = 10
 
 abbrev pub rank : Phase → ℕ
-rank Outside = 12
-rank Closing = 13
+rank Outside = 13
+rank Closing = 14
 rank (Writing w) = stage_rank w.stage
 rank (Reading r) = reader_rank r.stage
 rank Over = 0

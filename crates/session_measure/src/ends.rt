@@ -10,7 +10,7 @@ ghost use Rattle.session_states.specs.declared.stage.Phase.TheVariants.{Writing}
 ghost use Rattle.line_view.specs.Held.{nothing};
 ghost use Rattle.rdo_ast.specs.declared.reply.Standing.TheVariants.{Closed};
 ghost use Rattle.session_states.specs.declared.stage.Work.TheVariants.{Opening, Due};
-ghost use Rattle.session_states.specs.declared.stage.End.TheVariants.{Journal, Ready, Committing, RollingBack, Leaving};
+ghost use Rattle.session_states.specs.declared.stage.End.TheVariants.{Preparing, Journal, Ready, Committing, RollingBack, Leaving};
 ghost use Rattle.session_states.specs.declared.stage.Stage.TheVariants.{Between, Ending, Working};
 ghost use Rattle.session_states.specs.declared.stage.Life.{Life};
 ghost use Rattle.session_states.specs.declared.stage.Member.{Member};
@@ -27,7 +27,9 @@ pub fn transactions_go_on()
     ensures steps { (k s : ℕ) (c d : Shared) (m : Member) → opened_of d.locks s ≡ opened_of c.locks s → d.shelf.steps s < c.shelf.steps s → Falls k k c d s m m }
     ensures begins { (k s : ℕ) (c d : Shared) (item : Item) (left : List Item) (total : ℕ) (waits : Bool) → Falls k k c d s (session (item ∷ left) total Outside) (session left total (Writing (writer Closed nothing false waits (Working item Opening)))) }
     ensures opens { (k s : ℕ) (c d : Shared) (item : Item) (left : List Item) (total : ℕ) (standing : Standing) (known : Held) (spoken waits : Bool) → Falls k k c d s (session left total (Writing (writer standing known spoken waits (Working item Opening)))) (session left total (Writing (writer standing known spoken waits (Working item Due)))) }
-    ensures takes_commit { (k s : ℕ) (c : Shared) (item : Item) (left : List Item) (total : ℕ) (standing : Standing) (known : Held) (spoken waits : Bool) → Falls k k c c s (session (item ∷ left) total (Writing (writer standing known spoken waits Between))) (session left total (Writing (writer standing known spoken waits (Ending Journal)))) }
+    ensures takes_commit { (k s : ℕ) (c : Shared) (item : Item) (left : List Item) (total : ℕ) (standing : Standing) (known : Held) (spoken waits : Bool) → Falls k k c c s (session (item ∷ left) total (Writing (writer standing known spoken waits Between))) (session left total (Writing (writer standing known spoken waits (Ending Preparing)))) }
+    ensures prepares { (k s : ℕ) (c d : Shared) (left : List Item) (total : ℕ) (standing : Standing) (known : Held) (spoken waits : Bool) → Falls k k c d s (session left total (Writing (writer standing known spoken waits (Ending Preparing)))) (session left total (Writing (writer standing known spoken waits (Ending Journal)))) }
+    ensures prepares_got { (k s : ℕ) (c d : Shared) (left : List Item) (total : ℕ) (standing : Standing) (known : Held) (spoken waits : Bool) → Falls k k c d s (session left total (Writing (writer standing known spoken waits (Ending Preparing)))) (session left total (Writing (writer standing known spoken waits (Ending Ready)))) }
     ensures commits { (k s : ℕ) (c d : Shared) (left : List Item) (total : ℕ) (standing : Standing) (known : Held) (spoken waits : Bool) → Falls k k c d s (session left total (Writing (writer standing known spoken waits (Ending Ready)))) (session left total (Writing (writer standing known spoken waits (Ending Committing)))) }
     ensures undoes { (k s : ℕ) (c d : Shared) (item : Item) (left : List Item) (total : ℕ) (standing : Standing) (known : Held) (spoken waits : Bool) → Falls k k c d s (session (item ∷ left) total (Writing (writer standing known spoken waits Between))) (session left total (Writing (writer standing known spoken waits (Ending RollingBack)))) }
     ensures leaves { (k s : ℕ) (c d : Shared) (total : ℕ) (standing : Standing) (known : Held) (spoken waits : Bool) → Falls k k c d s (session [] total (Writing (writer standing known spoken waits Between))) (session [] total (Writing (writer standing known spoken waits (Ending Leaving)))) }

@@ -164,7 +164,7 @@ exclusive-lock true n h = exclusive-itself n h
 exclusive-lock false n h = exclusive-off n h
 
 -- what a lock that is got adds to them
-has-behind : (b : Bool) (ws : List LockNeed) (n : LockNeed) → IsLockOf b n → converts_at ws journal_node ≡ false → HasJournal b (ws ++ n ∷ [])
+pub has-behind : (b : Bool) (ws : List LockNeed) (n : LockNeed) → IsLockOf b n → converts_at ws journal_node ≡ false → HasJournal b (ws ++ n ∷ [])
 has-behind true ws n is none = (
   subst (λ (x : LockNeed). may_write (ws ++ x ∷ []) journal_node ≡ true) (sym is) (writes-new ws (lock journal_node EX) refl),
   list_all-append (is_exclusive_on journal_node) ws (n ∷ []) ∙ both (list_all (is_exclusive_on journal_node) ws) (is_exclusive_on journal_node n) (all-exclusive ws none) (exclusive-itself n is),

@@ -321,6 +321,15 @@ module _ (M : Model) (orderly : IsOrderly M) where
   stage-got word has standing known spoken (Ending RollingBack) n wants f = absurd (none-some n wants)
   stage-got word has standing known spoken (Ending Leaving) n wants f = absurd (none-some n wants)
 
+  -- once something was said in it, a read-write transaction stands as one
+  writes-on : (o : Opening) (p : Place) (g : Ground) (s : ℕ) (standing : Standing) (under : Option Uttered) (spoken : Bool) → (w : Writes M o p g s standing under) → has_said (p.transaction s) ≡ spoken → spoken ≡ true → is_writer standing ≡ true
+  writes-on o p g s standing under spoken w says is = w.remains (not-so (length w.transaction.lines == 0) (sym (ap has_said w.is_open) ∙ (says ∙ is)))
+
+  -- a COMMIT asks for the journal before it wants it
+  pub preparing-asks : (o : Opening) (p : Place) (g : Ground) (c : Shared) (s : ℕ) (left : List Item) (total : ℕ) (standing : Standing) (known : Held) (spoken waits : Bool) →
+      Finds M o p g c s (session left total (Writing (writer standing known spoken waits (Ending Preparing)))) → IsAskedOver M standing (Some (said commit)) (g.desk s).known (lock journal_node EX)
+  preparing-asks o p g c s left total standing known spoken waits f = commit-asks standing (g.desk s).known (lock journal_node EX) (writes-on o p g s standing (Some (said commit)) spoken f.here.stands.state f.fits.phase.spoken f.fits.phase.stage.0) refl
+
   -- the statement under way asks for the lock that its stage wants
   pub lock-asks : (o : Opening) (p : Place) (g : Ground) (c : Shared) (s : ℕ) (left : List Item) (total : ℕ) (standing : Standing) (known : Held) (spoken waits : Bool) (stage : Stage) (n : LockNeed) → lock_of stage ≡ Some n →
       Finds M o p g c s (session left total (Writing (writer standing known spoken waits stage))) → IsAskedOver M standing (item_of stage) (g.desk s).known n
@@ -362,13 +371,7 @@ module _ (M : Model) (orderly : IsOrderly M) where
       (λ all t m agrees. asked-at standing (uttered_of item) t r.writes place at.0 at.1 (f.fits.phase.stage.1.0.asked all t m agrees)))
   lock-asks o p g c s left total standing known spoken waits (Saying item r Changing) n wants f = absurd (none-some n wants)
   lock-asks o p g c s left total standing known spoken waits (Ending Preparing) n wants f = absurd (none-some n wants)
-  lock-asks o p g c s left total standing known spoken waits (Ending Journal) n wants f = commit-asks standing (g.desk s).known n (f.here.stands.state.remains (more f.here.stands.state.transaction f.here.stands.state.is_open)) wants
-    where
-      some-said : (p : Place) (s : ℕ) (spoken : Bool) (x : Transaction) → p.transaction s ≡ Some x → has_said (p.transaction s) ≡ spoken → spoken ≡ true → (length x.lines == 0) ≡ false
-      some-said p s spoken x is_open says is = not-so (length x.lines == 0) (sym (ap has_said is_open) ∙ (says ∙ is))
-
-      more : (x : Transaction) → p.transaction s ≡ Some x → (length x.lines == 0) ≡ false
-      more x is_open = some-said p s spoken x is_open f.fits.phase.spoken f.fits.phase.stage.0
+  lock-asks o p g c s left total standing known spoken waits (Ending Journal) n wants f = commit-asks standing (g.desk s).known n (writes-on o p g s standing (Some (said commit)) spoken f.here.stands.state f.fits.phase.spoken f.fits.phase.stage.0) wants
   lock-asks o p g c s left total standing known spoken waits (Ending Ready) n wants f = absurd (none-some n wants)
   lock-asks o p g c s left total standing known spoken waits (Ending Committing) n wants f = absurd (none-some n wants)
   lock-asks o p g c s left total standing known spoken waits (Ending RollingBack) n wants f = absurd (none-some n wants)

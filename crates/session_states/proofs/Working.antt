@@ -32,7 +32,7 @@ use Rattle.line_steps.proofs.Taking.{takes-up}
 use Rattle.session_states.specs.declared.stage.Work.{Work}
 use Rattle.session_states.specs.declared.stage.Work.TheVariants.{Due, Out, Lacking, Housing}
 use Rattle.session_states.specs.declared.stage.Laying.TheVariants.{Claiming}
-use Rattle.session_states.specs.declared.stage.End.TheVariants.{Journal}
+use Rattle.session_states.specs.declared.stage.End.TheVariants.{Preparing}
 use Rattle.session_states.specs.declared.stage.Stage.{Stage}
 use Rattle.session_states.specs.declared.stage.Stage.TheVariants.{Between, Working, Saying, Ending}
 use Rattle.session_states.specs.declared.stage.Phase.TheVariants.{Writing}
@@ -75,10 +75,10 @@ module _ (M : Model) (orderly : IsOrderly M) where
       (λ o p g f. record { desk = f.fits.phase.desk; spoken = f.fits.phase.spoken; waits = f.fits.phase.waits; stage = (stays, tt); wants = f.fits.phase.wants; journal = f.fits.phase.journal; ends = tt; claims = tt })
 
   pub takes-commit : (s : ℕ) (c : Shared) (item : Item) (left : List Item) (total : ℕ) (standing : Standing) (known : Held) (spoken waits : Bool) → uttered_of item ≡ said commit →
-      Step M s c (session (item ∷ left) total (Writing (writer standing known spoken waits Between))) c (session left total (Writing (writer standing known spoken waits (Ending Journal)))) []
+      Step M s c (session (item ∷ left) total (Writing (writer standing known spoken waits Between))) c (session left total (Writing (writer standing known spoken waits (Ending Preparing)))) []
   takes-commit s c item left total standing known spoken waits is =
-      takes s c item left total standing known spoken waits (Ending Journal) (ap Some (sym is))
-      (λ o p g f. record { desk = f.fits.phase.desk; spoken = f.fits.phase.spoken; waits = f.fits.phase.waits; stage = (f.fits.phase.stage, tt); wants = wants-none (lock_of (Ending Journal)) (opened_of c.locks s) f.fits.phase.wants; journal = f.fits.phase.journal; ends = tt; claims = tt })
+      takes s c item left total standing known spoken waits (Ending Preparing) (ap Some (sym is))
+      (λ o p g f. record { desk = f.fits.phase.desk; spoken = f.fits.phase.spoken; waits = f.fits.phase.waits; stage = (f.fits.phase.stage, tt); wants = wants-none (lock_of (Ending Preparing)) (opened_of c.locks s) f.fits.phase.wants; journal = f.fits.phase.journal; ends = tt; claims = tt })
 
   -- ---- its job
 
