@@ -1,11 +1,11 @@
 -- The store stays within the account's counts as a session's transaction ends, and where the store alone moves.
-use Rattle.std.proofs.Common.{◌≡◌, ◌≤◌, ◌<◌, ℕ, ◌+◌, ◌==◌, arith, true, false, List, [], length, refl, ◌∙◌, sym, ap, subst, Option, Some, None, is_some}
+use Rattle.std.proofs.Common.{◌≡◌, ◌≤◌, ℕ, ◌+◌, arith, true, false, List, [], length, refl, ◌∙◌, sym, ap, subst, Option, Some, None, is_some}
 use Rattle.std.proofs.lemmas.Bool.{false≢true}
 use Rattle.std.proofs.lemmas.Option.{none-some, same_Some}
 use Rattle.line_view.specs.declared.writes.Write.{Write}
 use Rattle.rdb_account.specs.Events.{Event, Committed}
 use Rattle.rdb_account.specs.Places.{Opening, Place, Transaction, after, place_from, at, is_writer, committed_by}
-use Rattle.line_store.specs.Seats.{Seat, outside, beginning, writing, changing, prepared, committing, rolling_back, closing, reading, dead, writes_of, is_committing, set_aside, done_at, died, given_back, committing_by, rolled_back}
+use Rattle.line_store.specs.Seats.{Seat, outside, beginning, writing, changing, prepared, committing, rolling_back, closing, reading, dead, writes_of, set_aside, done_at, died, committing_by, rolled_back}
 use Rattle.line_store.specs.Shelves.{Shelf}
 use Rattle.line_store.specs.Calls.{Moves, Commits, KeepsOthers}
 use Rattle.lock_ties.proofs.Places.{at-same, at-other}

@@ -22,7 +22,6 @@ use Rattle.session_jobs.specs.declared.jobs.Found.TheVariants.{Missing}
 use Rattle.line_store.specs.Seats.{writing as seat_writing}
 use Rattle.line_store.specs.Shelves.{Shelf, seen_from, seen_by}
 use Rattle.line_store.specs.Calls.{KeepsOthers, KeepsSpace}
-use Rattle.line_store.specs.Seats.{writes_of}
 use Rattle.lock_ties.specs.Ties.{needs_at}
 use Rattle.line_steps.specs.Right.{Desk, Ground, Writes}
 use Rattle.line_steps.proofs.Common.{desk-same}

@@ -1,11 +1,11 @@
 -- Who has got the journal wants nothing, and nobody has or wants it but for itself.
-use Rattle.std.proofs.Common.{◌≡◌, ℕ, suc, ◌++◌, ◌∷◌, [], ◌==◌, ◌&&◌, ◌||◌, not, if◌then◌else◌, Bool, true, false, List, refl, ◌∙◌, sym, ap, subst, arith, Option, Some, None, slice_get}
-use Rattle.std.specs.List.{list_any, list_all, AllByRecursion}
-use Rattle.std.proofs.lemmas.Bool.{false≢true, or_cases, or_right}
+use Rattle.std.proofs.Common.{◌≡◌, ℕ, suc, ◌++◌, ◌∷◌, [], ◌==◌, ◌&&◌, ◌||◌, not, if◌then◌else◌, Bool, true, false, List, refl, ◌∙◌, sym, ap, subst, Option, Some, None, slice_get}
+use Rattle.std.specs.List.{list_all}
+use Rattle.std.proofs.lemmas.Bool.{false≢true}
 use Rattle.std.proofs.lemmas.Option.{none-some, same_Some}
 use Rattle.std.proofs.lemmas.List.Folds.{list_any-append, list_all-append}
 use Rattle.rdb_types.specs.declared.keys.Dbkey.{Dbkey}
-use Rattle.vms_queues.specs.declared.lock_mode.Mode.TheVariants.{EX}
+use Rattle.vms_queues.specs.declared.lock_mode.Mode.TheVariants.{PR, EX}
 use Rattle.vms_queues.specs.Modes.{at_most}
 use Rattle.rdo_ast.specs.declared.reply.Standing.{Standing}
 use Rattle.rdo_ast.specs.declared.syntax.Item.{Item}
@@ -16,13 +16,12 @@ use Rattle.lock_needs.specs.declared.party.OpenWant.{OpenWant}
 use Rattle.lock_needs.specs.Party.{Party}
 use Rattle.lock_needs.specs.Nodes.{is_on}
 use Rattle.lock_needs.specs.Waits.{converts_at}
-use Rattle.lock_tree_laws.specs.Forest.{party_of, opened_of}
-use Rattle.lock_tree_laws.specs.Wanted.{IsOf, needs_of}
+use Rattle.lock_tree_laws.specs.Forest.{party_of}
+use Rattle.lock_tree_laws.specs.Wanted.{needs_of}
 use Rattle.journal_waits.specs.Holders.{HoldersRest, OthersKeepTo, is_exclusive_on, WantsExclusively, KeepsTo}
 use Rattle.rdb_account.specs.Events.{Event, need as lock}
-use Rattle.rdb_account.specs.Places.{Opening, Place, Transaction}
+use Rattle.rdb_account.specs.Places.{Opening, Place}
 use Rattle.rdb_account.specs.Lawful.{got_of}
-use Rattle.rdb_account.specs.AskedFor.{area_node}
 use Rattle.line_view.specs.Held.{Held}
 use Rattle.line_view.specs.declared.need.Need.TheVariants as need
 use Rattle.kept_apart.specs.Guards.{line_node, may_write}
@@ -41,13 +40,13 @@ use Rattle.session_states.specs.declared.stage.Phase.TheVariants.{Outside, Closi
 use Rattle.session_states.specs.declared.stage.Life.TheVariants.{Alive, Dead, Gone}
 use Rattle.session_states.specs.declared.stage.Life.{Life}
 use Rattle.session_states.specs.declared.stage.Member.{Member}
-use Rattle.session_states.specs.Locks.{lock_for_line, lock_of, has_journal, HasJournal, AreOffJournal}
+use Rattle.session_states.specs.Locks.{lock_for_area, lock_for_line, lock_of, has_journal, HasJournal, AreOffJournal}
 use Rattle.session_states.specs.Turns.{got}
 use Rattle.session_states.specs.States.{seen, is_at_rest, writer, session}
 use Rattle.session_states.specs.Shared.{Shared}
-use Rattle.session_states.specs.Fits.{StageFits, WantsAtMost, PhaseFits, LifeFits, Fits}
+use Rattle.session_states.specs.Fits.{StageFits, WantsAtMost, PhaseFits, LifeFits}
 use Rattle.session_states.specs.Kept.{AreKept}
-use Rattle.session_states.proofs.Basics.{writes-new, on-self}
+use Rattle.session_states.proofs.Basics.{writes-new}
 use Rattle.session_states.proofs.Locking.{write-at, at-place}
 
 -- ---- which locks are off the journal
@@ -69,7 +68,7 @@ IsLockOf false n = is_on journal_node n.node ≡ false
 off-line : (item : Uttered) (key : Dbkey) → is_on journal_node (lock_for_line item key).node ≡ false
 off-line item key = by (key.area == 1)
   where
-    by : (b : Bool) → is_on journal_node (if b then lock (area_node 1) _ else lock (line_node key) _).node ≡ false
+    by : (b : Bool) → is_on journal_node (if b then lock_for_area item 1 else lock (line_node key) PR).node ≡ false
     by true = refl
     by false = refl
 

@@ -41,7 +41,6 @@ use Rattle.session_states.specs.declared.stage.Stage.{Stage}
 use Rattle.session_states.specs.declared.stage.Stage.TheVariants.{Between, Working, Gathering, Reserving, Saying, Ending}
 use Rattle.session_states.specs.Locks.{lock_for_area, lock_for_line, lock_of_write, lock_of}
 use Rattle.session_states.specs.Turns.{got}
-use Rattle.rdb_account.specs.Places.{Transaction}
 use Rattle.session_states.specs.declared.stage.Phase.TheVariants.{Writing}
 use Rattle.session_states.specs.States.{item_of, is_at_rest, writer, session}
 use Rattle.session_states.specs.Shared.{Shared}

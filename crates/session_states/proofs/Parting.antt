@@ -1,5 +1,5 @@
 -- A transaction begins, the store works for it, and its commit begins.
-use Rattle.std.proofs.Common.{◌≡◌, ℕ, ◌∷◌, [], ◌==◌, not, Bool, true, false, List, map, refl, ◌∙◌, sym, ap, subst, Some, None}
+use Rattle.std.proofs.Common.{◌≡◌, ℕ, ◌∷◌, [], ◌==◌, not, Bool, true, false, List, map, refl, ◌∙◌, sym, ap, subst, arith, Some, None}
 use Rattle.std.proofs.lemmas.Option.{none-some, same_Some}
 use Rattle.rdo_ast.specs.declared.reply.Standing.{Standing}
 use Rattle.rdo_ast.specs.declared.reply.Standing.TheVariants.{Closed}
@@ -18,6 +18,9 @@ use Rattle.session_jobs.specs.Records.{Model, IsOrderly}
 use Rattle.line_store.specs.Seats.{writes_of, outside as seat_outside, beginning, writing as seat_writing, committing_by, done_at}
 use Rattle.line_store.specs.Shelves.{Shelf}
 use Rattle.line_store.specs.Calls.{Moves, IsDone}
+use Rattle.lock_needs.specs.declared.need.Need.{Need}
+use Rattle.lock_needs.specs.Waits.{converts_at}
+use Rattle.line_steps.specs.Images.{journal_node}
 use Rattle.lock_ties.specs.Ties.{needs_at}
 use Rattle.lock_ties.proofs.Places.{at-same, at-other, number}
 use Rattle.line_steps.specs.Members.{member, outside, writing}
@@ -40,7 +43,7 @@ use Rattle.session_states.proofs.Resting.{rests-on, found-here, none-dead, time-
 use Rattle.session_states.proofs.Standing.{phase-stays}
 use Rattle.store_counts.proofs.Places.{more-same}
 use Rattle.store_counts.proofs.Kept.{counted-begins}
-use Rattle.session_states.proofs.Counting.{counted-moved, counted-over, committing-writes}
+use Rattle.session_states.proofs.Counting.{counted-moved, counted-over, none-more, done-aside, committing-writes, committing-aside}
 
 nothing-guarded : IsGuarded [] (knows nothing)
 nothing-guarded = record {

@@ -1,7 +1,6 @@
 -- Room and memory of a COMMIT are taken as it wants the journal, and given back where no memory is found.
-use Rattle.std.proofs.Common.{◌≡◌, ◌||◌, ℕ, ◌++◌, ◌∷◌, [], Bool, true, List, map, refl, ◌∙◌, sym, ap, subst, arith, is_some, Option, Some}
+use Rattle.std.proofs.Common.{◌≡◌, ℕ, ◌++◌, ◌∷◌, [], Bool, true, false, List, map, refl, ◌∙◌, sym, ap, subst, arith, Option, Some}
 use Rattle.std.proofs.lemmas.Bool.{or_left, or_right}
-use Rattle.rdb_types.specs.declared.node.Level.TheVariants.{Journal as JournalLevel}
 use Rattle.rdb_types.specs.declared.node.Node.{Node}
 use Rattle.vms_queues.specs.declared.lock_mode.Mode.TheVariants.{EX}
 use Rattle.rdo_ast.specs.declared.reply.Reply.TheVariants.{NoMemory}
@@ -12,7 +11,7 @@ use Rattle.rdo_ast.specs.Views.{uttered_of}
 use Rattle.lock_needs.specs.declared.need.Need.{Need}
 use Rattle.lock_needs.specs.declared.party.OpenWant.{OpenWant}
 use Rattle.lock_needs.specs.Party.{Party}
-use Rattle.lock_tree_laws.specs.Forest.{State, NeedsAreApart, party_of, opened_of}
+use Rattle.lock_tree_laws.specs.Forest.{State, NeedsAreApart, party_of}
 use Rattle.lock_tree_laws.specs.Parties.{resting}
 use Rattle.lock_tree_laws.specs.Wanted.{IsOf, IsWanting, needs_of}
 use Rattle.rdb_account.specs.Events.{Got, Said, need}
@@ -20,21 +19,19 @@ use Rattle.rdb_account.specs.Places.{Opening, Place, Transaction, Line, after, p
 use Rattle.rdb_account.specs.Lawful.{is_nowait}
 use Rattle.rdb_account.proofs.Growth.{place-grown}
 use Rattle.line_view.specs.Held.{Held}
-use Rattle.line_view.specs.declared.writes.Write.{Write}
 use Rattle.session_jobs.specs.Records.{Model, IsOrderly}
 use Rattle.line_store.specs.Seats.{Seat, prepared_by, given_back, writes_of, set_aside, outside, beginning, writing as seat_writing, changing, prepared, committing, rolling_back, closing, reading, dead}
 use Rattle.line_store.specs.Shelves.{Shelf, Clock}
-use Rattle.line_store.specs.Calls.{Moves, KeepsOthers}
+use Rattle.line_store.specs.Calls.{Moves}
 use Rattle.lock_ties.specs.Ties.{IsTiedTo, IsCall, needs_at, wanted_at}
 use Rattle.lock_ties.proofs.Places.{at-same}
 use Rattle.lock_ties.proofs.Trails.{asked-once, once-place}
 use Rattle.lock_ties.proofs.Answers.{asked-tied}
-use Rattle.lock_ties.proofs.Got.{ended-tied, got-tied, wants-needs, wants-open}
+use Rattle.lock_ties.proofs.Got.{ended-tied, got-tied, wants-open}
 use Rattle.lock_ties.proofs.Parted.{got-apart}
 use Rattle.line_steps.specs.Images.{journal_node}
 use Rattle.line_steps.specs.Members.{member, writing}
 use Rattle.line_steps.specs.Right.{Writes}
-use Rattle.line_steps.specs.Steps.{Here, Steps}
 use Rattle.line_steps.proofs.Saying.{refuses-writing}
 use Rattle.line_steps.proofs.Wants.{wants-all, wants-got}
 use Rattle.store_counts.specs.Counts.{IsCounted, has_wanted}
@@ -51,7 +48,7 @@ use Rattle.session_states.proofs.Basics.{said-first, said-wants, said-got, nowai
 use Rattle.session_states.proofs.Claims.{wanted-nothing}
 use Rattle.session_states.proofs.Counting.{counted-moved, none-more}
 use Rattle.session_states.proofs.Ends.{needs-still}
-use Rattle.session_states.proofs.Forgoing.{and-undone, forgoes-on}
+use Rattle.session_states.proofs.Forgoing.{forgoes-on}
 use Rattle.session_states.proofs.InTurn.{steps-on}
 use Rattle.session_states.proofs.Journal.{has-behind}
 use Rattle.session_states.proofs.Locking.{preparing-asks}

@@ -11,7 +11,7 @@ use Rattle.rdb_account.specs.Legal.{ends_by}
 use Rattle.line_view.specs.Held.{Held, knows, nothing}
 use Rattle.session_jobs.specs.Records.{Model, IsOrderly}
 use Rattle.line_history.proofs.Transactions.{reader-excused}
-use Rattle.line_store.specs.Seats.{outside as seat_outside}
+use Rattle.line_store.specs.Seats.{outside as seat_outside, set_aside}
 use Rattle.line_store.specs.Shelves.{Shelf}
 use Rattle.line_store.specs.Calls.{Moves}
 use Rattle.lock_ties.specs.Ties.{IsTiedTo, needs_at}

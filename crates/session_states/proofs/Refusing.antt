@@ -11,6 +11,7 @@ use Rattle.rdb_meaning.specs.Usual.{is_refusal_of_means}
 use Rattle.rdb_meaning.specs.declared.tables.Tables.{Tables}
 use Rattle.lock_needs.specs.declared.need.Need.{Need}
 use Rattle.lock_needs.specs.Party.{Party}
+use Rattle.lock_needs.specs.Waits.{converts_at}
 use Rattle.lock_tree_laws.specs.Forest.{State, party_of}
 use Rattle.lock_tree_laws.specs.Parties.{resting}
 use Rattle.lock_tree_laws.specs.Wanted.{needs_of}
@@ -43,6 +44,8 @@ use Rattle.session_states.specs.Fits.{has_said}
 use Rattle.session_states.specs.Steps.{Step}
 use Rattle.session_states.proofs.Basics.{said-first, said-wants, nowait-wants}
 use Rattle.session_states.proofs.Locking.{wanting-rests, desk-resting, lock-asks}
+use Rattle.session_states.proofs.Journal.{resting-free}
+use Rattle.line_steps.specs.Images.{journal_node}
 use Rattle.session_states.proofs.Resting.{leaves-others, none-dead}
 use Rattle.session_states.proofs.Asking.{may-call}
 use Rattle.store_counts.proofs.Kept.{counted-events}

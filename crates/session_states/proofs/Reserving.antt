@@ -1,5 +1,5 @@
 -- What a START_TRANSACTION reserves is locked before it is said.
-use Rattle.std.proofs.Common.{◌≡◌, ℕ, ◌∷◌, [], ◌||◌, ◌&&◌, Bool, true, false, List, refl, sym, subst, Option, Some, None, inl, inr}
+use Rattle.std.proofs.Common.{◌≡◌, ℕ, ◌∷◌, [], Bool, true, false, List, refl, sym, subst, Option, Some, None, inl, inr}
 use Rattle.std.specs.List.{AllByRecursion, list_any}
 use Rattle.std.proofs.lemmas.Bool.{false≢true, or_cases, and_parts}
 use Rattle.rdo_ast.specs.declared.reply.Standing.{Standing}
@@ -21,7 +21,7 @@ use Rattle.lock_tree_laws.specs.Forest.{opened_of}
 use Rattle.rdb_account.specs.Places.{Opening, Place}
 use Rattle.rdb_account.specs.AskedFor.{area_node, is_need, is_mode, is_on_catalog, is_reserved, reserved_mode, reservations_ask}
 use Rattle.line_view.specs.Held.{Held, knows}
-use Rattle.line_view.specs.Knowledge.{Knowledge, Lines, Agrees}
+use Rattle.line_view.specs.Knowledge.{Knowledge, Agrees}
 use Rattle.line_view.specs.Writes.{laid_all}
 use Rattle.session_jobs.specs.Records.{Model, IsOrderly}
 use Rattle.session_jobs.specs.Jobs.{WhereItAgrees, IsFound}

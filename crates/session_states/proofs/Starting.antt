@@ -21,6 +21,7 @@ use Rattle.rdb_account.specs.Lawful.{IsExcused, has_cause, first_refusal, is_now
 use Rattle.rdb_account.specs.AskedFor.{item_asks}
 use Rattle.rdb_account.specs.Legal.{ends_by}
 use Rattle.rdb_account.proofs.Growth.{place-grown}
+use Rattle.line_view.specs.declared.writes.Write.{Write}
 use Rattle.line_view.specs.Held.{Held, knows, nothing}
 use Rattle.line_view.specs.Writes.{laid_all}
 use Rattle.session_jobs.specs.Records.{Model, IsOrderly, IsRight}
@@ -28,7 +29,7 @@ use Rattle.session_jobs.specs.Jobs.{worked_of}
 use Rattle.session_jobs.specs.declared.jobs.TxRecord.{TxRecord}
 use Rattle.line_history.specs.Transactions.{IsAskedOver}
 use Rattle.line_history.proofs.Standings.{starts-leaves, excused-undone}
-use Rattle.line_store.specs.Seats.{outside as seat_outside, writing as seat_writing, rolled_back, done_at}
+use Rattle.line_store.specs.Seats.{Seat, outside as seat_outside, writing as seat_writing, set_aside, rolled_back, done_at}
 use Rattle.line_store.specs.Shelves.{Shelf}
 use Rattle.line_store.specs.Calls.{Moves}
 use Rattle.lock_ties.specs.Ties.{IsTiedTo, IsCall, wanted_at}
@@ -50,14 +51,14 @@ use Rattle.session_states.specs.Fits.{has_said}
 use Rattle.session_states.specs.Steps.{Step}
 use Rattle.session_states.proofs.Basics.{at_time, said-wants}
 use Rattle.session_states.proofs.Ends.{start-gone, start-unasked, rolled-place, needs-still, gone-tied}
-use Rattle.session_states.proofs.Locking.{desk-wanting, desk-resting, lock-asks}
+use Rattle.session_states.proofs.Locking.{wanting-rests, desk-resting, lock-asks}
 use Rattle.session_states.proofs.Resting.{none-dead, time-later}
 use Rattle.session_states.proofs.Asking.{may-call}
 use Rattle.lock_ties.proofs.Places.{at-same}
 use Rattle.session_states.proofs.Claims.{wanted-nothing, both-nothing}
 use Rattle.session_states.proofs.Counting.{counted-ended}
 use Rattle.session_states.proofs.Storing.{said-needs}
-use Rattle.session_states.proofs.Refusing.{asks-free}
+use Rattle.session_states.proofs.Refusing.{asks-free, unended}
 use Rattle.session_states.proofs.Forgoing.{and-undone}
 
 module _ (M : Model) (orderly : IsOrderly M) where

@@ -43,7 +43,7 @@ use Rattle.session_states.proofs.Basics.{at_time, said-first, done-first, take-a
 use Rattle.session_states.proofs.Resting.{leaves-others, rests-on, time-later}
 use Rattle.store_counts.specs.Counts.{AreClaimed}
 use Rattle.store_counts.proofs.Kept.{counted-events, counted-changes}
-use Rattle.session_states.proofs.Counting.{counted-moved}
+use Rattle.session_states.proofs.Counting.{counted-moved, none-more, done-aside}
 
 write-none : (x : Option Write) → lock_of_write x ≡ None → x ≡ None
 write-none None h = refl

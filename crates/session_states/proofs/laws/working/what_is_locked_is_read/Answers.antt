@@ -1,6 +1,5 @@
-use Rattle.std.proofs.Common.{refl, ap}
+use Rattle.std.proofs.Common.{refl}
 use Rattle.std.proofs.lemmas.Bool.{and_parts}
-use Rattle.line_store.specs.Seats.{writes_of}
 use Rattle.store_counts.specs.Counts.{written_of, is_on_line}
 use Rattle.store_counts.proofs.Kept.{counted-same, counted-takes}
 use Rattle.line_view.specs.declared.need.Need.TheVariants.{Line}
