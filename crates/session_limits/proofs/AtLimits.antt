@@ -50,6 +50,7 @@ use Rattle.session_states.specs.declared.stage.Stage.{Stage}
 use Rattle.session_states.specs.declared.stage.Stage.TheVariants.{Between, Working, Saying, Ending}
 use Rattle.session_states.specs.declared.stage.Phase.TheVariants.{Writing}
 use Rattle.lock_tree_laws.specs.Forest.{opened_of}
+use Rattle.lock_tree_laws.specs.Wanted.{needs_of}
 use Rattle.session_states.specs.Locks.{lock_of, lock_of_write}
 use Rattle.session_states.specs.States.{item_of, is_at_rest, writer, session}
 use Rattle.session_states.specs.Shared.{Shared}
