@@ -11,7 +11,7 @@ use Rattle.line_view.specs.declared.writes.Write.{Write}
 use Rattle.line_view.specs.Held.{Held}
 use Rattle.rdb_drive.specs.Boards.{Less}
 use Rattle.session_states.specs.declared.stage.Work.TheVariants.{Opening as OpeningIt, Due, Out, Lacking, Housing, Fetching, Lodging}
-use Rattle.session_states.specs.declared.stage.Gather.TheVariants.{Locking, Reading as ReadingOf}
+use Rattle.session_states.specs.declared.stage.Gather.TheVariants as gather
 use Rattle.session_states.specs.declared.stage.Laying.TheVariants.{Claiming, Changing}
 use Rattle.session_states.specs.declared.stage.End.TheVariants.{Preparing, Journal, Ready, Committing, RollingBack, Leaving}
 use Rattle.session_states.specs.declared.stage.Stage.{Stage}
@@ -48,8 +48,12 @@ within (y ∷ ys) (suc place) x h = let k = within ys place x h in omega (arith,
 pub next-place : {A : Type 0} (xs : List A) (place : ℕ) (x : A) → slice_get xs place ≡ Some x → length xs - (place + 1) < length xs - place
 next-place xs place x h = let k = within xs place x h in omega (arith, k)
 
-pub next-need : (later : List Need) (place : ℕ) (m : Need) → slice_get later place ≡ Some m → 2 * (length later - (place + 1)) + 1 < 2 * (length later - place) + 0
+pub next-need : (later : List Need) (place : ℕ) (m : Need) → slice_get later place ≡ Some m → 3 * (length later - (place + 1)) + 2 < 3 * (length later - place) + 0
 next-need later place m h = let k = within later place m h in omega (arith, k)
+
+-- a line is named for a room
+pub housed : (a : ℕ) → 3 * a + 1 < 3 * a + 2
+housed a = omega arith
 
 write-there : (x : Option Write) (n : LockNeed) → lock_of_write x ≡ Some n → (w : Write) × (x ≡ Some w)
 write-there None n h = absurd (none-some n h)
@@ -67,11 +71,16 @@ got-falls k s c d left total standing known spoken waits (Working item (Lacking 
 got-falls k s c d left total standing known spoken waits (Working item (Housing room key)) n wants = inr (refl, inr (refl, inr (refl, inr (refl, inl (omega arith, refl)))))
 got-falls k s c d left total standing known spoken waits (Working item (Fetching m)) n wants = absurd (none-some n wants)
 got-falls k s c d left total standing known spoken waits (Working item (Lodging room key)) n wants = absurd (none-some n wants)
-got-falls k s c d left total standing known spoken waits (Gathering item (Locking m) later place) n wants = inr (refl, inr (refl, inr (refl, inr (refl, inr (refl, inl (less (length later - place), refl))))))
+got-falls k s c d left total standing known spoken waits (Gathering item (gather.Locking m) later place) n wants = inr (refl, inr (refl, inr (refl, inr (refl, inr (refl, inl (less (length later - place), refl))))))
   where
-    less : (a : ℕ) → 2 * a + 0 < 2 * a + 1
+    less : (a : ℕ) → 3 * a + 0 < 3 * a + 2
     less a = omega arith
-got-falls k s c d left total standing known spoken waits (Gathering item (ReadingOf m) later place) n wants = absurd (none-some n wants)
+got-falls k s c d left total standing known spoken waits (Gathering item (gather.Housing room key) later place) n wants = inr (refl, inr (refl, inr (refl, inr (refl, inr (refl, inl (less (length later - place), refl))))))
+  where
+    less : (a : ℕ) → 3 * a + 0 < 3 * a + 1
+    less a = omega arith
+got-falls k s c d left total standing known spoken waits (Gathering item (gather.Reading m) later place) n wants = absurd (none-some n wants)
+got-falls k s c d left total standing known spoken waits (Gathering item (gather.Lodging room key) later place) n wants = absurd (none-some n wants)
 got-falls k s c d left total standing known spoken waits (Reserving item r locks place) n wants = inr (refl, inr (refl, inr (refl, inr (refl, inr (refl, inl (next-place locks place n wants, refl))))))
 got-falls k s c d left total standing known spoken waits (Saying item r (Claiming place)) n wants =
     let w = write-there (slice_get r.writes place) n wants in

@@ -7,7 +7,7 @@ use Rattle.rdb_drive.specs.Boards.{Less}
 use Rattle.session_states.specs.declared.stage.Work.{Work}
 use Rattle.session_states.specs.declared.stage.Work.TheVariants.{Opening, Due, Out, Lacking, Housing, Fetching, Lodging}
 use Rattle.session_states.specs.declared.stage.Gather.{Gather}
-use Rattle.session_states.specs.declared.stage.Gather.TheVariants.{Locking, Reading as ReadingOf}
+use Rattle.session_states.specs.declared.stage.Gather.TheVariants as gather
 use Rattle.session_states.specs.declared.stage.Laying.{Laying}
 use Rattle.session_states.specs.declared.stage.Laying.TheVariants.{Claiming, Changing}
 use Rattle.session_states.specs.declared.stage.End.{End}
@@ -115,11 +115,12 @@ round_left x = 0
 -- ---- what is done one after another
 
 abbrev pub gather_left : Gather → ℕ
-gather_left (Locking n) = 1
-gather_left (ReadingOf n) = 0
+gather_left (gather.Locking n) = 2
+gather_left (gather.Housing room key) = 1
+gather_left _ = 0
 
 abbrev pub places_in : Stage → ℕ
-places_in (Gathering item gather later place) = 2 * (length later - place) + gather_left gather
+places_in (Gathering item gather later place) = 3 * (length later - place) + gather_left gather
 places_in (Reserving item r locks place) = length locks - place
 places_in (Saying item r (Claiming place)) = length r.writes - place
 places_in stage = 0

@@ -21,6 +21,7 @@ use Rattle.store_counts.specs.Counts.{written_of, is_on_line, is_claimed, AreCla
 use Rattle.store_counts.specs.Events.{CountNothing}
 use Rattle.store_counts.proofs.Lines.{claimed-on}
 use Rattle.store_counts.proofs.Places.{HasMore, more-same, claimed-more, events-stay, touched-on}
+use Rattle.session_states.specs.declared.stage.Gather.TheVariants as gather
 use Rattle.session_states.specs.declared.stage.Work.TheVariants.{Opening as OpeningIt, Due, Out, Lacking, Housing, Fetching, Lodging}
 use Rattle.session_states.specs.declared.stage.Laying.TheVariants.{Claiming, Changing}
 use Rattle.session_states.specs.declared.stage.End.TheVariants.{Preparing, Journal, Ready, Committing, RollingBack, Leaving}
@@ -41,7 +42,10 @@ claims-more p q s touched written (Working item (Lacking n)) h = tt
 claims-more p q s touched written (Working item (Housing room key)) h = tt
 claims-more p q s touched written (Working item (Fetching n)) h = tt
 claims-more p q s touched written (Working item (Lodging room key)) h = claimed-more p q s s touched written key h
-claims-more p q s touched written (Gathering item gather later place) h = tt
+claims-more p q s touched written (Gathering item (gather.Locking n) later place) h = tt
+claims-more p q s touched written (Gathering item (gather.Housing room key) later place) h = tt
+claims-more p q s touched written (Gathering item (gather.Reading n) later place) h = tt
+claims-more p q s touched written (Gathering item (gather.Lodging room key) later place) h = claimed-more p q s s touched written key h
 claims-more p q s touched written (Reserving item r locks place) h = tt
 claims-more p q s touched written (Saying item r (Claiming place)) h = claimed-on p q s s (claimed-more p q s s touched written) (take place r.writes) h
 claims-more p q s touched written (Saying item r Changing) h = tt
@@ -110,7 +114,11 @@ claims-got o q s y (Working item (Housing room key)) n is_open wants h =
     subst (λ (m : Need). is_claimed (after o q (Got s m)) s key ≡ true) (same_Some (line_lock key) n wants) (got-claimed o q s y key is_open)
 claims-got o q s y (Working item (Fetching m)) n is_open wants h = tt
 claims-got o q s y (Working item (Lodging room key)) n is_open wants h = absurd (none-some n wants)
-claims-got o q s y (Gathering item gather later place) n is_open wants h = tt
+claims-got o q s y (Gathering item (gather.Locking m) later place) n is_open wants h = tt
+claims-got o q s y (Gathering item (gather.Housing room key) later place) n is_open wants h =
+    subst (λ (m : Need). is_claimed (after o q (Got s m)) s key ≡ true) (same_Some (line_lock key) n wants) (got-claimed o q s y key is_open)
+claims-got o q s y (Gathering item (gather.Reading m) later place) n is_open wants h = tt
+claims-got o q s y (Gathering item (gather.Lodging room key) later place) n is_open wants h = absurd (none-some n wants)
 claims-got o q s y (Reserving item r locks place) n is_open wants h = tt
 claims-got o q s y (Saying item r (Claiming place)) n is_open wants h =
     let at = write-at r.writes place n wants in

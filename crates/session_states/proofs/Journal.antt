@@ -30,7 +30,7 @@ use Rattle.lock_ties.specs.Ties.{needs_at}
 use Rattle.line_steps.specs.Right.{Ground, Stands}
 use Rattle.line_steps.specs.Images.{journal_node}
 use Rattle.session_states.specs.declared.stage.Work.TheVariants.{Opening as OpeningIt, Due, Out, Lacking, Housing, Fetching, Lodging}
-use Rattle.session_states.specs.declared.stage.Gather.TheVariants.{Locking, Reading as ReadingOf}
+use Rattle.session_states.specs.declared.stage.Gather.TheVariants.{Locking, Housing as HousingOf, Reading as ReadingOf, Lodging as LodgingOf}
 use Rattle.session_states.specs.declared.stage.Laying.TheVariants.{Claiming, Changing}
 use Rattle.session_states.specs.declared.stage.End.TheVariants.{Preparing, Journal, Ready, Committing, RollingBack, Leaving}
 use Rattle.session_states.specs.declared.stage.Stage.{Stage}
@@ -89,7 +89,9 @@ lock-is (Working item (Lodging room key)) n wants off' = absurd (none-some n wan
 lock-is (Gathering item (Locking (need.Line key)) later place) n wants off' = off (lock_for_line (uttered_of item) key) n (off-line (uttered_of item) key) (same_Some _ n wants)
 lock-is (Gathering item (Locking (need.Area area)) later place) n wants off' = subst (λ (x : LockNeed). is_on journal_node x.node ≡ false) (same_Some _ n wants) refl
 lock-is (Gathering item (Locking (need.Room room)) later place) n wants off' = absurd (none-some n wants)
+lock-is (Gathering item (HousingOf room key) later place) n wants off' = subst (λ (x : LockNeed). is_on journal_node x.node ≡ false) (same_Some _ n wants) refl
 lock-is (Gathering item (ReadingOf lack) later place) n wants off' = absurd (none-some n wants)
+lock-is (Gathering item (LodgingOf room key) later place) n wants off' = absurd (none-some n wants)
 lock-is (Reserving item r locks place) n wants off' = at-place (λ m. is_on journal_node m.node ≡ false) locks place n wants off'
 lock-is (Saying item r (Claiming place)) n wants off' = let at = write-at r.writes place n wants in off (lock (line_node at.0.key) EX) n refl at.2
 lock-is (Saying item r Changing) n wants off' = absurd (none-some n wants)

@@ -34,7 +34,7 @@ use Rattle.lock_ties.proofs.Single.{need-self}
 use Rattle.line_steps.specs.Right.{Ground, Writes}
 use Rattle.line_steps.proofs.Wants.{takes-locks}
 use Rattle.session_states.specs.declared.stage.Work.TheVariants.{Opening as OpeningIt, Due, Out, Lacking, Housing, Fetching, Lodging}
-use Rattle.session_states.specs.declared.stage.Gather.TheVariants.{Locking, Reading}
+use Rattle.session_states.specs.declared.stage.Gather.TheVariants as gather
 use Rattle.session_states.specs.declared.stage.Laying.TheVariants.{Claiming, Changing}
 use Rattle.session_states.specs.declared.stage.End.TheVariants.{Preparing, Journal, Ready, Committing, RollingBack, Leaving}
 use Rattle.session_states.specs.declared.stage.Stage.{Stage}
@@ -288,12 +288,15 @@ module _ (M : Model) (orderly : IsOrderly M) where
       (f.0, (subst (λ (m : LockNeed). is_guarded (has ++ m ∷ []) (line_node key) ≡ true) (same_Some _ n wants) (guards-new has (lock (line_node key) EX) refl), f.1.1))
   stage-got word has standing known spoken (Working item (Fetching lack)) n wants f = absurd (none-some n wants)
   stage-got word has standing known spoken (Working item (Lodging room key)) n wants f = absurd (none-some n wants)
-  stage-got word has standing known spoken (Gathering item (Locking (need.Line key)) later place) n wants f =
+  stage-got word has standing known spoken (Gathering item (gather.Locking (need.Line key)) later place) n wants f =
       (f.0, subst (λ (m : LockNeed). is_guarded (has ++ m ∷ []) (line_node key) ≡ true) (same_Some _ n wants) (line-locked has (uttered_of item) key), f.2)
-  stage-got word has standing known spoken (Gathering item (Locking (need.Area area)) later place) n wants f =
+  stage-got word has standing known spoken (Gathering item (gather.Locking (need.Area area)) later place) n wants f =
       (f.0, subst (λ (m : LockNeed). is_guarded (has ++ m ∷ []) (area_node area) ≡ true) (same_Some _ n wants) (guards-new has (lock (area_node area) (area_mode (uttered_of item) area)) (strong-area (uttered_of item) area)), f.2)
-  stage-got word has standing known spoken (Gathering item (Locking (need.Room room)) later place) n wants f = absurd (none-some n wants)
-  stage-got word has standing known spoken (Gathering item (Reading lack) later place) n wants f = absurd (none-some n wants)
+  stage-got word has standing known spoken (Gathering item (gather.Locking (need.Room room)) later place) n wants f = absurd (none-some n wants)
+  stage-got word has standing known spoken (Gathering item (gather.Housing room key) later place) n wants f =
+      (f.0, (subst (λ (m : LockNeed). is_guarded (has ++ m ∷ []) (line_node key) ≡ true) (same_Some _ n wants) (guards-new has (lock (line_node key) EX) refl), f.1.1), f.2)
+  stage-got word has standing known spoken (Gathering item (gather.Reading lack) later place) n wants f = absurd (none-some n wants)
+  stage-got word has standing known spoken (Gathering item (gather.Lodging room key) later place) n wants f = absurd (none-some n wants)
   stage-got word has standing known spoken (Reserving item r locks place) n wants f =
       (f.0, record { record_is = f.1.record_is; asked = f.1.asked; reserved = got-next has locks place n wants f.1.reserved; off = f.1.off })
   stage-got word has standing known spoken (Saying item r (Claiming place)) n wants f =
@@ -349,16 +352,21 @@ module _ (M : Model) (orderly : IsOrderly M) where
       subst (λ k. IsAskedOver M standing (Some (uttered_of item)) k n) (sym f.fits.phase.desk.0)
       (statement-asks o p g s standing (knows known) (uttered_of item) (is_lock_for (uttered_of item) (need.Room room)) (lock (line_node key) EX) n f.here.fit.stands f.here.stands.state
       (rw f.fits.phase.stage.1.1 (rw (on-own-line room.area) refl)) (same_Some _ n wants) f.fits.phase.stage.1.0)
-  lock-asks o p g c s left total standing known spoken waits (Gathering item (Locking (need.Line key)) later place) n wants f =
+  lock-asks o p g c s left total standing known spoken waits (Gathering item (gather.Locking (need.Line key)) later place) n wants f =
       subst (λ k. IsAskedOver M standing (Some (uttered_of item)) k n) (sym f.fits.phase.desk.0)
       (statement-asks o p g s standing (knows known) (uttered_of item) (is_lock_for (uttered_of item) (need.Line key)) (lock_for_line (uttered_of item) key) n f.here.fit.stands f.here.stands.state
       (line-asked (uttered_of item) key) (same_Some _ n wants) f.fits.phase.stage.1)
-  lock-asks o p g c s left total standing known spoken waits (Gathering item (Locking (need.Area area)) later place) n wants f =
+  lock-asks o p g c s left total standing known spoken waits (Gathering item (gather.Locking (need.Area area)) later place) n wants f =
       subst (λ k. IsAskedOver M standing (Some (uttered_of item)) k n) (sym f.fits.phase.desk.0)
       (statement-asks o p g s standing (knows known) (uttered_of item) (is_lock_for (uttered_of item) (need.Area area)) (lock (area_node area) (area_mode (uttered_of item) area)) n f.here.fit.stands f.here.stands.state
       (need-self (lock (area_node area) (area_mode (uttered_of item) area))) (same_Some _ n wants) f.fits.phase.stage.1)
-  lock-asks o p g c s left total standing known spoken waits (Gathering item (Locking (need.Room room)) later place) n wants f = absurd (none-some n wants)
-  lock-asks o p g c s left total standing known spoken waits (Gathering item (Reading lack) later place) n wants f = absurd (none-some n wants)
+  lock-asks o p g c s left total standing known spoken waits (Gathering item (gather.Locking (need.Room room)) later place) n wants f = absurd (none-some n wants)
+  lock-asks o p g c s left total standing known spoken waits (Gathering item (gather.Housing room key) later place) n wants f =
+      subst (λ k. IsAskedOver M standing (Some (uttered_of item)) k n) (sym f.fits.phase.desk.0)
+      (statement-asks o p g s standing (knows known) (uttered_of item) (is_lock_for (uttered_of item) (need.Room room)) (lock (line_node key) EX) n f.here.fit.stands f.here.stands.state
+      (rw f.fits.phase.stage.1.1 (rw (on-own-line room.area) refl)) (same_Some _ n wants) f.fits.phase.stage.1.0)
+  lock-asks o p g c s left total standing known spoken waits (Gathering item (gather.Reading lack) later place) n wants f = absurd (none-some n wants)
+  lock-asks o p g c s left total standing known spoken waits (Gathering item (gather.Lodging room key) later place) n wants f = absurd (none-some n wants)
   lock-asks o p g c s left total standing known spoken waits (Reserving item r locks place) n wants f =
       subst (λ k. IsAskedOver M standing (Some (uttered_of item)) k n) (sym f.fits.phase.desk.0) (at-place (IsAskedOver M standing (Some (uttered_of item)) (knows known)) locks place n wants f.fits.phase.stage.1.asked)
   lock-asks o p g c s left total standing known spoken waits (Working item (Fetching lack)) n wants f = absurd (none-some n wants)

@@ -37,7 +37,7 @@ use Rattle.journal_waits.specs.Holders.{KeepsTo}
 use Rattle.session_states.specs.declared.stage.Work.{Work}
 use Rattle.session_states.specs.declared.stage.Work.TheVariants.{Opening, Lacking, Housing, Fetching, Lodging}
 use Rattle.session_states.specs.declared.stage.Gather.{Gather}
-use Rattle.session_states.specs.declared.stage.Gather.TheVariants.{Locking, Reading as ReadingOf}
+use Rattle.session_states.specs.declared.stage.Gather.TheVariants as gather
 use Rattle.session_states.specs.declared.stage.Laying.{Laying}
 use Rattle.session_states.specs.declared.stage.Laying.TheVariants.{Claiming, Changing}
 use Rattle.session_states.specs.declared.stage.End.{End}
@@ -75,8 +75,10 @@ abbrev pub AreLacked : Model → Standing → Uttered → Knowledge → List Nee
 AreLacked M standing item known = AllByRecursion (IsLacked M standing item known)
 
 abbrev pub GatherFits : Model → List LockNeed → Standing → Uttered → Knowledge → Gather → Type 0
-GatherFits M got standing item known (Locking n) = IsLacked M standing item known n
-GatherFits M got standing item known (ReadingOf n) = IsLocked got n
+GatherFits M got standing item known (gather.Locking n) = IsLacked M standing item known n
+GatherFits M got standing item known (gather.Housing room key) = IsLacked M standing item known (need.Room room) × (key.area ≡ room.area)
+GatherFits M got standing item known (gather.Reading n) = IsLocked got n
+GatherFits M got standing item known (gather.Lodging room key) = (is_guarded got (line_node key) ≡ true) × (key.area ≡ room.area)
 
 -- these are among the locks that are got
 abbrev pub AreGot : List LockNeed → List LockNeed → Type 0
@@ -112,6 +114,7 @@ StageFits M word got standing known spoken (Ending end) = (spoken ≡ true) × E
 -- The account has it that EX was got on the lines whose locks were wanted, as lines, whatever covers them.
 abbrev pub ClaimsFit : Place → ℕ → Stage → Type 0
 ClaimsFit p s (Working item (Lodging room key)) = is_claimed p s key ≡ true
+ClaimsFit p s (Gathering item (gather.Lodging room key) later place) = is_claimed p s key ≡ true
 ClaimsFit p s (Saying item r (Claiming place)) = AreClaimed p s (take place r.writes)
 ClaimsFit p s stage = Unit {0}
 

@@ -20,7 +20,7 @@ use Rattle.journal_waits.specs.Holders.{is_exclusive_on}
 use Rattle.session_states.specs.declared.stage.Work.{Work}
 use Rattle.session_states.specs.declared.stage.Work.TheVariants.{Lacking, Housing}
 use Rattle.session_states.specs.declared.stage.Gather.{Gather}
-use Rattle.session_states.specs.declared.stage.Gather.TheVariants.{Locking, Reading}
+use Rattle.session_states.specs.declared.stage.Gather.TheVariants as gather
 use Rattle.session_states.specs.declared.stage.Laying.{Laying}
 use Rattle.session_states.specs.declared.stage.Laying.TheVariants.{Claiming, Changing}
 use Rattle.session_states.specs.declared.stage.End.{End}
@@ -47,8 +47,9 @@ lock_of_work item (Housing room key) = Some (need (line_node key) EX)
 lock_of_work item _ = None
 
 abbrev pub lock_of_gather : Uttered → Gather → Option LockNeed
-lock_of_gather item (Locking n) = lock_for item n
-lock_of_gather item (Reading n) = None
+lock_of_gather item (gather.Locking n) = lock_for item n
+lock_of_gather item (gather.Housing room key) = Some (need (line_node key) EX)
+lock_of_gather item _ = None
 
 abbrev pub lock_of_write : Option Write → Option LockNeed
 lock_of_write (Some w) = Some (need (line_node w.key) EX)

@@ -28,10 +28,14 @@ pub enum Work {
 /// How far a need of a job has come, of those that are read in turn.
 #[derive(Clone, Copy)]
 pub enum Gather {
-    /// The lock on it is wanted.
+    /// The lock on it is wanted. A room has none before a line is named for it.
     Locking(Need),
+    /// The lock on this line is wanted, for a room.
+    Housing(Room, Dbkey),
     /// It is locked, and is read.
     Reading(Need),
+    /// The line that was named for a room is locked; it is read, and its page is taken.
+    Lodging(Room, Dbkey),
 }
 
 /// What is done before the record of a statement is said.

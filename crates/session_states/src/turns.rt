@@ -50,7 +50,8 @@ fn gather_behind_got(gather: Gather) -> Gather
 {
     match gather {
         Gather::Locking(need) => Gather::Reading(need),
-        Gather::Reading(need) => Gather::Reading(need),
+        Gather::Housing(room, key) => Gather::Lodging(room, key),
+        gather => gather,
     }
 }
 
