@@ -47,7 +47,7 @@ pub enum ChangeStop {
     NoMemory,
 }
 
-/// Why a commit can't begin.
+/// Why a commit can't be prepared.
 #[derive(Clone, Copy, Debug, PartialEq, Eq)]
 pub enum CommitStop {
     /// The after-image journal has no room within this limit.

@@ -11,6 +11,7 @@ use Rattle.line_store.specs.declared.answers.Stepped.{Stepped}
 use Rattle.line_store.specs.declared.answers.Stepped.TheVariants.{More, Done, Committed, Recovered}
 use Rattle.line_store.specs.Seats.{Seat, outside, beginning, writing, changing, committing, rolling_back, closing, reading, dead, is_committing, done_at}
 use Rattle.line_store.specs.Shelves.{Shelf, seen_by}
+use Rattle.line_store.specs.Sights.{Sight}
 use Rattle.line_store.specs.Rooms.{IsBehind, first_line}
 use Rattle.memory_store.specs.declared.seat.Seat.{Seat as Held}
 use Rattle.memory_store.specs.declared.seat.Seat.TheVariants as held
@@ -85,6 +86,10 @@ shelf_of k = record {
 -- a crash leaves nothing
 abbrev pub left_of : Kept → ℕ → Lines → Type 0
 left_of k t lines = ⊥
+
+-- it shows the one shelf that it holds
+abbrev pub sight_of : Kept → Sight
+sight_of k = record { shows = λ h. h ≡ shelf_of k; stand = seat_at k.seats; left = left_of k }
 
 abbrev pub with_seat : ℕ → Held → Kept → Kept
 with_seat s h k = record k { seats = slice_set k.seats s h }

@@ -75,11 +75,15 @@ impl MemoryStore {
 }
 
 impl LineStore for MemoryStore {
-    ghost use Rattle.memory_store.specs.Kept.{shelf_of, left_of};
+    ghost use Rattle.std.proofs.Common.{ap, sym};
+    ghost use Rattle.line_store.specs.Sights.{bare};
+    ghost use Rattle.memory_store.specs.Kept.{sight_of};
 
-    ghost shelf = { shelf_of };
+    ghost sight = { sight_of };
 
-    ghost left = { left_of };
+    ghost agrees = { λ store h shown s. ap (λ shelf. bare (shelf.seat s)) (sym shown) };
+
+    ghost stands = { λ store h shown lines left. absurd left };
 
     fn begin(&mut self, s: Session) {
         self.put(s, Seat::Beginning);
