@@ -4,7 +4,7 @@ use Rattle.line_store.specs.declared.answers.Progress.TheVariants.{Done}
 use Rattle.line_store.specs.declared.answers.ReadStop.TheVariants.{NoMemory}
 use Rattle.line_store.specs.declared.answers.Stepped.{Stepped}
 use Rattle.line_store.specs.declared.answers.Stepped.TheVariants.{More, Done as HasDone, Committed, Recovered}
-use Rattle.line_store.specs.Seats.{Seat, outside, beginning, writing, changing, committing, rolling_back, closing, reading, dead, IsWriting, IsAlive, committing_by, rolled_back, done_at}
+use Rattle.line_store.specs.Seats.{Seat, outside, writing, prepared, committing, rolling_back, closing, IsWriting, IsPrepared, IsAlive, prepared_by, given_back, committing_by, rolled_back, done_at}
 use Rattle.line_store.specs.Shelves.{Shelf}
 use Rattle.line_store.specs.Calls.{Moves, IsCommitted}
 use Rattle.line_store.specs.Sights.{Behind, Does, Stays, IsSame, Reads, Steps, MayAnswer, stepped_to, bare, seat_or}
@@ -59,27 +59,21 @@ is-unread k s = seated k k s (Reads s (Err NoMemory)) (λ t. refl) (still k s)
 
 -- ---- seats without lines
 
-pub bare-commits : (seat : Seat) → IsWriting seat → bare (committing_by seat) ≡ committing []
-bare-commits outside h = absurd h
-bare-commits beginning h = absurd h
-bare-commits (writing ws) h = refl
-bare-commits (changing ws) h = absurd h
-bare-commits (committing ws) h = absurd h
-bare-commits (rolling_back ws) h = absurd h
-bare-commits closing h = absurd h
-bare-commits (reading start) h = absurd h
-bare-commits (dead commits ws) h = absurd h
+pub bare-prepared : (seat : Seat) → IsWriting seat → bare (prepared_by seat) ≡ prepared []
+bare-prepared (writing ws) h = refl
+bare-prepared _ h = absurd h
+
+pub bare-given-back : (seat : Seat) → IsPrepared seat → bare (given_back seat) ≡ writing []
+bare-given-back (prepared ws) h = refl
+bare-given-back _ h = absurd h
+
+pub bare-commits : (seat : Seat) → IsPrepared seat → bare (committing_by seat) ≡ committing []
+bare-commits (prepared ws) h = refl
+bare-commits _ h = absurd h
 
 pub bare-undone : (seat : Seat) → IsWriting seat → bare (rolled_back seat) ≡ rolling_back []
-bare-undone outside h = absurd h
-bare-undone beginning h = absurd h
 bare-undone (writing ws) h = refl
-bare-undone (changing ws) h = absurd h
-bare-undone (committing ws) h = absurd h
-bare-undone (rolling_back ws) h = absurd h
-bare-undone closing h = absurd h
-bare-undone (reading start) h = absurd h
-bare-undone (dead commits ws) h = absurd h
+bare-undone _ h = absurd h
 
 -- ---- steps
 
