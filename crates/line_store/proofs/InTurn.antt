@@ -1,8 +1,7 @@
 -- Calls one behind another, calls that are related otherwise, and none at all.
-use Rattle.std.proofs.Common.{◌≡◌, ◌≤◌, ◌==◌, ◌⊎◌, inl, inr, ℕ, Bool, true, false, List, Option, Some, None, refl, sym, ap, subst, ◌∙◌, arith}
+use Rattle.std.proofs.Common.{◌≡◌, ◌≤◌, ◌==◌, ◌⊎◌, inl, inr, ℕ, Bool, true, false, Some, None, refl, sym, ap, ◌∙◌, arith}
 use Rattle.std.proofs.lemmas.Option.{none-some}
 use Rattle.std.proofs.lemmas.Bool.{eqb-true}
-use Rattle.line_view.specs.declared.writes.Write.{Write}
 use Rattle.line_view.specs.Knowledge.{Lines}
 use Rattle.line_view.specs.Writes.{laid_all}
 use Rattle.line_store.specs.Seats.{Seat, in_flight}
@@ -20,6 +19,7 @@ pub does-nothing : (s : ℕ) (R : Shelf → Shelf → Type 0) (sight : Sight) �
 does-nothing s R sight all = record {
   mine = refl;
   others = λ t apart. refl;
+  steps = λ t apart. refl;
   each = λ h shown. record { shelf = h; shown = shown; related = all h shown; lasts = lasts-still sight.left h };
 }
 
@@ -28,6 +28,7 @@ pub does-as : (s : ℕ) (there : Seat) (R Q : Shelf → Shelf → Type 0) (old n
 does-as s there R Q old new all does = record {
   mine = does.mine;
   others = does.others;
+  steps = does.steps;
   each = λ h shown. let it : Behind old new R h = does.each h shown in
       record { shelf = it.shelf; shown = it.shown; related = all h it.shelf shown it.shown it.related; lasts = it.lasts };
 }
@@ -55,6 +56,7 @@ pub does-in-turn : (s : ℕ) (there end : Seat) (R Q P : Shelf → Shelf → Typ
 does-in-turn s there end R Q P a b c later between both first then = record {
   mine = then.mine;
   others = λ t apart. then.others t apart ∙ first.others t apart;
+  steps = λ t apart. then.steps t apart ∙ first.steps t apart;
   each = λ h shown. let m : Behind a b R h = first.each h shown in
       let g : Behind b c Q m.shelf = then.each m.shelf m.shown in
       record {

@@ -1,5 +1,5 @@
 -- What a store shows of what it holds. A store on a disk holds its lines there, so that its memory alone doesn't say which they are: it shows a shelf, and which one is a relation.
-use Rattle.std.specs.Prelude.{◌≡◌, ◌==◌, ℕ, true, false, [], Option, Some, None, Result, Ok, Err, is_some}
+use Rattle.std.specs.Prelude.{◌≡◌, ◌<◌, ◌==◌, ◌^◌, ℕ, true, false, [], Option, Some, None, Result, Ok, Err, is_some}
 use Rattle.line_view.specs.Knowledge.{Lines}
 use Rattle.line_store.specs.declared.answers.Fault.{Fault}
 use Rattle.line_store.specs.declared.answers.Progress.{Progress}
@@ -16,6 +16,8 @@ pub record Sight : Type 1 where
   pub shows : Shelf → Type 0
   -- where a session stands, up to the lines that it wrote or reads
   pub stand : ℕ → Seat
+  -- how often at most a call of a session may still answer that there is more to do
+  pub steps : ℕ → ℕ
   -- the maps of lines for which the images stand that a crash since a moment might have left
   pub left : ℕ → Lines → Type 0
 
@@ -36,6 +38,11 @@ bare (dead commits ws) = dead commits []
 abbrev pub Agrees : Sight → Type 0
 Agrees sight = (h : Shelf) → sight.shows h → (s : ℕ) → bare (sight.stand s) ≡ bare (h.seat s)
 
+-- a session's steps are counted as on each shelf that is shown, and in a number that a loop can count to
+pub record Counts (sight : Sight) : Type 0 where
+  pub same : (h : Shelf) → sight.shows h → (s : ℕ) → sight.steps s ≡ h.steps s
+  pub few : (s : ℕ) → sight.steps s < 2 ^ 64
+
 -- what a crash may leave now, may stand on each shelf that is shown
 abbrev pub Stands : Sight → Type 0
 Stands sight = (h : Shelf) → sight.shows h → (lines : Lines) → sight.left h.clock.time lines → MayStand h lines
@@ -49,10 +56,11 @@ pub record Behind (old new : Sight) (R : Shelf → Shelf → Type 0) (before : S
   pub related : R before shelf
   pub lasts : Lasts old.left new.left before shelf
 
--- Session s comes to stand there, and others stand as they did. Where a shelf was shown, one is shown that is related to it.
+-- Session s comes to stand there, and others stand as they did and have as many steps. Where a shelf was shown, one is shown that is related to it.
 pub record Does (s : ℕ) (there : Seat) (R : Shelf → Shelf → Type 0) (old new : Sight) : Type 0 where
   pub mine : bare (new.stand s) ≡ bare there
   pub others : (t : ℕ) → (t == s) ≡ false → bare (new.stand t) ≡ bare (old.stand t)
+  pub steps : (t : ℕ) → (t == s) ≡ false → new.steps t ≡ old.steps t
   pub each : (h : Shelf) → old.shows h → Behind old new R h
 
 abbrev pub IsSame : Shelf → Shelf → Type 0
@@ -88,6 +96,10 @@ abbrev pub Steps : ℕ → Result Stepped Fault → Shelf → Shelf → Type 0
 Steps s result old new = Comes s old new result
 
 -- ---- steps, as memory knows them
+
+-- where there is more to do, it is less than before
+abbrev pub IsLess : ℕ → Sight → Sight → Type 0
+IsLess s old new = new.steps s < old.steps s
 
 -- what a step may answer, by where its session stands
 abbrev pub MayAnswer : Seat → Result Stepped Fault → Type 0

@@ -42,7 +42,7 @@ pub enum ChangeStop {
     RujFull(u32),
     /// The snapshot files have no room within this limit.
     SnapFull(u32),
-    /// This line stands on no page of its logical area, or its image is too long for that page.
+    /// This line stands on no page of its logical area and of that area's class, its image is too long for the page, or another open transaction has written it.
     Unfit(Dbkey),
     NoMemory,
 }

@@ -13,18 +13,22 @@ pub trait LineStore {
     ghost use Rattle.line_view.specs.Knowledge.{IsInOrder, Agrees as AgreesWith, line_in, lines_in};
     ghost use Rattle.line_view.specs.Held.{knows, with_line, with_area};
     ghost use Rattle.rdb_page.specs.Page.{IsOwner, IsClass};
-    ghost use Rattle.line_store.specs.declared.answers.Progress.TheVariants.{Done};
+    ghost use Rattle.line_store.specs.declared.answers.Progress.TheVariants.{Done, More};
+    ghost use Rattle.line_store.specs.declared.answers.Stepped.TheVariants as stepped;
     ghost use Rattle.line_store.specs.Seats.{outside, beginning, writing, changing, prepared, committing, rolling_back, reading, IsMember, IsWriting, IsPrepared, IsAtRest, IsReader, IsUnderWay, IsAlive, is_committing, died};
     ghost use Rattle.line_store.specs.Shelves.{Shelf, seen_by};
     ghost use Rattle.line_store.specs.Rooms.{IsRoom, IsFull, Takes, IsTaken};
     ghost use Rattle.line_store.specs.Calls.{Moves, Learns, Changes, MayStopChange, MayStopCommit};
-    ghost use Rattle.line_store.specs.Sights.{Sight, Agrees, Stands, Does, Stays, BeginsReading, Prepares, GivesBack, BeginsCommit, RollsBack, Dies, Reads, Steps, MayAnswer, stepped_to, StandsAlone};
+    ghost use Rattle.line_store.specs.Sights.{Sight, Agrees, Counts, Stands, Does, Stays, BeginsReading, Prepares, GivesBack, BeginsCommit, RollsBack, Dies, Reads, Steps, IsLess, MayAnswer, stepped_to, StandsAlone};
 
     /// What the store shows of what it holds.
     ghost sight: { Self → Sight };
 
     /// Its memory knows where sessions stand.
     ghost agrees: { (store : Self) → Agrees (sight store) };
+
+    /// It knows how much is left to do for each.
+    ghost counts: { (store : Self) → Counts (sight store) };
 
     /// A crash leaves what is committed, or has the commit that is under way.
     ghost stands: { (store : Self) → Stands (sight store) };
@@ -61,7 +65,8 @@ pub trait LineStore {
         ensures not_yet { (result ≡ Ok Done → ⊥) → known.new ≡ known.old }
         ensures knows { (h : Shelf) → (sight self.old).shows h → IsInOrder (seen_by s.number h)
             → AgreesWith (knows known.old) (seen_by s.number h) → AgreesWith (knows known.new) (seen_by s.number h) }
-        ensures read { Does s.number ((sight self.old).stand s.number) (Reads s.number result) (sight self.old) (sight self.new) };
+        ensures read { Does s.number ((sight self.old).stand s.number) (Reads s.number result) (sight self.old) (sight self.new) }
+        ensures less { result ≡ Ok More → IsLess s.number (sight self.old) (sight self.new) };
 
     /// Reads the present lines of a logical area as a session's transaction sees them. Some of them are known before all are.
     fn learn_area(&mut self, s: Session, area: u32, known: &mut Known) -> Result<Progress, ReadStop>
@@ -71,7 +76,8 @@ pub trait LineStore {
         ensures not_yet { (result ≡ Ok Done → ⊥) → (h : Shelf) → (sight self.old).shows h → Learns (lines_in area (seen_by s.number h)) known.old known.new }
         ensures knows { (h : Shelf) → (sight self.old).shows h → IsInOrder (seen_by s.number h)
             → AgreesWith (knows known.old) (seen_by s.number h) → AgreesWith (knows known.new) (seen_by s.number h) }
-        ensures read { Does s.number ((sight self.old).stand s.number) (Reads s.number result) (sight self.old) (sight self.new) };
+        ensures read { Does s.number ((sight self.old).stand s.number) (Reads s.number result) (sight self.old) (sight self.new) }
+        ensures less { result ≡ Ok More → IsLess s.number (sight self.old) (sight self.new) };
 
     /// A line on which a session's transaction may put a new one of this class: one behind `from` of a page that is taken, else the first of a new page. Its page is still to be taken.
     fn room(
@@ -142,7 +148,8 @@ pub trait LineStore {
         requires member { IsMember s.number }
         requires seat { IsUnderWay ((sight self.old).stand s.number) }
         ensures answers { MayAnswer ((sight self.old).stand s.number) result }
-        ensures comes { Does s.number (stepped_to ((sight self.old).stand s.number) result) (Steps s.number result) (sight self.old) (sight self.new) };
+        ensures comes { Does s.number (stepped_to ((sight self.old).stand s.number) result) (Steps s.number result) (sight self.old) (sight self.new) }
+        ensures less { result ≡ Ok stepped.More → IsLess s.number (sight self.old) (sight self.new) };
 
     /// Whether the session's next step is the barrier that makes its commit stable.
     fn is_at_barrier(&self, s: Session) -> bool

@@ -29,6 +29,7 @@ pub moved : (k new : Kept) (s : ℕ) (seat there : Seat) (R : Shelf → Shelf �
 moved k new s seat there R moves same related = record {
   mine = ap bare moves.mine ∙ same;
   others = λ t apart. ap bare (moves.others.seat t apart);
+  steps = λ t apart. refl;
   each = λ h shown. behind k new R h shown related;
 }
 
@@ -37,6 +38,7 @@ pub seated : (k new : Kept) (s : ℕ) (R : Shelf → Shelf → Type 0) → ((t :
 seated k new s R same related = record {
   mine = ap bare (same s);
   others = λ t apart. ap bare (same t);
+  steps = λ t apart. refl;
   each = λ h shown. behind k new R h shown related;
 }
 
@@ -81,6 +83,7 @@ pub landed : (k new : Kept) (s : ℕ) (moment : Moment) → IsCommitted s moment
 landed k new s moment is = record {
   mine = ap bare is.commits.mine;
   others = λ t apart. ap bare (is.commits.others.seat t apart);
+  steps = λ t apart. refl;
   each = λ h shown. behind k new (Steps s (Ok (Committed moment))) h shown is;
 }
 

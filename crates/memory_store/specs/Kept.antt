@@ -96,7 +96,7 @@ left_of k t lines = ⊥
 
 -- it shows the one shelf that it holds
 abbrev pub sight_of : Kept → Sight
-sight_of k = record { shows = λ h. h ≡ shelf_of k; stand = seat_at k.seats; left = left_of k }
+sight_of k = record { shows = λ h. h ≡ shelf_of k; stand = seat_at k.seats; steps = λ s. 0; left = left_of k }
 
 abbrev pub with_seat : ℕ → Held → Kept → Kept
 with_seat s h k = record k { seats = slice_set k.seats s h }

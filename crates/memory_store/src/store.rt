@@ -78,12 +78,15 @@ impl MemoryStore {
 
 impl LineStore for MemoryStore {
     ghost use Rattle.std.proofs.Common.{ap, sym};
+    ghost use Rattle.memory_store.proofs.Counting.{none_left};
     ghost use Rattle.line_store.specs.Sights.{bare};
     ghost use Rattle.memory_store.specs.Kept.{sight_of};
 
     ghost sight = { sight_of };
 
     ghost agrees = { λ store h shown s. ap (λ shelf. bare (shelf.seat s)) (sym shown) };
+
+    ghost counts = { λ store. record { same = λ h shown s. ap (λ shelf. shelf.steps s) (sym shown); few = λ s. none_left } };
 
     ghost stands = { λ store h shown lines left. absurd left };
 
