@@ -1,14 +1,16 @@
 -- What a store shows of what it holds. A store on a disk holds its lines there, so that its memory alone doesn't say which they are: it shows a shelf, and which one is a relation.
-use Rattle.std.specs.Prelude.{◌≡◌, ◌<◌, ◌==◌, ◌^◌, ℕ, true, false, [], Option, Some, None, Result, Ok, Err, is_some}
-use Rattle.line_view.specs.Knowledge.{Lines}
+use Rattle.std.specs.Prelude.{◌≡◌, ◌<◌, ◌==◌, ◌^◌, ℕ, true, false, List, [], Option, Some, None, Result, Ok, Err, is_some}
+use Rattle.rdb_types.specs.declared.keys.Dbkey.{Dbkey}
+use Rattle.line_view.specs.Knowledge.{Lines, line_in, lines_in}
+use Rattle.line_view.specs.Held.{Held, with_line, with_area}
 use Rattle.line_store.specs.declared.answers.Fault.{Fault}
 use Rattle.line_store.specs.declared.answers.Progress.{Progress}
 use Rattle.line_store.specs.declared.answers.ReadStop.{ReadStop}
 use Rattle.line_store.specs.declared.answers.Stepped.{Stepped}
 use Rattle.line_store.specs.declared.answers.Stepped.TheVariants.{More, Done, Committed, Recovered}
 use Rattle.line_store.specs.Seats.{Seat, outside, beginning, writing, changing, prepared, committing, rolling_back, closing, reading, dead, prepared_by, given_back, committing_by, rolled_back, died, is_committing, in_flight, done_at, IsAlive}
-use Rattle.line_store.specs.Shelves.{Shelf}
-use Rattle.line_store.specs.Calls.{Moves, IsRead, Comes, Lasts, MayStand}
+use Rattle.line_store.specs.Shelves.{Shelf, seen_by}
+use Rattle.line_store.specs.Calls.{Moves, IsRead, Learns, Comes, Lasts, MayStand}
 
 -- The memory knows where each session stands. Shelves are shown only where the disk tells its content.
 pub record Sight : Type 1 where
@@ -94,6 +96,26 @@ Reads s result old new = IsRead s old new result
 
 abbrev pub Steps : ℕ → Result Stepped Fault → Shelf → Shelf → Type 0
 Steps s result old new = Comes s old new result
+
+-- ---- reading
+
+-- The line is known, with what the session sees there.
+pub record LearnsLine (sight : Sight) (s : ℕ) (key : Dbkey) (old new : Held) : Type 0 where
+  pub image : Option (List ℕ)
+  pub learnt : new ≡ with_line key image old
+  pub seen : (h : Shelf) → sight.shows h → image ≡ line_in key (seen_by s h)
+
+-- The area is known, with the lines that the session sees there.
+pub record LearnsArea (sight : Sight) (s area : ℕ) (old new : Held) : Type 0 where
+  pub lines : Lines
+  pub learnt : new ≡ with_area area (lines_in area lines) old
+  pub seen : (h : Shelf) → sight.shows h → lines_in area lines ≡ lines_in area (seen_by s h)
+
+-- Some of these lines are known in addition.
+pub record LearnsSome (sight : Sight) (s area : ℕ) (old new : Held) : Type 0 where
+  pub lines : Lines
+  pub learnt : Learns (lines_in area lines) old new
+  pub seen : (h : Shelf) → sight.shows h → lines_in area lines ≡ lines_in area (seen_by s h)
 
 -- ---- steps, as memory knows them
 

@@ -10,16 +10,16 @@ use std::alloc::Global;
 /// by `step`, with one write or barrier a step at most, until it is told to be done. Whoever commits is alone in that.
 pub trait LineStore {
     ghost use Rattle.std.specs.Prelude.{◌≡◌, ℕ, Ok, [], IfOk, IfErr, OnOk, OnErr, true, false};
-    ghost use Rattle.line_view.specs.Knowledge.{IsInOrder, Agrees as AgreesWith, line_in, lines_in};
-    ghost use Rattle.line_view.specs.Held.{knows, with_line, with_area};
+    ghost use Rattle.line_view.specs.Knowledge.{IsInOrder, Agrees as AgreesWith};
+    ghost use Rattle.line_view.specs.Held.{knows};
     ghost use Rattle.rdb_page.specs.Page.{IsOwner, IsClass};
     ghost use Rattle.line_store.specs.declared.answers.Progress.TheVariants.{Done, More};
     ghost use Rattle.line_store.specs.declared.answers.Stepped.TheVariants as stepped;
     ghost use Rattle.line_store.specs.Seats.{outside, beginning, writing, changing, prepared, committing, rolling_back, reading, IsMember, IsWriting, IsPrepared, IsAtRest, IsReader, IsUnderWay, IsAlive, is_committing, died};
     ghost use Rattle.line_store.specs.Shelves.{Shelf, seen_by};
     ghost use Rattle.line_store.specs.Rooms.{IsRoom, IsFull, Takes, IsTaken};
-    ghost use Rattle.line_store.specs.Calls.{Moves, Learns, Changes, MayStopChange, MayStopCommit};
-    ghost use Rattle.line_store.specs.Sights.{Sight, Agrees, Counts, Stands, Does, Stays, BeginsReading, Prepares, GivesBack, BeginsCommit, RollsBack, Dies, Reads, Steps, IsLess, MayAnswer, stepped_to, StandsAlone};
+    ghost use Rattle.line_store.specs.Calls.{Moves, Changes, MayStopChange, MayStopCommit};
+    ghost use Rattle.line_store.specs.Sights.{Sight, Agrees, Counts, Stands, Does, Stays, BeginsReading, Prepares, GivesBack, BeginsCommit, RollsBack, Dies, Reads, LearnsLine, LearnsArea, LearnsSome, Steps, IsLess, MayAnswer, stepped_to, StandsAlone};
 
     /// What the store shows of what it holds.
     ghost sight: { Self → Sight };
@@ -61,7 +61,7 @@ pub trait LineStore {
     ) -> Result<Progress, ReadStop>
         requires member { IsMember s.number }
         requires seat { IsAtRest ((sight self.old).stand s.number) }
-        ensures done { result ≡ Ok Done → (h : Shelf) → (sight self.old).shows h → known.new ≡ with_line key (line_in key (seen_by s.number h)) known.old }
+        ensures done { result ≡ Ok Done → LearnsLine (sight self.old) s.number key known.old known.new }
         ensures not_yet { (result ≡ Ok Done → ⊥) → known.new ≡ known.old }
         ensures knows { (h : Shelf) → (sight self.old).shows h → IsInOrder (seen_by s.number h)
             → AgreesWith (knows known.old) (seen_by s.number h) → AgreesWith (knows known.new) (seen_by s.number h) }
@@ -72,8 +72,8 @@ pub trait LineStore {
     fn learn_area(&mut self, s: Session, area: u32, known: &mut Known) -> Result<Progress, ReadStop>
         requires member { IsMember s.number }
         requires seat { IsAtRest ((sight self.old).stand s.number) }
-        ensures done { result ≡ Ok Done → (h : Shelf) → (sight self.old).shows h → known.new ≡ with_area area (lines_in area (seen_by s.number h)) known.old }
-        ensures not_yet { (result ≡ Ok Done → ⊥) → (h : Shelf) → (sight self.old).shows h → Learns (lines_in area (seen_by s.number h)) known.old known.new }
+        ensures done { result ≡ Ok Done → LearnsArea (sight self.old) s.number area known.old known.new }
+        ensures not_yet { (result ≡ Ok Done → ⊥) → LearnsSome (sight self.old) s.number area known.old known.new }
         ensures knows { (h : Shelf) → (sight self.old).shows h → IsInOrder (seen_by s.number h)
             → AgreesWith (knows known.old) (seen_by s.number h) → AgreesWith (knows known.new) (seen_by s.number h) }
         ensures read { Does s.number ((sight self.old).stand s.number) (Reads s.number result) (sight self.old) (sight self.new) }
@@ -91,6 +91,7 @@ pub trait LineStore {
         requires writing { IsWriting ((sight self.now).stand s.number) }
         requires area { (file : ℕ) × IsOwner file area }
         requires class { IsClass class }
+        ensures area { IfOk result (λ key. key.area ≡ area) }
         ensures found { IfOk result (λ key. (h : Shelf) → (sight self.now).shows h → IsRoom h s.number area from key) }
         ensures full { IfErr result (λ full. (h : Shelf) → (sight self.now).shows h → IsFull h s.number area full.limit) };
 
