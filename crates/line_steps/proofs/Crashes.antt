@@ -66,13 +66,13 @@ module _ (M : Model) (orderly : IsOrderly M) where
     each = λ k c found lines l. left-grown o events es (suc k) lines (h.each k c (ap (λ cs. slice_get cs k) (sym same) ∙ found) lines l);
   }
 
-  -- A call of the store, and events behind it: what may stand before it and behind it stands at the places before and behind the events, and a commit among them bears this moment.
-  pub left-goes-on : (o : Opening) (events es : List Event) (before behind : ℕ → Lines → Type 0) (old new : Shelf) → Lasts before behind old new → old.clock.time ≤ new.clock.time →
+  -- A call of a store, and events behind it: what may stand before it and behind it stands at the places before and behind the events, and a commit among them bears this moment.
+  pub left-goes-on : (o : Opening) (events es : List Event) (before behind : ℕ → Lines → Type 0) (old new : Shelf) → ((lines : Lines) → behind new.clock.time lines → MayStand new lines) → Lasts before behind old new → old.clock.time ≤ new.clock.time →
       ((lines : Lines) → MayStand old lines → IsNow M o (place o events) lines) → ((lines : Lines) → MayStand new lines → IsNow M o (place o (events ++ es)) lines) →
       ((k : ℕ) (c : Commit) → slice_get (place o (events ++ es)).commits k ≡ Some c → (slice_get (place o events).commits k ≡ Some c) ⊎ (c.moment ≡ new.clock.time)) →
       length (place o events).commits ≤ length (place o (events ++ es)).commits →
       AreLeft M o events before old.clock.time → AreLeft M o (events ++ es) behind new.clock.time
-  left-goes-on o events es before behind old new lasts later was now grown more h = record {
+  left-goes-on o events es before behind old new stands lasts later was now grown more h = record {
     opened = omega (arith, h.opened, later);
     opening = λ lines l. since 0 o.moment h.opened (omega arith) lines (h.opening lines) (lasts.since o.moment lines h.opened l);
     past = λ k c found. elim (grown k c found) [
@@ -81,7 +81,7 @@ module _ (M : Model) (orderly : IsOrderly M) where
     ];
     each = λ k c found lines l. elim (grown k c found) [
       | inl e ↦ since (suc k) c.moment (h.past k c e) (within (place o events).commits k c e) lines (h.each k c e lines) (lasts.since c.moment lines (h.past k c e) l)
-      | inr e ↦ now-left o (events ++ es) (suc k) lines (within (place o (events ++ es)).commits k c found) (now lines (lasts.now lines (subst (λ t. behind t lines) e l)))
+      | inr e ↦ now-left o (events ++ es) (suc k) lines (within (place o (events ++ es)).commits k c found) (now lines (stands lines (subst (λ t. behind t lines) e l)))
     ];
   }
     where

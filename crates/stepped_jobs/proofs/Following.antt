@@ -15,9 +15,11 @@ use Rattle.line_view.specs.Knowledge.{Lines, IsInOrder, Agrees, keys_of, laid}
 use Rattle.line_view.specs.Held.{Held, knows, nothing, ordered, with_line, with_lines, with_area}
 use Rattle.line_view.specs.Writes.{laid_all}
 use Rattle.line_view.proofs.Written.{laid_in_turn}
-use Rattle.line_store.specs.Seats.{Seat, outside, beginning, writing, changing, committing, rolling_back, closing, reading, dead, IsWriting, writes_of}
+use Rattle.line_store.specs.Seats.{Seat, outside, beginning, writing, changing, prepared, committing, rolling_back, closing, reading, dead, IsWriting, writes_of}
 use Rattle.line_store.specs.Shelves.{Shelf, seen_from, seen_by}
 use Rattle.line_store.specs.Calls.{Changes}
+use Rattle.line_store.specs.Sights.{bare}
+use Rattle.stepped_jobs.specs.Applying.{Applies}
 
 -- ---- the map stays in order
 
@@ -63,22 +65,42 @@ nothing-agrees all = record {
 -- ---- what is seen behind a change
 
 written : (seat : Seat) (now : Lines) → IsWriting seat → seen_from seat now ≡ laid_all (writes_of seat) now
-written outside now h = absurd h
-written beginning now h = absurd h
 written (writing ws) now h = refl
-written (changing ws) now h = absurd h
-written (committing ws) now h = absurd h
-written (rolling_back ws) now h = absurd h
-written closing now h = absurd h
-written (reading start) now h = absurd h
-written (dead commits ws) now h = absurd h
+written _ now h = absurd h
 
-pub seen-behind : (s : ℕ) (more : List Write) (old new : Shelf) → IsInOrder old.now → IsWriting (old.seat s) → Changes s more old new → laid_all more (seen_by s old) ≡ seen_by s new
+is-writing : (seat : Seat) → IsWriting (bare seat) → IsWriting seat
+is-writing (writing ws) h = tt
+is-writing outside h = absurd h
+is-writing beginning h = absurd h
+is-writing (changing ws) h = absurd h
+is-writing (prepared ws) h = absurd h
+is-writing (committing ws) h = absurd h
+is-writing (rolling_back ws) h = absurd h
+is-writing closing h = absurd h
+is-writing (reading start) h = absurd h
+is-writing (dead commits ws) h = absurd h
+
+bare-writing : (seat : Seat) → IsWriting seat → IsWriting (bare seat)
+bare-writing (writing ws) h = tt
+bare-writing _ h = absurd h
+
+-- who stands writing, has that seat on each shelf that is shown
+pub seated-so : (stand seat : Seat) → bare stand ≡ bare seat → IsWriting stand → IsWriting seat
+seated-so stand seat same is = is-writing seat (subst IsWriting same (bare-writing stand is))
+
+seen-behind : (s : ℕ) (more : List Write) (old new : Shelf) → IsInOrder old.now → IsWriting (old.seat s) → Changes s more old new → laid_all more (seen_by s old) ≡ seen_by s new
 seen-behind s more old new ordered is h =
     ap (λ (ls : Lines). laid_all more ls) (written (old.seat s) old.now is)
     ∙ (sym (h.adds.laid old.now ordered)
     ∙ (ap (λ (ls : Lines). laid_all h.behind ls) (sym h.now)
     ∙ ap (λ (x : Seat). seen_from x new.now) (sym h.mine)))
 
-pub seen-in-order : (s : ℕ) (old : Shelf) → IsInOrder old.now → IsWriting (old.seat s) → IsInOrder (seen_by s old)
+seen-in-order : (s : ℕ) (old : Shelf) → IsInOrder old.now → IsWriting (old.seat s) → IsInOrder (seen_by s old)
 seen-in-order s old ordered is = subst IsInOrder (sym (written (old.seat s) old.now is)) (laid-all-in-order (writes_of (old.seat s)) old.now ordered)
+
+-- what follows the writes, agrees with what is seen behind them
+pub applied : (s : ℕ) (more : List Write) (known behind : Held) (old new : Shelf) → IsWriting (old.seat s) → ((all : Lines) → IsInOrder all → Agrees (knows known) all → Agrees (knows behind) (laid_all more all)) → Changes s more old new → Applies s more known behind old new
+applied s more known behind old new is follows changes = record {
+  changes = changes;
+  agrees = λ ordered agrees. subst (λ (ls : Lines). Agrees (knows behind) ls) (seen-behind s more old new ordered is changes) (follows (seen_by s old) (seen-in-order s old ordered is) agrees);
+}

@@ -15,7 +15,7 @@ use Rattle.line_view.proofs.Agreements.{room_is}
 use Rattle.line_store.specs.declared.answers.Progress.{Progress}
 use Rattle.line_store.specs.declared.answers.Progress.TheVariants.{Done}
 use Rattle.line_store.specs.declared.answers.ReadStop.{ReadStop}
-use Rattle.line_store.specs.Calls.{Learns}
+use Rattle.line_store.specs.Sights.{Sight, LearnsLine, LearnsArea, LearnsSome}
 use Rattle.stepped_jobs.specs.More.{KnowsMore}
 use Rattle.stepped_jobs.proofs.Guarding.{done-or}
 
@@ -51,17 +51,18 @@ more-area area es h =
 
 -- ---- what is read
 
-pub line-grows : (r : Result Progress ReadStop) (key : Dbkey) (image : Option (List ℕ)) (old new : Held) → (r ≡ Ok Done → new ≡ with_line key image old) → ((r ≡ Ok Done → ⊥) → new ≡ old) → KnowsMore old new
-line-grows r key image old new done not_yet = elim (done-or r) [
-  | inl e ↦ subst (KnowsMore old) (sym (done e)) (more-line key image old)
-  | inr e ↦ subst (KnowsMore old) (sym (not_yet e)) (more-refl old)
-]
+module _ (sight : Sight) (s : ℕ) (r : Result Progress ReadStop) (old new : Held) where
+  pub line-grows : (key : Dbkey) → (r ≡ Ok Done → LearnsLine sight s key old new) → ((r ≡ Ok Done → ⊥) → new ≡ old) → KnowsMore old new
+  line-grows key done not_yet = elim (done-or r) [
+    | inl e ↦ let line = done e in subst (KnowsMore old) (sym line.learnt) (more-line key line.image old)
+    | inr e ↦ subst (KnowsMore old) (sym (not_yet e)) (more-refl old)
+  ]
 
-pub area-grows : (r : Result Progress ReadStop) (area : ℕ) (all : Lines) (old new : Held) → (r ≡ Ok Done → new ≡ with_area area (lines_in area all) old) → ((r ≡ Ok Done → ⊥) → Learns (lines_in area all) old new) → KnowsMore old new
-area-grows r area all old new done not_yet = elim (done-or r) [
-  | inl e ↦ subst (KnowsMore old) (sym (done e)) (more-area area (lines_in area all) old)
-  | inr e ↦ let some = not_yet e in subst (KnowsMore old) (sym some.1) (more-lines (take some.0 (lines_in area all)) old)
-]
+  pub area-grows : (area : ℕ) → (r ≡ Ok Done → LearnsArea sight s area old new) → ((r ≡ Ok Done → ⊥) → LearnsSome sight s area old new) → KnowsMore old new
+  area-grows area done not_yet = elim (done-or r) [
+    | inl e ↦ let all = done e in subst (KnowsMore old) (sym all.learnt) (more-area area (lines_in area all.lines) old)
+    | inr e ↦ let some = not_yet e in subst (KnowsMore old) (sym some.learnt.1) (more-lines (take some.learnt.0 (lines_in area some.lines)) old)
+  ]
 
 -- ---- maps
 

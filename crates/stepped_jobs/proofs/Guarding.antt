@@ -24,7 +24,7 @@ use Rattle.line_view.proofs.Agreements.{room_is}
 use Rattle.line_store.specs.declared.answers.Progress.{Progress}
 use Rattle.line_store.specs.declared.answers.Progress.TheVariants.{Done, More}
 use Rattle.line_store.specs.declared.answers.ReadStop.{ReadStop}
-use Rattle.line_store.specs.Calls.{Learns}
+use Rattle.line_store.specs.Sights.{Sight, LearnsLine, LearnsArea, LearnsSome}
 use Rattle.kept_apart.specs.Guards.{line_node, is_guarded, may_write, AreOwn}
 use Rattle.kept_apart.specs.Alike.{IsGuarded}
 use Rattle.kept_apart.proofs.Apart.{area-guards, write-guards}
@@ -126,19 +126,19 @@ module _ (got : List LockNeed) where
   -- ---- what is read
 
   -- a line is known once the call is done
-  pub line-read : (r : Result Progress ReadStop) (key : Dbkey) (image : Option (List ℕ)) (old new : Held) → (r ≡ Ok Done → new ≡ with_line key image old) → ((r ≡ Ok Done → ⊥) → new ≡ old) →
+  pub line-read : (sight : Sight) (s : ℕ) (r : Result Progress ReadStop) (key : Dbkey) (old new : Held) → (r ≡ Ok Done → LearnsLine sight s key old new) → ((r ≡ Ok Done → ⊥) → new ≡ old) →
       is_guarded got (line_node key) ≡ true → IsGuarded got (knows old) → IsGuarded got (knows new)
-  line-read r key image old new done not_yet own g = elim (done-or r) [
-    | inl e ↦ subst (λ (h : Held). IsGuarded got (knows h)) (sym (done e)) (guarded-line key image old own g)
+  line-read sight s r key old new done not_yet own g = elim (done-or r) [
+    | inl e ↦ let line = done e in subst (λ (h : Held). IsGuarded got (knows h)) (sym line.learnt) (guarded-line key line.image old own g)
     | inr e ↦ subst (λ (h : Held). IsGuarded got (knows h)) (sym (not_yet e)) g
   ]
 
   -- some lines of an area are known before all are
-  pub area-read : (r : Result Progress ReadStop) (a : ℕ) (all : Lines) (old new : Held) → (r ≡ Ok Done → new ≡ with_area a (lines_in a all) old) → ((r ≡ Ok Done → ⊥) → Learns (lines_in a all) old new) →
+  pub area-read : (sight : Sight) (s : ℕ) (r : Result Progress ReadStop) (a : ℕ) (old new : Held) → (r ≡ Ok Done → LearnsArea sight s a old new) → ((r ≡ Ok Done → ⊥) → LearnsSome sight s a old new) →
       is_guarded got (area_node a) ≡ true → IsGuarded got (knows old) → IsGuarded got (knows new)
-  area-read r a all old new done not_yet own g = elim (done-or r) [
-    | inl e ↦ subst (λ (h : Held). IsGuarded got (knows h)) (sym (done e)) (guarded-area a all old own g)
-    | inr e ↦ let some = not_yet e in subst (λ (h : Held). IsGuarded got (knows h)) (sym some.1) (guarded-some a all some.0 old own g)
+  area-read sight s r a old new done not_yet own g = elim (done-or r) [
+    | inl e ↦ let all = done e in subst (λ (h : Held). IsGuarded got (knows h)) (sym all.learnt) (guarded-area a all.lines old own g)
+    | inr e ↦ let some = not_yet e in subst (λ (h : Held). IsGuarded got (knows h)) (sym some.learnt.1) (guarded-some a some.lines some.learnt.0 old own g)
   ]
 
   -- ---- a write

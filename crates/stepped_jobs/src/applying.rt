@@ -1,13 +1,15 @@
-ghost use Rattle.std.specs.Prelude.{◌≡◌, List, OnOk, OnErr, IfErr};
+ghost use Rattle.std.specs.Prelude.{◌≡◌, List, [], OnOk, OnErr, IfErr};
 ghost use Rattle.lock_needs.specs.declared.need.Need.{Need as LockNeed};
 ghost use Rattle.line_view.specs.Knowledge.{Lines, IsInOrder, Agrees};
 ghost use Rattle.line_view.specs.Held.{knows};
 ghost use Rattle.line_view.specs.Writes.{laid_all};
 ghost use Rattle.kept_apart.specs.Guards.{AreOwn};
 ghost use Rattle.kept_apart.specs.Alike.{IsGuarded};
-ghost use Rattle.line_store.specs.Seats.{IsMember, IsWriting};
-ghost use Rattle.line_store.specs.Shelves.{seen_by};
-ghost use Rattle.line_store.specs.Calls.{Changes, MayStopChange};
+ghost use Rattle.line_store.specs.Seats.{IsMember, IsWriting, changing};
+ghost use Rattle.line_store.specs.Shelves.{Shelf};
+ghost use Rattle.line_store.specs.Calls.{MayStopChange};
+ghost use Rattle.line_store.specs.Sights.{Does, Stays};
+ghost use Rattle.stepped_jobs.specs.Applying.{Applies};
 
 use line_store::{ChangeStop, LineStore};
 use line_view::{Known, Write};
@@ -43,15 +45,13 @@ pub fn apply<L: LineStore>(
     writes: &[Write],
 ) -> Result<(), ChangeStop>
     requires member { IsMember s.number }
-    requires seat { IsWriting ((L.shelf store.old).seat s.number) }
-    ensures ok { OnOk result (Changes s.number writes.now (L.shelf store.old) (L.shelf store.new)) }
-    ensures err { OnErr result (L.shelf store.new ≡ L.shelf store.old) }
-    ensures cause { IfErr result (MayStopChange (L.shelf store.old) s.number writes.now) }
+    requires seat { IsWriting ((L.sight store.old).stand s.number) }
+    ensures ok { OnOk result (Does s.number (changing []) (Applies s.number writes.now known.old known.new) (L.sight store.old) (L.sight store.new)) }
+    ensures err { OnErr result (Stays s.number (L.sight store.old) (L.sight store.new)) }
+    ensures cause { IfErr result (λ stop. (h : Shelf) → (L.sight store.old).shows h → MayStopChange h s.number writes.now stop) }
     ensures kept { OnErr result (known.new ≡ known.old) }
     ensures follows { OnOk result ((all : Lines) → IsInOrder all → Agrees (knows known.old) all → Agrees (knows known.new) (laid_all writes.now all)) }
     ensures guarded { (got : List LockNeed) → AreOwn got writes.now → IsGuarded got (knows known.old) → IsGuarded got (knows known.new) }
-    ensures agrees { IsInOrder (L.shelf store.old).now → Agrees (knows known.old) (seen_by s.number (L.shelf store.old))
-        → Agrees (knows known.new) (seen_by s.number (L.shelf store.new)) }
 {
     store.change(s, writes)?;
     follow(alloc, known, writes);

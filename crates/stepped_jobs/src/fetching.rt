@@ -3,10 +3,10 @@ ghost use Rattle.lock_needs.specs.declared.need.Need.{Need as LockNeed};
 ghost use Rattle.line_view.specs.Knowledge.{IsInOrder, Agrees};
 ghost use Rattle.line_view.specs.Stops.{Lacks};
 ghost use Rattle.line_view.specs.Held.{knows};
-ghost use Rattle.line_store.specs.declared.answers.Progress.TheVariants.{Done};
+ghost use Rattle.line_store.specs.declared.answers.Progress.TheVariants.{Done, More as Unread};
 ghost use Rattle.line_store.specs.Seats.{IsMember, IsAtRest};
-ghost use Rattle.line_store.specs.Shelves.{seen_by};
-ghost use Rattle.line_store.specs.Calls.{IsRead};
+ghost use Rattle.line_store.specs.Shelves.{Shelf, seen_by};
+ghost use Rattle.line_store.specs.Sights.{Does, Reads, IsLess};
 ghost use Rattle.kept_apart.specs.Alike.{IsGuarded};
 ghost use Rattle.stepped_jobs.specs.Needs.{IsRead as IsReadFrom, IsLocked};
 ghost use Rattle.stepped_jobs.specs.More.{KnowsMore};
@@ -23,14 +23,15 @@ pub fn fetch<L: LineStore>(
     known: &mut Known,
 ) -> Result<Progress, ReadStop>
     requires member { IsMember s.number }
-    requires seat { IsAtRest ((L.shelf store.old).seat s.number) }
+    requires seat { IsAtRest ((L.sight store.old).stand s.number) }
     requires need { IsReadFrom need }
     ensures learnt { result ≡ Ok Done → Lacks (knows known.new) need → ⊥ }
-    ensures agrees { IsInOrder (seen_by s.number (L.shelf store.old)) → Agrees (knows known.old) (seen_by s.number (L.shelf store.old))
-        → Agrees (knows known.new) (seen_by s.number (L.shelf store.old)) }
+    ensures agrees { (h : Shelf) → (L.sight store.old).shows h → IsInOrder (seen_by s.number h) → Agrees (knows known.old) (seen_by s.number h)
+        → Agrees (knows known.new) (seen_by s.number h) }
     ensures guarded { (got : List LockNeed) → IsLocked got need → IsGuarded got (knows known.old) → IsGuarded got (knows known.new) }
     ensures more { KnowsMore known.old known.new }
-    ensures read { IsRead s.number (L.shelf store.old) (L.shelf store.new) result }
+    ensures read { Does s.number ((L.sight store.old).stand s.number) (Reads s.number result) (L.sight store.old) (L.sight store.new) }
+    ensures less { result ≡ Ok Unread → IsLess s.number (L.sight store.old) (L.sight store.new) }
 {
     match need {
         Need::Line(key) => store.learn_line(s, key, known),

@@ -5,8 +5,7 @@ pub returns-clause-now : goal.returns-clause-now
 returns-clause-now g c = stands-now g.S.Statements.stands g.met.S.Statements.orderly
 
 pub returns-clause-events : goal.returns-clause-events
-returns-clause-events g c = λ o events es store time same h. left-more g.S.Statements.stands g.met.S.Statements.orderly o events es (g.L.LineStore.left store) time same h
+returns-clause-events g c = left-more g.S.Statements.stands g.met.S.Statements.orderly
 
 pub returns-clause-call : goal.returns-clause-call
-returns-clause-call g c = λ o events es old new lasts later was now grown more h.
-    left-goes-on g.S.Statements.stands g.met.S.Statements.orderly o events es (g.L.LineStore.left old) (g.L.LineStore.left new) (g.L.LineStore.shelf old) (g.L.LineStore.shelf new) lasts later was now grown more h
+returns-clause-call g c = λ o events es old new h k stands shown. left-goes-on g.S.Statements.stands g.met.S.Statements.orderly o events es old.left new.left h k (stands k shown)
