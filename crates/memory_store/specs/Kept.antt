@@ -1,6 +1,8 @@
 -- What a store in memory holds.
-use Rattle.std.specs.Prelude.{◌≡◌, ◌≢◌, ◌≤◌, ◌<◌, ◌+◌, ◌⊎◌, ◌==◌, ◌&&◌, ◌++◌, if◌then◌else◌, ℕ, Bool, true, false, List, [], ◌∷◌, length, Option, Some, None, slice_get, slice_set, replicate}
+use Rattle.std.specs.Prelude.{◌≡◌, ◌≢◌, ◌≤◌, ◌<◌, ◌+◌, ◌⊎◌, ◌==◌, ◌&&◌, ◌++◌, ◌^◌, if◌then◌else◌, ℕ, Bool, true, false, List, [], ◌∷◌, length, Option, Some, None, slice_get, slice_set, replicate}
 use Rattle.std.specs.List.{list_any}
+use Rattle.std.proofs.Common.{refl}
+use Rattle.std.proofs.lemmas.Bool.{ltb-true}
 use Rattle.rdb_types.specs.declared.keys.Dbkey.{Dbkey}
 use Rattle.rdb_types.specs.declared.keys.Limits.{Limits}
 use Rattle.area_files.specs.Areas.{IsSpacePage}
@@ -97,6 +99,10 @@ left_of k t lines = ⊥
 -- it shows the one shelf that it holds
 abbrev pub sight_of : Kept → Sight
 sight_of k = record { shows = λ h. h ≡ shelf_of k; stand = seat_at k.seats; steps = λ s. 0; left = left_of k }
+
+-- no step is ever left
+pub none_left : 0 < 2 ^ 64
+none_left = ltb-true 0 (2 ^ 64) refl
 
 abbrev pub with_seat : ℕ → Held → Kept → Kept
 with_seat s h k = record k { seats = slice_set k.seats s h }

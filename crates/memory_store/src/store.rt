@@ -78,9 +78,8 @@ impl MemoryStore {
 
 impl LineStore for MemoryStore {
     ghost use Rattle.std.proofs.Common.{ap, sym};
-    ghost use Rattle.memory_store.proofs.Counting.{none_left};
     ghost use Rattle.line_store.specs.Sights.{bare};
-    ghost use Rattle.memory_store.specs.Kept.{sight_of};
+    ghost use Rattle.memory_store.specs.Kept.{sight_of, none_left};
 
     ghost sight = { sight_of };
 
