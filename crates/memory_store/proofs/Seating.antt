@@ -1,5 +1,5 @@
 -- What is put in a seat, and what stays.
-use Rattle.std.proofs.Common.{◌≡◌, ◌≤◌, ◌<◌, ◌+◌, ◌==◌, ◌⊎◌, inl, inr, ℕ, zero, suc, Bool, true, false, cond, List, [], ◌∷◌, length, Some, None, refl, sym, ap, subst, ◌∙◌, arith}
+use Rattle.std.proofs.Common.{◌≡◌, ◌≤◌, ◌<◌, ◌+◌, ◌==◌, ◌⊎◌, inl, inr, ℕ, zero, suc, Bool, true, false, cond, List, [], ◌∷◌, length, Some, None, Result, Ok, Err, OnOk, OnErr, refl, sym, ap, subst, ◌∙◌, arith}
 use Rattle.std.specs.Prelude.{slice_get, slice_set}
 use Rattle.std.proofs.lemmas.Option.{same_Some, none-some}
 use Rattle.std.proofs.lemmas.Bool.{eqb-false, eqb-true}
@@ -9,6 +9,7 @@ use Rattle.line_store.specs.Shelves.{Shelf, Space}
 use Rattle.line_store.specs.Calls.{KeepsOthers, KeepsSpace, Moves}
 use Rattle.memory_store.specs.declared.seat.Seat.{Seat as Held}
 use Rattle.memory_store.specs.declared.seat.Seat.TheVariants as held
+use Rattle.memory_store.specs.Landed.{Stock}
 use Rattle.memory_store.specs.Kept.{Kept, AreKept, empty_seats, is_ready, count_ready, seat_of, seat_or, seat_at, shelf_of, with_seat, with_stock}
 
 -- ---- lists
@@ -50,7 +51,10 @@ seat-here seats s h is = ap seat_or is
 
 -- ---- commits that may land
 
-most-one : (b : Bool) → cond b 1 0 ≤ 1
+abbrev at-once : Bool → ℕ
+at-once b = cond b 1 0
+
+most-one : (b : Bool) → at-once b ≤ 1
 most-one true = omega arith
 most-one false = omega arith
 
@@ -61,13 +65,13 @@ one-more (z ∷ zs) (suc s) h = omega (arith, one-more zs s h)
 
 none-more : (seats : List Held) (s : ℕ) (h : Held) → is_ready (seat_of h) ≡ false → count_ready (slice_set seats s h) ≤ count_ready seats
 none-more [] s h quiet = omega arith
-none-more (z ∷ zs) zero h quiet = let none : cond (is_ready (seat_of h)) 1 0 ≡ 0 = ap (λ (b : Bool). cond b 1 0) quiet in omega (arith, none)
+none-more (z ∷ zs) zero h quiet = let none : at-once (is_ready (seat_of h)) ≡ 0 = ap at-once quiet in omega (arith, none)
 none-more (z ∷ zs) (suc s) h quiet = omega (arith, none-more zs s h quiet)
 
 one-less : (seats : List Held) (s : ℕ) (was : Held) → slice_get seats s ≡ Some was → is_ready (seat_of was) ≡ true → count_ready (slice_set seats s held.Outside) < count_ready seats
 one-less [] s was had ready = absurd (none-some _ had)
 one-less (z ∷ zs) zero was had ready =
-    let one : cond (is_ready (seat_of z)) 1 0 ≡ 1 = ap (λ (h : Held). cond (is_ready (seat_of h)) 1 0) (same_Some _ _ had) ∙ ap (λ (b : Bool). cond b 1 0) ready in omega (arith, one)
+    let one : at-once (is_ready (seat_of z)) ≡ 1 = ap (λ (h : Held). at-once (is_ready (seat_of h))) (same_Some _ _ had) ∙ ap at-once ready in omega (arith, one)
 one-less (z ∷ zs) (suc s) was had ready = omega (arith, one-less zs s was had ready)
 
 most : (seats : List Held) → count_ready seats ≤ length seats
@@ -93,6 +97,11 @@ module _ (room : ℕ) (seats : List Held) (kept : AreKept room seats) (s : ℕ) 
       fits : (is_ready (seat_of h) ≡ false) ⊎ (count_ready seats < room) → count_ready (slice_set seats s h) ≤ room
       fits (inl quiet) = omega (arith, none-more seats s h quiet, kept.fits)
       fits (inr less) = omega (arith, one-more seats s h, less)
+
+-- room is made for all, or the lines stay as they are held
+pub room-kept : {A E : Type 0} (r : Result A E) (old new : Stock) (seats : List Held) → AreKept old.room seats → OnOk r (17 ≤ new.room) → OnErr r (new ≡ old) → AreKept new.room seats
+room-kept (Ok x) old new seats kept ok err = record { count = kept.count; fits = omega (arith, most seats, kept.count, ok) }
+room-kept (Err e) old new seats kept ok err = subst (λ (k : Stock). AreKept k.room seats) (sym err) kept
 
 pub fresh : (room : ℕ) → AreKept room empty_seats
 fresh room = record { count = refl; fits = omega arith }

@@ -1,7 +1,8 @@
 -- What the store shows behind a call.
-use Rattle.std.proofs.Common.{◌≡◌, ℕ, true, false, [], Option, Some, refl, sym, ap, subst, ◌∙◌, arith, Ok, Err}
+use Rattle.std.proofs.Common.{◌≡◌, ℕ, true, false, [], Option, Some, refl, sym, ap, subst, ◌∙◌, arith, Result, Ok, Err}
 use Rattle.line_store.specs.declared.answers.Progress.TheVariants.{Done}
 use Rattle.line_store.specs.declared.answers.ReadStop.TheVariants.{NoMemory}
+use Rattle.line_store.specs.declared.answers.Fault.{Fault}
 use Rattle.line_store.specs.declared.answers.Stepped.{Stepped}
 use Rattle.line_store.specs.declared.answers.Stepped.TheVariants.{More, Done as HasDone, Committed, Recovered}
 use Rattle.line_store.specs.Seats.{Seat, outside, writing, prepared, committing, rolling_back, closing, IsWriting, IsPrepared, IsAlive, prepared_by, given_back, committing_by, rolled_back, done_at}
@@ -106,3 +107,14 @@ module _ (k mid new : Kept) (s : ℕ) (was h : Held) where
   came (Recovered false moment) had steps first then here =
       moved k new s outside outside (Steps s (Ok (Recovered false moment))) (moves-twice k mid new s h outside first then here steps.2) refl
       (stepped k mid new s was h (Recovered false moment) had steps first then here)
+
+-- no step answers that there is more to do
+same-answer : (a b : Stepped) → ◌≡◌ {A = Result Stepped Fault} (Ok a) (Ok b) → a ≡ b
+same-answer a b same = ap (answer-or a) same
+  where
+    answer-or : Stepped → Result Stepped Fault → Stepped
+    answer-or other (Ok x) = x
+    answer-or other (Err fault) = other
+
+pub never-more : (old new : Seat) (answer : Stepped) → StepsTo old new answer → ◌≡◌ {A = Result Stepped Fault} (Ok answer) (Ok More) → ⊥
+never-more old new answer steps more = subst (λ (x : Stepped). StepsTo old new x) (same-answer answer More more) steps

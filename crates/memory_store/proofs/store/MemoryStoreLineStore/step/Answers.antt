@@ -1,7 +1,7 @@
 use Rattle.std.proofs.Common.{ap}
 use Rattle.memory_store.specs.Kept.{seat_of}
 use Rattle.memory_store.proofs.Stepping.{committed}
-use Rattle.memory_store.proofs.Sighted.{landed, came, may-answer}
+use Rattle.memory_store.proofs.Sighted.{landed, came, may-answer, never-more}
 use Rattle.memory_store.proofs.store.MemoryStoreLineStore.step.Goals as goal
 
 pub returns-in-Committing-clause-comes : goal.returns-in-Committing-clause-comes
@@ -17,4 +17,5 @@ returns-in_default c = record {
   comes = came c.args.self.now c.take.new.self c.put-in_default.new.self c.args.s.number c.take.result c.stepped-next.result.0 c.stepped-next.result.1 c.take.ensures.was
       c.stepped-next.ensures
       c.take.ensures.now c.put-in_default.ensures.now c.put-in_default.ensures.here;
+  less = λ more. absurd (never-more (seat_of c.take.result) (seat_of c.stepped-next.result.0) c.stepped-next.result.1 c.stepped-next.ensures more);
 }
