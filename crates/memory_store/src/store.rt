@@ -236,10 +236,7 @@ impl LineStore for MemoryStore {
     }
 
     fn is_at_barrier(&self, s: Session) -> bool {
-        matches!(
-            self.seats.get(s.number as usize),
-            Some(Seat::Committing(_))
-        )
+        matches!(self.seats.get(s.number as usize), Some(Seat::Committing(_)))
     }
 
     fn moment(&self) -> Moment {

@@ -1,6 +1,6 @@
-use Rattle.std.proofs.Common.{◌≡◌, ℕ, [], refl, sym, ap, subst, ◌∙◌, List, take}
-use Rattle.line_view.specs.Knowledge.{Lines, lines_in}
-use Rattle.line_view.specs.Held.{Held, with_lines}
+use Rattle.std.proofs.Common.{ℕ, refl, sym, ap}
+use Rattle.line_view.specs.Knowledge.{lines_in}
+use Rattle.line_view.specs.Held.{Held}
 use Rattle.line_store.specs.Shelves.{Shelf, seen_by}
 use Rattle.line_store.specs.Sights.{LearnsSome}
 use Rattle.memory_store.specs.Kept.{Kept, shelf_of, sight_of}
