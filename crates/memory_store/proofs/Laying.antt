@@ -9,6 +9,7 @@ use Rattle.line_view.specs.Knowledge.{Lines, laid, lines_in, line_in}
 use Rattle.line_view.specs.Writes.{laid_all}
 use Rattle.line_view.proofs.Written.{laid_in_turn}
 use Rattle.line_view.proofs.FullMap.{laid_found}
+use Rattle.memory_store.specs.Landed.{landed_on}
 
 pub lines-in-turn : (area : ℕ) (xs ys : Lines) → lines_in area (xs ++ ys) ≡ lines_in area xs ++ lines_in area ys
 lines-in-turn area [] ys = refl
@@ -35,3 +36,17 @@ image-more writes i w all key image next same inside is same-is next-is image-is
     ∙ (ap (λ (b : Bool). cond b w.image (line_in key before)) (sym same-is)
     ∙ (sym (laid_found key w.key w.image before)
     ∙ ap (λ (ls : Lines). line_in key ls) (sym (one-laid-more writes i w all inside is)))))
+
+-- ---- commits one after another
+
+pub landed-more : (batches : List (List Write)) (batch : List Write) (lines : Lines) → landed_on (batches ++ batch ∷ []) lines ≡ laid_all batch (landed_on batches lines)
+landed-more [] batch lines = refl
+landed-more (b ∷ bs) batch lines = landed-more bs batch (laid_all b lines)
+
+pub one-landed-more : (batches : List (List Write)) (i : ℕ) (batch : List Write) (lines : Lines) → i < length batches → batch ≡ get_or batches i batch → landed_on (take (i + 1) batches) lines ≡ laid_all batch (landed_on (take i batches) lines)
+one-landed-more batches i batch lines inside is =
+    ap (λ (bs : List (List Write)). landed_on bs lines) (take_more batches i batch inside ∙ ap (λ (b : List Write). take i batches ++ b ∷ []) (sym is))
+    ∙ landed-more (take i batches) batch lines
+
+pub all-landed : (batches : List (List Write)) (i : ℕ) (lines : Lines) → length batches ≤ i → landed_on (take i batches) lines ≡ landed_on batches lines
+all-landed batches i lines done = ap (λ (bs : List (List Write)). landed_on bs lines) (take_all i batches done)

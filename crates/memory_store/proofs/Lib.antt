@@ -1,3 +1,4 @@
 pub mod Laying
 pub mod Seating
 pub mod Stepping
+mod Sighted

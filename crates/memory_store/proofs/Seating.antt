@@ -1,15 +1,16 @@
 -- What is put in a seat, and what stays.
-use Rattle.std.proofs.Common.{◌≡◌, ◌<◌, ◌==◌, ◌⊎◌, inl, inr, ℕ, zero, suc, Bool, true, false, List, [], ◌∷◌, length, replicate, Some, None, refl, sym, ap, subst, ◌∙◌, arith}
+use Rattle.std.proofs.Common.{◌≡◌, ◌≤◌, ◌<◌, ◌+◌, ◌==◌, ◌⊎◌, inl, inr, ℕ, zero, suc, Bool, true, false, cond, List, [], ◌∷◌, length, Some, Result, Ok, Err, OnOk, OnErr, refl, sym, ap, subst, ◌∙◌, arith}
 use Rattle.std.specs.Prelude.{slice_get, slice_set}
 use Rattle.std.proofs.lemmas.Option.{same_Some, none-some}
-use Rattle.std.proofs.lemmas.Bool.{eqb-false, eqb-true, true≢false}
+use Rattle.std.proofs.lemmas.Bool.{eqb-false, eqb-true}
 use Rattle.line_view.specs.Knowledge.{Lines}
-use Rattle.line_store.specs.Seats.{Seat, outside, beginning, writing, changing, committing, rolling_back, closing, reading, dead, is_committing, in_flight}
-use Rattle.line_store.specs.Shelves.{Shelf, Space, IsAlone}
+use Rattle.line_store.specs.Seats.{Seat}
+use Rattle.line_store.specs.Shelves.{Shelf, Space}
 use Rattle.line_store.specs.Calls.{KeepsOthers, KeepsSpace, Moves}
 use Rattle.memory_store.specs.declared.seat.Seat.{Seat as Held}
 use Rattle.memory_store.specs.declared.seat.Seat.TheVariants as held
-use Rattle.memory_store.specs.Kept.{Kept, AreKept, AreQuiet, Foresees, empty_seats, seat_of, seat_or, seat_at, shelf_of, with_seat, with_lines}
+use Rattle.memory_store.specs.Landed.{Stock}
+use Rattle.memory_store.specs.Kept.{Kept, AreKept, empty_seats, is_ready, count_ready, seat_of, seat_or, seat_at, shelf_of, with_seat, with_stock}
 
 -- ---- lists
 
@@ -48,93 +49,70 @@ seat-apart seats s t h apart = ap seat_or (get-apart seats s t h (eqb-false t s 
 pub seat-here : (seats : List Held) (s : ℕ) (h : Held) → slice_get seats s ≡ Some h → seat_at seats s ≡ seat_of h
 seat-here seats s h is = ap seat_or is
 
-foresees-quiet : (now : Lines) (h : Held) → is_committing (seat_of h) ≡ false → Foresees now h
-foresees-quiet now held.Outside q = tt
-foresees-quiet now held.Beginning q = tt
-foresees-quiet now (held.Writing ws) q = tt
-foresees-quiet now (held.Changing ws) q = tt
-foresees-quiet now (held.Committing ws lines) q = absurd (true≢false q)
-foresees-quiet now (held.RollingBack ws) q = tt
-foresees-quiet now held.Closing q = tt
-foresees-quiet now (held.Reading start) q = tt
-foresees-quiet now (held.Dead commits ws) q = tt
+-- ---- commits that may land
 
-module _ (now : Lines) (seats : List Held) (kept : AreKept now seats) (s : ℕ) (low : s < 17) where
-  inside : s < length seats
-  inside = subst (λ n. s < n) (sym kept.count) low
+abbrev at-once : Bool → ℕ
+at-once b = cond b 1 0
 
-  -- whoever commits was the only one
-  pub taken-quiet : (h : Held) → slice_get seats s ≡ Some h → is_committing (seat_of h) ≡ true → AreQuiet (slice_set seats s held.Outside)
-  taken-quiet h was commits t = by (t == s) refl
+most-one : (b : Bool) → at-once b ≤ 1
+most-one true = omega arith
+most-one false = omega arith
+
+one-more : (seats : List Held) (s : ℕ) (h : Held) → count_ready (slice_set seats s h) ≤ count_ready seats + 1
+one-more [] s h = omega arith
+one-more (z ∷ zs) zero h = omega (arith, most-one (is_ready (seat_of h)))
+one-more (z ∷ zs) (suc s) h = omega (arith, one-more zs s h)
+
+none-more : (seats : List Held) (s : ℕ) (h : Held) → is_ready (seat_of h) ≡ false → count_ready (slice_set seats s h) ≤ count_ready seats
+none-more [] s h quiet = omega arith
+none-more (z ∷ zs) zero h quiet = let none : at-once (is_ready (seat_of h)) ≡ 0 = ap at-once quiet in omega (arith, none)
+none-more (z ∷ zs) (suc s) h quiet = omega (arith, none-more zs s h quiet)
+
+one-less : (seats : List Held) (s : ℕ) (was : Held) → slice_get seats s ≡ Some was → is_ready (seat_of was) ≡ true → count_ready (slice_set seats s held.Outside) < count_ready seats
+one-less [] s was had ready = absurd (none-some _ had)
+one-less (z ∷ zs) zero was had ready =
+    let one : at-once (is_ready (seat_of z)) ≡ 1 = ap (λ (h : Held). at-once (is_ready (seat_of h))) (same_Some _ _ had) ∙ ap at-once ready in omega (arith, one)
+one-less (z ∷ zs) (suc s) was had ready = omega (arith, one-less zs s was had ready)
+
+most : (seats : List Held) → count_ready seats ≤ length seats
+most [] = omega arith
+most (z ∷ zs) = omega (arith, most-one (is_ready (seat_of z)), most zs)
+
+fewer : (seats : List Held) (s : ℕ) → s < length seats → count_ready (slice_set seats s held.Outside) < length seats
+fewer [] s inside = absurd (omega (arith, inside))
+fewer (z ∷ zs) zero inside = omega (arith, most zs)
+fewer (z ∷ zs) (suc s) inside =
+    let less : s < length zs = omega (arith, inside) in omega (arith, most-one (is_ready (seat_of z)), fewer zs s less)
+
+module _ (room : ℕ) (seats : List Held) (kept : AreKept room seats) (s : ℕ) where
+  pub taken-few : s < 17 → count_ready (slice_set seats s held.Outside) < 17
+  taken-few low = subst (λ (n : ℕ). count_ready (slice_set seats s held.Outside) < n) kept.count (fewer seats s (subst (λ (n : ℕ). s < n) (sym kept.count) low))
+
+  pub taken-ready : (was : Held) → slice_get seats s ≡ Some was → is_ready (seat_of was) ≡ true → count_ready (slice_set seats s held.Outside) < room
+  taken-ready was had ready = omega (arith, one-less seats s was had ready, kept.fits)
+
+  pub put-kept : (h : Held) → (is_ready (seat_of h) ≡ false) ⊎ (count_ready seats < room) → AreKept room (slice_set seats s h)
+  put-kept h may = record { count = set-length seats s h ∙ kept.count; fits = fits may }
     where
-      or-not : (b : Bool) → (b ≡ true → ⊥) → b ≡ false
-      or-not true never = absurd (never refl)
-      or-not false never = refl
+      fits : (is_ready (seat_of h) ≡ false) ⊎ (count_ready seats < room) → count_ready (slice_set seats s h) ≤ room
+      fits (inl quiet) = omega (arith, none-more seats s h quiet, kept.fits)
+      fits (inr less) = omega (arith, one-more seats s h, less)
 
-      by : (b : Bool) → (t == s) ≡ b → is_committing (seat_at (slice_set seats s held.Outside) t) ≡ false
-      by true same = subst (λ u. is_committing (seat_at (slice_set seats s held.Outside) u) ≡ false) (sym (eqb-true t s same)) (ap (λ x. is_committing (seat_or x)) (set-here seats s held.Outside inside))
-      by false apart = or-not _ (λ other. eqb-false t s apart (kept.one t s (ap is_committing (sym (seat-apart seats s t held.Outside apart)) ∙ other) (ap is_committing (seat-here seats s h was) ∙ commits)))
+-- room is made for all, or the lines stay as they are held
+pub room-kept : {A E : Type 0} (r : Result A E) (old new : Stock) (seats : List Held) → AreKept old.room seats → OnOk r (17 ≤ new.room) → OnErr r (new ≡ old) → AreKept new.room seats
+room-kept (Ok x) old new seats kept ok err = record { count = kept.count; fits = omega (arith, most seats, kept.count, ok) }
+room-kept (Err e) old new seats kept ok err = subst (λ (k : Stock). AreKept k.room seats) (sym err) kept
 
-  pub put-kept : (h : Held) → (is_committing (seat_of h) ≡ false) ⊎ (AreQuiet seats × Foresees now h) → AreKept now (slice_set seats s h)
-  put-kept h may = record {
-    count = set-length seats s h ∙ kept.count;
-    foresee = λ t x is. foresee t x is (t == s) refl;
-    one = λ t u a b. one t u a b (t == s) refl (u == s) refl;
-  }
-    where
-      foresees : (is_committing (seat_of h) ≡ false) ⊎ (AreQuiet seats × Foresees now h) → Foresees now h
-      foresees (inl quiet) = foresees-quiet now h quiet
-      foresees (inr both) = both.1
-
-      foresee : (t : ℕ) (x : Held) → slice_get (slice_set seats s h) t ≡ Some x → (b : Bool) → (t == s) ≡ b → Foresees now x
-      foresee t x is true same =
-          let here : slice_get (slice_set seats s h) s ≡ Some x = subst (λ u. slice_get (slice_set seats s h) u ≡ Some x) (eqb-true t s same) is in
-          subst (λ y. Foresees now y) (same_Some _ _ (sym (set-here seats s h inside) ∙ here)) (foresees may)
-      foresee t x is false apart = kept.foresee t x (sym (get-apart seats s t h (eqb-false t s apart)) ∙ is)
-
-      at-here : (t : ℕ) → (t == s) ≡ true → seat_at (slice_set seats s h) t ≡ seat_of h
-      at-here t same = ap (λ u. seat_at (slice_set seats s h) u) (eqb-true t s same) ∙ seat-here (slice_set seats s h) s h (set-here seats s h inside)
-
-      -- h commits, and so does another
-      never : (is_committing (seat_of h) ≡ false) ⊎ (AreQuiet seats × Foresees now h) → (t u : ℕ) → (t == s) ≡ true → (u == s) ≡ false →
-          is_committing (seat_at (slice_set seats s h) t) ≡ true → is_committing (seat_at (slice_set seats s h) u) ≡ true → ⊥
-      never (inl quiet) t u same apart a b = true≢false (sym a ∙ (ap is_committing (at-here t same) ∙ quiet))
-      never (inr both) t u same apart a b = true≢false (sym b ∙ (ap is_committing (seat-apart seats s u h apart) ∙ both.0 u))
-
-      one : (t u : ℕ) → is_committing (seat_at (slice_set seats s h) t) ≡ true → is_committing (seat_at (slice_set seats s h) u) ≡ true →
-          (c : Bool) → (t == s) ≡ c → (d : Bool) → (u == s) ≡ d → t ≡ u
-      one t u a b true same true also = eqb-true t s same ∙ sym (eqb-true u s also)
-      one t u a b true same false apart = absurd (never may t u same apart a b)
-      one t u a b false apart true same = absurd (never may u t same apart b a)
-      one t u a b false apart false also =
-          kept.one t u (ap is_committing (sym (seat-apart seats s t h apart)) ∙ a) (ap is_committing (sym (seat-apart seats s u h also)) ∙ b)
-
--- ---- no seat is taken
-
-seats-fresh : (n s : ℕ) → seat_at (replicate n held.Outside) s ≡ outside
-seats-fresh zero s = refl
-seats-fresh (suc n) zero = refl
-seats-fresh (suc n) (suc s) = seats-fresh n s
-
-foresees-fresh : (n s : ℕ) (h : Held) → slice_get (replicate n held.Outside) s ≡ Some h → Foresees [] h
-foresees-fresh zero s h is = absurd (none-some _ is)
-foresees-fresh (suc n) zero h is = subst (λ (x : Held). Foresees [] x) (same_Some _ _ is) tt
-foresees-fresh (suc n) (suc s) h is = foresees-fresh n s h is
-
-pub fresh : AreKept [] empty_seats
-fresh = record {
-  count = refl;
-  foresee = foresees-fresh 17;
-  one = λ s t a b. absurd (true≢false (sym a ∙ ap is_committing (seats-fresh 17 s)));
-}
+pub fresh : (room : ℕ) → AreKept room empty_seats
+fresh room = record { count = refl; fits = omega arith }
 
 -- ---- moves
 
 no-room : (space : Space) → KeepsSpace space space
 no-room space = record { limits = refl; taken = λ file page. refl; snaps = omega arith; slots = omega arith }
 
-pub others-stay : (k : Kept) (s : ℕ) (h : Held) (lines : Lines) → KeepsOthers s (shelf_of k) (shelf_of (with_lines lines (with_seat s h k)))
-others-stay k s h lines = record {
+pub others-stay : (k : Kept) (s : ℕ) (h : Held) (lines : Lines) (room : ℕ) → KeepsOthers s (shelf_of k) (shelf_of (with_stock lines room (with_seat s h k)))
+others-stay k s h lines room = record {
   seat = λ t apart. seat-apart k.seats s t h apart;
   steps = λ t apart. refl;
   later = record { later = omega arith; no_fewer = omega arith };
@@ -144,7 +122,7 @@ moves-by : (k : Kept) (s : ℕ) (h : Held) (seat : Seat) → seat_at (slice_set 
 moves-by k s h seat here = record {
   now = refl;
   mine = here;
-  others = others-stay k s h k.lines;
+  others = others-stay k s h k.lines k.room;
   space = no-room (shelf_of k).space;
 }
 
@@ -155,7 +133,7 @@ moves k new s h seat is here seat-is =
     (moves-by k s h seat (ap (λ (n : Kept). seat_at n.seats s) (sym is) ∙ (seat-here new.seats s h here ∙ seat-is)))
 
 pub twice : (k : Kept) (s : ℕ) (g h : Held) → with_seat s h (with_seat s g k) ≡ with_seat s h k
-twice k s g h = ap (λ (seats : List Held). record { limits = k.limits; lines = k.lines; seats = seats; pages = k.pages }) (set-twice k.seats s g h)
+twice k s g h = ap (λ (seats : List Held). record { limits = k.limits; lines = k.lines; room = k.room; seats = seats; pages = k.pages }) (set-twice k.seats s g h)
 
 pub put-twice : (k mid new : Kept) (s : ℕ) (g h : Held) → mid ≡ with_seat s g k → new ≡ with_seat s h mid → new ≡ with_seat s h k
 put-twice k mid new s g h first then = then ∙ (ap (λ (n : Kept). with_seat s h n) first ∙ twice k s g h)
@@ -181,22 +159,3 @@ put-back k mid new s was h had first then here same =
         ∙ (ap (λ (n : Kept). seat_at n.seats s) (sym (put-twice k mid new s held.Outside h first then))
         ∙ (seat-here new.seats s h here ∙ (same ∙ (sym (seat-here k.seats s was had) ∙ sym (ap (λ u. seat_at k.seats u) (eqb-true t s equal))))))
     by t false apart = seat-apart k.seats s t h apart
-
-calm : (x : Seat) → in_flight x ≡ None → is_committing x ≡ false
-calm outside none = refl
-calm beginning none = refl
-calm (writing ws) none = refl
-calm (changing ws) none = refl
-calm (committing ws) none = absurd (none-some _ (sym none))
-calm (rolling_back ws) none = refl
-calm closing none = refl
-calm (reading start) none = refl
-calm (dead commits ws) none = refl
-
--- where no other session commits, nobody does behind it
-pub quiet-behind : (k mid : Kept) (s : ℕ) (was : Held) → slice_get k.seats s ≡ Some was → mid ≡ with_seat s held.Outside k → IsAlone s (shelf_of k) → AreQuiet mid.seats
-quiet-behind k mid s was had first alone t = subst (λ (n : Kept). is_committing (seat_at n.seats t) ≡ false) (sym first) (by (t == s) refl)
-  where
-    by : (b : Bool) → (t == s) ≡ b → is_committing (seat_at (slice_set k.seats s held.Outside) t) ≡ false
-    by true equal = ap (λ u. is_committing (seat_at (slice_set k.seats s held.Outside) u)) (eqb-true t s equal) ∙ ap (λ x. is_committing (seat_or x)) (get-set k.seats s was held.Outside had)
-    by false apart = ap is_committing (seat-apart k.seats s t held.Outside apart) ∙ calm (seat_at k.seats t) (alone t apart)

@@ -11,26 +11,28 @@ use Rattle.line_view.specs.Writes.{laid_all}
 use Rattle.line_view.proofs.Written.{laid_in_turn}
 use Rattle.line_store.specs.declared.answers.Stepped.{Stepped}
 use Rattle.line_store.specs.declared.answers.Stepped.TheVariants.{More, Done, Committed, Recovered}
-use Rattle.line_store.specs.Seats.{Seat, outside, beginning, writing, changing, committing, rolling_back, closing, reading, dead, IsWriting, writes_of, done_at, Adds}
+use Rattle.line_store.specs.Seats.{Seat, outside, beginning, writing, changing, prepared, committing, rolling_back, closing, reading, dead, writes_of, done_at, Adds}
 use Rattle.line_store.specs.Shelves.{seen_from}
 use Rattle.line_store.specs.Calls.{Moves, Changes, Comes, IsCommitted}
 use Rattle.memory_store.specs.declared.seat.Seat.{Seat as Held}
 use Rattle.memory_store.specs.declared.seat.Seat.TheVariants as held
-use Rattle.memory_store.specs.Kept.{Kept, StepsTo, seat_of, seat_at, shelf_of, with_seat, with_lines}
+use Rattle.memory_store.specs.Kept.{Kept, StepsTo, base_of, seat_of, seat_at, shelf_of, with_seat, with_stock}
 use Rattle.memory_store.proofs.Seating.{seat-here, others-stay, twice, moves-twice}
 
 -- ---- seen
 
-pub seen-written : (seat : Seat) (now : Lines) → IsWriting seat → seen_from seat now ≡ laid_all (writes_of seat) now
-seen-written outside now h = absurd h
-seen-written beginning now h = absurd h
-seen-written (writing ws) now h = refl
-seen-written (changing ws) now h = absurd h
-seen-written (committing ws) now h = absurd h
-seen-written (rolling_back ws) now h = absurd h
-seen-written closing now h = absurd h
-seen-written (reading start) now h = absurd h
-seen-written (dead commits ws) now h = absurd h
+-- what a session sees are its writes over a reader's start, or over what is committed
+pub seen-laid : (seat : Seat) (now : Lines) → laid_all (writes_of seat) (base_of seat now) ≡ seen_from seat now
+seen-laid outside now = refl
+seen-laid beginning now = refl
+seen-laid (writing ws) now = refl
+seen-laid (changing ws) now = refl
+seen-laid (prepared ws) now = refl
+seen-laid (committing ws) now = refl
+seen-laid (rolling_back ws) now = refl
+seen-laid closing now = refl
+seen-laid (reading start) now = refl
+seen-laid (dead commits ws) now = refl
 
 -- ---- changes
 
@@ -52,23 +54,24 @@ changed k new s more moves = record {
 
 -- ---- steps
 
-pub committed : (k mid landed new : Kept) (s : ℕ) (was : Held) (ws : List Write) (lines : Lines) →
-    slice_get k.seats s ≡ Some was → seat_of was ≡ committing ws → lines ≡ laid_all ws k.lines →
-    mid ≡ with_seat s held.Outside k → landed ≡ with_lines lines mid → new ≡ with_seat s held.Closing landed → slice_get new.seats s ≡ Some held.Closing →
+pub committed : (k mid landed new : Kept) (s : ℕ) (was : Held) (ws : List Write) (room : ℕ) →
+    slice_get k.seats s ≡ Some was → seat_of was ≡ committing ws →
+    mid ≡ with_seat s held.Outside k → landed ≡ with_stock (laid_all ws mid.lines) room mid → new ≡ with_seat s held.Closing landed → slice_get new.seats s ≡ Some held.Closing →
     IsCommitted s 0 (shelf_of k) (shelf_of new)
-committed k mid landed new s was ws lines had was-is behind first second third here =
-    let total : new ≡ with_lines lines (with_seat s held.Closing k) =
+committed k mid landed new s was ws room had was-is first second third here =
+    let behind = laid_all ws k.lines in
+    let total : new ≡ with_stock behind room (with_seat s held.Closing k) =
     third
     ∙ (ap (λ (n : Kept). with_seat s held.Closing n) second
-    ∙ (ap (λ (n : Kept). with_seat s held.Closing (with_lines lines n)) first
-    ∙ ap (λ (n : Kept). with_lines lines n) (twice k s held.Outside held.Closing))) in
+    ∙ (ap (λ (n : Kept). with_seat s held.Closing (with_stock (laid_all ws n.lines) room n)) first
+    ∙ ap (λ (n : Kept). with_stock behind room n) (twice k s held.Outside held.Closing))) in
     subst (λ (n : Kept). IsCommitted s 0 (shelf_of k) (shelf_of n)) (sym total) (record {
       writes = ws;
       was = seat-here k.seats s was had ∙ was-is;
       commits = record {
-        now = behind;
+        now = refl;
         mine = ap (λ (n : Kept). seat_at n.seats s) (sym total) ∙ seat-here new.seats s held.Closing here;
-        others = others-stay k s held.Closing lines;
+        others = others-stay k s held.Closing behind room;
         space = record { limits = refl; taken = λ file page. refl; snaps = omega arith; slots = omega arith };
         at = refl;
       };

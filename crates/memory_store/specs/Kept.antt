@@ -1,16 +1,18 @@
 -- What a store in memory holds.
-use Rattle.std.specs.Prelude.{◌≡◌, ◌≢◌, ◌≤◌, ◌⊎◌, ◌==◌, ◌&&◌, ◌++◌, ℕ, Bool, true, false, List, [], ◌∷◌, length, Option, Some, None, slice_get, slice_set, replicate}
+use Rattle.std.specs.Prelude.{◌≡◌, ◌≢◌, ◌≤◌, ◌<◌, ◌+◌, ◌⊎◌, ◌==◌, ◌&&◌, ◌++◌, ◌^◌, if◌then◌else◌, ℕ, Bool, true, false, List, [], ◌∷◌, length, Option, Some, None, slice_get, slice_set, replicate}
 use Rattle.std.specs.List.{list_any}
+use Rattle.std.proofs.Common.{refl}
+use Rattle.std.proofs.lemmas.Bool.{ltb-true}
 use Rattle.rdb_types.specs.declared.keys.Dbkey.{Dbkey}
 use Rattle.rdb_types.specs.declared.keys.Limits.{Limits}
 use Rattle.area_files.specs.Areas.{IsSpacePage}
 use Rattle.line_view.specs.declared.writes.Write.{Write}
 use Rattle.line_view.specs.Knowledge.{Lines, line_in}
-use Rattle.line_view.specs.Writes.{laid_all}
 use Rattle.line_store.specs.declared.answers.Stepped.{Stepped}
 use Rattle.line_store.specs.declared.answers.Stepped.TheVariants.{More, Done, Committed, Recovered}
-use Rattle.line_store.specs.Seats.{Seat, outside, beginning, writing, changing, committing, rolling_back, closing, reading, dead, is_committing, done_at}
+use Rattle.line_store.specs.Seats.{Seat, outside, beginning, writing, changing, prepared, committing, rolling_back, closing, reading, dead, done_at}
 use Rattle.line_store.specs.Shelves.{Shelf, seen_by}
+use Rattle.line_store.specs.Sights.{Sight}
 use Rattle.line_store.specs.Rooms.{IsBehind, first_line}
 use Rattle.memory_store.specs.declared.seat.Seat.{Seat as Held}
 use Rattle.memory_store.specs.declared.seat.Seat.TheVariants as held
@@ -23,7 +25,8 @@ seat_of held.Outside = outside
 seat_of held.Beginning = beginning
 seat_of (held.Writing ws) = writing ws.items
 seat_of (held.Changing ws) = changing ws.items
-seat_of (held.Committing ws lines) = committing ws.items
+seat_of (held.Prepared ws) = prepared ws.items
+seat_of (held.Committing ws) = committing ws.items
 seat_of (held.RollingBack ws) = rolling_back ws.items
 seat_of held.Closing = closing
 seat_of (held.Reading start) = reading start
@@ -39,20 +42,25 @@ seat_at seats s = seat_or (slice_get seats s)
 abbrev pub empty_seats : List Held
 empty_seats = replicate 17 held.Outside
 
--- the lines that are held for a commit are those behind it
-abbrev pub Foresees : Lines → Held → Type 0
-Foresees now (held.Committing ws lines) = lines ≡ laid_all ws.items now
-Foresees now _ = Unit {0}
+-- the lines over which a session's writes are laid
+abbrev pub base_of : Seat → Lines → Lines
+base_of (reading start) now = start
+base_of _ now = now
 
--- nobody commits
-abbrev pub AreQuiet : List Held → Type 0
-AreQuiet seats = (s : ℕ) → is_committing (seat_at seats s) ≡ false
+-- a commit of this seat may still land
+abbrev pub is_ready : Seat → Bool
+is_ready (prepared ws) = true
+is_ready (committing ws) = true
+is_ready _ = false
 
--- There is a seat for each session. Each commit has its lines, and one at most is under way.
-pub record AreKept (now : Lines) (seats : List Held) : Type 0 where
+abbrev pub count_ready : List Held → ℕ
+count_ready [] = 0
+count_ready (h ∷ hs) = (if is_ready (seat_of h) then 1 else 0) + count_ready hs
+
+-- There is a seat for each session, and room for each commit that may land.
+pub record AreKept (room : ℕ) (seats : List Held) : Type 0 where
   pub count : length seats ≡ 17
-  pub foresee : (s : ℕ) (h : Held) → slice_get seats s ≡ Some h → Foresees now h
-  pub one : (s t : ℕ) → is_committing (seat_at seats s) ≡ true → is_committing (seat_at seats t) ≡ true → s ≡ t
+  pub fits : count_ready seats ≤ room
 
 -- what a step makes of a seat where nothing is committed
 abbrev pub StepsTo : Seat → Seat → Stepped → Type 0
@@ -66,6 +74,8 @@ StepsTo old new (Recovered is_committed moment) = (is_committed ≡ false) × (m
 pub record Kept : Type 0 where
   pub limits : Limits
   pub lines : Lines
+  -- how many commits may land before memory is wanted
+  pub room : ℕ
   pub seats : List Held
   pub pages : List PageUse
 
@@ -86,18 +96,26 @@ shelf_of k = record {
 abbrev pub left_of : Kept → ℕ → Lines → Type 0
 left_of k t lines = ⊥
 
+-- it shows the one shelf that it holds
+abbrev pub sight_of : Kept → Sight
+sight_of k = record { shows = λ h. h ≡ shelf_of k; stand = seat_at k.seats; steps = λ s. 0; left = left_of k }
+
+-- no step is ever left
+pub none_left : 0 < 2 ^ 64
+none_left = ltb-true 0 (2 ^ 64) refl
+
 abbrev pub with_seat : ℕ → Held → Kept → Kept
 with_seat s h k = record k { seats = slice_set k.seats s h }
 
-abbrev pub with_lines : Lines → Kept → Kept
-with_lines lines k = record k { lines = lines }
+abbrev pub with_stock : Lines → ℕ → Kept → Kept
+with_stock lines room k = record k { lines = lines; room = room }
 
 abbrev pub with_page : PageUse → Kept → Kept
 with_page page k = record k { pages = k.pages ++ page ∷ [] }
 
--- it is no commit, or the only one, with its lines
-abbrev pub MayHave : Kept → ℕ → Held → Type 0
-MayHave k s h = (is_committing (seat_of h) ≡ false) ⊎ (AreQuiet k.seats × Foresees k.lines h)
+-- it is no commit, or there is room for one more
+abbrev pub MayHave : Kept → Held → Type 0
+MayHave k h = (is_ready (seat_of h) ≡ false) ⊎ (count_ready k.seats < k.room)
 
 -- ---- rooms
 

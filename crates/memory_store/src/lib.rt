@@ -2,6 +2,7 @@
 //! journals, snapshot files or disk; a crash leaves nothing of it.
 #![tactic(auto)]
 
+mod committed;
 mod lines;
 mod reading;
 mod rooms;

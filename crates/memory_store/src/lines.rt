@@ -11,7 +11,7 @@ use rdb_types::{Copied, Dbkey, Image, NoMemory};
 use std::alloc::Global;
 use std::marker::Model;
 
-/// The image of a line in a map.
+/// The image of a line, as a map holds it.
 #[derive(Drop)]
 pub(crate) struct LineImage {
     held: Image,
@@ -63,6 +63,32 @@ pub(crate) fn lay(lines: &mut LineMap, writes: &[Write]) -> Result<(), NoMemory>
         }
     }
     Ok(())
+}
+
+/// The image of a line in a map.
+pub(crate) fn image_in(lines: &LineMap, key: Dbkey) -> Option<Image>
+    ensures { result ≡ line_in key lines.now }
+{
+    match lines.find(&key) {
+        Some(image) => Some(image.image()),
+        None => None,
+    }
+}
+
+/// The image of a line behind writes.
+pub(crate) fn last_image(before: Option<Image>, writes: &[Write], key: Dbkey) -> Option<Image>
+    ensures { (all : Lines) → before ≡ line_in key all → result ≡ line_in key (laid_all writes.now all) }
+{
+    let mut image = before;
+    for write in writes {
+        if key.cmp(&write.key).is_eq() {
+            image = match &write.image {
+                Some(written) => Some(Image::from_bytes(written.bytes())),
+                None => None,
+            };
+        }
+    }
+    image
 }
 
 /// The present lines of an area.

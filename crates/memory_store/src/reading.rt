@@ -1,32 +1,14 @@
 // What a session sees.
 ghost use Rattle.std.specs.Prelude.{◌≡◌, IfOk};
-ghost use Rattle.line_view.specs.Knowledge.{Lines, line_in};
-ghost use Rattle.line_view.specs.Writes.{laid_all};
+ghost use Rattle.line_view.specs.Knowledge.{line_in};
 ghost use Rattle.line_store.specs.Shelves.{seen_by};
-ghost use Rattle.line_store.specs.Seats.{IsMember, writes_of};
-ghost use Rattle.memory_store.specs.Kept.{seat_of, seat_at, shelf_of};
+ghost use Rattle.line_store.specs.Seats.{IsMember};
+ghost use Rattle.memory_store.specs.Kept.{seat_of, seat_at, shelf_of, base_of};
 
 use crate::MemoryStore;
-use crate::lines::{LineMap, lay};
+use crate::lines::{LineMap, image_in, last_image, lay};
 use crate::seat::Seat;
-use line_view::Write;
 use rdb_types::{Copied, Dbkey, Image, NoMemory, Session};
-
-// The image of a line behind writes.
-fn last_image(before: Option<Image>, writes: &[Write], key: Dbkey) -> Option<Image>
-    ensures { (all : Lines) → before ≡ line_in key all → result ≡ line_in key (laid_all writes.now all) }
-{
-    let mut image = before;
-    for write in writes {
-        if key.cmp(&write.key).is_eq() {
-            image = match &write.image {
-                Some(written) => Some(Image::from_bytes(written.bytes())),
-                None => None,
-            };
-        }
-    }
-    image
-}
 
 impl MemoryStore {
     fn seat(&self, s: Session) -> &Seat
@@ -36,14 +18,25 @@ impl MemoryStore {
         &self.seats[s.number as usize]
     }
 
-    // The lines over which the session's writes are laid: a reader's start, else the committed ones.
-    fn base(&self, s: Session) -> &LineMap
+    // The image of a line over which the session's writes are laid: at a reader's start, else as it is committed.
+    fn base_line(&self, s: Session, key: Dbkey) -> Option<Image>
         requires { IsMember s.number }
-        ensures { laid_all (writes_of (seat_at self.now.seats s.number)) result.now ≡ seen_by s.number (shelf_of self.now) }
+        ensures { result ≡ line_in key (base_of (seat_at self.now.seats s.number) self.now.lines) }
     {
         match self.seat(s) {
-            Seat::Reading(start) => start,
-            _ => &self.lines,
+            Seat::Reading(start) => image_in(start, key),
+            _ => self.committed.line(key),
+        }
+    }
+
+    // A copy of those lines.
+    fn base(&self, s: Session) -> Result<LineMap, NoMemory>
+        requires { IsMember s.number }
+        ensures { IfOk result (λ lines. lines ≡ base_of (seat_at self.now.seats s.number) self.now.lines) }
+    {
+        match self.seat(s) {
+            Seat::Reading(start) => start.copied(self.alloc),
+            _ => self.committed.copied(self.alloc),
         }
     }
 
@@ -52,11 +45,7 @@ impl MemoryStore {
         requires { IsMember s.number }
         ensures { result ≡ line_in key (seen_by s.number (shelf_of self.now)) }
     {
-        let before = match self.base(s).find(&key) {
-            Some(image) => Some(image.image()),
-            None => None,
-        };
-        last_image(before, self.seat(s).writes(), key)
+        last_image(self.base_line(s, key), self.seat(s).writes(), key)
     }
 
     /// A copy of all lines as a session sees them.
@@ -64,7 +53,7 @@ impl MemoryStore {
         requires { IsMember s.number }
         ensures { IfOk result (λ lines. lines ≡ seen_by s.number (shelf_of self.now)) }
     {
-        let mut lines = self.base(s).copied(self.alloc)?;
+        let mut lines = self.base(s)?;
         lay(&mut lines, self.seat(s).writes())?;
         Ok(lines)
     }

@@ -1,9 +1,7 @@
 // What is held for a session.
 ghost use Rattle.std.specs.Prelude.{◌≡◌, ◌++◌, false, IfOk, IfErr};
-ghost use Rattle.line_view.specs.Knowledge.{Lines};
-ghost use Rattle.line_view.specs.Writes.{laid_all};
-ghost use Rattle.line_store.specs.Seats.{IsWriting, IsUnderWay, writes_of, is_committing, changing, committing_by, rolled_back, died};
-ghost use Rattle.memory_store.specs.Kept.{seat_of, Foresees, StepsTo};
+ghost use Rattle.line_store.specs.Seats.{IsWriting, IsPrepared, IsUnderWay, writes_of, is_committing, changing, prepared_by, given_back, committing_by, rolled_back, died};
+ghost use Rattle.memory_store.specs.Kept.{seat_of, StepsTo};
 
 use crate::lines::LineMap;
 use line_store::Stepped;
@@ -18,8 +16,8 @@ pub(crate) enum Seat {
     Beginning,
     Writing(Vec<Write>),
     Changing(Vec<Write>),
-    /// The lines are those behind the commit.
-    Committing(Vec<Write>, LineMap),
+    Prepared(Vec<Write>),
+    Committing(Vec<Write>),
     RollingBack(Vec<Write>),
     Closing,
     /// The lines are those at the reader's start.
@@ -35,7 +33,8 @@ impl Seat {
         match self {
             Seat::Writing(writes) => writes,
             Seat::Changing(writes) => writes,
-            Seat::Committing(writes, _) => writes,
+            Seat::Prepared(writes) => writes,
+            Seat::Committing(writes) => writes,
             Seat::RollingBack(writes) => writes,
             Seat::Dead(_, writes) => writes,
             _ => &[],
@@ -58,15 +57,34 @@ impl Seat {
         }
     }
 
-    pub(crate) fn committing(self, behind: LineMap) -> Seat
+    pub(crate) fn preparing(self) -> Seat
         requires { IsWriting (seat_of self) }
-        ensures seat { seat_of result ≡ committing_by (seat_of self) }
-        ensures behind { (now : Lines) → behind ≡ laid_all (writes_of (seat_of self)) now → Foresees now result }
+        ensures { seat_of result ≡ prepared_by (seat_of self) }
     {
         let Seat::Writing(writes) = self else {
             unreachable!()
         };
-        Seat::Committing(writes, behind)
+        Seat::Prepared(writes)
+    }
+
+    pub(crate) fn giving_back(self) -> Seat
+        requires { IsPrepared (seat_of self) }
+        ensures { seat_of result ≡ given_back (seat_of self) }
+    {
+        let Seat::Prepared(writes) = self else {
+            unreachable!()
+        };
+        Seat::Writing(writes)
+    }
+
+    pub(crate) fn committing(self) -> Seat
+        requires { IsPrepared (seat_of self) }
+        ensures { seat_of result ≡ committing_by (seat_of self) }
+    {
+        let Seat::Prepared(writes) = self else {
+            unreachable!()
+        };
+        Seat::Committing(writes)
     }
 
     pub(crate) fn rolling_back(self) -> Seat
@@ -85,7 +103,8 @@ impl Seat {
         match self {
             Seat::Writing(writes) => Seat::Dead(false, writes),
             Seat::Changing(writes) => Seat::Dead(false, writes),
-            Seat::Committing(writes, _) => Seat::Dead(true, writes),
+            Seat::Prepared(writes) => Seat::Dead(false, writes),
+            Seat::Committing(writes) => Seat::Dead(true, writes),
             Seat::RollingBack(writes) => Seat::Dead(false, writes),
             Seat::Dead(_, writes) => Seat::Dead(false, writes),
             _ => Seat::Dead(false, Vec::new(alloc)),

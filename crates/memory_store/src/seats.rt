@@ -1,13 +1,14 @@
 // The seats of a store.
-ghost use Rattle.std.specs.Prelude.{◌≡◌, Some, true, slice_get};
-ghost use Rattle.line_store.specs.Seats.{IsMember, is_committing};
+ghost use Rattle.std.specs.Prelude.{◌≡◌, ◌≤◌, ◌<◌, ◌+◌, Some, true, slice_get, OnOk, OnErr};
+ghost use Rattle.line_view.specs.Writes.{laid_all};
+ghost use Rattle.line_store.specs.Seats.{IsMember};
 ghost use Rattle.memory_store.specs.declared.seat.Seat.TheVariants.{Outside};
-ghost use Rattle.memory_store.specs.Kept.{seat_of, with_seat, with_lines, AreQuiet, Foresees, MayHave};
+ghost use Rattle.memory_store.specs.Kept.{seat_of, is_ready, count_ready, with_seat, with_stock, MayHave};
 
 use crate::MemoryStore;
-use crate::lines::LineMap;
 use crate::seat::Seat;
-use rdb_types::Session;
+use line_view::Write;
+use rdb_types::{NoMemory, Session};
 use std::mem::replace;
 
 impl MemoryStore {
@@ -16,8 +17,8 @@ impl MemoryStore {
         requires { IsMember s.number }
         ensures was { slice_get self.old.seats s.number ≡ Some result }
         ensures now { self.new ≡ with_seat s.number Outside self.old }
-        ensures quiet { is_committing (seat_of result) ≡ true → AreQuiet self.new.seats }
-        ensures foresees { Foresees self.old.lines result }
+        ensures few { count_ready self.new.seats < 17 }
+        ensures ready { is_ready (seat_of result) ≡ true → count_ready self.new.seats < self.new.room }
     {
         replace(&mut self.seats[s.number as usize], Seat::Outside)
     }
@@ -25,18 +26,27 @@ impl MemoryStore {
     /// Holds this for a session.
     pub(crate) fn put(&mut self, s: Session, seat: Seat)
         requires member { IsMember s.number }
-        requires may { MayHave self.old s.number seat }
+        requires may { MayHave self.old seat }
         ensures now { self.new ≡ with_seat s.number seat self.old }
         ensures here { slice_get self.new.seats s.number ≡ Some seat }
     {
         self.seats[s.number as usize] = seat;
     }
 
-    /// These are the committed lines.
-    pub(crate) fn land(&mut self, lines: LineMap)
-        requires { AreQuiet self.old.seats }
-        ensures { self.new ≡ with_lines lines self.old }
+    /// Makes room for the commits of all seats.
+    pub(crate) fn make_room(&mut self) -> Result<(), NoMemory>
+        ensures ok { OnOk result (self.new ≡ with_stock self.old.lines self.new.room self.old) }
+        ensures room { OnOk result (17 ≤ self.new.room) }
+        ensures err { OnErr result (self.new ≡ self.old) }
     {
-        self.lines = lines;
+        self.committed.settle(self.alloc)
+    }
+
+    /// Commits writes.
+    pub(crate) fn land(&mut self, writes: Vec<Write>)
+        requires { count_ready self.old.seats < self.old.room }
+        ensures { self.new ≡ with_stock (laid_all writes.items self.old.lines) self.new.room self.old }
+    {
+        self.committed.land(writes);
     }
 }

@@ -2,13 +2,13 @@
 ghost use Rattle.std.specs.Prelude.{◌≡◌, [], IfOk};
 ghost use Rattle.memory_store.specs.Kept.{empty_seats};
 
-use crate::lines::{LineMap, copy_writes, lines_of};
+use crate::committed::Committed;
+use crate::lines::{copy_writes, lines_of};
 use crate::seat::Seat;
 use area_files::{AreaFull, storage_area};
 use line_store::{ChangeStop, CommitStop, Fault, LineStore, Progress, ReadStop, Stepped};
 use line_view::{Known, Write};
-use ordered_entries::Entries;
-use rdb_types::{Copied, Dbkey, Limits, Moment, NoMemory, Session};
+use rdb_types::{Dbkey, Limits, Moment, NoMemory, Session};
 use std::alloc::Global;
 use std::marker::Model;
 
@@ -24,13 +24,14 @@ pub(crate) struct PageUse {
     pub(crate) class: u16,
 }
 
-/// Lines in memory. A line is read in time that grows with the logarithm of their count and with the writes of its transaction; a
-/// scan, a commit and a reader's start take a copy of all lines, and a room is looked for page by page.
+/// Lines in memory. A line is read in time that grows with the logarithm of their count, with the writes of its transaction and with
+/// those of the commits since one was prepared; a scan, the preparation of a commit and a reader's start take a copy of all lines, and a
+/// room is looked for page by page.
 #[derive(Drop)]
 pub struct MemoryStore {
     pub(crate) alloc: Global,
     pub(crate) limits: Limits,
-    pub(crate) lines: LineMap,
+    pub(crate) committed: Committed,
     pub(crate) seats: Vec<Seat>,
     pub(crate) pages: Vec<PageUse>,
 }
@@ -40,9 +41,9 @@ impl Model for MemoryStore {
 
     ghost Value = { Kept };
 
-    ghost view = { λ m. record { limits = m.limits; lines = m.lines; seats = m.seats.items; pages = m.pages.items } };
+    ghost view = { λ m. record { limits = m.limits; lines = m.committed.lines; room = m.committed.room; seats = m.seats.items; pages = m.pages.items } };
 
-    ghost invariant = { λ m. AreKept m.lines m.seats.items };
+    ghost invariant = { λ m. AreKept m.committed.room m.seats.items };
 }
 
 fn seats(alloc: Global) -> Result<Vec<Seat>, NoMemory>
@@ -64,10 +65,11 @@ impl MemoryStore {
         ensures limits { IfOk result (λ m. m.limits ≡ limits) }
     {
         let seats = seats(alloc)?;
+        let committed = Committed::new(alloc)?;
         Ok(MemoryStore {
             alloc,
             limits,
-            lines: Entries::new(alloc),
+            committed,
             seats,
             pages: Vec::new(alloc),
         })
@@ -75,18 +77,24 @@ impl MemoryStore {
 }
 
 impl LineStore for MemoryStore {
-    ghost use Rattle.memory_store.specs.Kept.{shelf_of, left_of};
+    ghost use Rattle.std.proofs.Common.{ap, sym};
+    ghost use Rattle.line_store.specs.Sights.{bare};
+    ghost use Rattle.memory_store.specs.Kept.{sight_of, none_left};
 
-    ghost shelf = { shelf_of };
+    ghost sight = { sight_of };
 
-    ghost left = { left_of };
+    ghost agrees = { λ store h shown s. ap (λ shelf. bare (shelf.seat s)) (sym shown) };
+
+    ghost counts = { λ store. record { same = λ h shown s. ap (λ shelf. shelf.steps s) (sym shown); few = λ s. none_left } };
+
+    ghost stands = { λ store h shown lines left. absurd left };
 
     fn begin(&mut self, s: Session) {
         self.put(s, Seat::Beginning);
     }
 
     fn begin_reading(&mut self, s: Session) -> Result<(), NoMemory> {
-        let start = self.lines.copied(self.alloc)?;
+        let start = self.committed.copied(self.alloc)?;
         self.put(s, Seat::Reading(start));
         Ok(())
     }
@@ -183,13 +191,23 @@ impl LineStore for MemoryStore {
         }
     }
 
-    fn commit(&mut self, s: Session) -> Result<(), CommitStop> {
-        let Ok(behind) = self.seen(s) else {
+    fn prepare(&mut self, s: Session) -> Result<(), CommitStop> {
+        let Ok(()) = self.make_room() else {
             return Err(CommitStop::NoMemory);
         };
-        let seat = self.take(s).committing(behind);
+        let seat = self.take(s).preparing();
         self.put(s, seat);
         Ok(())
+    }
+
+    fn give_back(&mut self, s: Session) {
+        let seat = self.take(s).giving_back();
+        self.put(s, seat);
+    }
+
+    fn commit(&mut self, s: Session) {
+        let seat = self.take(s).committing();
+        self.put(s, seat);
     }
 
     fn roll_back(&mut self, s: Session) {
@@ -204,8 +222,8 @@ impl LineStore for MemoryStore {
 
     fn step(&mut self, s: Session) -> Result<Stepped, Fault> {
         match self.take(s) {
-            Seat::Committing(_, behind) => {
-                self.land(behind);
+            Seat::Committing(writes) => {
+                self.land(writes);
                 self.put(s, Seat::Closing);
                 Ok(Stepped::Committed(Moment { number: 0 }))
             }
@@ -218,10 +236,7 @@ impl LineStore for MemoryStore {
     }
 
     fn is_at_barrier(&self, s: Session) -> bool {
-        matches!(
-            self.seats.get(s.number as usize),
-            Some(Seat::Committing(_, _))
-        )
+        matches!(self.seats.get(s.number as usize), Some(Seat::Committing(_)))
     }
 
     fn moment(&self) -> Moment {

@@ -1,20 +1,21 @@
-use Rattle.std.proofs.Common.{rules, ap, subst}
-use Rattle.memory_store.specs.declared.seat.Seat.{Seat as Held}
-use Rattle.memory_store.specs.Kept.{Foresees, seat_of}
-use Rattle.memory_store.proofs.Stepping.{committed, stepped}
+use Rattle.std.proofs.Common.{ap}
+use Rattle.memory_store.specs.Kept.{seat_of}
+use Rattle.memory_store.proofs.Stepping.{committed}
+use Rattle.memory_store.proofs.Sighted.{landed, came, may-answer, never-more}
 use Rattle.memory_store.proofs.store.MemoryStoreLineStore.step.Goals as goal
 
 pub returns-in-Committing-clause-comes : goal.returns-in-Committing-clause-comes
 returns-in-Committing-clause-comes c =
-    committed c.args.self.now c.take.new.self c.land.new.self c.put.new.self c.args.s.number c.take.result c.in-Committing.field-0.items c.in-Committing.behind
+    landed c.args.self.now c.put.new.self c.args.s.number (record { number = 0 })
+    (committed c.args.self.now c.take.new.self c.land.new.self c.put.new.self c.args.s.number c.take.result c.in-Committing.writes.items c.land.new.self.room
     c.take.ensures.was (ap seat_of c.in-Committing.is)
-    (subst (λ (h : Held). Foresees c.args.self.now.lines h) c.in-Committing.is c.take.ensures.foresees)
-    c.take.ensures.now c.land.ensures c.put.ensures.now c.put.ensures.here
+    c.take.ensures.now c.land.ensures c.put.ensures.now c.put.ensures.here)
 
 pub returns-in_default : goal.returns-in_default
 returns-in_default c = record {
-  comes = stepped c.args.self.now c.take.new.self c.put-in_default.new.self c.args.s.number c.take.result c.stepped-next.result.0 c.stepped-next.result.1 c.take.ensures.was
+  answers = may-answer c.args.self.now c.take.new.self c.put-in_default.new.self c.args.s.number c.take.result c.stepped-next.result.0 c.stepped-next.result.1 c.take.ensures.was c.stepped-next.ensures;
+  comes = came c.args.self.now c.take.new.self c.put-in_default.new.self c.args.s.number c.take.result c.stepped-next.result.0 c.stepped-next.result.1 c.take.ensures.was
       c.stepped-next.ensures
       c.take.ensures.now c.put-in_default.ensures.now c.put-in_default.ensures.here;
-  lasts = search rules;
+  less = λ more. absurd (never-more (seat_of c.take.result) (seat_of c.stepped-next.result.0) c.stepped-next.result.1 c.stepped-next.ensures more);
 }

@@ -1,7 +1,7 @@
 use Rattle.std.proofs.Common.{rules, true, false}
 use Rattle.memory_store.proofs.Laying.{image-more}
-use Rattle.memory_store.proofs.reading.last_image.Goals as goal
-use Rattle.memory_store.proofs.reading.last_image.Goals.{then-is_eq+in-Some, then-is_eq+in-None, else-is_eq}
+use Rattle.memory_store.proofs.lines.last_image.Goals as goal
+use Rattle.memory_store.proofs.lines.last_image.Goals.{then-is_eq+in-Some, then-is_eq+in-None, else-is_eq}
 
 pub loop-write-preserved : goal.loop-write-preserved
 loop-write-preserved c all before = elim c.if-is_eq.branch [
