@@ -1,8 +1,6 @@
 -- A want of the journal that opens and is got, or sleeps, was asked there.
-use Rattle.std.proofs.Common.{◌≡◌, ◌<◌, ℕ, ◌+◌, ◌++◌, ◌==◌, ◌&&◌, ◌||◌, not, if◌then◌else◌, Bool, true, false, List, [], ◌∷◌, length, map, refl, ◌∙◌, sym, ap, subst, arith, Option, Some, None, is_some, ◌⊎◌, inl, inr}
-use Rattle.std.specs.List.{list_any, filter}
-use Rattle.std.specs.Map.{lookup}
-use Rattle.std.proofs.lemmas.Bool.{false≢true, and_parts, or_cases, or_left, or_right, and_from}
+use Rattle.std.proofs.Common.{◌≡◌, ℕ, ◌++◌, ◌==◌, ◌&&◌, ◌||◌, not, if◌then◌else◌, Bool, true, false, List, [], ◌∷◌, map, refl, ◌∙◌, sym, ap, subst, arith, Option, Some, None, is_some, inl, inr}
+use Rattle.std.proofs.lemmas.Bool.{false≢true, and_parts, or_right, and_from}
 use Rattle.rdb_types.specs.declared.node.Level.{Level}
 use Rattle.rdb_types.specs.declared.node.Level.TheVariants.{Area, Range, Page, Journal}
 use Rattle.rdb_types.specs.declared.node.Node.{Node}
@@ -15,13 +13,13 @@ use Rattle.lock_needs.specs.declared.need.Need.{Need}
 use Rattle.lock_needs.specs.declared.party.Asked.{Asked}
 use Rattle.lock_needs.specs.declared.party.OpenWant.{OpenWant}
 use Rattle.lock_needs.specs.Party.{Party}
-use Rattle.lock_needs.specs.Nodes.{same_node, contains, is_on, on_way, is_above}
-use Rattle.lock_needs.specs.Needs.{Holding, covers_below, covers_from, covered_above, is_covered}
-use Rattle.lock_needs.specs.Wants.{opened_at, sleeps_at, mode_for}
+use Rattle.lock_needs.specs.Nodes.{same_node, contains, on_way, is_above}
+use Rattle.lock_needs.specs.Needs.{Holding, covers_below, covered_above, is_covered}
+use Rattle.lock_needs.specs.Wants.{opened_at}
 use Rattle.lock_needs.specs.Waits.{converts_at}
 use Rattle.lock_needs.proofs.NodeLaws.{same_node-refl}
 use Rattle.lock_tree_laws.specs.LockTable.{granted_at}
-use Rattle.lock_tree_laws.specs.Parties.{is_needed, HasReason, was_asked}
+use Rattle.lock_tree_laws.specs.Parties.{HasReason, was_asked}
 use Rattle.lock_tree_laws.specs.Forest.{State, IsWhole, HasAsks, is_asked_at, party_of, opened_of}
 use Rattle.lock_tree_laws.specs.Order.{without_asks}
 use Rattle.lock_tree_laws.specs.Wanted.{Answered, asks_for, needs_of, trail_of_want}

@@ -1,12 +1,12 @@
 -- No notice is due at the journal: whose lock stands there has to keep it.
-use Rattle.std.proofs.Common.{◌≡◌, ℕ, ◌==◌, ◌&&◌, ◌||◌, not, if◌then◌else◌, Bool, true, false, List, [], ◌∷◌, refl, ◌∙◌, sym, ap, subst, arith, Option, Some, None, ◌⊎◌, inl, inr}
-use Rattle.std.specs.List.{list_any, list_all}
+use Rattle.std.proofs.Common.{◌≡◌, ℕ, ◌&&◌, ◌||◌, not, if◌then◌else◌, Bool, true, false, List, [], ◌∷◌, refl, ◌∙◌, sym, ap, subst, arith, Option, Some, None, ◌⊎◌, inl, inr}
+use Rattle.std.specs.List.{list_all}
 use Rattle.std.proofs.lemmas.Bool.{false≢true, and_parts, or_cases}
 use Rattle.rdb_types.specs.declared.node.Level.TheVariants.{Journal}
 use Rattle.rdb_types.specs.declared.node.Node.{Node}
 use Rattle.vms_queues.specs.declared.lock_mode.Mode.{Mode}
 use Rattle.vms_queues.specs.declared.lock_mode.Mode.TheVariants.{NL, CR, CW, PR, PW, EX}
-use Rattle.vms_queues.specs.Modes.{at_most, least_above, intent}
+use Rattle.vms_queues.specs.Modes.{at_most, least_above}
 use Rattle.lock_needs.specs.declared.need.Need.{Need}
 use Rattle.lock_needs.specs.declared.party.OpenWant.{OpenWant}
 use Rattle.lock_needs.specs.Party.{Party}
@@ -15,9 +15,9 @@ use Rattle.lock_needs.specs.Needs.{Holding}
 use Rattle.lock_needs.specs.Keeping.{below, needed_on, is_excess}
 use Rattle.lock_needs.specs.Wants.{mode_for, has_granted, opened_at, kept_at, IsOnWay}
 use Rattle.lock_needs.proofs.ModeTables.{at_most-trans, join-left, join-right}
-use Rattle.lock_needs.proofs.NodeLaws.{same_node-true, same_node-refl}
+use Rattle.lock_needs.proofs.NodeLaws.{same_node-true}
 use Rattle.lock_tree_laws.specs.LockTable.{granted_at}
-use Rattle.lock_tree_laws.specs.Parties.{is_needed, HasReason, IsKept}
+use Rattle.lock_tree_laws.specs.Parties.{is_needed, HasReason}
 use Rattle.lock_tree_laws.specs.Forest.{State, IsWhole, party_of}
 use Rattle.lock_tree_laws.specs.Wanted.{Answered}
 use Rattle.lock_tree_laws.specs.declared.answer.Want.TheVariants.{NoticeTo}
