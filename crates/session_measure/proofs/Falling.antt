@@ -20,22 +20,21 @@ use Rattle.session_states.specs.declared.stage.Phase.TheVariants.{Writing}
 use Rattle.session_states.specs.declared.stage.Member.{Member}
 use Rattle.session_states.specs.Locks.{lock_of, lock_of_write}
 use Rattle.session_states.specs.Turns.{got}
-use Rattle.session_states.specs.Shared.{Shared}
 use Rattle.session_states.specs.States.{session, writer}
-use Rattle.session_measure.specs.Weights.{life_left, items_left, unopened, Falls, sum_of}
+use Rattle.session_measure.specs.Weights.{Beside, life_left, items_left, unopened, Falls, sum_of}
 
 -- ---- where the first number stands that falls
 
-pub by-items : (k l s : ℕ) (c d : Shared) (m n : Member) → life_left n.life ≡ life_left m.life → items_left n < items_left m → Falls k l c d s m n
+pub by-items : (k l s : ℕ) (c d : Beside) (m n : Member) → life_left n.life ≡ life_left m.life → items_left n < items_left m → Falls k l c d s m n
 by-items k l s c d m n e h = inr (e, inl (h, refl))
 
-pub by-want : (k s : ℕ) (c d : Shared) (m : Member) (w : OpenWant) → opened_of c.locks s ≡ None → opened_of d.locks s ≡ Some w → Falls k k c d s m m
+pub by-want : (k s : ℕ) (c d : Beside) (m : Member) (w : OpenWant) → opened_of c.locks s ≡ None → opened_of d.locks s ≡ Some w → Falls k k c d s m m
 by-want k s c d m w none some = inr (refl, inr (refl, inr (refl, inr (refl, inr (refl, inr (refl, inl (fewer, refl)))))))
   where
     fewer : unopened (opened_of d.locks s) < unopened (opened_of c.locks s)
     fewer = let a = ap unopened none in let b = ap unopened some in omega (arith, a, b)
 
-pub by-steps : (k s : ℕ) (c d : Shared) (m : Member) → opened_of d.locks s ≡ opened_of c.locks s → d.shelf.steps s < c.shelf.steps s → Falls k k c d s m m
+pub by-steps : (k s : ℕ) (c d : Beside) (m : Member) → opened_of d.locks s ≡ opened_of c.locks s → d.steps s < c.steps s → Falls k k c d s m m
 by-steps k s c d m e h = inr (refl, inr (refl, inr (refl, inr (refl, inr (refl, inr (refl, inr (ap unopened e, inl (h, refl))))))))
 
 -- ---- places
@@ -61,7 +60,7 @@ write-there (Some w) n h = (w, refl)
 
 -- ---- a lock is got
 
-pub got-falls : (k s : ℕ) (c d : Shared) (left : List Item) (total : ℕ) (standing : Standing) (known : Held) (spoken waits : Bool) (stage : Stage) (n : LockNeed) → lock_of stage ≡ Some n →
+pub got-falls : (k s : ℕ) (c d : Beside) (left : List Item) (total : ℕ) (standing : Standing) (known : Held) (spoken waits : Bool) (stage : Stage) (n : LockNeed) → lock_of stage ≡ Some n →
     Falls k k c d s (session left total (Writing (writer standing known spoken waits stage))) (session left total (Writing (writer standing known spoken waits (got stage))))
 got-falls k s c d left total standing known spoken waits Between n wants = absurd (none-some n wants)
 got-falls k s c d left total standing known spoken waits (Working item OpeningIt) n wants = absurd (none-some n wants)

@@ -2,7 +2,7 @@
 use Rattle.std.specs.Prelude.{ℕ, ◌+◌, ◌*◌, ◌-◌, List, [], ◌∷◌, length, Option, Some, None}
 use Rattle.rdo_ast.specs.Tree.{Uttered}
 use Rattle.lock_needs.specs.declared.party.OpenWant.{OpenWant}
-use Rattle.lock_tree_laws.specs.Forest.{opened_of}
+use Rattle.lock_tree_laws.specs.Forest.{State, opened_of}
 use Rattle.rdb_drive.specs.Boards.{Less}
 use Rattle.session_states.specs.declared.stage.Work.{Work}
 use Rattle.session_states.specs.declared.stage.Work.TheVariants.{Opening, Due, Out, Lacking, Housing, Fetching, Lodging}
@@ -24,7 +24,6 @@ use Rattle.session_states.specs.declared.stage.Life.{Life}
 use Rattle.session_states.specs.declared.stage.Life.TheVariants.{Alive, Dead, Gone}
 use Rattle.session_states.specs.declared.stage.Member.{Member}
 use Rattle.session_states.specs.States.{item_of, reader_item}
-use Rattle.session_states.specs.Shared.{Shared}
 
 -- ---- a death, and a recovery
 
@@ -137,13 +136,18 @@ unopened (Some w) = 0
 
 -- ---- the measure of a session
 
+-- What it looks at beside the session: the locks, and how often at most a call of the store for each session may still answer that there is more to do.
+pub record Beside : Type 0 where
+  pub locks : State
+  pub steps : ℕ → ℕ
+
 -- where its statement may be worked for so many rounds more
-abbrev pub weight : (rounds : ℕ) → Shared → ℕ → Member → List ℕ
+abbrev pub weight : (rounds : ℕ) → Beside → ℕ → Member → List ℕ
 weight rounds c s m =
-    life_left m.life ∷ items_left m ∷ rank m.phase ∷ rounds ∷ round_left m.phase ∷ places_left m.phase ∷ unopened (opened_of c.locks s) ∷ c.shelf.steps s ∷ []
+    life_left m.life ∷ items_left m ∷ rank m.phase ∷ rounds ∷ round_left m.phase ∷ places_left m.phase ∷ unopened (opened_of c.locks s) ∷ c.steps s ∷ []
 
 -- It falls, from so many rounds to so many.
-abbrev pub Falls : (k l : ℕ) → Shared → Shared → ℕ → (m n : Member) → Type 0
+abbrev pub Falls : (k l : ℕ) → Beside → Beside → ℕ → (m n : Member) → Type 0
 Falls k l c d s m n = Less (weight l d s n) (weight k c s m)
 
 -- number by number, where both have as many
