@@ -37,10 +37,10 @@ over-false b c h = rw h refl
 none-under : (l m : Level) → l ≡ Journal → is_above l m ≡ false
 none-under l m e = ap (λ (k : Level). is_above k m) e
 
-alone-over : (n m : Node) → n.level ≡ Journal → contains m n ≡ false
+pub alone-over : (n m : Node) → n.level ≡ Journal → contains m n ≡ false
 alone-over n m e = over-false (is_above m.level n.level) _ (ap (λ (l : Level). is_above m.level l) e ∙ none-over m.level)
 
-alone-under : (n m : Node) → n.level ≡ Journal → contains n m ≡ false
+pub alone-under : (n m : Node) → n.level ≡ Journal → contains n m ≡ false
 alone-under n m e = over-false (is_above n.level m.level) _ (none-under n.level m.level e)
 
 -- what conflicts with a need there is there

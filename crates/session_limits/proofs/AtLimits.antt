@@ -45,11 +45,12 @@ use Rattle.store_counts.proofs.Kept.{counted-events}
 use Rattle.store_counts.proofs.Limits.{ruj-cause, snap-cause, aij-cause, area-cause}
 use Rattle.session_states.specs.declared.stage.Work.TheVariants.{Lacking}
 use Rattle.session_states.specs.declared.stage.Laying.TheVariants.{Claiming}
-use Rattle.session_states.specs.declared.stage.End.TheVariants.{Ready}
+use Rattle.session_states.specs.declared.stage.End.TheVariants.{Preparing}
 use Rattle.session_states.specs.declared.stage.Stage.{Stage}
 use Rattle.session_states.specs.declared.stage.Stage.TheVariants.{Between, Working, Saying, Ending}
 use Rattle.session_states.specs.declared.stage.Phase.TheVariants.{Writing}
 use Rattle.lock_tree_laws.specs.Forest.{opened_of}
+use Rattle.lock_tree_laws.specs.Wanted.{needs_of}
 use Rattle.session_states.specs.Locks.{lock_of, lock_of_write}
 use Rattle.session_states.specs.States.{item_of, is_at_rest, writer, session}
 use Rattle.session_states.specs.Shared.{Shared}
@@ -59,6 +60,7 @@ use Rattle.session_states.proofs.Basics.{said-first, take-all}
 use Rattle.session_states.proofs.Locking.{desk-resting}
 use Rattle.session_states.proofs.Refusing.{asks-free}
 use Rattle.session_states.proofs.Resting.{leaves-others}
+use Rattle.session_states.proofs.Journal.{resting-free}
 use Rattle.session_states.proofs.Storing.{said-needs, said-more, nowait-said}
 use Rattle.session_limits.specs.Some.{WriteSome}
 use Rattle.session_limits.proofs.Changing.{line_lock, asks-change}
@@ -117,6 +119,7 @@ module _ (M : Model) (orderly : IsOrderly M) where
               waits = nowait-said o p s w.transaction l w.is_open ∙ f.fits.phase.waits;
               stage = refl;
               wants = closed;
+              journal = resting-free stage (needs_of c.locks s) idle f.fits.phase.journal;
               ends = tt;
               claims = tt;
             };
@@ -181,9 +184,9 @@ module _ (M : Model) (orderly : IsOrderly M) where
   -- ---- a commit
 
   pub aij-full-on : (s : ℕ) (c : Shared) (left : List Item) (total : ℕ) (standing : Standing) (known : Held) (waits : Bool) (limit : ℕ) → MayStopCommit c.shelf s (committing.AijFull limit) →
-      Step M s c (session left total (Writing (writer standing known true waits (Ending Ready)))) c (session left total (Writing (writer standing known true waits Between))) (Said s (said commit) [] (r.AijFull limit) ∷ [])
+      Step M s c (session left total (Writing (writer standing known true waits (Ending Preparing)))) c (session left total (Writing (writer standing known true waits Between))) (Said s (said commit) [] (r.AijFull limit) ∷ [])
   aij-full-on s c left total standing known waits limit stop =
-      refused-here s c left total standing known waits (Ending Ready) (said commit) (r.AijFull limit) refl refl refl refl refl
+      refused-here s c left total standing known waits (Ending Preparing) (said commit) (r.AijFull limit) refl refl refl refl refl
       (λ o p g f.
       let w : Writes M o p g s standing (Some (said commit)) = f.here.stands.state in
       let writes : is_writer standing ≡ true = w.remains (some-lines (length w.transaction.lines == 0) (sym (ap has_said w.is_open) ∙ f.fits.phase.spoken)) in (

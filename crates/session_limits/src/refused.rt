@@ -21,7 +21,7 @@ ghost use Rattle.session_jobs.specs.declared.jobs.Found.TheVariants.{Done};
 ghost use Rattle.session_jobs.specs.declared.jobs.TxRecord.{TxRecord};
 ghost use Rattle.session_states.specs.declared.stage.Work.TheVariants.{Lacking, Out};
 ghost use Rattle.session_states.specs.declared.stage.Laying.TheVariants.{Claiming};
-ghost use Rattle.session_states.specs.declared.stage.End.TheVariants.{Ready};
+ghost use Rattle.session_states.specs.declared.stage.End.TheVariants.{Preparing};
 ghost use Rattle.session_states.specs.declared.stage.Stage.TheVariants.{Between, Ending, Saying, Working};
 ghost use Rattle.session_states.specs.declared.stage.Phase.TheVariants.{Writing};
 ghost use Rattle.session_states.specs.Locks.{lock_of};
@@ -34,13 +34,13 @@ ghost use Rattle.session_limits.specs.Some.{WriteSome};
 use session_jobs::Statements;
 
 /// Where the store refuses to lay a record's writes at a limit, once all their lines are claimed, the statement is refused at that limit,
-/// with its cause in the account, and its transaction goes on; so is a COMMIT for which the journal has no room, and a statement for which
+/// with its cause in the account, and its transaction goes on; so is a COMMIT that is to be prepared and for which the journal has no room, and a statement for which
 /// no room is left in an area. The last one is so where, over all that agrees with what is known, the statement's work is reached: no
 /// standing, name, reservation or type refuses it before.
 pub fn limits_refuse<S: Statements>()
     ensures ruj_full { (s : ℕ) (c : Shared) (left : List Item) (total : ℕ) (standing : Standing) (known : Held) (waits : Bool) (item : Item) (r : TxRecord) (place limit : ℕ) → lock_of (Saying item r (Claiming place)) ≡ None → WriteSome r.writes → is_done r.reply ≡ true → MayStopChange c.shelf s r.writes (UndoFull limit) → Step S.stands s c (session left total (Writing (writer standing known true waits (Saying item r (Claiming place))))) c (session left total (Writing (writer standing known true waits Between))) (Said s (uttered_of item) [] (RujFull limit) ∷ []) }
     ensures snap_full { (s : ℕ) (c : Shared) (left : List Item) (total : ℕ) (standing : Standing) (known : Held) (waits : Bool) (item : Item) (r : TxRecord) (place limit : ℕ) → IsMember s → lock_of (Saying item r (Claiming place)) ≡ None → WriteSome r.writes → is_done r.reply ≡ true → MayStopChange c.shelf s r.writes (SnapshotsFull limit) → Step S.stands s c (session left total (Writing (writer standing known true waits (Saying item r (Claiming place))))) c (session left total (Writing (writer standing known true waits Between))) (Said s (uttered_of item) [] (SnapFull limit) ∷ []) }
-    ensures aij_full { (s : ℕ) (c : Shared) (left : List Item) (total : ℕ) (standing : Standing) (known : Held) (waits : Bool) (limit : ℕ) → MayStopCommit c.shelf s (JournalFull limit) → Step S.stands s c (session left total (Writing (writer standing known true waits (Ending Ready)))) c (session left total (Writing (writer standing known true waits Between))) (Said s (said commit) [] (AijFull limit) ∷ []) }
+    ensures aij_full { (s : ℕ) (c : Shared) (left : List Item) (total : ℕ) (standing : Standing) (known : Held) (waits : Bool) (limit : ℕ) → MayStopCommit c.shelf s (JournalFull limit) → Step S.stands s c (session left total (Writing (writer standing known true waits (Ending Preparing)))) c (session left total (Writing (writer standing known true waits Between))) (Said s (said commit) [] (AijFull limit) ∷ []) }
     ensures area_full { (s : ℕ) (c : Shared) (left : List Item) (total : ℕ) (standing : Standing) (known : Held) (waits : Bool) (item : Item) (room : Room) (limit : ℕ) → IsFull c.shelf s room.area limit → WhereItAgrees S.stands (knows known) (λ t. Replaces c.word standing t (uttered_of item) (AreaFull limit)) → Step S.stands s c (session left total (Writing (writer standing known true waits (Working item (Lacking (OfRoom room)))))) c (session left total (Writing (writer standing known true waits Between))) (Said s (uttered_of item) [] (AreaFull limit) ∷ []) }
 {}
 

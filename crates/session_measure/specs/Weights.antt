@@ -2,16 +2,16 @@
 use Rattle.std.specs.Prelude.{ℕ, ◌+◌, ◌*◌, ◌-◌, List, [], ◌∷◌, length, Option, Some, None}
 use Rattle.rdo_ast.specs.Tree.{Uttered}
 use Rattle.lock_needs.specs.declared.party.OpenWant.{OpenWant}
-use Rattle.lock_tree_laws.specs.Forest.{opened_of}
+use Rattle.lock_tree_laws.specs.Forest.{State, opened_of}
 use Rattle.rdb_drive.specs.Boards.{Less}
 use Rattle.session_states.specs.declared.stage.Work.{Work}
 use Rattle.session_states.specs.declared.stage.Work.TheVariants.{Opening, Due, Out, Lacking, Housing, Fetching, Lodging}
 use Rattle.session_states.specs.declared.stage.Gather.{Gather}
-use Rattle.session_states.specs.declared.stage.Gather.TheVariants.{Locking, Reading as ReadingOf}
+use Rattle.session_states.specs.declared.stage.Gather.TheVariants as gather
 use Rattle.session_states.specs.declared.stage.Laying.{Laying}
 use Rattle.session_states.specs.declared.stage.Laying.TheVariants.{Claiming, Changing}
 use Rattle.session_states.specs.declared.stage.End.{End}
-use Rattle.session_states.specs.declared.stage.End.TheVariants.{Journal, Ready}
+use Rattle.session_states.specs.declared.stage.End.TheVariants.{Preparing, Journal, Ready}
 use Rattle.session_states.specs.declared.stage.Stage.{Stage}
 use Rattle.session_states.specs.declared.stage.Stage.TheVariants.{Between, Working, Gathering, Reserving, Saying, Ending}
 use Rattle.session_states.specs.declared.stage.ReaderWork.{ReaderWork}
@@ -24,7 +24,6 @@ use Rattle.session_states.specs.declared.stage.Life.{Life}
 use Rattle.session_states.specs.declared.stage.Life.TheVariants.{Alive, Dead, Gone}
 use Rattle.session_states.specs.declared.stage.Member.{Member}
 use Rattle.session_states.specs.States.{item_of, reader_item}
-use Rattle.session_states.specs.Shared.{Shared}
 
 -- ---- a death, and a recovery
 
@@ -50,33 +49,34 @@ items_left m = length m.left + items_in m.phase
 -- ---- how far a transaction, or a statement in it, has come
 
 abbrev pub work_rank : Work → ℕ
-work_rank Opening = 10
-work_rank work = 9
+work_rank Opening = 11
+work_rank work = 10
 
 abbrev pub laying_rank : Laying → ℕ
-laying_rank (Claiming place) = 7
-laying_rank Changing = 6
+laying_rank (Claiming place) = 8
+laying_rank Changing = 7
 
 abbrev pub end_rank : End → ℕ
+end_rank Preparing = 6
 end_rank Journal = 5
 end_rank Ready = 4
 end_rank end = 3
 
 abbrev pub stage_rank : Stage → ℕ
-stage_rank Between = 11
+stage_rank Between = 12
 stage_rank (Working item work) = work_rank work
-stage_rank (Gathering item gather later place) = 9
-stage_rank (Reserving item r locks place) = 8
+stage_rank (Gathering item gather later place) = 10
+stage_rank (Reserving item r locks place) = 9
 stage_rank (Saying item r laying) = laying_rank laying
 stage_rank (Ending end) = end_rank end
 
 abbrev pub reader_rank : ReaderStage → ℕ
-reader_rank look.Between = 11
-reader_rank (look.Working item work) = 9
+reader_rank look.Between = 12
+reader_rank (look.Working item work) = 10
 
 abbrev pub rank : Phase → ℕ
-rank Outside = 12
-rank Closing = 13
+rank Outside = 13
+rank Closing = 14
 rank (Writing w) = stage_rank w.stage
 rank (Reading r) = reader_rank r.stage
 rank Over = 0
@@ -114,11 +114,12 @@ round_left x = 0
 -- ---- what is done one after another
 
 abbrev pub gather_left : Gather → ℕ
-gather_left (Locking n) = 1
-gather_left (ReadingOf n) = 0
+gather_left (gather.Locking n) = 2
+gather_left (gather.Housing room key) = 1
+gather_left _ = 0
 
 abbrev pub places_in : Stage → ℕ
-places_in (Gathering item gather later place) = 2 * (length later - place) + gather_left gather
+places_in (Gathering item gather later place) = 3 * (length later - place) + gather_left gather
 places_in (Reserving item r locks place) = length locks - place
 places_in (Saying item r (Claiming place)) = length r.writes - place
 places_in stage = 0
@@ -135,13 +136,18 @@ unopened (Some w) = 0
 
 -- ---- the measure of a session
 
+-- What it looks at beside the session: the locks, and how often at most a call of the store for each session may still answer that there is more to do.
+pub record Beside : Type 0 where
+  pub locks : State
+  pub steps : ℕ → ℕ
+
 -- where its statement may be worked for so many rounds more
-abbrev pub weight : (rounds : ℕ) → Shared → ℕ → Member → List ℕ
+abbrev pub weight : (rounds : ℕ) → Beside → ℕ → Member → List ℕ
 weight rounds c s m =
-    life_left m.life ∷ items_left m ∷ rank m.phase ∷ rounds ∷ round_left m.phase ∷ places_left m.phase ∷ unopened (opened_of c.locks s) ∷ c.shelf.steps s ∷ []
+    life_left m.life ∷ items_left m ∷ rank m.phase ∷ rounds ∷ round_left m.phase ∷ places_left m.phase ∷ unopened (opened_of c.locks s) ∷ c.steps s ∷ []
 
 -- It falls, from so many rounds to so many.
-abbrev pub Falls : (k l : ℕ) → Shared → Shared → ℕ → (m n : Member) → Type 0
+abbrev pub Falls : (k l : ℕ) → Beside → Beside → ℕ → (m n : Member) → Type 0
 Falls k l c d s m n = Less (weight l d s n) (weight k c s m)
 
 -- number by number, where both have as many

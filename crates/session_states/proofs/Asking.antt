@@ -26,7 +26,7 @@ use Rattle.line_steps.specs.Steps.{Here, Steps}
 use Rattle.line_steps.proofs.Wants.{wants-all, wants-got}
 use Rattle.session_states.specs.declared.stage.Stage.{Stage}
 use Rattle.session_states.specs.declared.stage.Phase.TheVariants.{Writing}
-use Rattle.session_states.specs.Locks.{lock_of}
+use Rattle.session_states.specs.Locks.{lock_of, has_journal, HasJournal}
 use Rattle.session_states.specs.Turns.{got}
 use Rattle.session_states.specs.States.{item_of, writer, session}
 use Rattle.session_states.specs.Shared.{Shared, with_locks}
@@ -38,6 +38,7 @@ use Rattle.session_states.specs.Steps.{Step}
 use Rattle.session_states.proofs.Basics.{said-wants, said-got, nowait-wants, nowait-got, wants-none}
 use Rattle.session_states.proofs.Locking.{under-way, item-got, desk-wanting, desk-asks, stage-got, lock-asks, ends-got}
 use Rattle.session_states.proofs.Resting.{leaves-others, none-dead}
+use Rattle.session_states.proofs.Journal.{stage-off, journal-got}
 
 -- no want is open, or one of this need
 pub may-call : (p : Place) (locks : State) (s : ℕ) (n : Need) → IsTiedTo p locks → IsOf n (opened_of locks s) → MayWant p s n
@@ -85,11 +86,12 @@ module _ (M : Model) (orderly : IsOrderly M) where
               waits = nowait-wants o p s x n nodes is_open ∙ f.fits.phase.waits;
               stage = subst (λ ws. StageFits M c.word ws standing known spoken stage) (sym (wants-needs o p s x n nodes is_open s)) f.fits.phase.stage;
               wants = wants-of (lock_of stage) n (opened_of locks s) wants (subst (λ (y : Party). IsOf n y.opened) (sym stands) is);
+              journal = subst (λ (y : Party). HasJournal (has_journal stage) y.needs) (sym stands) f.fits.phase.journal;
               ends = f.fits.phase.ends;
-              claims = claims-stay o p (wanted_at s n nodes) s (wanted-nothing s n nodes) (ap is_some (wants-open o p s x n nodes is_open).1) stage f.fits.phase.claims;
+              claims = claims-stay c.shelf o p (wanted_at s n nodes) s (wanted-nothing c.shelf s n nodes) (ap is_some (wants-open o p s x n nodes is_open).1) stage f.fits.phase.claims;
             };
           };
-          counted = counted-events o p (wanted_at s n nodes) c.shelf (wanted-nothing s n nodes) f.counted;
+          counted = counted-events o p (wanted_at s n nodes) c.shelf (wanted-nothing c.shelf s n nodes) f.counted;
         };
   }
 
@@ -131,10 +133,11 @@ module _ (M : Model) (orderly : IsOrderly M) where
               waits = ap (λ (y : Place). is_nowait (y.transaction s)) grown ∙ (nowait-got o q s there.0 n there.1 ∙ (nowait-wants o p s x n nodes is_open ∙ f.fits.phase.waits));
               stage = subst (λ ws. StageFits M c.word ws standing known spoken (got stage)) (sym (ap (λ (y : Place). needs_at y s) grown ∙ has)) (stage-got M orderly c.word (needs_at p s) standing known spoken stage n wants f.fits.phase.stage);
               wants = wants-none (lock_of (got stage)) (opened_of locks s) (ap (λ (y : Party). y.opened) rests);
+              journal = subst (λ (y : Party). HasJournal (has_journal (got stage)) y.needs) (sym rests) (journal-got stage n wants (stage-off M orderly c.word (needs_at p s) standing known spoken stage f.fits.phase.stage) (needs_of c.locks s) f.fits.phase.journal);
               ends = ends-got left stage n wants;
-              claims = subst (λ (y : Place). ClaimsFit y s (got stage)) (sym grown) (claims-got o q s there.0 stage n there.1 wants (claims-stay o p (wanted_at s n nodes) s (wanted-nothing s n nodes) (ap is_some there.1) stage f.fits.phase.claims));
+              claims = subst (λ (y : Place). ClaimsFit y s (got stage)) (sym grown) (claims-got o q s there.0 stage n there.1 wants (claims-stay c.shelf o p (wanted_at s n nodes) s (wanted-nothing c.shelf s n nodes) (ap is_some there.1) stage f.fits.phase.claims));
             };
           };
-          counted = subst (λ (y : Place). IsCounted o y c.shelf) (sym grown) (counted-gets o q s there.0 n c.shelf there.1 (counted-events o p (wanted_at s n nodes) c.shelf (wanted-nothing s n nodes) f.counted));
+          counted = subst (λ (y : Place). IsCounted o y c.shelf) (sym grown) (counted-gets o q s there.0 n c.shelf there.1 (counted-events o p (wanted_at s n nodes) c.shelf (wanted-nothing c.shelf s n nodes) f.counted));
         };
   }

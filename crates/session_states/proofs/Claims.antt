@@ -14,15 +14,17 @@ use Rattle.line_view.specs.declared.writes.Write.{Write}
 use Rattle.rdb_account.specs.Events.{Event, Got, need as lock}
 use Rattle.rdb_account.specs.Places.{Opening, Place, Transaction, after, place_from, changed, with_need}
 use Rattle.kept_apart.specs.Guards.{line_node}
+use Rattle.line_store.specs.Shelves.{Shelf}
 use Rattle.lock_ties.specs.Ties.{wanted_at}
 use Rattle.lock_ties.proofs.Places.{at-same}
 use Rattle.store_counts.specs.Counts.{written_of, is_on_line, is_claimed, AreClaimed}
 use Rattle.store_counts.specs.Events.{CountNothing}
 use Rattle.store_counts.proofs.Lines.{claimed-on}
 use Rattle.store_counts.proofs.Places.{HasMore, more-same, claimed-more, events-stay, touched-on}
+use Rattle.session_states.specs.declared.stage.Gather.TheVariants as gather
 use Rattle.session_states.specs.declared.stage.Work.TheVariants.{Opening as OpeningIt, Due, Out, Lacking, Housing, Fetching, Lodging}
 use Rattle.session_states.specs.declared.stage.Laying.TheVariants.{Claiming, Changing}
-use Rattle.session_states.specs.declared.stage.End.TheVariants.{Journal, Ready, Committing, RollingBack, Leaving}
+use Rattle.session_states.specs.declared.stage.End.TheVariants.{Preparing, Journal, Ready, Committing, RollingBack, Leaving}
 use Rattle.session_states.specs.declared.stage.Stage.{Stage}
 use Rattle.session_states.specs.declared.stage.Stage.TheVariants.{Between, Working, Gathering, Reserving, Saying, Ending}
 use Rattle.session_states.specs.Locks.{lock_of}
@@ -40,15 +42,18 @@ claims-more p q s touched written (Working item (Lacking n)) h = tt
 claims-more p q s touched written (Working item (Housing room key)) h = tt
 claims-more p q s touched written (Working item (Fetching n)) h = tt
 claims-more p q s touched written (Working item (Lodging room key)) h = claimed-more p q s s touched written key h
-claims-more p q s touched written (Gathering item gather later place) h = tt
+claims-more p q s touched written (Gathering item (gather.Locking n) later place) h = tt
+claims-more p q s touched written (Gathering item (gather.Housing room key) later place) h = tt
+claims-more p q s touched written (Gathering item (gather.Reading n) later place) h = tt
+claims-more p q s touched written (Gathering item (gather.Lodging room key) later place) h = claimed-more p q s s touched written key h
 claims-more p q s touched written (Reserving item r locks place) h = tt
 claims-more p q s touched written (Saying item r (Claiming place)) h = claimed-on p q s s (claimed-more p q s s touched written) (take place r.writes) h
 claims-more p q s touched written (Saying item r Changing) h = tt
 claims-more p q s touched written (Ending end) h = tt
 
-pub claims-stay : (o : Opening) (p : Place) (es : List Event) (s : ℕ) → CountNothing es → is_some ((place_from o p es).transaction s) ≡ true → (stage : Stage) → ClaimsFit p s stage → ClaimsFit (place_from o p es) s stage
-claims-stay o p es s none is_open =
-    let stay = events-stay o p es none in
+pub claims-stay : (h : Shelf) (o : Opening) (p : Place) (es : List Event) (s : ℕ) → CountNothing h es → is_some ((place_from o p es).transaction s) ≡ true → (stage : Stage) → ClaimsFit p s stage → ClaimsFit (place_from o p es) s stage
+claims-stay h o p es s none is_open =
+    let stay = events-stay h o p es none in
     claims-more p (place_from o p es) s (touched-on o p es) (more-same (written_of (p.transaction s)) (written_of ((place_from o p es).transaction s)) (sym (stay.written s is_open)))
 
 -- ---- a lock is got
@@ -109,7 +114,11 @@ claims-got o q s y (Working item (Housing room key)) n is_open wants h =
     subst (λ (m : Need). is_claimed (after o q (Got s m)) s key ≡ true) (same_Some (line_lock key) n wants) (got-claimed o q s y key is_open)
 claims-got o q s y (Working item (Fetching m)) n is_open wants h = tt
 claims-got o q s y (Working item (Lodging room key)) n is_open wants h = absurd (none-some n wants)
-claims-got o q s y (Gathering item gather later place) n is_open wants h = tt
+claims-got o q s y (Gathering item (gather.Locking m) later place) n is_open wants h = tt
+claims-got o q s y (Gathering item (gather.Housing room key) later place) n is_open wants h =
+    subst (λ (m : Need). is_claimed (after o q (Got s m)) s key ≡ true) (same_Some (line_lock key) n wants) (got-claimed o q s y key is_open)
+claims-got o q s y (Gathering item (gather.Reading m) later place) n is_open wants h = tt
+claims-got o q s y (Gathering item (gather.Lodging room key) later place) n is_open wants h = absurd (none-some n wants)
 claims-got o q s y (Reserving item r locks place) n is_open wants h = tt
 claims-got o q s y (Saying item r (Claiming place)) n is_open wants h =
     let at = write-at r.writes place n wants in
@@ -121,6 +130,7 @@ claims-got o q s y (Saying item r (Claiming place)) n is_open wants h =
     one : (k : ℕ) → suc k ≡ k + 1
     one k = omega arith
 claims-got o q s y (Saying item r Changing) n is_open wants h = absurd (none-some n wants)
+claims-got o q s y (Ending Preparing) n is_open wants h = tt
 claims-got o q s y (Ending Journal) n is_open wants h = tt
 claims-got o q s y (Ending Ready) n is_open wants h = tt
 claims-got o q s y (Ending Committing) n is_open wants h = tt
@@ -129,10 +139,10 @@ claims-got o q s y (Ending Leaving) n is_open wants h = tt
 
 -- ---- the events of a call
 
-pub wanted-nothing : (s : ℕ) (n : Need) (nodes : List Node) → CountNothing (wanted_at s n nodes)
-wanted-nothing s n [] = tt
-wanted-nothing s n (node ∷ nodes) = (tt, wanted-nothing s n nodes)
+pub wanted-nothing : (h : Shelf) (s : ℕ) (n : Need) (nodes : List Node) → CountNothing h (wanted_at s n nodes)
+wanted-nothing h s n [] = tt
+wanted-nothing h s n (node ∷ nodes) = (tt, wanted-nothing h s n nodes)
 
-pub both-nothing : (es fs : List Event) → CountNothing es → CountNothing fs → CountNothing (es ++ fs)
-both-nothing [] fs h k = k
-both-nothing (e ∷ es) fs h k = (h.0, both-nothing es fs h.1 k)
+pub both-nothing : (x : Shelf) (es fs : List Event) → CountNothing x es → CountNothing x fs → CountNothing x (es ++ fs)
+both-nothing x [] fs h k = k
+both-nothing x (e ∷ es) fs h k = (h.0, both-nothing x es fs h.1 k)

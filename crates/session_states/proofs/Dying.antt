@@ -16,7 +16,7 @@ use Rattle.line_view.specs.Held.{Held, knows, nothing}
 use Rattle.line_view.specs.Knowledge.{Lines}
 use Rattle.line_view.specs.Writes.{laid_all}
 use Rattle.session_jobs.specs.Records.{Model, IsOrderly}
-use Rattle.line_store.specs.Seats.{Seat, outside as seat_outside, beginning, writing as seat_writing, changing, committing, rolling_back, closing, reading as seat_reading, dead, is_committing, writes_of, in_flight, done_at, died}
+use Rattle.line_store.specs.Seats.{Seat, outside as seat_outside, beginning, writing as seat_writing, changing, prepared, committing, rolling_back, closing, reading as seat_reading, dead, is_committing, writes_of, in_flight, done_at, died}
 use Rattle.line_store.specs.Shelves.{Shelf}
 use Rattle.line_store.specs.Calls.{Moves, IsUndone, IsSaved}
 use Rattle.line_steps.specs.Members.{State, member, fallen, recovered, writing, awaited, life_of}
@@ -26,7 +26,7 @@ use Rattle.line_steps.proofs.Dying.{dies, recovers-undone, recovers-committed}
 use Rattle.line_steps.proofs.Kept.{in-turn, elapses}
 use Rattle.session_states.specs.declared.stage.Work.TheVariants.{Opening as OpeningIt, Due, Out, Lacking, Housing, Fetching, Lodging}
 use Rattle.session_states.specs.declared.stage.Laying.TheVariants.{Claiming, Changing}
-use Rattle.session_states.specs.declared.stage.End.TheVariants.{Journal, Ready, Committing, RollingBack, Leaving}
+use Rattle.session_states.specs.declared.stage.End.TheVariants.{Preparing, Journal, Ready, Committing, RollingBack, Leaving}
 use Rattle.session_states.specs.declared.stage.Stage.{Stage}
 use Rattle.session_states.specs.declared.stage.Stage.TheVariants.{Between, Working, Gathering, Reserving, Saying, Ending}
 use Rattle.session_states.specs.declared.stage.Phase.{Phase}
@@ -40,7 +40,9 @@ use Rattle.session_states.proofs.Ends.{committed-place, gone-tied}
 use Rattle.session_states.proofs.Flying.{phase-journal}
 use Rattle.lock_ties.proofs.Places.{at-same}
 use Rattle.store_counts.proofs.Kept.{counted-events}
-use Rattle.session_states.proofs.Counting.{counted-moved, counted-ended, counted-committed}
+use Rattle.session_states.proofs.Counting.{died-aside, counted-moved, counted-ended, counted-committed}
+use Rattle.session_states.proofs.Journal.{life-keeps}
+use Rattle.session_states.specs.declared.stage.Life.TheVariants.{Alive}
 
 -- ---- states
 
@@ -57,6 +59,7 @@ stage-commits (Working item work) h = absurd (false≢true h)
 stage-commits (Gathering item gather later place) h = absurd (false≢true h)
 stage-commits (Reserving item r locks place) h = absurd (false≢true h)
 stage-commits (Saying item r laying) h = absurd (false≢true h)
+stage-commits (Ending Preparing) h = absurd (false≢true h)
 stage-commits (Ending Journal) h = absurd (false≢true h)
 stage-commits (Ending Ready) h = absurd (false≢true h)
 stage-commits (Ending Committing) h = refl
@@ -78,6 +81,7 @@ undone-idle seat_outside h = refl
 undone-idle beginning h = refl
 undone-idle (seat_writing ws) h = refl
 undone-idle (changing ws) h = refl
+undone-idle (prepared ws) h = absurd (none-some seat_outside h)
 undone-idle (committing ws) h = absurd (none-some seat_outside h)
 undone-idle (rolling_back ws) h = refl
 undone-idle closing h = refl
@@ -109,6 +113,7 @@ module _ (M : Model) (orderly : IsOrderly M) where
   stage-seat p g c s standing known (Reserving item r locks place) f = idle g c s (ap is_committing f.1)
   stage-seat p g c s standing known (Saying item r (Claiming place)) f = idle g c s (ap is_committing f.1)
   stage-seat p g c s standing known (Saying item r Changing) f = idle g c s (ap is_committing f.seat)
+  stage-seat p g c s standing known (Ending Preparing) f = idle g c s (ap is_committing f.1)
   stage-seat p g c s standing known (Ending Journal) f = idle g c s (ap is_committing f.1)
   stage-seat p g c s standing known (Ending Ready) f = idle g c s (ap is_committing f.1)
   stage-seat p g c s standing known (Ending Committing) f = (ap is_committing f.1, λ h. ap writes_of f.1)
@@ -145,9 +150,9 @@ module _ (M : Model) (orderly : IsOrderly M) where
           fits = record {
             ground = record { now = f.fits.ground.now ∙ sym moves.now; time = refl; dead = ap (λ (d : ℕ). d + 1) f.fits.ground.dead };
             tied = record { needs = f.fits.tied.needs; asks = f.fits.tied.asks; wants = f.fits.tied.wants };
-            phase = record { writes = writes_of (c.shelf.seat s); seat = moves.mine ∙ ap (λ b. dead b (writes_of (c.shelf.seat s))) seat.0; same = seat.1; flies = phase-journal M orderly p g c s left x f.fits.phase f.fits.tied };
+            phase = record { writes = writes_of (c.shelf.seat s); seat = moves.mine ∙ ap (λ b. dead b (writes_of (c.shelf.seat s))) seat.0; same = seat.1; flies = phase-journal M orderly p g c s left x f.fits.phase f.fits.tied; journal = life-keeps M orderly o p g c s left total x Alive f.found.stands (f.fits.tied.needs s) f.fits.phase };
           };
-          counted = counted-events o p (Died s cause ∷ []) shelf (tt, tt) (counted-moved o p s (died (c.shelf.seat s)) c.shelf shelf moves (λ e. refl) f.counted);
+          counted = counted-events o p (Died s cause ∷ []) shelf (tt, tt) (counted-moved o p s (died (c.shelf.seat s)) c.shelf shelf moves (λ e. refl) (died-aside (c.shelf.seat s)) f.counted);
         };
   }
 
@@ -168,9 +173,9 @@ module _ (M : Model) (orderly : IsOrderly M) where
       fits = record {
         ground = record { now = f.fits.ground.now ∙ sym moves.now; time = refl; dead = f.fits.ground.dead };
         tied = f.fits.tied;
-        phase = record { writes = f.fits.phase.writes; seat = moves.mine ∙ f.fits.phase.seat; same = f.fits.phase.same; flies = f.fits.phase.flies };
+        phase = record { writes = f.fits.phase.writes; seat = moves.mine ∙ f.fits.phase.seat; same = f.fits.phase.same; flies = f.fits.phase.flies; journal = f.fits.phase.journal };
       };
-      counted = counted-moved o p s (c.shelf.seat s) c.shelf shelf moves (λ e. refl) f.counted;
+      counted = counted-moved o p s (c.shelf.seat s) c.shelf shelf moves (λ e. refl) (omega arith) f.counted;
     };
   }
 
@@ -195,7 +200,7 @@ module _ (M : Model) (orderly : IsOrderly M) where
             tied = gone-tied p (after o p (Recovered s false moment)) c.locks locks s f.fits.tied rests (λ t. refl) refl;
             phase = (done.moves.mine, rests.ended);
           };
-          counted = counted-ended o p (Recovered s false moment ∷ []) s seat_outside c.shelf shelf (tt, tt) (at-same s None p.transaction) done.moves f.counted;
+          counted = counted-ended o p (Recovered s false moment ∷ []) s seat_outside c.shelf shelf (λ x e. (e, tt)) refl (at-same s None p.transaction) done.moves f.counted;
         };
   }
 
@@ -231,6 +236,6 @@ module _ (M : Model) (orderly : IsOrderly M) where
             tied = gone-tied p (after o p (Recovered s true moment)) c.locks locks s f.fits.tied rests (λ t. ap (λ (e : ℕ → Option Transaction). e t) one.0) one.1;
             phase = (done.commits.mine, rests.ended);
           };
-          counted = counted-committed o p (after o p (Recovered s true moment)) s moment w.transaction done.writes seat_outside c.shelf shelf w.is_open w.writes (sym (ap writes_of done.was)) done.commits (λ t. ap (λ (e : ℕ → Option Transaction). e t) one.0) refl refl refl f.counted;
+          counted = counted-committed o p (after o p (Recovered s true moment)) s moment w.transaction done.writes seat_outside c.shelf shelf w.is_open w.writes (sym (ap writes_of done.was)) done.commits refl (λ t. ap (λ (e : ℕ → Option Transaction). e t) one.0) refl refl refl f.counted;
         };
   }

@@ -36,7 +36,7 @@ use Rattle.session_states.proofs.Ends.{rolled-place, committed-place, then-said,
 use Rattle.session_states.proofs.Resting.{found-here, none-dead, time-later, rests-on}
 use Rattle.lock_ties.proofs.Places.{at-same}
 use Rattle.store_counts.proofs.Kept.{counted-events}
-use Rattle.session_states.proofs.Counting.{counted-moved, counted-ended, counted-committed, rolled-writes}
+use Rattle.session_states.proofs.Counting.{counted-moved, counted-ended, counted-committed, rolled-writes, rolled-aside, done-aside}
 
 pub is-open : (x : Option Transaction) (t : Transaction) → x ≡ Some t → has_none x ≡ false
 is-open x t e = ap has_none e
@@ -76,11 +76,12 @@ module _ (M : Model) (orderly : IsOrderly M) where
               waits = f.fits.phase.waits;
               stage = (f.fits.phase.stage, tt);
               wants = f.fits.phase.wants;
+              journal = f.fits.phase.journal;
               ends = tt;
               claims = tt;
             };
           };
-          counted = counted-moved o p s (rolled_back (c.shelf.seat s)) c.shelf shelf moves (λ e. rolled-writes (c.shelf.seat s)) f.counted;
+          counted = counted-moved o p s (rolled_back (c.shelf.seat s)) c.shelf shelf moves (λ e. rolled-writes (c.shelf.seat s)) (rolled-aside (c.shelf.seat s)) f.counted;
         };
   }
 
@@ -89,13 +90,14 @@ module _ (M : Model) (orderly : IsOrderly M) where
       Step M s c (session [] total (Writing (writer standing known spoken waits Between))) (with_shelf shelf c) (session [] total (Writing (writer standing known spoken waits (Ending Leaving)))) []
   leaves-on s c shelf total standing known spoken waits moves =
       rests-on M orderly s c shelf [] total (Writing (writer standing known spoken waits Between)) (Writing (writer standing known spoken waits (Ending Leaving))) refl moves.others moves.now
-      (λ o p g f. counted-moved o p s (rolled_back (c.shelf.seat s)) c.shelf shelf moves (λ e. rolled-writes (c.shelf.seat s)) f.counted)
+      (λ o p g f. counted-moved o p s (rolled_back (c.shelf.seat s)) c.shelf shelf moves (λ e. rolled-writes (c.shelf.seat s)) (rolled-aside (c.shelf.seat s)) f.counted)
       (λ o p g f. record {
         desk = (f.fits.phase.desk.0, moves.mine ∙ ap rolled_back f.fits.phase.desk.1);
         spoken = f.fits.phase.spoken;
         waits = f.fits.phase.waits;
         stage = (f.fits.phase.stage, tt);
         wants = f.fits.phase.wants;
+        journal = f.fits.phase.journal;
         ends = refl;
         claims = tt;
       })
@@ -125,7 +127,7 @@ module _ (M : Model) (orderly : IsOrderly M) where
             tied = gone-tied p (after o q (Said s (said rollback) [] (r.Done []))) c.locks locks s f.fits.tied rests (λ t. ap (λ (e : ℕ → Option Transaction). e t) two.0) two.1;
             phase = (undone-seat c shelf s (g.desk s).writes f.fits.phase.desk.1 done, rests.ended);
           };
-          counted = counted-ended o p (RolledBack s ∷ Said s (said rollback) [] (r.Done []) ∷ []) s done.seat c.shelf shelf (tt, (tt, tt)) (ap (λ (e : ℕ → Option Transaction). e s) two.0 ∙ at-same s None p.transaction) done.moves f.counted;
+          counted = counted-ended o p (RolledBack s ∷ Said s (said rollback) [] (r.Done []) ∷ []) s done.seat c.shelf shelf (λ y e. (e, (tt, tt))) (done-aside (c.shelf.seat s) done.seat done.comes) (ap (λ (e : ℕ → Option Transaction). e s) two.0 ∙ at-same s None p.transaction) done.moves f.counted;
         };
   }
 
@@ -151,7 +153,7 @@ module _ (M : Model) (orderly : IsOrderly M) where
             tied = gone-tied p (after o p (RolledBack s)) c.locks locks s f.fits.tied rests (λ t. ap (λ (e : ℕ → Option Transaction). e t) one.0) one.1;
             phase = (undone-seat c shelf s (g.desk s).writes f.fits.phase.desk.1 done, rests.ended);
           };
-          counted = counted-ended o p (RolledBack s ∷ []) s done.seat c.shelf shelf (tt, tt) (ap (λ (e : ℕ → Option Transaction). e s) one.0 ∙ at-same s None p.transaction) done.moves f.counted;
+          counted = counted-ended o p (RolledBack s ∷ []) s done.seat c.shelf shelf (λ y e. (e, tt)) (done-aside (c.shelf.seat s) done.seat done.comes) (ap (λ (e : ℕ → Option Transaction). e s) one.0 ∙ at-same s None p.transaction) done.moves f.counted;
         };
   }
 
@@ -181,7 +183,7 @@ module _ (M : Model) (orderly : IsOrderly M) where
             phase = (ap done_at done.commits.mine, rests.ended);
           };
           counted = counted-events o q (Said s (said commit) [] (r.Done []) ∷ []) shelf (tt, tt)
-              (counted-committed o p q s moment w.transaction done.writes closing c.shelf shelf w.is_open w.writes (sym (ap writes_of done.was)) done.commits (λ t. ap (λ (e : ℕ → Option Transaction). e t) one.0) refl refl refl f.counted);
+              (counted-committed o p q s moment w.transaction done.writes closing c.shelf shelf w.is_open w.writes (sym (ap writes_of done.was)) done.commits refl (λ t. ap (λ (e : ℕ → Option Transaction). e t) one.0) refl refl refl f.counted);
         };
   }
     where

@@ -14,13 +14,13 @@ use Rattle.line_view.specs.declared.writes.Write.{Write}
 use Rattle.line_view.specs.Held.{Held}
 use Rattle.kept_apart.specs.Guards.{may_write}
 use Rattle.session_jobs.specs.Records.{Model, IsOrderly}
-use Rattle.line_store.specs.Seats.{Seat, outside, beginning, writing, changing, committing, rolling_back, closing, reading, dead, in_flight, done_at}
+use Rattle.line_store.specs.Seats.{Seat, outside, beginning, writing, changing, prepared, committing, rolling_back, closing, reading, dead, in_flight, done_at}
 use Rattle.lock_ties.specs.Ties.{IsTiedTo, needs_at}
 use Rattle.line_steps.specs.Images.{journal_node}
 use Rattle.line_steps.specs.Right.{Ground}
 use Rattle.session_states.specs.declared.stage.Work.TheVariants.{Opening as OpeningIt, Due, Out, Lacking, Housing, Fetching, Lodging}
 use Rattle.session_states.specs.declared.stage.Laying.TheVariants.{Claiming, Changing}
-use Rattle.session_states.specs.declared.stage.End.TheVariants.{Journal, Ready, Committing, RollingBack, Leaving}
+use Rattle.session_states.specs.declared.stage.End.TheVariants.{Preparing, Journal, Ready, Committing, RollingBack, Leaving}
 use Rattle.session_states.specs.declared.stage.Stage.{Stage}
 use Rattle.session_states.specs.declared.stage.Stage.TheVariants.{Between, Working, Gathering, Reserving, Saying, Ending}
 use Rattle.session_states.specs.declared.stage.Phase.{Phase}
@@ -42,6 +42,7 @@ done-idle outside h = refl
 done-idle beginning h = refl
 done-idle (writing ws) h = refl
 done-idle (changing ws) h = refl
+done-idle (prepared ws) h = absurd (none-some outside h)
 done-idle (committing ws) h = absurd (none-some outside h)
 done-idle (rolling_back ws) h = refl
 done-idle closing h = refl
@@ -70,7 +71,8 @@ module _ (M : Model) (orderly : IsOrderly M) where
   stage-flies word p g c s standing known spoken (Reserving item r locks place) f st ws h = absurd (idle-seat (c.shelf.seat s) (writing (g.desk s).writes) ws f.1 refl h)
   stage-flies word p g c s standing known spoken (Saying item r (Claiming place)) f st ws h = absurd (idle-seat (c.shelf.seat s) (writing (g.desk s).writes) ws f.1 refl h)
   stage-flies word p g c s standing known spoken (Saying item r Changing) f st ws h = absurd (idle-seat (c.shelf.seat s) (changing f.behind) ws f.seat refl h)
-  stage-flies word p g c s standing known spoken (Ending Journal) f st ws h = absurd (idle-seat (c.shelf.seat s) (writing (g.desk s).writes) ws f.1 refl h)
+  stage-flies word p g c s standing known spoken (Ending Preparing) f st ws h = absurd (idle-seat (c.shelf.seat s) (writing (g.desk s).writes) ws f.1 refl h)
+  stage-flies word p g c s standing known spoken (Ending Journal) f st ws h = absurd (idle-seat (c.shelf.seat s) (prepared (g.desk s).writes) ws f.1 refl h)
   stage-flies word p g c s standing known spoken (Ending Ready) f st ws h = st.1
   stage-flies word p g c s standing known spoken (Ending Committing) f st ws h = st.1
   stage-flies word p g c s standing known spoken (Ending RollingBack) f st ws h = absurd (idle-seat (c.shelf.seat s) (rolling_back (g.desk s).writes) ws f.1 refl h)
@@ -97,6 +99,7 @@ module _ (M : Model) (orderly : IsOrderly M) where
   stage-journal word got standing known spoken (Gathering item gather later place) f h = absurd (false≢true h)
   stage-journal word got standing known spoken (Reserving item r locks place) f h = absurd (false≢true h)
   stage-journal word got standing known spoken (Saying item r laying) f h = absurd (false≢true h)
+  stage-journal word got standing known spoken (Ending Preparing) f h = absurd (false≢true h)
   stage-journal word got standing known spoken (Ending Journal) f h = absurd (false≢true h)
   stage-journal word got standing known spoken (Ending Ready) f h = absurd (false≢true h)
   stage-journal word got standing known spoken (Ending Committing) f h = f.1

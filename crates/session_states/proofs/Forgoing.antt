@@ -1,10 +1,12 @@
 -- No memory was found for a statement.
-use Rattle.std.proofs.Common.{◌≡◌, ℕ, ◌∷◌, [], ◌&&◌, Bool, true, false, List, map, refl, ◌∙◌, subst, Some}
+use Rattle.std.proofs.Common.{◌≡◌, ℕ, ◌∷◌, [], ◌&&◌, Bool, true, false, List, map, refl, ◌∙◌, sym, subst, Some}
 use Rattle.rdo_ast.specs.declared.reply.Reply.TheVariants.{NoMemory}
 use Rattle.rdo_ast.specs.declared.reply.Standing.{Standing}
 use Rattle.rdo_ast.specs.declared.syntax.Item.{Item}
 use Rattle.rdo_ast.specs.Tree.{Uttered}
 use Rattle.rdo_ast.specs.Views.{uttered_of}
+use Rattle.lock_needs.specs.declared.need.Need.{Need}
+use Rattle.lock_needs.specs.Waits.{converts_at}
 use Rattle.lock_tree_laws.specs.Forest.{State}
 use Rattle.lock_tree_laws.specs.Wanted.{needs_of}
 use Rattle.rdb_account.specs.Events.{Said}
@@ -26,6 +28,8 @@ use Rattle.session_states.specs.Steps.{Step}
 use Rattle.session_states.proofs.Basics.{said-first}
 use Rattle.session_states.proofs.Ends.{needs-still}
 use Rattle.session_states.proofs.Locking.{desk-resting}
+use Rattle.session_states.proofs.Journal.{resting-free}
+use Rattle.line_steps.specs.Images.{journal_node}
 use Rattle.session_states.proofs.Resting.{leaves-others}
 use Rattle.store_counts.proofs.Kept.{counted-events}
 use Rattle.session_states.proofs.Storing.{said-needs, said-more, nowait-said}
@@ -62,6 +66,7 @@ module _ (M : Model) (orderly : IsOrderly M) where
               waits = nowait-said o p s w.transaction l w.is_open ∙ f.fits.phase.waits;
               stage = refl;
               wants = rests.ended;
+              journal = subst (λ (ws : List Need). converts_at ws journal_node ≡ false) (sym rests.needs) (resting-free stage (needs_of c.locks s) idle f.fits.phase.journal);
               ends = tt;
               claims = tt;
             };

@@ -24,3 +24,5 @@ pub mod Flying
 pub mod Reserving
 pub mod ReaderStarts
 pub mod Gathering
+pub mod Journal
+pub mod Preparing

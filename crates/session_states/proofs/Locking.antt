@@ -16,6 +16,7 @@ use Rattle.rdb_meaning.specs.declared.tables.Tables.{Tables}
 use Rattle.lock_needs.specs.declared.need.Need.{Need as LockNeed}
 use Rattle.rdb_account.specs.Events.{need as lock}
 use Rattle.rdb_account.specs.Places.{Opening, Place, is_writer}
+use Rattle.rdb_account.specs.Legal.{ends_by}
 use Rattle.rdb_account.specs.AskedFor.{area_node, is_need, is_on_journal, is_on_line_of}
 use Rattle.line_view.specs.declared.need.Need.TheVariants as need
 use Rattle.line_view.specs.declared.writes.Write.{Write}
@@ -27,20 +28,19 @@ use Rattle.session_jobs.specs.Asked.{AsksFor, area_mode, is_definition, is_lock_
 use Rattle.session_jobs.specs.Jobs.{WhereItAgrees, AreAsked}
 use Rattle.line_history.specs.Transactions.{IsAskedOver}
 use Rattle.line_history.proofs.Needs.{journal-asked, found-asked}
-use Rattle.line_store.specs.Seats.{writing as seat_writing}
+use Rattle.line_store.specs.Seats.{Seat, writing as seat_writing, prepared}
 use Rattle.lock_ties.proofs.Places.{same-number, number}
 use Rattle.lock_ties.proofs.Single.{need-self}
 use Rattle.line_steps.specs.Right.{Ground, Writes}
 use Rattle.line_steps.proofs.Wants.{takes-locks}
 use Rattle.session_states.specs.declared.stage.Work.TheVariants.{Opening as OpeningIt, Due, Out, Lacking, Housing, Fetching, Lodging}
-use Rattle.session_states.specs.declared.stage.Gather.TheVariants.{Locking, Reading}
+use Rattle.session_states.specs.declared.stage.Gather.TheVariants as gather
 use Rattle.session_states.specs.declared.stage.Laying.TheVariants.{Claiming, Changing}
-use Rattle.session_states.specs.declared.stage.End.TheVariants.{Journal, Ready, Committing, RollingBack, Leaving}
+use Rattle.session_states.specs.declared.stage.End.TheVariants.{Preparing, Journal, Ready, Committing, RollingBack, Leaving}
 use Rattle.session_states.specs.declared.stage.Stage.{Stage}
 use Rattle.session_states.specs.declared.stage.Stage.TheVariants.{Between, Working, Gathering, Reserving, Saying, Ending}
 use Rattle.session_states.specs.Locks.{lock_for_area, lock_for_line, lock_of_write, lock_of}
 use Rattle.session_states.specs.Turns.{got}
-use Rattle.rdb_account.specs.Places.{Transaction}
 use Rattle.session_states.specs.declared.stage.Phase.TheVariants.{Writing}
 use Rattle.session_states.specs.States.{item_of, is_at_rest, writer, session}
 use Rattle.session_states.specs.Shared.{Shared}
@@ -98,6 +98,7 @@ under-way (Working item work) n wants = (uttered_of item, refl)
 under-way (Gathering item gather later place) n wants = (uttered_of item, refl)
 under-way (Reserving item r locks place) n wants = (uttered_of item, refl)
 under-way (Saying item r laying) n wants = (uttered_of item, refl)
+under-way (Ending Preparing) n wants = absurd (none-some n wants)
 under-way (Ending Journal) n wants = (said commit, refl)
 under-way (Ending Ready) n wants = absurd (none-some n wants)
 under-way (Ending Committing) n wants = absurd (none-some n wants)
@@ -110,6 +111,7 @@ item-got (Working item work) = refl
 item-got (Gathering item gather later place) = refl
 item-got (Reserving item r locks place) = refl
 item-got (Saying item r laying) = refl
+item-got (Ending Preparing) = refl
 item-got (Ending Journal) = refl
 item-got (Ending Ready) = refl
 item-got (Ending Committing) = refl
@@ -123,6 +125,7 @@ ends-got left (Working item work) n wants = tt
 ends-got left (Gathering item gather later place) n wants = tt
 ends-got left (Reserving item r locks place) n wants = tt
 ends-got left (Saying item r laying) n wants = tt
+ends-got left (Ending Preparing) n wants = absurd (none-some n wants)
 ends-got left (Ending Journal) n wants = tt
 ends-got left (Ending Ready) n wants = absurd (none-some n wants)
 ends-got left (Ending Committing) n wants = absurd (none-some n wants)
@@ -134,7 +137,7 @@ not-so true h = sym h
 not-so false h = refl
 
 -- what is so of all is so of one
-at-place : (P : LockNeed → Type 0) (ns : List LockNeed) (place : ℕ) (n : LockNeed) → slice_get ns place ≡ Some n → AllByRecursion P ns → P n
+pub at-place : (P : LockNeed → Type 0) (ns : List LockNeed) (place : ℕ) (n : LockNeed) → slice_get ns place ≡ Some n → AllByRecursion P ns → P n
 at-place P [] place n found all = absurd (none-some n found)
 at-place P (m ∷ ns) zero n found all = subst P (same_Some m n found) all.0
 at-place P (m ∷ ns) (suc place) n found all = at-place P ns place n found all.1
@@ -165,10 +168,36 @@ got-next has ns place n found all =
     one : (k : ℕ) → suc k ≡ k + 1
     one k = omega arith
 
+-- where the store has a session that wants a lock
+abbrev pub seat_wanting : Stage → List Write → Seat
+seat_wanting (Ending end) ws = prepared ws
+seat_wanting stage ws = seat_writing ws
+
+-- a statement that doesn't end its transaction wants its locks while the store rests
+pub wanting-rests : (stage : Stage) (n : LockNeed) (item : Uttered) → lock_of stage ≡ Some n → item_of stage ≡ Some item → ends_by item ≡ false → is_at_rest stage ≡ true
+wanting-rests Between n item wants is stays = refl
+wanting-rests (Working i OpeningIt) n item wants is stays = absurd (none-some n wants)
+wanting-rests (Working i Due) n item wants is stays = refl
+wanting-rests (Working i Out) n item wants is stays = refl
+wanting-rests (Working i (Lacking lack)) n item wants is stays = refl
+wanting-rests (Working i (Housing room key)) n item wants is stays = refl
+wanting-rests (Working i (Fetching lack)) n item wants is stays = refl
+wanting-rests (Working i (Lodging room key)) n item wants is stays = refl
+wanting-rests (Gathering i gather later place) n item wants is stays = refl
+wanting-rests (Reserving i r locks place) n item wants is stays = refl
+wanting-rests (Saying i r (Claiming place)) n item wants is stays = refl
+wanting-rests (Saying i r Changing) n item wants is stays = absurd (none-some n wants)
+wanting-rests (Ending Preparing) n item wants is stays = refl
+wanting-rests (Ending Journal) n item wants is stays = absurd (false≢true (sym stays ∙ ap ends_by (sym (same_Some (said commit) item is))))
+wanting-rests (Ending Ready) n item wants is stays = absurd (none-some n wants)
+wanting-rests (Ending Committing) n item wants is stays = absurd (none-some n wants)
+wanting-rests (Ending RollingBack) n item wants is stays = absurd (none-some n wants)
+wanting-rests (Ending Leaving) n item wants is stays = absurd (none-some n wants)
+
 module _ (M : Model) (orderly : IsOrderly M) where
-  -- a stage that wants a lock has its desk as it knows, and its seat writes
+  -- a stage that wants a lock has its desk as it knows, and its seat writes, or is prepared where it wants the journal
   pub desk-wanting : (p : Place) (g : Ground) (c : Shared) (s : ℕ) (standing : Standing) (known : Held) (stage : Stage) (n : LockNeed) → lock_of stage ≡ Some n → DeskFits M p g c s standing known stage →
-      ((g.desk s).known ≡ knows known) × (c.shelf.seat s ≡ seat_writing (g.desk s).writes)
+      ((g.desk s).known ≡ knows known) × (c.shelf.seat s ≡ seat_wanting stage (g.desk s).writes)
   desk-wanting p g c s standing known Between n wants f = absurd (none-some n wants)
   desk-wanting p g c s standing known (Working item OpeningIt) n wants f = absurd (none-some n wants)
   desk-wanting p g c s standing known (Working item Due) n wants f = absurd (none-some n wants)
@@ -181,6 +210,7 @@ module _ (M : Model) (orderly : IsOrderly M) where
   desk-wanting p g c s standing known (Reserving item r locks place) n wants f = f
   desk-wanting p g c s standing known (Saying item r (Claiming place)) n wants f = f
   desk-wanting p g c s standing known (Saying item r Changing) n wants f = absurd (none-some n wants)
+  desk-wanting p g c s standing known (Ending Preparing) n wants f = absurd (none-some n wants)
   desk-wanting p g c s standing known (Ending Journal) n wants f = f
   desk-wanting p g c s standing known (Ending Ready) n wants f = absurd (none-some n wants)
   desk-wanting p g c s standing known (Ending Committing) n wants f = absurd (none-some n wants)
@@ -202,15 +232,16 @@ module _ (M : Model) (orderly : IsOrderly M) where
   desk-resting p g c s standing known (Reserving item r locks place) idle f = f
   desk-resting p g c s standing known (Saying item r (Claiming place)) idle f = f
   desk-resting p g c s standing known (Saying item r Changing) idle f = absurd (false≢true idle)
-  desk-resting p g c s standing known (Ending Journal) idle f = f
-  desk-resting p g c s standing known (Ending Ready) idle f = f
+  desk-resting p g c s standing known (Ending Preparing) idle f = f
+  desk-resting p g c s standing known (Ending Journal) idle f = absurd (false≢true idle)
+  desk-resting p g c s standing known (Ending Ready) idle f = absurd (false≢true idle)
   desk-resting p g c s standing known (Ending Committing) idle f = absurd (false≢true idle)
   desk-resting p g c s standing known (Ending RollingBack) idle f = absurd (false≢true idle)
   desk-resting p g c s standing known (Ending Leaving) idle f = absurd (false≢true idle)
 
   -- so it has at a stage that wants a lock, and behind that
   pub desk-asks : (p : Place) (g : Ground) (c : Shared) (s : ℕ) (standing : Standing) (known : Held) (stage : Stage) (n : LockNeed) → lock_of stage ≡ Some n →
-      (g.desk s).known ≡ knows known → c.shelf.seat s ≡ seat_writing (g.desk s).writes → DeskFits M p g c s standing known stage × DeskFits M p g c s standing known (got stage)
+      (g.desk s).known ≡ knows known → c.shelf.seat s ≡ seat_wanting stage (g.desk s).writes → DeskFits M p g c s standing known stage × DeskFits M p g c s standing known (got stage)
   desk-asks p g c s standing known Between n wants k at = absurd (none-some n wants)
   desk-asks p g c s standing known (Working item OpeningIt) n wants k at = absurd (none-some n wants)
   desk-asks p g c s standing known (Working item Due) n wants k at = absurd (none-some n wants)
@@ -223,6 +254,7 @@ module _ (M : Model) (orderly : IsOrderly M) where
   desk-asks p g c s standing known (Reserving item r locks place) n wants k at = ((k, at), (k, at))
   desk-asks p g c s standing known (Saying item r (Claiming place)) n wants k at = ((k, at), (k, at))
   desk-asks p g c s standing known (Saying item r Changing) n wants k at = absurd (none-some n wants)
+  desk-asks p g c s standing known (Ending Preparing) n wants k at = absurd (none-some n wants)
   desk-asks p g c s standing known (Ending Journal) n wants k at = ((k, at), (k, at))
   desk-asks p g c s standing known (Ending Ready) n wants k at = absurd (none-some n wants)
   desk-asks p g c s standing known (Ending Committing) n wants k at = absurd (none-some n wants)
@@ -256,14 +288,17 @@ module _ (M : Model) (orderly : IsOrderly M) where
       (f.0, (subst (λ (m : LockNeed). is_guarded (has ++ m ∷ []) (line_node key) ≡ true) (same_Some _ n wants) (guards-new has (lock (line_node key) EX) refl), f.1.1))
   stage-got word has standing known spoken (Working item (Fetching lack)) n wants f = absurd (none-some n wants)
   stage-got word has standing known spoken (Working item (Lodging room key)) n wants f = absurd (none-some n wants)
-  stage-got word has standing known spoken (Gathering item (Locking (need.Line key)) later place) n wants f =
+  stage-got word has standing known spoken (Gathering item (gather.Locking (need.Line key)) later place) n wants f =
       (f.0, subst (λ (m : LockNeed). is_guarded (has ++ m ∷ []) (line_node key) ≡ true) (same_Some _ n wants) (line-locked has (uttered_of item) key), f.2)
-  stage-got word has standing known spoken (Gathering item (Locking (need.Area area)) later place) n wants f =
+  stage-got word has standing known spoken (Gathering item (gather.Locking (need.Area area)) later place) n wants f =
       (f.0, subst (λ (m : LockNeed). is_guarded (has ++ m ∷ []) (area_node area) ≡ true) (same_Some _ n wants) (guards-new has (lock (area_node area) (area_mode (uttered_of item) area)) (strong-area (uttered_of item) area)), f.2)
-  stage-got word has standing known spoken (Gathering item (Locking (need.Room room)) later place) n wants f = absurd (none-some n wants)
-  stage-got word has standing known spoken (Gathering item (Reading lack) later place) n wants f = absurd (none-some n wants)
+  stage-got word has standing known spoken (Gathering item (gather.Locking (need.Room room)) later place) n wants f = absurd (none-some n wants)
+  stage-got word has standing known spoken (Gathering item (gather.Housing room key) later place) n wants f =
+      (f.0, (subst (λ (m : LockNeed). is_guarded (has ++ m ∷ []) (line_node key) ≡ true) (same_Some _ n wants) (guards-new has (lock (line_node key) EX) refl), f.1.1), f.2)
+  stage-got word has standing known spoken (Gathering item (gather.Reading lack) later place) n wants f = absurd (none-some n wants)
+  stage-got word has standing known spoken (Gathering item (gather.Lodging room key) later place) n wants f = absurd (none-some n wants)
   stage-got word has standing known spoken (Reserving item r locks place) n wants f =
-      (f.0, record { record_is = f.1.record_is; asked = f.1.asked; reserved = got-next has locks place n wants f.1.reserved })
+      (f.0, record { record_is = f.1.record_is; asked = f.1.asked; reserved = got-next has locks place n wants f.1.reserved; off = f.1.off })
   stage-got word has standing known spoken (Saying item r (Claiming place)) n wants f =
       let at = write-at r.writes place n wants in
       (f.0, (f.1.0, own-next has r.writes place at.0 n at.1 at.2 f.1.1))
@@ -280,12 +315,22 @@ module _ (M : Model) (orderly : IsOrderly M) where
           (subst (λ (m : LockNeed). may_write (has ++ m ∷ []) (line_node w.key) ≡ true) is (writes-new has (lock (line_node w.key) EX) refl))
           (own-more has (n ∷ []) (take place ws) own))
   stage-got word has standing known spoken (Saying item r Changing) n wants f = absurd (none-some n wants)
+  stage-got word has standing known spoken (Ending Preparing) n wants f = absurd (none-some n wants)
   stage-got word has standing known spoken (Ending Journal) n wants f =
       (f.0, subst (λ (m : LockNeed). may_write (has ++ m ∷ []) journal_node ≡ true) (same_Some _ n wants) (writes-new has (lock journal_node EX) refl))
   stage-got word has standing known spoken (Ending Ready) n wants f = absurd (none-some n wants)
   stage-got word has standing known spoken (Ending Committing) n wants f = absurd (none-some n wants)
   stage-got word has standing known spoken (Ending RollingBack) n wants f = absurd (none-some n wants)
   stage-got word has standing known spoken (Ending Leaving) n wants f = absurd (none-some n wants)
+
+  -- once something was said in it, a read-write transaction stands as one
+  writes-on : (o : Opening) (p : Place) (g : Ground) (s : ℕ) (standing : Standing) (under : Option Uttered) (spoken : Bool) → (w : Writes M o p g s standing under) → has_said (p.transaction s) ≡ spoken → spoken ≡ true → is_writer standing ≡ true
+  writes-on o p g s standing under spoken w says is = w.remains (not-so (length w.transaction.lines == 0) (sym (ap has_said w.is_open) ∙ (says ∙ is)))
+
+  -- a COMMIT asks for the journal before it wants it
+  pub preparing-asks : (o : Opening) (p : Place) (g : Ground) (c : Shared) (s : ℕ) (left : List Item) (total : ℕ) (standing : Standing) (known : Held) (spoken waits : Bool) →
+      Finds M o p g c s (session left total (Writing (writer standing known spoken waits (Ending Preparing)))) → IsAskedOver M standing (Some (said commit)) (g.desk s).known (lock journal_node EX)
+  preparing-asks o p g c s left total standing known spoken waits f = commit-asks standing (g.desk s).known (lock journal_node EX) (writes-on o p g s standing (Some (said commit)) spoken f.here.stands.state f.fits.phase.spoken f.fits.phase.stage.0) refl
 
   -- the statement under way asks for the lock that its stage wants
   pub lock-asks : (o : Opening) (p : Place) (g : Ground) (c : Shared) (s : ℕ) (left : List Item) (total : ℕ) (standing : Standing) (known : Held) (spoken waits : Bool) (stage : Stage) (n : LockNeed) → lock_of stage ≡ Some n →
@@ -307,16 +352,21 @@ module _ (M : Model) (orderly : IsOrderly M) where
       subst (λ k. IsAskedOver M standing (Some (uttered_of item)) k n) (sym f.fits.phase.desk.0)
       (statement-asks o p g s standing (knows known) (uttered_of item) (is_lock_for (uttered_of item) (need.Room room)) (lock (line_node key) EX) n f.here.fit.stands f.here.stands.state
       (rw f.fits.phase.stage.1.1 (rw (on-own-line room.area) refl)) (same_Some _ n wants) f.fits.phase.stage.1.0)
-  lock-asks o p g c s left total standing known spoken waits (Gathering item (Locking (need.Line key)) later place) n wants f =
+  lock-asks o p g c s left total standing known spoken waits (Gathering item (gather.Locking (need.Line key)) later place) n wants f =
       subst (λ k. IsAskedOver M standing (Some (uttered_of item)) k n) (sym f.fits.phase.desk.0)
       (statement-asks o p g s standing (knows known) (uttered_of item) (is_lock_for (uttered_of item) (need.Line key)) (lock_for_line (uttered_of item) key) n f.here.fit.stands f.here.stands.state
       (line-asked (uttered_of item) key) (same_Some _ n wants) f.fits.phase.stage.1)
-  lock-asks o p g c s left total standing known spoken waits (Gathering item (Locking (need.Area area)) later place) n wants f =
+  lock-asks o p g c s left total standing known spoken waits (Gathering item (gather.Locking (need.Area area)) later place) n wants f =
       subst (λ k. IsAskedOver M standing (Some (uttered_of item)) k n) (sym f.fits.phase.desk.0)
       (statement-asks o p g s standing (knows known) (uttered_of item) (is_lock_for (uttered_of item) (need.Area area)) (lock (area_node area) (area_mode (uttered_of item) area)) n f.here.fit.stands f.here.stands.state
       (need-self (lock (area_node area) (area_mode (uttered_of item) area))) (same_Some _ n wants) f.fits.phase.stage.1)
-  lock-asks o p g c s left total standing known spoken waits (Gathering item (Locking (need.Room room)) later place) n wants f = absurd (none-some n wants)
-  lock-asks o p g c s left total standing known spoken waits (Gathering item (Reading lack) later place) n wants f = absurd (none-some n wants)
+  lock-asks o p g c s left total standing known spoken waits (Gathering item (gather.Locking (need.Room room)) later place) n wants f = absurd (none-some n wants)
+  lock-asks o p g c s left total standing known spoken waits (Gathering item (gather.Housing room key) later place) n wants f =
+      subst (λ k. IsAskedOver M standing (Some (uttered_of item)) k n) (sym f.fits.phase.desk.0)
+      (statement-asks o p g s standing (knows known) (uttered_of item) (is_lock_for (uttered_of item) (need.Room room)) (lock (line_node key) EX) n f.here.fit.stands f.here.stands.state
+      (rw f.fits.phase.stage.1.1 (rw (on-own-line room.area) refl)) (same_Some _ n wants) f.fits.phase.stage.1.0)
+  lock-asks o p g c s left total standing known spoken waits (Gathering item (gather.Reading lack) later place) n wants f = absurd (none-some n wants)
+  lock-asks o p g c s left total standing known spoken waits (Gathering item (gather.Lodging room key) later place) n wants f = absurd (none-some n wants)
   lock-asks o p g c s left total standing known spoken waits (Reserving item r locks place) n wants f =
       subst (λ k. IsAskedOver M standing (Some (uttered_of item)) k n) (sym f.fits.phase.desk.0) (at-place (IsAskedOver M standing (Some (uttered_of item)) (knows known)) locks place n wants f.fits.phase.stage.1.asked)
   lock-asks o p g c s left total standing known spoken waits (Working item (Fetching lack)) n wants f = absurd (none-some n wants)
@@ -327,13 +377,8 @@ module _ (M : Model) (orderly : IsOrderly M) where
       (statement-asks o p g s standing (knows known) (uttered_of item) (is_on_line_of at.0.key.area EX) (lock (line_node at.0.key) EX) n f.here.fit.stands f.here.stands.state (rw (on-own-line at.0.key.area) refl) at.2
       (λ all t m agrees. asked-at standing (uttered_of item) t r.writes place at.0 at.1 (f.fits.phase.stage.1.0.asked all t m agrees)))
   lock-asks o p g c s left total standing known spoken waits (Saying item r Changing) n wants f = absurd (none-some n wants)
-  lock-asks o p g c s left total standing known spoken waits (Ending Journal) n wants f = commit-asks standing (g.desk s).known n (f.here.stands.state.remains (more f.here.stands.state.transaction f.here.stands.state.is_open)) wants
-    where
-      some-said : (p : Place) (s : ℕ) (spoken : Bool) (x : Transaction) → p.transaction s ≡ Some x → has_said (p.transaction s) ≡ spoken → spoken ≡ true → (length x.lines == 0) ≡ false
-      some-said p s spoken x is_open says is = not-so (length x.lines == 0) (sym (ap has_said is_open) ∙ (says ∙ is))
-
-      more : (x : Transaction) → p.transaction s ≡ Some x → (length x.lines == 0) ≡ false
-      more x is_open = some-said p s spoken x is_open f.fits.phase.spoken f.fits.phase.stage.0
+  lock-asks o p g c s left total standing known spoken waits (Ending Preparing) n wants f = absurd (none-some n wants)
+  lock-asks o p g c s left total standing known spoken waits (Ending Journal) n wants f = commit-asks standing (g.desk s).known n (writes-on o p g s standing (Some (said commit)) spoken f.here.stands.state f.fits.phase.spoken f.fits.phase.stage.0) wants
   lock-asks o p g c s left total standing known spoken waits (Ending Ready) n wants f = absurd (none-some n wants)
   lock-asks o p g c s left total standing known spoken waits (Ending Committing) n wants f = absurd (none-some n wants)
   lock-asks o p g c s left total standing known spoken waits (Ending RollingBack) n wants f = absurd (none-some n wants)

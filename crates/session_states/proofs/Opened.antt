@@ -1,12 +1,16 @@
 -- At the opening nobody has begun anything.
-use Rattle.std.proofs.Common.{◌≡◌, ℕ, zero, suc, ◌∷◌, [], List, length, refl, ◌∙◌, sym, ap, subst, map, Some, slice_get}
+use Rattle.std.proofs.Common.{◌≡◌, ℕ, zero, suc, ◌+◌, ◌∷◌, [], List, true, false, length, refl, ◌∙◌, sym, ap, subst, arith, map, Some, None, slice_get}
 use Rattle.std.proofs.lemmas.Option.{none-some, same_Some}
 use Rattle.lock_needs.specs.declared.party.Asked.{Asked}
-use Rattle.lock_tree_laws.specs.Forest.{Parties, open_asks, party_of}
+use Rattle.lock_tree_laws.specs.Forest.{Parties, idle, open_asks, party_of}
 use Rattle.rdb_account.specs.Places.{Opening, start}
 use Rattle.line_view.specs.Held.{knows, nothing}
 use Rattle.session_jobs.specs.Records.{Model, IsOrderly}
+use Rattle.line_store.specs.Seats.{Seat, outside, beginning, writing, changing, prepared, committing, rolling_back, closing, reading, dead, in_flight, set_aside, lines_written}
 use Rattle.lock_ties.specs.Ties.{AreTied, IsTiedTo}
+use Rattle.journal_waits.specs.Holders.{KeepsTo}
+use Rattle.line_steps.specs.Images.{journal_node}
+use Rattle.session_states.proofs.Journal.{keeps-none}
 use Rattle.line_steps.specs.Members.{Member as Seen}
 use Rattle.line_steps.specs.Right.{Ground, Stands}
 use Rattle.session_states.specs.declared.stage.Member.{Member}
@@ -21,12 +25,29 @@ map-got f [] i y h = absurd (none-some y h)
 map-got f (x ∷ xs) zero y h = (x, refl, same_Some (f x) y h)
 map-got f (x ∷ xs) (suc i) y h = map-got f xs i y h
 
+some-aside : (n : ℕ) → 1 + n ≡ 0 → ⊥
+some-aside n h = omega (arith, h)
+
 -- nobody has or wants anything
 none-tied : (o : Opening) (c : Shared) → c.locks.parties ≡ [] → c.locks.trail ≡ [] → IsTiedTo (start o) c.locks
 none-tied o c parties trail =
     subst (λ (ps : Parties). AreTied (start o) (party_of ps) (open_asks ps c.locks.trail)) (sym parties)
     (subst (λ (asks : List Asked). AreTied (start o) (party_of []) (open_asks [] asks)) (sym trail)
     (record { needs = λ s. refl; asks = refl; wants = λ s. refl }))
+
+-- for whom nothing is set aside, no commit is under way
+idle-flies : (seat : Seat) → set_aside seat ≡ 0 → in_flight seat ≡ None
+idle-flies outside h = refl
+idle-flies beginning h = refl
+idle-flies (writing ws) h = refl
+idle-flies (changing ws) h = refl
+idle-flies (prepared ws) h = refl
+idle-flies (committing ws) h = absurd (some-aside (lines_written ws) h)
+idle-flies (rolling_back ws) h = refl
+idle-flies closing h = refl
+idle-flies (reading start) h = refl
+idle-flies (dead true ws) h = absurd (some-aside (lines_written ws) h)
+idle-flies (dead false ws) h = refl
 
 module _ (M : Model) (orderly : IsOrderly M) where
   abbrev opened_ground : Shared → Ground
@@ -52,5 +73,6 @@ module _ (M : Model) (orderly : IsOrderly M) where
     tied = none-tied o c is.parties is.trail;
     phases = λ i m e. fresh-fits o c (suc i) m is.parties (fresh i m e);
     counted = counted-start o c.shelf is.counted;
-    flies = λ t ws e. absurd (none-some ws (sym (is.flies t) ∙ e));
+    flies = λ t ws e. absurd (none-some ws (sym (idle-flies (c.shelf.seat t) (is.counted.idle t)) ∙ e));
+    journal = λ t. subst (λ (ps : Parties). KeepsTo journal_node (party_of ps t)) (sym is.parties) (keeps-none idle refl refl);
   }

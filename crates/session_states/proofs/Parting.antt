@@ -1,5 +1,5 @@
 -- A transaction begins, the store works for it, and its commit begins.
-use Rattle.std.proofs.Common.{◌≡◌, ℕ, ◌∷◌, [], ◌==◌, not, Bool, true, false, List, map, refl, ◌∙◌, sym, ap, subst, Some, None}
+use Rattle.std.proofs.Common.{◌≡◌, ℕ, ◌∷◌, [], ◌==◌, not, Bool, true, false, List, map, refl, ◌∙◌, sym, ap, subst, arith, Some, None}
 use Rattle.std.proofs.lemmas.Option.{none-some, same_Some}
 use Rattle.rdo_ast.specs.declared.reply.Standing.{Standing}
 use Rattle.rdo_ast.specs.declared.reply.Standing.TheVariants.{Closed}
@@ -18,6 +18,9 @@ use Rattle.session_jobs.specs.Records.{Model, IsOrderly}
 use Rattle.line_store.specs.Seats.{writes_of, outside as seat_outside, beginning, writing as seat_writing, committing_by, done_at}
 use Rattle.line_store.specs.Shelves.{Shelf}
 use Rattle.line_store.specs.Calls.{Moves, IsDone}
+use Rattle.lock_needs.specs.declared.need.Need.{Need}
+use Rattle.lock_needs.specs.Waits.{converts_at}
+use Rattle.line_steps.specs.Images.{journal_node}
 use Rattle.lock_ties.specs.Ties.{needs_at}
 use Rattle.lock_ties.proofs.Places.{at-same, at-other, number}
 use Rattle.line_steps.specs.Members.{member, outside, writing}
@@ -40,7 +43,7 @@ use Rattle.session_states.proofs.Resting.{rests-on, found-here, none-dead, time-
 use Rattle.session_states.proofs.Standing.{phase-stays}
 use Rattle.store_counts.proofs.Places.{more-same}
 use Rattle.store_counts.proofs.Kept.{counted-begins}
-use Rattle.session_states.proofs.Counting.{counted-moved, counted-over, committing-writes}
+use Rattle.session_states.proofs.Counting.{counted-moved, counted-over, none-more, done-aside, committing-writes, committing-aside}
 
 nothing-guarded : IsGuarded [] (knows nothing)
 nothing-guarded = record {
@@ -115,11 +118,12 @@ module _ (M : Model) (orderly : IsOrderly M) where
               waits = ap is_nowait (at-same s (Some (begun kind p.tables)) p.transaction) ∙ sleeps;
               stage = (begins-stays i kind so, tt);
               wants = f.fits.phase.1;
+              journal = subst (λ (ws : List Need). converts_at ws journal_node ≡ false) (sym (ap got_of f.here.stands.state) ∙ f.fits.tied.needs s) refl;
               ends = tt;
               claims = tt;
             };
           };
-          counted = counted-begins o p s kind shelf f.here.stands.state (ap writes_of moves.mine) (counted-over o p s beginning c.shelf shelf moves f.here.stands.state f.counted);
+          counted = counted-begins o p s kind shelf f.here.stands.state (ap writes_of moves.mine) (counted-over o p s beginning c.shelf shelf moves refl f.here.stands.state f.counted);
         };
   }
 
@@ -128,13 +132,14 @@ module _ (M : Model) (orderly : IsOrderly M) where
       Step M s c (session left total (Writing (writer standing known spoken waits (Working item OpeningIt)))) (with_shelf shelf c) (session left total (Writing (writer standing known spoken waits (Working item Due)))) []
   opens-on s c shelf left total standing known spoken waits item done =
       rests-on M orderly s c shelf left total (Writing (writer standing known spoken waits (Working item OpeningIt))) (Writing (writer standing known spoken waits (Working item Due))) refl done.moves.others done.moves.now
-      (λ o p g f. counted-moved o p s done.seat c.shelf shelf done.moves (λ e. ap writes_of (same_Some done.seat (seat_writing []) (sym done.comes ∙ ap done_at f.fits.phase.desk.1.0)) ∙ sym (ap writes_of f.fits.phase.desk.1.0)) f.counted)
+      (λ o p g f. counted-moved o p s done.seat c.shelf shelf done.moves (λ e. ap writes_of (same_Some done.seat (seat_writing []) (sym done.comes ∙ ap done_at f.fits.phase.desk.1.0)) ∙ sym (ap writes_of f.fits.phase.desk.1.0)) (none-more done.seat (c.shelf.seat s) (done-aside (c.shelf.seat s) done.seat done.comes)) f.counted)
       (λ o p g f. record {
         desk = (f.fits.phase.desk.0, done.moves.mine ∙ (same_Some done.seat (seat_writing []) (sym done.comes ∙ ap done_at f.fits.phase.desk.1.0) ∙ ap seat_writing (sym f.fits.phase.desk.1.1)));
         spoken = f.fits.phase.spoken;
         waits = f.fits.phase.waits;
         stage = f.fits.phase.stage;
         wants = f.fits.phase.wants;
+        journal = f.fits.phase.journal;
         ends = tt;
         claims = tt;
       })
@@ -142,7 +147,7 @@ module _ (M : Model) (orderly : IsOrderly M) where
   -- the store has more to do
   pub goes-on : (s : ℕ) (c : Shared) (shelf : Shelf) (left : List Item) (total : ℕ) (x : Phase) → Moves s (c.shelf.seat s) c.shelf shelf → Step M s c (session left total x) (with_shelf shelf c) (session left total x) []
   goes-on s c shelf left total x moves =
-      rests-on M orderly s c shelf left total x x refl moves.others moves.now (λ o p g f. counted-moved o p s (c.shelf.seat s) c.shelf shelf moves (λ e. refl) f.counted)
+      rests-on M orderly s c shelf left total x x refl moves.others moves.now (λ o p g f. counted-moved o p s (c.shelf.seat s) c.shelf shelf moves (λ e. refl) (omega arith) f.counted)
       (λ o p g f. phase-stays M orderly p p g (at_time shelf.clock.time g) c (with_shelf shelf c) s refl refl refl moves.mine refl (more-same p.touched p.touched refl) f.here.fit.order f.here.fit.order (alike-refl (needs_at p s) g.now) left x f.fits.phase)
 
   -- a commit begins
@@ -150,13 +155,14 @@ module _ (M : Model) (orderly : IsOrderly M) where
       Step M s c (session left total (Writing (writer standing known spoken waits (Ending Ready)))) (with_shelf shelf c) (session left total (Writing (writer standing known spoken waits (Ending Committing)))) []
   commits-on s c shelf left total standing known spoken waits moves =
       rests-on M orderly s c shelf left total (Writing (writer standing known spoken waits (Ending Ready))) (Writing (writer standing known spoken waits (Ending Committing))) refl moves.others moves.now
-      (λ o p g f. counted-moved o p s (committing_by (c.shelf.seat s)) c.shelf shelf moves (λ e. committing-writes (c.shelf.seat s)) f.counted)
+      (λ o p g f. counted-moved o p s (committing_by (c.shelf.seat s)) c.shelf shelf moves (λ e. committing-writes (c.shelf.seat s)) (committing-aside (c.shelf.seat s)) f.counted)
       (λ o p g f. record {
         desk = (f.fits.phase.desk.0, moves.mine ∙ ap committing_by f.fits.phase.desk.1);
         spoken = f.fits.phase.spoken;
         waits = f.fits.phase.waits;
         stage = f.fits.phase.stage;
         wants = f.fits.phase.wants;
+        journal = f.fits.phase.journal;
         ends = tt;
         claims = tt;
       })
@@ -165,5 +171,5 @@ module _ (M : Model) (orderly : IsOrderly M) where
   pub closes-on : (s : ℕ) (c : Shared) (shelf : Shelf) (left : List Item) (total : ℕ) → IsDone s c.shelf shelf →
       Step M s c (session left total Closing) (with_shelf shelf c) (session left total Outside) []
   closes-on s c shelf left total done =
-      rests-on M orderly s c shelf left total Closing Outside refl done.moves.others done.moves.now (λ o p g f. counted-over o p s done.seat c.shelf shelf done.moves f.here.stands.state f.counted)
+      rests-on M orderly s c shelf left total Closing Outside refl done.moves.others done.moves.now (λ o p g f. counted-over o p s done.seat c.shelf shelf done.moves (done-aside (c.shelf.seat s) done.seat done.comes) f.here.stands.state f.counted)
       (λ o p g f. (done.moves.mine ∙ same_Some done.seat seat_outside (sym done.comes ∙ f.fits.phase.0), f.fits.phase.1))

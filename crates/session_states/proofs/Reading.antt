@@ -46,7 +46,7 @@ use Rattle.session_states.proofs.Parting.{nothing-agrees, begun-needs, begins-st
 use Rattle.session_states.proofs.Resting.{leaves-others, rests-by, found-here, none-dead, time-later}
 use Rattle.session_states.proofs.Storing.{said-needs, said-more}
 use Rattle.session_states.proofs.ReaderStarts.{reader-stays}
-use Rattle.store_counts.proofs.Kept.{counted-on, counted-events, counted-begins}
+use Rattle.store_counts.proofs.Kept.{counted-same, counted-events, counted-begins}
 use Rattle.session_states.proofs.Counting.{counted-over}
 
 -- Its transaction stays open behind a reply: something was said in it, or the reply is done, or it isn't of a START_TRANSACTION.
@@ -93,7 +93,7 @@ module _ (M : Model) (orderly : IsOrderly M) where
               wants = f.fits.phase.1;
             };
           };
-          counted = counted-begins o p s ReadOnly shelf f.here.stands.state (ap writes_of moves.mine) (counted-over o p s (seat_reading c.shelf.now) c.shelf shelf moves f.here.stands.state f.counted);
+          counted = counted-begins o p s ReadOnly shelf f.here.stands.state (ap writes_of moves.mine) (counted-over o p s (seat_reading c.shelf.now) c.shelf shelf moves refl f.here.stands.state f.counted);
         };
   }
 
@@ -161,7 +161,7 @@ module _ (M : Model) (orderly : IsOrderly M) where
               wants = f.fits.phase.wants;
             };
           };
-          counted = counted-on o p s c.shelf shelf f.counted others now space (λ z. ap writes_of mine);
+          counted = counted-same o p s c.shelf shelf f.counted others now space mine;
         };
   }
 

@@ -11,7 +11,7 @@ use Rattle.rdb_account.specs.Legal.{ends_by}
 use Rattle.line_view.specs.Held.{Held, knows, nothing}
 use Rattle.session_jobs.specs.Records.{Model, IsOrderly}
 use Rattle.line_history.proofs.Transactions.{reader-excused}
-use Rattle.line_store.specs.Seats.{outside as seat_outside}
+use Rattle.line_store.specs.Seats.{outside as seat_outside, set_aside}
 use Rattle.line_store.specs.Shelves.{Shelf}
 use Rattle.line_store.specs.Calls.{Moves}
 use Rattle.lock_ties.specs.Ties.{IsTiedTo, needs_at}
@@ -83,8 +83,8 @@ module _ (M : Model) (orderly : IsOrderly M) where
                 (λ t. ap (λ (x : ℕ → Option Transaction). x t) two.0) two.1;
             phase = (moves.mine, f.fits.phase.wants);
           };
-          counted = counted-over o (after o (after o p (Committed s time)) (Said s (said commit) [] (Done []))) s seat_outside c.shelf shelf moves (ap (λ (x : ℕ → Option Transaction). x s) two.0 ∙ at-same s None p.transaction)
-              (counted-events o (after o p (Committed s time)) (Said s (said commit) [] (Done []) ∷ []) c.shelf (tt, tt) (reader-committed o p s time w.transaction c.shelf w.is_open w.reads (λ t. ap (λ (x : ℕ → Option Transaction). x t) one.0) f.counted));
+          counted = counted-over o (after o (after o p (Committed s time)) (Said s (said commit) [] (Done []))) s seat_outside c.shelf shelf moves refl (ap (λ (x : ℕ → Option Transaction). x s) two.0 ∙ at-same s None p.transaction)
+              (counted-events o (after o p (Committed s time)) (Said s (said commit) [] (Done []) ∷ []) c.shelf (tt, tt) (reader-committed o p s time w.transaction c.shelf w.is_open w.reads (ap set_aside f.fits.phase.seat) (λ t. ap (λ (x : ℕ → Option Transaction). x t) one.0) f.counted));
         };
   }
 
@@ -109,7 +109,7 @@ module _ (M : Model) (orderly : IsOrderly M) where
                 (λ t. ap (λ (x : ℕ → Option Transaction). x t) two.0) two.1;
             phase = (moves.mine, f.fits.phase.wants);
           };
-          counted = counted-ended o p (RolledBack s ∷ Said s (said rollback) [] (Done []) ∷ []) s seat_outside c.shelf shelf (tt, (tt, tt)) (ap (λ (x : ℕ → Option Transaction). x s) two.0 ∙ at-same s None p.transaction) moves f.counted;
+          counted = counted-ended o p (RolledBack s ∷ Said s (said rollback) [] (Done []) ∷ []) s seat_outside c.shelf shelf (λ y e. (e, (tt, tt))) refl (ap (λ (x : ℕ → Option Transaction). x s) two.0 ∙ at-same s None p.transaction) moves f.counted;
         };
   }
 
@@ -131,7 +131,7 @@ module _ (M : Model) (orderly : IsOrderly M) where
             tied = gone-tied p (after o p (RolledBack s)) c.locks c.locks s f.fits.tied (lockless p c s f.fits.tied f.fits.phase.needless f.fits.phase.wants) (λ t. ap (λ (x : ℕ → Option Transaction). x t) one.0) one.1;
             phase = (moves.mine, f.fits.phase.wants);
           };
-          counted = counted-ended o p (RolledBack s ∷ []) s seat_outside c.shelf shelf (tt, tt) (ap (λ (x : ℕ → Option Transaction). x s) one.0 ∙ at-same s None p.transaction) moves f.counted;
+          counted = counted-ended o p (RolledBack s ∷ []) s seat_outside c.shelf shelf (λ y e. (e, tt)) refl (ap (λ (x : ℕ → Option Transaction). x s) one.0 ∙ at-same s None p.transaction) moves f.counted;
         };
   }
 
@@ -160,7 +160,7 @@ module _ (M : Model) (orderly : IsOrderly M) where
             tied = gone-tied p (after o (after o p (Said s i [] NoMemory)) (RolledBack s)) c.locks c.locks s f.fits.tied (lockless p c s f.fits.tied f.fits.phase.needless f.fits.phase.wants) (start-gone o p s x l w.is_open) (start-unasked o p s l);
             phase = (moves.mine, f.fits.phase.wants);
           };
-          counted = counted-ended o p (Said s i [] NoMemory ∷ RolledBack s ∷ []) s seat_outside c.shelf shelf (tt, (tt, tt)) (start-gone o p s x l w.is_open s ∙ at-same s None p.transaction) moves f.counted;
+          counted = counted-ended o p (Said s i [] NoMemory ∷ RolledBack s ∷ []) s seat_outside c.shelf shelf (λ y e. (tt, (e, tt))) refl (start-gone o p s x l w.is_open s ∙ at-same s None p.transaction) moves f.counted;
         };
   }
     where

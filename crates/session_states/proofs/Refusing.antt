@@ -11,6 +11,7 @@ use Rattle.rdb_meaning.specs.Usual.{is_refusal_of_means}
 use Rattle.rdb_meaning.specs.declared.tables.Tables.{Tables}
 use Rattle.lock_needs.specs.declared.need.Need.{Need}
 use Rattle.lock_needs.specs.Party.{Party}
+use Rattle.lock_needs.specs.Waits.{converts_at}
 use Rattle.lock_tree_laws.specs.Forest.{State, party_of}
 use Rattle.lock_tree_laws.specs.Parties.{resting}
 use Rattle.lock_tree_laws.specs.Wanted.{needs_of}
@@ -42,7 +43,9 @@ use Rattle.session_states.specs.Shared.{Shared, with_locks}
 use Rattle.session_states.specs.Fits.{has_said}
 use Rattle.session_states.specs.Steps.{Step}
 use Rattle.session_states.proofs.Basics.{said-first, said-wants, nowait-wants}
-use Rattle.session_states.proofs.Locking.{desk-wanting, lock-asks}
+use Rattle.session_states.proofs.Locking.{wanting-rests, desk-resting, lock-asks}
+use Rattle.session_states.proofs.Journal.{resting-free}
+use Rattle.line_steps.specs.Images.{journal_node}
 use Rattle.session_states.proofs.Resting.{leaves-others, none-dead}
 use Rattle.session_states.proofs.Asking.{may-call}
 use Rattle.store_counts.proofs.Kept.{counted-events}
@@ -76,7 +79,7 @@ unended b d h = rw h refl
 
 module _ (M : Model) (orderly : IsOrderly M) where
   pub refuses-on : (s : ℕ) (c : Shared) (locks : State) (left : List Item) (total : ℕ) (standing : Standing) (known : Held) (waits : Bool) (stage : Stage) (n : Need) (item : Uttered) (reply : Reply) → lock_of stage ≡ Some n →
-      item_of stage ≡ Some item → (ends_by item && is_done reply) ≡ false → (call : IsCall s n c.locks locks) → party_of locks.parties s ≡ resting (needs_of c.locks s) → is_refusal_of_means reply ≡ true →
+      item_of stage ≡ Some item → ends_by item ≡ false → (call : IsCall s n c.locks locks) → party_of locks.parties s ≡ resting (needs_of c.locks s) → is_refusal_of_means reply ≡ true →
       ((word : List ℕ) (t : Tables) → first_refusal standing item ≡ None → item_asks None t n item ≡ true → IsExcused reply word standing t item) →
       ((o : Opening) (p : Place) (x : Transaction) → p.transaction s ≡ Some x → IsTiedTo p c.locks → is_nowait (p.transaction s) ≡ not waits → has_cause o (place_from o p (wanted_at s n call.asks.nodes)) s reply ≡ true) →
       Step M s c (session left total (Writing (writer standing known true waits stage))) (with_locks locks c) (session left total (Writing (writer standing known true waits Between))) (wanted_at s n call.asks.nodes ++ Said s item [] reply ∷ [])
@@ -95,7 +98,7 @@ module _ (M : Model) (orderly : IsOrderly M) where
         let l : Line = record { item = i; choices = []; reply = reply } in
         let r = after o q (Said s i [] reply) in
         let there = wants-open o p s x n nodes is_open in
-        let at = desk-wanting M orderly p g c s standing known stage n wants f.fits.phase.desk in
+        let at = desk-resting M orderly p g c s standing known stage (wanting-rests stage n i wants is stays) f.fits.phase.desk in
         let none = none-dead M orderly o p g s (member items (writing standing (item_of stage)) total) f.here in
         let here : Here M o p g s m = subst (λ u. Here M o p g s (member items (writing standing u) total)) is f.here in
         let asked : IsAskedOver M standing (Some i) (g.desk s).known n = subst (λ u. IsAskedOver M standing u (g.desk s).known n) is (lock-asks M orderly o p g c s left total standing known true waits stage n wants f) in
@@ -107,7 +110,7 @@ module _ (M : Model) (orderly : IsOrderly M) where
         excused o.word t free (subst (λ (u : Refusal). item_asks u t n i ≡ true) free h))
         (subst (λ (y : Place). has_cause o y s reply ≡ true) a.leads (cause o p x is_open f.fits.tied f.fits.phase.waits))
         (said-first (a.to.transaction s) i reply (subst (λ (y : Place). has_said (y.transaction s) ≡ true) a.leads (said-wants o p s x n nodes is_open ∙ f.fits.phase.spoken)))
-        stays in
+        (unended (ends_by i) (is_done reply) stays) in
         let grown : place_from o p (wanted_at s n nodes ++ Said s i [] reply ∷ []) ≡ r = place-grown o p (wanted_at s n nodes) (Said s i [] reply ∷ []) in
         record {
           ground = g;
@@ -123,11 +126,12 @@ module _ (M : Model) (orderly : IsOrderly M) where
               waits = ap (λ (y : Place). is_nowait (y.transaction s)) grown ∙ (nowait-said o q s there.0 l there.1 ∙ (nowait-wants o p s x n nodes is_open ∙ f.fits.phase.waits));
               stage = refl;
               wants = ap (λ (y : Party). y.opened) rests;
+              journal = subst (λ (y : Party). converts_at y.needs journal_node ≡ false) (sym rests) (resting-free stage (needs_of c.locks s) (wanting-rests stage n i wants is stays) f.fits.phase.journal);
               ends = tt;
               claims = tt;
             };
           };
-          counted = counted-events o p (wanted_at s n nodes ++ Said s i [] reply ∷ []) c.shelf (both-nothing (wanted_at s n nodes) (Said s i [] reply ∷ []) (wanted-nothing s n nodes) (tt, tt)) f.counted;
+          counted = counted-events o p (wanted_at s n nodes ++ Said s i [] reply ∷ []) c.shelf (both-nothing c.shelf (wanted_at s n nodes) (Said s i [] reply ∷ []) (wanted-nothing c.shelf s n nodes) (tt, tt)) f.counted;
         };
   }
     where

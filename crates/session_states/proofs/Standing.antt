@@ -22,7 +22,7 @@ use Rattle.session_jobs.specs.declared.jobs.TxRecord.{TxRecord}
 use Rattle.line_store.specs.Seats.{Seat, reading as seat_reading, in_flight, done_at, Adds}
 use Rattle.lock_ties.specs.Ties.{IsTiedTo, needs_at}
 use Rattle.line_steps.specs.Members.{Member as Seen}
-use Rattle.line_steps.specs.Right.{Desk, Ground, AreRight}
+use Rattle.line_steps.specs.Right.{Desk, Ground, Stands, AreRight}
 use Rattle.line_steps.proofs.Frame.{place-same}
 use Rattle.line_steps.proofs.Kept.{stepped, here}
 use Rattle.session_states.specs.declared.stage.Laying.TheVariants.{Claiming, Changing}
@@ -33,7 +33,7 @@ use Rattle.session_states.specs.declared.stage.Phase.TheVariants.{Outside, Closi
 use Rattle.session_states.specs.declared.stage.Life.{Life}
 use Rattle.session_states.specs.declared.stage.Life.TheVariants.{Alive, Dead, Gone}
 use Rattle.session_states.specs.declared.stage.Member.{Member}
-use Rattle.session_states.specs.Locks.{lock_of}
+use Rattle.session_states.specs.Locks.{lock_of, has_journal, HasJournal}
 use Rattle.session_states.specs.States.{seen}
 use Rattle.session_states.specs.Shared.{Shared, LeavesOthers}
 use Rattle.session_states.specs.Fits.{has_said, StageFits, HasSeat, IsLaid, DeskFits, WantsAtMost, PhaseFits, LifeFits}
@@ -43,11 +43,13 @@ use Rattle.lock_tree_laws.specs.Wanted.{needs_of}
 use Rattle.line_view.specs.declared.writes.Write.{Write}
 use Rattle.kept_apart.specs.Guards.{may_write}
 use Rattle.line_steps.specs.Images.{journal_node}
+use Rattle.journal_waits.specs.Holders.{KeepsTo}
 use Rattle.lock_ties.proofs.Places.{number}
 use Rattle.store_counts.specs.Counts.{written_of, IsCounted}
 use Rattle.store_counts.proofs.Places.{HasMore, more-same, touched-on}
 use Rattle.session_states.proofs.Claims.{claims-more}
 use Rattle.session_states.proofs.Flying.{life-flies}
+use Rattle.session_states.proofs.Journal.{life-keeps}
 
 map-get : {A B : Type 0} (f : A → B) (xs : List A) (i : ℕ) (x : A) → slice_get xs i ≡ Some x → slice_get (map f xs) i ≡ Some (f x)
 map-get f [] i x h = grind arith
@@ -118,6 +120,7 @@ module _ (M : Model) (orderly : IsOrderly M) where
       waits = ap is_nowait same ∙ f.waits;
       stage = subst (λ (u : List ℕ). StageFits M u (needs_at q t) w.standing w.known w.spoken w.stage) (sym word) (subst (λ ws. StageFits M c.word ws w.standing w.known w.spoken w.stage) needs f.stage);
       wants = subst (λ (y : Party). WantsAtMost (lock_of w.stage) y.opened) (sym party) f.wants;
+      journal = subst (λ (y : Party). HasJournal (has_journal w.stage) y.needs) (sym party) f.journal;
       ends = f.ends;
       claims = claims-more p q t touched (more-same (written_of (p.transaction t)) (written_of (q.transaction t)) (sym (ap written_of same))) w.stage f.claims;
     }
@@ -133,7 +136,7 @@ module _ (M : Model) (orderly : IsOrderly M) where
 
     pub life-stays : (left : List Item) (x : Phase) (life : Life) → LifeFits M p g c t left x life → LifeFits M q h d t left x life
     life-stays left x Alive f = phase-stays left x f
-    life-stays left x Dead f = record { writes = f.writes; seat = seat ∙ f.seat; same = λ e. f.same e ∙ sym (ap (λ (y : Desk). y.writes) desk); flies = λ e. subst (λ (y : Party). may_write y.needs journal_node ≡ true) (sym party) (f.flies e) }
+    life-stays left x Dead f = record { writes = f.writes; seat = seat ∙ f.seat; same = λ e. f.same e ∙ sym (ap (λ (y : Desk). y.writes) desk); flies = λ e. subst (λ (y : Party). may_write y.needs journal_node ≡ true) (sym party) (f.flies e); journal = subst (λ (y : Party). KeepsTo journal_node y) (sym party) f.journal }
     life-stays left x Gone f = (seat ∙ f.0, ap (λ (y : Party). y.opened) party ∙ f.1)
 
   -- ---- all sessions
@@ -146,6 +149,11 @@ module _ (M : Model) (orderly : IsOrderly M) where
       (life-flies M orderly q h d s n.left n.phase n.life fits tied ws (subst (λ (u : ℕ). in_flight (d.shelf.seat u) ≡ Some ws) (number t s e) flies))
   flies-still q h c d s n was others tied fits t false e ws flies =
       subst (λ (y : Party). may_write y.needs journal_node ≡ true) (sym (others.locks t e)) (was t ws (ap in_flight (sym (others.store.seat t e)) ∙ flies))
+
+  -- whoever has the journal wants nothing: the session that steps, and any other
+  keeps-still : (c d : Shared) (s : ℕ) → ((t : ℕ) → KeepsTo journal_node (party_of c.locks.parties t)) → LeavesOthers s c d → KeepsTo journal_node (party_of d.locks.parties s) → (t : ℕ) (b : Bool) → (t == s) ≡ b → KeepsTo journal_node (party_of d.locks.parties t)
+  keeps-still c d s was others mine t true e = subst (λ (u : ℕ). KeepsTo journal_node (party_of d.locks.parties u)) (sym (number t s e)) mine
+  keeps-still c d s was others mine t false e = subst (λ (y : Party). KeepsTo journal_node y) (sym (others.locks t e)) (was t)
 
   -- what a step of one session leaves is kept for all
   leaves-kept : (o : Opening) (c d : Shared) (members : List Member) (events es : List Event) (i : ℕ) (n : Member) → (k : AreKept M o c members events) → d.word ≡ c.word → LeavesOthers (suc i) c d →
@@ -171,6 +179,7 @@ module _ (M : Model) (orderly : IsOrderly M) where
             ]);
         counted = subst (λ (y : Place). IsCounted o y d.shelf) (sym behind) left.counted;
         flies = λ t ws e. flies-still to left.ground c d (suc i) n k.flies others left.fits.tied left.fits.phase t (t == suc i) refl ws e;
+        journal = λ t. keeps-still c d (suc i) k.journal others (life-keeps M orderly o to left.ground d (suc i) n.left n.total n.phase n.life (subst (λ (y : Place). Stands M o y left.ground (suc i) (seen n)) (sym left.steps.leads) left.steps.stands) (left.fits.tied.needs (suc i)) left.fits.phase) t (t == suc i) refl;
       }
 
   -- what session i + 1 finds

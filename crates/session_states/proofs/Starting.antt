@@ -21,6 +21,7 @@ use Rattle.rdb_account.specs.Lawful.{IsExcused, has_cause, first_refusal, is_now
 use Rattle.rdb_account.specs.AskedFor.{item_asks}
 use Rattle.rdb_account.specs.Legal.{ends_by}
 use Rattle.rdb_account.proofs.Growth.{place-grown}
+use Rattle.line_view.specs.declared.writes.Write.{Write}
 use Rattle.line_view.specs.Held.{Held, knows, nothing}
 use Rattle.line_view.specs.Writes.{laid_all}
 use Rattle.session_jobs.specs.Records.{Model, IsOrderly, IsRight}
@@ -28,7 +29,7 @@ use Rattle.session_jobs.specs.Jobs.{worked_of}
 use Rattle.session_jobs.specs.declared.jobs.TxRecord.{TxRecord}
 use Rattle.line_history.specs.Transactions.{IsAskedOver}
 use Rattle.line_history.proofs.Standings.{starts-leaves, excused-undone}
-use Rattle.line_store.specs.Seats.{outside as seat_outside, writing as seat_writing, rolled_back, done_at}
+use Rattle.line_store.specs.Seats.{Seat, outside as seat_outside, writing as seat_writing, set_aside, rolled_back, done_at}
 use Rattle.line_store.specs.Shelves.{Shelf}
 use Rattle.line_store.specs.Calls.{Moves}
 use Rattle.lock_ties.specs.Ties.{IsTiedTo, IsCall, wanted_at}
@@ -50,14 +51,14 @@ use Rattle.session_states.specs.Fits.{has_said}
 use Rattle.session_states.specs.Steps.{Step}
 use Rattle.session_states.proofs.Basics.{at_time, said-wants}
 use Rattle.session_states.proofs.Ends.{start-gone, start-unasked, rolled-place, needs-still, gone-tied}
-use Rattle.session_states.proofs.Locking.{desk-wanting, desk-resting, lock-asks}
+use Rattle.session_states.proofs.Locking.{wanting-rests, desk-resting, lock-asks}
 use Rattle.session_states.proofs.Resting.{none-dead, time-later}
 use Rattle.session_states.proofs.Asking.{may-call}
 use Rattle.lock_ties.proofs.Places.{at-same}
 use Rattle.session_states.proofs.Claims.{wanted-nothing, both-nothing}
 use Rattle.session_states.proofs.Counting.{counted-ended}
 use Rattle.session_states.proofs.Storing.{said-needs}
-use Rattle.session_states.proofs.Refusing.{asks-free}
+use Rattle.session_states.proofs.Refusing.{asks-free, unended}
 use Rattle.session_states.proofs.Forgoing.{and-undone}
 
 module _ (M : Model) (orderly : IsOrderly M) where
@@ -87,6 +88,9 @@ module _ (M : Model) (orderly : IsOrderly M) where
   closing-seat : (c : Shared) (shelf : Shelf) (s : ℕ) (g : Ground) → c.shelf.seat s ≡ seat_writing (g.desk s).writes → Moves s (rolled_back (c.shelf.seat s)) c.shelf shelf → done_at (shelf.seat s) ≡ Some seat_outside
   closing-seat c shelf s g at moves = ap done_at (moves.mine ∙ ap rolled_back at)
 
+  idle-back : (seat : Seat) (ws : List Write) → seat ≡ seat_writing ws → set_aside (rolled_back seat) ≡ 0
+  idle-back seat ws is = ap (λ (x : Seat). set_aside (rolled_back x)) is
+
   -- its record says so
   pub start-answered-on : (s : ℕ) (c : Shared) (shelf : Shelf) (locks : State) (left : List Item) (total : ℕ) (standing : Standing) (known : Held) (waits : Bool) (item : Item) (r : TxRecord) (place : ℕ) → is_done r.reply ≡ false →
       Moves s (rolled_back (c.shelf.seat s)) c.shelf shelf → RestsWith s [] c.locks locks →
@@ -110,7 +114,7 @@ module _ (M : Model) (orderly : IsOrderly M) where
             tied = gone-tied p (after o (after o p (Said s i r.choices r.reply)) (RolledBack s)) c.locks locks s f.fits.tied rests (start-gone o p s w.transaction l w.is_open) (start-unasked o p s l);
             phase = (closing-seat c shelf s g f.fits.phase.desk.1 moves, rests.ended);
           };
-          counted = counted-ended o p (Said s i r.choices r.reply ∷ RolledBack s ∷ []) s (rolled_back (c.shelf.seat s)) c.shelf shelf (tt, (tt, tt)) (start-gone o p s w.transaction l w.is_open s ∙ at-same s None p.transaction) moves f.counted;
+          counted = counted-ended o p (Said s i r.choices r.reply ∷ RolledBack s ∷ []) s (rolled_back (c.shelf.seat s)) c.shelf shelf (λ y e. (tt, (e, tt))) (idle-back (c.shelf.seat s) (g.desk s).writes f.fits.phase.desk.1) (start-gone o p s w.transaction l w.is_open s ∙ at-same s None p.transaction) moves f.counted;
         };
   }
 
@@ -137,13 +141,13 @@ module _ (M : Model) (orderly : IsOrderly M) where
             tied = gone-tied p (after o (after o p (Said s item [] NoMemory)) (RolledBack s)) c.locks locks s f.fits.tied rests (start-gone o p s w.transaction l w.is_open) (start-unasked o p s l);
             phase = (closing-seat c shelf s g at.1 moves, rests.ended);
           };
-          counted = counted-ended o p (Said s item [] NoMemory ∷ RolledBack s ∷ []) s (rolled_back (c.shelf.seat s)) c.shelf shelf (tt, (tt, tt)) (start-gone o p s w.transaction l w.is_open s ∙ at-same s None p.transaction) moves f.counted;
+          counted = counted-ended o p (Said s item [] NoMemory ∷ RolledBack s ∷ []) s (rolled_back (c.shelf.seat s)) c.shelf shelf (λ y e. (tt, (e, tt))) (idle-back (c.shelf.seat s) (g.desk s).writes at.1) (start-gone o p s w.transaction l w.is_open s ∙ at-same s None p.transaction) moves f.counted;
         };
   }
 
   -- a lock refuses it
   pub start-refuses-on : (s : ℕ) (c : Shared) (shelf : Shelf) (mid locks : State) (left : List Item) (total : ℕ) (standing : Standing) (known : Held) (waits : Bool) (stage : Stage) (n : Need) (item : Uttered) (reply : Reply) → lock_of stage ≡ Some n →
-      item_of stage ≡ Some item → (ends_by item && is_done reply) ≡ false → (call : IsCall s n c.locks mid) → party_of mid.parties s ≡ resting (needs_of c.locks s) → is_refusal_of_means reply ≡ true →
+      item_of stage ≡ Some item → ends_by item ≡ false → (call : IsCall s n c.locks mid) → party_of mid.parties s ≡ resting (needs_of c.locks s) → is_refusal_of_means reply ≡ true →
       ((word : List ℕ) (t : Tables) → first_refusal standing item ≡ None → item_asks None t n item ≡ true → IsExcused reply word standing t item) →
       ((o : Opening) (p : Place) (x : Transaction) → p.transaction s ≡ Some x → IsTiedTo p c.locks → is_nowait (p.transaction s) ≡ not waits → has_cause o (place_from o p (wanted_at s n call.asks.nodes)) s reply ≡ true) →
       Moves s (rolled_back (c.shelf.seat s)) c.shelf shelf → RestsWith s [] mid locks →
@@ -164,7 +168,7 @@ module _ (M : Model) (orderly : IsOrderly M) where
         let l : Line = record { item = i; choices = []; reply = reply } in
         let r = after o q (Said s i [] reply) in
         let there = wants-open o p s x n nodes is_open in
-        let at = desk-wanting M orderly p g c s standing known stage n wants f.fits.phase.desk in
+        let at = desk-resting M orderly p g c s standing known stage (wanting-rests stage n i wants is stays) f.fits.phase.desk in
         let none = none-dead M orderly o p g s (member items (writing standing (item_of stage)) total) f.here in
         let here : Here M o p g s m = subst (λ u. Here M o p g s (member items (writing standing u) total)) is f.here in
         let asked : IsAskedOver M standing (Some i) (g.desk s).known n = subst (λ u. IsAskedOver M standing u (g.desk s).known n) is (lock-asks M orderly o p g c s left total standing known false waits stage n wants f) in
@@ -178,7 +182,7 @@ module _ (M : Model) (orderly : IsOrderly M) where
         (λ t sound. let e = asked (laid_all (g.desk s).writes g.now) t sound w.is.agrees in let free = asks-free (first_refusal standing i) t n i e in
         excused o.word t free (subst (λ (u : Refusal). item_asks u t n i ≡ true) free e))
         (subst (λ (y : Place). has_cause o y s reply ≡ true) a.leads (cause o p x is_open f.fits.tied f.fits.phase.waits))
-        (first-refused o a.to g s standing i reply w silent (excused-undone reply refused)) stays in
+        (first-refused o a.to g s standing i reply w silent (excused-undone reply refused)) (unended (ends_by i) (is_done reply) stays) in
         let tied : IsTiedTo r mid =
         closed-tied o c.locks mid s n p r x is_open f.fits.tied call (ap (λ (y : Party). y.opened) ended) refl
         (λ t. said-needs o q s there.0 l there.1 t ∙ (wants-needs o p s x n nodes is_open t ∙ (f.fits.tied.needs t ∙ needs-still s c.locks mid call.others (ap (λ (y : Party). y.needs) ended) t))) in
@@ -192,6 +196,6 @@ module _ (M : Model) (orderly : IsOrderly M) where
                 (gone-tied r (after o r (RolledBack s)) mid locks s tied rests (λ t. ap (λ (e : ℕ → Option Transaction). e t) gone.0) gone.1);
             phase = (closing-seat c shelf s g at.1 moves, rests.ended);
           };
-          counted = counted-ended o p (es ++ Said s i [] reply ∷ RolledBack s ∷ []) s (rolled_back (c.shelf.seat s)) c.shelf shelf (both-nothing es (Said s i [] reply ∷ RolledBack s ∷ []) (wanted-nothing s n nodes) (tt, (tt, tt))) (ap (λ (y : Place). y.transaction s) (place-grown o p es (Said s i [] reply ∷ RolledBack s ∷ [])) ∙ (ap (λ (e : ℕ → Option Transaction). e s) gone.0 ∙ at-same s None r.transaction)) moves f.counted;
+          counted = counted-ended o p (es ++ Said s i [] reply ∷ RolledBack s ∷ []) s (rolled_back (c.shelf.seat s)) c.shelf shelf (λ y e. both-nothing y es (Said s i [] reply ∷ RolledBack s ∷ []) (wanted-nothing y s n nodes) (tt, (e, tt))) (idle-back (c.shelf.seat s) (g.desk s).writes at.1) (ap (λ (y : Place). y.transaction s) (place-grown o p es (Said s i [] reply ∷ RolledBack s ∷ [])) ∙ (ap (λ (e : ℕ → Option Transaction). e s) gone.0 ∙ at-same s None r.transaction)) moves f.counted;
         };
   }

@@ -43,7 +43,7 @@ use Rattle.session_states.proofs.Basics.{at_time, said-first, done-first, take-a
 use Rattle.session_states.proofs.Resting.{leaves-others, rests-on, time-later}
 use Rattle.store_counts.specs.Counts.{AreClaimed}
 use Rattle.store_counts.proofs.Kept.{counted-events, counted-changes}
-use Rattle.session_states.proofs.Counting.{counted-moved}
+use Rattle.session_states.proofs.Counting.{counted-moved, none-more, done-aside}
 
 write-none : (x : Option Write) → lock_of_write x ≡ None → x ≡ None
 write-none None h = refl
@@ -116,6 +116,7 @@ module _ (M : Model) (orderly : IsOrderly M) where
         waits = f.fits.phase.waits;
         stage = (f.fits.phase.stage.0, may);
         wants = subst (λ l. WantsAtMost l (opened_of c.locks s)) needless f.fits.phase.wants;
+        journal = f.fits.phase.journal;
         ends = tt;
         claims = tt;
       })
@@ -149,12 +150,13 @@ module _ (M : Model) (orderly : IsOrderly M) where
               waits = nowait-said o p s w.transaction l w.is_open ∙ f.fits.phase.waits;
               stage = refl;
               wants = f.fits.phase.wants;
+              journal = f.fits.phase.journal;
               ends = tt;
               claims = tt;
             };
           };
           counted = counted-events o p (Said s (uttered_of item) r.choices r.reply ∷ []) shelf (tt, tt)
-              (counted-moved o p s done.seat c.shelf shelf done.moves (λ e. ap writes_of (same_Some done.seat (seat_writing laid.behind) (sym done.comes ∙ ap done_at laid.seat)) ∙ sym (ap writes_of laid.seat)) f.counted);
+              (counted-moved o p s done.seat c.shelf shelf done.moves (λ e. ap writes_of (same_Some done.seat (seat_writing laid.behind) (sym done.comes ∙ ap done_at laid.seat)) ∙ sym (ap writes_of laid.seat)) (none-more done.seat (c.shelf.seat s) (done-aside (c.shelf.seat s) done.seat done.comes)) f.counted);
         };
   }
 
@@ -188,6 +190,7 @@ module _ (M : Model) (orderly : IsOrderly M) where
               waits = nowait-said o p s w.transaction l w.is_open ∙ f.fits.phase.waits;
               stage = refl;
               wants = closed;
+              journal = f.fits.phase.journal;
               ends = tt;
               claims = tt;
             };

@@ -32,7 +32,7 @@ use Rattle.line_steps.proofs.Taking.{takes-up}
 use Rattle.session_states.specs.declared.stage.Work.{Work}
 use Rattle.session_states.specs.declared.stage.Work.TheVariants.{Due, Out, Lacking, Housing}
 use Rattle.session_states.specs.declared.stage.Laying.TheVariants.{Claiming}
-use Rattle.session_states.specs.declared.stage.End.TheVariants.{Journal}
+use Rattle.session_states.specs.declared.stage.End.TheVariants.{Preparing}
 use Rattle.session_states.specs.declared.stage.Stage.{Stage}
 use Rattle.session_states.specs.declared.stage.Stage.TheVariants.{Between, Working, Saying, Ending}
 use Rattle.session_states.specs.declared.stage.Phase.TheVariants.{Writing}
@@ -72,13 +72,13 @@ module _ (M : Model) (orderly : IsOrderly M) where
       Step M s c (session (item ∷ left) total (Writing (writer standing known spoken waits Between))) c (session left total (Writing (writer standing known spoken waits (Working item Due)))) []
   takes-statement s c item left total standing known spoken waits stays =
       takes s c item left total standing known spoken waits (Working item Due) refl
-      (λ o p g f. record { desk = f.fits.phase.desk; spoken = f.fits.phase.spoken; waits = f.fits.phase.waits; stage = (stays, tt); wants = f.fits.phase.wants; ends = tt; claims = tt })
+      (λ o p g f. record { desk = f.fits.phase.desk; spoken = f.fits.phase.spoken; waits = f.fits.phase.waits; stage = (stays, tt); wants = f.fits.phase.wants; journal = f.fits.phase.journal; ends = tt; claims = tt })
 
   pub takes-commit : (s : ℕ) (c : Shared) (item : Item) (left : List Item) (total : ℕ) (standing : Standing) (known : Held) (spoken waits : Bool) → uttered_of item ≡ said commit →
-      Step M s c (session (item ∷ left) total (Writing (writer standing known spoken waits Between))) c (session left total (Writing (writer standing known spoken waits (Ending Journal)))) []
+      Step M s c (session (item ∷ left) total (Writing (writer standing known spoken waits Between))) c (session left total (Writing (writer standing known spoken waits (Ending Preparing)))) []
   takes-commit s c item left total standing known spoken waits is =
-      takes s c item left total standing known spoken waits (Ending Journal) (ap Some (sym is))
-      (λ o p g f. record { desk = f.fits.phase.desk; spoken = f.fits.phase.spoken; waits = f.fits.phase.waits; stage = (f.fits.phase.stage, tt); wants = wants-none (lock_of (Ending Journal)) (opened_of c.locks s) f.fits.phase.wants; ends = tt; claims = tt })
+      takes s c item left total standing known spoken waits (Ending Preparing) (ap Some (sym is))
+      (λ o p g f. record { desk = f.fits.phase.desk; spoken = f.fits.phase.spoken; waits = f.fits.phase.waits; stage = (f.fits.phase.stage, tt); wants = wants-none (lock_of (Ending Preparing)) (opened_of c.locks s) f.fits.phase.wants; journal = f.fits.phase.journal; ends = tt; claims = tt })
 
   -- ---- its job
 
@@ -86,7 +86,7 @@ module _ (M : Model) (orderly : IsOrderly M) where
       Step M s c (session left total (Writing (writer standing known spoken waits (Working item Due)))) c (session left total (Writing (writer standing known spoken waits (Working item Out)))) []
   hands-out s c left total standing known spoken waits item =
       rests-by M orderly s c left total (Writing (writer standing known spoken waits (Working item Due))) (Writing (writer standing known spoken waits (Working item Out))) refl
-      (λ o p g f. record { desk = f.fits.phase.desk; spoken = f.fits.phase.spoken; waits = f.fits.phase.waits; stage = f.fits.phase.stage; wants = f.fits.phase.wants; ends = tt; claims = tt })
+      (λ o p g f. record { desk = f.fits.phase.desk; spoken = f.fits.phase.spoken; waits = f.fits.phase.waits; stage = f.fits.phase.stage; wants = f.fits.phase.wants; journal = f.fits.phase.journal; ends = tt; claims = tt })
 
   pub returns-done : (s : ℕ) (c : Shared) (left : List Item) (total : ℕ) (standing : Standing) (known : Held) (spoken waits : Bool) (item : Item) (r : TxRecord) → IsFound M c.word standing (uttered_of item) (knows known) (Done r) →
       Step M s c (session left total (Writing (writer standing known spoken waits (Working item Out)))) c (session left total (Writing (writer standing known spoken waits (Saying item r (Claiming 0))))) []
@@ -98,6 +98,7 @@ module _ (M : Model) (orderly : IsOrderly M) where
         waits = f.fits.phase.waits;
         stage = (f.fits.phase.stage.0, (found, own-none (needs_at p s) r.writes));
         wants = wants-none (lock_of (Saying item r (Claiming 0))) (opened_of c.locks s) f.fits.phase.wants;
+        journal = f.fits.phase.journal;
         ends = tt;
         claims = claimed-none p s r.writes;
       })
@@ -112,6 +113,7 @@ module _ (M : Model) (orderly : IsOrderly M) where
         waits = f.fits.phase.waits;
         stage = (f.fits.phase.stage.0, λ all t m agrees. (found all t m agrees).0.asked);
         wants = wants-none (lock_of (Working item (Lacking next))) (opened_of c.locks s) f.fits.phase.wants;
+        journal = f.fits.phase.journal;
         ends = tt;
         claims = tt;
       })
@@ -127,6 +129,7 @@ module _ (M : Model) (orderly : IsOrderly M) where
         waits = f.fits.phase.waits;
         stage = (f.fits.phase.stage.0, (f.fits.phase.stage.1, within));
         wants = wants-none (lock_of (Working item (Housing room key))) (opened_of c.locks s) f.fits.phase.wants;
+        journal = f.fits.phase.journal;
         ends = tt;
         claims = tt;
       })
@@ -170,6 +173,7 @@ module _ (M : Model) (orderly : IsOrderly M) where
         waits = f.fits.phase.waits;
         stage = (f.fits.phase.stage.0, fits (needs_at p s) f.fits.phase.stage.1);
         wants = wants-none (lock_of (Working item b)) (opened_of c.locks s) (subst (λ l. WantsAtMost l (opened_of c.locks s)) needless f.fits.phase.wants);
+        journal = f.fits.phase.journal;
         ends = tt;
         claims = claims p f.fits.phase.claims;
       })

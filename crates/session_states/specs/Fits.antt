@@ -7,7 +7,7 @@ use Rattle.rdo_ast.specs.Tree.{Uttered}
 use Rattle.rdo_ast.specs.Views.{uttered_of}
 use Rattle.lock_needs.specs.declared.need.Need.{Need as LockNeed}
 use Rattle.lock_needs.specs.declared.party.OpenWant.{OpenWant}
-use Rattle.lock_tree_laws.specs.Forest.{opened_of}
+use Rattle.lock_tree_laws.specs.Forest.{opened_of, party_of}
 use Rattle.lock_tree_laws.specs.Wanted.{IsOf, needs_of}
 use Rattle.rdb_account.specs.Places.{Place, Transaction, is_done}
 use Rattle.rdb_account.specs.AskedFor.{is_need}
@@ -25,7 +25,7 @@ use Rattle.session_jobs.specs.Records.{Model, IsRight}
 use Rattle.session_jobs.specs.Asked.{AsksFor, is_lock_for}
 use Rattle.session_jobs.specs.Jobs.{WhereItAgrees, IsRecord, worked_of}
 use Rattle.session_jobs.specs.declared.jobs.TxRecord.{TxRecord}
-use Rattle.line_store.specs.Seats.{Seat, outside, beginning, writing, reading, changing, committing, rolling_back, dead, done_at, Adds}
+use Rattle.line_store.specs.Seats.{Seat, outside, beginning, writing, reading, changing, prepared, committing, rolling_back, dead, done_at, Adds}
 use Rattle.line_store.specs.Shelves.{Shelf, seen_by}
 use Rattle.lock_ties.specs.Ties.{IsTiedTo, needs_at}
 use Rattle.line_history.specs.Transactions.{IsAskedOver}
@@ -33,14 +33,15 @@ use Rattle.store_counts.specs.Counts.{is_claimed, AreClaimed}
 use Rattle.stepped_jobs.specs.Needs.{IsLocked}
 use Rattle.line_steps.specs.Right.{Ground}
 use Rattle.line_steps.specs.Images.{journal_node}
+use Rattle.journal_waits.specs.Holders.{KeepsTo}
 use Rattle.session_states.specs.declared.stage.Work.{Work}
 use Rattle.session_states.specs.declared.stage.Work.TheVariants.{Opening, Lacking, Housing, Fetching, Lodging}
 use Rattle.session_states.specs.declared.stage.Gather.{Gather}
-use Rattle.session_states.specs.declared.stage.Gather.TheVariants.{Locking, Reading as ReadingOf}
+use Rattle.session_states.specs.declared.stage.Gather.TheVariants as gather
 use Rattle.session_states.specs.declared.stage.Laying.{Laying}
 use Rattle.session_states.specs.declared.stage.Laying.TheVariants.{Claiming, Changing}
 use Rattle.session_states.specs.declared.stage.End.{End}
-use Rattle.session_states.specs.declared.stage.End.TheVariants.{Ready, Committing, RollingBack, Leaving}
+use Rattle.session_states.specs.declared.stage.End.TheVariants.{Journal, Ready, Committing, RollingBack, Leaving}
 use Rattle.session_states.specs.declared.stage.Stage.{Stage}
 use Rattle.session_states.specs.declared.stage.Stage.TheVariants.{Between, Working, Gathering, Reserving, Saying, Ending}
 use Rattle.session_states.specs.declared.stage.Writer.{Writer}
@@ -52,7 +53,7 @@ use Rattle.session_states.specs.declared.stage.Phase.TheVariants.{Outside, Closi
 use Rattle.session_states.specs.declared.stage.Life.{Life}
 use Rattle.session_states.specs.declared.stage.Life.TheVariants.{Alive, Dead, Gone}
 use Rattle.session_states.specs.declared.stage.Member.{Member}
-use Rattle.session_states.specs.Locks.{lock_of}
+use Rattle.session_states.specs.Locks.{lock_of, has_journal, HasJournal, AreOffJournal}
 use Rattle.session_states.specs.States.{commits_in}
 use Rattle.session_states.specs.Shared.{Shared}
 
@@ -74,18 +75,21 @@ abbrev pub AreLacked : Model → Standing → Uttered → Knowledge → List Nee
 AreLacked M standing item known = AllByRecursion (IsLacked M standing item known)
 
 abbrev pub GatherFits : Model → List LockNeed → Standing → Uttered → Knowledge → Gather → Type 0
-GatherFits M got standing item known (Locking n) = IsLacked M standing item known n
-GatherFits M got standing item known (ReadingOf n) = IsLocked got n
+GatherFits M got standing item known (gather.Locking n) = IsLacked M standing item known n
+GatherFits M got standing item known (gather.Housing room key) = IsLacked M standing item known (need.Room room) × (key.area ≡ room.area)
+GatherFits M got standing item known (gather.Reading n) = IsLocked got n
+GatherFits M got standing item known (gather.Lodging room key) = (is_guarded got (line_node key) ≡ true) × (key.area ≡ room.area)
 
 -- these are among the locks that are got
 abbrev pub AreGot : List LockNeed → List LockNeed → Type 0
 AreGot got = AllByRecursion (λ n. list_any (is_need n.node n.mode) got ≡ true)
 
--- What a START_TRANSACTION reserves it asks for, and what stands before the place is got. Its record is right for what is known.
+-- What a START_TRANSACTION reserves it asks for, and what stands before the place is got; the journal isn't of it. Its record is right for what is known.
 pub record ReservingFits (M : Model) (word : List ℕ) (got : List LockNeed) (standing : Standing) (item : Uttered) (known : Knowledge) (r : TxRecord) (locks : List LockNeed) (place : ℕ) : Type 0 where
   pub record_is : IsRecord M word standing item known r
   pub asked : AllByRecursion (IsAskedOver M standing (Some item) known) locks
   pub reserved : AreGot got (take place locks)
+  pub off : AreOffJournal locks
 
 -- The record is right for what is known, and the lines of the writes before the place are locked. Once it is laid, its transaction stays open behind its reply.
 abbrev pub LayingFits : Model → List ℕ → List LockNeed → Standing → Uttered → Knowledge → Bool → TxRecord → Laying → Type 0
@@ -110,6 +114,7 @@ StageFits M word got standing known spoken (Ending end) = (spoken ≡ true) × E
 -- The account has it that EX was got on the lines whose locks were wanted, as lines, whatever covers them.
 abbrev pub ClaimsFit : Place → ℕ → Stage → Type 0
 ClaimsFit p s (Working item (Lodging room key)) = is_claimed p s key ≡ true
+ClaimsFit p s (Gathering item (gather.Lodging room key) later place) = is_claimed p s key ≡ true
 ClaimsFit p s (Saying item r (Claiming place)) = AreClaimed p s (take place r.writes)
 ClaimsFit p s stage = Unit {0}
 
@@ -118,6 +123,8 @@ ClaimsFit p s stage = Unit {0}
 -- where the store has a session of this stage with these writes
 abbrev pub HasSeat : Stage → List Write → Seat → Type 0
 HasSeat (Working item Opening) ws seat = (seat ≡ beginning) × (ws ≡ [])
+HasSeat (Ending Journal) ws seat = seat ≡ prepared ws
+HasSeat (Ending Ready) ws seat = seat ≡ prepared ws
 HasSeat (Ending Committing) ws seat = seat ≡ committing ws
 HasSeat (Ending RollingBack) ws seat = seat ≡ rolling_back ws
 HasSeat (Ending Leaving) ws seat = seat ≡ rolling_back ws
@@ -161,6 +168,7 @@ pub record WriterFits (M : Model) (p : Place) (g : Ground) (c : Shared) (s : ℕ
   pub waits : is_nowait (p.transaction s) ≡ not w.waits
   pub stage : StageFits M c.word (needs_at p s) w.standing w.known w.spoken w.stage
   pub wants : WantsAtMost (lock_of w.stage) (opened_of c.locks s)
+  pub journal : HasJournal (has_journal w.stage) (needs_of c.locks s)
   pub ends : IsAtEnd left w.stage
   pub claims : ClaimsFit p s w.stage
 
@@ -185,12 +193,13 @@ PhaseFits M p g c s left (Writing w) = WriterFits M p g c s left w
 PhaseFits M p g c s left (Reading r) = ReaderFits p g c s r
 PhaseFits M p g c s left Over = (c.shelf.seat s ≡ outside) × (opened_of c.locks s ≡ None)
 
--- The store has what a dead session wrote, and whether it died in its commit, for which it has the journal still.
+-- The store has what a dead session wrote, and whether it died in its commit, for which it has the journal still. It keeps its needs, and its open want.
 pub record DeadFits (g : Ground) (c : Shared) (s : ℕ) (x : Phase) : Type 0 where
   pub writes : List Write
   pub seat : c.shelf.seat s ≡ dead (commits_in x) writes
   pub same : commits_in x ≡ true → writes ≡ (g.desk s).writes
   pub flies : commits_in x ≡ true → may_write (needs_of c.locks s) journal_node ≡ true
+  pub journal : KeepsTo journal_node (party_of c.locks.parties s)
 
 abbrev pub LifeFits : Model → Place → Ground → Shared → ℕ → List Item → Phase → Life → Type 0
 LifeFits M p g c s left x Alive = PhaseFits M p g c s left x

@@ -9,7 +9,7 @@ use Rattle.line_steps.specs.Members.{State, outside, writing, reading, ended, fa
 use Rattle.session_states.specs.declared.stage.Work.TheVariants.{Opening}
 use Rattle.session_states.specs.declared.stage.Laying.TheVariants.{Changing}
 use Rattle.session_states.specs.declared.stage.End.{End}
-use Rattle.session_states.specs.declared.stage.End.TheVariants.{Journal, Ready, Committing, RollingBack, Leaving}
+use Rattle.session_states.specs.declared.stage.End.TheVariants.{Preparing, Journal, Ready, Committing, RollingBack, Leaving}
 use Rattle.session_states.specs.declared.stage.Stage.{Stage}
 use Rattle.session_states.specs.declared.stage.Stage.TheVariants.{Between, Working, Gathering, Reserving, Saying, Ending}
 use Rattle.session_states.specs.declared.stage.Writer.{Writer}
@@ -23,6 +23,7 @@ use Rattle.session_states.specs.declared.stage.Life.TheVariants.{Alive, Dead, Go
 use Rattle.session_states.specs.declared.stage.Member.{Member}
 
 abbrev pub item_at_end : End → Option Uttered
+item_at_end Preparing = Some (said commit)
 item_at_end Journal = Some (said commit)
 item_at_end Ready = Some (said commit)
 item_at_end Committing = Some (said commit)
@@ -42,10 +43,12 @@ abbrev pub reader_item : ReaderStage → Option Uttered
 reader_item look.Between = None
 reader_item (look.Working item work) = Some (uttered_of item)
 
--- whether the store has nothing to do at this stage
+-- whether the store has nothing to do or taken at this stage
 abbrev pub is_at_rest : Stage → Bool
 is_at_rest (Working item Opening) = false
 is_at_rest (Saying item r Changing) = false
+is_at_rest (Ending Journal) = false
+is_at_rest (Ending Ready) = false
 is_at_rest (Ending Committing) = false
 is_at_rest (Ending RollingBack) = false
 is_at_rest (Ending Leaving) = false

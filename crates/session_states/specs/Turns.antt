@@ -11,25 +11,25 @@ use Rattle.line_view.specs.declared.writes.Write.{Write}
 use Rattle.session_states.specs.declared.stage.Work.{Work}
 use Rattle.session_states.specs.declared.stage.Work.TheVariants.{Due, Lacking, Housing, Fetching, Lodging}
 use Rattle.session_states.specs.declared.stage.Gather.{Gather}
-use Rattle.session_states.specs.declared.stage.Gather.TheVariants.{Locking, Reading}
+use Rattle.session_states.specs.declared.stage.Gather.TheVariants as gather
 use Rattle.session_states.specs.declared.stage.Laying.{Laying}
 use Rattle.session_states.specs.declared.stage.Laying.TheVariants.{Claiming, Changing}
 use Rattle.session_states.specs.declared.stage.End.{End}
-use Rattle.session_states.specs.declared.stage.End.TheVariants.{Journal, Ready, RollingBack}
+use Rattle.session_states.specs.declared.stage.End.TheVariants.{Preparing, Journal, Ready, RollingBack}
 use Rattle.session_states.specs.declared.stage.Stage.{Stage}
 use Rattle.session_states.specs.declared.stage.Stage.TheVariants.{Between, Working, Gathering, Reserving, Saying, Ending}
 use Rattle.session_states.specs.declared.stage.Writer.{Writer}
 
 -- an item is taken up
 abbrev pub taken : Item → Stage
-taken (Statement Commit) = Ending Journal
+taken (Statement Commit) = Ending Preparing
 taken (Statement Rollback) = Ending RollingBack
 taken item = Working item Due
 
 -- a job came back; where it wasn't worked, or no memory was found, the item is left
 abbrev pub returned : Item → Found → Result Stage Item
 returned item (Done r) = Ok (Saying item r (Claiming 0))
-returned item (Missing next later) = Ok (Gathering item (Locking next) later 0)
+returned item (Missing next later) = Ok (Gathering item (gather.Locking next) later 0)
 returned item (Bad key) = Ok (Working item Due)
 returned item Unworked = Err item
 returned item NoMemory = Err item
@@ -40,8 +40,9 @@ got_work (Housing room key) = Lodging room key
 got_work work = work
 
 abbrev pub got_gather : Gather → Gather
-got_gather (Locking n) = Reading n
-got_gather (Reading n) = Reading n
+got_gather (gather.Locking n) = gather.Reading n
+got_gather (gather.Housing room key) = gather.Lodging room key
+got_gather x = x
 
 abbrev pub got_laying : Laying → Laying
 got_laying (Claiming place) = Claiming (place + 1)

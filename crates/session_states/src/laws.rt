@@ -3,6 +3,7 @@ pub mod dying;
 pub mod endings;
 pub mod gathering;
 pub mod outside;
+pub mod preparing;
 pub mod reading;
 pub mod refusing;
 pub mod reserving;

@@ -109,7 +109,11 @@ fn lock_of_gather(item: &Item, gather: Gather) -> Option<LockNeed>
 {
     match gather {
         Gather::Locking(need) => lock_for(item, need),
-        Gather::Reading(_) => None,
+        Gather::Housing(_, key) => Some(LockNeed {
+            node: line_node(key),
+            mode: Mode::EX,
+        }),
+        Gather::Reading(_) | Gather::Lodging(..) => None,
     }
 }
 

@@ -28,10 +28,14 @@ pub enum Work {
 /// How far a need of a job has come, of those that are read in turn.
 #[derive(Clone, Copy)]
 pub enum Gather {
-    /// The lock on it is wanted.
+    /// The lock on it is wanted. A room has none before a line is named for it.
     Locking(Need),
+    /// The lock on this line is wanted, for a room.
+    Housing(Room, Dbkey),
     /// It is locked, and is read.
     Reading(Need),
+    /// The line that was named for a room is locked; it is read, and its page is taken.
+    Lodging(Room, Dbkey),
 }
 
 /// What is done before the record of a statement is said.
@@ -46,9 +50,11 @@ pub enum Laying {
 /// How a read-write transaction ends.
 #[derive(Clone, Copy)]
 pub enum End {
-    /// A COMMIT wants the journal.
+    /// Room and memory of a COMMIT are to be taken, for which it may be refused. It wants no lock yet.
+    Preparing,
+    /// The COMMIT has them, and wants the journal.
     Journal,
-    /// The COMMIT has got it.
+    /// It has got the journal.
     Ready,
     /// The store commits.
     Committing,

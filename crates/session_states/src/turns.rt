@@ -9,12 +9,12 @@ use rdo_ast::reply::Reply;
 use rdo_ast::syntax::{Item, Statement};
 use session_jobs::{Found, TxRecord};
 
-/// The stage of an item that is taken up: a COMMIT wants the journal, a ROLLBACK has the store undo, and all else is worked.
+/// The stage of an item that is taken up: a COMMIT is prepared, a ROLLBACK has the store undo, and all else is worked.
 pub fn take_up(item: Item) -> Stage
     ensures { result ≡ taken item }
 {
     match item {
-        Item::Statement(Statement::Commit) => Stage::Ending(End::Journal),
+        Item::Statement(Statement::Commit) => Stage::Ending(End::Preparing),
         Item::Statement(Statement::Rollback) => Stage::Ending(End::RollingBack),
         item => Stage::Working(item, Work::Due),
     }
@@ -50,7 +50,8 @@ fn gather_behind_got(gather: Gather) -> Gather
 {
     match gather {
         Gather::Locking(need) => Gather::Reading(need),
-        Gather::Reading(need) => Gather::Reading(need),
+        Gather::Housing(room, key) => Gather::Lodging(room, key),
+        gather => gather,
     }
 }
 

@@ -1,5 +1,5 @@
 -- A store goes on being within the account's counts.
-use Rattle.std.proofs.Common.{◌≡◌, ◌≤◌, ℕ, ◌+◌, ◌++◌, ◌∷◌, [], ◌==◌, ◌||◌, not, cond, if◌then◌else◌, Bool, true, false, List, length, refl, ◌∙◌, sym, ap, subst, arith, Option, Some, None, is_some, ◌⊎◌, inl, inr}
+use Rattle.std.proofs.Common.{◌≡◌, ◌≤◌, ◌<◌, ℕ, ◌+◌, ◌++◌, ◌∷◌, [], ◌==◌, ◌||◌, not, cond, if◌then◌else◌, Bool, true, false, List, length, refl, ◌∙◌, sym, ap, subst, arith, Option, Some, None, is_some, ◌⊎◌, inl, inr}
 use Rattle.std.specs.List.{list_any, filter}
 use Rattle.std.specs.Ordering.{is_eq}
 use Rattle.std.proofs.lemmas.Bool.{false≢true, or_cases, or_left, or_right, and_parts}
@@ -16,11 +16,11 @@ use Rattle.line_view.proofs.FullMap.{laid_found}
 use Rattle.rdb_account.specs.Events.{Event, Began, Got}
 use Rattle.rdb_account.specs.Places.{Opening, Place, Transaction, Limits, after, place_from, start, at, begun, changed, with_need, pairs_with, is_new_write, is_line}
 use Rattle.rdb_account.specs.Lawful.{is_taken, is_space_page, file_of}
-use Rattle.line_store.specs.Seats.{Seat, IsMember, writes_of, lines_added, is_written}
+use Rattle.line_store.specs.Seats.{Seat, IsMember, writes_of, set_aside, lines_added, is_written}
 use Rattle.line_store.specs.Shelves.{Shelf}
 use Rattle.line_store.specs.Calls.{KeepsOthers, KeepsSpace, Changes, Commits}
 use Rattle.lock_ties.proofs.Places.{at-same, at-other, number}
-use Rattle.store_counts.specs.Counts.{written_of, is_on_line, AreClaimed, is_laid, unlaid, AreLimits, IsCounted, IsCountedFrom, TakesAt}
+use Rattle.store_counts.specs.Counts.{written_of, has_wanted, is_on_line, AreClaimed, is_laid, unlaid, AreLimits, IsCounted, IsCountedFrom, TakesAt}
 use Rattle.store_counts.proofs.Filters.{passes-most}
 use Rattle.store_counts.proofs.Sums.{sum-less, sum-more, sum-fewer}
 use Rattle.store_counts.proofs.Lines.{claimed-key, claimed-added, claimed-on, fewer-left, written-within}
@@ -34,9 +34,13 @@ limits-on root old new e h = subst (λ (l : OfStore). AreLimits root l) (sym e) 
 
 -- ---- the store moves
 
+-- for whom the store has slots set aside, its transaction has wanted the journal
+abbrev pub WantsIfAside : Place → Shelf → ℕ → Type 0
+WantsIfAside p h t = 0 < set_aside (h.seat t) → has_wanted (p.transaction t) ≡ true
+
 -- where the store has the same writes of all whose transactions are open
-pub counted-moves : (o : Opening) (p : Place) (h k : Shelf) → IsCounted o p h → k.now ≡ h.now → KeepsSpace h.space k.space → ((t : ℕ) → is_some (p.transaction t) ≡ true → writes_of (k.seat t) ≡ writes_of (h.seat t)) → IsCounted o p k
-counted-moves o p h k c now space same =
+pub counted-moves : (o : Opening) (p : Place) (h k : Shelf) → IsCounted o p h → k.now ≡ h.now → KeepsSpace h.space k.space → ((t : ℕ) → is_some (p.transaction t) ≡ true → writes_of (k.seat t) ≡ writes_of (h.seat t)) → ((t : ℕ) → WantsIfAside p k t) → IsCounted o p k
+counted-moves o p h k c now space same wants =
     let less = sum-less (λ t. unlaid (p.transaction t) (h.seat t)) (λ t. unlaid (p.transaction t) (k.seat t)) (λ t. part t (p.transaction t) refl) in
     let snaps = space.snaps in
     let pairs = c.pairs in
@@ -48,6 +52,7 @@ counted-moves o p h k c now space same =
       lines = λ key e. c.lines key (ap (λ (l : Lines). is_some (line_in key l)) (sym now) ∙ e);
       pairs = omega (arith, less, snaps, pairs);
       slots = omega (arith, slots, used);
+      wants = wants;
       claimed = λ t is_open. subst (AreClaimed p t) (sym (same t is_open)) (c.claimed t is_open);
     }
   where
@@ -71,12 +76,27 @@ writes-same p h k s others mine t is_open = by (t == s) refl
     by true e = subst (λ (u : ℕ). writes_of (k.seat u) ≡ writes_of (h.seat u)) (sym (number t s e)) (mine (subst (λ (u : ℕ). is_some (p.transaction u) ≡ true) (number t s e) is_open))
     by false e = ap writes_of (others.seat t e)
 
-pub counted-on : (o : Opening) (p : Place) (s : ℕ) (h k : Shelf) → IsCounted o p h → KeepsOthers s h k → k.now ≡ h.now → KeepsSpace h.space k.space → (is_some (p.transaction s) ≡ true → writes_of (k.seat s) ≡ writes_of (h.seat s)) → IsCounted o p k
-counted-on o p s h k c others now space mine = counted-moves o p h k c now space (writes-same p h k s others mine)
+wants-same : (p : Place) (h k : Shelf) (s : ℕ) → ((t : ℕ) → WantsIfAside p h t) → KeepsOthers s h k → WantsIfAside p k s → (t : ℕ) → WantsIfAside p k t
+wants-same p h k s was others mine t = by (t == s) refl
+  where
+    by : (b : Bool) → (t == s) ≡ b → WantsIfAside p k t
+    by true e = subst (λ (u : ℕ). WantsIfAside p k u) (sym (number t s e)) mine
+    by false e = subst (λ (seat : Seat). 0 < set_aside seat → has_wanted (p.transaction t) ≡ true) (sym (others.seat t e)) (was t)
+
+-- as it was of a seat for which no more is set aside
+pub wants-still : (o : Opening) (p : Place) (s : ℕ) (h k : Shelf) → IsCounted o p h → set_aside (k.seat s) ≤ set_aside (h.seat s) → WantsIfAside p k s
+wants-still o p s h k c fewer aside = c.wants s (omega (arith, fewer, aside))
+
+pub counted-on : (o : Opening) (p : Place) (s : ℕ) (h k : Shelf) → IsCounted o p h → KeepsOthers s h k → k.now ≡ h.now → KeepsSpace h.space k.space → (is_some (p.transaction s) ≡ true → writes_of (k.seat s) ≡ writes_of (h.seat s)) → (0 < set_aside (k.seat s) → has_wanted (p.transaction s) ≡ true) → IsCounted o p k
+counted-on o p s h k c others now space mine wants = counted-moves o p h k c now space (writes-same p h k s others mine) (wants-same p h k s c.wants others wants)
+
+-- the seat of s stays too
+pub counted-same : (o : Opening) (p : Place) (s : ℕ) (h k : Shelf) → IsCounted o p h → KeepsOthers s h k → k.now ≡ h.now → KeepsSpace h.space k.space → k.seat s ≡ h.seat s → IsCounted o p k
+counted-same o p s h k c others now space mine = counted-on o p s h k c others now space (λ e. ap writes_of mine) (λ aside. c.wants s (subst (λ (x : Seat). 0 < set_aside x) mine aside))
 
 -- ---- events that count nothing
 
-pub counted-stays : (o : Opening) (p q : Place) (h : Shelf) → CountsStay p q → IsCounted o p h → IsCounted o q h
+pub counted-stays : (o : Opening) (p q : Place) (h : Shelf) → CountsStay h p q → IsCounted o p h → IsCounted o q h
 counted-stays o p q h stay c =
     let less = sum-less (λ t. unlaid (p.transaction t) (h.seat t)) (λ t. unlaid (q.transaction t) (h.seat t)) (λ t. part t (q.transaction t) refl) in
     let pairs = c.pairs in
@@ -90,6 +110,7 @@ counted-stays o p q h stay c =
       lines = λ key e. taken-on o p q touched (file_of key.area) key.page (c.lines key e);
       pairs = omega (arith, less, pairs, same);
       slots = omega (arith, slots, used);
+      wants = λ t aside. stay.wants t aside (c.wants t aside);
       claimed = λ t is_open. claimed-on p q t t (claimed-more p q t t touched (more-same (written_of (p.transaction t)) (written_of (q.transaction t)) (sym (stay.written t is_open))))
           (writes_of (h.seat t)) (c.claimed t (stay.open_still t is_open));
     }
@@ -101,8 +122,8 @@ counted-stays o p q h stay c =
     part t (Some x) e = let f = ap (left t) (stay.written t (ap is_some e)) in omega (arith, f)
     part t None e = let f = ap (left t) (ap written_of e) in omega (arith, f)
 
-pub counted-events : (o : Opening) (p : Place) (es : List Event) (h : Shelf) → CountNothing es → IsCounted o p h → IsCounted o (place_from o p es) h
-counted-events o p es h none c = counted-stays o p (place_from o p es) h (events-stay o p es none) c
+pub counted-events : (o : Opening) (p : Place) (es : List Event) (h : Shelf) → CountNothing h es → IsCounted o p h → IsCounted o (place_from o p es) h
+counted-events o p es h none c = counted-stays o p (place_from o p es) h (events-stay h o p es none) c
 
 -- ---- a transaction begins
 
@@ -117,6 +138,7 @@ counted-begins o p s kind h none empty c =
       lines = c.lines;
       pairs = omega (arith, less, pairs);
       slots = c.slots;
+      wants = λ t aside. wanted t (t == s) refl (c.wants t aside);
       claimed = λ t is_open. claims t (t == s) refl is_open;
     }
   where
@@ -130,6 +152,10 @@ counted-begins o p s kind h none empty c =
     part t true e =
         let f = ap (left t) (ap written_of (subst (λ (u : ℕ). at s new p.transaction u ≡ new) (sym (number t s e)) (at-same s new p.transaction))) in omega (arith, f)
     part t false e = let f = ap (left t) (ap written_of (at-other s t new p.transaction e)) in omega (arith, f)
+
+    wanted : (t : ℕ) (b : Bool) → (t == s) ≡ b → has_wanted (p.transaction t) ≡ true → has_wanted (at s new p.transaction t) ≡ true
+    wanted t true e was = absurd (false≢true (sym (ap has_wanted (subst (λ (u : ℕ). p.transaction u ≡ None) (sym (number t s e)) none)) ∙ was))
+    wanted t false e was = ap has_wanted (at-other s t new p.transaction e) ∙ was
 
     claims : (t : ℕ) (b : Bool) → (t == s) ≡ b → is_some (at s new p.transaction t) ≡ true → AreClaimed (after o p (Began s kind)) t (writes_of (h.seat t))
     claims t true e is_open = subst (AreClaimed (after o p (Began s kind)) t) (sym (subst (λ (u : ℕ). writes_of (h.seat u) ≡ []) (sym (number t s e)) empty)) tt
@@ -167,6 +193,7 @@ counted-gets o p s x n h is_open c =
       lines = λ key e. taken-on o p q touched (file_of key.area) key.page (c.lines key e);
       pairs = omega (arith, more, pairs);
       slots = subst (λ (k : ℕ). h.space.slots ≤ k) (sym slots_same) c.slots;
+      wants = λ t aside. wanted t (t == s) refl (c.wants t aside);
       claimed = λ t has. claims t (t == s) refl has;
     }
   where
@@ -191,6 +218,12 @@ counted-gets o p s x n h is_open c =
 
     at-s : (after o p (Got s n)).transaction s ≡ Some (with_need n x)
     at-s = ap (λ (f : ℕ → Option Transaction). f s) there ∙ at-same s (Some (with_need n x)) p.transaction
+
+    wanted : (t : ℕ) (b : Bool) → (t == s) ≡ b → has_wanted (p.transaction t) ≡ true → has_wanted ((after o p (Got s n)).transaction t) ≡ true
+    wanted t true e was =
+        subst (λ (u : ℕ). has_wanted ((after o p (Got s n)).transaction u) ≡ true) (sym (number t s e))
+        (ap has_wanted at-s ∙ (sym (ap has_wanted is_open) ∙ subst (λ (u : ℕ). has_wanted (p.transaction u) ≡ true) (number t s e) was))
+    wanted t false e was = ap has_wanted (at-t t e) ∙ was
 
     other : (t : ℕ) → (t == s) ≡ false → unlaid ((after o p (Got s n)).transaction t) (h.seat t) ≤ unlaid (p.transaction t) (h.seat t)
     other t e = let f = ap (left t) (ap written_of (at-t t e)) in omega (arith, f)
@@ -231,9 +264,13 @@ counted-changes o p s x more h k is_open member own ch c =
       lines = λ key e. c.lines key (ap (λ (l : Lines). is_some (line_in key l)) (sym ch.now) ∙ e);
       pairs = omega (arith, fewer, snaps, pairs);
       slots = omega (arith, slots, used);
+      wants = wants-same p h k s c.wants ch.others (λ aside. absurd (none-aside aside));
       claimed = λ t has. claims t (t == s) refl has;
     }
   where
+    none-aside : 0 < set_aside (k.seat s) → ⊥
+    none-aside aside = let e = ap set_aside ch.mine in omega (arith, e, aside)
+
     left : ℕ → List Write → ℕ
     left t ws = length (filter (λ n. not (is_laid ws n)) (written_of (p.transaction t)))
 
@@ -268,8 +305,8 @@ laid-found key (w ∷ ws) lines h =
 
 -- The writes of s become part of the committed lines, and its transaction ends.
 pub counted-commits : (o : Opening) (p q : Place) (s : ℕ) (x : Transaction) (ws : List Write) (seat : Seat) (moment : ℕ) (h k : Shelf) → p.transaction s ≡ Some x → ws ≡ writes_of (h.seat s) → Commits s ws seat moment h k →
-    ((t : ℕ) → q.transaction t ≡ at s None p.transaction t) → q.touched ≡ p.touched → q.pairs ≡ p.pairs → q.slots ≡ p.slots + (1 + length x.written) → IsCounted o p h → IsCounted o q k
-counted-commits o p q s x ws seat moment h k is_open are co gone touched pairs slots c =
+    set_aside seat ≡ 0 → ((t : ℕ) → q.transaction t ≡ at s None p.transaction t) → q.touched ≡ p.touched → q.pairs ≡ p.pairs → q.slots ≡ p.slots + (1 + length x.written) → IsCounted o p h → IsCounted o q k
+counted-commits o p q s x ws seat moment h k is_open are co idle gone touched pairs slots c =
     let more : HasMore p.touched q.touched = more-same p.touched q.touched (sym touched) in
     let less = sum-less (λ t. unlaid (p.transaction t) (h.seat t)) (λ t. unlaid (q.transaction t) (k.seat t)) (λ t. part t (t == s) refl) in
     let snaps = co.space.snaps in
@@ -284,6 +321,7 @@ counted-commits o p q s x ws seat moment h k is_open are co gone touched pairs s
       lines = λ key e. taken-on o p q more (file_of key.area) key.page (on-page key (laid-found key ws h.now (ap (λ (l : Lines). is_some (line_in key l)) (sym co.now) ∙ e)));
       pairs = omega (arith, less, snaps, was, pairs);
       slots = omega (arith, used, had, within, lines, slots);
+      wants = λ t aside. wanted t (t == s) refl aside;
       claimed = λ t has. claims t (t == s) refl has;
     }
   where
@@ -301,6 +339,13 @@ counted-commits o p q s x ws seat moment h k is_open are co gone touched pairs s
 
     same : (t : ℕ) → (t == s) ≡ false → q.transaction t ≡ p.transaction t
     same t e = gone t ∙ at-other s t None p.transaction e
+
+    none-aside : 0 < set_aside (k.seat s) → ⊥
+    none-aside aside = let e = ap set_aside co.mine in omega (arith, e, idle, aside)
+
+    wanted : (t : ℕ) (b : Bool) → (t == s) ≡ b → 0 < set_aside (k.seat t) → has_wanted (q.transaction t) ≡ true
+    wanted t true e aside = absurd (none-aside (subst (λ (u : ℕ). 0 < set_aside (k.seat u)) (number t s e) aside))
+    wanted t false e aside = ap has_wanted (same t e) ∙ c.wants t (subst (λ (x : Seat). 0 < set_aside x) (co.others.seat t e) aside)
 
     left : List Node → List Write → ℕ
     left ns vs = length (filter (λ n. not (is_laid vs n)) ns)
@@ -323,7 +368,7 @@ counted-commits o p q s x ws seat moment h k is_open are co gone touched pairs s
 pub counted-takes : (o : Opening) (p : Place) (s : ℕ) (key : Dbkey) (h k : Shelf) → is_on_line p.touched key ≡ true → IsCounted o p h → KeepsOthers s h k → k.now ≡ h.now → k.seat s ≡ h.seat s → TakesAt key h.space k.space → IsCounted o p k
 counted-takes o p s key h k touched c others now mine takes =
     let mid : Shelf = record k { space = h.space } in
-    let a : IsCounted o p mid = counted-moves o p h mid c now (record { limits = refl; taken = λ file page. refl; snaps = omega arith; slots = omega arith }) (writes-same p h k s others (λ e. ap writes_of mine)) in
+    let a : IsCounted o p mid = counted-moves o p h mid c now (record { limits = refl; taken = λ file page. refl; snaps = omega arith; slots = omega arith }) (writes-same p h k s others (λ e. ap writes_of mine)) (wants-same p h k s c.wants others (λ aside. c.wants s (subst (λ (x : Seat). 0 < set_aside x) mine aside))) in
     let snaps = takes.snaps in
     let pairs = a.pairs in
     let slots = takes.slots in
@@ -334,6 +379,7 @@ counted-takes o p s key h k touched c others now mine takes =
       lines = a.lines;
       pairs = omega (arith, snaps, pairs);
       slots = omega (arith, slots, used);
+      wants = a.wants;
       claimed = a.claimed;
     }
   where
@@ -353,8 +399,12 @@ counted-start o h from =
       lines = λ key e. owned key.page (o.has_owner (file_of key.area) key.page) (from.lines key e);
       pairs = omega (arith, none, snaps);
       slots = from.slots;
+      wants = λ t aside. absurd (none-aside t (from.idle t) aside);
       claimed = λ t has. absurd (false≢true has);
     }
   where
+    none-aside : (t : ℕ) → set_aside (h.seat t) ≡ 0 → 0 < set_aside (h.seat t) → ⊥
+    none-aside t e aside = omega (arith, e, aside)
+
     owned : (page : ℕ) (b : Bool) → b ≡ true → (is_space_page page || (b || false)) ≡ true
     owned page b h = or_right (is_space_page page) (b || false) (or_left b false h)

@@ -1,6 +1,6 @@
 -- Where the store refuses at a limit, the account has the cause.
-use Rattle.std.proofs.Common.{◌≡◌, ◌≢◌, ◌≤◌, ◌<◌, ℕ, zero, suc, ◌-◌, ◌%◌, ◌==◌, ◌||◌, ◌&&◌, [], nat_lt, if◌then◌else◌, Bool, true, false, List, length, refl, ◌∙◌, sym, ap, subst, arith, Option, Some, None, is_some, ◌⊎◌, inl, inr}
-use Rattle.std.proofs.lemmas.Bool.{or_cases, or_left, or_right, and_parts, and_from}
+use Rattle.std.proofs.Common.{◌≡◌, ◌≢◌, ◌≤◌, ◌<◌, ◌+◌, ℕ, zero, suc, ◌-◌, ◌%◌, ◌==◌, ◌||◌, ◌&&◌, [], nat_lt, if◌then◌else◌, not, sum_by, Bool, true, false, List, length, refl, ◌∙◌, sym, ap, subst, arith, Option, Some, None, is_some, ◌⊎◌, inl, inr}
+use Rattle.std.proofs.lemmas.Bool.{false≢true, or_cases, or_left, or_right, and_parts, and_from}
 use Rattle.rdb_types.specs.declared.keys.Dbkey.{Dbkey}
 use Rattle.rdo_ast.specs.declared.reply.Reply.TheVariants as r
 use Rattle.rdb_page.specs.Page.{IsOwner}
@@ -8,15 +8,15 @@ use Rattle.area_files.specs.Areas.{IsSpacePage}
 use Rattle.line_view.specs.declared.writes.Write.{Write}
 use Rattle.line_view.specs.Knowledge.{line_in}
 use Rattle.rdb_account.specs.Places.{Opening, Place, Transaction}
-use Rattle.rdb_account.specs.Lawful.{has_cause, is_taken, is_space_page, all_taken, file_of, written_by, journal_sum}
+use Rattle.rdb_account.specs.Lawful.{has_cause, is_taken, is_space_page, all_taken, file_of, written_by, journal_sum, part_of_other, sessions}
 use Rattle.line_store.specs.declared.answers.ChangeStop.TheVariants as change
 use Rattle.line_store.specs.declared.answers.CommitStop.TheVariants as commit
-use Rattle.line_store.specs.Seats.{Seat, IsMember, IsWriting, writing, writes_of, is_written}
-use Rattle.line_store.specs.Shelves.{Shelf, seen_from, seen_by}
+use Rattle.line_store.specs.Seats.{Seat, IsMember, IsWriting, outside, beginning, writing, changing, prepared, committing, rolling_back, closing, reading, dead, writes_of, is_written, group_of, set_aside}
+use Rattle.line_store.specs.Shelves.{Shelf, seen_from, seen_by, set_aside_beside}
 use Rattle.line_store.specs.Rooms.{IsFull, first_line}
 use Rattle.line_store.specs.Calls.{MayStopChange, MayStopCommit}
-use Rattle.store_counts.specs.Counts.{written_of, is_on_line, AreClaimed, unlaid, IsCounted}
-use Rattle.store_counts.proofs.Sums.{sum-part}
+use Rattle.store_counts.specs.Counts.{written_of, has_wanted, is_on_line, AreClaimed, unlaid, IsCounted}
+use Rattle.store_counts.proofs.Sums.{sum-part, sum-less}
 use Rattle.store_counts.proofs.Lines.{claimed-key, added-within, written-within}
 use Rattle.store_counts.proofs.Places.{touched-taken}
 use Rattle.store_counts.proofs.Kept.{laid-found}
@@ -50,16 +50,59 @@ snap-cause o p h s more limit member c own stop =
 
 -- ---- the journal
 
+-- no more is set aside than a group of what is written
+aside-group : (seat : Seat) → set_aside seat ≤ group_of (writes_of seat)
+aside-group outside = omega arith
+aside-group beginning = omega arith
+aside-group (writing ws) = omega arith
+aside-group (changing ws) = omega arith
+aside-group (prepared ws) = omega arith
+aside-group (committing ws) = omega arith
+aside-group (rolling_back ws) = omega arith
+aside-group closing = omega arith
+aside-group (reading start) = omega arith
+aside-group (dead true ws) = omega arith
+aside-group (dead false ws) = omega arith
+
+-- What is set aside for another is within the part of its transaction.
+part-within : (o : Opening) (p : Place) (h : Shelf) (s t : ℕ) → IsCounted o p h → (if t == s then 0 else set_aside (h.seat t)) ≤ part_of_other s t (p.transaction t)
+part-within o p h s t c = by (t == s) refl (set_aside (h.seat t)) refl
+  where
+    turned : (t == s) ≡ false → (s == t) ≡ false
+    turned e = grind arith
+
+    group : (x : Option Transaction) → p.transaction t ≡ x → has_wanted x ≡ true → (t == s) ≡ false → group_of (writes_of (h.seat t)) ≤ part_of_other s t x
+    group None is wants e = absurd (false≢true wants)
+    group (Some x) is wants e =
+        let within = written-within p t [] (writes_of (h.seat t)) (c.claimed t (ap is_some is)) tt in
+        let lines = ap (λ (y : Option Transaction). length (written_of y)) is in
+        subst (λ (n : ℕ). group_of (writes_of (h.seat t)) ≤ n) (sym (counted x.wants_journal (s == t) wants (turned e))) (omega (arith, within, lines))
+      where
+        counted : (a b : Bool) → a ≡ true → b ≡ false → (if a && not b then (1 + length x.written) else 0) ≡ 1 + length x.written
+        counted a b f g = rw f (rw g refl)
+
+    by : (b : Bool) → (t == s) ≡ b → (n : ℕ) → set_aside (h.seat t) ≡ n → (if b then 0 else set_aside (h.seat t)) ≤ part_of_other s t (p.transaction t)
+    by true e n is = omega arith
+    by false e zero is = omega (arith, is)
+    by false e (suc n) is =
+        let most = aside-group (h.seat t) in
+        let part = group (p.transaction t) refl (c.wants t (omega (arith, is))) e in
+        omega (arith, most, part)
+
+aside-within : (o : Opening) (p : Place) (h : Shelf) (s : ℕ) → IsCounted o p h → set_aside_beside s h ≤ sum_by (λ t. part_of_other s t (p.transaction t)) sessions
+aside-within o p h s c = sum-less (λ t. part_of_other s t (p.transaction t)) (λ t. if t == s then 0 else set_aside (h.seat t)) (λ t. part-within o p h s t c)
+
 pub aij-cause : (o : Opening) (p : Place) (h : Shelf) (s : ℕ) (limit : ℕ) → IsCounted o p h → is_some (p.transaction s) ≡ true → MayStopCommit h s (commit.AijFull limit) → has_cause o p s (r.AijFull limit) ≡ true
 aij-cause o p h s limit c is_open stop =
     let within = written-within p s [] (writes_of (h.seat s)) (c.claimed s is_open) tt in
     let count = written-count (p.transaction s) in
     let slots = c.slots in
+    let beside = aside-within o p h s c in
     let some = stop.1 in
     let over = stop.2 in
     and_from (limit == o.limits.slots) (nat_lt 0 (written_by (p.transaction s)) && nat_lt limit (journal_sum p s)) (same-number limit o.limits.slots (stop.0 ∙ c.limits.slots))
     (and_from (nat_lt 0 (written_by (p.transaction s))) (nat_lt limit (journal_sum p s)) (less 0 (written_by (p.transaction s)) (omega (arith, within, count, some)))
-    (less limit (journal_sum p s) (omega (arith, within, count, slots, over))))
+    (less limit (journal_sum p s) (omega (arith, within, count, slots, beside, over))))
 
 -- ---- an area
 

@@ -1,19 +1,22 @@
 -- What an event leaves of a place's counts.
-use Rattle.std.proofs.Common.{◌≡◌, ℕ, ◌++◌, ◌∷◌, [], ◌==◌, ◌||◌, ◌&&◌, if◌then◌else◌, Bool, true, false, List, refl, ◌∙◌, sym, ap, subst, arith, Option, Some, None, is_some, inl, inr}
+use Rattle.std.proofs.Common.{◌≡◌, ◌<◌, ℕ, ◌++◌, ◌∷◌, [], ◌==◌, ◌||◌, ◌&&◌, if◌then◌else◌, Bool, true, false, List, refl, ◌∙◌, sym, ap, subst, arith, Option, Some, None, is_some, inl, inr}
 use Rattle.std.specs.List.{list_any}
 use Rattle.std.proofs.lemmas.Bool.{false≢true, or_cases, or_left, or_right, and_parts, and_from}
 use Rattle.std.proofs.lemmas.List.Folds.{list_any-append}
 use Rattle.rdb_types.specs.declared.keys.Dbkey.{Dbkey}
 use Rattle.rdb_types.specs.declared.node.Node.{Node}
 use Rattle.rdo_ast.specs.Tree.{Uttered}
+use Rattle.lock_needs.specs.declared.need.Need.{Need}
 use Rattle.lock_needs.specs.Nodes.{same_node}
 use Rattle.lock_needs.proofs.NodeLaws.{same_node-true}
 use Rattle.rdb_account.specs.Events.{Event, Began, Wanted, Got, Demoted, Said, Committed, RolledBack, Died, Recovered}
-use Rattle.rdb_account.specs.Places.{Opening, Place, Transaction, Due, nothing, commit_reply, rollback_reply, rolls_back, after, place_from, changed, ended, committed_by, behind_roll_back, next_item, is_writer, is_line, at}
+use Rattle.rdb_account.specs.Places.{Opening, Place, Transaction, Due, nothing, commit_reply, rollback_reply, rolls_back, after, place_from, changed, wanting, ended, committed_by, behind_roll_back, next_item, is_writer, is_line, is_journal, at}
 use Rattle.rdb_account.specs.Lawful.{is_taken, is_space_page, file_of}
 use Rattle.kept_apart.specs.Guards.{line_node}
 use Rattle.lock_ties.proofs.Places.{at-same, at-other, number}
-use Rattle.store_counts.specs.Counts.{written_of, is_on_line, is_claimed}
+use Rattle.line_store.specs.Seats.{set_aside}
+use Rattle.line_store.specs.Shelves.{Shelf}
+use Rattle.store_counts.specs.Counts.{written_of, has_wanted, is_on_line, is_claimed}
 use Rattle.store_counts.specs.Events.{CountsNothing, CountNothing}
 
 -- ---- more nodes
@@ -69,47 +72,59 @@ claimed-more p q s t touched written key h =
 
 -- ---- events that count nothing
 
--- The counts stay, and the lines of each transaction that is still open.
-pub record CountsStay (p q : Place) : Type 0 where
+-- The counts stay, and the lines of each transaction that is still open. For whom slots are set aside, its transaction has wanted the journal still.
+pub record CountsStay (h : Shelf) (p q : Place) : Type 0 where
   pub touched : q.touched ≡ p.touched
   pub pairs : q.pairs ≡ p.pairs
   pub slots : q.slots ≡ p.slots
   pub open_still : (t : ℕ) → is_some (q.transaction t) ≡ true → is_some (p.transaction t) ≡ true
   pub written : (t : ℕ) → is_some (q.transaction t) ≡ true → written_of (q.transaction t) ≡ written_of (p.transaction t)
+  pub wants : (t : ℕ) → 0 < set_aside (h.seat t) → has_wanted (p.transaction t) ≡ true → has_wanted (q.transaction t) ≡ true
 
-pub stay-refl : (p : Place) → CountsStay p p
-stay-refl p = record { touched = refl; pairs = refl; slots = refl; open_still = λ t h. h; written = λ t h. refl }
+pub stay-refl : (h : Shelf) (p : Place) → CountsStay h p p
+stay-refl h p = record { touched = refl; pairs = refl; slots = refl; open_still = λ t e. e; written = λ t e. refl; wants = λ t aside e. e }
 
-pub stay-on : (p q r : Place) → CountsStay p q → CountsStay q r → CountsStay p r
-stay-on p q r a b = record {
+pub stay-on : (h : Shelf) (p q r : Place) → CountsStay h p q → CountsStay h q r → CountsStay h p r
+stay-on h p q r a b = record {
   touched = b.touched ∙ a.touched;
   pairs = b.pairs ∙ a.pairs;
   slots = b.slots ∙ a.slots;
-  open_still = λ t h. a.open_still t (b.open_still t h);
-  written = λ t h. b.written t h ∙ a.written t (b.open_still t h);
+  open_still = λ t e. a.open_still t (b.open_still t e);
+  written = λ t e. b.written t e ∙ a.written t (b.open_still t e);
+  wants = λ t aside e. b.wants t aside (a.wants t aside e);
 }
 
--- only what the transactions are told by is changed, or they end
-pub stay-by : (p q : Place) → q.touched ≡ p.touched → q.pairs ≡ p.pairs → q.slots ≡ p.slots → ((t : ℕ) → (written_of (q.transaction t) ≡ written_of (p.transaction t)) × (is_some (q.transaction t) ≡ is_some (p.transaction t))) → CountsStay p q
-stay-by p q touched pairs slots same = record { touched = touched; pairs = pairs; slots = slots; open_still = λ t h. sym (same t).1 ∙ h; written = λ t h. (same t).0 }
+-- the same lines are written, and the journal is wanted where it was
+pub record IsAlike (x y : Option Transaction) : Type 0 where
+  pub written : written_of y ≡ written_of x
+  pub is_open : is_some y ≡ is_some x
+  pub wants : has_wanted x ≡ true → has_wanted y ≡ true
+
+alike-same : (x y : Option Transaction) → y ≡ x → IsAlike x y
+alike-same x y e = record { written = ap written_of e; is_open = ap is_some e; wants = λ h. ap has_wanted e ∙ h }
+
+-- only what the transactions are told by is changed
+pub stay-by : (h : Shelf) (p q : Place) → q.touched ≡ p.touched → q.pairs ≡ p.pairs → q.slots ≡ p.slots → ((t : ℕ) → IsAlike (p.transaction t) (q.transaction t)) → CountsStay h p q
+stay-by h p q touched pairs slots same = record { touched = touched; pairs = pairs; slots = slots; open_still = λ t e. sym (same t).is_open ∙ e; written = λ t e. (same t).written; wants = λ t aside e. (same t).wants e }
 
 -- the transaction of s is another with the same lines
-pub stay-changed : (p : Place) (s : ℕ) (x y : Transaction) → p.transaction s ≡ Some x → y.written ≡ x.written → (t : ℕ) →
-    (written_of (at s (Some y) p.transaction t) ≡ written_of (p.transaction t)) × (is_some (at s (Some y) p.transaction t) ≡ is_some (p.transaction t))
+pub stay-changed : (p : Place) (s : ℕ) (x y : Transaction) → p.transaction s ≡ Some x → IsAlike (Some x) (Some y) → (t : ℕ) → IsAlike (p.transaction t) (at s (Some y) p.transaction t)
 stay-changed p s x y is_open same t = by (t == s) refl
   where
-    by : (b : Bool) → (t == s) ≡ b → (written_of (at s (Some y) p.transaction t) ≡ written_of (p.transaction t)) × (is_some (at s (Some y) p.transaction t) ≡ is_some (p.transaction t))
-    by true e = subst (λ (u : ℕ). (written_of (at s (Some y) p.transaction u) ≡ written_of (p.transaction u)) × (is_some (at s (Some y) p.transaction u) ≡ is_some (p.transaction u))) (sym (number t s e))
-        (ap written_of (at-same s (Some y) p.transaction) ∙ (same ∙ sym (ap written_of is_open)), ap is_some (at-same s (Some y) p.transaction) ∙ sym (ap is_some is_open))
-    by false e = (ap written_of (at-other s t (Some y) p.transaction e), ap is_some (at-other s t (Some y) p.transaction e))
+    by : (b : Bool) → (t == s) ≡ b → IsAlike (p.transaction t) (at s (Some y) p.transaction t)
+    by true e = subst (λ (u : ℕ). IsAlike (p.transaction u) (at s (Some y) p.transaction u)) (sym (number t s e))
+        (subst (λ (z : Option Transaction). IsAlike z (at s (Some y) p.transaction s)) (sym is_open) (subst (λ (z : Option Transaction). IsAlike (Some x) z) (sym (at-same s (Some y) p.transaction)) same))
+    by false e = alike-same (p.transaction t) (at s (Some y) p.transaction t) (at-other s t (Some y) p.transaction e)
 
-pub stay-gone : (p q : Place) (s : ℕ) → q.touched ≡ p.touched → q.pairs ≡ p.pairs → q.slots ≡ p.slots → ((t : ℕ) → q.transaction t ≡ at s None p.transaction t) → CountsStay p q
-stay-gone p q s touched pairs slots gone = record {
+-- it ends, and nothing is set aside for it
+pub stay-gone : (h : Shelf) (p q : Place) (s : ℕ) → q.touched ≡ p.touched → q.pairs ≡ p.pairs → q.slots ≡ p.slots → ((t : ℕ) → q.transaction t ≡ at s None p.transaction t) → set_aside (h.seat s) ≡ 0 → CountsStay h p q
+stay-gone h p q s touched pairs slots gone idle = record {
   touched = touched;
   pairs = pairs;
   slots = slots;
-  open_still = λ t h. ap is_some (sym (other t h)) ∙ h;
-  written = λ t h. ap written_of (other t h);
+  open_still = λ t e. ap is_some (sym (other t e)) ∙ e;
+  written = λ t e. ap written_of (other t e);
+  wants = λ t aside e. wanted t aside (t == s) refl e;
 }
   where
     other : (t : ℕ) → is_some (q.transaction t) ≡ true → q.transaction t ≡ p.transaction t
@@ -119,41 +134,52 @@ stay-gone p q s touched pairs slots gone = record {
         by true e = absurd (false≢true (sym (ap is_some (gone t ∙ subst (λ (u : ℕ). at s None p.transaction u ≡ None) (sym (number t s e)) (at-same s None p.transaction))) ∙ h))
         by false e = gone t ∙ at-other s t None p.transaction e
 
+    none-aside : (n : ℕ) → n ≡ 0 → 0 < n → ⊥
+    none-aside n e k = omega (arith, e, k)
+
+    wanted : (t : ℕ) → 0 < set_aside (h.seat t) → (b : Bool) → (t == s) ≡ b → has_wanted (p.transaction t) ≡ true → has_wanted (q.transaction t) ≡ true
+    wanted t aside true e k = absurd (none-aside (set_aside (h.seat t)) (subst (λ (u : ℕ). set_aside (h.seat u) ≡ 0) (sym (number t s e)) idle) aside)
+    wanted t aside false e k = ap has_wanted (gone t ∙ at-other s t None p.transaction e) ∙ k
+
 -- ---- each of these events
 
-pub stay-changing : (p : Place) (s : ℕ) (f : Transaction → Transaction) (x : Option Transaction) → p.transaction s ≡ x → ((y : Transaction) → (f y).written ≡ y.written) → CountsStay p (changed s f x p)
-stay-changing p s f (Some x) is_open same = stay-by p (changed s f (Some x) p) refl refl refl (stay-changed p s x (f x) is_open (same x))
-stay-changing p s f None is_open same = stay-refl p
+pub stay-changing : (h : Shelf) (p : Place) (s : ℕ) (f : Transaction → Transaction) (x : Option Transaction) → p.transaction s ≡ x → ((y : Transaction) → IsAlike (Some y) (Some (f y))) → CountsStay h p (changed s f x p)
+stay-changing h p s f (Some x) is_open same = stay-by h p (changed s f (Some x) p) refl refl refl (stay-changed p s x (f x) is_open (same x))
+stay-changing h p s f None is_open same = stay-refl h p
 
 -- but for what else such an event says
-stay-beside : (p q r : Place) → CountsStay p q → r.touched ≡ q.touched → r.pairs ≡ q.pairs → r.slots ≡ q.slots → r.transaction ≡ q.transaction → CountsStay p r
-stay-beside p q r h touched pairs slots same =
-    stay-on p q r h (stay-by q r touched pairs slots (λ t. (ap (λ (f : ℕ → Option Transaction). written_of (f t)) same, ap (λ (f : ℕ → Option Transaction). is_some (f t)) same)))
+stay-beside : (h : Shelf) (p q r : Place) → CountsStay h p q → r.touched ≡ q.touched → r.pairs ≡ q.pairs → r.slots ≡ q.slots → r.transaction ≡ q.transaction → CountsStay h p r
+stay-beside h p q r stay touched pairs slots same =
+    stay-on h p q r stay (stay-by h q r touched pairs slots (λ t. alike-same (q.transaction t) (r.transaction t) (ap (λ (f : ℕ → Option Transaction). f t) same)))
 
-rolled-stays : (s : ℕ) (due : Due) (next : Option Uttered) (p : Place) → CountsStay p (behind_roll_back s due next (ended s p))
-rolled-stays s (rolls_back t) next p = stay-gone p (behind_roll_back s (rolls_back t) next (ended s p)) s refl refl refl (λ u. refl)
-rolled-stays s nothing (Some item) p = stay-gone p (behind_roll_back s nothing (Some item) (ended s p)) s refl refl refl (λ u. refl)
-rolled-stays s (commit_reply t) (Some item) p = stay-gone p (behind_roll_back s (commit_reply t) (Some item) (ended s p)) s refl refl refl (λ u. refl)
-rolled-stays s (rollback_reply t) (Some item) p = stay-gone p (behind_roll_back s (rollback_reply t) (Some item) (ended s p)) s refl refl refl (λ u. refl)
-rolled-stays s nothing None p = stay-gone p (behind_roll_back s nothing None (ended s p)) s refl refl refl (λ u. refl)
-rolled-stays s (commit_reply t) None p = stay-gone p (behind_roll_back s (commit_reply t) None (ended s p)) s refl refl refl (λ u. refl)
-rolled-stays s (rollback_reply t) None p = stay-gone p (behind_roll_back s (rollback_reply t) None (ended s p)) s refl refl refl (λ u. refl)
+rolled-stays : (h : Shelf) (s : ℕ) (due : Due) (next : Option Uttered) (p : Place) → set_aside (h.seat s) ≡ 0 → CountsStay h p (behind_roll_back s due next (ended s p))
+rolled-stays h s (rolls_back t) next p idle = stay-gone h p (behind_roll_back s (rolls_back t) next (ended s p)) s refl refl refl (λ u. refl) idle
+rolled-stays h s nothing (Some item) p idle = stay-gone h p (behind_roll_back s nothing (Some item) (ended s p)) s refl refl refl (λ u. refl) idle
+rolled-stays h s (commit_reply t) (Some item) p idle = stay-gone h p (behind_roll_back s (commit_reply t) (Some item) (ended s p)) s refl refl refl (λ u. refl) idle
+rolled-stays h s (rollback_reply t) (Some item) p idle = stay-gone h p (behind_roll_back s (rollback_reply t) (Some item) (ended s p)) s refl refl refl (λ u. refl) idle
+rolled-stays h s nothing None p idle = stay-gone h p (behind_roll_back s nothing None (ended s p)) s refl refl refl (λ u. refl) idle
+rolled-stays h s (commit_reply t) None p idle = stay-gone h p (behind_roll_back s (commit_reply t) None (ended s p)) s refl refl refl (λ u. refl) idle
+rolled-stays h s (rollback_reply t) None p idle = stay-gone h p (behind_roll_back s (rollback_reply t) None (ended s p)) s refl refl refl (λ u. refl) idle
 
-after-stays : (o : Opening) (p : Place) (e : Event) → CountsNothing e → CountsStay p (after o p e)
-after-stays o p (Began s kind) h = absurd h
-after-stays o p (Wanted s n a) h = stay-beside p (changed s _ (p.transaction s) p) (after o p (Wanted s n a)) (stay-changing p s _ (p.transaction s) refl (λ y. refl)) refl refl refl refl
-after-stays o p (Got s n) h = absurd h
-after-stays o p (Demoted s n from to) h = stay-refl p
-after-stays o p (Said s i c r) h = stay-beside p (changed s _ (p.transaction s) p) (after o p (Said s i c r)) (stay-changing p s _ (p.transaction s) refl (λ y. refl)) refl refl refl refl
-after-stays o p (Committed s m) h = absurd h
-after-stays o p (RolledBack s) h = rolled-stays s p.due (next_item o p s) p
-after-stays o p (Died s c) h = stay-by p (after o p (Died s c)) refl refl refl (λ t. (refl, refl))
-after-stays o p (Recovered s true m) h = absurd h
-after-stays o p (Recovered s false m) h = stay-gone p (after o p (Recovered s false m)) s refl refl refl (λ u. refl)
+-- whoever asks at a node goes on wanting the journal
+wants-more : (n : Need) (y : Transaction) → IsAlike (Some y) (Some (wanting n y))
+wants-more n y = record { written = refl; is_open = refl; wants = λ e. or_left y.wants_journal (is_journal n.node.level) e }
 
-pub events-stay : (o : Opening) (p : Place) (es : List Event) → CountNothing es → CountsStay p (place_from o p es)
-events-stay o p [] h = stay-refl p
-events-stay o p (e ∷ es) h = stay-on p (after o p e) (place_from o (after o p e) es) (after-stays o p e h.0) (events-stay o (after o p e) es h.1)
+after-stays : (h : Shelf) (o : Opening) (p : Place) (e : Event) → CountsNothing h e → CountsStay h p (after o p e)
+after-stays h o p (Began s kind) k = absurd k
+after-stays h o p (Wanted s n a) k = stay-beside h p (changed s (wanting n) (p.transaction s) p) (after o p (Wanted s n a)) (stay-changing h p s (wanting n) (p.transaction s) refl (wants-more n)) refl refl refl refl
+after-stays h o p (Got s n) k = absurd k
+after-stays h o p (Demoted s n from to) k = stay-refl h p
+after-stays h o p (Said s i c r) k = stay-beside h p (changed s _ (p.transaction s) p) (after o p (Said s i c r)) (stay-changing h p s _ (p.transaction s) refl (λ y. record { written = refl; is_open = refl; wants = λ e. e })) refl refl refl refl
+after-stays h o p (Committed s m) k = absurd k
+after-stays h o p (RolledBack s) k = rolled-stays h s p.due (next_item o p s) p k
+after-stays h o p (Died s c) k = stay-by h p (after o p (Died s c)) refl refl refl (λ t. record { written = refl; is_open = refl; wants = λ e. e })
+after-stays h o p (Recovered s true m) k = absurd k
+after-stays h o p (Recovered s false m) k = stay-gone h p (after o p (Recovered s false m)) s refl refl refl (λ u. refl) k
+
+pub events-stay : (h : Shelf) (o : Opening) (p : Place) (es : List Event) → CountNothing h es → CountsStay h p (place_from o p es)
+events-stay h o p [] k = stay-refl h p
+events-stay h o p (e ∷ es) k = stay-on h p (after o p e) (place_from o (after o p e) es) (after-stays h o p e k.0) (events-stay h o (after o p e) es k.1)
 
 -- ---- touched nodes stay so, whatever happens
 
@@ -170,7 +196,13 @@ changed-touched s f (Some x) p = refl
 changed-touched s f None p = refl
 
 rolled-touched : (s : ℕ) (due : Due) (next : Option Uttered) (p : Place) → (behind_roll_back s due next (ended s p)).touched ≡ p.touched
-rolled-touched s due next p = (rolled-stays s due next p).touched
+rolled-touched s (rolls_back t) next p = refl
+rolled-touched s nothing (Some item) p = refl
+rolled-touched s (commit_reply t) (Some item) p = refl
+rolled-touched s (rollback_reply t) (Some item) p = refl
+rolled-touched s nothing None p = refl
+rolled-touched s (commit_reply t) None p = refl
+rolled-touched s (rollback_reply t) None p = refl
 
 got-touched : (p : Place) (n : Node) (b : Bool) → HasMore p.touched (if b then p.touched ++ n ∷ [] else p.touched)
 got-touched p n true = more-behind p.touched (n ∷ [])

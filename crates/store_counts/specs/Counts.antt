@@ -1,5 +1,5 @@
 -- How the account's counts bound what a store has taken.
-use Rattle.std.specs.Prelude.{◌≡◌, ◌≤◌, ◌+◌, ◌&&◌, ◌⊎◌, not, ℕ, Bool, true, List, [], length, sum_by, Option, Some, None, is_some}
+use Rattle.std.specs.Prelude.{◌≡◌, ◌≤◌, ◌<◌, ◌+◌, ◌&&◌, ◌⊎◌, not, ℕ, Bool, true, false, List, [], length, sum_by, Option, Some, None, is_some}
 use Rattle.std.specs.List.{list_any, filter, AllByRecursion}
 use Rattle.rdb_types.specs.declared.keys.Dbkey.{Dbkey}
 use Rattle.rdb_types.specs.declared.keys.Limits.{Limits as OfStore}
@@ -10,7 +10,7 @@ use Rattle.line_view.specs.Knowledge.{Lines, line_in}
 use Rattle.rdb_account.specs.Places.{Opening, Limits, Place, Transaction}
 use Rattle.rdb_account.specs.Lawful.{is_taken, file_of, sessions}
 use Rattle.kept_apart.specs.Guards.{line_node}
-use Rattle.line_store.specs.Seats.{Seat, writes_of}
+use Rattle.line_store.specs.Seats.{Seat, writes_of, set_aside}
 use Rattle.line_store.specs.Shelves.{Space, Shelf}
 
 -- ---- lines on which EX was got
@@ -42,6 +42,13 @@ unlaid x seat = length (filter (λ n. not (is_laid (writes_of seat) n)) (written
 abbrev pub all_unlaid : Place → Shelf → ℕ
 all_unlaid p h = sum_by (λ t. unlaid (p.transaction t) (h.seat t)) sessions
 
+-- ---- the journal
+
+-- the account has it that the transaction has wanted the journal
+abbrev pub has_wanted : Option Transaction → Bool
+has_wanted (Some t) = t.wants_journal
+has_wanted None = false
+
 -- ---- a store within the account's counts
 
 pub record AreLimits (root : Limits) (store : OfStore) : Type 0 where
@@ -56,22 +63,25 @@ AreOnPages o p lines = (key : Dbkey) → is_some (line_in key lines) ≡ true �
 
 -- The store has the limits of the root. Each page that it has taken, and each that has a line, is taken by the account. Its snapshots
 -- are pairs of the account, and for each line of an open transaction on which nothing is laid yet there is a pair beside these. Its slots
--- of the journal are the account's. All that is laid in a transaction is on lines on which EX was got in it.
+-- of the journal are the account's, and slots are set aside only for those who have wanted the journal. All that is laid in a transaction
+-- is on lines on which EX was got in it.
 pub record IsCounted (o : Opening) (p : Place) (h : Shelf) : Type 0 where
   pub limits : AreLimits o.limits h.space.limits
   pub taken : (file page : ℕ) → h.space.taken file page ≡ true → is_taken o p file page ≡ true
   pub lines : AreOnPages o p h.now
   pub pairs : h.space.snaps + all_unlaid p h ≤ p.pairs
   pub slots : h.space.slots ≤ p.slots
+  pub wants : (t : ℕ) → 0 < set_aside (h.seat t) → has_wanted (p.transaction t) ≡ true
   pub claimed : (t : ℕ) → is_some (p.transaction t) ≡ true → AreClaimed p t (writes_of (h.seat t))
 
--- At the opening: nothing is used but what the opening image has.
+-- At the opening: nothing is used but what the opening image has, and nothing is set aside.
 pub record IsCountedFrom (o : Opening) (h : Shelf) : Type 0 where
   pub limits : AreLimits o.limits h.space.limits
   pub taken : (file page : ℕ) → h.space.taken file page ≡ true → o.has_owner file page ≡ true
   pub lines : (key : Dbkey) → is_some (line_in key h.now) ≡ true → o.has_owner (file_of key.area) key.page ≡ true
   pub snaps : h.space.snaps ≡ 0
   pub slots : h.space.slots ≤ o.group_slots
+  pub idle : (t : ℕ) → set_aside (h.seat t) ≡ 0
 
 -- ---- a room
 

@@ -1,19 +1,21 @@
--- Events that count nothing: no transaction begins, no need is got, and no writes are committed.
-use Rattle.std.specs.Prelude.{true, false, List, [], ◌∷◌}
+-- Events that count nothing: no transaction begins, no need is got, no writes are committed, and no transaction ends for which the store has set slots aside.
+use Rattle.std.specs.Prelude.{◌≡◌, true, false, List, [], ◌∷◌}
 use Rattle.rdb_account.specs.Events.{Event, Began, Wanted, Got, Demoted, Said, Committed, RolledBack, Died, Recovered}
+use Rattle.line_store.specs.Seats.{set_aside}
+use Rattle.line_store.specs.Shelves.{Shelf}
 
-abbrev pub CountsNothing : Event → Type 0
-CountsNothing (Began s kind) = ⊥
-CountsNothing (Wanted s n a) = Unit {0}
-CountsNothing (Got s n) = ⊥
-CountsNothing (Demoted s n from to) = Unit {0}
-CountsNothing (Said s i c r) = Unit {0}
-CountsNothing (Committed s m) = ⊥
-CountsNothing (RolledBack s) = Unit {0}
-CountsNothing (Died s c) = Unit {0}
-CountsNothing (Recovered s true m) = ⊥
-CountsNothing (Recovered s false m) = Unit {0}
+abbrev pub CountsNothing : Shelf → Event → Type 0
+CountsNothing h (Began s kind) = ⊥
+CountsNothing h (Wanted s n a) = Unit {0}
+CountsNothing h (Got s n) = ⊥
+CountsNothing h (Demoted s n from to) = Unit {0}
+CountsNothing h (Said s i c r) = Unit {0}
+CountsNothing h (Committed s m) = ⊥
+CountsNothing h (RolledBack s) = set_aside (h.seat s) ≡ 0
+CountsNothing h (Died s c) = Unit {0}
+CountsNothing h (Recovered s true m) = ⊥
+CountsNothing h (Recovered s false m) = set_aside (h.seat s) ≡ 0
 
-abbrev pub CountNothing : List Event → Type 0
-CountNothing [] = Unit {0}
-CountNothing (e ∷ es) = CountsNothing e × CountNothing es
+abbrev pub CountNothing : Shelf → List Event → Type 0
+CountNothing h [] = Unit {0}
+CountNothing h (e ∷ es) = CountsNothing h e × CountNothing h es

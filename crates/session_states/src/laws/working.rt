@@ -20,7 +20,7 @@ ghost use Rattle.line_steps.specs.Right.{Ground};
 ghost use Rattle.store_counts.specs.Counts.{TakesAt};
 ghost use Rattle.session_states.specs.declared.stage.Work.TheVariants.{Due, Out, Lacking, Housing, Fetching, Lodging};
 ghost use Rattle.session_states.specs.declared.stage.Laying.TheVariants.{Claiming};
-ghost use Rattle.session_states.specs.declared.stage.End.TheVariants.{Journal};
+ghost use Rattle.session_states.specs.declared.stage.End.TheVariants.{Preparing};
 ghost use Rattle.session_states.specs.declared.stage.Stage.TheVariants.{Between, Working, Saying, Ending};
 ghost use Rattle.session_states.specs.declared.stage.Phase.TheVariants.{Writing};
 ghost use Rattle.session_states.specs.States.{writer, session};
@@ -34,7 +34,7 @@ use session_jobs::Statements;
 /// line bad.
 pub fn statements_are_worked<S: Statements>()
     ensures takes { (s : ℕ) (c : Shared) (item : Item) (left : List Item) (total : ℕ) (standing : Standing) (known : Held) (spoken waits : Bool) → ends_by (uttered_of item) ≡ false → Step S.stands s c (session (item ∷ left) total (Writing (writer standing known spoken waits Between))) c (session left total (Writing (writer standing known spoken waits (Working item Due)))) [] }
-    ensures takes_commit { (s : ℕ) (c : Shared) (item : Item) (left : List Item) (total : ℕ) (standing : Standing) (known : Held) (spoken waits : Bool) → uttered_of item ≡ said commit → Step S.stands s c (session (item ∷ left) total (Writing (writer standing known spoken waits Between))) c (session left total (Writing (writer standing known spoken waits (Ending Journal)))) [] }
+    ensures takes_commit { (s : ℕ) (c : Shared) (item : Item) (left : List Item) (total : ℕ) (standing : Standing) (known : Held) (spoken waits : Bool) → uttered_of item ≡ said commit → Step S.stands s c (session (item ∷ left) total (Writing (writer standing known spoken waits Between))) c (session left total (Writing (writer standing known spoken waits (Ending Preparing)))) [] }
     ensures hands_out { (s : ℕ) (c : Shared) (left : List Item) (total : ℕ) (standing : Standing) (known : Held) (spoken waits : Bool) (item : Item) → Step S.stands s c (session left total (Writing (writer standing known spoken waits (Working item Due)))) c (session left total (Writing (writer standing known spoken waits (Working item Out)))) [] }
     ensures done { (s : ℕ) (c : Shared) (left : List Item) (total : ℕ) (standing : Standing) (known : Held) (spoken waits : Bool) (item : Item) (r : TxRecord) → IsFound S.stands c.word standing (uttered_of item) (knows known) (Done r) → Step S.stands s c (session left total (Writing (writer standing known spoken waits (Working item Out)))) c (session left total (Writing (writer standing known spoken waits (Saying item r (Claiming 0))))) [] }
     ensures lacking { (s : ℕ) (c : Shared) (left : List Item) (total : ℕ) (standing : Standing) (known : Held) (spoken waits : Bool) (item : Item) (next : Need) (later : List Need) → IsFound S.stands c.word standing (uttered_of item) (knows known) (Missing next later) → Step S.stands s c (session left total (Writing (writer standing known spoken waits (Working item Out)))) c (session left total (Writing (writer standing known spoken waits (Working item (Lacking next))))) [] }

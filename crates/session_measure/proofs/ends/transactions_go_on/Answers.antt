@@ -18,6 +18,12 @@ returns-clause-opens c = λ k s c d item left total standing known spoken waits.
 pub returns-clause-takes_commit : goal.returns-clause-takes_commit
 returns-clause-takes_commit c = λ k s c item left total standing known spoken waits. inr (refl, inr (taken-up item left, inl (omega arith, refl)))
 
+pub returns-clause-prepares : goal.returns-clause-prepares
+returns-clause-prepares c = λ k s c d left total standing known spoken waits. inr (refl, inr (refl, inl (omega arith, refl)))
+
+pub returns-clause-prepares_got : goal.returns-clause-prepares_got
+returns-clause-prepares_got c = λ k s c d left total standing known spoken waits. inr (refl, inr (refl, inl (omega arith, refl)))
+
 pub returns-clause-commits : goal.returns-clause-commits
 returns-clause-commits c = λ k s c d left total standing known spoken waits. inr (refl, inr (refl, inl (omega arith, refl)))
 

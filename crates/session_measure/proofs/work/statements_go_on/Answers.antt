@@ -1,6 +1,6 @@
-use Rattle.std.proofs.Common.{refl, ap, arith, inl, inr}
+use Rattle.std.proofs.Common.{refl, ap, arith, inl, inr, length, ◌-◌}
 use Rattle.session_measure.specs.Weights.{unopened}
-use Rattle.session_measure.proofs.Falling.{taken-up, next-need}
+use Rattle.session_measure.proofs.Falling.{taken-up, next-need, housed}
 use Rattle.session_measure.proofs.work.statements_go_on.Goals as goal
 
 pub returns-clause-takes : goal.returns-clause-takes
@@ -26,6 +26,15 @@ returns-clause-gathers c = λ k s c item left total standing known spoken waits 
 
 pub returns-clause-read_on : goal.returns-clause-read_on
 returns-clause-read_on c = λ k s c d item left total standing known new spoken waits n m later place found. inr (refl, inr (refl, inr (refl, inr (refl, inr (refl, inl (next-need later place m found, refl))))))
+
+pub returns-clause-housed : goal.returns-clause-housed
+returns-clause-housed c = λ k s c item left total standing known spoken waits n room key later place. inr (refl, inr (refl, inr (refl, inr (refl, inr (refl, inl (housed (length later - place), refl))))))
+
+pub returns-clause-lodged_on : goal.returns-clause-lodged_on
+returns-clause-lodged_on c = λ k s c d item left total standing known new spoken waits room key m later place found. inr (refl, inr (refl, inr (refl, inr (refl, inr (refl, inl (next-need later place m found, refl))))))
+
+pub returns-clause-drops_lodging : goal.returns-clause-drops_lodging
+returns-clause-drops_lodging c = λ k s c item left total standing known spoken waits room key later place. inr (refl, inr (refl, inr (refl, inr (refl, inl (omega arith, refl)))))
 
 pub returns-clause-drops : goal.returns-clause-drops
 returns-clause-drops c = λ k s c item left total standing known spoken waits n later place. inr (refl, inr (refl, inr (refl, inr (refl, inl (omega arith, refl)))))

@@ -1,8 +1,6 @@
-use Rattle.std.proofs.Common.{false, refl, ◌∙◌, ap, not}
+use Rattle.std.proofs.Common.{refl, ◌∙◌, ap, not}
 use Rattle.rdo_ast.specs.Views.{uttered_of}
-use Rattle.rdb_account.specs.Legal.{ends_by}
-use Rattle.session_states.proofs.Refusing.{asks-waits, unended}
-use Rattle.session_states.proofs.Forgoing.{and-undone}
+use Rattle.session_states.proofs.Refusing.{asks-waits}
 use Rattle.rdo_ast.specs.declared.reply.Reply.TheVariants as r
 use Rattle.lock_ties.proofs.Answers.{conflict-lawful, deadlock-lawful}
 use Rattle.session_states.proofs.Starting.{start-answered-on, start-refuses-on, start-forgoes-on}
@@ -13,21 +11,21 @@ returns-clause-answered g c = start-answered-on g.S.Statements.stands g.met.S.St
 
 pub returns-clause-conflict : goal.returns-clause-conflict
 returns-clause-conflict g c = λ s d shelf mid locks left total standing known waits stage n item t wants is stays call a moves rests.
-    start-refuses-on g.S.Statements.stands g.met.S.Statements.orderly s d shelf mid locks left total standing known waits stage n (uttered_of item) (r.LockConflict t) wants is (unended (ends_by (uttered_of item)) false stays) call a.1.rests refl
+    start-refuses-on g.S.Statements.stands g.met.S.Statements.orderly s d shelf mid locks left total standing known waits stage n (uttered_of item) (r.LockConflict t) wants is stays call a.1.rests refl
     (λ word tables free asks. (free, asks-waits tables n (uttered_of item) asks stays)) (λ o p x is_open tied nowait. conflict-lawful o p s n x is_open d.locks mid t tied call a.1 (nowait ∙ ap not a.0)) moves rests
 
 pub returns-clause-deadlock : goal.returns-clause-deadlock
 returns-clause-deadlock g c = λ s d shelf mid locks left total standing known waits stage n item cycle wants is stays call a moves rests.
-    start-refuses-on g.S.Statements.stands g.met.S.Statements.orderly s d shelf mid locks left total standing known waits stage n (uttered_of item) (r.Deadlock cycle) wants is (unended (ends_by (uttered_of item)) false stays) call a.1.rests refl
+    start-refuses-on g.S.Statements.stands g.met.S.Statements.orderly s d shelf mid locks left total standing known waits stage n (uttered_of item) (r.Deadlock cycle) wants is stays call a.1.rests refl
     (λ word tables free asks. (free, asks-waits tables n (uttered_of item) asks stays)) (λ o p x is_open tied nowait. deadlock-lawful o p s n x is_open d.locks mid cycle tied call a.1) moves rests
 
 pub returns-clause-forgone : goal.returns-clause-forgone
 returns-clause-forgone g c = start-forgoes-on g.S.Statements.stands g.met.S.Statements.orderly
 
 pub returns-clause-conflict_forgone : goal.returns-clause-conflict_forgone
-returns-clause-conflict_forgone g c = λ s d shelf mid locks left total standing known waits stage n item t wants is call a moves rests.
-    start-refuses-on g.S.Statements.stands g.met.S.Statements.orderly s d shelf mid locks left total standing known waits stage n item r.NoMemory wants is (and-undone (ends_by item)) call a.1.rests refl (λ word tables free asks. tt) (λ o p x is_open tied nowait. refl) moves rests
+returns-clause-conflict_forgone g c = λ s d shelf mid locks left total standing known waits stage n item t wants is stays call a moves rests.
+    start-refuses-on g.S.Statements.stands g.met.S.Statements.orderly s d shelf mid locks left total standing known waits stage n item r.NoMemory wants is stays call a.1.rests refl (λ word tables free asks. tt) (λ o p x is_open tied nowait. refl) moves rests
 
 pub returns-clause-deadlock_forgone : goal.returns-clause-deadlock_forgone
-returns-clause-deadlock_forgone g c = λ s d shelf mid locks left total standing known waits stage n item cycle wants is call a moves rests.
-    start-refuses-on g.S.Statements.stands g.met.S.Statements.orderly s d shelf mid locks left total standing known waits stage n item r.NoMemory wants is (and-undone (ends_by item)) call a.1.rests refl (λ word tables free asks. tt) (λ o p x is_open tied nowait. refl) moves rests
+returns-clause-deadlock_forgone g c = λ s d shelf mid locks left total standing known waits stage n item cycle wants is stays call a moves rests.
+    start-refuses-on g.S.Statements.stands g.met.S.Statements.orderly s d shelf mid locks left total standing known waits stage n item r.NoMemory wants is stays call a.1.rests refl (λ word tables free asks. tt) (λ o p x is_open tied nowait. refl) moves rests

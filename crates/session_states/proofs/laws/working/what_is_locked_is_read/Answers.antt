@@ -1,8 +1,7 @@
-use Rattle.std.proofs.Common.{refl, ap}
+use Rattle.std.proofs.Common.{refl}
 use Rattle.std.proofs.lemmas.Bool.{and_parts}
-use Rattle.line_store.specs.Seats.{writes_of}
 use Rattle.store_counts.specs.Counts.{written_of, is_on_line}
-use Rattle.store_counts.proofs.Kept.{counted-on, counted-takes}
+use Rattle.store_counts.proofs.Kept.{counted-same, counted-takes}
 use Rattle.line_view.specs.declared.need.Need.TheVariants.{Line}
 use Rattle.session_states.specs.declared.stage.Work.TheVariants.{Due, Fetching, Lodging}
 use Rattle.session_states.proofs.Working.{reads}
@@ -11,17 +10,17 @@ use Rattle.session_states.proofs.laws.working.what_is_locked_is_read.Goals as go
 pub returns-clause-more : goal.returns-clause-more
 returns-clause-more g c = λ s d shelf left total standing known new spoken waits item n others now mine space more.
     reads g.S.Statements.stands g.met.S.Statements.orderly s d shelf left total standing known new spoken waits item (Fetching n) (Fetching n) n
-    (λ got h. h) (λ got h. h) (λ ws seat h. h) (λ ws seat h. h) (λ p h. h) (λ o p h counted. counted-on o p s d.shelf shelf counted others now space (λ e. ap writes_of mine)) refl others now mine more
+    (λ got h. h) (λ got h. h) (λ ws seat h. h) (λ ws seat h. h) (λ p h. h) (λ o p h counted. counted-same o p s d.shelf shelf counted others now space mine) refl others now mine more
 
 pub returns-clause-read : goal.returns-clause-read
 returns-clause-read g c = λ s d shelf left total standing known new spoken waits item n others now mine space more.
     reads g.S.Statements.stands g.met.S.Statements.orderly s d shelf left total standing known new spoken waits item (Fetching n) Due n
-    (λ got h. h) (λ got h. tt) (λ ws seat h. h) (λ ws seat h. h) (λ p h. tt) (λ o p h counted. counted-on o p s d.shelf shelf counted others now space (λ e. ap writes_of mine)) refl others now mine more
+    (λ got h. h) (λ got h. tt) (λ ws seat h. h) (λ ws seat h. h) (λ p h. tt) (λ o p h counted. counted-same o p s d.shelf shelf counted others now space mine) refl others now mine more
 
 pub returns-clause-lodging : goal.returns-clause-lodging
 returns-clause-lodging g c = λ s d shelf left total standing known new spoken waits item room key others now mine space more.
     reads g.S.Statements.stands g.met.S.Statements.orderly s d shelf left total standing known new spoken waits item (Lodging room key) (Lodging room key) (Line key)
-    (λ got h. h.0) (λ got h. h) (λ ws seat h. h) (λ ws seat h. h) (λ p h. h) (λ o p h counted. counted-on o p s d.shelf shelf counted others now space (λ e. ap writes_of mine)) refl others now mine more
+    (λ got h. h.0) (λ got h. h) (λ ws seat h. h) (λ ws seat h. h) (λ p h. h) (λ o p h counted. counted-same o p s d.shelf shelf counted others now space mine) refl others now mine more
 
 pub returns-clause-lodged : goal.returns-clause-lodged
 returns-clause-lodged g c = λ s d shelf left total standing known new spoken waits item room key others now mine space more.
