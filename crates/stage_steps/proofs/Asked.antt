@@ -5,15 +5,16 @@ use Rattle.std.proofs.lemmas.Option.{slice_get_within}
 use Rattle.lock_needs.specs.declared.need.Need.{Need}
 use Rattle.line_view.specs.declared.writes.Write.{Write}
 use Rattle.session_states.specs.declared.stage.Work.TheVariants.{Opening, Due, Out, Lacking, Housing, Fetching, Lodging}
-use Rattle.session_states.specs.declared.stage.End.TheVariants.{Journal, Ready, Committing, RollingBack, Leaving}
 use Rattle.session_states.specs.States.{is_at_rest}
 use Rattle.lock_needs.specs.declared.party.OpenWant.{OpenWant}
 use Rattle.lock_tree_laws.specs.Order.{without_asks}
 use Rattle.session_states.specs.declared.stage.Laying.TheVariants.{Claiming, Changing}
+use Rattle.session_states.specs.declared.stage.End.TheVariants.{Preparing, Journal, Ready, Committing, RollingBack, Leaving}
 use Rattle.session_states.specs.declared.stage.Stage.{Stage}
 use Rattle.session_states.specs.declared.stage.Stage.TheVariants.{Between, Working, Gathering, Reserving, Saying, Ending}
-use Rattle.session_states.specs.Locks.{lock_of, lock_of_write}
+use Rattle.session_states.specs.Locks.{lock_of, lock_of_write, has_journal}
 use Rattle.session_states.specs.Turns.{IsWithin}
+use Rattle.stage_steps.specs.Asking.{IsOfStatement}
 use Rattle.std.proofs.lemmas.Option.{none-some, same_Some}
 use Rattle.std.proofs.Math.Seq.{drop-append_seam}
 use Rattle.std.proofs.lemmas.List.Elements.{filter-append}
@@ -126,25 +127,34 @@ stands-within (Saying item worked (Claiming place)) n h =
 stands-within (Saying item worked Changing) n h = tt
 stands-within (Ending end) n h = tt
 
--- where a stage wants a lock the store rests
-pub wants-at_rest : (stage : Stage) (n : Need) → lock_of stage ≡ Some n → is_at_rest stage ≡ true
-wants-at_rest Between n h = refl
-wants-at_rest (Working item Opening) n h = absurd (none-some n h)
-wants-at_rest (Working item Due) n h = refl
-wants-at_rest (Working item Out) n h = refl
-wants-at_rest (Working item (Lacking need)) n h = refl
-wants-at_rest (Working item (Housing room key)) n h = refl
-wants-at_rest (Working item (Fetching need)) n h = refl
-wants-at_rest (Working item (Lodging room key)) n h = refl
-wants-at_rest (Gathering item gather later place) n h = refl
-wants-at_rest (Reserving item worked locks place) n h = refl
-wants-at_rest (Saying item worked (Claiming place)) n h = refl
-wants-at_rest (Saying item worked Changing) n h = absurd (none-some n h)
-wants-at_rest (Ending Journal) n h = refl
-wants-at_rest (Ending Ready) n h = refl
-wants-at_rest (Ending Committing) n h = absurd (none-some n h)
-wants-at_rest (Ending RollingBack) n h = absurd (none-some n h)
-wants-at_rest (Ending Leaving) n h = absurd (none-some n h)
+-- where a statement wants a lock the store rests, and it hasn't got the journal
+pub wants-at_rest : (stage : Stage) (n : Need) → IsOfStatement stage → lock_of stage ≡ Some n → is_at_rest stage ≡ true
+wants-at_rest Between n of h = refl
+wants-at_rest (Working item Opening) n of h = absurd (none-some n h)
+wants-at_rest (Working item Due) n of h = refl
+wants-at_rest (Working item Out) n of h = refl
+wants-at_rest (Working item (Lacking need)) n of h = refl
+wants-at_rest (Working item (Housing room key)) n of h = refl
+wants-at_rest (Working item (Fetching need)) n of h = refl
+wants-at_rest (Working item (Lodging room key)) n of h = refl
+wants-at_rest (Gathering item gather later place) n of h = refl
+wants-at_rest (Reserving item r locks place) n of h = refl
+wants-at_rest (Saying item r (Claiming place)) n of h = refl
+wants-at_rest (Saying item r Changing) n of h = absurd (none-some n h)
+wants-at_rest (Ending end) n of h = absurd of
+
+pub wants-without : (stage : Stage) (n : Need) → lock_of stage ≡ Some n → has_journal stage ≡ false
+wants-without Between n h = refl
+wants-without (Working item work) n h = refl
+wants-without (Gathering item gather later place) n h = refl
+wants-without (Reserving item r locks place) n h = refl
+wants-without (Saying item r laying) n h = refl
+wants-without (Ending Preparing) n h = refl
+wants-without (Ending Journal) n h = refl
+wants-without (Ending Ready) n h = absurd (none-some n h)
+wants-without (Ending Committing) n h = absurd (none-some n h)
+wants-without (Ending RollingBack) n h = refl
+wants-without (Ending Leaving) n h = refl
 
 -- ---- how often a want that is open was asked
 

@@ -1,5 +1,5 @@
 -- What was locked is read, by a step of the store.
-use Rattle.std.proofs.Common.{ℕ, Bool, [], List, refl, ap}
+use Rattle.std.proofs.Common.{ℕ, Bool, [], List, refl}
 use Rattle.rdo_ast.specs.declared.reply.Standing.{Standing}
 use Rattle.rdo_ast.specs.declared.syntax.Item.{Item}
 use Rattle.lock_needs.specs.declared.need.Need.{Need as LockNeed}
@@ -9,10 +9,9 @@ use Rattle.line_view.specs.Knowledge.{IsInOrder, Agrees}
 use Rattle.kept_apart.specs.Alike.{IsGuarded}
 use Rattle.line_store.specs.Shelves.{Shelf, seen_by}
 use Rattle.rdb_account.specs.Places.{Opening, Place}
-use Rattle.line_store.specs.Seats.{writes_of}
 use Rattle.line_store.specs.Calls.{Moves}
 use Rattle.store_counts.specs.Counts.{IsCounted}
-use Rattle.store_counts.proofs.Kept.{counted-on}
+use Rattle.store_counts.proofs.Kept.{counted-same}
 use Rattle.session_jobs.specs.Records.{Model, IsOrderly}
 use Rattle.stepped_jobs.specs.Needs.{IsLocked}
 use Rattle.session_states.specs.declared.stage.Work.TheVariants.{Due, Fetching}
@@ -29,7 +28,7 @@ use Rattle.stage_steps.specs.Turns.{Comes}
 module _ (M : Model) (orderly : IsOrderly M) (s : ℕ) (c : Shared) (shelf : Shelf) (standing : Standing) (known new : Held) (item : Item) (n : Need) (moves : Moves s (c.shelf.seat s) c.shelf shelf)
     (agrees : IsInOrder (seen_by s c.shelf) → Agrees (knows known) (seen_by s c.shelf) → Agrees (knows new) (seen_by s c.shelf)) where
   counted : {A : Type 0} (o : Opening) (p : Place) → A → IsCounted o p c.shelf → IsCounted o p shelf
-  counted o p h k = counted-on o p s c.shelf shelf k moves.others moves.now moves.space (λ e. ap writes_of moves.mine)
+  counted o p h k = counted-same o p s c.shelf shelf k moves.others moves.now moves.space moves.mine
 
   module _ (spoken waits : Bool) (guarded : (got : List LockNeed) → IsLocked got n → IsGuarded got (knows known) → IsGuarded got (knows new)) where
     -- not yet all of it

@@ -1,36 +1,38 @@
--- What was found for a job is so for the parts that the job was made of.
-use Rattle.std.proofs.Common.{◌≡◌, ℕ, ◌∷◌, [], List, ◌∙◌, sym, ap, subst, None}
-use Rattle.rdo_ast.specs.declared.reply.Standing.{Standing}
+-- What was found for a job that is worked over nothing that is known.
+use Rattle.std.proofs.Common.{◌≡◌, ℕ, ◌∷◌, [], List, subst, None}
 use Rattle.rdo_ast.specs.declared.reply.Standing.TheVariants.{Closed}
 use Rattle.rdo_ast.specs.declared.syntax.Item.{Item}
+use Rattle.rdo_ast.specs.Tree.{Uttered}
 use Rattle.rdo_ast.specs.Views.{uttered_of}
 use Rattle.rdb_account.specs.Events.{Said}
 use Rattle.rdb_account.specs.Places.{begins}
+use Rattle.rdb_meaning.specs.Contents.{no_tables}
 use Rattle.line_view.specs.Held.{Held, knows, nothing}
+use Rattle.rdb_types.specs.declared.keys.Dbkey.{Dbkey}
 use Rattle.session_jobs.specs.Records.{Model, IsOrderly}
-use Rattle.session_jobs.specs.Jobs.{IsFound, IsFoundFor}
-use Rattle.session_jobs.specs.declared.jobs.Job.{Job}
+use Rattle.session_jobs.specs.Jobs.{IsFound}
 use Rattle.session_jobs.specs.declared.jobs.Found.{Found}
-use Rattle.session_jobs.specs.declared.jobs.Found.TheVariants.{Done}
+use Rattle.session_jobs.specs.declared.jobs.Found.TheVariants.{Done, Bad}
 use Rattle.session_jobs.specs.declared.jobs.TxRecord.{TxRecord}
 use Rattle.session_states.specs.declared.stage.Phase.TheVariants.{Outside}
 use Rattle.session_states.specs.Shared.{Shared}
 use Rattle.session_states.proofs.Outside.{answers-on}
+use Rattle.session_states.proofs.Parting.{nothing-agrees}
 use Rattle.stage_steps.specs.Turns.{TakesUp}
 
 module _ (M : Model) where
-  pub found-as : (job made : Job) (found so : Found) → job ≡ made → found ≡ so → IsFoundFor M job found → IsFoundFor M made so
-  found-as job made found so e f h = subst (λ (j : Job). IsFoundFor M j so) e (subst (λ (x : Found). IsFoundFor M job x) f h)
+  -- the same by other names
+  pub found-as : (word made : List ℕ) (item : Uttered) (known : Held) (found so : Found) → made ≡ word → known ≡ nothing → found ≡ so → IsFound M made Closed item (knows known) found → IsFound M word Closed item (knows nothing) so
+  found-as word made item known found so e bare f h =
+      subst (λ (w : List ℕ). IsFound M w Closed item (knows nothing) so) e
+      (subst (λ (u : Held). IsFound M made Closed item (knows u) so) bare
+      (subst (λ (x : Found). IsFound M made Closed item (knows known) x) f h))
 
-module _ (M : Model) (orderly : IsOrderly M) where
+  -- the empty map is sound, and agrees with nothing that is known: so no line is bad
+  pub never-bad-outside : M [] no_tables → (word : List ℕ) (item : Uttered) (key : Dbkey) → IsFound M word Closed item (knows nothing) (Bad key) → ⊥
+  never-bad-outside empty word item key found = found [] no_tables empty (nothing-agrees [])
+
   -- what was worked over nothing is said outside a transaction
-  pub answered-from : (s : ℕ) (c : Shared) (item : Item) (job made : Job) (found : Found) (r : TxRecord) → begins (uttered_of item) ≡ None → job ≡ made → made.item ≡ item → made.standing ≡ Closed → made.word ≡ c.word → made.known ≡ nothing →
-      IsFoundFor M job found → found ≡ Done r → TakesUp M s item c Outside c Outside (Said s (uttered_of job.item) r.choices r.reply ∷ [])
-  answered-from s c item job made found r none e is closed word bare right so = λ left total.
-      let h : IsFound M made.word made.standing (uttered_of made.item) (knows made.known) (Done r) = found-as M job made found (Done r) e so right in
-      let k : IsFound M c.word Closed (uttered_of item) (knows nothing) (Done r) =
-      subst (λ (u : Held). IsFound M c.word Closed (uttered_of item) (knows u) (Done r)) bare
-      (subst (λ (i : Item). IsFound M c.word Closed (uttered_of i) (knows made.known) (Done r)) is
-      (subst (λ (x : Standing). IsFound M c.word x (uttered_of made.item) (knows made.known) (Done r)) closed
-      (subst (λ (w : List ℕ). IsFound M w made.standing (uttered_of made.item) (knows made.known) (Done r)) word h))) in
-      subst (λ (i : Item). TakesUp M s item c Outside c Outside (Said s (uttered_of i) r.choices r.reply ∷ [])) (sym (ap (λ (j : Job). j.item) e ∙ is)) (λ rest all. answers-on M orderly s c item rest all r none k) left total
+  pub answered-from : IsOrderly M → (s : ℕ) (c : Shared) (item : Item) (made : List ℕ) (known : Held) (found : Found) (r : TxRecord) → begins (uttered_of item) ≡ None → made ≡ c.word → known ≡ nothing → found ≡ Done r →
+      IsFound M made Closed (uttered_of item) (knows known) found → TakesUp M s item c Outside c Outside [] (Said s (uttered_of item) r.choices r.reply ∷ [])
+  answered-from orderly s c item made known found r none word bare so right = λ left total. answers-on M orderly s c item left total r none (found-as c.word made (uttered_of item) known found (Done r) word bare so right)

@@ -1,9 +1,15 @@
-pub mod Stands
+pub mod Seated
+pub mod Resting
+pub mod Goes
+pub mod Stored
 pub mod Jobs
 pub mod Tests
+pub mod Read
 pub mod Fetched
+pub mod Firsts
 pub mod Unchanged
 pub mod Asked
 pub mod Called
+pub mod Preparing
 pub mod Serves
 pub mod Falls

@@ -18,3 +18,15 @@ neither false false h = (refl, refl)
 pub write-some : (ws : List Write) → (ws ≡ [] → ⊥) → WriteSome ws
 write-some [] h = h refl
 write-some (w ∷ ws) h = tt
+
+pub not-not : (b : Bool) → not (not b) ≡ b
+not-not true = refl
+not-not false = refl
+
+pub not-false : (b : Bool) → not b ≡ true → b ≡ true → ⊥
+not-false true h k = false≢true h
+not-false false h k = false≢true k
+
+pub not-true : (b : Bool) → not b ≡ false → b ≡ true
+not-true true h = refl
+not-true false h = absurd (false≢true (sym h))

@@ -9,11 +9,12 @@ use Rattle.session_states.specs.declared.stage.Stage.{Stage}
 use Rattle.session_states.specs.declared.stage.Stage.TheVariants.{Working, Gathering, Reserving, Saying}
 use Rattle.lock_tree_laws.specs.declared.answer.Want.TheVariants.{Conflict, Deadlock}
 use Rattle.lock_needs.specs.declared.need.Need.{Need}
-use Rattle.lock_tree_laws.specs.Forest.{State, NeedsAreApart}
+use Rattle.lock_tree_laws.specs.Forest.{State, IsWhole, NeedsAreApart}
 use Rattle.lock_tree_laws.specs.Wanted.{Answered, needs_of}
+use Rattle.lock_tree_laws.specs.Rule.{Finishes, GoesDown, entered}
 use Rattle.lock_tree_laws.specs.declared.answer.Want.{Want}
 use Rattle.lock_ties.specs.Ties.{IsCall}
-use Rattle.stage_steps.specs.declared.wanting.Called.{Called}
+use Rattle.stage_steps.specs.declared.calling.Called.{Called}
 
 -- a statement is under way that doesn't end its transaction
 abbrev pub IsOfStatement : Stage → Type 0
@@ -23,16 +24,19 @@ IsOfStatement (Reserving item worked locks place) = ends_by (uttered_of item) �
 IsOfStatement (Saying item worked laying) = ends_by (uttered_of item) ≡ false
 IsOfStatement _ = ⊥
 
--- The reply to an item whose lock is refused so. Where no memory is found to name a cycle, that is said, as it is to a COMMIT.
+-- The reply to an item that doesn't end its transaction, whose lock is refused so. Where no memory is found to name a cycle, that is said.
 abbrev pub IsReplyTo : Uttered → Want → Reply → Type 0
 IsReplyTo item (Conflict t) reply = (reply ≡ LockConflict t) × (ends_by item ≡ false)
-IsReplyTo item (Deadlock cycle) reply = ((reply ≡ CyclicWait cycle) × (ends_by item ≡ false)) ⊎ (reply ≡ NoMemory)
+IsReplyTo item (Deadlock cycle) reply = ((reply ≡ CyclicWait cycle) ⊎ (reply ≡ NoMemory)) × (ends_by item ≡ false)
 IsReplyTo item _ reply = ⊥
 
--- The want was answered so, and was asked at these nodes.
+-- The want was answered so by the tree's rule, and was asked at these nodes. The tree was and is whole.
 pub record IsCalled (s : ℕ) (n : Need) (wait : Bool) (old new : State) (x : Called) : Type 0 where
   pub call : IsCall s n old new
   pub nodes : call.asks.nodes ≡ x.asking.nodes
   pub need : x.asking.need ≡ n
+  pub was_whole : IsWhole old
+  pub whole : IsWhole new
   pub apart : NeedsAreApart new
+  pub by_rule : GoesDown s n wait (Finishes s x.answer) (entered old s) new
   pub answered : Answered (needs_of old s) new s n wait x.answer

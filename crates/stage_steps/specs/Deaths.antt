@@ -1,20 +1,35 @@
--- What a step of a recovery comes to.
-use Rattle.std.specs.Prelude.{ℕ, ◌-◌, Bool, true, false, List, [], ◌∷◌, Result, Ok, Err}
+-- What a death is, and what a step of a recovery comes to.
+use Rattle.std.specs.Prelude.{◌≡◌, ◌+◌, ◌-◌, ◌&&◌, ℕ, not, true, List, [], ◌∷◌, Result, Ok, Err}
+use Rattle.rdb_types.specs.declared.session.Cause.{Cause}
 use Rattle.rdo_ast.specs.declared.syntax.Item.{Item}
-use Rattle.rdb_account.specs.Events.{Event, Recovered}
+use Rattle.rdb_account.specs.Events.{Event, Died, Recovered}
+use Rattle.rdb_account.specs.Legal.{is_stop}
+use Rattle.rdb_account.specs.Places.{Opening}
 use Rattle.line_store.specs.declared.answers.Fault.{Fault}
-use Rattle.line_store.specs.Seats.{Seat, dead}
+use Rattle.session_jobs.specs.Records.{Model}
 use Rattle.session_states.specs.declared.stage.Phase.{Phase}
+use Rattle.session_states.specs.declared.stage.Life.{Life}
+use Rattle.session_states.specs.declared.stage.Life.TheVariants.{Alive, Dead, Gone}
 use Rattle.session_states.specs.declared.stage.Member.{Member}
-use Rattle.session_states.specs.States.{dead_session, gone_session}
+use Rattle.session_states.specs.States.{session, dead_session, gone_session}
+use Rattle.session_states.specs.Steps.{Fall}
+use Rattle.stage_steps.specs.Scenes.{Scene, Goes, on_shelf}
 use Rattle.stage_steps.specs.declared.dying.Recovery.{Recovery}
 use Rattle.stage_steps.specs.declared.dying.Recovery.TheVariants.{More, Done}
 
-abbrev pub has_died : Seat → Bool
-has_died (dead commits ws) = true
-has_died _ = false
+-- a session of this phase dies, for each cause that an opening allows and that isn't a stop of all
+abbrev pub DiesIn : Model → ℕ → Phase → Scene → Scene → Type 0
+DiesIn M s x old new = Goes s x Alive x Dead
+    (λ h g. (o : Opening) (dead : ℕ) (left : List Item) (total : ℕ) (cause : Cause) → (o.may_die s cause && not (is_stop cause)) ≡ true →
+    Fall M o s (on_shelf old h dead) (session left total x) (on_shelf new g (dead + 1)) (dead_session left total x) (Died s cause ∷ []))
+    old new
 
--- the session behind it
+-- the session behind a step of its recovery
+abbrev pub life_behind : Result Recovery Fault → Life
+life_behind (Ok (Done committed moment)) = Gone
+life_behind (Ok More) = Dead
+life_behind (Err fault) = Dead
+
 abbrev pub recovered_by : Result Recovery Fault → List Item → ℕ → Phase → Member
 recovered_by (Ok (Done committed moment)) left total x = gone_session left total x
 recovered_by (Ok More) left total x = dead_session left total x
@@ -30,3 +45,10 @@ abbrev pub recovery_events : ℕ → Result Recovery Fault → List Event
 recovery_events s (Ok (Done committed moment)) = Recovered s committed moment.number ∷ []
 recovery_events s (Ok More) = []
 recovery_events s (Err fault) = []
+
+-- a step of the recovery of a session that died in this phase
+abbrev pub RecoversIn : Model → ℕ → Phase → Scene → Scene → Result Recovery Fault → Type 0
+RecoversIn M s x old new result = Goes s x Dead x (life_behind result)
+    (λ h g. (o : Opening) (dead : ℕ) (left : List Item) (total : ℕ) →
+    Fall M o s (on_shelf old h dead) (dead_session left total x) (on_shelf new g (dead_behind result dead)) (recovered_by result left total x) (recovery_events s result))
+    old new

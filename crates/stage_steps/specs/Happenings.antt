@@ -1,6 +1,7 @@
 -- The events of what happened in a step.
 use Rattle.std.specs.Prelude.{ℕ, List, [], ◌∷◌, ◌++◌}
 use Rattle.rdo_ast.specs.declared.reply.Reply.TheVariants.{Done}
+use Rattle.rdo_ast.specs.declared.syntax.Item.{Item}
 use Rattle.rdo_ast.specs.Tree.{said, commit, rollback}
 use Rattle.rdo_ast.specs.Views.{uttered_of}
 use Rattle.rdb_account.specs.Events as event
@@ -9,7 +10,7 @@ use Rattle.lock_ties.specs.Ties.{wanted_at}
 use Rattle.stage_steps.specs.declared.happening.Answer.{Answer}
 use Rattle.stage_steps.specs.declared.happening.Asking.{Asking}
 use Rattle.stage_steps.specs.declared.happening.Happening.{Happening}
-use Rattle.stage_steps.specs.declared.happening.Happening.TheVariants.{Quiet, Began, Answered, Unstarted, Asleep, Noticed, Got, Refused, RefusedStart, Committed, RolledBack, Left, Failed, Unlaid, Uncommitted, Unworked}
+use Rattle.stage_steps.specs.declared.happening.Happening.TheVariants.{Quiet, Began, Answered, Unstarted, Asleep, Noticed, Got, Refused, RefusedStart, Committed, RolledBack, Left, Failed, Unlaid, Unworked, Unanswered}
 
 abbrev pub said_by : ℕ → Answer → Event
 said_by s a = event.Said s (uttered_of a.item) a.keys a.reply
@@ -31,6 +32,11 @@ events_of s (Committed moment) = event.Committed s moment.number ∷ event.Said 
 events_of s RolledBack = event.RolledBack s ∷ event.Said s (said rollback) [] (Done []) ∷ []
 events_of s Left = event.RolledBack s ∷ []
 events_of s (Failed fault) = []
-events_of s (Unlaid stop) = []
-events_of s (Uncommitted stop) = []
+events_of s (Unlaid key) = []
 events_of s Unworked = []
+events_of s (Unanswered item) = []
+
+-- the item that is handed back
+abbrev pub handed_back : Happening → List Item
+handed_back (Unanswered item) = item ∷ []
+handed_back _ = []

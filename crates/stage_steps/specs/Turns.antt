@@ -1,17 +1,17 @@
 -- What a step of a stage is, whatever else the session has and the sessions share.
-use Rattle.std.specs.Prelude.{◌≡◌, ℕ, false, List, [], ◌∷◌}
+use Rattle.std.specs.Prelude.{◌≡◌, ℕ, false, List, [], ◌∷◌, ◌++◌}
 use Rattle.rdo_ast.specs.declared.syntax.Item.{Item}
 use Rattle.rdo_ast.specs.Tree.{Uttered, said, commit, rollback}
 use Rattle.rdb_account.specs.Events.{Event}
 use Rattle.rdb_account.specs.Legal.{ends_by}
+use Rattle.lock_tree_laws.specs.Forest.{State}
+use Rattle.line_store.specs.Shelves.{Shelf}
 use Rattle.session_jobs.specs.Records.{Model}
 use Rattle.session_states.specs.declared.stage.Stage.{Stage}
 use Rattle.session_states.specs.declared.stage.Phase.{Phase}
 use Rattle.session_states.specs.declared.stage.Phase.TheVariants.{Writing, Reading}
 use Rattle.session_states.specs.declared.stage.ReaderStage.{ReaderStage}
 use Rattle.session_states.specs.States.{writer, reader, session}
-use Rattle.lock_tree_laws.specs.Forest.{State}
-use Rattle.line_store.specs.Shelves.{Shelf}
 use Rattle.session_states.specs.Shared.{Shared}
 use Rattle.session_states.specs.Steps.{Step}
 use Rattle.stage_steps.specs.declared.terms.Terms.{Terms}
@@ -35,9 +35,9 @@ reads_at t stage = Reading (reader t.standing t.known t.spoken stage)
 abbrev pub Comes : Model → ℕ → Shared → Phase → Shared → Phase → List Event → Type 0
 Comes M s c x d y es = (left : List Item) (total : ℕ) → Step M s c (session left total x) d (session left total y) es
 
--- A step that takes up the next item of the script.
-abbrev pub TakesUp : Model → ℕ → Item → Shared → Phase → Shared → Phase → List Event → Type 0
-TakesUp M s item c x d y es = (left : List Item) (total : ℕ) → Step M s c (session (item ∷ left) total x) d (session left total y) es
+-- A step that takes up the next item of the script, and puts these back before the rest.
+abbrev pub TakesUp : Model → ℕ → Item → Shared → Phase → Shared → Phase → List Item → List Event → Type 0
+TakesUp M s item c x d y back es = (left : List Item) (total : ℕ) → Step M s c (session (item ∷ left) total x) d (session (back ++ left) total y) es
 
 -- A step at the end of the script.
 abbrev pub Ends : Model → ℕ → Shared → Phase → Shared → Phase → List Event → Type 0

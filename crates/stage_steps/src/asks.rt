@@ -1,4 +1,4 @@
-ghost use Rattle.std.specs.Prelude.{◌≡◌, ◌<◌, ◌++◌, ◌∷◌, [], length};
+ghost use Rattle.std.specs.Prelude.{◌≡◌, ◌<◌, ◌≤◌, ◌++◌, ◌∷◌, [], length};
 
 use rdb_types::Node;
 use std::marker::Model;
@@ -45,7 +45,8 @@ impl Asks {
 
     /// The nodes.
     pub fn as_slice(&self) -> &[Node]
-        ensures { result.now ≡ self.now }
+        ensures nodes { result.now ≡ self.now }
+        ensures few { length self.now ≤ 4 }
     {
         &self.nodes[..self.count]
     }

@@ -1,17 +1,10 @@
 //! A session that dies, and its recovery.
-ghost use Rattle.std.specs.Prelude.{◌≡◌, ◌∷◌, ◌&&◌, ℕ, List, [], not, true};
-ghost use Rattle.rdb_types.specs.declared.session.Cause.{Cause};
-ghost use Rattle.rdo_ast.specs.declared.syntax.Item.{Item};
-ghost use Rattle.rdb_account.specs.Events.{Died};
-ghost use Rattle.rdb_account.specs.Legal.{is_stop};
-ghost use Rattle.rdb_account.specs.Places.{Opening};
+ghost use Rattle.std.specs.Prelude.{◌≡◌, ℕ, List, true};
 ghost use Rattle.line_store.specs.Seats.{IsAlive, IsMember};
+ghost use Rattle.lock_tree_laws.specs.Forest.{State};
 ghost use Rattle.session_states.specs.declared.stage.Phase.{Phase};
-ghost use Rattle.session_states.specs.Shared.{Shared, with_death, with_shelf};
-ghost use Rattle.session_states.specs.States.{dead_session, session};
-ghost use Rattle.session_states.specs.Steps.{Fall};
-ghost use Rattle.stage_steps.specs.Deaths.{dead_behind, has_died, recovered_by, recovery_events};
-ghost use Rattle.stage_steps.specs.Turns.{shared};
+ghost use Rattle.stage_steps.specs.Deaths.{DiesIn, RecoversIn};
+ghost use Rattle.stage_steps.specs.Scenes.{scene};
 
 use crate::common::Common;
 use line_store::{Fault, LineStore, Stepped};
@@ -30,9 +23,8 @@ pub enum Recovery {
 /// The session dies where it stands, and keeps its locks.
 pub fn die<S: Statements, L: LineStore>(store: &mut L, s: Session)
     requires member { IsMember s.number }
-    requires alive { IsAlive ((L.shelf store.old).seat s.number) }
-    ensures { (o : Opening) (c : Shared) (left : List Item) (total : ℕ) (x : Phase) (cause : Cause) → (o.may_die s.number cause && not (is_stop cause)) ≡ true →
-        Fall S.stands o s.number (with_shelf (L.shelf store.old) c) (session left total x) (with_death (L.shelf store.new) c) (dead_session left total x) (Died s.number cause ∷ []) }
+    requires alive { IsAlive ((L.sight store.old).stand s.number) }
+    ensures { (word : List ℕ) (locks : State) (x : Phase) → DiesIn S.stands s.number x (scene word (L.sight store.old) locks) (scene word (L.sight store.new) locks) }
 {
     store.die(s);
 }
@@ -46,10 +38,8 @@ pub fn recover<S: Statements, L: LineStore>(
     s: Session,
 ) -> Result<Recovery, Fault>
     requires member { IsMember s.number }
-    requires died { has_died ((L.shelf common.old.store).seat s.number) ≡ true }
-    ensures { (o : Opening) (dead : ℕ) (left : List Item) (total : ℕ) (x : Phase) →
-        Fall S.stands o s.number (shared common.old.word (L.shelf common.old.store) common.old.tree dead) (dead_session left total x)
-        (shared common.new.word (L.shelf common.new.store) common.new.tree (dead_behind result dead)) (recovered_by result left total x) (recovery_events s.number result) }
+    requires died { IsAlive ((L.sight common.old.store).stand s.number) → ⊥ }
+    ensures { (x : Phase) → RecoversIn S.stands s.number x (scene common.old.word (L.sight common.old.store) common.old.tree) (scene common.new.word (L.sight common.new.store) common.new.tree) result }
 {
     match common.store.step(s) {
         Ok(

@@ -1,13 +1,19 @@
 //! The end of a read-write transaction.
-ghost use Rattle.std.specs.Prelude.{◌≡◌, ℕ, [], true, is_some};
-ghost use Rattle.line_store.specs.Seats.{done_at, is_committing, IsMember, IsWriting};
-ghost use Rattle.line_store.specs.Shelves.{IsAlone};
-ghost use Rattle.session_states.specs.Shared.{Shared, with_shelf};
+ghost use Rattle.std.specs.Prelude.{◌≡◌, ℕ, List, [], false, true, None, is_some};
+ghost use Rattle.journal_waits.specs.Holders.{OthersKeepTo};
+ghost use Rattle.line_steps.specs.Images.{journal_node};
+ghost use Rattle.line_store.specs.Seats.{done_at, is_committing, IsMember, IsPrepared, IsWriting};
+ghost use Rattle.line_store.specs.Sights.{StandsAlone};
+ghost use Rattle.lock_needs.specs.Waits.{converts_at};
+ghost use Rattle.lock_tree_laws.specs.Forest.{State, opened_of};
+ghost use Rattle.lock_tree_laws.specs.Wanted.{needs_of};
 ghost use Rattle.stage_steps.specs.Happenings.{events_of};
-ghost use Rattle.stage_steps.specs.Turns.{Comes, Ends, at_stage, shared};
+ghost use Rattle.stage_steps.specs.Scenes.{ComesIn, EndsIn, scene};
+ghost use Rattle.stage_steps.specs.Turns.{at_stage};
 
 use crate::common::Common;
 use crate::happening::{Happening, Turned, failed, quiet};
+use crate::journal::want_journal;
 use crate::limits::refuse_at_limit;
 use crate::storing::work_on;
 use crate::terms::Terms;
@@ -22,51 +28,57 @@ use session_states::{End, Phase, Stage};
 /// The script is at its end: the store undoes what the transaction wrote.
 pub fn leave<S: Statements, L: LineStore>(store: &mut L, s: Session, terms: Terms) -> Phase
     requires member { IsMember s.number }
-    requires seat { IsWriting ((L.shelf store.old).seat s.number) }
-    ensures { (c : Shared) → Ends S.stands s.number (with_shelf (L.shelf store.old) c) (at_stage terms Stage.Between) (with_shelf (L.shelf store.new) c) result [] }
+    requires seat { IsWriting ((L.sight store.old).stand s.number) }
+    ensures { (word : List ℕ) (locks : State) → EndsIn S.stands s.number (scene word (L.sight store.old) locks) (at_stage terms Stage.Between) (scene word (L.sight store.new) locks) result [] }
 {
     store.roll_back(s);
     terms.at(Stage::Ending(End::Leaving))
 }
 
-/// A COMMIT that has got the journal has the store commit. Where no memory is found for that it is refused.
-pub fn commit<S: Statements, L: LineStore>(
+/// The store takes the room and the memory of a COMMIT, which wants the journal then, in one step. Where there is no room or no memory
+/// the COMMIT is refused, and its transaction goes on.
+pub fn prepare<S: Statements, L: LineStore>(
     common: &mut Common<L>,
     s: Session,
     terms: Terms,
 ) -> Turned
     requires member { IsMember s.number }
-    requires seat { IsWriting ((L.shelf common.old.store).seat s.number) }
-    requires alone { IsAlone s.number (L.shelf common.old.store) }
-    ensures { (dead : ℕ) →
-        Comes S.stands s.number (shared common.old.word (L.shelf common.old.store) common.old.tree dead) (at_stage terms (Stage.Ending End.Ready))
-        (shared common.new.word (L.shelf common.new.store) common.new.tree dead) result.phase (events_of s.number result.happened) }
+    requires seat { IsWriting ((L.sight common.old.store).stand s.number) }
+    requires idle { opened_of common.old.tree s.number ≡ None }
+    requires without { converts_at (needs_of common.old.tree s.number) journal_node ≡ false }
+    requires rest { OthersKeepTo common.old.tree s.number journal_node }
+    ensures { ComesIn S.stands s.number (scene common.old.word (L.sight common.old.store) common.old.tree) (at_stage terms (Stage.Ending End.Preparing))
+        (scene common.new.word (L.sight common.new.store) common.new.tree) result.phase (events_of s.number result.happened) }
 {
-    match common.store.commit(s) {
-        Ok(()) => quiet(terms.at(Stage::Ending(End::Committing))),
+    match common.store.prepare(s) {
+        Ok(()) => want_journal::<S, L>(common, s, terms),
         Err(CommitStop::NoMemory) => {
             forgo::<S, L>(common, s, terms, Item::Statement(Statement::Commit))
         }
         Err(CommitStop::AijFull(limit)) => {
-            if terms.spoken {
-                let commit = Item::Statement(Statement::Commit);
-                return refuse_at_limit(common.alloc, terms, commit, Reply::AijFull(limit));
-            }
-            Turned {
-                phase: terms.at(Stage::Ending(End::Ready)),
-                happened: Happening::Uncommitted(CommitStop::AijFull(limit)),
-            }
+            let commit = Item::Statement(Statement::Commit);
+            refuse_at_limit(common.alloc, terms, commit, Reply::AijFull(limit))
         }
     }
+}
+
+/// A COMMIT that is prepared and has got the journal has the store commit.
+pub fn commit<S: Statements, L: LineStore>(store: &mut L, s: Session, terms: Terms) -> Phase
+    requires member { IsMember s.number }
+    requires prepared { IsPrepared ((L.sight store.old).stand s.number) }
+    requires alone { StandsAlone s.number (L.sight store.old) }
+    ensures { (word : List ℕ) (locks : State) → ComesIn S.stands s.number (scene word (L.sight store.old) locks) (at_stage terms (Stage.Ending End.Ready)) (scene word (L.sight store.new) locks) result [] }
+{
+    store.commit(s);
+    terms.at(Stage::Ending(End::Committing))
 }
 
 /// The store commits. Once the commit stands the transaction has ended, and its locks are released.
 pub fn land<S: Statements, L: LineStore>(common: &mut Common<L>, s: Session, terms: Terms) -> Turned
     requires member { IsMember s.number }
-    requires committing { is_committing ((L.shelf common.old.store).seat s.number) ≡ true }
-    ensures { (dead : ℕ) →
-        Comes S.stands s.number (shared common.old.word (L.shelf common.old.store) common.old.tree dead) (at_stage terms (Stage.Ending End.Committing))
-        (shared common.new.word (L.shelf common.new.store) common.new.tree dead) result.phase (events_of s.number result.happened) }
+    requires committing { is_committing ((L.sight common.old.store).stand s.number) ≡ true }
+    ensures { ComesIn S.stands s.number (scene common.old.word (L.sight common.old.store) common.old.tree) (at_stage terms (Stage.Ending End.Committing))
+        (scene common.new.word (L.sight common.new.store) common.new.tree) result.phase (events_of s.number result.happened) }
 {
     match common.store.step(s) {
         Ok(Stepped::Committed(moment)) => {
@@ -89,10 +101,9 @@ pub fn roll_back<S: Statements, L: LineStore>(
     terms: Terms,
 ) -> Turned
     requires member { IsMember s.number }
-    requires rolling_back { is_some (done_at ((L.shelf common.old.store).seat s.number)) ≡ true }
-    ensures { (dead : ℕ) →
-        Comes S.stands s.number (shared common.old.word (L.shelf common.old.store) common.old.tree dead) (at_stage terms (Stage.Ending End.RollingBack))
-        (shared common.new.word (L.shelf common.new.store) common.new.tree dead) result.phase (events_of s.number result.happened) }
+    requires rolling_back { is_some (done_at ((L.sight common.old.store).stand s.number)) ≡ true }
+    ensures { ComesIn S.stands s.number (scene common.old.word (L.sight common.old.store) common.old.tree) (at_stage terms (Stage.Ending End.RollingBack))
+        (scene common.new.word (L.sight common.new.store) common.new.tree) result.phase (events_of s.number result.happened) }
 {
     match work_on(&mut common.store, s) {
         Ok(Progress::Done) => {
@@ -114,10 +125,9 @@ pub fn go_away<S: Statements, L: LineStore>(
     terms: Terms,
 ) -> Turned
     requires member { IsMember s.number }
-    requires rolling_back { is_some (done_at ((L.shelf common.old.store).seat s.number)) ≡ true }
-    ensures { (dead : ℕ) →
-        Comes S.stands s.number (shared common.old.word (L.shelf common.old.store) common.old.tree dead) (at_stage terms (Stage.Ending End.Leaving))
-        (shared common.new.word (L.shelf common.new.store) common.new.tree dead) result.phase (events_of s.number result.happened) }
+    requires rolling_back { is_some (done_at ((L.sight common.old.store).stand s.number)) ≡ true }
+    ensures { ComesIn S.stands s.number (scene common.old.word (L.sight common.old.store) common.old.tree) (at_stage terms (Stage.Ending End.Leaving))
+        (scene common.new.word (L.sight common.new.store) common.new.tree) result.phase (events_of s.number result.happened) }
 {
     match work_on(&mut common.store, s) {
         Ok(Progress::Done) => {

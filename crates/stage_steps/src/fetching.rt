@@ -1,8 +1,8 @@
 //! What the job of a statement lacked is read, once it is locked.
-ghost use Rattle.std.specs.Prelude.{◌≡◌, ℕ};
 ghost use Rattle.line_store.specs.Seats.{IsMember, IsWriting};
 ghost use Rattle.stage_steps.specs.Happenings.{events_of};
-ghost use Rattle.stage_steps.specs.Turns.{Comes, at_stage, shared};
+ghost use Rattle.stage_steps.specs.Scenes.{ComesIn, scene};
+ghost use Rattle.stage_steps.specs.Turns.{at_stage};
 
 use crate::common::Common;
 use crate::happening::{Turned, failed, quiet};
@@ -25,10 +25,9 @@ pub fn fetch_locked<S: Statements, L: LineStore>(
     need: Need,
 ) -> Turned
     requires member { IsMember s.number }
-    requires seat { IsWriting ((L.shelf common.old.store).seat s.number) }
-    ensures { (dead : ℕ) →
-        Comes S.stands s.number (shared common.old.word (L.shelf common.old.store) common.old.tree dead) (at_stage terms (Stage.Working item (Work.Fetching need)))
-        (shared common.new.word (L.shelf common.new.store) common.new.tree dead) result.phase (events_of s.number result.happened) }
+    requires seat { IsWriting ((L.sight common.old.store).stand s.number) }
+    ensures { ComesIn S.stands s.number (scene common.old.word (L.sight common.old.store) common.old.tree) (at_stage terms (Stage.Working item (Work.Fetching need)))
+        (scene common.new.word (L.sight common.new.store) common.new.tree) result.phase (events_of s.number result.happened) }
 {
     // (a room is lodged in, and not fetched)
     if let Need::Room(_) = need {

@@ -2,9 +2,9 @@
 ghost use Rattle.std.specs.Prelude.{◌≡◌};
 
 use crate::asks::Asks;
-use line_store::{ChangeStop, CommitStop, Fault};
+use line_store::Fault;
 use lock_needs::Need;
-use rdb_types::{Keys, Moment, Node};
+use rdb_types::{Dbkey, Keys, Moment, Node};
 use rdo_ast::reply::{Reply, Standing};
 use rdo_ast::syntax::Item;
 use session_states::Phase;
@@ -52,12 +52,12 @@ pub enum Happening {
     Left,
     /// A device call failed, or a slot isn't what it has to be. The stage stands as it did.
     Failed(Fault),
-    /// The store has no room for what a statement wrote. The stage stands as it did.
-    Unlaid(ChangeStop),
-    /// The journal has no room for a commit. The stage stands as it did.
-    Uncommitted(CommitStop),
+    /// The store has no place for this line, which a statement wrote. The stage stands as it did.
+    Unlaid(Dbkey),
     /// Who works statements doesn't work this one. The stage stands as it did.
     Unworked,
+    /// Who works statements doesn't work this item, which was said outside a transaction. It is handed back.
+    Unanswered(Item),
 }
 
 /// What a step made of a session's phase, and what happened.

@@ -3,12 +3,14 @@
 #![tactic(auto)]
 
 mod asks;
+mod calling;
 mod common;
 mod dying;
 mod ending;
 mod fetching;
 mod happening;
 mod items;
+mod journal;
 mod limits;
 mod outside;
 mod reading;
@@ -22,15 +24,19 @@ mod working;
 pub use asks::Asks;
 pub use common::Common;
 pub use dying::{Recovery, die, recover};
-pub use ending::{commit, go_away, land, leave, roll_back};
+pub use ending::{commit, go_away, land, leave, prepare, roll_back};
 pub use fetching::fetch_locked;
-pub use happening::{Answer, Asking, Happening, Turned};
+pub use happening::{Answer, Asking, Happening, Turned, failed, quiet};
+pub use items::refused;
+pub use journal::want_journal;
+pub use limits::refuse_at_limit;
 pub use outside::{put_away, start};
 pub use reading::{
     compute_reading, fetch_reading, forgo_reading, hand_out_reading, leave_reading, take_up_reading,
 };
 pub use saying::{change, lay};
 pub use serving::serve;
+pub use storing::work_on;
 pub use terms::{ReaderTerms, Terms};
-pub use wanting::{want, want_journal};
+pub use wanting::want;
 pub use working::{compute, forgo, hand_out, open, take_back, take_up};

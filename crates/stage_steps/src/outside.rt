@@ -1,11 +1,14 @@
 //! A session that has no transaction open.
-ghost use Rattle.std.specs.Prelude.{◌≡◌, ℕ, ◌∷◌, [], true, None, Some};
+ghost use Rattle.std.specs.Prelude.{◌≡◌, ℕ, List, [], true, None, Some};
 ghost use Rattle.rdo_ast.specs.Views.{uttered_of};
 ghost use Rattle.rdb_account.specs.Places.{begins, is_writer};
 ghost use Rattle.line_store.specs.Seats.{outside, done_at, IsMember};
-ghost use Rattle.session_states.specs.Shared.{Shared, with_shelf};
-ghost use Rattle.stage_steps.specs.Happenings.{events_of, said_by};
-ghost use Rattle.stage_steps.specs.Turns.{Comes, TakesUp};
+ghost use Rattle.lock_tree_laws.specs.Forest.{State};
+ghost use Rattle.session_states.specs.Shared.{Shared};
+ghost use Rattle.stage_steps.specs.Happenings.{events_of, handed_back};
+ghost use Rattle.stage_steps.specs.Leaving.{IsLeftFor};
+ghost use Rattle.stage_steps.specs.Scenes.{ComesIn, TakesUpIn, scene};
+ghost use Rattle.stage_steps.specs.Turns.{TakesUp};
 
 use crate::happening::{Answer, Happening, Turned, failed, quiet};
 use crate::items::{is_nowait, kind_begun, refused, writes};
@@ -15,17 +18,18 @@ use line_view::Known;
 use rdb_types::{Copied, Session, Word};
 use rdo_ast::reply::{Reply, Standing};
 use rdo_ast::syntax::Item;
-use session_jobs::{Found, Job, Outcome, Statements};
+use session_jobs::{Answer as Worked, Found, Job, Statements};
 use session_states::{Phase, Reader, ReaderStage, ReaderWork, Stage, Work, Writer};
 use std::alloc::Global;
 
-/// Answers an item that begins no transaction: it is worked over nothing that is known.
-fn answer_outside<S: Statements>(alloc: Global, word: &Word, item: Item) -> Answer
+/// Answers an item that begins no transaction: it is worked over nothing that is known, and reads nothing.
+fn answer_outside<S: Statements>(alloc: Global, word: &Word, item: Item) -> Happening
     requires { begins (uttered_of item) ≡ None }
-    ensures { (s : ℕ) (c : Shared) → c.word ≡ word.now → TakesUp S.stands s item c Phase.Outside c Phase.Outside (said_by s result ∷ []) }
+    ensures says { (s : ℕ) (c : Shared) → c.word ≡ word.now → TakesUp S.stands s item c Phase.Outside c Phase.Outside (handed_back result) (events_of s result) }
+    ensures cause { IsLeftFor S.leaves word.now item result }
 {
     let Ok(word) = word.copied(alloc) else {
-        return refused(alloc, item, Reply::NoMemory);
+        return Happening::Answered(refused(alloc, item, Reply::NoMemory));
     };
     let job = Job {
         alloc,
@@ -34,15 +38,17 @@ fn answer_outside<S: Statements>(alloc: Global, word: &Word, item: Item) -> Answ
         item,
         known: Known::new(alloc),
     };
-    let (job, _, found) = Outcome::<S>::of(job, S::nothing()).into_parts();
+    let Worked { job, found, .. } = S::work(job, S::nothing());
     let Job { item, .. } = job;
     match found {
-        Found::Done(done) => Answer {
+        Found::Done(done) => Happening::Answered(Answer {
             item,
             keys: done.choices,
             reply: done.reply,
-        },
-        _ => refused(alloc, item, Reply::NoMemory),
+        }),
+        Found::Unworked => Happening::Unanswered(item),
+        Found::NoMemory => Happening::Answered(refused(alloc, item, Reply::NoMemory)),
+        Found::Missing { .. } | Found::Bad(_) => unreachable!(),
     }
 }
 
@@ -55,10 +61,11 @@ fn begin_writing<S: Statements, L: LineStore>(
     kind: Standing,
 ) -> Turned
     requires member { IsMember s.number }
-    requires seat { (L.shelf store.old).seat s.number ≡ outside }
+    requires seat { (L.sight store.old).stand s.number ≡ outside }
     requires kind { begins (uttered_of item) ≡ Some kind }
     requires writes { is_writer kind ≡ true }
-    ensures { (c : Shared) → TakesUp S.stands s.number item (with_shelf (L.shelf store.old) c) Phase.Outside (with_shelf (L.shelf store.new) c) result.phase (events_of s.number result.happened) }
+    ensures begins { (word : List ℕ) (locks : State) → TakesUpIn S.stands s.number item (scene word (L.sight store.old) locks) Phase.Outside (scene word (L.sight store.new) locks) result.phase (handed_back result.happened) (events_of s.number result.happened) }
+    ensures cause { (word : List ℕ) → IsLeftFor S.leaves word item result.happened }
 {
     store.begin(s);
     Turned {
@@ -81,9 +88,10 @@ fn begin_reading<S: Statements, L: LineStore>(
     item: Item,
 ) -> Turned
     requires member { IsMember s.number }
-    requires seat { (L.shelf store.old).seat s.number ≡ outside }
+    requires seat { (L.sight store.old).stand s.number ≡ outside }
     requires kind { begins (uttered_of item) ≡ Some Standing.ReadOnly }
-    ensures { (c : Shared) → TakesUp S.stands s.number item (with_shelf (L.shelf store.old) c) Phase.Outside (with_shelf (L.shelf store.new) c) result.phase (events_of s.number result.happened) }
+    ensures begins { (word : List ℕ) (locks : State) → TakesUpIn S.stands s.number item (scene word (L.sight store.old) locks) Phase.Outside (scene word (L.sight store.new) locks) result.phase (handed_back result.happened) (events_of s.number result.happened) }
+    ensures cause { (word : List ℕ) → IsLeftFor S.leaves word item result.happened }
 {
     match store.begin_reading(s) {
         Ok(()) => Turned {
@@ -102,7 +110,8 @@ fn begin_reading<S: Statements, L: LineStore>(
     }
 }
 
-/// Takes up the next item: it begins a transaction, or is answered outside of one.
+/// Takes up the next item: it begins a transaction, or is answered outside of one. One that who works statements leaves unworked is
+/// handed back.
 pub fn start<S: Statements, L: LineStore>(
     alloc: Global,
     word: &Word,
@@ -111,8 +120,9 @@ pub fn start<S: Statements, L: LineStore>(
     item: Item,
 ) -> Turned
     requires member { IsMember s.number }
-    requires seat { (L.shelf store.old).seat s.number ≡ outside }
-    ensures { (c : Shared) → c.word ≡ word.now → TakesUp S.stands s.number item (with_shelf (L.shelf store.old) c) Phase.Outside (with_shelf (L.shelf store.new) c) result.phase (events_of s.number result.happened) }
+    requires seat { (L.sight store.old).stand s.number ≡ outside }
+    ensures starts { (locks : State) → TakesUpIn S.stands s.number item (scene word.now (L.sight store.old) locks) Phase.Outside (scene word.now (L.sight store.new) locks) result.phase (handed_back result.happened) (events_of s.number result.happened) }
+    ensures cause { IsLeftFor S.leaves word.now item result.happened }
 {
     match kind_begun(alloc, &item) {
         Ok(Some(kind)) => {
@@ -124,7 +134,7 @@ pub fn start<S: Statements, L: LineStore>(
         }
         Ok(None) => Turned {
             phase: Phase::Outside,
-            happened: Happening::Answered(answer_outside::<S>(alloc, word, item)),
+            happened: answer_outside::<S>(alloc, word, item),
         },
         Err(_) => Turned {
             phase: Phase::Outside,
@@ -136,8 +146,8 @@ pub fn start<S: Statements, L: LineStore>(
 /// The store puts away what a transaction left.
 pub fn put_away<S: Statements, L: LineStore>(store: &mut L, s: Session) -> Turned
     requires member { IsMember s.number }
-    requires closing { done_at ((L.shelf store.old).seat s.number) ≡ Some outside }
-    ensures { (c : Shared) → Comes S.stands s.number (with_shelf (L.shelf store.old) c) Phase.Closing (with_shelf (L.shelf store.new) c) result.phase (events_of s.number result.happened) }
+    requires closing { done_at ((L.sight store.old).stand s.number) ≡ Some outside }
+    ensures { (word : List ℕ) (locks : State) → ComesIn S.stands s.number (scene word (L.sight store.old) locks) Phase.Closing (scene word (L.sight store.new) locks) result.phase (events_of s.number result.happened) }
 {
     match work_on(store, s) {
         Ok(Progress::Done) => quiet(Phase::Outside),

@@ -1,13 +1,16 @@
 //! A read-only transaction, which wants no lock and has nothing to undo.
-ghost use Rattle.std.specs.Prelude.{◌≡◌, ◌||◌, ℕ, [], not, true, false};
+ghost use Rattle.std.specs.Prelude.{◌≡◌, ◌||◌, ℕ, List, [], not, true, false};
 ghost use Rattle.rdo_ast.specs.Views.{uttered_of};
 ghost use Rattle.line_store.specs.Seats.{IsMember, IsReader};
 ghost use Rattle.line_view.specs.Held.{knows};
 ghost use Rattle.session_jobs.specs.Jobs.{IsFound};
-ghost use Rattle.session_states.specs.Shared.{Shared, with_shelf};
+ghost use Rattle.lock_tree_laws.specs.Forest.{State};
+ghost use Rattle.session_states.specs.Shared.{Shared};
 ghost use Rattle.session_states.specs.declared.stage.ReaderWork.{ReaderWork as ReaderWorkValue};
 ghost use Rattle.stage_steps.specs.Happenings.{events_of};
-ghost use Rattle.stage_steps.specs.Turns.{Comes, Ends, TakesUp, reads_at};
+ghost use Rattle.stage_steps.specs.Leaving.{OnUnworked};
+ghost use Rattle.stage_steps.specs.Scenes.{ComesIn, EndsIn, PassesOn, TakesUpIn, scene};
+ghost use Rattle.stage_steps.specs.Turns.{Comes, reads_at};
 
 use crate::happening::{Answer, Happening, Turned, failed, quiet};
 use crate::items::{End, end_of, goes_on, refused};
@@ -30,8 +33,8 @@ pub fn take_up_reading<S: Statements, L: LineStore>(
     item: Item,
 ) -> Turned
     requires member { IsMember s.number }
-    requires seat { IsReader ((L.shelf store.old).seat s.number) }
-    ensures { (c : Shared) → TakesUp S.stands s.number item (with_shelf (L.shelf store.old) c) (reads_at terms ReaderStage.Between) (with_shelf (L.shelf store.new) c) result.phase (events_of s.number result.happened) }
+    requires seat { IsReader ((L.sight store.old).stand s.number) }
+    ensures { (word : List ℕ) (locks : State) → TakesUpIn S.stands s.number item (scene word (L.sight store.old) locks) (reads_at terms ReaderStage.Between) (scene word (L.sight store.new) locks) result.phase [] (events_of s.number result.happened) }
 {
     match end_of(&item) {
         End::Nothing => quiet(terms.at(ReaderStage::Working(item, ReaderWork::Due))),
@@ -60,8 +63,8 @@ pub fn leave_reading<S: Statements, L: LineStore>(
     _terms: ReaderTerms,
 ) -> Turned
     requires member { IsMember s.number }
-    requires seat { IsReader ((L.shelf store.old).seat s.number) }
-    ensures { (c : Shared) → Ends S.stands s.number (with_shelf (L.shelf store.old) c) (reads_at _terms ReaderStage.Between) (with_shelf (L.shelf store.new) c) result.phase (events_of s.number result.happened) }
+    requires seat { IsReader ((L.sight store.old).stand s.number) }
+    ensures { (word : List ℕ) (locks : State) → EndsIn S.stands s.number (scene word (L.sight store.old) locks) (reads_at _terms ReaderStage.Between) (scene word (L.sight store.new) locks) result.phase (events_of s.number result.happened) }
 {
     store.end_reading(s);
     Turned {
@@ -72,7 +75,7 @@ pub fn leave_reading<S: Statements, L: LineStore>(
 
 /// The job of a statement is handed out.
 pub fn hand_out_reading<S: Statements>(terms: ReaderTerms, item: Item) -> Phase
-    ensures { (s : ℕ) (c : Shared) → Comes S.stands s c (reads_at terms (ReaderStage.Working item ReaderWork.Due)) c result [] }
+    ensures { PassesOn S.stands (reads_at terms (ReaderStage.Working item ReaderWork.Due)) result }
 {
     terms.at(ReaderStage::Working(item, ReaderWork::Out))
 }
@@ -98,9 +101,9 @@ pub fn forgo_reading<S: Statements, L: LineStore>(
     item: Item,
 ) -> Turned
     requires member { IsMember s.number }
-    requires seat { IsReader ((L.shelf store.old).seat s.number) }
-    ensures { (c : Shared) (work : ReaderWorkValue) →
-        Comes S.stands s.number (with_shelf (L.shelf store.old) c) (reads_at terms (ReaderStage.Working item work)) (with_shelf (L.shelf store.new) c) result.phase (events_of s.number result.happened) }
+    requires seat { IsReader ((L.sight store.old).stand s.number) }
+    ensures forgoes { (word : List ℕ) (locks : State) (work : ReaderWorkValue) → ComesIn S.stands s.number (scene word (L.sight store.old) locks) (reads_at terms (ReaderStage.Working item work)) (scene word (L.sight store.new) locks) result.phase (events_of s.number result.happened) }
+    ensures worked { OnUnworked result.happened ⊥ }
 {
     if goes_on(terms.spoken, &item) {
         return Turned {
@@ -117,8 +120,10 @@ pub fn forgo_reading<S: Statements, L: LineStore>(
 
 /// Says what a statement came to.
 fn say_reading<S: Statements>(terms: ReaderTerms, item: Item, worked: TxRecord) -> Turned
-    ensures { (s : ℕ) (c : Shared) → IsFound S.stands c.word terms.standing (uttered_of item) (knows terms.known) (Found.Done worked) →
+    ensures worked { OnUnworked result.happened ⊥ }
+    ensures says { (s : ℕ) (c : Shared) → IsFound S.stands c.word terms.standing (uttered_of item) (knows terms.known) (Found.Done worked) →
         Comes S.stands s c (reads_at terms (ReaderStage.Working item ReaderWork.Out)) c result.phase (events_of s result.happened) }
+    ensures phase { result.phase ≡ reads_at (record { standing = Standing.ReadOnly; known = terms.known; spoken = true }) ReaderStage.Between }
 {
     Turned {
         phase: spoken(terms),
@@ -140,9 +145,9 @@ pub fn compute_reading<S: Statements, L: LineStore>(
     item: Item,
 ) -> Turned
     requires member { IsMember s.number }
-    requires seat { IsReader ((L.shelf store.old).seat s.number) }
-    ensures { (c : Shared) → c.word ≡ word.now →
-        Comes S.stands s.number (with_shelf (L.shelf store.old) c) (reads_at terms (ReaderStage.Working item ReaderWork.Out)) (with_shelf (L.shelf store.new) c) result.phase (events_of s.number result.happened) }
+    requires seat { IsReader ((L.sight store.old).stand s.number) }
+    ensures comes { (locks : State) → ComesIn S.stands s.number (scene word.now (L.sight store.old) locks) (reads_at terms (ReaderStage.Working item ReaderWork.Out)) (scene word.now (L.sight store.new) locks) result.phase (events_of s.number result.happened) }
+    ensures cause { OnUnworked result.happened (S.leaves word.now terms.standing (uttered_of item) (knows terms.known)) }
 {
     let Ok(word) = word.copied(alloc) else {
         return forgo_reading::<S, L>(alloc, store, s, terms, item);
@@ -185,9 +190,8 @@ pub fn fetch_reading<S: Statements, L: LineStore>(
     need: Need,
 ) -> Turned
     requires member { IsMember s.number }
-    requires seat { IsReader ((L.shelf store.old).seat s.number) }
-    ensures { (c : Shared) →
-        Comes S.stands s.number (with_shelf (L.shelf store.old) c) (reads_at terms (ReaderStage.Working item (ReaderWork.Fetching need))) (with_shelf (L.shelf store.new) c) result.phase (events_of s.number result.happened) }
+    requires seat { IsReader ((L.sight store.old).stand s.number) }
+    ensures { (word : List ℕ) (locks : State) → ComesIn S.stands s.number (scene word (L.sight store.old) locks) (reads_at terms (ReaderStage.Working item (ReaderWork.Fetching need))) (scene word (L.sight store.new) locks) result.phase (events_of s.number result.happened) }
 {
     // (readers write on no room)
     if let Need::Room(_) = need {

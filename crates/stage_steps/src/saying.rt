@@ -1,22 +1,25 @@
 //! A statement that was worked: the writes of its record are laid, and it is said.
-ghost use Rattle.std.specs.Prelude.{◌≡◌, ◌||◌, ℕ, true, false, None, is_some};
+ghost use Rattle.std.specs.Prelude.{◌≡◌, ◌||◌, ◌⊎◌, ℕ, List, [], true, false, None, is_some};
 ghost use Rattle.rdb_account.specs.Places.{is_done as is_done_reply};
 ghost use Rattle.line_store.specs.Seats.{done_at, IsMember, IsWriting};
+ghost use Rattle.session_limits.specs.Some.{WriteSome};
 ghost use Rattle.session_states.specs.Locks.{lock_of};
 ghost use Rattle.session_states.specs.Turns.{said_writer};
-ghost use Rattle.session_states.specs.Shared.{Shared, with_shelf};
+ghost use Rattle.lock_tree_laws.specs.Forest.{State};
 ghost use Rattle.stage_steps.specs.Happenings.{events_of};
-ghost use Rattle.stage_steps.specs.Turns.{Comes, at_stage, shared};
+ghost use Rattle.stage_steps.specs.Scenes.{ComesIn, scene};
+ghost use Rattle.stage_steps.specs.Turns.{at_stage};
 
 use crate::common::Common;
 use crate::happening::{Answer, Happening, Turned, failed, quiet};
-use crate::items::stands;
-use crate::limits::refuse_laying;
+use crate::items::{is_done, stands};
+use crate::limits::refuse_at_limit;
 use crate::storing::work_on;
 use crate::terms::Terms;
 use crate::working::forgo;
 use line_store::{ChangeStop, LineStore, Progress};
 use rdb_types::Session;
+use rdo_ast::reply::Reply;
 use rdo_ast::syntax::Item;
 use session_jobs::{Statements, TxRecord};
 use session_states::{Laying, Phase, Spoken, Stage, speak};
@@ -31,11 +34,11 @@ fn refuse_start<S: Statements, L: LineStore>(
     worked: TxRecord,
 ) -> Turned
     requires member { IsMember s.number }
-    requires seat { IsWriting ((L.shelf common.old.store).seat s.number) }
+    requires seat { IsWriting ((L.sight common.old.store).stand s.number) }
     requires undone { (terms.spoken || is_done_reply worked.reply) ≡ false }
-    ensures { (dead place : ℕ) →
-        Comes S.stands s.number (shared common.old.word (L.shelf common.old.store) common.old.tree dead) (at_stage terms (Stage.Saying item worked (Laying.Claiming place)))
-        (shared common.new.word (L.shelf common.new.store) common.new.tree dead) result.phase (events_of s.number result.happened) }
+    ensures { (place : ℕ) →
+        ComesIn S.stands s.number (scene common.old.word (L.sight common.old.store) common.old.tree) (at_stage terms (Stage.Saying item worked (Laying.Claiming place)))
+        (scene common.new.word (L.sight common.new.store) common.new.tree) result.phase (events_of s.number result.happened) }
 {
     common.store.roll_back(s);
     common.tree.release_all(s.number);
@@ -70,8 +73,20 @@ fn say(terms: Terms, item: Item, worked: TxRecord) -> Turned
     }
 }
 
+// Whether a record has writes that are to be laid. One that isn't done leaves the tables as they are.
+fn has_to_lay(worked: &TxRecord) -> bool
+    ensures lays { result ≡ true → (is_done_reply (worked.now).reply ≡ true) × WriteSome (worked.now).writes }
+    ensures rests { result ≡ false → (is_done_reply (worked.now).reply ≡ false) ⊎ ((worked.now).writes ≡ []) }
+{
+    if !is_done(&worked.reply) {
+        return false;
+    }
+    !worked.writes.is_empty()
+}
+
 /// The lines of all writes of a record are locked: the store begins to lay them, and what the session knows follows. A record that
-/// writes nothing is said at once.
+/// writes nothing is said at once, and so is one that isn't done, since that leaves the tables as they are. Where the store has no room
+/// the statement is refused at that limit.
 pub fn lay<S: Statements, L: LineStore>(
     common: &mut Common<L>,
     s: Session,
@@ -81,16 +96,15 @@ pub fn lay<S: Statements, L: LineStore>(
     place: usize,
 ) -> Turned
     requires member { IsMember s.number }
-    requires seat { IsWriting ((L.shelf common.old.store).seat s.number) }
+    requires seat { IsWriting ((L.sight common.old.store).stand s.number) }
     requires locked { lock_of (Stage.Saying item worked (Laying.Claiming place)) ≡ None }
-    ensures { (dead : ℕ) →
-        Comes S.stands s.number (shared common.old.word (L.shelf common.old.store) common.old.tree dead) (at_stage terms (Stage.Saying item worked (Laying.Claiming place)))
-        (shared common.new.word (L.shelf common.new.store) common.new.tree dead) result.phase (events_of s.number result.happened) }
+    ensures { ComesIn S.stands s.number (scene common.old.word (L.sight common.old.store) common.old.tree) (at_stage terms (Stage.Saying item worked (Laying.Claiming place)))
+        (scene common.new.word (L.sight common.new.store) common.new.tree) result.phase (events_of s.number result.happened) }
 {
     if !stands(terms.spoken, &worked.reply) {
         return refuse_start::<S, L>(common, s, terms, item, worked);
     }
-    if worked.writes.is_empty() {
+    if !has_to_lay(&worked) {
         return say(terms, item, worked);
     }
     let mut terms = terms;
@@ -98,7 +112,16 @@ pub fn lay<S: Statements, L: LineStore>(
     match apply(common.alloc, &mut common.store, s, &mut terms.known, writes) {
         Ok(()) => quiet(terms.at(Stage::Saying(item, worked, Laying::Changing))),
         Err(ChangeStop::NoMemory) => forgo::<S, L>(common, s, terms, item),
-        Err(stop) => refuse_laying::<S>(common.alloc, terms, item, worked, place, stop),
+        Err(ChangeStop::RujFull(limit)) => {
+            refuse_at_limit(common.alloc, terms, item, Reply::RujFull(limit))
+        }
+        Err(ChangeStop::SnapFull(limit)) => {
+            refuse_at_limit(common.alloc, terms, item, Reply::SnapFull(limit))
+        }
+        Err(ChangeStop::Unfit(key)) => Turned {
+            phase: terms.at(Stage::Saying(item, worked, Laying::Claiming(place))),
+            happened: Happening::Unlaid(key),
+        },
     }
 }
 
@@ -111,9 +134,8 @@ pub fn change<S: Statements, L: LineStore>(
     worked: TxRecord,
 ) -> Turned
     requires member { IsMember s.number }
-    requires changing { is_some (done_at ((L.shelf store.old).seat s.number)) ≡ true }
-    ensures { (c : Shared) →
-        Comes S.stands s.number (with_shelf (L.shelf store.old) c) (at_stage terms (Stage.Saying item worked Laying.Changing)) (with_shelf (L.shelf store.new) c) result.phase (events_of s.number result.happened) }
+    requires changing { is_some (done_at ((L.sight store.old).stand s.number)) ≡ true }
+    ensures { (word : List ℕ) (locks : State) → ComesIn S.stands s.number (scene word (L.sight store.old) locks) (at_stage terms (Stage.Saying item worked Laying.Changing)) (scene word (L.sight store.new) locks) result.phase (events_of s.number result.happened) }
 {
     match work_on(store, s) {
         Ok(Progress::Done) => say(terms, item, worked),

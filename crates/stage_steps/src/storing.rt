@@ -1,16 +1,19 @@
 // What the store does for a session, a step at a time.
 ghost use Rattle.std.specs.Prelude.{◌≡◌, true, is_some};
 ghost use Rattle.line_store.specs.Seats.{done_at, IsMember};
-ghost use Rattle.stage_steps.specs.Stores.{HasGoneOn};
+ghost use Rattle.line_store.specs.Sights.{Does};
+ghost use Rattle.stage_steps.specs.Stores.{HasGoneOn, worked_to};
 
 use line_store::{Fault, LineStore, Progress, Stepped};
 use rdb_types::Session;
 
 /// One step of what the store does for a session, where that is told to be done.
+///
+/// Fails where a device call does, or a slot isn't what it has to be; then the session stands as it did.
 pub fn work_on<L: LineStore>(store: &mut L, s: Session) -> Result<Progress, Fault>
     requires member { IsMember s.number }
-    requires under_way { is_some (done_at ((L.shelf store.old).seat s.number)) ≡ true }
-    ensures { HasGoneOn s.number (L.shelf store.old) (L.shelf store.new) result }
+    requires under_way { is_some (done_at ((L.sight store.old).stand s.number)) ≡ true }
+    ensures { Does s.number (worked_to ((L.sight store.old).stand s.number) result) (HasGoneOn s.number result) (L.sight store.old) (L.sight store.new) }
 {
     match store.step(s) {
         Ok(Stepped::Done) => Ok(Progress::Done),

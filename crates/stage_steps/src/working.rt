@@ -1,16 +1,17 @@
 //! A statement of a read-write transaction: it is taken up, and its job is worked.
-ghost use Rattle.std.specs.Prelude.{◌≡◌, ℕ, ◌∷◌, [], true, false, Some};
+ghost use Rattle.std.specs.Prelude.{◌≡◌, ℕ, List, [], true, Some};
 ghost use Rattle.rdo_ast.specs.Views.{uttered_of};
-ghost use Rattle.line_store.specs.Seats.{done_at, IsMember, IsWriting, writing};
+ghost use Rattle.line_store.specs.Seats.{beginning, IsMember, IsWriting};
 ghost use Rattle.line_view.specs.Held.{knows};
 ghost use Rattle.session_states.specs.declared.stage.Stage.{Stage as StageValue};
 ghost use Rattle.lock_tree_laws.specs.Forest.{State};
 ghost use Rattle.lock_tree_laws.specs.Room.{IsAsBefore};
 ghost use Rattle.session_jobs.specs.Jobs.{IsFound};
 ghost use Rattle.session_states.specs.States.{item_of, is_at_rest};
-ghost use Rattle.session_states.specs.Shared.{Shared, with_shelf};
 ghost use Rattle.stage_steps.specs.Happenings.{events_of};
-ghost use Rattle.stage_steps.specs.Turns.{Comes, TakesUp, at_stage, shared};
+ghost use Rattle.stage_steps.specs.Leaving.{OnUnworked};
+ghost use Rattle.stage_steps.specs.Scenes.{ComesIn, PassesOn, TakesUpIn, scene};
+ghost use Rattle.stage_steps.specs.Turns.{at_stage};
 
 use crate::common::Common;
 use crate::happening::{Happening, Turned, failed, quiet};
@@ -32,12 +33,12 @@ pub fn take_up<S: Statements, L: LineStore>(
     item: Item,
 ) -> Phase
     requires member { IsMember s.number }
-    requires seat { IsWriting ((L.shelf store.old).seat s.number) }
-    ensures { (c : Shared) → TakesUp S.stands s.number item (with_shelf (L.shelf store.old) c) (at_stage terms Stage.Between) (with_shelf (L.shelf store.new) c) result [] }
+    requires seat { IsWriting ((L.sight store.old).stand s.number) }
+    ensures { (word : List ℕ) (locks : State) → TakesUpIn S.stands s.number item (scene word (L.sight store.old) locks) (at_stage terms Stage.Between) (scene word (L.sight store.new) locks) result [] [] }
 {
     match end_of(&item) {
         End::Nothing => terms.at(Stage::Working(item, Work::Due)),
-        End::Commit => terms.at(Stage::Ending(EndStage::Journal)),
+        End::Commit => terms.at(Stage::Ending(EndStage::Preparing)),
         End::Rollback => {
             store.roll_back(s);
             terms.at(Stage::Ending(EndStage::RollingBack))
@@ -53,8 +54,8 @@ pub fn open<S: Statements, L: LineStore>(
     item: Item,
 ) -> Turned
     requires member { IsMember s.number }
-    requires opening { done_at ((L.shelf store.old).seat s.number) ≡ Some (writing []) }
-    ensures { (c : Shared) → Comes S.stands s.number (with_shelf (L.shelf store.old) c) (at_stage terms (Stage.Working item Work.Opening)) (with_shelf (L.shelf store.new) c) result.phase (events_of s.number result.happened) }
+    requires opening { (L.sight store.old).stand s.number ≡ beginning }
+    ensures { (word : List ℕ) (locks : State) → ComesIn S.stands s.number (scene word (L.sight store.old) locks) (at_stage terms (Stage.Working item Work.Opening)) (scene word (L.sight store.new) locks) result.phase (events_of s.number result.happened) }
 {
     match work_on(store, s) {
         Ok(Progress::Done) => quiet(terms.at(Stage::Working(item, Work::Due))),
@@ -65,7 +66,7 @@ pub fn open<S: Statements, L: LineStore>(
 
 /// The job of a statement is handed out.
 pub fn hand_out<S: Statements>(terms: Terms, item: Item) -> Phase
-    ensures { (s : ℕ) (c : Shared) → Comes S.stands s c (at_stage terms (Stage.Working item Work.Due)) c result [] }
+    ensures { PassesOn S.stands (at_stage terms (Stage.Working item Work.Due)) result }
 {
     terms.at(Stage::Working(item, Work::Out))
 }
@@ -79,10 +80,11 @@ pub fn forgo<S: Statements, L: LineStore>(
     item: Item,
 ) -> Turned
     requires member { IsMember s.number }
-    requires seat { IsWriting ((L.shelf common.old.store).seat s.number) }
-    ensures { (dead : ℕ) (locks : State) (stage : StageValue) → IsAsBefore locks common.old.tree → is_at_rest stage ≡ true → item_of stage ≡ Some (uttered_of item) →
-        Comes S.stands s.number (shared common.old.word (L.shelf common.old.store) locks dead) (at_stage terms stage)
-        (shared common.new.word (L.shelf common.new.store) common.new.tree dead) result.phase (events_of s.number result.happened) }
+    requires seat { IsWriting ((L.sight common.old.store).stand s.number) }
+    ensures forgoes { (locks : State) (stage : StageValue) → IsAsBefore locks common.old.tree → is_at_rest stage ≡ true → item_of stage ≡ Some (uttered_of item) →
+        ComesIn S.stands s.number (scene common.old.word (L.sight common.old.store) locks) (at_stage terms stage)
+        (scene common.new.word (L.sight common.new.store) common.new.tree) result.phase (events_of s.number result.happened) }
+    ensures worked { OnUnworked result.happened ⊥ }
 {
     let answer = refused(common.alloc, item, Reply::NoMemory);
     if terms.spoken {
@@ -100,7 +102,8 @@ pub fn forgo<S: Statements, L: LineStore>(
     }
 }
 
-/// Takes what a job came to: its record is kept till it is said, what it lacks is wanted, and want of memory is answered.
+/// Takes what a job came to: its record is kept till it is said, what it lacks is wanted, and want of memory is answered. Where it was
+/// left unworked the stage stands, and its job is due again.
 pub fn take_back<S: Statements, L: LineStore>(
     common: &mut Common<L>,
     s: Session,
@@ -109,11 +112,11 @@ pub fn take_back<S: Statements, L: LineStore>(
     found: Found,
 ) -> Turned
     requires member { IsMember s.number }
-    requires seat { IsWriting ((L.shelf common.old.store).seat s.number) }
+    requires seat { IsWriting ((L.sight common.old.store).stand s.number) }
     requires found { IsFound S.stands common.old.word terms.standing (uttered_of item) (knows terms.known) found }
-    ensures { (dead : ℕ) →
-        Comes S.stands s.number (shared common.old.word (L.shelf common.old.store) common.old.tree dead) (at_stage terms (Stage.Working item Work.Out))
-        (shared common.new.word (L.shelf common.new.store) common.new.tree dead) result.phase (events_of s.number result.happened) }
+    ensures comes { ComesIn S.stands s.number (scene common.old.word (L.sight common.old.store) common.old.tree) (at_stage terms (Stage.Working item Work.Out))
+        (scene common.new.word (L.sight common.new.store) common.new.tree) result.phase (events_of s.number result.happened) }
+    ensures unworked { OnUnworked result.happened (found ≡ Found.Unworked) }
 {
     match found {
         Found::Done(worked) => quiet(terms.at(Stage::Saying(item, worked, Laying::Claiming(0)))),
@@ -130,7 +133,7 @@ pub fn take_back<S: Statements, L: LineStore>(
     }
 }
 
-/// Works the job of a statement at once, and takes what it came to.
+/// Works the job of a statement at once, and takes what it came to. Where it is left unworked, that has a cause.
 pub fn compute<S: Statements, L: LineStore>(
     common: &mut Common<L>,
     s: Session,
@@ -138,10 +141,10 @@ pub fn compute<S: Statements, L: LineStore>(
     item: Item,
 ) -> Turned
     requires member { IsMember s.number }
-    requires seat { IsWriting ((L.shelf common.old.store).seat s.number) }
-    ensures { (dead : ℕ) →
-        Comes S.stands s.number (shared common.old.word (L.shelf common.old.store) common.old.tree dead) (at_stage terms (Stage.Working item Work.Out))
-        (shared common.new.word (L.shelf common.new.store) common.new.tree dead) result.phase (events_of s.number result.happened) }
+    requires seat { IsWriting ((L.sight common.old.store).stand s.number) }
+    ensures comes { ComesIn S.stands s.number (scene common.old.word (L.sight common.old.store) common.old.tree) (at_stage terms (Stage.Working item Work.Out))
+        (scene common.new.word (L.sight common.new.store) common.new.tree) result.phase (events_of s.number result.happened) }
+    ensures cause { OnUnworked result.happened (S.leaves common.old.word terms.standing (uttered_of item) (knows terms.known)) }
 {
     let Ok(word) = common.word.copied(common.alloc) else {
         return forgo::<S, L>(common, s, terms, item);

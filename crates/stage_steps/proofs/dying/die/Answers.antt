@@ -1,7 +1,15 @@
-use Rattle.session_states.specs.Shared.{with_shelf}
+use Rattle.session_states.specs.declared.stage.Life.TheVariants.{Alive, Dead}
+use Rattle.std.proofs.Common.{◌∙◌, ap, [], refl}
+use Rattle.std.specs.Prelude.{Bool}
+use Rattle.line_store.specs.Seats.{dead}
 use Rattle.session_states.proofs.Dying.{dies-on}
+use Rattle.stage_steps.specs.Turns.{shared}
+use Rattle.stage_steps.proofs.Goes.{goes}
+use Rattle.stage_steps.proofs.Seated.{phase-commits}
 use Rattle.stage_steps.proofs.dying.die.Goals as goal
 
 pub returns : goal.returns
-returns g c o c' left total x cause allowed =
-    dies-on g.S.Statements.stands g.met.S.Statements.orderly o c.args.s.number (with_shelf (g.L.LineStore.shelf c.args.store.now) c') (g.L.LineStore.shelf c.die.new.self) left total x cause allowed c.die.ensures.moves
+returns g c word locks x =
+    goes c.args.s.number x Alive x Dead _ _ _ _ _
+    (λ e f. record { seat = e ∙ ap (λ (b : Bool). dead b []) (phase-commits x _ f.seat); wants = f.wants; beside = f.beside; needs = f.needs }) (λ u other. refl)
+    (λ h k shown told r o before left total cause allowed. dies-on g.S.Statements.stands g.met.S.Statements.orderly o c.args.s.number (shared word h locks before) k left total x cause allowed r) c.die.ensures.does

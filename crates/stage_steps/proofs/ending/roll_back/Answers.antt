@@ -1,20 +1,29 @@
-use Rattle.std.proofs.Common.{◌∙◌}
+use Rattle.session_states.specs.declared.stage.Life.TheVariants.{Alive}
+use Rattle.std.proofs.Common.{◌∙◌, ap}
+use Rattle.line_store.specs.Seats.{done_at}
 use Rattle.session_states.specs.declared.stage.End.TheVariants.{RollingBack}
 use Rattle.session_states.specs.declared.stage.Stage.TheVariants.{Ending}
-use Rattle.session_states.proofs.Parting.{goes-on}
 use Rattle.session_states.proofs.Ending.{rolled-on}
 use Rattle.stage_steps.specs.Turns.{at_stage, shared}
-use Rattle.stage_steps.proofs.Stands.{when-done, when-more, as-before, released, comes-as}
+use Rattle.stage_steps.proofs.Goes.{goes, comes-as}
+use Rattle.stage_steps.proofs.Resting.{as-before, released}
+use Rattle.stage_steps.proofs.Seated.{done-away, sits-outside}
+use Rattle.stage_steps.proofs.Stored.{when-done, when-more, on-more, on-fault}
 use Rattle.stage_steps.proofs.ending.roll_back.Goals as goal
 
 pub returns-in-Ok-Done : goal.returns-in-Ok-Done
-returns-in-Ok-Done g c dead left total =
-    rolled-on g.S.Statements.stands g.met.S.Statements.orderly c.args.s.number (shared c.args.common.now.word (g.L.LineStore.shelf c.args.common.now.store) c.args.common.now.tree dead) (g.L.LineStore.shelf c.work_on.new.store) c.release_all.new.self left total c.args.terms.standing c.args.terms.known c.args.terms.spoken c.args.terms.waits (when-done c.args.s.number (g.L.LineStore.shelf c.args.common.now.store) (g.L.LineStore.shelf c.work_on.new.store) _ c.in-Ok-Done.field-0-is c.in-Ok-Done.ensures) (released c.args.s.number c.args.common.now.tree c.args.common.now.tree c.release_all.new.self (as-before c.args.common.now.tree) c.release_all.ensures.others c.release_all.ensures.idle c.release_all.ensures.trail)
+returns-in-Ok-Done g c =
+    let rests = released c.args.s.number c.args.common.now.tree c.args.common.now.tree c.release_all.new.self (as-before c.args.common.now.tree) c.release_all.ensures.others c.release_all.ensures.idle c.release_all.ensures.trail in
+    goes c.args.s.number _ Alive _ Alive _ _ _ _ _ (λ e f. sits-outside _ _ c.args.s.number (e ∙ done-away _ (ap done_at f.seat)) c.release_all.ensures.idle) rests.others
+    (λ h k shown told r dead left total. rolled-on g.S.Statements.stands g.met.S.Statements.orderly c.args.s.number (shared c.args.common.now.word h c.args.common.now.tree dead) k c.release_all.new.self left total c.args.terms.standing c.args.terms.known c.args.terms.spoken c.args.terms.waits r rests)
+    (when-done c.args.s.number _ _ _ _ c.in-Ok-Done.field-0-is c.in-Ok-Done.ensures)
 
 pub returns-in-Ok-More : goal.returns-in-Ok-More
-returns-in-Ok-More g c dead =
-    comes-as g.S.Statements.stands c.args.s.number _ _ _ _ _ _ _ (c.quiet.ensures.phase ∙ c.at.ensures) c.quiet.ensures.happened (λ left total. goes-on g.S.Statements.stands g.met.S.Statements.orderly c.args.s.number (shared c.args.common.now.word (g.L.LineStore.shelf c.args.common.now.store) c.args.common.now.tree dead) (g.L.LineStore.shelf c.work_on.new.store) left total (at_stage c.args.terms (Ending RollingBack)) (when-more c.args.s.number (g.L.LineStore.shelf c.args.common.now.store) (g.L.LineStore.shelf c.work_on.new.store) _ c.in-Ok-More.field-0-is c.in-Ok-More.ensures).moves)
+returns-in-Ok-More g c =
+    comes-as g.S.Statements.stands c.args.s.number _ _ _ _ _ _ _ (c.quiet.ensures.phase ∙ c.at.ensures) c.quiet.ensures.happened
+    (on-more g.S.Statements.stands g.met.S.Statements.orderly c.args.s.number c.args.common.now.word c.args.common.now.tree _ _ (at_stage c.args.terms (Ending RollingBack)) (when-more c.args.s.number _ _ _ _ c.in-Ok-More.field-0-is c.in-Ok-More.ensures))
 
 pub returns-in-Err : goal.returns-in-Err
-returns-in-Err g c dead =
-    comes-as g.S.Statements.stands c.args.s.number _ _ _ _ _ _ _ (c.failed.ensures.phase ∙ c.at-in-Err.ensures) c.failed.ensures.happened (λ left total. goes-on g.S.Statements.stands g.met.S.Statements.orderly c.args.s.number (shared c.args.common.now.word (g.L.LineStore.shelf c.args.common.now.store) c.args.common.now.tree dead) (g.L.LineStore.shelf c.work_on.new.store) left total (at_stage c.args.terms (Ending RollingBack)) c.in-Err.ensures.moves)
+returns-in-Err g c =
+    comes-as g.S.Statements.stands c.args.s.number _ _ _ _ _ _ _ (c.failed.ensures.phase ∙ c.at-in-Err.ensures) c.failed.ensures.happened
+    (on-fault g.S.Statements.stands g.met.S.Statements.orderly c.args.s.number c.args.common.now.word c.args.common.now.tree _ _ (at_stage c.args.terms (Ending RollingBack)) c.in-Err.fault c.in-Err.ensures)

@@ -1,12 +1,19 @@
-use Rattle.session_states.specs.Shared.{with_shelf}
+use Rattle.std.proofs.Common.{refl}
+use Rattle.session_states.specs.declared.stage.Life.TheVariants.{Alive}
+use Rattle.session_states.specs.declared.stage.Phase.TheVariants.{Outside}
 use Rattle.session_states.proofs.Reading.{begins-to-read}
 use Rattle.session_states.proofs.Outside.{forgoes-outside}
+use Rattle.stage_steps.specs.Turns.{shared}
+use Rattle.stage_steps.proofs.Goes.{goes, goes-staying}
 use Rattle.stage_steps.proofs.outside.begin_reading.Goals as goal
 
-pub returns-in-Ok : goal.returns-in-Ok
-returns-in-Ok g c c' left total =
-    rw c.new.ensures (begins-to-read g.S.Statements.stands g.met.S.Statements.orderly c.args.s.number (with_shelf (g.L.LineStore.shelf c.args.store.now) c') (g.L.LineStore.shelf c.begin_reading.new.self) c.args.item left total c.requires.kind c.in-Ok.ensures.ok)
+pub returns-in-Ok-clause-begins : goal.returns-in-Ok-clause-begins
+returns-in-Ok-clause-begins g c word locks =
+    rw c.new.ensures (goes c.args.s.number Outside Alive _ Alive _ _ _ _ _
+    (λ e f. record { seat = e; wants = f.wants; beside = f.beside; needs = f.needs; statement = tt }) (λ u other. refl)
+    (λ h k shown told r dead left total. begins-to-read g.S.Statements.stands g.met.S.Statements.orderly c.args.s.number (shared word h locks dead) k c.args.item left total c.requires.kind r)
+    c.in-Ok.ensures.ok)
 
-pub returns-in-Err : goal.returns-in-Err
-returns-in-Err g c c' left total =
-    rw (c.in-Err.ensures.err, c.refused.ensures) (forgoes-outside g.S.Statements.stands g.met.S.Statements.orderly c.args.s.number (with_shelf (g.L.LineStore.shelf c.args.store.now) c') c.args.item left total)
+pub returns-in-Err-clause-begins : goal.returns-in-Err-clause-begins
+returns-in-Err-clause-begins g c word locks =
+    rw c.refused.ensures (goes-staying c.args.s.number Outside word locks _ _ _ c.in-Err.ensures.err (λ h dead left total. forgoes-outside g.S.Statements.stands g.met.S.Statements.orderly c.args.s.number (shared word h locks dead) c.args.item left total))

@@ -1,9 +1,16 @@
-use Rattle.std.proofs.Common.{sym, ◌∙◌, not}
-use Rattle.session_states.specs.Shared.{with_shelf}
-use Rattle.session_states.proofs.Parting.{begins-on}
-use Rattle.stage_steps.proofs.Stands.{not-not}
+use Rattle.session_states.specs.declared.stage.Life.TheVariants.{Alive}
+use Rattle.std.proofs.Common.{sym, ◌∙◌, not, refl}
+use Rattle.session_states.specs.declared.stage.Phase.TheVariants.{Outside}
+use Rattle.session_states.proofs.Parting.{begins-on, begins-stays}
+use Rattle.stage_steps.specs.Turns.{shared}
+use Rattle.stage_steps.proofs.Goes.{goes}
+use Rattle.stage_steps.proofs.Seated.{rests-at, none-got}
+use Rattle.stage_steps.proofs.Tests.{not-not}
 use Rattle.stage_steps.proofs.outside.begin_writing.Goals as goal
 
-pub returns : goal.returns
-returns g c c' left total =
-    rw c.new.ensures (begins-on g.S.Statements.stands g.met.S.Statements.orderly c.args.s.number (with_shelf (g.L.LineStore.shelf c.args.store.now) c') (g.L.LineStore.shelf c.begin.new.self) c.args.item left total c.args.kind (not c.is_nowait.result) c.requires.kind c.requires.writes (sym c.is_nowait.ensures ∙ sym (not-not c.is_nowait.result)) c.begin.ensures.moves)
+pub returns-clause-begins : goal.returns-clause-begins
+returns-clause-begins g c word locks =
+    rw c.new.ensures (goes c.args.s.number Outside Alive _ Alive _ _ _ _ _
+    (λ e f. rests-at _ locks c.args.s.number _ e f.wants (none-got _ f.needs) (begins-stays _ c.args.kind c.requires.kind)) (λ u other. refl)
+    (λ h k shown told r dead left total. begins-on g.S.Statements.stands g.met.S.Statements.orderly c.args.s.number (shared word h locks dead) k c.args.item left total c.args.kind (not c.is_nowait.result) c.requires.kind c.requires.writes (sym c.is_nowait.ensures ∙ sym (not-not c.is_nowait.result)) r)
+    c.begin.ensures.does)

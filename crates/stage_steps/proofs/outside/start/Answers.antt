@@ -1,19 +1,27 @@
-use Rattle.session_states.specs.Shared.{with_shelf}
+use Rattle.session_states.specs.declared.stage.Life.TheVariants.{Alive}
+use Rattle.session_states.specs.declared.stage.Phase.TheVariants.{Outside}
 use Rattle.session_states.proofs.Outside.{forgoes-outside}
+use Rattle.std.proofs.Common.{refl}
+use Rattle.stage_steps.specs.Turns.{shared}
+use Rattle.stage_steps.proofs.Goes.{goes-still}
 use Rattle.stage_steps.proofs.outside.start.Goals as goal
 
-pub returns-then-writes : goal.returns-then-writes
-returns-then-writes g c c' word =
-    c.begin_writing.ensures c'
+pub returns-then-writes-clause-starts : goal.returns-then-writes-clause-starts
+returns-then-writes-clause-starts g c locks = c.begin_writing.ensures.begins c.args.word.now locks
 
-pub returns-else-writes : goal.returns-else-writes
-returns-else-writes g c c' word =
-    c.begin_reading.ensures c'
+pub returns-else-writes-clause-starts : goal.returns-else-writes-clause-starts
+returns-else-writes-clause-starts g c locks = c.begin_reading.ensures.begins c.args.word.now locks
 
-pub returns-in-Ok-None : goal.returns-in-Ok-None
-returns-in-Ok-None g c c' word =
-    c.answer_outside.ensures c.args.s.number (with_shelf (g.L.LineStore.shelf c.args.store.now) c') word
+pub returns-in-Ok-None-clause-starts : goal.returns-in-Ok-None-clause-starts
+returns-in-Ok-None-clause-starts g c locks =
+    goes-still c.args.s.number Outside Alive Outside Alive _ _ _ refl (λ f. f) (λ u other. refl) (λ h shown dead left total. c.answer_outside.ensures.says c.args.s.number (shared c.args.word.now h locks dead) refl left total)
 
-pub returns-in-Err : goal.returns-in-Err
-returns-in-Err g c c' word left total =
-    rw c.refused.ensures (forgoes-outside g.S.Statements.stands g.met.S.Statements.orderly c.args.s.number (with_shelf (g.L.LineStore.shelf c.args.store.now) c') c.args.item left total)
+pub returns-in-Err-clause-starts : goal.returns-in-Err-clause-starts
+returns-in-Err-clause-starts g c locks =
+    rw c.refused.ensures (goes-still c.args.s.number Outside Alive Outside Alive _ _ _ refl (λ f. f) (λ u other. refl) (λ h shown dead left total. forgoes-outside g.S.Statements.stands g.met.S.Statements.orderly c.args.s.number (shared c.args.word.now h locks dead) c.args.item left total))
+
+pub returns-then-writes-clause-cause : goal.returns-then-writes-clause-cause
+returns-then-writes-clause-cause g c = c.begin_writing.ensures.cause c.args.word.now
+
+pub returns-else-writes-clause-cause : goal.returns-else-writes-clause-cause
+returns-else-writes-clause-cause g c = c.begin_reading.ensures.cause c.args.word.now

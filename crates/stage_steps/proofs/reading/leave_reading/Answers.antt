@@ -1,7 +1,13 @@
-use Rattle.session_states.specs.Shared.{with_shelf}
+use Rattle.std.proofs.Common.{refl}
+use Rattle.session_states.specs.declared.stage.Life.TheVariants.{Alive}
 use Rattle.session_states.proofs.ReadingEnds.{reader-leaves-on}
+use Rattle.stage_steps.specs.Turns.{shared}
+use Rattle.stage_steps.proofs.Goes.{goes}
+use Rattle.stage_steps.proofs.Seated.{reads-over}
 use Rattle.stage_steps.proofs.reading.leave_reading.Goals as goal
 
 pub returns : goal.returns
-returns g c c' total =
-    reader-leaves-on g.S.Statements.stands g.met.S.Statements.orderly c.args.s.number (with_shelf (g.L.LineStore.shelf c.args.store.now) c') (g.L.LineStore.shelf c.end_reading.new.self) total c.args._terms.standing c.args._terms.known c.args._terms.spoken c.end_reading.ensures.moves
+returns g c word locks =
+    goes c.args.s.number _ Alive _ Alive _ _ _ _ _ (λ e f. reads-over _ _ locks c.args.s.number _ e f) (λ u other. refl)
+    (λ h k shown told r dead total. reader-leaves-on g.S.Statements.stands g.met.S.Statements.orderly c.args.s.number (shared word h locks dead) k total c.args._terms.standing c.args._terms.known c.args._terms.spoken r)
+    c.end_reading.ensures.does

@@ -1,6 +1,6 @@
 use Rattle.session_states.proofs.Reading.{answers-to-reader}
 use Rattle.stage_steps.proofs.reading.say_reading.Goals as goal
 
-pub returns : goal.returns
-returns g c s c' found left total =
-    rw c.spoken.ensures (answers-to-reader g.S.Statements.stands g.met.S.Statements.orderly s c' left total c.args.terms.standing c.args.terms.known c.args.terms.spoken c.args.item c.args.worked found)
+pub returns-clause-says : goal.returns-clause-says
+returns-clause-says g c s d found left total =
+    rw c.spoken.ensures (answers-to-reader g.S.Statements.stands g.met.S.Statements.orderly s d left total c.args.terms.standing c.args.terms.known c.args.terms.spoken c.args.item c.args.worked found)

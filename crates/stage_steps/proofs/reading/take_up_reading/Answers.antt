@@ -1,16 +1,25 @@
-use Rattle.session_states.specs.Shared.{with_shelf}
+use Rattle.session_states.specs.declared.stage.Life.TheVariants.{Alive}
+use Rattle.std.proofs.Common.{refl}
 use Rattle.session_states.proofs.Reading.{takes-to-read}
 use Rattle.session_states.proofs.ReadingEnds.{reader-commits-on, reader-rolls-on}
+use Rattle.stage_steps.specs.Turns.{shared}
+use Rattle.stage_steps.proofs.Goes.{goes, goes-still}
+use Rattle.stage_steps.proofs.Seated.{reads-on, reads-out}
 use Rattle.stage_steps.proofs.reading.take_up_reading.Goals as goal
 
 pub returns-in-Commit : goal.returns-in-Commit
-returns-in-Commit g c c' left total =
-    rw c.moment-moment.ensures (reader-commits-on g.S.Statements.stands g.met.S.Statements.orderly c.args.s.number (with_shelf (g.L.LineStore.shelf c.args.store.now) c') (g.L.LineStore.shelf c.end_reading.new.self) c.args.item left total c.args.terms.standing c.args.terms.known c.args.terms.spoken c.in-Commit.ensures c.end_reading.ensures.moves)
+returns-in-Commit g c word locks =
+    goes c.args.s.number _ Alive _ Alive _ _ _ _ _ (λ e f. reads-out _ _ locks c.args.s.number _ e f) (λ u other. refl)
+    (λ h k shown told r dead left total. rw (c.moment-moment.ensures k told) (reader-commits-on g.S.Statements.stands g.met.S.Statements.orderly c.args.s.number (shared word h locks dead) k c.args.item left total c.args.terms.standing c.args.terms.known c.args.terms.spoken c.in-Commit.ensures r))
+    c.end_reading.ensures.does
 
 pub returns-in-Rollback : goal.returns-in-Rollback
-returns-in-Rollback g c c' left total =
-    reader-rolls-on g.S.Statements.stands g.met.S.Statements.orderly c.args.s.number (with_shelf (g.L.LineStore.shelf c.args.store.now) c') (g.L.LineStore.shelf c.end_reading-in-Rollback.new.self) c.args.item left total c.args.terms.standing c.args.terms.known c.args.terms.spoken c.in-Rollback.ensures c.end_reading-in-Rollback.ensures.moves
+returns-in-Rollback g c word locks =
+    goes c.args.s.number _ Alive _ Alive _ _ _ _ _ (λ e f. reads-out _ _ locks c.args.s.number _ e f) (λ u other. refl)
+    (λ h k shown told r dead left total. reader-rolls-on g.S.Statements.stands g.met.S.Statements.orderly c.args.s.number (shared word h locks dead) k c.args.item left total c.args.terms.standing c.args.terms.known c.args.terms.spoken c.in-Rollback.ensures r)
+    c.end_reading-in-Rollback.ensures.does
 
 pub returns-in-Nothing : goal.returns-in-Nothing
-returns-in-Nothing g c c' left total =
-    rw (c.quiet.ensures.phase, c.quiet.ensures.happened, c.at.ensures) (takes-to-read g.S.Statements.stands g.met.S.Statements.orderly c.args.s.number (with_shelf (g.L.LineStore.shelf c.args.store.now) c') c.args.item left total c.args.terms.standing c.args.terms.known c.args.terms.spoken c.in-Nothing.ensures)
+returns-in-Nothing g c word locks =
+    rw (c.quiet.ensures.phase, c.quiet.ensures.happened, c.at.ensures) (goes-still c.args.s.number _ Alive _ Alive _ _ _ refl (λ f. reads-on _ _ locks c.args.s.number _ _ refl f) (λ u other. refl)
+    (λ h shown dead left total. takes-to-read g.S.Statements.stands g.met.S.Statements.orderly c.args.s.number (shared word h locks dead) c.args.item left total c.args.terms.standing c.args.terms.known c.args.terms.spoken c.in-Nothing.ensures))

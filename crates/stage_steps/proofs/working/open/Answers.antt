@@ -1,20 +1,29 @@
-use Rattle.std.proofs.Common.{◌∙◌}
+use Rattle.session_states.specs.declared.stage.Life.TheVariants.{Alive}
+use Rattle.std.proofs.Common.{◌∙◌, ap, refl}
+use Rattle.line_store.specs.Seats.{Seat, done_at}
+use Rattle.line_store.specs.Sights.{bare, seat_or}
 use Rattle.session_states.specs.declared.stage.Work.TheVariants.{Opening}
 use Rattle.session_states.specs.declared.stage.Stage.TheVariants.{Working}
-use Rattle.session_states.specs.Shared.{with_shelf}
-use Rattle.session_states.proofs.Parting.{goes-on, opens-on}
-use Rattle.stage_steps.specs.Turns.{at_stage}
-use Rattle.stage_steps.proofs.Stands.{when-done, when-more, comes-as}
+use Rattle.session_states.proofs.Parting.{opens-on}
+use Rattle.stage_steps.specs.Turns.{at_stage, shared}
+use Rattle.stage_steps.proofs.Goes.{goes, comes-as}
+use Rattle.stage_steps.proofs.Seated.{rests-at}
+use Rattle.stage_steps.proofs.Stored.{when-done, when-more, on-more, on-fault}
 use Rattle.stage_steps.proofs.working.open.Goals as goal
 
 pub returns-in-Ok-Done : goal.returns-in-Ok-Done
-returns-in-Ok-Done g c c' =
-    comes-as g.S.Statements.stands c.args.s.number _ _ _ _ _ _ _ (c.quiet.ensures.phase ∙ c.at.ensures) c.quiet.ensures.happened (λ left total. opens-on g.S.Statements.stands g.met.S.Statements.orderly c.args.s.number (with_shelf (g.L.LineStore.shelf c.args.store.now) c') (g.L.LineStore.shelf c.work_on.new.store) left total c.args.terms.standing c.args.terms.known c.args.terms.spoken c.args.terms.waits c.args.item (when-done c.args.s.number (g.L.LineStore.shelf c.args.store.now) (g.L.LineStore.shelf c.work_on.new.store) _ c.in-Ok-Done.field-0-is c.in-Ok-Done.ensures))
+returns-in-Ok-Done g c word locks =
+    comes-as g.S.Statements.stands c.args.s.number _ _ _ _ _ _ _ (c.quiet.ensures.phase ∙ c.at.ensures) c.quiet.ensures.happened
+    (goes c.args.s.number _ Alive _ Alive _ _ _ _ _ (λ e f. rests-at _ locks c.args.s.number _ (e ∙ ap (λ (seat : Seat). bare (seat_or seat (done_at seat))) c.requires.opening) f.wants f.needs f.statement) (λ u other. refl)
+    (λ h k shown told r dead left total. opens-on g.S.Statements.stands g.met.S.Statements.orderly c.args.s.number (shared word h locks dead) k left total c.args.terms.standing c.args.terms.known c.args.terms.spoken c.args.terms.waits c.args.item r)
+    (when-done c.args.s.number ((g.L.LineStore.sight c.args.store.now).stand c.args.s.number) _ _ _ c.in-Ok-Done.field-0-is c.in-Ok-Done.ensures))
 
 pub returns-in-Ok-More : goal.returns-in-Ok-More
-returns-in-Ok-More g c c' =
-    comes-as g.S.Statements.stands c.args.s.number _ _ _ _ _ _ _ (c.quiet-in-Ok-More.ensures.phase ∙ c.at-in-Ok-More.ensures) c.quiet-in-Ok-More.ensures.happened (λ left total. goes-on g.S.Statements.stands g.met.S.Statements.orderly c.args.s.number (with_shelf (g.L.LineStore.shelf c.args.store.now) c') (g.L.LineStore.shelf c.work_on.new.store) left total (at_stage c.args.terms (Working c.args.item Opening)) (when-more c.args.s.number (g.L.LineStore.shelf c.args.store.now) (g.L.LineStore.shelf c.work_on.new.store) _ c.in-Ok-More.field-0-is c.in-Ok-More.ensures).moves)
+returns-in-Ok-More g c word locks =
+    comes-as g.S.Statements.stands c.args.s.number _ _ _ _ _ _ _ (c.quiet-in-Ok-More.ensures.phase ∙ c.at-in-Ok-More.ensures) c.quiet-in-Ok-More.ensures.happened
+    (on-more g.S.Statements.stands g.met.S.Statements.orderly c.args.s.number word locks _ _ (at_stage c.args.terms (Working c.args.item Opening)) (when-more c.args.s.number _ _ _ _ c.in-Ok-More.field-0-is c.in-Ok-More.ensures))
 
 pub returns-in-Err : goal.returns-in-Err
-returns-in-Err g c c' =
-    comes-as g.S.Statements.stands c.args.s.number _ _ _ _ _ _ _ (c.failed.ensures.phase ∙ c.at-in-Err.ensures) c.failed.ensures.happened (λ left total. goes-on g.S.Statements.stands g.met.S.Statements.orderly c.args.s.number (with_shelf (g.L.LineStore.shelf c.args.store.now) c') (g.L.LineStore.shelf c.work_on.new.store) left total (at_stage c.args.terms (Working c.args.item Opening)) c.in-Err.ensures.moves)
+returns-in-Err g c word locks =
+    comes-as g.S.Statements.stands c.args.s.number _ _ _ _ _ _ _ (c.failed.ensures.phase ∙ c.at-in-Err.ensures) c.failed.ensures.happened
+    (on-fault g.S.Statements.stands g.met.S.Statements.orderly c.args.s.number word locks _ _ (at_stage c.args.terms (Working c.args.item Opening)) c.in-Err.fault c.in-Err.ensures)

@@ -2,7 +2,7 @@ use Rattle.std.proofs.Common.{◌+◌, ◌≤◌, ℕ, refl, sym, ◌∙◌, ap,
 use Rattle.lock_tree_laws.specs.Forest.{asks_of}
 use Rattle.lock_tree_laws.specs.Wanted.{trail_of_want}
 use Rattle.stage_steps.proofs.Asked.{asked-nodes, few-asked}
-use Rattle.stage_steps.proofs.wanting.call.Goals as goal
+use Rattle.stage_steps.proofs.calling.call.Goals as goal
 
 pub asked_behind-nodes-requires : goal.asked_behind-nodes-requires
 asked_behind-nodes-requires c =
@@ -16,6 +16,9 @@ returns-clause-called c =
       call = record { same = c.requires.same; others = c.want.ensures.others; asks = c.in_ok-answer.ensures.trail };
       nodes = sym (c.asked_behind-nodes.ensures ∙ (ap (λ (k : ℕ). map (λ a. a.node) (drop k (asks_of c.want.new.self.trail c.args.s.number))) c.count_asked-before.ensures ∙ asked-nodes c.args.s.number (trail_of_want c.args.tree.now c.args.s.number) c.want.new.self.trail c.in_ok-answer.ensures.trail.nodes c.in_ok-answer.ensures.trail.added));
       need = refl;
+      was_whole = c.holds.ensures.whole;
+      whole = c.holds-2.ensures.whole;
       apart = c.mode_of.ensures.apart;
+      by_rule = c.in_ok-answer.ensures.by_rule;
       answered = c.in_ok-answer.ensures.answer;
     }

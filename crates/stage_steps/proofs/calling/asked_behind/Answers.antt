@@ -1,7 +1,7 @@
 use Rattle.std.proofs.Common.{◌≤◌, ◌∷◌, [], length, length-append, arith, sym, ap, ◌∙◌}
 use Rattle.lock_tree_laws.specs.Forest.{asks_of}
 use Rattle.stage_steps.proofs.Asked.{one-more-node, all-nodes}
-use Rattle.stage_steps.proofs.wanting.asked_behind.Goals as goal
+use Rattle.stage_steps.proofs.calling.asked_behind.Goals as goal
 
 pub loop-at-preserved : goal.loop-at-preserved
 loop-at-preserved c =

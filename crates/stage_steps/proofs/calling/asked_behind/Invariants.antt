@@ -1,6 +1,6 @@
 use Rattle.std.proofs.Common.{◌≡◌, ◌≤◌, ◌-◌, length, map, take, drop}
 use Rattle.lock_tree_laws.specs.Forest.{asks_of}
-use Rattle.stage_steps.proofs.wanting.asked_behind.Given as goal
+use Rattle.stage_steps.proofs.calling.asked_behind.Given as goal
 
 abbrev pub invariant-loop-at : goal.invariant-loop-at
 invariant-loop-at l = record {

@@ -1,0 +1,5 @@
+mod Flying
+mod Journal
+mod Seating
+pub mod Seats
+mod Telling

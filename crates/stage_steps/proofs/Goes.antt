@@ -1,0 +1,118 @@
+-- From calls of the store to a step in scenes.
+use Rattle.std.proofs.Common.{◌≡◌, ◌≤◌, ℕ, List, refl, sym, ap, subst, ◌∙◌, inl, inr, arith, Bool, true, false, ◌==◌, Some}
+use Rattle.std.proofs.lemmas.Bool.{eqb-true}
+use Rattle.line_view.specs.Knowledge.{Lines}
+use Rattle.line_view.specs.Writes.{laid_all}
+use Rattle.lock_tree_laws.specs.Forest.{State, KeepsParties}
+use Rattle.line_store.specs.Seats.{Seat, outside, beginning, writing, changing, prepared, committing, rolling_back, closing, reading, dead, in_flight, prepared_by}
+use Rattle.line_store.specs.Shelves.{Shelf}
+use Rattle.line_store.specs.Calls.{Moves, MayStand}
+use Rattle.line_store.specs.Sights.{Sight, Does, IsSame, bare}
+use Rattle.line_store.proofs.InTurn.{does-nothing, does-as, does-in-turn}
+use Rattle.session_jobs.specs.Records.{Model}
+use Rattle.session_states.specs.declared.stage.Phase.{Phase}
+use Rattle.session_states.specs.declared.stage.Life.{Life}
+use Rattle.session_states.specs.declared.stage.Life.TheVariants.{Alive}
+use Rattle.session_stands.specs.Seated.{LivesAt}
+use Rattle.stage_steps.specs.declared.happening.Happening.{Happening}
+use Rattle.stage_steps.specs.Happenings.{events_of}
+use Rattle.stage_steps.specs.Scenes.{Scene, Goes, ComesIn, scene}
+use Rattle.stage_steps.proofs.Seated.{sits-on}
+
+-- it stands where it stands
+there : (s : ℕ) (seat : Seat) (R : Shelf → Shelf → Type 0) (old new : Sight) → Does s seat R old new → Does s (new.stand s) R old new
+there s seat R old new d = record { mine = refl; others = d.others; steps = d.steps; each = d.each }
+
+module _ (s : ℕ) (x : Phase) (from : Life) (y : Phase) (to : Life) (R Q : Shelf → Shelf → Type 0) (seat : Seat) (old new : Scene) where
+  -- by one call
+  pub goes : (bare (new.sight.stand s) ≡ bare seat → LivesAt old.sight.stand old.locks s x from → LivesAt new.sight.stand new.locks s y to) → KeepsParties s old.locks.parties new.locks.parties →
+      ((h g : Shelf) → old.sight.shows h → new.sight.shows g → R h g → Q h g) → Does s seat R old.sight new.sight → Goes s x from y to Q old new
+  goes lives parties all d = record { lives = lives d.mine; parties = parties; does = there s seat Q old.sight new.sight (does-as s seat R Q old.sight new.sight all d) }
+
+-- without a call
+pub goes-still : (s : ℕ) (x : Phase) (from : Life) (y : Phase) (to : Life) (Q : Shelf → Shelf → Type 0) (old new : Scene) → new.sight ≡ old.sight →
+    (LivesAt old.sight.stand old.locks s x from → LivesAt old.sight.stand new.locks s y to) → KeepsParties s old.locks.parties new.locks.parties → ((h : Shelf) → old.sight.shows h → Q h h) → Goes s x from y to Q old new
+goes-still s x from y to Q old new same lives parties all = record {
+  lives = λ f. subst (λ (v : Sight). LivesAt v.stand new.locks s y to) (sym same) (lives f);
+  parties = parties;
+  does = subst (λ (v : Sight). Does s (v.stand s) Q old.sight v) (sym same) (does-nothing s Q old.sight all);
+}
+
+-- ---- two calls
+
+-- where a move leaves it whether a commit is under way, nothing more may stand
+still-stands : (s : ℕ) (seat : Seat) (h m : Shelf) → Moves s seat h m → in_flight seat ≡ in_flight (h.seat s) → (lines : Lines) → MayStand m lines → MayStand h lines
+still-stands s seat h m moves same lines (inl is) = inl (is ∙ moves.now)
+still-stands s seat h m moves same lines (inr flies) = inr (flies.0, flies.1, by (flies.0 == s) refl, flies.3 ∙ ap (laid_all flies.1) moves.now)
+  where
+    by : (b : Bool) → (flies.0 == s) ≡ b → in_flight (h.seat flies.0) ≡ Some flies.1
+    by true equal = let e : flies.0 ≡ s = eqb-true flies.0 s equal in
+        ap (λ t. in_flight (h.seat t)) e ∙ (sym same ∙ (sym (ap in_flight moves.mine) ∙ (ap (λ t. in_flight (m.seat t)) (sym e) ∙ flies.2)))
+    by false apart = sym (ap in_flight (moves.others.seat flies.0 apart)) ∙ flies.2
+
+pub does-behind : (s : ℕ) (first end : Seat) (R Q P : Shelf → Shelf → Type 0) (seat : Shelf → Seat) (a b c : Sight) →
+    ((h m : Shelf) → R h m → Moves s (seat h) h m) → ((h : Shelf) → in_flight (seat h) ≡ in_flight (h.seat s)) → ((h m g : Shelf) → R h m → Q m g → P h g) →
+    Does s first R a b → Does s end Q b c → Does s end P a c
+does-behind s first end R Q P seat a b c moves same both one two = does-in-turn s first end R Q P a b c
+    (λ h m is. (moves h m is).others.later.later)
+    (λ h m g is next lines stands. inl (still-stands s (seat h) h m (moves h m is) (same h) lines stands))
+    both one two
+
+-- the first call left all as it was
+pub does-behind-none : (s : ℕ) (first end : Seat) (Q : Shelf → Shelf → Type 0) (a b c : Sight) → Does s first IsSame a b → Does s end Q b c → Does s end Q a c
+does-behind-none s first end Q a b c one two = does-in-turn s first end IsSame Q Q a b c
+    (λ h m is. subst (λ (k : Shelf). h.clock.time ≤ k.clock.time) (sym is) (omega arith))
+    (λ h m g is next lines stands. inl (subst (λ (k : Shelf). MayStand k lines) is stands))
+    (λ h m g is next. subst (λ (k : Shelf). Q k g) is next) one two
+
+pub prepared-flight : (seat : Seat) → in_flight (prepared_by seat) ≡ in_flight seat
+prepared-flight outside = refl
+prepared-flight beginning = refl
+prepared-flight (writing ws) = refl
+prepared-flight (changing ws) = refl
+prepared-flight (prepared ws) = refl
+prepared-flight (committing ws) = refl
+prepared-flight (rolling_back ws) = refl
+prepared-flight closing = refl
+prepared-flight (reading start) = refl
+prepared-flight (dead commits ws) = refl
+
+-- ---- other names
+
+-- the phase and what happened by other names
+pub comes-as : (M : Model) (s : ℕ) (old new : Scene) (x y z : Phase) (h k : Happening) → z ≡ y → k ≡ h → ComesIn M s old x new y (events_of s h) → ComesIn M s old x new z (events_of s k)
+comes-as M s old new x y z h k e f step =
+    subst (λ (u : Phase). ComesIn M s old x new u (events_of s k)) (sym e) (subst (λ (v : Happening). ComesIn M s old x new y (events_of s v)) (sym f) step)
+
+-- ---- calls that left all as it was
+
+-- the store refused, and its session goes on from where it stands, in the phase in which it was
+pub goes-staying : (s : ℕ) (x : Phase) (word : List ℕ) (locks : State) (a b : Sight) (Q : Shelf → Shelf → Type 0) → Does s (a.stand s) IsSame a b → ((h : Shelf) → Q h h) → Goes s x Alive x Alive Q (scene word a locks) (scene word b locks)
+goes-staying s x word locks a b Q d all =
+    goes s x Alive x Alive IsSame Q (a.stand s) (scene word a locks) (scene word b locks) (λ e f. sits-on a.stand b.stand locks s x e f) (λ u other. refl)
+    (λ h g shown told same. subst (λ (k : Shelf). Q h k) (sym same) (all h)) d
+
+-- ---- one call behind another, in one step
+
+-- both shelves are shown, and related so
+abbrev Shown : Sight → Sight → (Shelf → Shelf → Type 0) → Shelf → Shelf → Type 0
+Shown a b R h m = a.shows h × b.shows m × R h m
+
+module _ (s : ℕ) (x y z : Phase) (to : Life) (word : List ℕ) (locks : State) (a b : Sight) (new : Scene) where
+  pub goes-behind : (R Q P : Shelf → Shelf → Type 0) (first : Seat) (seat : Shelf → Seat) → (bare (b.stand s) ≡ bare first → LivesAt a.stand locks s x Alive → LivesAt b.stand locks s y Alive) →
+      ((h m : Shelf) → R h m → Moves s (seat h) h m) → ((h : Shelf) → in_flight (seat h) ≡ in_flight (h.seat s)) → ((h m g : Shelf) → a.shows h → b.shows m → R h m → Q m g → P h g) →
+      Does s first R a b → Goes s y Alive z to Q (scene word b locks) new → Goes s x Alive z to P (scene word a locks) new
+  goes-behind R Q P first seat sits moves same both one two = record {
+    lives = λ f. two.lives (sits one.mine f);
+    parties = two.parties;
+    does = does-behind s first (new.sight.stand s) (Shown a b R) Q P seat a b new.sight (λ h m r. moves h m r.2) same (λ h m g r q. both h m g r.0 r.1 r.2 q)
+        (does-as s first R (Shown a b R) a b (λ h m shown told r. (shown, told, r)) one) two.does;
+  }
+
+-- the first call left all as it was
+pub goes-behind-none : (s : ℕ) (x z : Phase) (to : Life) (word : List ℕ) (locks : State) (a b : Sight) (new : Scene) (Q : Shelf → Shelf → Type 0) → Does s (a.stand s) IsSame a b → Goes s x Alive z to Q (scene word b locks) new → Goes s x Alive z to Q (scene word a locks) new
+goes-behind-none s x z to word locks a b new Q one two = record {
+  lives = λ f. two.lives (sits-on a.stand b.stand locks s x one.mine f);
+  parties = two.parties;
+  does = does-behind-none s (a.stand s) (new.sight.stand s) Q a b new.sight one two.does;
+}

@@ -1,0 +1,49 @@
+-- What a step of a stage is where the store shows what it holds.
+use Rattle.std.specs.Prelude.{ℕ, List, []}
+use Rattle.rdo_ast.specs.declared.syntax.Item.{Item}
+use Rattle.rdb_account.specs.Events.{Event}
+use Rattle.lock_tree_laws.specs.Forest.{State, KeepsParties}
+use Rattle.line_store.specs.Seats.{Seat}
+use Rattle.line_store.specs.Shelves.{Shelf}
+use Rattle.line_store.specs.Sights.{Sight, Does}
+use Rattle.session_jobs.specs.Records.{Model}
+use Rattle.session_states.specs.declared.stage.Phase.{Phase}
+use Rattle.session_states.specs.declared.stage.Life.{Life}
+use Rattle.session_states.specs.declared.stage.Life.TheVariants.{Alive}
+use Rattle.session_states.specs.Shared.{Shared}
+use Rattle.session_stands.specs.Seated.{IsSeated, LivesAt}
+use Rattle.stage_steps.specs.Turns.{shared, Comes, TakesUp, Ends}
+
+-- what all sessions share, as the store shows it
+pub record Scene : Type 1 where
+  pub word : List ℕ
+  pub sight : Sight
+  pub locks : State
+
+abbrev pub scene : (word : List ℕ) → Sight → State → Scene
+scene word sight locks = record { word = word; sight = sight; locks = locks }
+
+-- the same with one of the shelves that are shown, and so many dead
+abbrev pub on_shelf : Scene → Shelf → (dead : ℕ) → Shared
+on_shelf c shelf dead = shared c.word shelf c.locks dead
+
+-- Session s goes from one phase and life to another: as memory knows it, it stands so behind the step where it stood so before; what others have and want stays; and from each shelf that was shown to one behind it R is so.
+pub record Goes (s : ℕ) (x : Phase) (from : Life) (y : Phase) (to : Life) (R : Shelf → Shelf → Type 0) (old new : Scene) : Type 0 where
+  pub lives : LivesAt old.sight.stand old.locks s x from → LivesAt new.sight.stand new.locks s y to
+  pub parties : KeepsParties s old.locks.parties new.locks.parties
+  pub does : Does s (new.sight.stand s) R old.sight new.sight
+
+-- a step over each shelf that is shown, whoever is dead
+abbrev pub ComesIn : Model → ℕ → Scene → Phase → Scene → Phase → List Event → Type 0
+ComesIn M s old x new y es = Goes s x Alive y Alive (λ h g. (dead : ℕ) → Comes M s (on_shelf old h dead) x (on_shelf new g dead) y es) old new
+
+abbrev pub TakesUpIn : Model → ℕ → Item → Scene → Phase → Scene → Phase → List Item → List Event → Type 0
+TakesUpIn M s item old x new y back es = Goes s x Alive y Alive (λ h g. (dead : ℕ) → TakesUp M s item (on_shelf old h dead) x (on_shelf new g dead) y back es) old new
+
+abbrev pub EndsIn : Model → ℕ → Scene → Phase → Scene → Phase → List Event → Type 0
+EndsIn M s old x new y es = Goes s x Alive y Alive (λ h g. (dead : ℕ) → Ends M s (on_shelf old h dead) x (on_shelf new g dead) y es) old new
+
+-- A step of nothing but the phase, by any session: neither store nor locks are called.
+pub record PassesOn (M : Model) (x y : Phase) : Type 0 where
+  pub comes : (s : ℕ) (c : Shared) → Comes M s c x c y []
+  pub seated : (stand : ℕ → Seat) (locks : State) (s : ℕ) → IsSeated stand locks s x → IsSeated stand locks s y
