@@ -49,23 +49,23 @@ use Rattle.rdo_acts.proofs.Viewing.{laid_writes}
 
 -- ---- what is known, and what is seen of it
 
-full_over : (sees : Bool) (k h : Held) (x : IndexLine) → knows h ≡ knows (seen_of sees k) → CanNotGrow h x → CanNotGrow k x
-full_over sees k h x same full = elim full [
+full_over : (sees : Bool) (k h : Held) (all : Lines) (x : IndexLine) → knows h ≡ knows (seen_of sees k) → CanNotGrow h all x → CanNotGrow k all x
+full_over sees k h all x same full = elim full [
   | inl rooms ↦ inl (subst (λ (n : Knowledge). AreRoomsKnown n x.root.area 440 all_rooms) same rooms)
   | inr tall ↦ inr tall
 ]
 
 -- what is in the way by what is seen is so by what is known
-in_the_way : (sees : Bool) (k h : Held) (r : TargetRelation) (row : Row) (why : RowRefusal) → knows h ≡ knows (seen_of sees k) → IsInTheWay h r row why → IsInTheWay k r row why
-in_the_way sees k h r row (NoImage Misfit) same is = is
-in_the_way sees k h r row (NoImage TooLong) same is = is
-in_the_way sees k h r row NoRoom same is = subst (λ (n : Knowledge). AreRoomsKnown n r.stored.area r.class all_rooms) same is
-in_the_way sees k h r row (Pair at Duplicate) same is = is
-in_the_way sees k h r row (Pair at LongKey) same is = is
-in_the_way sees k h r row (Pair at Full) same is = (is.0, is.1, full_over sees k h is.0 same is.2)
+in_the_way : (sees : Bool) (k h : Held) (all : Lines) (r : TargetRelation) (row : Row) (why : RowRefusal) → knows h ≡ knows (seen_of sees k) → IsInTheWay h all r row why → IsInTheWay k all r row why
+in_the_way sees k h all r row (NoImage Misfit) same is = is
+in_the_way sees k h all r row (NoImage TooLong) same is = is
+in_the_way sees k h all r row NoRoom same is = subst (λ (n : Knowledge). AreRoomsKnown n r.stored.area r.class all_rooms) same is
+in_the_way sees k h all r row (Pair at Duplicate) same is = is
+in_the_way sees k h all r row (Pair at LongKey) same is = is
+in_the_way sees k h all r row (Pair at Full) same is = (is.0, is.1, full_over sees k h all is.0 same is.2)
 
-unwritable_over : (sees : Bool) (k : Held) (c : Catalog) (n : Name) (row : Row) → IsUnwritable (knows (seen_of sees k)) c n row → IsUnwritable (knows k) c n row
-unwritable_over sees k c n row is = record {
+unwritable_over : (sees : Bool) (k : Held) (all : Lines) (c : Catalog) (n : Name) (row : Row) → IsUnwritable (knows (seen_of sees k)) all c n row → IsUnwritable (knows k) all c n row
+unwritable_over sees k all c n row is = record {
   relation = is.relation;
   there = is.there;
   target = is.target;
@@ -73,7 +73,7 @@ unwritable_over sees k c n row is = record {
   base = k;
   same = refl;
   why = is.why;
-  in_the_way = in_the_way sees k is.base is.target row is.why is.same is.in_the_way;
+  in_the_way = in_the_way sees k is.base all is.target row is.why is.same is.in_the_way;
 }
 
 refused_over : (sees : Bool) (k : Held) (o : Option Reply) (given : List Dbkey) (a : Act) (c : Catalog) (all : Lines) (t : Tables) → IsRefusedOver o given a (knows (seen_of sees k)) c all t → IsRefusedOver o given a (knows k) c all t
@@ -87,7 +87,7 @@ refused_over sees k None given a c all t is = record {
   row = is.row;
   rest = is.rest;
   comes = is.comes;
-  unwritable = unwritable_over sees k c is.name is.row is.unwritable;
+  unwritable = unwritable_over sees k all c is.name is.row is.unwritable;
 }
 
 -- a need that is lacked by what is seen isn't known either

@@ -39,7 +39,7 @@ returns-clause-comes c = λ word.
     comes_of_definition word a.standing.now (define_index d) a.schema.now (knows a.known.now) c.requires.catalog tt
     (definition_refusal d) c.new-view.result c.define_index-end.new.view (ap (λ (o : Over). knows o.base) c.new-view.ensures.value) (ap (λ (o : Over). o.lines) c.new-view.ensures.value) c.new-view.ensures.stands
     (λ all t sound. defining_index word d a.standing.now t c.requires.writing reserved)
-    (λ (t : Tables). definition_refusal d a.schema.now.tables ≡ None) (λ t. IsNotIndexed c.new-view.result.base a.schema.now d t) (λ t reply h. h)
+    (λ (t : Tables). definition_refusal d a.schema.now.tables ≡ None) (λ all t. IsNotIndexed c.new-view.result.base all a.schema.now d t) (λ all t reply h. h)
     (index_causes word a.standing.now a.schema.now (knows a.known.now) c.requires.catalog d c.new-view.result.base (ap (λ (o : Over). knows o.base) c.new-view.ensures.value))
     c.define_index-end.result c.written.result c.written.ensures c.define_index-end.ensures.defines
 

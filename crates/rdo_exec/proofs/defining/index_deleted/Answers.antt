@@ -28,11 +28,11 @@ returns-clause-comes c = λ word.
     comes_of_deletes word a.standing.now (delete_index a.name.now) a.catalog.now (knows a.known.now) c.requires.catalog tt
     (λ t. needs_some a.name.now (find chars_order a.name.now t.indexes)) c.new-view.result c.delete_index-end.new.view (ap (λ (o : Over). knows o.base) c.new-view.ensures.value) (ap (λ (o : Over). o.lines) c.new-view.ensures.value) c.new-view.ensures.stands
     (λ all t sound. deleting_index word a.name.now a.standing.now t c.requires.writing (ap (λ us. reservation_refusal (reservations_of a.standing.now) us) (sym (index_uses_here a.catalog.now all t a.name.now sound)) ∙ reserved))
-    c.delete_index-end.result c.from_deletion.result c.written.result.found c.from_deletion.ensures c.written.ensures.found c.delete_index-end.ensures.deletes
+    c.delete_index-end.result c.from_deletion.result c.written.result c.from_deletion.ensures c.written.ensures c.delete_index-end.ensures.deletes
 
 pub returns-clause-asked : goal.returns-clause-asked
 returns-clause-asked c =
     let a = c.args in
     index_goes_asks a.standing.now a.catalog.now (knows a.known.now) c.requires.catalog c.new-view.result c.delete_index-end.new.view (ap (λ (o : Over). o.lines) c.new-view.ensures.value) c.new-view.ensures.stands
     a.name.now c.requires.writing (first_none (needs_some a.name.now (find chars_order a.name.now a.catalog.now.tables.indexes)) (reservation_refusal (reservations_of a.standing.now) (index_uses (find chars_order a.name.now a.catalog.now.tables.indexes) a.catalog.now.tables)) c.in-Ok.ensures).0
-    c.delete_index-end.result c.from_deletion.result c.written.result.found c.from_deletion.ensures c.written.ensures.found c.delete_index-end.ensures.areas
+    c.delete_index-end.result c.from_deletion.result c.written.result c.from_deletion.ensures c.written.ensures c.delete_index-end.ensures.areas
