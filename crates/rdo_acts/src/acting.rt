@@ -59,7 +59,11 @@ pub struct Ended<'a> {
 }
 
 // The action behind no variables.
-fn begin<'a>(given: &Given<'a>, action: &BoundAction, work: &mut Work<'_>) -> Result<(), ActStop<'a>>
+fn begin<'a>(
+    given: &Given<'a>,
+    action: &BoundAction,
+    work: &mut Work<'_>,
+) -> Result<(), ActStop<'a>>
     requires together { GoTogether given.now }
     requires bound { IsBoundAct (act_of action.now) given.now.schema.now.tables [] }
     ensures runs { (all : Lines) (t : Kept) → HoldsIn given.now work.old all t t → Ends result given.now all t (doing (written_act action.now) t []) work.old work.new t }

@@ -69,7 +69,11 @@ pub(crate) fn missing_row(alloc: Global, width: usize) -> Result<Row, NoMemory>
 }
 
 // The values of a variable's row, missing ones where it has none any more.
-fn values_of(given: &Given<'_>, view: &Changed<'_>, variable: BoundRow<'_>) -> Result<Row, Stop<Never>>
+fn values_of(
+    given: &Given<'_>,
+    view: &Changed<'_>,
+    variable: BoundRow<'_>,
+) -> Result<Row, Stop<Never>>
     requires together { GoTogether given.now }
     requires row { AreRowsOf given.now.schema.now.tables (variable ∷ []) }
     ensures values { (first : Lines) (t : Kept) → IsSoundView view.now given.now.schema.now t first → Computes result view.now (λ values. values ≡ row_of t (scope_of (variable.entry ∷ []))) (λ never. ⊥) }
