@@ -1,1 +1,2 @@
 pub mod RoomPages
+pub mod Growing

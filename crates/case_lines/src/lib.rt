@@ -4,6 +4,7 @@
 
 mod learning;
 mod memory;
+mod mind;
 mod rooms;
 mod session;
 

@@ -1,4 +1,6 @@
 // Rooms that a statement was given.
+ghost use Rattle.std.specs.Prelude.{◌≡◌};
+
 use crate::MemoryLines;
 use line_view::{Known, Room};
 use rdb_types::{Dbkey, NoMemory};
@@ -18,7 +20,10 @@ pub struct Rooms {
 
 // Knows the rooms that were given, and no other. False where one isn't of its area, or not on a page behind those before it.
 #[tactic(auto, using(crate::proofs::RoomPages::none_yet, crate::proofs::RoomPages::one_more, crate::proofs::RoomPages::no_other))]
-fn learn_rooms(known: &mut Known, given: &[Given]) -> Result<bool, NoMemory> {
+fn learn_rooms(known: &mut Known, given: &[Given]) -> Result<bool, NoMemory>
+    ensures lines { known.new.lines ≡ known.old.lines }
+    ensures areas { known.new.areas ≡ known.old.areas }
+{
     known.forget_rooms();
     let mut page = 0;
     for it in given {
@@ -61,7 +66,10 @@ impl Rooms {
     }
 
     /// Knows the rooms that were given, and no other. False where one isn't of its area, or not on a page behind those before it.
-    pub fn learn(&self, known: &mut Known) -> Result<bool, NoMemory> {
+    pub fn learn(&self, known: &mut Known) -> Result<bool, NoMemory>
+        ensures lines { known.new.lines ≡ known.old.lines }
+        ensures areas { known.new.areas ≡ known.old.areas }
+    {
         learn_rooms(known, self.given.as_slice())
     }
 }

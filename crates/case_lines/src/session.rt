@@ -1,12 +1,18 @@
 // A session over the lines of a database.
+ghost use Rattle.std.specs.Prelude.{◌≡◌, true, [], IfOk};
+ghost use Rattle.line_view.specs.Knowledge.{Knowledge};
+ghost use Rattle.line_view.specs.Held.{knows};
+ghost use Rattle.case_lines.specs.Minds.{KeepsLines};
+
+use crate::learning::{give_rooms, has_area, has_room, learn_lines};
+use crate::mind::Mind;
 use crate::{MemoryLines, Rooms, is_known, learn};
 use line_view::{Known, Need};
 use rdb_types::{Copied, Dbkey, Image, NoMemory, Word};
 use rdo_ast::reply::{Reply, Standing};
 use rdo_ast::syntax::{Item, Statement};
-use session_jobs::{Answer, Found, Job, Statements, TxRecord};
+use session_jobs::{Found, Job, Needs, Outcome, Statements, TxRecord};
 use std::alloc::Global;
-use std::marker::PhantomData;
 
 /// An item is begun so often at most.
 const MAX_TRIES: u32 = 100_000;
@@ -44,10 +50,85 @@ pub struct Said {
     pub tries: u32,
 }
 
-struct Worked {
+// An item that was worked, with what its executor keeps, and what came of learning what it lacked before.
+#[derive(Drop)]
+struct Worked<S: Statements> {
     job: Job,
+    kept: S::Kept,
     found: Found,
     learnt: Learnt,
+    // No room is known.
+    roomless: bool,
+}
+
+// Whether all was learnt, whether what was known of lines and areas still is, and whether no room was learnt.
+#[derive(Clone, Copy, Drop)]
+struct Fetch {
+    is_learnt: bool,
+    keeps: bool,
+    roomless: bool,
+}
+
+fn fetch_of(is_learnt: bool, keeps: bool, roomless: bool) -> Fetch
+    ensures keeps { result.keeps ≡ keeps }
+    ensures roomless { result.roomless ≡ roomless }
+{
+    Fetch {
+        is_learnt,
+        keeps,
+        roomless,
+    }
+}
+
+fn both(a: bool, b: bool) -> bool
+    ensures { result ≡ true → (a ≡ true) × (b ≡ true) }
+{
+    a && b
+}
+
+// What an item lacks, the first first.
+fn needs_of(alloc: Global, found: &Found) -> Result<Needs, NoMemory> {
+    let mut needs = Needs::new(alloc);
+    if let Found::Missing { next, later } = found {
+        needs.push(*next)?;
+        for need in later.as_slice() {
+            needs.push(*need)?;
+        }
+    }
+    Ok(needs)
+}
+
+// What is kept, or nothing.
+fn kept_if<S: Statements>(kept: S::Kept, is_kept: bool) -> S::Kept
+    ensures { (new : Knowledge) → (is_kept ≡ true → S.fits kept new) → S.fits result new }
+{
+    if is_kept { kept } else { S::nothing() }
+}
+
+// What is known behind an item.
+fn mind_of<S: Statements>(known: Known, kept: S::Kept, roomless: bool) -> Mind<S>
+    requires fits { S.fits kept (knows known) }
+    requires rooms { roomless ≡ true → known.rooms ≡ [] }
+{
+    if roomless {
+        Mind::keeping(known, kept)
+    } else {
+        Mind::of(known)
+    }
+}
+
+// What learning came to, where the work is over: it lacks nothing, or what is known, or what can't be learnt.
+fn ended(known: &Known, found: &Found, learnt: Learnt) -> Option<Learnt> {
+    let Found::Missing { next, .. } = found else {
+        return Some(learnt);
+    };
+    if !matches!(learnt, Learnt::All) {
+        return Some(learnt);
+    }
+    if is_known(known, *next) {
+        return Some(Learnt::Known);
+    }
+    None
 }
 
 fn came_of(found: Found, learnt: Learnt) -> Result<Came, NoMemory> {
@@ -60,18 +141,17 @@ fn came_of(found: Found, learnt: Learnt) -> Result<Came, NoMemory> {
     }
 }
 
-/// The only session over the lines of a database, with what it knows of them. What it knows is kept from item to item, and forgotten where a transaction is rolled back.
+/// The only session over the lines of a database, with what it knows of them. What it knows is kept from item to item, and forgotten where a transaction is rolled back. What the executor keeps goes with it, until a line is written or a room was known.
 #[derive(Drop)]
 pub struct Session<S: Statements> {
     all: MemoryLines,
     // The lines when the transaction began.
     old: MemoryLines,
     standing: Standing,
-    known: Known,
+    mind: Mind<S>,
     rooms: Rooms,
     // How often the item was begun again.
     tries: u32,
-    of: PhantomData<S>,
 }
 
 impl<S: Statements> Session<S> {
@@ -81,16 +161,15 @@ impl<S: Statements> Session<S> {
             all: MemoryLines::new(alloc),
             old: MemoryLines::new(alloc),
             standing: Standing::Closed,
-            known: Known::new(alloc),
+            mind: Mind::new(alloc),
             rooms: Rooms::new(alloc),
             tries: 0,
-            of: PhantomData,
         }
     }
 
     /// Forgets all that is known.
     pub fn forget(&mut self, alloc: Global) {
-        self.known = Known::new(alloc);
+        self.mind = Mind::new(alloc);
     }
 
     /// The lines of the database.
@@ -98,82 +177,165 @@ impl<S: Statements> Session<S> {
         &mut self.all
     }
 
-    // Learns what a job lacked.
+    // Learns needs of which one is all lines of an area.
+    fn learn_areas(
+        &mut self,
+        alloc: Global,
+        needs: &[Need],
+        known: &mut Known,
+    ) -> Result<bool, NoMemory> {
+        for need in needs {
+            if !is_known(known, *need)
+                && !learn(alloc, &mut self.all, *need, known, &mut self.rooms)?
+            {
+                return Ok(false);
+            }
+        }
+        self.rooms.learn(known)
+    }
+
+    // Learns needs that are lines and rooms.
+    fn learn_places(
+        &mut self,
+        alloc: Global,
+        needs: &[Need],
+        known: &mut Known,
+    ) -> Result<bool, NoMemory>
+        ensures { KeepsLines known.old known.new }
+    {
+        learn_lines(alloc, &self.all, needs, known)?;
+        if !give_rooms(&mut self.all, needs, known, &mut self.rooms)? {
+            return Ok(false);
+        }
+        self.rooms.learn(known)
+    }
+
+    // Learns what a job lacked, of which this is next.
     fn learn_all(
         &mut self,
         alloc: Global,
-        next: Need,
-        later: &[Need],
+        needs: &[Need],
         known: &mut Known,
-    ) -> Result<Learnt, NoMemory> {
-        if is_known(known, next) {
-            return Ok(Learnt::Known);
+    ) -> Result<Fetch, NoMemory>
+        ensures keeps { IfOk result (λ f. f.keeps ≡ true → KeepsLines known.old known.new) }
+        ensures roomless { IfOk result (λ f. f.roomless ≡ true → known.new.rooms ≡ known.old.rooms) }
+    {
+        if has_area(needs) {
+            let is_learnt = self.learn_areas(alloc, needs, known)?;
+            return Ok(fetch_of(is_learnt, false, false));
         }
-        self.tries = self.tries.wrapping_add(1);
-        let mut is_learnt = learn(alloc, &mut self.all, next, known, &mut self.rooms)?;
-        for need in later {
-            if is_learnt && !is_known(known, *need) {
-                is_learnt = learn(alloc, &mut self.all, *need, known, &mut self.rooms)?;
-            }
+        if has_room(needs) {
+            let is_learnt = self.learn_places(alloc, needs, known)?;
+            return Ok(fetch_of(is_learnt, true, false));
         }
-        is_learnt = is_learnt && self.rooms.learn(known)?;
-        Ok(if is_learnt { Learnt::All } else { Learnt::Full })
+        learn_lines(alloc, &self.all, needs, known)?;
+        Ok(fetch_of(true, true, true))
     }
 
-    fn job_of(&mut self, alloc: Global, word: Word, item: Item) -> Job {
-        let mut known = Known::new(alloc);
-        std::mem::swap(&mut known, &mut self.known);
-        known.forget_rooms();
+    // Learns what an item lacks, and works it again.
+    fn again(&mut self, alloc: Global, worked: Worked<S>) -> Result<Worked<S>, NoMemory>
+        requires fits { S.fits worked.kept (knows (worked.job).known) }
+        requires rooms { worked.roomless ≡ true → (worked.job).known.rooms ≡ [] }
+        ensures fits { IfOk result (λ w. S.fits w.kept (knows (w.job).known)) }
+        ensures rooms { IfOk result (λ w. w.roomless ≡ true → (w.job).known.rooms ≡ []) }
+    {
+        let Worked {
+            mut job,
+            kept,
+            found,
+            roomless,
+            ..
+        } = worked;
+        self.tries = self.tries.wrapping_add(1);
+        let needs = needs_of(alloc, &found)?;
+        let fetched = self.learn_all(alloc, needs.as_slice(), &mut job.known)?;
+        let kept = kept_if::<S>(kept, both(roomless, fetched.keeps));
+        let roomless = both(roomless, fetched.roomless);
+        if !fetched.is_learnt {
+            let learnt = Learnt::Full;
+            return Ok(Worked {
+                job,
+                kept,
+                found,
+                learnt,
+                roomless,
+            });
+        }
+        let (job, kept, found) = Outcome::<S>::of(job, kept).into_parts();
+        let learnt = Learnt::All;
+        Ok(Worked {
+            job,
+            kept,
+            found,
+            learnt,
+            roomless,
+        })
+    }
+
+    // Begins an item over what is known, without rooms.
+    fn begin(&mut self, alloc: Global, word: Word, item: Item) -> Worked<S>
+        ensures fits { S.fits result.kept (knows (result.job).known) }
+        ensures rooms { (result.job).known.rooms ≡ [] }
+    {
+        let mut mind = Mind::new(alloc);
+        std::mem::swap(&mut mind, &mut self.mind);
+        let (known, kept) = mind.into_parts();
         self.rooms.clear();
         self.tries = 0;
         let mut standing = Standing::Closed;
         std::mem::swap(&mut standing, &mut self.standing);
-        Job {
+        let job = Job {
             alloc,
             word,
             standing,
             item,
             known,
+        };
+        let (job, kept, found) = Outcome::<S>::of(job, kept).into_parts();
+        Worked {
+            job,
+            kept,
+            found,
+            learnt: Learnt::All,
+            roomless: true,
         }
     }
-
-    // Works a job until it lacks nothing, or what can't be learnt. Nothing is kept from one try to the next.
-    fn work(&mut self, alloc: Global, job: Job) -> Result<Worked, NoMemory> {
-        let Answer {
-            mut job,
-            mut found,
-            ..
-        } = S::work(job, S::nothing());
-        let mut learnt = Learnt::All;
+    // Works an item until it lacks nothing, or what can't be learnt.
+    fn work(&mut self, alloc: Global, begun: Worked<S>) -> Result<Worked<S>, NoMemory>
+        requires fits { S.fits begun.kept (knows (begun.job).known) }
+        requires rooms { begun.roomless ≡ true → (begun.job).known.rooms ≡ [] }
+        ensures fits { IfOk result (λ w. S.fits w.kept (knows (w.job).known)) }
+        ensures rooms { IfOk result (λ w. w.roomless ≡ true → (w.job).known.rooms ≡ []) }
+    {
+        let mut worked = begun;
         for _ in 0..MAX_TRIES {
-            let Found::Missing { next, later } = &found else {
-                return Ok(Worked { job, found, learnt });
-            };
-            learnt = self.learn_all(alloc, *next, later.as_slice(), &mut job.known)?;
-            if !matches!(learnt, Learnt::All) {
-                return Ok(Worked { job, found, learnt });
+            if let Some(learnt) = ended(&worked.job.known, &worked.found, worked.learnt) {
+                worked.learnt = learnt;
+                return Ok(worked);
             }
-            let answer = S::work(job, S::nothing());
-            job = answer.job;
-            found = answer.found;
+            worked = self.again(alloc, worked)?;
         }
-        Ok(Worked {
-            job,
-            found,
-            learnt: Learnt::Endless,
-        })
+        worked.learnt = Learnt::Endless;
+        Ok(worked)
     }
 
     // Lays the writes of a record over the lines, and over what is known.
     fn lay(&mut self, alloc: Global, record: &TxRecord) -> Result<(), NoMemory> {
+        if record.writes.is_empty() {
+            return Ok(());
+        }
+        let mut mind = Mind::new(alloc);
+        std::mem::swap(&mut mind, &mut self.mind);
+        let (mut known, _) = mind.into_parts();
         for write in record.writes.as_slice() {
             let image = write.image.as_ref();
             let image = image.map(|image| Image::from_bytes(image.bytes()));
             let again = write.image.as_ref();
             let again = again.map(|image| Image::from_bytes(image.bytes()));
             self.all.lay(alloc, write.key, image)?;
-            self.known.put(alloc, write.key, again)?;
+            known.put(alloc, write.key, again)?;
         }
+        self.mind = Mind::of(known);
         Ok(())
     }
 
@@ -185,7 +347,7 @@ impl<S: Statements> Session<S> {
             }
             Item::Statement(Statement::Rollback) if was_writer => {
                 self.all = self.old.copied(alloc)?;
-                self.known = Known::new(alloc);
+                self.mind = Mind::new(alloc);
             }
             _ => {}
         }
@@ -202,8 +364,17 @@ impl<S: Statements> Session<S> {
         Ok(())
     }
 
-    fn take_back(&mut self, worked: Worked) -> Result<Said, NoMemory> {
-        let Worked { job, found, learnt } = worked;
+    fn take_back(&mut self, worked: Worked<S>) -> Result<Said, NoMemory>
+        requires fits { S.fits worked.kept (knows (worked.job).known) }
+        requires rooms { worked.roomless ≡ true → (worked.job).known.rooms ≡ [] }
+    {
+        let Worked {
+            job,
+            kept,
+            found,
+            learnt,
+            roomless,
+        } = worked;
         let Job {
             word,
             standing,
@@ -212,7 +383,7 @@ impl<S: Statements> Session<S> {
             ..
         } = job;
         self.standing = standing;
-        self.known = known;
+        self.mind = mind_of(known, kept, roomless);
         Ok(Said {
             word,
             item,
@@ -223,8 +394,8 @@ impl<S: Statements> Session<S> {
 
     /// Says an item: it is worked until it lacks nothing, and what it wrote stands on the lines.
     pub fn say(&mut self, alloc: Global, word: Word, item: Item) -> Result<Said, NoMemory> {
-        let job = self.job_of(alloc, word, item);
-        let worked = self.work(alloc, job)?;
+        let begun = self.begin(alloc, word, item);
+        let worked = self.work(alloc, begun)?;
         let said = self.take_back(worked)?;
         if let Came::Done(record) = &said.came {
             self.follow(alloc, &said.item, record)?;

@@ -85,29 +85,29 @@ next_in known area need is =
       | false ↦ λ h. inl (ap (λ (o : Option Need). asked o need) h)
     ] is
 
-abbrev IsStopped : Held → Catalog → IndexDefinition → Tables → SchemaStop → Type 0
-IsStopped base c d t = Stops (λ need. (definition_refusal d c.tables ≡ None) × Lacks (knows base) need) (λ key. ⊥) (IsNotIndexed base c d t)
+abbrev IsStopped : Held → Lines → Catalog → IndexDefinition → Tables → SchemaStop → Type 0
+IsStopped base first c d t = Stops (λ need. (definition_refusal d c.tables ≡ None) × Lacks (knows base) need) (λ key. ⊥) (IsNotIndexed base first c d t)
 
-told_room : (base : Held) (c : Catalog) (d : IndexDefinition) (t : Tables) (room : RoomOf) (told : SchemaStop) → definition_refusal d c.tables ≡ None → (AreRoomsKnown (knows base) room.area room.class all_rooms → HasNoRoom base c) → TellsRoom base room told → IsStopped base c d t told
-told_room base c d t room (Missing need) none because tells = (none, tells.0)
-told_room base c d t room (Own refusal) none because tells = subst (IsNotIndexed base c d t) (sym tells.0) (none, because tells.1)
-told_room base c d t room (Bad key) none because tells = absurd tells
-told_room base c d t room NoMemory none because tells = absurd tells
+told_room : (base : Held) (first : Lines) (c : Catalog) (d : IndexDefinition) (t : Tables) (room : RoomOf) (told : SchemaStop) → definition_refusal d c.tables ≡ None → (AreRoomsKnown (knows base) room.area room.class all_rooms → HasNoRoom base c) → TellsRoom base room told → IsStopped base first c d t told
+told_room base first c d t room (Missing need) none because tells = (none, tells.0)
+told_room base first c d t room (Own refusal) none because tells = subst (IsNotIndexed base first c d t) (sym tells.0) (none, because tells.1)
+told_room base first c d t room (Bad key) none because tells = absurd tells
+told_room base first c d t room NoMemory none because tells = absurd tells
 
-told_stop : (old : Over) (c : Catalog) (d : IndexDefinition) (t : Tables) (stop : Stop Reply) (told : SchemaStop) → ((reply : Reply) → definition_refusal d c.tables ≡ Some reply → definition_refusal d t ≡ Some reply) →
-    StopsDefining (knows_over old) (definition_refusal d c.tables) (index_rooms (new_index_area c.tables)) stop → Tells old.base stop told → IsStopped old.base c d t told
-told_stop old c d t (Missing need) told too said tells =
-    elim (next_in (knows_over old) (new_index_area c.tables) need said.1) as (λ o. IsStopped old.base c d t told) [
-      | inl own ↦ told_room old.base c d t (index_room (new_index_area c.tables)) told said.0 (λ rooms. inr rooms) (subst (λ (x : Need). Tells old.base (Missing x) told) (sym own) tells)
-      | inr own ↦ told_room old.base c d t (catalog_room 0) told said.0 (λ rooms. inl rooms) (subst (λ (x : Need). Tells old.base (Missing x) told) (sym own) tells)
+told_stop : (old : Over) (first : Lines) (c : Catalog) (d : IndexDefinition) (t : Tables) (stop : Stop Reply) (told : SchemaStop) → ((reply : Reply) → definition_refusal d c.tables ≡ Some reply → definition_refusal d t ≡ Some reply) →
+    StopsDefining (knows_over old) (definition_refusal d c.tables) (index_rooms (new_index_area c.tables)) stop → Tells old.base stop told → IsStopped old.base first c d t told
+told_stop old first c d t (Missing need) told too said tells =
+    elim (next_in (knows_over old) (new_index_area c.tables) need said.1) as (λ o. IsStopped old.base first c d t told) [
+      | inl own ↦ told_room old.base first c d t (index_room (new_index_area c.tables)) told said.0 (λ rooms. inr rooms) (subst (λ (x : Need). Tells old.base (Missing x) told) (sym own) tells)
+      | inr own ↦ told_room old.base first c d t (catalog_room 0) told said.0 (λ rooms. inl rooms) (subst (λ (x : Need). Tells old.base (Missing x) told) (sym own) tells)
     ]
-told_stop old c d t (Bad key) told too said tells = absurd said
-told_stop old c d t NoMemory told too said tells = subst (IsStopped old.base c d t) (sym tells) tt
-told_stop old c d t (Own reply) told too said tells = subst (IsStopped old.base c d t) (sym tells) (too reply said)
+told_stop old first c d t (Bad key) told too said tells = absurd said
+told_stop old first c d t NoMemory told too said tells = subst (IsStopped old.base first c d t) (sym tells) tt
+told_stop old first c d t (Own reply) told too said tells = subst (IsStopped old.base first c d t) (sym tells) (too reply said)
 
 pub index_stops : (old new : Over) (c : Catalog) (d : IndexDefinition) (stop : Stop Reply) (told : SchemaStop) → Tells old.base stop told → StopsDefining (knows_over old) (definition_refusal d c.tables) (index_rooms (new_index_area c.tables)) stop → DefinesIndex old new c d (Err told)
 index_stops old new c d stop told tells said = λ t first view.
-    told_stop old c d t stop told (refused_too (laid_over old.lines first) c t d view.sound) said tells
+    told_stop old first c d t stop told (refused_too (laid_over old.lines first) c t d view.sound) said tells
 
 -- ---- it is filled, or not
 
@@ -154,7 +154,7 @@ module _ (old mid : Over) (c : Catalog) (d : IndexDefinition) (writes given : Li
     filled : (result : Result (Unit {0}) SchemaStop) → FillsFromRows old mid c d.relation given result → RowsAdded old mid x first rel.rows result
     filled result fills = fills x line t rel first view there.1 keys
 
-    refused : (told : SchemaStop) → RowsAdded old mid x first rel.rows (Err told) → IsStopped old.base c d t told
+    refused : (told : SchemaStop) → RowsAdded old mid x first rel.rows (Err told) → IsStopped old.base first c d t told
     refused (Missing need) said = (none, said)
     refused (Bad key) said = said
     refused NoMemory said = tt

@@ -42,27 +42,27 @@ use Rattle.index_writes.proofs.Repeats.{repeats}
 
 -- ---- one row
 
-abbrev RowStops : Held → IndexLine → Type 0 → SchemaStop → Type 0
-RowStops base x IsTaken = Stops (Lacks (knows base)) (λ key. ⊥) (RowRefused x IsTaken (CanNotGrow base x))
+abbrev RowStops : Held → Lines → IndexLine → Type 0 → SchemaStop → Type 0
+RowStops base start x IsTaken = Stops (Lacks (knows base)) (λ key. ⊥) (RowRefused x IsTaken (CanNotGrow base start x))
 
-told_duplicate : (base : Held) (x : IndexLine) (IsTaken : Type 0) (told : SchemaStop) → IsTaken → IsDuplicate x.name told → RowStops base x IsTaken told
-told_duplicate base x IsTaken told taken (inl is) = subst (RowStops base x IsTaken) (sym is) (refl, taken)
-told_duplicate base x IsTaken told taken (inr is) = subst (RowStops base x IsTaken) (sym is) tt
+told_duplicate : (base : Held) (start : Lines) (x : IndexLine) (IsTaken : Type 0) (told : SchemaStop) → IsTaken → IsDuplicate x.name told → RowStops base start x IsTaken told
+told_duplicate base start x IsTaken told taken (inl is) = subst (RowStops base start x IsTaken) (sym is) (refl, taken)
+told_duplicate base start x IsTaken told taken (inr is) = subst (RowStops base start x IsTaken) (sym is) tt
 
-told_row : (base : Held) (x : IndexLine) (IsTaken IsLong : Type 0) (at : Dbkey) (stop : PairStop) (told : SchemaStop) → (IsLong → ⊥) → TellsRow x.name at stop told → Stops (Lacks (knows base)) (λ key. ⊥) (PairRefused IsTaken IsLong (CanNotGrow base x)) stop → RowStops base x IsTaken told
-told_row base x IsTaken IsLong at (Missing need) told short tells said = subst (RowStops base x IsTaken) (sym tells) said
-told_row base x IsTaken IsLong at (Bad key) told short tells said = absurd said
-told_row base x IsTaken IsLong at NoMemory told short tells said = subst (RowStops base x IsTaken) (sym tells) tt
-told_row base x IsTaken IsLong at (Own pair.Duplicate) told short tells said = told_duplicate base x IsTaken told said tells
-told_row base x IsTaken IsLong at (Own pair.LongKey) told short tells said = absurd (short said)
-told_row base x IsTaken IsLong at (Own pair.Full) told short tells said = subst (RowStops base x IsTaken) (sym tells) said
+told_row : (base : Held) (start : Lines) (x : IndexLine) (IsTaken IsLong : Type 0) (at : Dbkey) (stop : PairStop) (told : SchemaStop) → (IsLong → ⊥) → TellsRow x.name at stop told → Stops (Lacks (knows base)) (λ key. ⊥) (PairRefused IsTaken IsLong (CanNotGrow base start x)) stop → RowStops base start x IsTaken told
+told_row base start x IsTaken IsLong at (Missing need) told short tells said = subst (RowStops base start x IsTaken) (sym tells) said
+told_row base start x IsTaken IsLong at (Bad key) told short tells said = absurd said
+told_row base start x IsTaken IsLong at NoMemory told short tells said = subst (RowStops base start x IsTaken) (sym tells) tt
+told_row base start x IsTaken IsLong at (Own pair.Duplicate) told short tells said = told_duplicate base start x IsTaken told said tells
+told_row base start x IsTaken IsLong at (Own pair.LongKey) told short tells said = absurd (short said)
+told_row base start x IsTaken IsLong at (Own pair.Full) told short tells said = subst (RowStops base start x IsTaken) (sym tells) said
 
 pub row_added : (old new : Over) (x : IndexLine) (row : StoredRow) → AddsPair old new x row.row row.key (Ok tt) → AddsRow old new x row (Ok tt)
 row_added old new x row adds = λ first level tree stands index fresh key. adds first level tree stands index fresh
 
 pub row_stops : (old new : Over) (x : IndexLine) (row : StoredRow) (stop : PairStop) (told : SchemaStop) → AddsPair old new x row.row row.key (Err stop) → TellsRow x.name row.key stop told → AddsRow old new x row (Err told)
 row_stops old new x row stop told adds tells = λ first level tree stands index fresh key.
-    told_row old.base x (has_taken x row.row (pairs level tree) ≡ true) (IsLongKey x row.row) row.key stop told (λ long. long key) tells (adds first level tree stands index fresh)
+    told_row old.base first x (has_taken x row.row (pairs level tree) ≡ true) (IsLongKey x row.row) row.key stop told (λ long. long key) tells (adds first level tree stands index fresh)
 
 -- ---- some rows
 
@@ -131,7 +131,7 @@ module _ (old mid : Over) (first : Lines) (x : IndexLine) (rows : List (Dbkey ×
       let both = and_parts x.unique (rows_have x.fields e.1 before) (sym taken ∙ has) in
       (both.0, ap (keys_repeat x.fields) parts ∙ repeats x.fields e before rest both.1)
 
-  one_refused : (told : SchemaStop) → RowStops mid.base x (has_taken x e.1 (pairs filled.index.level filled.index.tree) ≡ true) told → RowStops mid.base x ((x.unique ≡ true) × (keys_repeat x.fields rows ≡ true)) told
+  one_refused : (told : SchemaStop) → RowStops mid.base first x (has_taken x e.1 (pairs filled.index.level filled.index.tree) ≡ true) told → RowStops mid.base first x ((x.unique ≡ true) × (keys_repeat x.fields rows ≡ true)) told
   one_refused (Missing need) said = said
   one_refused (Bad at) said = said
   one_refused NoMemory said = said
@@ -186,7 +186,7 @@ module _ (old mid new : Over) (first : Lines) (x : IndexLine) (rows : List (Dbke
       let e = this.0 in
       let own : AddsRow mid new x (stored_row e) (Err told) = subst (λ (r : StoredRow). AddsRow mid new x r (Err told)) (sym this.3) adds in
       let said = own first filled.index.level filled.index.tree filled.stands filled.index.is (fresh old mid first x rows fitting under.before this.1 e parted filled) (key old mid first x rows fitting under.before this.1 e parted filled) in
-      subst (λ (h : Held). RowStops h x ((x.unique ≡ true) × (keys_repeat x.fields rows ≡ true)) told) base (one_refused old mid first x rows fitting under.before this.1 e parted filled told said)
+      subst (λ (h : Held). RowStops h first x ((x.unique ≡ true) × (keys_repeat x.fields rows ≡ true)) told) base (one_refused old mid first x rows fitting under.before this.1 e parted filled told said)
 
 -- ---- all rows, behind an empty root
 
@@ -211,7 +211,7 @@ module _ (old mid new : Over) (x : IndexLine) (given : List StoredRow) (image : 
   pub filled_so : (result : Result (Unit {0}) SchemaStop) → AddsRows mid new x given result → Fills old new x given result
   filled_so (Ok u) adds = λ first rows same fitting stands. with_root first rows stands (adds first rows same fitting (stay first stands) (root_there first stands))
   filled_so (Err told) adds = λ first rows same fitting stands.
-      subst (λ (h : Held). RowStops h x ((x.unique ≡ true) × (keys_repeat x.fields rows ≡ true)) told) base (adds first rows same fitting (stay first stands) (root_there first stands))
+      subst (λ (h : Held). RowStops h first x ((x.unique ≡ true) × (keys_repeat x.fields rows ≡ true)) told) base (adds first rows same fitting (stay first stands) (root_there first stands))
 
 -- ---- the loop
 

@@ -46,17 +46,17 @@ definition_refusal d t = or_else (index_names d t) (index_refusal d t)
 abbrev pub HasNoRoom : Held → Catalog → Type 0
 HasNoRoom base c = AreRoomsKnown (knows base) catalog_area (catalog_room 0).class all_rooms ⊎ AreRoomsKnown (knows base) (new_index_area c.tables) (index_room 0).class all_rooms
 
--- an index in the new logical area can't grow
-abbrev pub IsFullIn : Held → Catalog → Type 0
-IsFullIn base c = (x : IndexLine) × (x.root.area ≡ new_index_area c.tables) × CanNotGrow base x
+-- an index in the new logical area can't grow over this map
+abbrev pub IsFullIn : Held → Lines → Catalog → Type 0
+IsFullIn base first c = (x : IndexLine) × (x.root.area ≡ new_index_area c.tables) × CanNotGrow base first x
 
 -- The meaning refuses so in the tables with their rows. Else the catalog refuses nothing, and there are no rooms.
-abbrev pub IsNotIndexed : Held → Catalog → IndexDefinition → Tables → SchemaRefusal → Type 0
-IsNotIndexed base c d t (Refused reply) = definition_refusal d t ≡ Some reply
-IsNotIndexed base c d t NoRoom = (definition_refusal d c.tables ≡ None) × HasNoRoom base c
-IsNotIndexed base c d t Full = (definition_refusal d c.tables ≡ None) × IsFullIn base c
+abbrev pub IsNotIndexed : Held → Lines → Catalog → IndexDefinition → Tables → SchemaRefusal → Type 0
+IsNotIndexed base first c d t (Refused reply) = definition_refusal d t ≡ Some reply
+IsNotIndexed base first c d t NoRoom = (definition_refusal d c.tables ≡ None) × HasNoRoom base c
+IsNotIndexed base first c d t Full = (definition_refusal d c.tables ≡ None) × IsFullIn base first c
 
 -- Over each map with this catalog: what the catalog refuses is refused before anything is named that isn't known; what the meaning refuses in the tables with their rows is refused, and else the tables of the meaning are left.
 abbrev pub DefinesIndex : Over → Over → Catalog → IndexDefinition → Result (Unit {0}) SchemaStop → Type 0
 DefinesIndex old new c d result = (t : Tables) (first : Lines) → IsSoundView old c t first →
-    Answers (λ u. IsCarriedOut new (definition_refusal d t) (with_index d t) first) (λ need. (definition_refusal d c.tables ≡ None) × Lacks (knows old.base) need) (λ key. ⊥) (IsNotIndexed old.base c d t) result
+    Answers (λ u. IsCarriedOut new (definition_refusal d t) (with_index d t) first) (λ need. (definition_refusal d c.tables ≡ None) × Lacks (knows old.base) need) (λ key. ⊥) (IsNotIndexed old.base first c d t) result

@@ -55,7 +55,7 @@ RowRefused x IsTaken IsFull Full = IsFull
 abbrev pub RowAdded : Over → Over → IndexLine → StoredRow → Lines → (level : ℕ) → Tree level → Result (Unit {0}) SchemaStop → Type 0
 RowAdded old new x row first level tree =
     Answers (λ u. Turned old new first x.root level tree (with_pair (pair_of (key_of x.fields row.row) row.key) (pairs level tree)) × (has_taken x row.row (pairs level tree) ≡ false)) (Lacks (knows old.base)) (λ key. ⊥)
-    (RowRefused x (has_taken x row.row (pairs level tree) ≡ true) (CanNotGrow old.base x))
+    (RowRefused x (has_taken x row.row (pairs level tree) ≡ true) (CanNotGrow old.base first x))
 
 -- a row whose pair isn't in the index, and whose key it may have
 abbrev pub AddsRow : Over → Over → IndexLine → StoredRow → Result (Unit {0}) SchemaStop → Type 0
@@ -81,7 +81,7 @@ pub record IsFilled (old new : Over) (first : Lines) (x : IndexLine) (rows : Lis
 -- it is filled, or refuses a duplicate just where it is unique and two rows have one key
 abbrev pub RowsAdded : Over → Over → IndexLine → Lines → List (Dbkey × Row) → Result (Unit {0}) SchemaStop → Type 0
 RowsAdded old new x first rows =
-    Answers (λ u. IsFilled old new first x rows) (Lacks (knows old.base)) (λ key. ⊥) (RowRefused x ((x.unique ≡ true) × (keys_repeat x.fields rows ≡ true)) (CanNotGrow old.base x))
+    Answers (λ u. IsFilled old new first x rows) (Lacks (knows old.base)) (λ key. ⊥) (RowRefused x ((x.unique ≡ true) × (keys_repeat x.fields rows ≡ true)) (CanNotGrow old.base first x))
 
 -- an index of no rows is filled
 abbrev pub AddsRows : Over → Over → IndexLine → List StoredRow → Result (Unit {0}) SchemaStop → Type 0

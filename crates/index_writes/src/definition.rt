@@ -22,7 +22,7 @@ use stored_schema::Schema;
 // Writes the nodes of the index of which the one write is the line.
 fn fill_from_rows(
     alloc: Global,
-    view: &mut Changed,
+    view: &mut Changed<'_>,
     schema: &Schema,
     relation: &Chars,
     writes: &[Write],
@@ -44,7 +44,7 @@ fn fill_from_rows(
 /// DEFINE INDEX: the nodes of an index of the rows that are there are written in a new logical area, and its line of the catalog. It is refused as a duplicate where it is unique and two rows have one key; that shows only when the rows are known. Behind an error the view is of no more use, but for what was known.
 pub fn define_index(
     alloc: Global,
-    view: &mut Changed,
+    view: &mut Changed<'_>,
     schema: &Schema,
     definition: &IndexDefinition,
 ) -> Result<(), SchemaStop>

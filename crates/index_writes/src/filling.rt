@@ -58,7 +58,7 @@ fn row_stop(alloc: Global, stop: PairStop, name: &Chars, at: Dbkey) -> SchemaSto
 
 fn add_row(
     alloc: Global,
-    view: &mut Changed,
+    view: &mut Changed<'_>,
     index: &IndexLine,
     row: &StoredRow,
 ) -> Result<(), SchemaStop>
@@ -74,7 +74,7 @@ fn add_row(
 
 fn add_rows(
     alloc: Global,
-    view: &mut Changed,
+    view: &mut Changed<'_>,
     index: &IndexLine,
     rows: &[StoredRow],
 ) -> Result<(), SchemaStop>
@@ -91,7 +91,7 @@ fn add_rows(
 /// Writes the nodes of an index of these rows, which stand in the order of their Dbkeys. Its root becomes an empty leaf first.
 pub(crate) fn fill(
     alloc: Global,
-    view: &mut Changed,
+    view: &mut Changed<'_>,
     index: &IndexLine,
     rows: &[StoredRow],
 ) -> Result<(), SchemaStop>

@@ -42,7 +42,7 @@ pub(crate) fn written_index(alloc: Global, writes: &[Write]) -> Result<IndexLine
 /// The rows of a relation of the catalog, in the order of their Dbkeys.
 pub(crate) fn read_rows(
     alloc: Global,
-    view: &Changed,
+    view: &Changed<'_>,
     schema: &Schema,
     name: &Chars,
 ) -> Result<Rows, Stop<Never>>

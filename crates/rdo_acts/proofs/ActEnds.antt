@@ -1,12 +1,13 @@
 -- What comes of an action, from its work on a view in which nothing was written.
-use Rattle.std.proofs.Common.{◌≡◌, true, false, List, [], ◌++◌, Option, Some, None, Result, Ok, Err, sym, ap, subst, ◌∙◌, inl, inr}
+use Rattle.std.proofs.Common.{◌≡◌, Bool, true, false, List, [], ◌++◌, Option, Some, None, Result, Ok, Err, refl, sym, ap, subst, ◌∙◌, inl, inr}
 use Rattle.std.proofs.lemmas.List.Elements.{All-cons}
 use Rattle.rdb_types.specs.declared.keys.Dbkey.{Dbkey}
 use Rattle.rdo_ast.specs.declared.reply.Reply.{Reply}
-use Rattle.rdo_ast.specs.Tree.{Act, perform}
+use Rattle.rdo_ast.specs.Tree.{Name, Act, perform}
 use Rattle.rdb_meaning.specs.declared.tables.Tables.{Tables}
 use Rattle.rdb_meaning.specs.Checks.{Use, act_uses}
 use Rattle.rdb_meaning.specs.Execution.{World, world, Ran, ran, done}
+use Rattle.line_view.specs.declared.need.Need.TheVariants.{Line, Area, Room}
 use Rattle.line_view.specs.declared.stop.Stop.TheVariants as stop
 use Rattle.line_view.specs.Knowledge.{Knowledge, Lines, IsInOrder, Agrees}
 use Rattle.line_view.specs.Held.{Held, knows}
@@ -18,7 +19,15 @@ use Rattle.sound_lines.proofs.OneTables.{one_tables}
 use Rattle.sound_changes.specs.Standing.{IsSoundAs}
 use Rattle.sound_changes.proofs.AllDone.{are_tables}
 use Rattle.sound_changes.proofs.Basics.{all_of}
-use Rattle.statement_view.specs.Over.{Over, Stands, knows_over, laid_over, writes_of, is_written}
+use Rattle.catalog_lines.specs.declared.line.IndexLine.{IndexLine}
+use Rattle.rdb_meaning.specs.Contents.{Row}
+use Rattle.stored_rows.specs.declared.images.Unstored.TheVariants.{TooLong, Misfit}
+use Rattle.row_writes.specs.declared.target.TargetRelation.{TargetRelation}
+use Rattle.row_writes.specs.declared.stop.PairRefusal.TheVariants.{Duplicate, LongKey, Full}
+use Rattle.row_writes.specs.declared.stop.RowRefusal.{RowRefusal}
+use Rattle.row_writes.specs.declared.stop.RowRefusal.TheVariants.{NoImage, NoRoom, Pair}
+use Rattle.row_writes.specs.Pairs.{CanNotGrow}
+use Rattle.statement_view.specs.Over.{Over, seen_of, all_rooms, AreRoomsKnown, Stands, knows_over, laid_over, writes_of, is_written}
 use Rattle.statement_view.specs.Areas.{is_among, IsNeedOf, WritesOf}
 use Rattle.used_areas.specs.Areas.{areas_read, areas_changed}
 use Rattle.view_stages.specs.Stages.{Stage, Goes, refusing}
@@ -33,9 +42,72 @@ use Rattle.rdo_acts.specs.declared.acting.Outcome.TheVariants.{Done, Refused, Mi
 use Rattle.rdo_acts.specs.Ends.{ActStop, reply_of, stage, HoldsIn, Refuses, Ends}
 use Rattle.rdo_acts.specs.Acted.{IsActedOver, IsRefusedOver, ComesOf, Comes, IsOrdered, NamesNeeds}
 use Rattle.rdo_acts.specs.Areas.{KeepsFor, IsFor, StaysFor}
-use Rattle.rdo_acts.specs.Told.{Finishes, StopsAs}
+use Rattle.rdo_acts.specs.Told.{Finishes, LacksStill, StopsAs}
+use Rattle.rdo_acts.specs.Unwritten.{IsInTheWay, IsUnwritable}
 use Rattle.rdo_acts.proofs.AheadNeeds.{ahead_lack, ahead_among}
 use Rattle.rdo_acts.proofs.Viewing.{laid_writes}
+
+-- ---- what is known, and what is seen of it
+
+full_over : (sees : Bool) (k h : Held) (all : Lines) (x : IndexLine) → knows h ≡ knows (seen_of sees k) → CanNotGrow h all x → CanNotGrow k all x
+full_over sees k h all x same full = elim full [
+  | inl rooms ↦ inl (subst (λ (n : Knowledge). AreRoomsKnown n x.root.area 440 all_rooms) same rooms)
+  | inr tall ↦ inr tall
+]
+
+-- what is in the way by what is seen is so by what is known
+in_the_way : (sees : Bool) (k h : Held) (all : Lines) (r : TargetRelation) (row : Row) (why : RowRefusal) → knows h ≡ knows (seen_of sees k) → IsInTheWay h all r row why → IsInTheWay k all r row why
+in_the_way sees k h all r row (NoImage Misfit) same is = is
+in_the_way sees k h all r row (NoImage TooLong) same is = is
+in_the_way sees k h all r row NoRoom same is = subst (λ (n : Knowledge). AreRoomsKnown n r.stored.area r.class all_rooms) same is
+in_the_way sees k h all r row (Pair at Duplicate) same is = is
+in_the_way sees k h all r row (Pair at LongKey) same is = is
+in_the_way sees k h all r row (Pair at Full) same is = (is.0, is.1, full_over sees k h all is.0 same is.2)
+
+unwritable_over : (sees : Bool) (k : Held) (all : Lines) (c : Catalog) (n : Name) (row : Row) → IsUnwritable (knows (seen_of sees k)) all c n row → IsUnwritable (knows k) all c n row
+unwritable_over sees k all c n row is = record {
+  relation = is.relation;
+  there = is.there;
+  target = is.target;
+  is = is.is;
+  base = k;
+  same = refl;
+  why = is.why;
+  in_the_way = in_the_way sees k is.base all is.target row is.why is.same is.in_the_way;
+}
+
+refused_over : (sees : Bool) (k : Held) (o : Option Reply) (given : List Dbkey) (a : Act) (c : Catalog) (all : Lines) (t : Tables) → IsRefusedOver o given a (knows (seen_of sees k)) c all t → IsRefusedOver o given a (knows k) c all t
+refused_over sees k (Some reply) given a c all t is = is
+refused_over sees k None given a c all t is = record {
+  given = is.given;
+  now = is.now;
+  lines = is.lines;
+  name = is.name;
+  own = is.own;
+  row = is.row;
+  rest = is.rest;
+  comes = is.comes;
+  unwritable = unwritable_over sees k all c is.name is.row is.unwritable;
+}
+
+-- a need that is lacked by what is seen isn't known either
+abbrev pub LacksToo : Bool → Held → ActStop → Type 0
+LacksToo sees k (stop.Missing need) = Lacks (knows (seen_of sees k)) need → Lacks (knows k) need
+LacksToo sees k _ = Unit {0}
+
+pub lacks_still : (k : Held) (why : ActStop) → LacksStill (knows k) why → LacksToo false k why
+lacks_still k (stop.Missing (Line key)) still = λ is. is
+lacks_still k (stop.Missing (Area area)) still = λ is. still
+lacks_still k (stop.Missing (Room room)) still = λ is. is
+lacks_still k (stop.Bad key) still = tt
+lacks_still k stop.NoMemory still = tt
+lacks_still k (stop.Own refusal) still = tt
+
+pub lacks_seen : (k : Held) (why : ActStop) → LacksToo true k why
+lacks_seen k (stop.Missing need) = λ is. is
+lacks_seen k (stop.Bad key) = tt
+lacks_seen k stop.NoMemory = tt
+lacks_seen k (stop.Own refusal) = tt
 
 -- at the start of the work nothing is written
 pub at_start : (given : Given) (w : Work) (all : Lines) (t : Tables) → IsSoundAs all given.schema.now t → Agrees (knows w.view.base) all → Stands w.view all → w.view.lines ≡ [] → HoldsIn given w all t t
@@ -114,14 +186,18 @@ module _ (given : Given) (a : Act) (old new : Work) (all : Lines) (t : Tables) (
   comes_done (Bad key) is goes = absurd is
   comes_done NoMemory is goes = tt
 
-  -- what comes of an action that stopped
-  pub comes_stopped : (outcome : Outcome) (why : ActStop) → StopsAs outcome why new.given known → IsSoundAs all c t → Ends (Err why) given all t job old new t → ComesOf outcome a known c all t
-  comes_stopped outcome (stop.Missing need) (inl lacking) sound h =
-      subst (λ (o : Outcome). ComesOf o a known c all t) (sym lacking.is) (All-cons (Lacks known) need lacking.behind h (ahead_lack known need lacking.behind lacking.ahead))
-  comes_stopped outcome (stop.Missing need) (inr is) sound h = subst (λ (o : Outcome). ComesOf o a known c all t) (sym is) tt
-  comes_stopped outcome (stop.Bad key) is sound h = subst (λ (o : Outcome). ComesOf o a known c all t) (sym is) h
-  comes_stopped outcome stop.NoMemory is sound h = subst (λ (o : Outcome). ComesOf o a known c all t) (sym is) tt
-  comes_stopped outcome (stop.Own refusal) is sound h = subst (λ (o : Outcome). ComesOf o a known c all t) (sym is) (refused (reply_of refusal) sound h)
+  -- what comes of an action that stopped, by what is known, of which the view sees all or no areas
+  pub comes_stopped : (k : Held) (sees : Bool) → old.view.base ≡ seen_of sees k → (outcome : Outcome) (why : ActStop) → StopsAs outcome why new.given (knows k) → LacksToo sees k why → IsSoundAs all c t
+      → Ends (Err why) given all t job old new t → ComesOf outcome a (knows k) c all t
+  comes_stopped k sees base outcome (stop.Missing need) (inl lacking) too sound h =
+      subst (λ (o : Outcome). ComesOf o a (knows k) c all t) (sym lacking.is)
+      (All-cons (Lacks (knows k)) need lacking.behind (too (subst (λ (h : Held). Lacks (knows h) need) base h)) (ahead_lack (knows k) need lacking.behind lacking.ahead))
+  comes_stopped k sees base outcome (stop.Missing need) (inr is) too sound h = subst (λ (o : Outcome). ComesOf o a (knows k) c all t) (sym is) tt
+  comes_stopped k sees base outcome (stop.Bad key) is too sound h = subst (λ (o : Outcome). ComesOf o a (knows k) c all t) (sym is) h
+  comes_stopped k sees base outcome stop.NoMemory is too sound h = subst (λ (o : Outcome). ComesOf o a (knows k) c all t) (sym is) tt
+  comes_stopped k sees base outcome (stop.Own refusal) is too sound h =
+      subst (λ (o : Outcome). ComesOf o a (knows k) c all t) (sym is)
+      (refused_over sees k (reply_of refusal) new.given a c all t (subst (λ (h : Held). IsRefusedOver (reply_of refusal) new.given a (knows h) c all t) base (refused (reply_of refusal) sound h)))
 
 pub finishes_ordered : (outcome : Outcome) (w : Work) → Finishes outcome w → IsOrdered outcome
 finishes_ordered (Done what) w is = is.ordered
@@ -178,33 +254,42 @@ module _ (us : List Use) (t : Tables) (old new : Work) (none : old.view.lines �
 
 -- ---- from what is known
 
-module _ (given : Given) (a : Act) (known : Held) (view : Over) (w : Work) (fresh : view ≡ record { base = known; lines = []; areas = [] })
+-- work begins where nothing is written
+pub begun : (given : Given) (known : Held) (view : Over) (w : Work) → view.lines ≡ [] → ((first : Lines) → IsInOrder first → Agrees (knows known) first → Stands view first) → w ≡ record { view = view; lines = []; given = [] }
+    → (all : Lines) (t : Tables) → Agrees (knows known) all → IsSoundAs all given.schema.now t → HoldsIn given w all t t
+begun given known view w fresh stands empty all t agrees sound =
+    let there : Stands w.view all = subst (λ (o : Over). Stands o all) (sym (ap (λ (x : Work). x.view) empty)) (stands all sound.sorted agrees) in
+    at_start given w all t sound there.base there (ap (λ (x : Work). x.view.lines) empty ∙ fresh)
+
+module _ (given : Given) (a : Act) (known : Held) (sees : Bool) (view : Over) (w : Work) (fresh : view ≡ record { base = seen_of sees known; lines = []; areas = [] })
     (stands : (first : Lines) → IsInOrder first → Agrees (knows known) first → Stands view first) (empty : w ≡ record { view = view; lines = []; given = [] }) where
-  pub begun_base : w.view.base ≡ known
+  begun_base : w.view.base ≡ seen_of sees known
   begun_base = ap (λ (x : Work). x.view.base) empty ∙ ap (λ (o : Over). o.base) fresh
 
   begun_holds : (all : Lines) (t : Tables) → Agrees (knows known) all → IsSoundAs all given.schema.now t → HoldsIn given w all t t
-  begun_holds all t agrees sound =
-      at_start given w all t sound (subst (λ (b : Held). Agrees (knows b) all) (sym begun_base) agrees) (subst (λ (o : Over). Stands o all) (sym (ap (λ (x : Work). x.view) empty)) (stands all sound.sorted agrees))
-      (ap (λ (x : Work). x.view.lines) empty ∙ ap (λ (o : Over). o.lines) fresh)
+  begun_holds = begun given known view w (ap (λ (o : Over). o.lines) fresh) stands empty
 
   abbrev Begins : Result (Unit {0}) ActStop → Work → Type 0
   Begins result new = (all : Lines) (t : Tables) → HoldsIn given w all t t → Ends result given all t (done a t []) w new t
 
-  comes_known : (outcome : Outcome) (all : Lines) (t : Tables) → ComesOf outcome a (knows w.view.base) given.schema.now all t → ComesOf outcome a (knows known) given.schema.now all t
-  comes_known outcome all t h = subst (λ (b : Held). ComesOf outcome a (knows b) given.schema.now all t) begun_base h
+  -- what was done is told without what is known
+  told : (new : Work) (outcome : Outcome) (one other : Knowledge) (all : Lines) (t : Tables) → Finishes outcome new → ComesOf outcome a one given.schema.now all t → ComesOf outcome a other given.schema.now all t
+  told new (Done what) one other all t is h = h
+  told new (Refused refusal keys) one other all t is h = absurd is
+  told new (Missing needs) one other all t is h = absurd is
+  told new (Bad key) one other all t is h = h
+  told new NoMemory one other all t is h = tt
 
   -- an action that was done
   pub act_done : (new : Work) (outcome : Outcome) → Finishes outcome new → Begins (Ok tt) new → Comes outcome a (knows known) given.schema.now
   act_done new outcome is runs all t agrees sound =
-      comes_known outcome all t
+      told new outcome (knows w.view.base) (knows known) all t is
       (comes_done given a w new all t (ap (λ (x : Work). x.lines) empty) (ap (λ (x : Work). x.given) empty) outcome is (runs all t (begun_holds all t agrees sound)))
 
   -- an action that stopped
-  pub act_stopped : (new : Work) (outcome : Outcome) (why : ActStop) → StopsAs outcome why new.given (knows w.view.base) → Begins (Err why) new → Comes outcome a (knows known) given.schema.now
-  act_stopped new outcome why is runs all t agrees sound =
-      comes_known outcome all t
-      (comes_stopped given a w new all t (ap (λ (x : Work). x.lines) empty) (ap (λ (x : Work). x.given) empty) outcome why is sound (runs all t (begun_holds all t agrees sound)))
+  pub act_stopped : (new : Work) (outcome : Outcome) (why : ActStop) → StopsAs outcome why new.given (knows known) → LacksToo sees known why → Begins (Err why) new → Comes outcome a (knows known) given.schema.now
+  act_stopped new outcome why is too runs all t agrees sound =
+      comes_stopped given a w new all t (ap (λ (x : Work). x.lines) empty) (ap (λ (x : Work). x.given) empty) known sees begun_base outcome why is too sound (runs all t (begun_holds all t agrees sound))
 
   abbrev KeepsTo : Result (Unit {0}) ActStop → Work → Type 0
   KeepsTo result new = (all : Lines) (t : Tables) → HoldsIn given w all t t → KeepsFor t (act_uses a []) w.view new.view result

@@ -48,7 +48,7 @@ use Rattle.rdo_acts.specs.Selections.{chosen_in_items, chosen_in_act, chosen_in_
 use Rattle.rdo_acts.specs.Stops.{stop_of_select}
 use Rattle.rdo_acts.specs.Told.{Finishes, StopsAs}
 use Rattle.rdo_acts.proofs.Viewing.{shows, sound_view}
-use Rattle.rdo_acts.proofs.ActEnds.{at_start}
+use Rattle.rdo_acts.proofs.ActEnds.{begun}
 
 -- ---- selections and values
 
@@ -143,14 +143,10 @@ module _ (t : Tables) (sources : Listed) (cs : List Chosen) where
   finished_among (outcome.Bad key) w is = tt
   finished_among outcome.NoMemory w is = tt
 
-module _ (given : Given) (a : Act) (known : Held) (view : Over) (w : Work) (fresh : view ≡ record { base = known; lines = []; areas = [] })
-    (stands : (first : Lines) → IsInOrder first → Agrees (knows known) first → Stands view first) (empty : w ≡ record { view = view; lines = []; given = [] }) where
+module _ (given : Given) (a : Act) (known : Held) (view : Over) (w : Work) (fresh : view.lines ≡ []) (stands : (first : Lines) → IsInOrder first → Agrees (knows known) first → Stands view first)
+    (empty : w ≡ record { view = view; lines = []; given = [] }) where
   begun_view : (all : Lines) (t : Tables) → Agrees (knows known) all → IsSoundAs all given.schema.now t → IsSoundView w.view given.schema.now t all
-  begun_view all t agrees sound =
-      let base : w.view.base ≡ known = ap (λ (x : Work). x.view.base) empty ∙ ap (λ (o : Over). o.base) fresh in
-      sound_view given w all t t
-      (at_start given w all t sound (subst (λ (b : Held). Agrees (knows b) all) (sym base) agrees) (subst (λ (o : Over). Stands o all) (sym (ap (λ (x : Work). x.view) empty)) (stands all sound.sorted agrees))
-      (ap (λ (x : Work). x.view.lines) empty ∙ ap (λ (o : Over). o.lines) fresh))
+  begun_view all t agrees sound = sound_view given w all t t (begun given known view w fresh stands empty all t agrees sound)
 
   pub act_done_among : (new : Work) (o : Outcome) → Finishes o new → LacksAmong o a (knows known) given
   act_done_among new o is none all t agrees sound = finished_among t given.sources.now.entries (chosen_in_act a []) o new is

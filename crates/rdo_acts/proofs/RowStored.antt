@@ -136,7 +136,7 @@ module _ (given : Given) (s : Range) (as' : List Assignment) (scope : Scope) (ol
     refused_so o o' same h = subst (λ (x : Option Reply). Refuses x known c all start job (stage old) new.given t) (sym same) h
 
     -- a row that can't be stored
-    unwritten : (why : RowRefusal) → IsInTheWay old.view.base target row why → IsUnwrittenAt known c all start job (stage old) t
+    unwritten : (why : RowRefusal) → IsInTheWay old.view.base all target row why → IsUnwrittenAt known c all start job (stage old) t
     unwritten why way = record {
       at = stage old;
       name = n;
@@ -156,7 +156,7 @@ module _ (given : Given) (s : Range) (as' : List Assignment) (scope : Scope) (ol
       };
     }
 
-    not_stored : (refusal : RowRefusal) (own : Refusal) → IsRefusalOf refusal target.indexes.now own → IsNotStored old.view.base rel target row refusal → new.given ≡ old.given → Refuses (reply_of own) known c all start job (stage old) new.given t
+    not_stored : (refusal : RowRefusal) (own : Refusal) → IsRefusalOf refusal target.indexes.now own → IsNotStored old.view.base all rel target row refusal → new.given ≡ old.given → Refuses (reply_of own) known c all start job (stage old) new.given t
     not_stored (NoImage unstored.TooLong) own so why same = refused_so (Some r.TooLong) (reply_of own) (ap reply_of so) (too_long why same)
     not_stored (NoImage unstored.Misfit) own so why same = refused_so None (reply_of own) (ap reply_of so) (unwritten (NoImage unstored.Misfit) why)
     not_stored NoRoom own so why same = refused_so None (reply_of own) (ap reply_of so) (unwritten NoRoom (subst (λ (area : ℕ). AreRoomsKnown known area target.class all_rooms) is.is.area why))

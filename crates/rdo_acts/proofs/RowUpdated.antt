@@ -178,7 +178,7 @@ module _ (given : Given) (v : Name) (as' : List Assignment) (scope : Scope) (old
       refused_so o o' same h = subst (λ (x : Option Reply). Refuses x known c all start job (stage old) new.given t) (sym same) h
 
       -- a row that can't be changed so
-      unchanged : (why : RowRefusal) → IsInTheWay old.view.base target row why → IsUnwrittenAt known c all start job (stage old) t
+      unchanged : (why : RowRefusal) → IsInTheWay old.view.base all target row why → IsUnwrittenAt known c all start job (stage old) t
       unchanged why way = record {
         at = stage old;
         name = b.relation;
@@ -198,7 +198,7 @@ module _ (given : Given) (v : Name) (as' : List Assignment) (scope : Scope) (old
         };
       }
 
-      not_changed : (refusal : RowRefusal) (own : Refusal) → IsRefusalOf refusal target.indexes.now own → IsNotChanged old.view.base rel target k row refusal → new.given ≡ old.given → Refuses (reply_of own) known c all start job (stage old) new.given t
+      not_changed : (refusal : RowRefusal) (own : Refusal) → IsRefusalOf refusal target.indexes.now own → IsNotChanged old.view.base all rel target k row refusal → new.given ≡ old.given → Refuses (reply_of own) known c all start job (stage old) new.given t
       not_changed (NoImage unstored.TooLong) own so why same = refused_so (Some r.TooLong) (reply_of own) (ap reply_of so) (too_long why same)
       not_changed (NoImage unstored.Misfit) own so why same = refused_so None (reply_of own) (ap reply_of so) (unchanged (NoImage unstored.Misfit) why)
       not_changed NoRoom own so why same = absurd why
@@ -206,7 +206,7 @@ module _ (given : Given) (v : Name) (as' : List Assignment) (scope : Scope) (old
       not_changed (Pair at pair.LongKey) own so why same = refused_so None (reply_of own) (ap reply_of so) (unchanged (Pair at pair.LongKey) (why.index, why.stands, why.refused))
       not_changed (Pair at pair.Full) own so why same = refused_so None (reply_of own) (ap reply_of so) (unchanged (Pair at pair.Full) (why.index, why.stands, why.refused))
 
-      stops_changing : (stop : RowStop) (own : ActStop) → IsStopOfRow stop target.indexes.now own → Stops (Lacks known) (λ at. ⊥) (IsNotChanged old.view.base rel target k row) stop → new.given ≡ old.given → Ends (Err own) given all start job old new t
+      stops_changing : (stop : RowStop) (own : ActStop) → IsStopOfRow stop target.indexes.now own → Stops (Lacks known) (λ at. ⊥) (IsNotChanged old.view.base all rel target k row) stop → new.given ≡ old.given → Ends (Err own) given all start job old new t
       stops_changing (Missing need) own so stopped same = subst (λ (x : ActStop). Ends (Err x) given all start job old new t) (sym so) stopped
       stops_changing (Bad key) own so stopped same = absurd stopped
       stops_changing NoMemory own so stopped same = subst (λ (x : ActStop). Ends (Err x) given all start job old new t) (sym so) tt
@@ -266,7 +266,7 @@ variable_there t scope v is item =
 
 -- what `change_row` says of one map
 abbrev Changes : Catalog → Name → Rows → Tables → Lines → Over → Over → TargetRelation → Dbkey → Row → Result (Unit {0}) RowStop → Type 0
-Changes c n rel t first old new r key row = Answers (λ u. IsChanged new c n rel t first r key row) (Lacks (knows old.base)) (λ at. ⊥) (IsNotChanged old.base rel r key row)
+Changes c n rel t first old new r key row = Answers (λ u. IsChanged new c n rel t first r key row) (Lacks (knows old.base)) (λ at. ⊥) (IsNotChanged old.base first rel r key row)
 
 -- what `row_now` says
 abbrev pub Found : Given → Over → BoundRow → Result (TargetRelation × Option Row) (Stop Never) → Type 0

@@ -62,7 +62,7 @@ use Rattle.rdo_acts.specs.Wanted.{IsNodeIn, IsOneOf, ActWants, ActsWant, Then, I
 use Rattle.rdo_acts.specs.Stops.{stop_of_select}
 use Rattle.rdo_acts.specs.Told.{Finishes, StopsAs}
 use Rattle.rdo_acts.proofs.Viewing.{shows, sound_view}
-use Rattle.rdo_acts.proofs.ActEnds.{at_start}
+use Rattle.rdo_acts.proofs.ActEnds.{begun}
 use Rattle.rdo_acts.proofs.RowMade.{stored_values}
 use Rattle.rdo_acts.proofs.Lacking.{stops_left, stops_right, selection_among, one_schema_of}
 
@@ -266,17 +266,11 @@ pub begin_wants : (given : Given) (all : Lines) (t : Tables) (a : Act) (result :
 begin_wants given all t a (Ok done) h = tt
 begin_wants given all t a (Err why) h = no_variables given all t a why h
 
-module _ (given : Given) (a : Act) (known : Held) (view : Over) (w : Work) (fresh : view ≡ record { base = known; lines = []; areas = [] })
-    (stands : (first : Lines) → IsInOrder first → Agrees (knows known) first → Stands view first) (empty : w ≡ record { view = view; lines = []; given = [] }) where
-  begun : (all : Lines) (t : Tables) → Agrees (knows known) all → IsSoundAs all given.schema.now t → HoldsIn given w all t t
-  begun all t agrees sound =
-      let base : w.view.base ≡ known = ap (λ (x : Work). x.view.base) empty ∙ ap (λ (o : Over). o.base) fresh in
-      at_start given w all t sound (subst (λ (b : Held). Agrees (knows b) all) (sym base) agrees) (subst (λ (o : Over). Stands o all) (sym (ap (λ (x : Work). x.view) empty)) (stands all sound.sorted agrees))
-      (ap (λ (x : Work). x.view.lines) empty ∙ ap (λ (o : Over). o.lines) fresh)
-
+module _ (given : Given) (a : Act) (known : Held) (view : Over) (w : Work) (fresh : view.lines ≡ []) (stands : (first : Lines) → IsInOrder first → Agrees (knows known) first → Stands view first)
+    (empty : w ≡ record { view = view; lines = []; given = [] }) where
   pub act_done_wanted : (new : Work) (o : Outcome) → Finishes o new → WantsSo o a (knows known) given
   act_done_wanted new o is all t agrees sound = finished_wanted given all t a o new is
 
   pub act_stopped_wanted : (then : Knowledge) (keys : List Dbkey) (o : Outcome) (why : ActStop) → StopsAs o why keys then
       → ((all : Lines) (t : Tables) → HoldsIn given w all t t → Lacking {T = Unit {0}} {E = Refusal} (λ need. Then given all t (λ u. ActWants u given.sources.now.entries a [] need)) (Err why)) → WantsSo o a (knows known) given
-  act_stopped_wanted then keys o why is wants all t agrees sound = stopped_wanted given all t a o why keys then is (wants all t (begun all t agrees sound))
+  act_stopped_wanted then keys o why is wants all t agrees sound = stopped_wanted given all t a o why keys then is (wants all t (begun given known view w fresh stands empty all t agrees sound))

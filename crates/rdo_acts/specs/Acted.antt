@@ -41,7 +41,7 @@ IsActedOver acted a c all t = (word : List ℕ) (standing : Standing) → act_re
 abbrev pub IsRefusedOver : Option Reply → List Dbkey → Act → Knowledge → Catalog → Lines → Tables → Type 0
 IsRefusedOver (Some reply) given a known c all t = (word : List ℕ) (standing : Standing) → act_refusal a standing t ≡ None →
     IsRightOver word standing (perform a) (said_refused reply given) all t
-IsRefusedOver None given a known c all t = IsUnwrittenOver known c a t
+IsRefusedOver None given a known c all t = IsUnwrittenOver known all c a t
 
 -- What comes of an action over a map that is sound with this catalog and has these tables, and with which what is known agrees: it is done, or refused; or none of the needs is known; a line is never bad, and want of memory says nothing.
 abbrev pub ComesOf : Outcome → Act → Knowledge → Catalog → Lines → Tables → Type 0

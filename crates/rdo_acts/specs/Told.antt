@@ -1,11 +1,12 @@
 -- How the end of the work is told.
-use Rattle.std.specs.Prelude.{◌≡◌, ◌⊎◌, true, List, ◌∷◌, map}
+use Rattle.std.specs.Prelude.{◌≡◌, ◌⊎◌, true, List, ◌∷◌, map, None}
 use Rattle.std.specs.List.{AllByRecursion}
 use Rattle.std.specs.List.Sorted.{IsStrictlySortedBy}
 use Rattle.rdb_types.specs.declared.keys.Dbkey.{Dbkey}
 use Rattle.rdb_types.specs.Order.{dbkey_order}
 use Rattle.line_view.specs.declared.stop.Stop.TheVariants as stop
 use Rattle.line_view.specs.declared.need.Need.{Need}
+use Rattle.line_view.specs.declared.need.Need.TheVariants.{Line, Area, Room}
 use Rattle.line_view.specs.Knowledge.{Knowledge, Lines}
 use Rattle.line_view.specs.Writes.{laid_all}
 use Rattle.statement_view.specs.Over.{laid_over, is_written}
@@ -37,6 +38,13 @@ pub record IsLacking (outcome : Outcome) (known : Knowledge) (first : Need) : Ty
   pub behind : List Need
   pub is : outcome ≡ Missing (first ∷ behind)
   pub ahead : AreAhead known first behind
+
+-- a need that work lacked which sees no area isn't known either
+abbrev pub LacksStill : Knowledge → ActStop → Type 0
+LacksStill known (stop.Missing (Line key)) = Unit {0}
+LacksStill known (stop.Missing (Area area)) = known.area area ≡ None
+LacksStill known (stop.Missing (Room room)) = Unit {0}
+LacksStill known _ = Unit {0}
 
 -- Work that stopped, where these Dbkeys were given before and this is known; needs are told unless there is no memory for it.
 abbrev pub StopsAs : Outcome → ActStop → List Dbkey → Knowledge → Type 0

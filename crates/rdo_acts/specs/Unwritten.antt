@@ -28,16 +28,16 @@ abbrev pub IsIndexAt : TargetRelation → ℕ → (IndexLine → Type 0) → Typ
 IsIndexAt r at P = (x : IndexLine) × (slice_get r.indexes.now at ≡ Some x) × P x
 
 -- What is in the way of a row: its values are none of a row of the relation, or its key is none of an index; or all numbers of rooms of the relation are known; or an index can't grow.
-abbrev pub IsInTheWay : Held → TargetRelation → Row → RowRefusal → Type 0
-IsInTheWay base r row (NoImage Misfit) = IsRowFor r.stored.version r.stored.fields.now row → ⊥
-IsInTheWay base r row (NoImage TooLong) = ⊥
-IsInTheWay base r row NoRoom = AreRoomsKnown (knows base) r.stored.area r.class all_rooms
-IsInTheWay base r row (Pair at Duplicate) = ⊥
-IsInTheWay base r row (Pair at LongKey) = IsIndexAt r at (λ x. IsLongKey x row)
-IsInTheWay base r row (Pair at Full) = IsIndexAt r at (CanNotGrow base)
+abbrev pub IsInTheWay : Held → Lines → TargetRelation → Row → RowRefusal → Type 0
+IsInTheWay base first r row (NoImage Misfit) = IsRowFor r.stored.version r.stored.fields.now row → ⊥
+IsInTheWay base first r row (NoImage TooLong) = ⊥
+IsInTheWay base first r row NoRoom = AreRoomsKnown (knows base) r.stored.area r.class all_rooms
+IsInTheWay base first r row (Pair at Duplicate) = ⊥
+IsInTheWay base first r row (Pair at LongKey) = IsIndexAt r at (λ x. IsLongKey x row)
+IsInTheWay base first r row (Pair at Full) = IsIndexAt r at (CanNotGrow base first)
 
--- The row can't be written into the relation of this name in the catalog.
-pub record IsUnwritable (known : Knowledge) (c : Catalog) (n : Name) (row : Row) : Type 0 where
+-- The row can't be written into the relation of this name in the catalog, over this map of the start.
+pub record IsUnwritable (known : Knowledge) (first : Lines) (c : Catalog) (n : Name) (row : Row) : Type 0 where
   pub relation : Relation
   pub there : option_map bare (relation_named n c.tables) ≡ Some (bare relation)
   pub target : TargetRelation
@@ -45,7 +45,7 @@ pub record IsUnwritable (known : Knowledge) (c : Catalog) (n : Name) (row : Row)
   pub base : Held
   pub same : knows base ≡ known
   pub why : RowRefusal
-  pub in_the_way : IsInTheWay base target row why
+  pub in_the_way : IsInTheWay base first target row why
 
 -- From this stage on the job comes to the writing of such a row: one that is stored, or that of this Dbkey changed.
 pub record IsUnwrittenAt (known : Knowledge) (c : Catalog) (all : Lines) (start : Tables) (job : World → Ran) (from : Stage) (t : Tables) : Type 0 where
@@ -55,10 +55,10 @@ pub record IsUnwrittenAt (known : Knowledge) (c : Catalog) (all : Lines) (start 
   pub row : Row
   pub rest : World → Ran
   pub goes : Goes known c all start job (λ w. writing name row own w (rest w)) from at t
-  pub unwritable : IsUnwritable known c name row
+  pub unwritable : IsUnwritable known all c name row
 
 -- What the action means over these tables comes to the writing of such a row, behind the rows that were given these Dbkeys.
-pub record IsUnwrittenOver (known : Knowledge) (c : Catalog) (a : Act) (t : Tables) : Type 0 where
+pub record IsUnwrittenOver (known : Knowledge) (first : Lines) (c : Catalog) (a : Act) (t : Tables) : Type 0 where
   pub given : List Dbkey
   pub now : Tables
   pub lines : List (List Scaled)
@@ -67,4 +67,4 @@ pub record IsUnwrittenOver (known : Knowledge) (c : Catalog) (a : Act) (t : Tabl
   pub row : Row
   pub rest : World → Ran
   pub comes : (left : List Dbkey) → done a t [] (world t (given ++ left) []) ≡ writing name row own (world now left lines) (rest (world now left lines))
-  pub unwritable : IsUnwritable known c name row
+  pub unwritable : IsUnwritable known first c name row

@@ -14,14 +14,14 @@ ghost use Rattle.rdo_acts.specs.Selections.{chosen_in_act, ReadsAmong, LacksAmon
 ghost use Rattle.rdo_acts.specs.Wanted.{ActWants, Then, Lacking, WantsSo};
 ghost use Rattle.row_writes.specs.Rows.{IsSoundView};
 ghost use Rattle.rdo_acts.specs.Ahead.{AreAhead};
-ghost use Rattle.rdo_acts.specs.Told.{Finishes, IsLacking, StopsAs};
+ghost use Rattle.rdo_acts.specs.Told.{Finishes, IsLacking, LacksStill, StopsAs};
 
 use crate::ahead::Batch;
 use crate::looking::{Sight, lines_ahead, rows_ahead};
 use crate::running::run_action;
 use crate::stop::{ActStop, Refusal};
 use crate::work::{Given, Work};
-use line_view::{Known, Need, Stop, Writes};
+use line_view::{Known, Need, Stop, View, Writes};
 use rdb_types::{Dbkey, Items, Keys, NoMemory, PrintedRows};
 use rdo_bind::BoundAction;
 use statement_view::Changed;
@@ -59,7 +59,11 @@ pub struct Ended<'a> {
 }
 
 // The action behind no variables.
-fn begin<'a>(given: &Given<'a>, action: &BoundAction, work: &mut Work) -> Result<(), ActStop<'a>>
+fn begin<'a>(
+    given: &Given<'a>,
+    action: &BoundAction,
+    work: &mut Work<'_>,
+) -> Result<(), ActStop<'a>>
     requires together { GoTogether given.now }
     requires bound { IsBoundAct (act_of action.now) given.now.schema.now.tables [] }
     ensures runs { (all : Lines) (t : Kept) → HoldsIn given.now work.old all t t → Ends result given.now all t (doing (written_act action.now) t []) work.old work.new t }
@@ -147,45 +151,82 @@ fn stopped<'a>(
     }
 }
 
-fn finished<'a>(alloc: Global, work: Work) -> Ended<'a>
-    ensures known { result.known ≡ work.view.base }
-    ensures outcome { Finishes result.outcome work }
+// Whether work that sees no area misses one whose lines are known.
+fn misses_known_area(known: &Known, stop: &ActStop<'_>) -> bool
+    ensures { result ≡ false → LacksStill (knows known.now) stop.now }
+{
+    match stop {
+        Stop::Missing(Need::Area(area)) => known.area(*area).is_some(),
+        _ => false,
+    }
+}
+
+fn finished<'a>(alloc: Global, work: Work<'_>) -> Outcome<'a>
+    ensures { Finishes result work.entry }
 {
     let Work { view, lines, given } = work;
-    let (known, writes) = view.finish(alloc);
-    match writes {
-        Ok(writes) => Ended {
-            known,
-            outcome: Outcome::Done(Acted {
-                lines,
-                given,
-                writes,
-            }),
-        },
-        Err(_) => Ended {
-            known,
-            outcome: Outcome::NoMemory,
-        },
+    match view.finish(alloc) {
+        Ok(writes) => Outcome::Done(Acted {
+            lines,
+            given,
+            writes,
+        }),
+        Err(_) => Outcome::NoMemory,
     }
 }
 
 fn abandoned<'a>(
     given: &Given<'a>,
+    known: &Known,
     action: &BoundAction,
-    work: Work,
+    work: Work<'_>,
     stop: ActStop<'a>,
-) -> Ended<'a>
-    ensures known { result.known ≡ work.view.base }
-    ensures outcome { StopsAs result.outcome stop.entry work.given (knows work.view.base) }
+) -> Outcome<'a>
+    ensures { StopsAs result stop.entry work.entry.given (knows known.now) }
 {
-    let Work {
-        view,
-        given: stored,
-        ..
-    } = work;
-    let known = view.into_known();
-    let outcome = stopped(given, &known, action, stop, stored);
-    Ended { known, outcome }
+    let Work { given: stored, .. } = work;
+    stopped(given, known, action, stop, stored)
+}
+
+// Does an action that reads areas.
+fn act_seeing<'a>(given: &Given<'a>, known: &Known, action: &BoundAction) -> Outcome<'a>
+    requires together { GoTogether given.now }
+    requires bound { IsBoundAct (act_of action.now) given.now.schema.now.tables [] }
+    ensures comes { Comes result (written_act action.now) (knows known.now) given.now.schema.now }
+    ensures ordered { IsOrdered result }
+    ensures needs { NamesNeeds result (knows known.now) }
+    ensures areas { StaysFor result (written_act action.now) (knows known.now) given.now.schema.now }
+    ensures lacks { LacksAmong result (act_of action.now) (knows known.now) given.now }
+    ensures wants { WantsSo result (act_of action.now) (knows known.now) given.now }
+{
+    let mut work = Work::new(given.alloc, Changed::new(given.alloc, known));
+    match begin(given, action, &mut work) {
+        Ok(()) => finished(given.alloc, work),
+        Err(stop) => abandoned(given, known, action, work, stop),
+    }
+}
+
+// Does an action, first as one that reads no area, so that no write copies which lines its area has.
+fn act_over<'a>(given: &Given<'a>, known: &Known, action: &BoundAction) -> Outcome<'a>
+    requires together { GoTogether given.now }
+    requires bound { IsBoundAct (act_of action.now) given.now.schema.now.tables [] }
+    ensures comes { Comes result (written_act action.now) (knows known.now) given.now.schema.now }
+    ensures ordered { IsOrdered result }
+    ensures needs { NamesNeeds result (knows known.now) }
+    ensures areas { StaysFor result (written_act action.now) (knows known.now) given.now.schema.now }
+    ensures lacks { LacksAmong result (act_of action.now) (knows known.now) given.now }
+    ensures wants { WantsSo result (act_of action.now) (knows known.now) given.now }
+{
+    let mut work = Work::new(given.alloc, Changed::without_areas(given.alloc, known));
+    match begin(given, action, &mut work) {
+        Ok(()) => finished(given.alloc, work),
+        Err(stop) => {
+            if misses_known_area(known, &stop) {
+                return act_seeing(given, known, action);
+            }
+            abandoned(given, known, action, work, stop)
+        }
+    }
 }
 
 /// Does an action over what is known, whose rooms were forgotten at the beginning of the statement. The action is bound to the catalog of the schema, and the sources are the schema's. What was known is given back.
@@ -200,9 +241,6 @@ pub fn act<'a>(given: &Given<'a>, known: Known, action: &BoundAction) -> Ended<'
     ensures lacks { LacksAmong result.outcome (act_of action.now) (knows known) given.now }
     ensures wants { WantsSo result.outcome (act_of action.now) (knows known) given.now }
 {
-    let mut work = Work::new(given.alloc, Changed::new(given.alloc, known));
-    match begin(given, action, &mut work) {
-        Ok(()) => finished(given.alloc, work),
-        Err(stop) => abandoned(given, action, work, stop),
-    }
+    let outcome = act_over(given, &known, action);
+    Ended { known, outcome }
 }

@@ -33,7 +33,7 @@ fn put(row: &mut Row, place: usize, value: Value)
 
 fn assign_one<'a>(
     given: &Given<'a>,
-    view: &Changed,
+    view: &Changed<'_>,
     fields: &[Field],
     assign: &BoundAssign,
     values: &Row,
@@ -65,7 +65,7 @@ fn assign_one<'a>(
 /// Computes each value and makes it fit, in the order of the text, on the rows as they are before this one is written. `values` has the values of all variables.
 pub(crate) fn assign_all<'a>(
     given: &Given<'a>,
-    view: &Changed,
+    view: &Changed<'_>,
     fields: &[Field],
     assigns: &[BoundAssign],
     values: &Row,

@@ -83,7 +83,7 @@ fn one_value(alloc: Global, value: Scaled) -> Result<Printed, NoMemory>
 
 fn item_line<'a>(
     given: &Given<'a>,
-    view: &Changed,
+    view: &Changed<'_>,
     item: &BoundPrintItem,
     values: &Row,
 ) -> Result<Printed, ActStop<'a>>
@@ -107,7 +107,7 @@ fn item_line<'a>(
 
 fn printed_line<'a>(
     given: &Given<'a>,
-    view: &Changed,
+    view: &Changed<'_>,
     items: &[BoundPrintItem],
     values: &Row,
 ) -> Result<Printed, ActStop<'a>>
@@ -130,7 +130,7 @@ pub(crate) fn print<'a>(
     given: &Given<'a>,
     items: &[BoundPrintItem],
     values: &Row,
-    work: &mut Work,
+    work: &mut Work<'_>,
 ) -> Result<(), ActStop<'a>>
     requires { GoTogether given.now }
     ensures runs { (scope : Scope) → All (IsBoundItem given.now.schema.now.tables (variables_of scope)) items.now → Runs result given.now scope values.now (prints (map written_item items.now) scope) work.old work.new }

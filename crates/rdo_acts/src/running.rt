@@ -55,7 +55,7 @@ pub(crate) fn run_action<'a, 'b>(
     scope: &[BoundRow<'b>],
     values: &Row,
     action: &'b BoundAction,
-    work: &mut Work,
+    work: &mut Work<'_>,
 ) -> Result<(), ActStop<'a>>
     requires together { GoTogether given.now }
     requires rows { AreRowsOf given.now.schema.now.tables scope.now }
@@ -102,7 +102,7 @@ fn run_over<'a, 'b>(
     ranges: &'b [BoundRange],
     tuples: &[Found],
     body: &'b [BoundAction],
-    work: &mut Work,
+    work: &mut Work<'_>,
 ) -> Result<(), ActStop<'a>>
     requires together { GoTogether given.now }
     requires rows { AreRowsOf given.now.schema.now.tables scope.now }
@@ -132,7 +132,7 @@ fn run_body<'a, 'b>(
     values: &Row,
     writing: bool,
     body: &'b [BoundAction],
-    work: &mut Work,
+    work: &mut Work<'_>,
 ) -> Result<(), ActStop<'a>>
     requires together { GoTogether given.now }
     requires rows { AreRowsOf given.now.schema.now.tables scope.now }
@@ -158,7 +158,7 @@ fn run_anew<'a, 'b>(
     given: &Given<'a>,
     scope: &[BoundRow<'b>],
     body: &'b [BoundAction],
-    work: &mut Work,
+    work: &mut Work<'_>,
 ) -> Result<(), ActStop<'a>>
     requires together { GoTogether given.now }
     requires rows { AreRowsOf given.now.schema.now.tables scope.now }
@@ -185,7 +185,7 @@ fn run_reading<'a, 'b>(
     scope: &[BoundRow<'b>],
     values: &Row,
     body: &'b [BoundAction],
-    work: &mut Work,
+    work: &mut Work<'_>,
 ) -> Result<(), ActStop<'a>>
     requires together { GoTogether given.now }
     requires rows { AreRowsOf given.now.schema.now.tables scope.now }

@@ -40,7 +40,7 @@ pub(crate) type BoundRows<'a> = Items<BoundRow<'a>>;
 /// The row of a relation at a Dbkey, if there is one and it has a row. Rows stand in the relation's logical area.
 pub(crate) fn row_at(
     alloc: Global,
-    view: &Changed,
+    view: &Changed<'_>,
     relation: &StoredRelation<'_>,
     key: Option<Dbkey>,
 ) -> Result<Option<Row>, Stop<Never>>
@@ -69,7 +69,11 @@ pub(crate) fn missing_row(alloc: Global, width: usize) -> Result<Row, NoMemory>
 }
 
 // The values of a variable's row, missing ones where it has none any more.
-fn values_of(given: &Given<'_>, view: &Changed, variable: BoundRow<'_>) -> Result<Row, Stop<Never>>
+fn values_of(
+    given: &Given<'_>,
+    view: &Changed<'_>,
+    variable: BoundRow<'_>,
+) -> Result<Row, Stop<Never>>
     requires together { GoTogether given.now }
     requires row { AreRowsOf given.now.schema.now.tables (variable ∷ []) }
     ensures values { (first : Lines) (t : Kept) → IsSoundView view.now given.now.schema.now t first → Computes result view.now (λ values. values ≡ row_of t (scope_of (variable.entry ∷ []))) (λ never. ⊥) }
@@ -89,7 +93,7 @@ fn values_of(given: &Given<'_>, view: &Changed, variable: BoundRow<'_>) -> Resul
 /// The values of all variables as their rows are now, the outermost first.
 pub(crate) fn values_now(
     given: &Given<'_>,
-    view: &Changed,
+    view: &Changed<'_>,
     scope: &[BoundRow<'_>],
 ) -> Result<Row, Stop<Never>>
     requires together { GoTogether given.now }

@@ -32,7 +32,7 @@ use statement_view::Changed;
 // A field that isn't assigned is missing, and so are the values of the variable that is stored.
 fn new_row<'a>(
     given: &Given<'a>,
-    view: &Changed,
+    view: &Changed<'_>,
     fields: &[Field],
     assigns: &[BoundAssign],
     values: &Row,
@@ -59,7 +59,7 @@ pub(crate) fn store<'a>(
     range: &BoundRange,
     assigns: &[BoundAssign],
     values: &Row,
-    work: &mut Work,
+    work: &mut Work<'_>,
 ) -> Result<(), ActStop<'a>>
     requires together { GoTogether given.now }
     requires there { IsSome (relation_named range.now.range.relation given.now.schema.now.tables) }

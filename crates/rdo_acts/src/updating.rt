@@ -31,7 +31,7 @@ use row_writes::{TargetRelation, change_row, erase_row};
 fn row_now<'a>(
     given: &Given<'a>,
     variable: BoundRow<'_>,
-    work: &Work,
+    work: &Work<'_>,
 ) -> Result<(TargetRelation<'a>, Option<Row>), Stop<Never>>
     requires { AreRowsOf given.now.schema.now.tables (variable ∷ []) }
     ensures row { (first : Lines) (t : Kept) (table : Table) → IsSoundView work.now.view given.now.schema.now t first → relation_named variable.entry.range.now.range.relation t ≡ Some table
@@ -53,7 +53,7 @@ pub(crate) fn modify<'a>(
     variable: &BoundVariable,
     assigns: &[BoundAssign],
     values: &Row,
-    work: &mut Work,
+    work: &mut Work<'_>,
 ) -> Result<(), ActStop<'a>>
     requires together { GoTogether given.now }
     requires rows { AreRowsOf given.now.schema.now.tables scope.now }
@@ -88,7 +88,7 @@ pub(crate) fn erase<'a>(
     given: &Given<'a>,
     scope: &[BoundRow<'_>],
     variable: &BoundVariable,
-    work: &mut Work,
+    work: &mut Work<'_>,
 ) -> Result<(), ActStop<'a>>
     requires rows { AreRowsOf given.now.schema.now.tables scope.now }
     requires bound { IsBoundAct (erase_act variable.now) given.now.schema.now.tables (variables_of (scope_of scope.now)) }

@@ -17,16 +17,16 @@ pub struct Given<'a> {
 
 /// What a statement has done so far: its view, the lines that it printed, and the Dbkeys that its stored rows got.
 #[derive(Drop)]
-pub(crate) struct Work {
-    pub view: Changed,
+pub(crate) struct Work<'k> {
+    pub view: Changed<'k>,
     pub lines: PrintedRows,
     pub given: Keys,
 }
 
-impl Work {
+impl<'k> Work<'k> {
     /// Nothing is done.
-    pub fn new(alloc: Global, view: Changed) -> Work
-        ensures { result ≡ record { view = view; lines = []; given = [] } }
+    pub fn new(alloc: Global, view: Changed<'k>) -> Work<'k>
+        ensures { result ≡ record { view = view.entry; lines = []; given = [] } }
     {
         Work {
             view,

@@ -55,7 +55,7 @@ no_catalog_tables : (c : Catalog) → IsCatalogOf [] c → c.tables ≡ no_table
 no_catalog_tables c decodes = decodes.tables ∙ ap catalog_tables (lines_none c.lines decodes.lines.keys)
 
 -- there is no relation whose row can't be written
-none_there : (a : Act) (known : Knowledge) (c : Catalog) → IsCatalogOf [] c → IsUnwrittenOver known c a no_tables → ⊥
+none_there : (a : Act) (known : Knowledge) (c : Catalog) → IsCatalogOf [] c → IsUnwrittenOver known [] c a no_tables → ⊥
 none_there a known c decodes h =
     let same : c.tables ≡ no_tables = no_catalog_tables c decodes in
     let there = subst (λ (t : Tables). option_map bare (relation_named h.name t) ≡ Some (bare (h.unwritable).relation)) same (h.unwritable).there in

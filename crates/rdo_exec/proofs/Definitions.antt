@@ -135,17 +135,17 @@ module _ (word : List ℕ) (standing : Standing) (command : Command) (c : Catalo
       stands = sound;
     })
 
-    module _ (free : Tables → Type 0) (own : Tables → SchemaRefusal → Type 0) (tells : (t : Tables) (reply : Reply) → own t (Refused reply) → refusal t ≡ Some reply)
-        (causes : (why : SchemaRefusal) (all : Lines) (t : Tables) → Agrees known all → IsUnasked why → own t why → IsLeftOver word standing item known all t) where
-      unmade : (why : SchemaRefusal) (f : Found) → IsUnmade why standing f → ((all : Lines) (t : Tables) → IsSoundWith all t → Agrees known all → own t why) → Comes word standing item known f
-      unmade (Refused reply) f (inl so) h = subst (λ (x : Found). Comes word standing item known x) (sym so) (refused_so reply (λ all t sound agrees. tells t reply (h all t sound agrees)))
+    module _ (free : Tables → Type 0) (own : Lines → Tables → SchemaRefusal → Type 0) (tells : (all : Lines) (t : Tables) (reply : Reply) → own all t (Refused reply) → refusal t ≡ Some reply)
+        (causes : (why : SchemaRefusal) (all : Lines) (t : Tables) → Agrees known all → IsUnasked why → own all t why → IsLeftOver word standing item known all t) where
+      unmade : (why : SchemaRefusal) (f : Found) → IsUnmade why standing f → ((all : Lines) (t : Tables) → IsSoundWith all t → Agrees known all → own all t why) → Comes word standing item known f
+      unmade (Refused reply) f (inl so) h = subst (λ (x : Found). Comes word standing item known x) (sym so) (refused_so reply (λ all t sound agrees. tells all t reply (h all t sound agrees)))
       unmade (Refused reply) f (inr so) h = says_nothing word standing item known f so
       unmade NoRoom f so h = left word standing item known f so (λ all t sound agrees. causes NoRoom all t agrees tt (h all t sound agrees))
       unmade Full f so h = left word standing item known f so (λ all t sound agrees. causes Full all t agrees tt (h all t sound agrees))
 
       -- what a job comes to by what comes of its definition
       pub comes_of_definition : (end : Result (Unit {0}) SchemaStop) (f : Found) → IsWritten end new standing f →
-          ((t : Tables) (all : Lines) → IsSoundView old c t all → Answers (λ u. IsCarriedOut new (refusal t) (after command t) all) (λ need. free t × Lacks (knows old.base) need) (λ key. ⊥) (own t) end) →
+          ((t : Tables) (all : Lines) → IsSoundView old c t all → Answers (λ u. IsCarriedOut new (refusal t) (after command t) all) (λ need. free t × Lacks (knows old.base) need) (λ key. ⊥) (own all t) end) →
           Comes word standing item known f
       comes_of_definition (Ok done) f (inl so) h = made f so (λ all t sound agrees. h t all (seen all t sound agrees))
       comes_of_definition (Ok done) f (inr so) h = says_nothing word standing item known f so
@@ -164,7 +164,7 @@ module _ (word : List ℕ) (standing : Standing) (command : Command) (c : Catalo
     no_place Full all t agrees asked h = absurd h
 
     pub comes_of_defines : (end : Result (Unit {0}) SchemaStop) (f : Found) → IsWritten end new standing f → Defines old new c refusal (after command) end → Comes word standing item known f
-    comes_of_defines end f written defines = comes_of_definition (λ t. refusal t ≡ None) (λ t. IsNotDefined old.base (refusal t)) (λ t reply h. h) no_place end f written defines
+    comes_of_defines end f written defines = comes_of_definition (λ t. refusal t ≡ None) (λ all t. IsNotDefined old.base (refusal t)) (λ all t reply h. h) no_place end f written defines
 
     pub comes_of_deletes : (end : Result (Unit {0}) (Stop Reply)) (told : Result (Unit {0}) SchemaStop) (f : Found) → told ≡ of_deletion end → IsWritten told new standing f → Deletes old new c refusal (after command) end → Comes word standing item known f
     comes_of_deletes end told f same_end written deletes =
@@ -175,7 +175,7 @@ module _ (word : List ℕ) (standing : Standing) (command : Command) (c : Catalo
 -- ---- why an index isn't defined
 
 module _ (word : List ℕ) (standing : Standing) (c : Catalog) (known : Knowledge) (decodes : IsCatalogOfKnown known c) (d : IndexDefinition) (base : Held) (same : knows base ≡ known) where
-  pub index_causes : (why : SchemaRefusal) (all : Lines) (t : Tables) → Agrees known all → IsUnasked why → IsNotIndexed base c d t why → IsLeftOver word standing (said (define_index d)) known all t
+  pub index_causes : (why : SchemaRefusal) (all : Lines) (t : Tables) → Agrees known all → IsUnasked why → IsNotIndexed base all c d t why → IsLeftOver word standing (said (define_index d)) known all t
   index_causes (Refused reply) all t agrees asked h = absurd asked
   index_causes NoRoom all t agrees asked h = no_index_room d c base refl (decodes all agrees) same h.1
   index_causes Full all t agrees asked h = full_index d c base refl (decodes all agrees) same h.1

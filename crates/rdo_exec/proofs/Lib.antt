@@ -13,3 +13,4 @@ pub mod Asking
 pub mod Viewing
 pub mod Bound
 pub mod FirstNeeds
+pub mod Outside

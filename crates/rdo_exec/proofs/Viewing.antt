@@ -85,7 +85,7 @@ defining_views commit is = absurd is
 defining_views rollback is = absurd is
 defining_views finish is = absurd is
 
-retrieval_begins : (b : Bool) → cond b None (Some r.NoTransaction) ≡ None → cond b (Some ReadOnly) None ≡ None → ⊥
+pub retrieval_begins : (b : Bool) → cond b None (Some r.NoTransaction) ≡ None → cond b (Some ReadOnly) None ≡ None → ⊥
 retrieval_begins true none nothing = let bad : ⊥ = cc in bad
 retrieval_begins false none nothing = let bad : ⊥ = cc in bad
 

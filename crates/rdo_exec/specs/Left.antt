@@ -48,12 +48,12 @@ pub data IsLeftOver (word : List ℕ) (standing : Standing) (item : Uttered) (kn
   -- no script has it
   strange : (command : Command) → item ≡ said command → IsStrange command → IsLeftOver word standing item known all t
   -- what it means comes to the writing of a row that can't be written
-  unwritten : (a : Act) (c : Catalog) → item ≡ said (perform a) → IsCatalogOf all c → IsUnwrittenOver known c a t → IsLeftOver word standing item known all t
+  unwritten : (a : Act) (c : Catalog) → item ≡ said (perform a) → IsCatalogOf all c → IsUnwrittenOver known all c a t → IsLeftOver word standing item known all t
   -- a definition finds all numbers of rooms of the catalog known
   no_room : (command : Command) → item ≡ said command → IsDefining command → AreRoomsKnown known catalog_area (catalog_room 0).class all_rooms → IsLeftOver word standing item known all t
   -- a new index finds all numbers of rooms known, or can't grow
   no_index_room : (d : IndexDefinition) (c : Catalog) (base : Held) → item ≡ said (define_index d) → IsCatalogOf all c → knows base ≡ known → HasNoRoom base c → IsLeftOver word standing item known all t
-  full_index : (d : IndexDefinition) (c : Catalog) (base : Held) → item ≡ said (define_index d) → IsCatalogOf all c → knows base ≡ known → IsFullIn base c → IsLeftOver word standing item known all t
+  full_index : (d : IndexDefinition) (c : Catalog) (base : Held) → item ≡ said (define_index d) → IsCatalogOf all c → knows base ≡ known → IsFullIn base all c → IsLeftOver word standing item known all t
   -- DEFINE INDEX lacks a line that isn't its relation's: one of the new index, for which nobody may ask
   astray : (d : IndexDefinition) (c : Catalog) (need : Need) → item ≡ said (define_index d) → IsCatalogOf all c → Lacks known need → IsElsewhere (relation_named d.relation c.tables) need → IsLeftOver word standing item known all t
 

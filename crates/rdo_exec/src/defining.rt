@@ -104,21 +104,16 @@ fn from_deletion(end: Result<(), Stop<Reply>>) -> Result<(), SchemaStop>
 // What comes of a definition or a deletion that was written into the view, or not.
 fn written(
     alloc: Global,
-    view: Changed,
+    view: Changed<'_>,
     end: Result<(), SchemaStop>,
     standing: &Standing,
-) -> Returned
-    ensures known { result.known ≡ view.base }
-    ensures found { IsWritten end view standing.now result.found }
+) -> Found
+    ensures { IsWritten end view.entry standing.now result }
 {
     if let Err(stop) = end {
-        return Returned {
-            known: view.into_known(),
-            found: refused(alloc, stop, standing),
-        };
+        return refused(alloc, stop, standing);
     }
-    let (known, writes) = view.finish(alloc);
-    let found = match (writes, standing.copied(alloc)) {
+    match (view.finish(alloc), standing.copied(alloc)) {
         (Ok(writes), Ok(standing)) => Found::Done(TxRecord {
             choices: Items::new(alloc),
             reply: done(alloc),
@@ -126,8 +121,7 @@ fn written(
             writes,
         }),
         _ => Found::NoMemory,
-    };
-    Returned { known, found }
+    }
 }
 
 fn is_field_definition(name: &Chars, kind: FieldType) -> bool
@@ -143,20 +137,16 @@ fn field_defined(
     standing: &Standing,
     name: &Chars,
     kind: &FieldType,
-    known: Known,
-) -> Returned
-    requires catalog { IsCatalogOfKnown (knows known) catalog.now }
+    known: &Known,
+) -> Found
+    requires catalog { IsCatalogOfKnown (knows known.now) catalog.now }
     requires whole { IsWhole catalog.now }
     requires writing { needs_read_write standing.now ≡ None }
-    ensures known { result.known ≡ known }
-    ensures asked { Asks standing.now (said (define_field name.now kind.now)) (knows known) result.found }
-    ensures comes { (word : List ℕ) → Comes word standing.now (said (define_field name.now kind.now)) (knows known) result.found }
+    ensures asked { Asks standing.now (said (define_field name.now kind.now)) (knows known.now) result }
+    ensures comes { (word : List ℕ) → Comes word standing.now (said (define_field name.now kind.now)) (knows known.now) result }
 {
     if !is_field_definition(name, *kind) {
-        return Returned {
-            known,
-            found: Found::Unworked,
-        };
+        return Found::Unworked;
     }
     let mut view = Changed::new(alloc, known);
     let end = define_field(alloc, &mut view, catalog, name, kind);
@@ -169,20 +159,16 @@ fn relation_defined(
     standing: &Standing,
     name: &Chars,
     fields: &[FieldDefinition],
-    known: Known,
-) -> Returned
-    requires catalog { IsCatalogOfKnown (knows known) catalog.now }
+    known: &Known,
+) -> Found
+    requires catalog { IsCatalogOfKnown (knows known.now) catalog.now }
     requires whole { IsWhole catalog.now }
     requires writing { needs_read_write standing.now ≡ None }
-    ensures known { result.known ≡ known }
-    ensures asked { Asks standing.now (said (define_relation name.now fields.now)) (knows known) result.found }
-    ensures comes { (word : List ℕ) → Comes word standing.now (said (define_relation name.now fields.now)) (knows known) result.found }
+    ensures asked { Asks standing.now (said (define_relation name.now fields.now)) (knows known.now) result }
+    ensures comes { (word : List ℕ) → Comes word standing.now (said (define_relation name.now fields.now)) (knows known.now) result }
 {
     if !is_relation_definition(name, fields) {
-        return Returned {
-            known,
-            found: Found::Unworked,
-        };
+        return Found::Unworked;
     }
     let mut view = Changed::new(alloc, known);
     let end = define_relation(alloc, &mut view, catalog, name, fields);
@@ -240,38 +226,26 @@ fn index_defined(
     schema: &Schema,
     standing: &Standing,
     definition: &IndexDefinition,
-    known: Known,
-) -> Returned
-    requires catalog { IsCatalogOfKnown (knows known) schema.now }
+    known: &Known,
+) -> Found
+    requires catalog { IsCatalogOfKnown (knows known.now) schema.now }
     requires whole { IsWhole schema.now }
     requires writing { needs_read_write standing.now ≡ None }
-    ensures known { result.known ≡ known }
-    ensures asked { Asks standing.now (said (define_index definition.now)) (knows known) result.found }
-    ensures comes { (word : List ℕ) → Comes word standing.now (said (define_index definition.now)) (knows known) result.found }
+    ensures asked { Asks standing.now (said (define_index definition.now)) (knows known.now) result }
+    ensures comes { (word : List ℕ) → Comes word standing.now (said (define_index definition.now)) (knows known.now) result }
 {
     if !is_index_definition(definition) {
-        return Returned {
-            known,
-            found: Found::Unworked,
-        };
+        return Found::Unworked;
     }
     let catalog = schema.catalog();
     match check_index_comes(alloc, catalog, standing, definition) {
         Ok(()) => {}
-        Err(stop) => {
-            return Returned {
-                known,
-                found: unchecked(alloc, stop, standing),
-            };
-        }
+        Err(stop) => return unchecked(alloc, stop, standing),
     }
     let mut view = Changed::new(alloc, known);
     let end = define_index(alloc, &mut view, schema, definition);
     if lacks_others(&catalog.tables, &definition.relation, &end) {
-        return Returned {
-            known: view.into_known(),
-            found: Found::Unworked,
-        };
+        return Found::Unworked;
     }
     written(alloc, view, end, standing)
 }
@@ -293,23 +267,17 @@ fn relation_deleted(
     catalog: &Catalog,
     standing: &Standing,
     name: &Chars,
-    known: Known,
-) -> Returned
-    requires catalog { IsCatalogOfKnown (knows known) catalog.now }
+    known: &Known,
+) -> Found
+    requires catalog { IsCatalogOfKnown (knows known.now) catalog.now }
     requires whole { IsWhole catalog.now }
     requires writing { needs_read_write standing.now ≡ None }
-    ensures known { result.known ≡ known }
-    ensures asked { Asks standing.now (said (delete_relation name.now)) (knows known) result.found }
-    ensures comes { (word : List ℕ) → Comes word standing.now (said (delete_relation name.now)) (knows known) result.found }
+    ensures asked { Asks standing.now (said (delete_relation name.now)) (knows known.now) result }
+    ensures comes { (word : List ℕ) → Comes word standing.now (said (delete_relation name.now)) (knows known.now) result }
 {
     match check_relation_goes(alloc, catalog, standing, name) {
         Ok(()) => {}
-        Err(stop) => {
-            return Returned {
-                known,
-                found: unchecked(alloc, stop, standing),
-            };
-        }
+        Err(stop) => return unchecked(alloc, stop, standing),
     }
     let mut view = Changed::new(alloc, known);
     let end = delete_relation(alloc, &mut view, catalog, name);
@@ -337,27 +305,53 @@ fn index_deleted(
     catalog: &Catalog,
     standing: &Standing,
     name: &Chars,
-    known: Known,
-) -> Returned
-    requires catalog { IsCatalogOfKnown (knows known) catalog.now }
+    known: &Known,
+) -> Found
+    requires catalog { IsCatalogOfKnown (knows known.now) catalog.now }
     requires whole { IsWhole catalog.now }
     requires writing { needs_read_write standing.now ≡ None }
-    ensures known { result.known ≡ known }
-    ensures asked { Asks standing.now (said (delete_index name.now)) (knows known) result.found }
-    ensures comes { (word : List ℕ) → Comes word standing.now (said (delete_index name.now)) (knows known) result.found }
+    ensures asked { Asks standing.now (said (delete_index name.now)) (knows known.now) result }
+    ensures comes { (word : List ℕ) → Comes word standing.now (said (delete_index name.now)) (knows known.now) result }
 {
     match check_index_goes(alloc, catalog, standing, name) {
         Ok(()) => {}
-        Err(stop) => {
-            return Returned {
-                known,
-                found: unchecked(alloc, stop, standing),
-            };
-        }
+        Err(stop) => return unchecked(alloc, stop, standing),
     }
     let mut view = Changed::new(alloc, known);
     let end = delete_index(alloc, &mut view, catalog, name);
     written(alloc, view, from_deletion(end), standing)
+}
+
+// The same, with what is known lent.
+fn defined_over(
+    alloc: Global,
+    schema: &Schema,
+    standing: &Standing,
+    statement: &Statement,
+    known: &Known,
+) -> Found
+    requires catalog { IsCatalogOfKnown (knows known.now) schema.now }
+    requires whole { IsWhole schema.now }
+    requires writing { needs_read_write standing.now ≡ None }
+    requires defining { IsDefining (command_of statement.now) }
+    ensures asked { Asks standing.now (said (command_of statement.now)) (knows known.now) result }
+    ensures comes { (word : List ℕ) → Comes word standing.now (said (command_of statement.now)) (knows known.now) result }
+{
+    let catalog = schema.catalog();
+    match statement {
+        Statement::DefineField(name, kind) => {
+            field_defined(alloc, catalog, standing, name, kind, known)
+        }
+        Statement::DefineRelation(name, fields) => {
+            relation_defined(alloc, catalog, standing, name, fields.as_slice(), known)
+        }
+        Statement::DeleteRelation(name) => relation_deleted(alloc, catalog, standing, name, known),
+        Statement::DeleteIndex(name) => index_deleted(alloc, catalog, standing, name, known),
+        Statement::DefineIndex(definition) => {
+            index_defined(alloc, schema, standing, definition, known)
+        }
+        _ => unreachable!(),
+    }
 }
 
 /// Does a definition or a deletion by the catalog, in a read-write transaction.
@@ -376,19 +370,6 @@ pub(crate) fn define_by(
     ensures asked { Asks standing.now (said (command_of statement.now)) (knows known) result.found }
     ensures comes { (word : List ℕ) → Comes word standing.now (said (command_of statement.now)) (knows known) result.found }
 {
-    let catalog = schema.catalog();
-    match statement {
-        Statement::DefineField(name, kind) => {
-            field_defined(alloc, catalog, standing, name, kind, known)
-        }
-        Statement::DefineRelation(name, fields) => {
-            relation_defined(alloc, catalog, standing, name, fields.as_slice(), known)
-        }
-        Statement::DeleteRelation(name) => relation_deleted(alloc, catalog, standing, name, known),
-        Statement::DeleteIndex(name) => index_deleted(alloc, catalog, standing, name, known),
-        Statement::DefineIndex(definition) => {
-            index_defined(alloc, schema, standing, definition, known)
-        }
-        _ => unreachable!(),
-    }
+    let found = defined_over(alloc, schema, standing, statement, &known);
+    Returned { known, found }
 }

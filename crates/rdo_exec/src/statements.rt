@@ -10,6 +10,7 @@ ghost use Rattle.line_view.specs.Held.{knows};
 ghost use Rattle.catalog.specs.Reading.{IsWhole, StopsCatalog};
 ghost use Rattle.sound_maps.specs.Maps.{IsSoundWith};
 ghost use Rattle.session_jobs.specs.Jobs.{IsFound, IsFoundFor, HasCause, NamesOnce, IsOutside, NamesNoNeed};
+ghost use Rattle.rdo_exec.specs.Acted.{IsSettled};
 ghost use Rattle.rdo_exec.specs.Answers.{IsAnswered};
 ghost use Rattle.rdo_exec.specs.Left.{IsLeft};
 ghost use Rattle.rdo_exec.specs.Needed.{ItemNeeds};
@@ -147,7 +148,7 @@ fn work_statement(
     ensures asked { Asks standing.now (said (command_of statement.now)) (knows known) result.found }
     ensures needs { ItemNeeds (said (command_of statement.now)) (knows known) result.found }
     ensures comes { Comes word.now standing.now (said (command_of statement.now)) (knows known) result.found }
-    ensures outside { standing.now ≡ closed → begins (said (command_of statement.now)) ≡ None → NamesNoNeed result.found }
+    ensures outside { standing.now ≡ closed → begins (said (command_of statement.now)) ≡ None → IsSettled result.found }
 {
     match way_of(statement) {
         Way::Acting => viewed(alloc, standing, statement, known, kept),
@@ -190,7 +191,7 @@ fn work_on(
     ensures asked { Asks standing.now (uttered_of item.now) (knows known) result.found }
     ensures needs { ItemNeeds (uttered_of item.now) (knows known) result.found }
     ensures comes { Comes word.now standing.now (uttered_of item.now) (knows known) result.found }
-    ensures outside { standing.now ≡ closed → begins (uttered_of item.now) ≡ None → NamesNoNeed result.found }
+    ensures outside { standing.now ≡ closed → begins (uttered_of item.now) ≡ None → IsSettled result.found }
 {
     match item {
         Item::Statement(statement) => {
@@ -216,7 +217,7 @@ fn worked(
     ensures left { result.found ≡ Found.Unworked → IsLeft word.now standing.now (uttered_of item.now) (knows known) }
     ensures once { NamesOnce result.found }
     ensures needs { ItemNeeds (uttered_of item.now) (knows known) result.found }
-    ensures outside { standing.now ≡ closed → begins (uttered_of item.now) ≡ None → NamesNoNeed result.found }
+    ensures outside { standing.now ≡ closed → begins (uttered_of item.now) ≡ None → IsSettled result.found }
 {
     match first_refusal(standing, item) {
         Some(reply) => Worked {
@@ -248,7 +249,7 @@ impl Statements for RdoStatements {
         None
     }
 
-    // Beside what each executor promises: what the item lacks first.
+    // Beside what each executor promises: what the item lacks first, and that what begins no transaction and is said outside one is answered, unless memory fails.
     fn work(job: Job, kept: Option<Schema>) -> Answer<Option<Schema>>
         requires { FitsKnown kept (knows job.known) }
         ensures job { result.job ≡ job }
@@ -258,6 +259,7 @@ impl Statements for RdoStatements {
         ensures once { NamesOnce result.found }
         ensures outside { IsOutside job → NamesNoNeed result.found }
         ensures needs { ItemNeeds (uttered_of job.item) (knows job.known) result.found }
+        ensures settled { IsOutside job → IsSettled result.found }
     {
         let Job {
             alloc,

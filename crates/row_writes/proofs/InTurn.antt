@@ -60,12 +60,12 @@ module _ (old mid new : Over) (xs : List IndexLine) (i : ℕ) (x : IndexLine) (w
       let so = some c n rel t first st own in
       let mine = subst (AreOwn c rel.area so.done) split so.own in
       let Taken = (x.unique && is_key_taken rel key to x.fields) ≡ true in
-      let stopped = subst (λ (h : Held). Stops (Lacks (knows h)) (λ at. ⊥) (RefusesPair h to x Taken) stop) base (changes c n rel t first so.done so.underway mine.0 mine.1) in
-      row_stops (Lacks (knows old.base)) (λ at. ⊥) (RefusesPair old.base to x Taken) (IsRefused old.base rel key to xs) i
+      let stopped = subst (λ (h : Held). Stops (Lacks (knows h)) (λ at. ⊥) (RefusesPair h first to x Taken) stop) base (changes c n rel t first so.done so.underway mine.0 mine.1) in
+      row_stops (Lacks (knows old.base)) (λ at. ⊥) (RefusesPair old.base first to x Taken) (IsRefused old.base first rel key to xs) i
       (λ r said. (
         x,
         at,
-        refused_for Taken (taken_in (is_key_taken rel key to) xs ≡ Some x.name) (HasRow to (IsLongKey x)) (HasRow to (λ row. CanNotGrow old.base x))
+        refused_for Taken (taken_in (is_key_taken rel key to) xs ≡ Some x.name) (HasRow to (IsLongKey x)) (HasRow to (λ row. CanNotGrow old.base first x))
             (λ taken. next_taken c n rel t first so ∙ ap (λ b. cond b (Some x.name) (taken_in (is_key_taken rel key to) (drop (i + 1) xs))) taken) r said,
       )) stop stopped
 

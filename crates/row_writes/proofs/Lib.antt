@@ -7,3 +7,4 @@ pub mod AreaLists
 pub mod NodesRead
 pub mod IndexKept
 pub mod RowKept
+pub mod Shown

@@ -92,15 +92,15 @@ module _ (old new : Over) (r : TargetRelation) (row : Row) (reason : Unstored) (
 
 -- ---- an index that refuses the row's pair
 
-pair_refused : (base : Held) (rel : Rows) (key : Dbkey) (row : Row) (xs : List IndexLine) (taken : Option Name) → is_too_long rel.fields row ≡ false → taken_in (is_key_taken rel key (Some row)) xs ≡ taken →
-    (Other : RowRefusal → Type 0) → ((at : ℕ) (refusal : PairRefusal) → IsPairRefused base rel xs taken row at refusal → Other (Pair at refusal)) → (e : RowRefusal) → IsRefused base rel key (Some row) xs e → Other e
-pair_refused base rel key row xs taken short same Other told (NoImage reason) said = absurd said
-pair_refused base rel key row xs taken short same Other told NoRoom said = absurd said
-pair_refused base rel key row xs taken short same Other told (Pair at refusal) said = told at refusal (record {
+pair_refused : (base : Held) (start : Lines) (rel : Rows) (key : Dbkey) (row : Row) (xs : List IndexLine) (taken : Option Name) → is_too_long rel.fields row ≡ false → taken_in (is_key_taken rel key (Some row)) xs ≡ taken →
+    (Other : RowRefusal → Type 0) → ((at : ℕ) (refusal : PairRefusal) → IsPairRefused base start rel xs taken row at refusal → Other (Pair at refusal)) → (e : RowRefusal) → IsRefused base start rel key (Some row) xs e → Other e
+pair_refused base start rel key row xs taken short same Other told (NoImage reason) said = absurd said
+pair_refused base start rel key row xs taken short same Other told NoRoom said = absurd said
+pair_refused base start rel key row xs taken short same Other told (Pair at refusal) said = told at refusal (record {
   short = short;
   index = said.0;
   stands = said.1;
-  refused = refused_for (taken_in (is_key_taken rel key (Some row)) xs ≡ Some (said.0).name) (taken ≡ Some (said.0).name) (IsLongKey said.0 row) (CanNotGrow base said.0) (λ first. sym same ∙ first) refusal said.2;
+  refused = refused_for (taken_in (is_key_taken rel key (Some row)) xs ≡ Some (said.0).name) (taken ≡ Some (said.0).name) (IsLongKey said.0 row) (CanNotGrow base start said.0) (λ first. sym same ∙ first) refusal said.2;
 })
 
 -- ---- a row stored
@@ -145,10 +145,10 @@ module _ (old mid new : Over) (r : TargetRelation) (row : Row) (image : List ℕ
 
   pub storing_stops : (stop : RowStop) → (knows_over old).room (room_at r.stored.area r.class 0) ≡ Some key → ChangesPairs mid new r.indexes.now None (Some row) key (Err stop) → StoresRow old new r row (Err stop)
   storing_stops stop is_room changes = λ c n rel t first view named target.
-      let stopped = subst (λ (h : Held). Stops (Lacks (knows h)) (λ at. ⊥) (IsRefused h rel key (Some row) r.indexes.now) stop) base (changes c n rel t first (starts is_room c n rel t first view named target) target.indexes) in
-      stops_for (Lacks (knows old.base)) (λ at. ⊥) (IsRefused old.base rel key (Some row) r.indexes.now) (IsNotStored old.base rel r row)
-      (pair_refused old.base rel key row r.indexes.now (taken_by_another rel r.indexes.now nowhere row) (short_here c n rel r row false target short) (for_new is_room c n rel t first view named target)
-      (IsNotStored old.base rel r row) (λ at refusal said. said)) stop stopped
+      let stopped = subst (λ (h : Held). Stops (Lacks (knows h)) (λ at. ⊥) (IsRefused h first rel key (Some row) r.indexes.now) stop) base (changes c n rel t first (starts is_room c n rel t first view named target) target.indexes) in
+      stops_for (Lacks (knows old.base)) (λ at. ⊥) (IsRefused old.base first rel key (Some row) r.indexes.now) (IsNotStored old.base first rel r row)
+      (pair_refused old.base first rel key row r.indexes.now (taken_by_another rel r.indexes.now nowhere row) (short_here c n rel r row false target short) (for_new is_room c n rel t first view named target)
+      (IsNotStored old.base first rel r row) (λ at refusal said. said)) stop stopped
 
   -- ---- a row changed
 
@@ -161,10 +161,10 @@ module _ (old mid new : Over) (r : TargetRelation) (row : Row) (image : List ℕ
         untaken = done.untaken;
       }
   row_changed was (Err stop) changes = λ c n rel t first view named target found area.
-      let stopped = subst (λ (h : Held). Stops (Lacks (knows h)) (λ at. ⊥) (IsRefused h rel key (Some row) r.indexes.now) stop) base
+      let stopped = subst (λ (h : Held). Stops (Lacks (knows h)) (λ at. ⊥) (IsRefused h first rel key (Some row) r.indexes.now) stop) base
       (changes c n rel t first (begun old mid key (Some was) (Some row) (Some image) c n rel t first view named found stay put (line_sound c n rel t first view named target area)) target.indexes) in
-      stops_for (Lacks (knows old.base)) (λ at. ⊥) (IsRefused old.base rel key (Some row) r.indexes.now) (IsNotChanged old.base rel r key row)
-      (pair_refused old.base rel key row r.indexes.now (taken_by_another rel r.indexes.now key row) (short_here c n rel r row false target short) refl (IsNotChanged old.base rel r key row) (λ at refusal said. said)) stop stopped
+      stops_for (Lacks (knows old.base)) (λ at. ⊥) (IsRefused old.base first rel key (Some row) r.indexes.now) (IsNotChanged old.base first rel r key row)
+      (pair_refused old.base first rel key row r.indexes.now (taken_by_another rel r.indexes.now key row) (short_here c n rel r row false target short) refl (IsNotChanged old.base first rel r key row) (λ at refusal said. said)) stop stopped
 
 -- ---- a row erased
 
@@ -172,28 +172,28 @@ none_is_taken : (xs : List IndexLine) (name : Name) → taken_in (λ positions. 
 none_is_taken [] name is = none-some name is
 none_is_taken (x ∷ xs) name is = none_is_taken xs name (elim x.unique as (λ b. cond (b && false) (Some x.name) (taken_in (λ positions. false) xs) ≡ Some name → taken_in (λ positions. false) xs ≡ Some name) [ true ↦ λ h. h | false ↦ λ h. h ] is)
 
-never_refused : (base : Held) (rel : Rows) (key : Dbkey) (xs : List IndexLine) (e : RowRefusal) → IsRefused base rel key None xs e → ⊥
-never_refused base rel key xs (NoImage reason) said = said
-never_refused base rel key xs NoRoom said = said
-never_refused base rel key xs (Pair at Duplicate) said = none_is_taken xs (said.0).name said.2
-never_refused base rel key xs (Pair at LongKey) said = said.2
-never_refused base rel key xs (Pair at Full) said = said.2
+never_refused : (base : Held) (start : Lines) (rel : Rows) (key : Dbkey) (xs : List IndexLine) (e : RowRefusal) → IsRefused base start rel key None xs e → ⊥
+never_refused base start rel key xs (NoImage reason) said = said
+never_refused base start rel key xs NoRoom said = said
+never_refused base start rel key xs (Pair at Duplicate) said = none_is_taken xs (said.0).name said.2
+never_refused base start rel key xs (Pair at LongKey) said = said.2
+never_refused base start rel key xs (Pair at Full) said = said.2
 
 pub row_erased : (old mid new : Over) (xs : List IndexLine) (was : Row) (key : Dbkey) (result : Result (Unit {0}) RowStop) → Stays old mid → Laid old mid key None → mid.base ≡ old.base → ChangesPairs mid new xs (Some was) None key result → ErasesRow old new xs key was result
 row_erased old mid new xs was key (Ok u) stay put base changes = λ c n rel t first view named own found area.
     let done = changes c n rel t first (begun old mid key (Some was) None None c n rel t first view named found stay put (line_erased (laid_over old.lines first) c t n rel key view.sound named area)) own in
     record { stands = done.stands; sound = done.sound }
 row_erased old mid new xs was key (Err stop) stay put base changes = λ c n rel t first view named own found area.
-    let stopped = subst (λ (h : Held). Stops (Lacks (knows h)) (λ at. ⊥) (IsRefused h rel key None xs) stop) base
+    let stopped = subst (λ (h : Held). Stops (Lacks (knows h)) (λ at. ⊥) (IsRefused h first rel key None xs) stop) base
     (changes c n rel t first (begun old mid key (Some was) None None c n rel t first view named found stay put (line_erased (laid_over old.lines first) c t n rel key view.sound named area)) own) in
-    stops_for (Lacks (knows old.base)) (λ at. ⊥) (IsRefused old.base rel key None xs) (λ refusal. ⊥) (never_refused old.base rel key xs) stop stopped
+    stops_for (Lacks (knows old.base)) (λ at. ⊥) (IsRefused old.base first rel key None xs) (λ refusal. ⊥) (never_refused old.base first rel key xs) stop stopped
 
 -- ---- no room
 
 pub no_room : (old new : Over) (r : TargetRelation) (row : Row) (class : ℕ) (stop : RowStop) → class ≡ r.class → TellsNoRoom old.base r.stored.area class stop → StoresRow old new r row (Err stop)
 no_room old new r row class (Missing need) same tells = λ c n rel t first view named target. tells.0
 no_room old new r row class (Own refusal) same tells = λ c n rel t first view named target.
-    subst (IsNotStored old.base rel r row) (sym tells.0)
+    subst (IsNotStored old.base first rel r row) (sym tells.0)
     (λ nth below. subst (λ (a : ℕ). AreRoomsKnown (knows old.base) a r.class all_rooms) (sym target.area) (subst (λ (k : ℕ). AreRoomsKnown (knows old.base) r.stored.area k all_rooms) same tells.1) nth below)
 no_room old new r row class (Bad q) same tells = absurd tells
 no_room old new r row class NoMemory same tells = absurd tells

@@ -139,8 +139,8 @@ module _ (old new : Over) (x : IndexLine) (row : Row) (key : Dbkey) (c : Catalog
   stored_here (Err stop) added =
       let Taken = has_taken x row (pairs index.is.level index.is.tree) ≡ true in
       let Others = (x.unique && is_taken x.fields row key rel.rows) ≡ true in
-      stops_for (Lacks (knows old.base)) (λ at. ⊥) (PairRefused Taken (IsLongKey x row) (CanNotGrow old.base x)) (PairRefused Others (IsLongKey x row) (CanNotGrow old.base x))
-      (refused_for Taken Others (IsLongKey x row) (CanNotGrow old.base x) (λ taken. sym stored_taken ∙ taken)) stop added
+      stops_for (Lacks (knows old.base)) (λ at. ⊥) (PairRefused Taken (IsLongKey x row) (CanNotGrow old.base first x)) (PairRefused Others (IsLongKey x row) (CanNotGrow old.base first x))
+      (refused_for Taken Others (IsLongKey x row) (CanNotGrow old.base first x) (λ taken. sym stored_taken ∙ taken)) stop added
 
   pub fresh : IsNew (pair_of (key_of x.fields row) key) (pairs index.is.level index.is.tree)
   fresh = subst (IsNew (pair_of (key_of x.fields row) key)) (sym index.is.holds) (new_pair x.fields (key_of x.fields row) key rel.rows st.found)
@@ -157,7 +157,7 @@ stored old new x row key result adds = λ c n rel t first done st own unused. st
 pub taking_fails : (old new : Over) (x : IndexLine) (was : Row) (to : Option Row) (key : Dbkey) (stop : PairStop) → TakesPair old new x was key (Err stop) → ChangesPair old new x (Some was) to key (Err stop)
 taking_fails old new x was to key stop takes = λ c n rel t first done st own unused.
     let index = waits old x (Some was) to key c n rel t first done st own unused in
-    stops_for (Lacks (knows old.base)) (λ at. ⊥) (λ refusal. ⊥) (RefusesPair old.base to x ((x.unique && is_key_taken rel key to x.fields) ≡ true)) (λ r no. absurd no) stop
+    stops_for (Lacks (knows old.base)) (λ at. ⊥) (λ refusal. ⊥) (RefusesPair old.base first to x ((x.unique && is_key_taken rel key to x.fields) ≡ true)) (λ r no. absurd no) stop
     (takes first index.is.level index.is.tree st.stands index.is.is)
 
 pub erased : (old new : Over) (x : IndexLine) (was : Row) (key : Dbkey) (result : Result (Unit {0}) PairStop) → TakesPair old new x was key result → ChangesPair old new x (Some was) None key result
@@ -214,9 +214,9 @@ module _ (old mid new : Over) (x : IndexLine) (was row : Row) (key : Dbkey) (c :
   moved_here (Err stop) added =
       let Taken = has_taken x row (pairs gone.leaves.level gone.leaves.tree) ≡ true in
       let Others = (x.unique && is_taken x.fields row key rel.rows) ≡ true in
-      stops_for (Lacks (knows old.base)) (λ at. ⊥) (PairRefused Taken (IsLongKey x row) (CanNotGrow old.base x)) (PairRefused Others (IsLongKey x row) (CanNotGrow old.base x))
-      (refused_for Taken Others (IsLongKey x row) (CanNotGrow old.base x) (λ taken. sym left_taken ∙ taken)) stop
-      (subst (λ (h : Held). Stops (Lacks (knows h)) (λ at. ⊥) (PairRefused Taken (IsLongKey x row) (CanNotGrow h x)) stop) base added)
+      stops_for (Lacks (knows old.base)) (λ at. ⊥) (PairRefused Taken (IsLongKey x row) (CanNotGrow old.base first x)) (PairRefused Others (IsLongKey x row) (CanNotGrow old.base first x))
+      (refused_for Taken Others (IsLongKey x row) (CanNotGrow old.base first x) (λ taken. sym left_taken ∙ taken)) stop
+      (subst (λ (h : Held). Stops (Lacks (knows h)) (λ at. ⊥) (PairRefused Taken (IsLongKey x row) (CanNotGrow h first x)) stop) base added)
 
   moved_so : (result : Result (Unit {0}) PairStop) → AddsPair mid new x row key result → PairChanged c n rel t first done old new x (Some was) (Some row) key result
   moved_so result adds = moved_here result (adds first gone.leaves.level gone.leaves.tree gone.stands left_index left_fresh)

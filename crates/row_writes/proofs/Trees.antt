@@ -112,9 +112,9 @@ pair_added old new x row key k said writes is same inserts stay laid = λ first 
 pub long_key : (old new : Over) (x : IndexLine) (row : Row) (key : Dbkey) → IsLongKey x row → AddsPair old new x row key (Err (Own LongKey))
 long_key old new x row key long = λ first level tree st index fresh. long
 
-module _ (old : Over) (x : IndexLine) (row : Row) (key : Dbkey) (lines : Lines) (level : ℕ) (tree : Tree level) (index : IsIndex lines x.root level tree) where
+module _ (old : Over) (x : IndexLine) (row : Row) (key : Dbkey) (first : Lines) (level : ℕ) (tree : Tree level) (index : IsIndex (laid_over old.lines first) x.root level tree) where
   abbrev Added : PairStop → Type 0
-  Added = Stops (Lacks (knows old.base)) (λ at. ⊥) (PairRefused (has_taken x row (pairs level tree) ≡ true) (IsLongKey x row) (CanNotGrow old.base x))
+  Added = Stops (Lacks (knows old.base)) (λ at. ⊥) (PairRefused (has_taken x row (pairs level tree) ≡ true) (IsLongKey x row) (CanNotGrow old.base first x))
 
   abbrev pair : NodeEntry
   pair = pair_of (key_of x.fields row) key
@@ -122,21 +122,21 @@ module _ (old : Over) (x : IndexLine) (row : Row) (key : Dbkey) (lines : Lines) 
   room_told : (room : Room) (nth : ℕ) (told : PairStop) → room ≡ room_at x.root.area nth → TellsRoom old.base room told → Added told
   room_told room nth (Missing need) is tells = tells.0
   room_told room nth (Own refusal) is tells =
-      subst (PairRefused (has_taken x row (pairs level tree) ≡ true) (IsLongKey x row) (CanNotGrow old.base x)) (sym tells.0) (inl (subst (λ (r : Room). AreRoomsKnown (knows old.base) r.area r.class all_rooms) is tells.1))
+      subst (PairRefused (has_taken x row (pairs level tree) ≡ true) (IsLongKey x row) (CanNotGrow old.base first x)) (sym tells.0) (inl (subst (λ (r : Room). AreRoomsKnown (knows old.base) r.area r.class all_rooms) is tells.1))
   room_told room nth (Bad q) is tells = absurd tells
   room_told room nth NoMemory is tells = absurd tells
 
-  insertion_told : (stop : IndexStop) (told : PairStop) → (stop ≡ Bad x.root → told ≡ Own Full) → (stop ≢ Bad x.root → Tells old.base stop told) → Inserts (knows_over old) lines x.root pair x.unique level tree (Err stop) → Added told
+  insertion_told : (stop : IndexStop) (told : PairStop) → (stop ≡ Bad x.root → told ≡ Own Full) → (stop ≢ Bad x.root → Tells old.base stop told) → Inserts (knows_over old) (laid_over old.lines first) x.root pair x.unique level tree (Err stop) → Added told
   insertion_told (Missing (needs.Line q)) told root others said =
       subst Added (sym (others (λ same. let bad : ⊥ = cc in bad))) (below_lacks old q (first_lacks (knows_over old) (lines_read x.unique pair level tree) q said))
   insertion_told (Missing (needs.Area a)) told root others said = absurd said
   insertion_told (Missing (needs.Room room)) told root others said = room_told room said.0.0 told said.0.2 (others (λ same. let bad : ⊥ = cc in bad))
-  insertion_told (Bad q) told root others said = subst Added (sym (root (ap Bad said.0))) (inr (lines, level, tree, index, said.1))
+  insertion_told (Bad q) told root others said = subst Added (sym (root (ap Bad said.0))) (inr (record { written = old.lines; level = level; tree = tree; index = index; highest = said.1 }))
   insertion_told (Own d) told root others said = subst Added (sym (others (λ same. let bad : ⊥ = cc in bad))) said
   insertion_told NoMemory told root others said = subst Added (sym (others (λ same. let bad : ⊥ = cc in bad))) tt
 
 pub adding_stops : (old new : Over) (x : IndexLine) (row : Row) (key : Dbkey) (k : List Value) (stop : IndexStop) (told : PairStop) → k ≡ key_of x.fields row → InsertsAll old x k key (Err stop) →
     (stop ≡ Bad x.root → told ≡ Own Full) → (stop ≢ Bad x.root → Tells old.base stop told) → AddsPair old new x row key (Err told)
 adding_stops old new x row key k stop told is inserts root others = λ first level tree st index fresh.
-    insertion_told old x row key (laid_over old.lines first) level tree index stop told root others
+    insertion_told old x row key first level tree index stop told root others
     (subst (λ k. InsertsAll old x k key (Err stop)) is inserts (laid_over old.lines first) level tree st.agrees index fresh)

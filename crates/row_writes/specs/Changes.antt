@@ -72,12 +72,12 @@ HasRow (Some row) P = P row
 HasRow None P = ⊥
 
 -- Only the pair of a row behind is refused.
-abbrev pub RefusesPair : Held → Option Row → IndexLine → Type 0 → PairRefusal → Type 0
-RefusesPair base to x IsTaken = PairRefused IsTaken (HasRow to (IsLongKey x)) (HasRow to (λ row. CanNotGrow base x))
+abbrev pub RefusesPair : Held → Lines → Option Row → IndexLine → Type 0 → PairRefusal → Type 0
+RefusesPair base first to x IsTaken = PairRefused IsTaken (HasRow to (IsLongKey x)) (HasRow to (λ row. CanNotGrow base first x))
 
 abbrev pub PairChanged : Catalog → Name → Rows → Tables → Lines → List ℕ → Over → Over → IndexLine → Option Row → Option Row → Dbkey → Result (Unit {0}) PairStop → Type 0
 PairChanged c n rel t first done old new x was to key =
-    Answers (λ u. Underway c n rel t key was to new first (x.area ∷ done) × ((x.unique && is_key_taken rel key to x.fields) ≡ false)) (Lacks (knows old.base)) (λ at. ⊥) (RefusesPair old.base to x ((x.unique && is_key_taken rel key to x.fields) ≡ true))
+    Answers (λ u. Underway c n rel t key was to new first (x.area ∷ done) × ((x.unique && is_key_taken rel key to x.fields) ≡ false)) (Lacks (knows old.base)) (λ at. ⊥) (RefusesPair old.base first to x ((x.unique && is_key_taken rel key to x.fields) ≡ true))
 
 abbrev pub ChangesPair : Over → Over → IndexLine → Option Row → Option Row → Dbkey → Result (Unit {0}) PairStop → Type 0
 ChangesPair old new x was to key result = (c : Catalog) (n : Name) (rel : Rows) (t : Tables) (first : Lines) (done : List ℕ) → Underway c n rel t key was to old first done → IsIndexOn c rel.area x → is_used x.area done ≡ false →
@@ -92,13 +92,13 @@ row_stop_of at NoMemory = NoMemory
 row_stop_of at (Own refusal) = Own (Pair at refusal)
 
 -- The index at this place refuses the pair. Where another row has the key, it is the first in which one has.
-abbrev pub RefusesAt : Held → Rows → Dbkey → Option Row → List IndexLine → ℕ → PairRefusal → Type 0
-RefusesAt base rel key to xs at refusal = (x : IndexLine) × (slice_get xs at ≡ Some x) × RefusesPair base to x (taken_in (is_key_taken rel key to) xs ≡ Some x.name) refusal
+abbrev pub RefusesAt : Held → Lines → Rows → Dbkey → Option Row → List IndexLine → ℕ → PairRefusal → Type 0
+RefusesAt base first rel key to xs at refusal = (x : IndexLine) × (slice_get xs at ≡ Some x) × RefusesPair base first to x (taken_in (is_key_taken rel key to) xs ≡ Some x.name) refusal
 
-abbrev pub IsRefused : Held → Rows → Dbkey → Option Row → List IndexLine → RowRefusal → Type 0
-IsRefused base rel key to xs (NoImage reason) = ⊥
-IsRefused base rel key to xs NoRoom = ⊥
-IsRefused base rel key to xs (Pair at refusal) = RefusesAt base rel key to xs at refusal
+abbrev pub IsRefused : Held → Lines → Rows → Dbkey → Option Row → List IndexLine → RowRefusal → Type 0
+IsRefused base first rel key to xs (NoImage reason) = ⊥
+IsRefused base first rel key to xs NoRoom = ⊥
+IsRefused base first rel key to xs (Pair at refusal) = RefusesAt base first rel key to xs at refusal
 
 -- the view is that behind the writes of the row, and no index has its key for another row
 pub record AreChanged (c : Catalog) (n : Name) (rel : Rows) (t : Tables) (first : Lines) (new : Over) (xs : List IndexLine) (to : Option Row) (key : Dbkey) : Type 0 where
@@ -108,7 +108,7 @@ pub record AreChanged (c : Catalog) (n : Name) (rel : Rows) (t : Tables) (first 
 
 abbrev pub PairsChanged : Catalog → Name → Rows → Tables → Lines → Over → Over → List IndexLine → Option Row → Dbkey → Result (Unit {0}) RowStop → Type 0
 PairsChanged c n rel t first old new xs to key =
-    Answers (λ u. AreChanged c n rel t first new xs to key) (Lacks (knows old.base)) (λ at. ⊥) (IsRefused old.base rel key to xs)
+    Answers (λ u. AreChanged c n rel t first new xs to key) (Lacks (knows old.base)) (λ at. ⊥) (IsRefused old.base first rel key to xs)
 
 abbrev pub ChangesPairs : Over → Over → List IndexLine → Option Row → Option Row → Dbkey → Result (Unit {0}) RowStop → Type 0
 ChangesPairs old new xs was to key result = (c : Catalog) (n : Name) (rel : Rows) (t : Tables) (first : Lines) → Underway c n rel t key was to old first [] → AreOwn c rel.area [] xs →

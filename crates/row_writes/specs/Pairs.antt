@@ -1,5 +1,5 @@
 -- The pair of a row taken out of an index, or put into one, over the view of a statement.
-use Rattle.std.specs.Prelude.{◌≡◌, ◌⊎◌, ℕ, Bool, true, false, ◌&&◌, List, Result}
+use Rattle.std.specs.Prelude.{◌≡◌, ◌⊎◌, ℕ, Bool, true, false, ◌&&◌, List, Option, Result}
 use Rattle.rdb_types.specs.declared.keys.Dbkey.{Dbkey}
 use Rattle.rdb_meaning.specs.Contents.{Row, key_of}
 use Rattle.line_view.specs.declared.need.Need.TheVariants as needs
@@ -48,9 +48,17 @@ pub record Turned (old new : Over) (first : Lines) (root : Dbkey) (level : ℕ) 
   pub laid : laid_over new.lines first ≡ laid_all writes (laid_over old.lines first)
   pub leaves : Leaves (laid_over old.lines first) root level tree writes left
 
--- all numbers of rooms of the index are known, or its tree has the highest level in some map
-abbrev pub CanNotGrow : Held → IndexLine → Type 0
-CanNotGrow base x = AreRoomsKnown (knows base) x.root.area 440 all_rooms ⊎ ((all : Lines) × (level : ℕ) × (tree : Tree level) × IsIndex all x.root level tree × (level ≡ 255))
+-- Behind some writes over the map of the start the tree of the index of this root has the highest level.
+pub record IsTallBehind (first : Lines) (root : Dbkey) : Type 0 where
+  pub written : List (Dbkey × Option (List ℕ))
+  pub level : ℕ
+  pub tree : Tree level
+  pub index : IsIndex (laid_over written first) root level tree
+  pub highest : level ≡ 255
+
+-- all numbers of rooms of the index are known, or its tree has the highest level
+abbrev pub CanNotGrow : Held → Lines → IndexLine → Type 0
+CanNotGrow base first x = AreRoomsKnown (knows base) x.root.area 440 all_rooms ⊎ IsTallBehind first x.root
 
 abbrev pub PairTaken : Over → Over → IndexLine → Row → Dbkey → Lines → (level : ℕ) → Tree level → Result (Unit {0}) PairStop → Type 0
 PairTaken old new x row key first level tree =
@@ -75,7 +83,7 @@ IsLongKey x row = IsKey (key_of x.fields row) → ⊥
 
 abbrev pub PairAdded : Over → Over → IndexLine → Row → Dbkey → Lines → (level : ℕ) → Tree level → Result (Unit {0}) PairStop → Type 0
 PairAdded old new x row key first level tree =
-    Answers (λ u. Turned old new first x.root level tree (with_pair (pair_of (key_of x.fields row) key) (pairs level tree)) × (has_taken x row (pairs level tree) ≡ false)) (Lacks (knows old.base)) (λ at. ⊥) (PairRefused (has_taken x row (pairs level tree) ≡ true) (IsLongKey x row) (CanNotGrow old.base x))
+    Answers (λ u. Turned old new first x.root level tree (with_pair (pair_of (key_of x.fields row) key) (pairs level tree)) × (has_taken x row (pairs level tree) ≡ false)) (Lacks (knows old.base)) (λ at. ⊥) (PairRefused (has_taken x row (pairs level tree) ≡ true) (IsLongKey x row) (CanNotGrow old.base first x))
 
 abbrev pub AddsPair : Over → Over → IndexLine → Row → Dbkey → Result (Unit {0}) PairStop → Type 0
 AddsPair old new x row key result = (first : Lines) (level : ℕ) (tree : Tree level) → Stands old first → IsIndex (laid_over old.lines first) x.root level tree → IsNew (pair_of (key_of x.fields row) key) (pairs level tree) → PairAdded old new x row key first level tree result

@@ -41,11 +41,11 @@ HasNoImage r rel row Misfit = IsRowFor r.stored.version r.stored.fields.now row 
 HasNoImage r rel row TooLong = is_too_long rel.fields row ≡ true
 
 -- The row isn't too long, and the index at this place doesn't take its pair; where its key is taken, this is the first index in which it is.
-pub record IsPairRefused (base : Held) (rel : Rows) (xs : List IndexLine) (taken : Option Name) (row : Row) (at : ℕ) (refusal : PairRefusal) : Type 0 where
+pub record IsPairRefused (base : Held) (first : Lines) (rel : Rows) (xs : List IndexLine) (taken : Option Name) (row : Row) (at : ℕ) (refusal : PairRefusal) : Type 0 where
   pub short : is_too_long rel.fields row ≡ false
   pub index : IndexLine
   pub stands : slice_get xs at ≡ Some index
-  pub refused : PairRefused (taken ≡ Some index.name) (IsLongKey index row) (CanNotGrow base index) refusal
+  pub refused : PairRefused (taken ≡ Some index.name) (IsLongKey index row) (CanNotGrow base first index) refusal
 
 -- ---- a row stored
 
@@ -63,14 +63,14 @@ pub record IsStored (old new : Over) (c : Catalog) (n : Name) (rel : Rows) (t : 
   pub unused : line_in key first ≡ None
   pub free : line_in key (laid_over old.lines first) ≡ None
 
-abbrev pub IsNotStored : Held → Rows → TargetRelation → Row → RowRefusal → Type 0
-IsNotStored base rel r row (NoImage reason) = HasNoImage r rel row reason
-IsNotStored base rel r row NoRoom = AreRoomsKnown (knows base) rel.area r.class all_rooms
-IsNotStored base rel r row (Pair at refusal) = IsPairRefused base rel r.indexes.now (taken_by_another rel r.indexes.now nowhere row) row at refusal
+abbrev pub IsNotStored : Held → Lines → Rows → TargetRelation → Row → RowRefusal → Type 0
+IsNotStored base first rel r row (NoImage reason) = HasNoImage r rel row reason
+IsNotStored base first rel r row NoRoom = AreRoomsKnown (knows base) rel.area r.class all_rooms
+IsNotStored base first rel r row (Pair at refusal) = IsPairRefused base first rel r.indexes.now (taken_by_another rel r.indexes.now nowhere row) row at refusal
 
 abbrev pub StoresRow : Over → Over → TargetRelation → Row → Result Dbkey RowStop → Type 0
 StoresRow old new r row result = (c : Catalog) (n : Name) (rel : Rows) (t : Tables) (first : Lines) → IsSoundView old c t first → relation_named n t ≡ Some rel → IsTarget c n rel r →
-    Answers (IsStored old new c n rel t first r row) (Lacks (knows old.base)) (λ at. ⊥) (IsNotStored old.base rel r row) result
+    Answers (IsStored old new c n rel t first r row) (Lacks (knows old.base)) (λ at. ⊥) (IsNotStored old.base first rel r row) result
 
 -- ---- a row changed
 
@@ -79,14 +79,14 @@ pub record IsChanged (new : Over) (c : Catalog) (n : Name) (rel : Rows) (t : Tab
   pub short : is_too_long rel.fields row ≡ false
   pub untaken : taken_by_another rel r.indexes.now key row ≡ None
 
-abbrev pub IsNotChanged : Held → Rows → TargetRelation → Dbkey → Row → RowRefusal → Type 0
-IsNotChanged base rel r key row (NoImage reason) = HasNoImage r rel row reason
-IsNotChanged base rel r key row NoRoom = ⊥
-IsNotChanged base rel r key row (Pair at refusal) = IsPairRefused base rel r.indexes.now (taken_by_another rel r.indexes.now key row) row at refusal
+abbrev pub IsNotChanged : Held → Lines → Rows → TargetRelation → Dbkey → Row → RowRefusal → Type 0
+IsNotChanged base first rel r key row (NoImage reason) = HasNoImage r rel row reason
+IsNotChanged base first rel r key row NoRoom = ⊥
+IsNotChanged base first rel r key row (Pair at refusal) = IsPairRefused base first rel r.indexes.now (taken_by_another rel r.indexes.now key row) row at refusal
 
 abbrev pub ChangesRow : Over → Over → TargetRelation → Dbkey → Row → Row → Result (Unit {0}) RowStop → Type 0
 ChangesRow old new r key was row result = (c : Catalog) (n : Name) (rel : Rows) (t : Tables) (first : Lines) → IsSoundView old c t first → relation_named n t ≡ Some rel → IsTarget c n rel r → find dbkey_order key rel.rows ≡ Some was → key.area ≡ rel.area →
-    Answers (λ u. IsChanged new c n rel t first r key row) (Lacks (knows old.base)) (λ at. ⊥) (IsNotChanged old.base rel r key row) result
+    Answers (λ u. IsChanged new c n rel t first r key row) (Lacks (knows old.base)) (λ at. ⊥) (IsNotChanged old.base first rel r key row) result
 
 -- ---- a row erased
 

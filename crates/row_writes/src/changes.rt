@@ -16,7 +16,7 @@ use stored_rows::have_one_key;
 // Where the key stays, so does the pair, and nothing is read or written.
 fn move_pair(
     alloc: Global,
-    view: &mut Changed,
+    view: &mut Changed<'_>,
     index: &IndexLine,
     was: &[Value],
     row: &[Value],
@@ -35,7 +35,7 @@ fn move_pair(
 
 fn change_pair(
     alloc: Global,
-    view: &mut Changed,
+    view: &mut Changed<'_>,
     index: &IndexLine,
     change: RowChange<'_>,
     at: Dbkey,
@@ -65,7 +65,7 @@ fn row_stop(stop: PairStop, at: usize) -> RowStop
 /// Changes the pairs of a row whose line is written, one index after another.
 pub(crate) fn change_pairs(
     alloc: Global,
-    view: &mut Changed,
+    view: &mut Changed<'_>,
     indexes: &[IndexLine],
     change: RowChange<'_>,
     at: Dbkey,

@@ -13,7 +13,7 @@ use statement_view::Changed;
 use std::alloc::Global;
 use stored_rows::row_image;
 
-fn no_room(view: &Changed, area: u32, class: u16) -> RowStop
+fn no_room(view: &Changed<'_>, area: u32, class: u16) -> RowStop
     ensures { TellsNoRoom view.now.base area class result }
 {
     match view.lacks(area, class) {
@@ -25,7 +25,7 @@ fn no_room(view: &Changed, area: u32, class: u16) -> RowStop
 /// Stores a row: its line is written in the first room that isn't written yet, and its pairs are put into the indexes. Gives its Dbkey. Behind an error the view is of no more use, but for what was known.
 pub fn store_row(
     alloc: Global,
-    view: &mut Changed,
+    view: &mut Changed<'_>,
     relation: &TargetRelation<'_>,
     row: &[Value],
 ) -> Result<Dbkey, RowStop>
@@ -50,7 +50,7 @@ pub fn store_row(
 /// Changes the row of a Dbkey, which was this one: its line is written, and its pairs are moved where their keys change. Behind an error the view is of no more use, but for what was known.
 pub fn change_row(
     alloc: Global,
-    view: &mut Changed,
+    view: &mut Changed<'_>,
     relation: &TargetRelation<'_>,
     at: Dbkey,
     was: &[Value],
@@ -78,7 +78,7 @@ pub fn change_row(
 /// Erases the row of a Dbkey, which was this one: its line, and its pairs in these indexes of its relation. Behind an error the view is of no more use, but for what was known.
 pub fn erase_row(
     alloc: Global,
-    view: &mut Changed,
+    view: &mut Changed<'_>,
     indexes: &[IndexLine],
     at: Dbkey,
     was: &[Value],

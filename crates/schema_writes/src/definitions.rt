@@ -18,7 +18,7 @@ use std::alloc::Global;
 /// DEFINE FIELD: a line of the catalog is written. Behind an error the view is of no more use, but for what was known.
 pub fn define_field(
     alloc: Global,
-    view: &mut Changed,
+    view: &mut Changed<'_>,
     catalog: &Catalog,
     name: &Chars,
     kind: &FieldType,
@@ -41,7 +41,7 @@ pub fn define_field(
 /// DEFINE RELATION: the lines in the catalog of a relation and of its fields are written. Behind an error the view is of no more use, but for what was known.
 pub fn define_relation(
     alloc: Global,
-    view: &mut Changed,
+    view: &mut Changed<'_>,
     catalog: &Catalog,
     name: &Chars,
     fields: &[FieldDefinition],

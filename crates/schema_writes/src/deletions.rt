@@ -41,7 +41,7 @@ fn area_named(tables: &Tables, name: &Chars) -> u32
     }
 }
 
-fn keys_in(alloc: Global, view: &Changed, area: u32) -> Result<Keys, Stop<Reply>>
+fn keys_in(alloc: Global, view: &Changed<'_>, area: u32) -> Result<Keys, Stop<Reply>>
     ensures keys { IfOk result (λ keys. (knows_over view.now).area area ≡ Some keys) }
     ensures stop { IfErr result (LacksArea view.now.base) }
     ensures area { IfErr result (WantsArea (λ a. a ≡ area)) }
@@ -59,7 +59,7 @@ fn keys_in(alloc: Global, view: &Changed, area: u32) -> Result<Keys, Stop<Reply>
 // The lines of the logical area of the index of a name.
 fn index_nodes(
     alloc: Global,
-    view: &Changed,
+    view: &Changed<'_>,
     lines: &[PlacedLine],
     name: &Chars,
 ) -> Result<Keys, Stop<Reply>>
@@ -80,7 +80,7 @@ fn index_nodes(
 /// DELETE INDEX: its line of the catalog and its nodes are erased. Behind an error the view is of no more use, but for what was known.
 pub fn delete_index(
     alloc: Global,
-    view: &mut Changed,
+    view: &mut Changed<'_>,
     catalog: &Catalog,
     name: &Chars,
 ) -> Result<(), Stop<Reply>>
@@ -105,7 +105,7 @@ pub fn delete_index(
 // The lines of the logical area of an index of the relation, put behind others.
 fn add_nodes(
     alloc: Global,
-    view: &Changed,
+    view: &Changed<'_>,
     line: &CatalogLine,
     relation: u32,
     keys: &mut Keys,
@@ -128,7 +128,7 @@ fn add_nodes(
 // The lines of the logical area of a relation, and behind them those of its indexes' areas.
 fn owned_keys(
     alloc: Global,
-    view: &Changed,
+    view: &Changed<'_>,
     lines: &[PlacedLine],
     relation: u32,
 ) -> Result<Keys, Stop<Reply>>
@@ -146,7 +146,7 @@ fn owned_keys(
 /// DELETE RELATION: its lines of the catalog, those of its fields and of its indexes, all its rows and all nodes of its indexes are erased. Behind an error the view is of no more use, but for what was known.
 pub fn delete_relation(
     alloc: Global,
-    view: &mut Changed,
+    view: &mut Changed<'_>,
     catalog: &Catalog,
     name: &Chars,
 ) -> Result<(), Stop<Reply>>

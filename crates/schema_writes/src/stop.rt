@@ -20,7 +20,7 @@ pub enum SchemaRefusal {
 pub type SchemaStop = Stop<SchemaRefusal>;
 
 /// Why a definition stops, by what is known: rooms have other numbers there than in the view.
-pub fn known_stop(view: &Changed, stop: Stop<Reply>) -> SchemaStop
+pub fn known_stop(view: &Changed<'_>, stop: Stop<Reply>) -> SchemaStop
     ensures { Tells view.now.base stop result }
 {
     match stop {

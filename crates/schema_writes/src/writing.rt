@@ -21,7 +21,7 @@ fn copied_image(image: &Option<Image>) -> Option<Image>
 }
 
 /// Puts writes into the view, in their order.
-pub fn put_all(view: &mut Changed, writes: &[Write]) -> Result<(), NoMemory>
+pub fn put_all(view: &mut Changed<'_>, writes: &[Write]) -> Result<(), NoMemory>
     ensures stands { OnOk result ((first : Lines) → Stands view.old first → Stands view.new first) }
     ensures laid { OnOk result ((first : Lines) → Stands view.old first → laid_over view.new.lines first ≡ laid_all writes.now (laid_over view.old.lines first)) }
     ensures areas { OnOk result ((areas : List ℕ) → AllByRecursion (λ w. is_among areas (w.key).area ≡ true) writes.now → WritesOf areas view.old view.new) }
@@ -34,7 +34,7 @@ pub fn put_all(view: &mut Changed, writes: &[Write]) -> Result<(), NoMemory>
 }
 
 /// Erases lines in the view.
-pub(crate) fn erase_all(view: &mut Changed, keys: &[Dbkey]) -> Result<(), NoMemory>
+pub(crate) fn erase_all(view: &mut Changed<'_>, keys: &[Dbkey]) -> Result<(), NoMemory>
     ensures stands { OnOk result ((first : Lines) → Stands view.old first → Stands view.new first) }
     ensures laid { OnOk result ((first : Lines) → Stands view.old first → laid_over view.new.lines first ≡ laid_all (erasures keys.now) (laid_over view.old.lines first)) }
     ensures areas { OnOk result ((areas : List ℕ) → AllByRecursion (λ k. is_among areas k.area ≡ true) keys.now → WritesOf areas view.old view.new) }

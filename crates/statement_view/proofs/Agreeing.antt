@@ -15,7 +15,7 @@ use Rattle.line_view.specs.declared.need.Room.{Room}
 use Rattle.line_view.specs.Knowledge.{Lines, IsInOrder, Agrees, line_in, lines_in, keys_of, laid}
 use Rattle.line_view.specs.Held.{Held, knows, written}
 use Rattle.line_view.proofs.FullMap.{other_area, keys_written}
-use Rattle.statement_view.specs.Over.{Over, first_of, is_written, room_at, rooms_left, area_written, knows_over, laid_over, with_over, Stands}
+use Rattle.statement_view.specs.Over.{Over, seen_of, first_of, is_written, room_at, rooms_left, area_written, knows_over, laid_over, with_over, Stands}
 use Rattle.statement_view.proofs.Laying.{Written, image_or, sorted_put, over_found, over_put, over_in_order}
 use Rattle.statement_view.proofs.Rooms.{left_room, left_once}
 
@@ -109,6 +109,10 @@ nothing_written : (h : Held) (first : Lines) → Agrees (knows h) first → Agre
 nothing_written h first agrees =
     let o : Over = record { base = h; lines = []; areas = [] } in
     record { line = agrees.line; area = agrees.area; within = within_over o first agrees; free = free_over o first refl agrees; apart = apart_over o first agrees }
+
+-- where no area is seen the view agrees too
+pub sees_less : (h : Held) (first : Lines) → Agrees (knows h) first → Agrees (knows (seen_of false h)) first
+sees_less h first agrees = record { line = agrees.line; area = λ area keys is. let bad : ⊥ = cc in absurd bad; within = agrees.within; free = agrees.free; apart = agrees.apart }
 
 pub begins : (h : Held) (first : Lines) → IsInOrder first → Agrees (knows h) first → Stands (record { base = h; lines = []; areas = [] }) first
 begins h first ordered agrees = record { ordered = ordered; base = agrees; agrees = nothing_written h first agrees }

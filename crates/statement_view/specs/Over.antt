@@ -1,5 +1,5 @@
 -- The lines that a statement has written, over what is known.
-use Rattle.std.specs.Prelude.{◌≡◌, ◌≢◌, ◌<◌, ℕ, zero, suc, ◌+◌, Bool, true, not, List, [], ◌∷◌, map, Option, Some, None, is_some, slice_get}
+use Rattle.std.specs.Prelude.{◌≡◌, ◌≢◌, ◌<◌, ℕ, zero, suc, ◌+◌, Bool, true, not, List, [], ◌∷◌, map, Option, Some, None, is_some, slice_get, if◌then◌else◌}
 use Rattle.std.specs.List.{filter}
 use Rattle.std.specs.Ordering.{nat_cmp}
 use Rattle.std.specs.FinMap.Entries.{find, put}
@@ -15,6 +15,10 @@ pub record Over : Type 0 where
   pub base : Held
   pub lines : List (Dbkey × Option (List ℕ))
   pub areas : List (ℕ × List Dbkey)
+
+-- what is seen of what is known: the keys of areas, or those of none
+abbrev pub seen_of : Bool → Held → Held
+seen_of sees_areas h = record { lines = h.lines; areas = if sees_areas then h.areas else []; rooms = h.rooms }
 
 abbrev pub first_of : {X : Type 0} → Option X → Option X → Option X
 first_of (Some x) other = Some x

@@ -1,4 +1,4 @@
-ghost use Rattle.std.specs.Prelude.{◌≡◌, [], ◌∷◌, true, map, None, IfSome, IfNone, IfOk, OnOk};
+ghost use Rattle.std.specs.Prelude.{◌≡◌, [], ◌∷◌, true, false, map, option_map, None, IfSome, IfNone, IfOk, OnOk};
 ghost use Rattle.std.specs.List.{AllByRecursion};
 ghost use Rattle.std.specs.List.Sorted.{IsStrictlySortedBy};
 ghost use Rattle.std.specs.FinMap.Entries.{find};
@@ -7,7 +7,7 @@ ghost use Rattle.rdb_types.specs.Order.{dbkey_order};
 ghost use Rattle.line_view.specs.Knowledge.{Lines, IsInOrder, Agrees, laid};
 ghost use Rattle.line_view.specs.Held.{knows, key_sets};
 ghost use Rattle.line_view.specs.Writes.{laid_all};
-ghost use Rattle.statement_view.specs.Over.{is_written, knows_over, area_written, area_kept, with_over, laid_over, writes_of, Stands, room_at, all_rooms, AreRoomsKnown, AreRoomsWritten};
+ghost use Rattle.statement_view.specs.Over.{is_written, seen_of, knows_over, area_written, area_kept, with_over, laid_over, writes_of, Stands, room_at, all_rooms, AreRoomsKnown, AreRoomsWritten};
 ghost use Rattle.statement_view.specs.Areas.{WritesOf};
 
 use line_view::{Known, Room, Seen, View, Write, Writes};
@@ -23,18 +23,25 @@ fn copied_keys(keys: &BTreeSet<Dbkey>) -> Result<BTreeSet<Dbkey>, NoMemory>
     Ok(copy)
 }
 
-// The keys of a known area are copied before they are changed.
+// The keys of an area, where those of areas are seen.
+fn seen_area(known: &Known, sees_areas: bool, area: u32) -> Option<&BTreeSet<Dbkey>>
+    ensures { option_map (λ keys. keys.now.keys) result ≡ (knows (seen_of sees_areas known.now)).area area }
+{
+    if sees_areas { known.area(area) } else { None }
+}
+
+// The keys of an area that are seen are copied before they are changed.
 fn keep_area(
     areas: &mut BTreeMap<u32, BTreeSet<Dbkey>>,
-    known: &Known,
+    seen: Option<&BTreeSet<Dbkey>>,
     area: u32,
 ) -> Result<(), NoMemory>
-    ensures { OnOk result (key_sets areas.new.entries ≡ area_kept area (key_sets areas.old.entries) (find nat_cmp area (key_sets areas.old.entries)) ((knows known.now).area area)) }
+    ensures { OnOk result (key_sets areas.new.entries ≡ area_kept area (key_sets areas.old.entries) (find nat_cmp area (key_sets areas.old.entries)) (option_map (λ keys. keys.now.keys) seen.entry)) }
 {
     if areas.contains_key(&area) {
         return Ok(());
     }
-    let Some(keys) = known.area(area) else {
+    let Some(keys) = seen else {
         return Ok(());
     };
     let copy = copied_keys(keys)?;
@@ -77,56 +84,65 @@ fn listed(
 
 /// What is known, and over it the lines that a statement has written.
 #[derive(Drop)]
-pub struct Changed {
-    known: Known,
+pub struct Changed<'a> {
+    known: &'a Known,
+    // Whether the keys of areas that are known are seen.
+    sees_areas: bool,
     lines: BTreeMap<Dbkey, Option<Image>>,
     areas: BTreeMap<u32, BTreeSet<Dbkey>>,
     // By the first room of an area and a class: of how many rooms from it on it is noted that they are written, so that they aren't gone past again.
     passed: BTreeMap<Room, u32>,
 }
 
-impl Model for Changed {
+impl<'a> Model for Changed<'a> {
     ghost use Rattle.line_view.specs.Held.{knows, key_sets};
-    ghost use Rattle.statement_view.specs.Over.{Over, ArePassed};
+    ghost use Rattle.statement_view.specs.Over.{Over, ArePassed, seen_of};
 
     ghost Value = { Over };
 
-    ghost view = { λ c. record { base = c.known; lines = c.lines.entries; areas = key_sets c.areas.entries } };
+    ghost view = { λ c. record { base = seen_of c.sees_areas c.known.now; lines = c.lines.entries; areas = key_sets c.areas.entries } };
 
-    ghost invariant = { λ c. ArePassed (knows c.known) c.lines.entries c.passed.entries };
+    ghost invariant = { λ c. ArePassed (knows c.known.now) c.lines.entries c.passed.entries };
 }
 
-impl Changed {
+impl<'a> Changed<'a> {
     /// Nothing is written.
-    pub fn new(alloc: Global, known: Known) -> Changed
-        ensures value { result ≡ record { base = known; lines = []; areas = [] } }
-        ensures stands { (first : Lines) → IsInOrder first → Agrees (knows known) first → Stands result first }
+    pub fn new(alloc: Global, known: &'a Known) -> Changed<'a>
+        ensures value { result ≡ record { base = known.now; lines = []; areas = [] } }
+        ensures stands { (first : Lines) → IsInOrder first → Agrees (knows known.now) first → Stands result first }
     {
         Changed {
             known,
+            sees_areas: true,
             lines: BTreeMap::new(alloc),
             areas: BTreeMap::new(alloc),
             passed: BTreeMap::new(alloc),
         }
     }
 
-    /// What was known.
-    pub fn into_known(self) -> Known
-        ensures { result ≡ self.base }
+    /// Nothing is written. Which lines an area has isn't seen, though it be known, so that no write copies its keys: for work that reads no area.
+    pub fn without_areas(alloc: Global, known: &'a Known) -> Changed<'a>
+        ensures value { result ≡ record { base = seen_of false known.now; lines = []; areas = [] } }
+        ensures stands { (first : Lines) → IsInOrder first → Agrees (knows known.now) first → Stands result first }
     {
-        self.known
+        Changed {
+            known,
+            sees_areas: false,
+            lines: BTreeMap::new(alloc),
+            areas: BTreeMap::new(alloc),
+            passed: BTreeMap::new(alloc),
+        }
     }
 
-    /// What was known, and the lines that were written, each once.
-    pub fn finish(self, alloc: Global) -> (Known, Result<Writes, NoMemory>)
-        ensures known { result.0 ≡ self.base }
-        ensures writes { IfOk result.1 (λ writes. (all : Lines) → laid_all writes all ≡ laid_over self.lines all) }
-        ensures ordered { IfOk result.1 (λ writes. IsStrictlySortedBy dbkey_order (map (λ write. write.key) writes)) }
-        ensures written { IfOk result.1 (λ writes. AllByRecursion (λ write. is_written self.lines write.key ≡ true) writes) }
+    /// The lines that were written, each once.
+    pub fn finish(self, alloc: Global) -> Result<Writes, NoMemory>
+        ensures writes { IfOk result (λ writes. (all : Lines) → laid_all writes all ≡ laid_over self.entry.lines all) }
+        ensures ordered { IfOk result (λ writes. IsStrictlySortedBy dbkey_order (map (λ write. write.key) writes)) }
+        ensures written { IfOk result (λ writes. AllByRecursion (λ write. is_written self.entry.lines write.key ≡ true) writes) }
     {
-        let Changed { known, lines, .. } = self;
+        let Changed { lines, .. } = self;
         let count = lines.len();
-        (known, listed(alloc, count, lines))
+        listed(alloc, count, lines)
     }
 
     /// Writes a line: it is present with this image, or it isn't. Where memory fails nothing more is said of the view than what was known.
@@ -138,7 +154,8 @@ impl Changed {
         ensures known { self.new.base ≡ self.old.base }
     {
         let is_present = image.is_some();
-        keep_area(&mut self.areas, &self.known, key.area)?;
+        let seen = seen_area(self.known, self.sees_areas, key.area);
+        keep_area(&mut self.areas, seen, key.area)?;
         write_key(&mut self.areas, key, is_present)?;
         let _before = self.lines.insert(key, image)?;
         Ok(())
@@ -211,7 +228,7 @@ impl Changed {
     }
 }
 
-impl View for Changed {
+impl<'a> View for Changed<'a> {
     ghost knows = { knows_over };
 
     fn line(&self, key: Dbkey) -> Seen<'_> {
@@ -225,7 +242,7 @@ impl View for Changed {
     fn area(&self, area: u32) -> Option<&BTreeSet<Dbkey>> {
         match self.areas.get(&area) {
             Some(keys) => Some(keys),
-            None => self.known.area(area),
+            None => seen_area(self.known, self.sees_areas, area),
         }
     }
 

@@ -14,18 +14,18 @@ use Rattle.rdo_exec.proofs.defining.relation_defined.Goals as goal
 pub returns-clause-comes : goal.returns-clause-comes
 returns-clause-comes c = λ word.
     let a = c.args in
-    comes_of_defines word a.standing.now (define_relation a.name.now a.fields.now) a.catalog.now (knows a.known) c.requires.catalog tt
+    comes_of_defines word a.standing.now (define_relation a.name.now a.fields.now) a.catalog.now (knows a.known.now) c.requires.catalog tt
     (relation_names a.name.now a.fields.now) c.new-view.result c.define_relation-end.new.view (ap (λ (o : Over). knows o.base) c.new-view.ensures.value) (ap (λ (o : Over). o.lines) c.new-view.ensures.value) c.new-view.ensures.stands
     (λ all t sound. writing_relation word a.name.now a.fields.now a.standing.now t c.requires.writing)
-    c.define_relation-end.result c.written.result.found c.written.ensures.found c.define_relation-end.ensures.defines
+    c.define_relation-end.result c.written.result c.written.ensures c.define_relation-end.ensures.defines
 
 pub returns-clause-asked : goal.returns-clause-asked
 returns-clause-asked c =
     let a = c.args in
-    defined_asks a.standing.now a.catalog.now (knows a.known) c.requires.catalog c.new-view.result c.define_relation-end.new.view (ap (λ (o : Over). o.lines) c.new-view.ensures.value) c.new-view.ensures.stands
-    (define_relation a.name.now a.fields.now) c.requires.writing refl (λ t lock. refl) c.define_relation-end.result c.written.result.found c.written.ensures.found c.define_relation-end.ensures.areas
+    defined_asks a.standing.now a.catalog.now (knows a.known.now) c.requires.catalog c.new-view.result c.define_relation-end.new.view (ap (λ (o : Over). o.lines) c.new-view.ensures.value) c.new-view.ensures.stands
+    (define_relation a.name.now a.fields.now) c.requires.writing refl (λ t lock. refl) c.define_relation-end.result c.written.result c.written.ensures c.define_relation-end.ensures.areas
 
 pub returns-then-not-is_relation_definition-clause-comes : goal.returns-then-not-is_relation_definition-clause-comes
 returns-then-not-is_relation_definition-clause-comes c = λ word.
     let a = c.args in
-    left word a.standing.now (said (define_relation a.name.now a.fields.now)) (knows a.known) Unworked refl (λ all t sound agrees. strange (define_relation a.name.now a.fields.now) refl (c.is_relation_definition.ensures.no c.if-not-is_relation_definition.true))
+    left word a.standing.now (said (define_relation a.name.now a.fields.now)) (knows a.known.now) Unworked refl (λ all t sound agrees. strange (define_relation a.name.now a.fields.now) refl (c.is_relation_definition.ensures.no c.if-not-is_relation_definition.true))

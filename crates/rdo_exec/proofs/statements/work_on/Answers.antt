@@ -5,7 +5,7 @@ use Rattle.rdo_ast.specs.Views.{uttered_of}
 use Rattle.rdb_account.specs.Lawful.{first_refusal}
 use Rattle.rdb_account.specs.Places.{begins}
 use Rattle.line_view.specs.Held.{knows}
-use Rattle.session_jobs.specs.Jobs.{NamesNoNeed}
+use Rattle.rdo_exec.specs.Acted.{IsSettled}
 use Rattle.rdo_exec.specs.Coming.{Asks, Comes}
 use Rattle.rdo_exec.specs.Needed.{ItemNeeds}
 use Rattle.rdo_exec.proofs.statements.work_on.Goals as goal
@@ -21,7 +21,7 @@ returns-clause-comes c = subst (λ (i : Item). Comes c.args.word.now c.args.stan
 
 pub returns-clause-outside : goal.returns-clause-outside
 returns-clause-outside c =
-    subst (λ (i : Item). c.args.standing.now ≡ Closed → begins (uttered_of i) ≡ None → NamesNoNeed c.work_statement.result.found) (sym c.in-Statement.is) c.work_statement.ensures.outside
+    subst (λ (i : Item). c.args.standing.now ≡ Closed → begins (uttered_of i) ≡ None → IsSettled c.work_statement.result.found) (sym c.in-Statement.is) c.work_statement.ensures.outside
 
 pub returns-clause-needs : goal.returns-clause-needs
 returns-clause-needs c = subst (λ (i : Item). ItemNeeds (uttered_of i) (knows c.args.known) c.work_statement.result.found) (sym c.in-Statement.is) c.work_statement.ensures.needs

@@ -12,6 +12,7 @@ use Rattle.rdo_exec.proofs.Answered.{left}
 use Rattle.rdo_exec.proofs.Viewing.{unranged_strange}
 use Rattle.rdo_exec.proofs.Answering.{answered_comes, answered_reads_nothing}
 use Rattle.rdo_exec.proofs.Locks.{answered_asks}
+use Rattle.rdo_exec.proofs.Outside.{answered_settled, unranged_begins}
 use Rattle.rdo_exec.proofs.Viewing.{naming_views, defining_views, viewing_begins, reserving_begins}
 use Rattle.rdo_exec.proofs.FirstNeeds.{item_names_none, reserving_needs}
 use Rattle.rdo_exec.proofs.statements.work_statement.Goals as goal
@@ -23,7 +24,7 @@ pub returns-in-Plain-clause-comes : goal.returns-in-Plain-clause-comes
 returns-in-Plain-clause-comes c = answered_comes c.args.word.now c.args.standing.now (said (command_of c.args.statement.now)) (knows c.args.known) c.plain.result c.plain.ensures
 
 pub returns-in-Plain-clause-outside : goal.returns-in-Plain-clause-outside
-returns-in-Plain-clause-outside c = λ shut nothing. answered_reads_nothing c.args.word.now c.args.standing.now (said (command_of c.args.statement.now)) c.plain.result c.plain.ensures
+returns-in-Plain-clause-outside c = λ shut nothing. answered_settled c.args.word.now c.args.standing.now (said (command_of c.args.statement.now)) c.plain.result c.plain.ensures
 
 pub returns-in-Bare-clause-asked : goal.returns-in-Bare-clause-asked
 returns-in-Bare-clause-asked c = λ all t sound agrees. answered_asks c.args.word.now c.args.standing.now (said (command_of c.args.statement.now)) c.bare.result t (c.bare.ensures c.args.word.now)
@@ -32,7 +33,7 @@ pub returns-in-Bare-clause-comes : goal.returns-in-Bare-clause-comes
 returns-in-Bare-clause-comes c = answered_comes c.args.word.now c.args.standing.now (said (command_of c.args.statement.now)) (knows c.args.known) c.bare.result (c.bare.ensures c.args.word.now)
 
 pub returns-in-Bare-clause-outside : goal.returns-in-Bare-clause-outside
-returns-in-Bare-clause-outside c = λ shut nothing. answered_reads_nothing c.args.word.now c.args.standing.now (said (command_of c.args.statement.now)) c.bare.result (c.bare.ensures c.args.word.now)
+returns-in-Bare-clause-outside c = λ shut nothing. answered_settled c.args.word.now c.args.standing.now (said (command_of c.args.statement.now)) c.bare.result (c.bare.ensures c.args.word.now)
 
 pub returns-in-Reserving-clause-outside : goal.returns-in-Reserving-clause-outside
 returns-in-Reserving-clause-outside c = λ shut nothing. absurd (reserving_begins (command_of c.args.statement.now) (subst (λ (w : Way). IsWay w (command_of c.args.statement.now)) c.in-Reserving.is c.way_of.ensures) nothing)
@@ -47,7 +48,9 @@ returns-in-Strange-clause-comes c =
     left c.args.word.now c.args.standing.now (said command) (knows c.args.known) Unworked refl (λ all t sound agrees. strange command refl (unranged_strange command way))
 
 pub returns-in-Strange-clause-outside : goal.returns-in-Strange-clause-outside
-returns-in-Strange-clause-outside c = λ shut nothing. tt
+returns-in-Strange-clause-outside c = λ shut nothing.
+    let command = command_of c.args.statement.now in
+    absurd (unranged_begins command (subst (λ (x : Standing). standing_refusal command x ≡ None) shut c.requires.standing) (subst (λ (w : Way). IsWay w command) c.in-Strange.is c.way_of.ensures) nothing)
 
 pub returns-in-Acting-clause-comes : goal.returns-in-Acting-clause-comes
 returns-in-Acting-clause-comes c = c.viewed.ensures.comes c.args.word.now

@@ -3,10 +3,12 @@ use Rattle.rdo_ast.specs.Views.{uttered_of}
 use Rattle.std.specs.Prelude.{Ok}
 use Rattle.line_view.specs.Held.{knows}
 use Rattle.session_jobs.specs.declared.jobs.Found.{Found}
-use Rattle.session_jobs.specs.Jobs.{IsFound, NamesOnce, NamesNoNeed}
+use Rattle.session_jobs.specs.Jobs.{IsFound, NamesOnce}
 use Rattle.sound_maps.specs.Maps.{IsSoundWith}
 use Rattle.rdo_exec.specs.Coming.{Comes}
 use Rattle.rdo_exec.proofs.Answered.{why_left, refused_comes, answer_asks, answer_names}
+use Rattle.rdo_exec.specs.Acted.{IsSettled}
+use Rattle.rdo_exec.proofs.Outside.{refused_settled}
 use Rattle.rdo_exec.proofs.Locks.{found_by}
 use Rattle.rdo_exec.specs.Needed.{ItemNeeds}
 use Rattle.rdo_exec.proofs.FirstNeeds.{uttered_names_none}
@@ -22,7 +24,7 @@ returns-in-Some-clause-right c =
     (refused_comes a.word.now a.standing.now item (knows a.known) c.in-Some.reply c.copied.result (sym c.in-Some.ensures) c.copied.ensures))
 
 pub returns-in-Some-clause-outside : goal.returns-in-Some-clause-outside
-returns-in-Some-clause-outside c = λ shut nothing. subst NamesNoNeed (sym c.answered_by.ensures) (answer_names (Ok c.in-Some.reply) c.copied.result)
+returns-in-Some-clause-outside c = λ shut nothing. subst IsSettled (sym c.answered_by.ensures) (refused_settled c.args.standing.now (uttered_of c.args.item.now) c.in-Some.reply c.copied.result shut (sym c.in-Some.ensures))
 
 pub returns-in-None-clause-right : goal.returns-in-None-clause-right
 returns-in-None-clause-right c = found_by c.args.word.now c.args.standing.now (uttered_of c.args.item.now) (knows c.args.known) c.work_on.result.found c.work_on.ensures.asked c.work_on.ensures.comes

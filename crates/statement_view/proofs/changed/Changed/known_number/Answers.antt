@@ -1,7 +1,7 @@
 use Rattle.std.proofs.Common.{rules, ◌≡◌, ◌-◌, ◌+◌, Some, ap, ◌∙◌, slice_get, arith}
 use Rattle.rdb_types.specs.declared.keys.Dbkey.{Dbkey}
 use Rattle.line_view.specs.Held.{knows}
-use Rattle.statement_view.specs.Over.{room_at}
+use Rattle.statement_view.specs.Over.{room_at, seen_of}
 use Rattle.statement_view.proofs.Steps.{passed, left_from, goes_past, goes_on, room_is, one_more_written}
 use Rattle.statement_view.proofs.changed.Changed.known_number.Goals as goal
 use Rattle.statement_view.proofs.changed.Changed.known_number.Goals.{then-not-is_written+else-left-eq0, else-not-is_written}
@@ -19,7 +19,7 @@ loop-nth-preserved c =
     let class = c.args.room.class in
     let key : Dbkey = c.in_ok-key.key in
     let behind = left_from (4294967295 - (c.loop-nth.nth + 1)) (knows self.base) self.lines area class (c.loop-nth.nth + 1) in
-    let room : (knows self.base).room (room_at area class c.loop-nth.nth) ≡ Some key = room_is self c.self.inside.known area class c.loop-nth.nth key (ap (λ o. o.base) c.self.view_is) (search rules) in
+    let room : (knows self.base).room (room_at area class c.loop-nth.nth) ≡ Some key = room_is self (seen_of c.self.inside.sees_areas c.self.inside.known.now) area class c.loop-nth.nth key (ap (λ o. o.base) c.self.view_is) (search rules) in
     elim c.if-not-is_written.branch [
       | then-not-is_written+else-left-eq0 w ↦ record {
         left = ap (λ n. slice_get behind n) w.left-is ∙ goes_on (knows self.base) self.lines area class c.loop-nth.nth c.loop-nth.left _ key (search rules) room (c.loop-nth.left - 1) (search rules) (search rules) c.loop-nth.invariant.left;
