@@ -3,11 +3,13 @@ ghost use Rattle.std.specs.Prelude.{◌≡◌, ◌+◌, ◌≤◌, ◌<◌, ◌^
 ghost use Rattle.rdb_types.specs.declared.file.FileId.{FileId as File};
 ghost use Rattle.rdb_types.specs.declared.file.FileKind.TheVariants.{Aij};
 ghost use Rattle.rdb_outside.specs.Causes.{Rose};
+ghost use Rattle.rdb_outside.specs.Disk.{Pending};
 ghost use Rattle.area_files.specs.Areas.{IsDataPage};
-ghost use Rattle.stable_lines.specs.Slots.{area_file};
+ghost use Rattle.stable_lines.specs.Slots.{area_file, IsAreaFile};
 ghost use Rattle.stable_lines.specs.Progress.{Open, Flight};
 ghost use Rattle.line_moves.specs.Calls.{OnlyWrites};
-ghost use Rattle.line_moves.specs.Classes.{HaveTheirClasses};
+ghost use Rattle.line_moves.specs.declared.places.Place.{Place as Spot};
+ghost use Rattle.line_moves.specs.Classes.{HaveTheirClasses, KeepsOwners, LieForArea};
 ghost use Rattle.line_moves.specs.Lines.{AreDistinct, PutsOnly};
 ghost use Rattle.line_seat.specs.Groups.{AreAllowed, AreOfClasses, ArePlaced, HaveClasses};
 ghost use Rattle.line_seat.specs.declared.commit.CommitStage.TheVariants.{Gathering};
@@ -56,6 +58,12 @@ pub fn go_on<D: Disk>(
         → AreOfClasses by_area lines.now classes.now
         → HaveTheirClasses by_area (D.view disk.old).content
         → HaveTheirClasses by_area (D.view disk.new).content }
+
+    // Whatever it answers, a page that may have no other area's owner has none, where the lines that lie there are the area's.
+    ensures owners { IsTrue (D.view disk.old).tells → (ledger : Ledger)
+        → LedgerFacts (D.view disk.old) ledger → (there : Spot) (area : ℕ)
+        → IsAreaFile there.file → IsDataPage there.page → LieForArea lines.now there area
+        → KeepsOwners (Pending (D.view disk.old)) (Pending (D.view disk.new)) there area }
 
     // Whatever it answers, the commit can go on.
     ensures keeps { IsTrue (D.view disk.old).tells

@@ -7,7 +7,8 @@ ghost use Rattle.area_files.specs.Areas.{IsDataPage, space_page_of};
 ghost use Rattle.space_pages.specs.Space.{IsSpace};
 ghost use Rattle.stable_lines.specs.Slots.{area_file, IsAreaFile};
 ghost use Rattle.line_moves.specs.Calls.{OnlyWrites};
-ghost use Rattle.line_moves.specs.Classes.{HaveTheirClasses};
+ghost use Rattle.line_moves.specs.declared.places.Place.{Place as Spot};
+ghost use Rattle.line_moves.specs.Classes.{HaveTheirClasses, KeepsOwners};
 ghost use Rattle.line_moves.specs.Changes.{IsForArea, IsPlaceOf, KeepsLines};
 ghost use Rattle.line_moves.specs.Lines.{ChangedLines};
 ghost use Rattle.disk_seats.specs.Ledgers.{Ledger};
@@ -45,6 +46,10 @@ pub fn enter<D: Disk>(disk: &mut D, place: Place, area: u32) -> Result<(), Fault
     ensures classes { IsTrue (D.view disk.old).tells → (classes : ℕ → ℕ)
         → HaveTheirClasses classes (D.view disk.old).content
         → HaveTheirClasses classes (D.view disk.new).content }
+
+    // Whatever it answers, a page that may have no other area's owner has none.
+    ensures owners { IsTrue (D.view disk.old).tells → (there : Spot) (area : ℕ) → IsDataPage there.page
+        → KeepsOwners (Pending (D.view disk.old)) (Pending (D.view disk.new)) there area }
 
     // Whatever it answers, the ledger stays, where nobody commits and no other area has the page.
     ensures keeps { IsTrue (D.view disk.old).tells → (ledger : Ledger)

@@ -2,11 +2,13 @@
 ghost use Rattle.std.specs.Prelude.{◌≡◌, ◌≤◌, ◌<◌, ◌+◌, ℕ, List, length, Some, IfOk, IsErrOf, IsTrue};
 ghost use Rattle.rdb_types.specs.declared.file.FileId.{FileId as File};
 ghost use Rattle.rdb_outside.specs.Causes.{Rose};
+ghost use Rattle.rdb_outside.specs.Disk.{Pending};
 ghost use Rattle.area_files.specs.Areas.{IsDataPage};
-ghost use Rattle.stable_lines.specs.Slots.{area_file, Undo};
+ghost use Rattle.stable_lines.specs.Slots.{area_file, IsAreaFile, Undo};
 ghost use Rattle.stable_lines.specs.Progress.{Open};
 ghost use Rattle.line_moves.specs.Calls.{OnlyWrites};
-ghost use Rattle.line_moves.specs.Classes.{HaveTheirClasses};
+ghost use Rattle.line_moves.specs.declared.places.Place.{Place as Spot};
+ghost use Rattle.line_moves.specs.Classes.{HaveTheirClasses, KeepsOwners};
 ghost use Rattle.line_opening.specs.Undoing.{PutsBack};
 ghost use Rattle.disk_seats.specs.Ledgers.{Ledger, undoing, stands_as};
 ghost use Rattle.disk_seats.specs.Members.{LedgerFacts};
@@ -55,6 +57,12 @@ pub fn undo<D: Disk>(
         → LedgerFacts (D.view disk.old) ledger → (classes : ℕ → ℕ)
         → HaveTheirClasses classes (D.view disk.old).content
         → HaveTheirClasses classes (D.view disk.new).content }
+
+    // Whatever it answers, a page that may have no other area's owner has none.
+    ensures owners { IsTrue (D.view disk.old).tells → (ledger : Ledger)
+        → LedgerFacts (D.view disk.old) ledger → (there : Spot) (area : ℕ)
+        → IsAreaFile there.file → IsDataPage there.page
+        → KeepsOwners (Pending (D.view disk.old)) (Pending (D.view disk.new)) there area }
 
     // Whatever it answers, the ledger stays, and it may be begun again.
     ensures keeps { IsTrue (D.view disk.old).tells

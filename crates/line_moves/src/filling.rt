@@ -5,12 +5,14 @@ ghost use Rattle.rdb_page.specs.Page.{IsClass, IsUnused, class_at};
 ghost use Rattle.rdb_page.specs.Whole.{IsPageOf, IsUsedPage};
 ghost use Rattle.rdb_outside.specs.Causes.{Rose};
 ghost use Rattle.rdb_outside.specs.Disk.{Pending};
-ghost use Rattle.stable_lines.specs.Slots.{area_file as file_named};
+ghost use Rattle.area_files.specs.Areas.{IsDataPage};
+ghost use Rattle.stable_lines.specs.Slots.{IsAreaFile, area_file as file_named};
 ghost use Rattle.stable_lines.specs.Progress.{Progress};
 ghost use Rattle.stable_lines.specs.Facts.{Facts};
 ghost use Rattle.line_moves.specs.Calls.{OnlyWrites};
 ghost use Rattle.line_moves.specs.Changes.{IsPlaceOf};
-ghost use Rattle.line_moves.specs.Classes.{HaveTheirClasses};
+ghost use Rattle.line_moves.specs.declared.places.Place.{Place as Spot};
+ghost use Rattle.line_moves.specs.Classes.{HaveTheirClasses, KeepsOwners, LieForArea};
 ghost use Rattle.line_moves.specs.Lines.{AllFit, AllFitBegun, AreDistinct, ArePut, Fills, MayBegin, IsStarted, MayPutAll, PutsOnly};
 
 use crate::pages::{NoPlace, put_on};
@@ -126,6 +128,12 @@ pub fn write_page<D: Disk>(
         → ((line : _) → slice_get lines.now from ≡ Some line → class ≡ classes line.0.area)
         → HaveTheirClasses classes (D.view disk.old).content
         → HaveTheirClasses classes (D.view disk.new).content }
+
+    // Whatever it answers, a page that may have no other area's owner has none, where the lines that lie there are the area's.
+    ensures owners { IsTrue (D.view disk.old).tells → (now : Progress)
+        → Facts (Pending (D.view disk.old)) now → (there : Spot) (area : ℕ)
+        → IsAreaFile there.file → IsDataPage there.page → LieForArea lines.now there area
+        → KeepsOwners (Pending (D.view disk.old)) (Pending (D.view disk.new)) there area }
 
     // Whatever it answers, each line is as it was, or one of these.
     ensures changes { IsTrue (D.view disk.old).tells → (now : Progress)

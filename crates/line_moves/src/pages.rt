@@ -7,13 +7,15 @@ ghost use Rattle.rdb_page.specs.Page.{class_at};
 ghost use Rattle.rdb_page.specs.Whole.{IsPageOf};
 ghost use Rattle.rdb_outside.specs.Causes.{Rose};
 ghost use Rattle.rdb_outside.specs.Disk.{Pending};
-ghost use Rattle.stable_lines.specs.Slots.{area_file as file_named, has_place, line_on, line_at as line_in_image};
+ghost use Rattle.area_files.specs.Areas.{IsDataPage};
+ghost use Rattle.stable_lines.specs.Slots.{IsAreaFile, area_file as file_named, has_place, line_on, line_at as line_in_image};
 ghost use Rattle.stable_lines.specs.Progress.{Progress};
 ghost use Rattle.stable_lines.specs.Facts.{Facts};
 ghost use Rattle.line_moves.specs.Calls.{OnlyWrites};
 ghost use Rattle.line_moves.specs.Contents.{PutsLine};
 ghost use Rattle.line_moves.specs.Changes.{IsPlaceOf, MayPut, Fits, PutsOne};
-ghost use Rattle.line_moves.specs.Classes.{HaveTheirClasses};
+ghost use Rattle.line_moves.specs.declared.places.Place.{Place as Spot};
+ghost use Rattle.line_moves.specs.Classes.{HaveTheirClasses, KeepsOwners};
 
 use crate::places::{Place, area_file};
 use area_files::slot_of;
@@ -91,6 +93,12 @@ pub fn change_line<D: Disk>(
         → Facts (Pending (D.view disk.old)) now → (classes : ℕ → ℕ)
         → HaveTheirClasses classes (D.view disk.old).content
         → HaveTheirClasses classes (D.view disk.new).content }
+
+    // Whatever it answers, a page that may have no other area's owner has none.
+    ensures owners { IsTrue (D.view disk.old).tells → (now : Progress)
+        → Facts (Pending (D.view disk.old)) now → (there : Spot) (area : ℕ)
+        → IsAreaFile there.file → IsDataPage there.page
+        → KeepsOwners (Pending (D.view disk.old)) (Pending (D.view disk.new)) there area }
 
     // Whatever it answers, no other line is changed, and this one is as it was or stands.
     ensures changes { IsTrue (D.view disk.old).tells → (now : Progress)

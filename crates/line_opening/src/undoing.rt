@@ -5,11 +5,12 @@ ghost use Rattle.rdb_types.specs.declared.keys.Dbkey.{Dbkey as Key};
 ghost use Rattle.rdb_outside.specs.Causes.{Rose};
 ghost use Rattle.rdb_outside.specs.Disk.{Pending, LeavesOnly};
 ghost use Rattle.area_files.specs.Areas.{IsDataPage};
-ghost use Rattle.stable_lines.specs.Slots.{area_file as file_named, line_at as line_named};
+ghost use Rattle.stable_lines.specs.Slots.{area_file as file_named, line_at as line_named, IsAreaFile};
 ghost use Rattle.stable_lines.specs.Progress.{Open, Progress};
 ghost use Rattle.stable_lines.specs.Facts.{IsNotOpen, Facts, StandsAs};
 ghost use Rattle.line_moves.specs.Calls.{OnlyWrites};
-ghost use Rattle.line_moves.specs.Classes.{HaveTheirClasses};
+ghost use Rattle.line_moves.specs.declared.places.Place.{Place as Spot};
+ghost use Rattle.line_moves.specs.Classes.{HaveTheirClasses, KeepsOwners};
 ghost use Rattle.line_opening.specs.Undoing.{AreUndone, MayUndo, PutsBack};
 
 use line_moves::{Undone, undo_line};
@@ -49,6 +50,12 @@ pub fn undo_next<D: Disk>(
         → Facts (Pending (D.view disk.old)) now → (classes : ℕ → ℕ)
         → HaveTheirClasses classes (D.view disk.old).content
         → HaveTheirClasses classes (D.view disk.new).content }
+
+    // Whatever it answers, a page that may have no other area's owner has none.
+    ensures owners { IsTrue (D.view disk.old).tells → (now : Progress)
+        → Facts (Pending (D.view disk.old)) now → (there : Spot) (area : ℕ)
+        → IsAreaFile there.file → IsDataPage there.page
+        → KeepsOwners (Pending (D.view disk.old)) (Pending (D.view disk.new)) there area }
 
     // Whatever it answers, the facts stay.
     ensures keeps { IsTrue (D.view disk.old).tells → (now : Progress) (transaction : Open)

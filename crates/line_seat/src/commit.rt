@@ -6,11 +6,12 @@ ghost use Rattle.rdb_outside.specs.Causes.{Rose};
 ghost use Rattle.rdb_outside.specs.Disk.{Pending};
 ghost use Rattle.area_files.specs.Areas.{IsDataPage};
 ghost use Rattle.new_database.specs.Maker.{aij_file as aij_named};
-ghost use Rattle.stable_lines.specs.Slots.{area_file as file_named};
+ghost use Rattle.stable_lines.specs.Slots.{area_file as file_named, IsAreaFile};
 ghost use Rattle.stable_lines.specs.Progress.{Open, Flight, Progress};
 ghost use Rattle.stable_lines.specs.Facts.{Facts};
 ghost use Rattle.line_moves.specs.Calls.{OnlyWrites};
-ghost use Rattle.line_moves.specs.Classes.{HaveTheirClasses};
+ghost use Rattle.line_moves.specs.declared.places.Place.{Place as Spot};
+ghost use Rattle.line_moves.specs.Classes.{HaveTheirClasses, KeepsOwners, LieForArea};
 ghost use Rattle.line_moves.specs.Lines.{AreDistinct, PutsOnly};
 ghost use Rattle.line_seat.specs.Groups.{AreAllowed, AreOfClasses, ArePlaced, HaveClasses, IsCommitting, group_line};
 ghost use Rattle.line_seat.specs.Stages.{CommitFacts, IsNextStage, progress_at};
@@ -103,6 +104,10 @@ fn change_page<D: Disk>(
         → AreOfClasses by_area lines.now classes.now
         → HaveTheirClasses by_area (D.view disk.old).content
         → HaveTheirClasses by_area (D.view disk.new).content }
+    ensures owners { IsTrue (D.view disk.old).tells → (now : Progress)
+        → Facts (Pending (D.view disk.old)) now → (there : Spot) (area : ℕ)
+        → IsAreaFile there.file → IsDataPage there.page → LieForArea lines.now there area
+        → KeepsOwners (Pending (D.view disk.old)) (Pending (D.view disk.new)) there area }
     ensures order { IfOk result (IsNextStage (Changing at)) }
     ensures goes_on { IfOk result (λ next. IsTrue (D.view disk.old).tells
         → (now : Progress) (group : _) (flight : Flight)
@@ -197,6 +202,12 @@ pub fn commit_step<D: Disk>(
         → AreOfClasses by_area lines.now classes.now
         → HaveTheirClasses by_area (D.view disk.old).content
         → HaveTheirClasses by_area (D.view disk.new).content }
+
+    // Whatever it answers, a page that may have no other area's owner has none, where the lines that lie there are the area's.
+    ensures owners { IsTrue (D.view disk.old).tells → (now : Progress)
+        → Facts (Pending (D.view disk.old)) now → (there : Spot) (area : ℕ)
+        → IsAreaFile there.file → IsDataPage there.page → LieForArea lines.now there area
+        → KeepsOwners (Pending (D.view disk.old)) (Pending (D.view disk.new)) there area }
 
     // The stages come one behind another.
     ensures order { IfOk result (IsNextStage stage) }

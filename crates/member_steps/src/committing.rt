@@ -3,12 +3,14 @@ ghost use Rattle.std.specs.Prelude.{◌≡◌, ◌≢◌, ◌+◌, ◌≤◌, �
 ghost use Rattle.rdb_types.specs.declared.file.FileId.{FileId as File};
 ghost use Rattle.rdb_types.specs.declared.file.FileKind.TheVariants.{Snap};
 ghost use Rattle.rdb_outside.specs.Causes.{Rose};
-ghost use Rattle.rdb_outside.specs.Disk.{OnlyReads};
-ghost use Rattle.stable_lines.specs.Slots.{Undo, area_file};
+ghost use Rattle.rdb_outside.specs.Disk.{OnlyReads, Pending};
+ghost use Rattle.area_files.specs.Areas.{IsDataPage};
+ghost use Rattle.stable_lines.specs.Slots.{Undo, area_file, IsAreaFile};
 ghost use Rattle.stable_lines.specs.Progress.{Open, Flight};
 ghost use Rattle.line_moves.specs.Calls.{OnlyWrites};
 ghost use Rattle.line_moves.specs.Changes.{KeepsLines};
-ghost use Rattle.line_moves.specs.Classes.{HaveTheirClasses};
+ghost use Rattle.line_moves.specs.declared.places.Place.{Place as Spot};
+ghost use Rattle.line_moves.specs.Classes.{HaveTheirClasses, KeepsOwners, LieForArea};
 ghost use Rattle.line_moves.specs.Lines.{AreDistinct, PutsOnly};
 ghost use Rattle.line_seat.specs.Groups.{AreAllowed, AreOfClasses, ArePlaced, HaveClasses};
 ghost use Rattle.line_seat.specs.declared.commit.CommitStage.TheVariants.{Gathering};
@@ -52,6 +54,8 @@ fn enter_next<D: Disk>(
     ensures classes { IsTrue (D.view disk.old).tells → (by_area : ℕ → ℕ)
         → HaveTheirClasses by_area (D.view disk.old).content
         → HaveTheirClasses by_area (D.view disk.new).content }
+    ensures owners { IsTrue (D.view disk.old).tells → (there : Spot) (area : ℕ) → IsDataPage there.page
+        → KeepsOwners (Pending (D.view disk.old)) (Pending (D.view disk.new)) there area }
     ensures order { IfOk result (IsNextTurn (Entering at)) }
     ensures keeps { IsTrue (D.view disk.old).tells → (ledger : Ledger) (plan : Plan)
         → LedgerFacts (D.view disk.old) ledger → plan.lines ≡ lines.now
@@ -121,6 +125,10 @@ fn go_further<D: Disk>(
         → AreOfClasses by_area lines.now classes.now
         → HaveTheirClasses by_area (D.view disk.old).content
         → HaveTheirClasses by_area (D.view disk.new).content }
+    ensures owners { IsTrue (D.view disk.old).tells → (ledger : Ledger)
+        → LedgerFacts (D.view disk.old) ledger → (there : Spot) (area : ℕ)
+        → IsAreaFile there.file → IsDataPage there.page → LieForArea lines.now there area
+        → KeepsOwners (Pending (D.view disk.old)) (Pending (D.view disk.new)) there area }
     ensures keeps { IsTrue (D.view disk.old).tells
         → (ledger : Ledger) (member : ℕ) (transaction : Open) (all : List Undo) (flight : Flight)
         → LedgerFacts (D.view disk.old) ledger
@@ -176,6 +184,12 @@ pub fn commit_next<D: Disk>(
         → AreOfClasses by_area lines.now classes.now
         → HaveTheirClasses by_area (D.view disk.old).content
         → HaveTheirClasses by_area (D.view disk.new).content }
+
+    // Whatever it answers, a page that may have no other area's owner has none, where the lines that lie there are the area's.
+    ensures owners { IsTrue (D.view disk.old).tells → (ledger : Ledger)
+        → LedgerFacts (D.view disk.old) ledger → (there : Spot) (area : ℕ)
+        → IsAreaFile there.file → IsDataPage there.page → LieForArea lines.now there area
+        → KeepsOwners (Pending (D.view disk.old)) (Pending (D.view disk.new)) there area }
 
     // Whatever it answers, the ledger stays, and the commit can go on.
     ensures keeps { IsTrue (D.view disk.old).tells

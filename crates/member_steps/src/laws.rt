@@ -12,7 +12,7 @@ ghost use Rattle.stable_lines.specs.Slots.{area_file, owner_at, IsAreaFile};
 ghost use Rattle.line_moves.specs.declared.places.Place.{Place};
 ghost use Rattle.line_moves.specs.Calls.{OnlyWrites};
 ghost use Rattle.line_moves.specs.Changes.{IsForArea};
-ghost use Rattle.line_moves.specs.Classes.{HaveTheirClasses};
+ghost use Rattle.line_moves.specs.Classes.{HaveTheirClasses, KeepsOwners};
 ghost use Rattle.line_seat.specs.Groups.{HaveClasses};
 ghost use Rattle.line_seat.specs.declared.commit.CommitStage.TheVariants.{Gathering};
 ghost use Rattle.disk_seats.specs.Ledgers.{Ledger};
@@ -58,6 +58,16 @@ pub fn pages_for_areas<D: Disk>(disk: &D)
     ensures unused { (place : Place) (area : ℕ) → IsStable (D.view disk.now)
         → owner_at ((D.view disk.now).content (area_file place.file) (place.page - 1)) ≡ 0
         → IsForArea (Pending (D.view disk.now)) place area }
+{}
+
+/// A page that may have no other area's owner has none behind reads, and where another file than a storage area's is written.
+pub fn pages_keep_owners<D: Disk>(before: &D, after: &D)
+    requires { IsTrue (D.view before.now).tells }
+    ensures reads { (there : Place) (area : ℕ) → OnlyReads (D.view before.now) (D.view after.now)
+        → KeepsOwners (Pending (D.view before.now)) (Pending (D.view after.now)) there area }
+    ensures writes { (there : Place) (area : ℕ) (file : FileId) (slot : ℕ) → file.kind ≢ Area
+        → OnlyWrites file slot (D.view before.now) (D.view after.now)
+        → KeepsOwners (Pending (D.view before.now)) (Pending (D.view after.now)) there area }
 {}
 
 /// A commit may take off where pages have the classes of their areas. They keep them behind reads, and where another file than a storage area's is written.

@@ -26,3 +26,6 @@ returns-clause-changes g c = λ t ledger was. c.commit_step.ensures.changes t (p
 
 pub returns-clause-classes : goal.returns-clause-classes
 returns-clause-classes g c = λ t ledger was by_area its had. c.commit_step.ensures.classes t (progress_of ledger) was.facts by_area its had
+
+pub returns-clause-owners : goal.returns-clause-owners
+returns-clause-owners g c = λ t ledger was there area is_file is_data lies. c.commit_step.ensures.owners t (progress_of ledger) was.facts there area is_file is_data lies

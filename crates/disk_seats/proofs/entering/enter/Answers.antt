@@ -1,6 +1,6 @@
 use Rattle.std.proofs.Common.{◌≤◌, sym, subst}
 use Rattle.line_moves.proofs.Runs.{on_ok}
-use Rattle.line_moves.proofs.PageClasses.{classes_beside_space_of}
+use Rattle.line_moves.proofs.PageClasses.{classes_beside_space_of, owners_beside_space}
 use Rattle.disk_seats.specs.Ledgers.{progress_of}
 use Rattle.disk_seats.proofs.Progresses.{same_limits}
 use Rattle.disk_seats.proofs.Entered.{space_behind, owned_more}
@@ -23,3 +23,7 @@ returns-clause-lines g c = λ t ledger was. c.enter_page.ensures.lines t (progre
 pub returns-clause-classes : goal.returns-clause-classes
 returns-clause-classes g c = let v = g.D.Disk.view in
     λ t classes had. classes_beside_space_of classes (v c.args.disk.now) (v c.enter_page.new.disk) c.args.place.file c.args.place.page t c.requires.page c.enter_page.ensures.writes had
+
+pub returns-clause-owners : goal.returns-clause-owners
+returns-clause-owners g c = let v = g.D.Disk.view in
+    λ t there area is_data. owners_beside_space (v c.args.disk.now) (v c.enter_page.new.disk) c.args.place.file c.args.place.page t c.requires.page c.enter_page.ensures.writes there area is_data

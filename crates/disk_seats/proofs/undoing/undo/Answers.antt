@@ -31,3 +31,6 @@ returns-clause-restores g c = let v = g.D.Disk.view in λ t ledger o all was sta
 
 pub returns-clause-classes : goal.returns-clause-classes
 returns-clause-classes g c = λ t ledger was classes had. c.undo_next.ensures.classes t (progress_of ledger) was.facts classes had
+
+pub returns-clause-owners : goal.returns-clause-owners
+returns-clause-owners g c = λ t ledger was there area is_file is_data. c.undo_next.ensures.owners t (progress_of ledger) was.facts there area is_file is_data

@@ -8,8 +8,10 @@ use Rattle.line_moves.proofs.KeyPlaces.{area_is}
 use Rattle.line_moves.proofs.PageWrite.{page_written}
 use Rattle.line_moves.proofs.FilledPages.{SameLines, some_there, got_pair, sure_filled, put_more}
 use Rattle.line_moves.proofs.OnlyPut.{keeps_lines, same_behind, elsewhere_behind, puts_only}
-use Rattle.line_moves.specs.Classes.{HasItsClass, HaveTheirClasses}
-use Rattle.line_moves.proofs.PageClasses.{classes_read, classes_stay, class_kept, class_begun, classes_behind}
+use Rattle.line_moves.specs.declared.places.Place.{Place}
+use Rattle.line_moves.specs.Changes.{IsForArea}
+use Rattle.line_moves.specs.Classes.{HasItsClass, HaveTheirClasses, LieForArea}
+use Rattle.line_moves.proofs.PageClasses.{owners_stay, owners_behind, owner_begun, classes_read, classes_stay, class_kept, class_begun, classes_behind}
 use Rattle.line_moves.proofs.FirstLines.{same_lines, started_page, sure_started, class_started}
 use Rattle.line_moves.proofs.filling.write_page.Goals as goal
 
@@ -253,3 +255,51 @@ returns-clause-classes g c = let v = g.D.Disk.view in let old = v c.args.disk.no
     (elsewhere_behind old mid new c.area_file-file.result c.args.place.file c.args.place.page c.slot_of-slot.result x c.area_file-file.ensures c.slot_of-slot.ensures (reads.keeps t).content puts)
     (here_at new c.area_file-file.result f c.slot_of-slot.result at x c.area_file-file.ensures c.slot_of-slot.ensures puts.here) on_x had in
     put (c.in_ok-write.ensures.written (told t))
+
+pub returns-in_err-read-clause-owners : goal.returns-in_err-read-clause-owners
+returns-in_err-read-clause-owners g c = let v = g.D.Disk.view in let old = v c.args.disk.now in let mid = v c.read.new.self in
+    let reads = reads_once old mid c.read.result c.read.ensures.counts c.read.ensures.kept in
+    λ t now was there area is_file is_data lies. owners_stay old mid (reads.keeps t).pending there area
+
+pub returns-in_default-clause-owners : goal.returns-in_default-clause-owners
+returns-in_default-clause-owners g c = let v = g.D.Disk.view in let old = v c.args.disk.now in let mid = v c.read.new.self in
+    let reads = reads_once old mid c.read.result c.read.ensures.counts c.read.ensures.kept in
+    λ t now was there area is_file is_data lies. owners_stay old mid (reads.keeps t).pending there area
+
+pub returns-in_err-write-clause-owners : goal.returns-in_err-write-clause-owners
+returns-in_err-write-clause-owners g c = let v = g.D.Disk.view in let old = v c.args.disk.now in let mid = v c.read.new.self in
+    let reads = reads_once old mid c.read.result c.read.ensures.counts c.read.ensures.kept in
+    let f = area_file c.args.place.file in let at = c.args.place.page - 1 in
+    let new = v c.write.new.self in let told = still_tells old mid reads.told in
+    let y = c.read.new.into in let z = c.start.new.page in let x = c.fill.new.page in
+    let got = got_pair c.args.lines.now c.args.from c.index-lines-from.result c.index-lines-from.result c.requires.within in
+    let names = c.requires.place _ got in
+    let first = (slice_index_or c.args.lines.now c.args.from c.index-lines-from.result).0 in
+    λ t now was there area is_file is_data lies.
+    let left = g.met.D.Disk.content_left c.args.disk.now old.moment t (omega arith) in
+    let on_y = read_pends old left c.area_file-file.result f c.slot_of-slot.result at y c.area_file-file.ensures c.slot_of-slot.ensures (c.in_ok-read.ensures.bytes t) in
+    let is_page = started_page first c.args.place c.args.class y z names c.start.ensures.started (was.pages.page c.args.place.file c.args.place.page y (area_is first c.args.place names) names.is_data on_y) in
+    let fills = c.in-Ok.ensures.fills is_page in
+    let more = more_behind old mid new c.area_file-file.result f c.slot_of-slot.result at x c.area_file-file.ensures c.slot_of-slot.ensures t reads (c.write.ensures.pending (told t)) in
+    owners_behind old new c.args.place.file c.args.place.page x names.is_data.is_page.first more there area is_data.is_page.first (λ files pages may some.
+    let same : there ≡ c.args.place = (λ i. record { file = files i; page = pages i }) in
+    fills.same_owner ∙ owner_begun c.args.place first.area c.args.class area y z c.start.ensures.started (subst (λ (p : Place). LieForArea c.args.lines.now p area) same lies c.args.from _ got names) (subst (λ (p : Place). IsForArea (Pending old) p area) same may y on_y) (subst (λ (n : ℕ). 1 ≤ n) fills.same_owner some))
+
+pub returns-clause-owners : goal.returns-clause-owners
+returns-clause-owners g c = let v = g.D.Disk.view in let old = v c.args.disk.now in let mid = v c.read.new.self in
+    let reads = reads_once old mid c.read.result c.read.ensures.counts c.read.ensures.kept in
+    let f = area_file c.args.place.file in let at = c.args.place.page - 1 in
+    let new = v c.write.new.self in let told = still_tells old mid reads.told in
+    let y = c.read.new.into in let z = c.start.new.page in let x = c.fill.new.page in
+    let got = got_pair c.args.lines.now c.args.from c.index-lines-from.result c.index-lines-from.result c.requires.within in
+    let names = c.requires.place _ got in
+    let first = (slice_index_or c.args.lines.now c.args.from c.index-lines-from.result).0 in
+    λ t now was there area is_file is_data lies.
+    let left = g.met.D.Disk.content_left c.args.disk.now old.moment t (omega arith) in
+    let on_y = read_pends old left c.area_file-file.result f c.slot_of-slot.result at y c.area_file-file.ensures c.slot_of-slot.ensures (c.in_ok-read.ensures.bytes t) in
+    let is_page = started_page first c.args.place c.args.class y z names c.start.ensures.started (was.pages.page c.args.place.file c.args.place.page y (area_is first c.args.place names) names.is_data on_y) in
+    let fills = c.in-Ok.ensures.fills is_page in
+    let more = more_behind old mid new c.area_file-file.result f c.slot_of-slot.result at x c.area_file-file.ensures c.slot_of-slot.ensures t reads (c.write.ensures.pending (told t)) in
+    owners_behind old new c.args.place.file c.args.place.page x names.is_data.is_page.first more there area is_data.is_page.first (λ files pages may some.
+    let same : there ≡ c.args.place = (λ i. record { file = files i; page = pages i }) in
+    fills.same_owner ∙ owner_begun c.args.place first.area c.args.class area y z c.start.ensures.started (subst (λ (p : Place). LieForArea c.args.lines.now p area) same lies c.args.from _ got names) (subst (λ (p : Place). IsForArea (Pending old) p area) same may y on_y) (subst (λ (n : ℕ). 1 ≤ n) fills.same_owner some))

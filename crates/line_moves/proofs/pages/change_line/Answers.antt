@@ -1,8 +1,10 @@
-use Rattle.std.proofs.Common.{arith, ◌≡◌, ◌-◌, ◌∙◌, ℕ, List, inl, inr, ⊎_elim, ap, sym, subst}
+use Rattle.std.proofs.Common.{◌≤◌, arith, ◌≡◌, ◌-◌, ◌∙◌, ℕ, List, inl, inr, ⊎_elim, ap, sym, subst}
 use Rattle.rdb_outside.specs.Disk.{Pending, Puts}
 use Rattle.stable_lines.specs.Slots.{area_file, line_on}
+use Rattle.line_moves.specs.declared.places.Place.{Place}
+use Rattle.line_moves.specs.Changes.{IsForArea}
 use Rattle.line_moves.specs.Classes.{HasItsClass, HaveTheirClasses}
-use Rattle.line_moves.proofs.PageClasses.{classes_read, classes_stay, class_kept, classes_behind}
+use Rattle.line_moves.proofs.PageClasses.{owners_stay, owners_behind, classes_read, classes_stay, class_kept, classes_behind}
 use Rattle.line_moves.proofs.Runs.{reads_once, facts_read, writes_none, writes_one, more_behind, read_pends, here_at, still_tells}
 use Rattle.line_moves.proofs.KeyPlaces.{area_is, place_content}
 use Rattle.rdb_page.specs.Whole.{IsPageOf}
@@ -194,3 +196,45 @@ returns-clause-classes g c = let v = g.D.Disk.view in let old = v c.args.disk.no
     (elsewhere_behind old mid new c.area_file-file.result c.args.place.file c.args.place.page c.slot_of-slot.result x c.area_file-file.ensures c.slot_of-slot.ensures (reads.keeps t).content puts)
     (here_at new c.area_file-file.result f c.slot_of-slot.result at x c.area_file-file.ensures c.slot_of-slot.ensures puts.here) on_x had in
     put (c.in_ok-write.ensures.written (told t))
+
+pub returns-in_err-read-clause-owners : goal.returns-in_err-read-clause-owners
+returns-in_err-read-clause-owners g c = let v = g.D.Disk.view in let old = v c.args.disk.now in let mid = v c.read.new.self in
+    let reads = reads_once old mid c.read.result c.read.ensures.counts c.read.ensures.kept in
+    λ t now was there area is_file is_data. owners_stay old mid (reads.keeps t).pending there area
+
+pub returns-in_default-clause-owners : goal.returns-in_default-clause-owners
+returns-in_default-clause-owners g c = let v = g.D.Disk.view in let old = v c.args.disk.now in let mid = v c.read.new.self in
+    let reads = reads_once old mid c.read.result c.read.ensures.counts c.read.ensures.kept in
+    λ t now was there area is_file is_data. owners_stay old mid (reads.keeps t).pending there area
+
+pub returns-in_err-write-clause-owners : goal.returns-in_err-write-clause-owners
+returns-in_err-write-clause-owners g c = let v = g.D.Disk.view in let old = v c.args.disk.now in let mid = v c.read.new.self in
+    let reads = reads_once old mid c.read.result c.read.ensures.counts c.read.ensures.kept in
+    let f = area_file c.args.place.file in let at = c.args.place.page - 1 in
+    let new = v c.write.new.self in let told = still_tells old mid reads.told in
+    let y = c.read.new.into in let x = c.put_on.new.page in let names = c.requires.place in
+    λ t now was there area is_file is_data.
+    let left = g.met.D.Disk.content_left c.args.disk.now old.moment t (omega arith) in
+    let on_y = read_pends old left c.area_file-file.result f c.slot_of-slot.result at y c.area_file-file.ensures c.slot_of-slot.ensures (c.in_ok-read.ensures.bytes t) in
+    let is_page = was.pages.page c.args.place.file c.args.place.page y (area_is c.args.key c.args.place names) names.is_data on_y in
+    let puts_it = c.in-Ok.ensures.puts is_page in
+    let more = more_behind old mid new c.area_file-file.result f c.slot_of-slot.result at x c.area_file-file.ensures c.slot_of-slot.ensures t reads (c.write.ensures.pending (told t)) in
+    owners_behind old new c.args.place.file c.args.place.page x names.is_data.is_page.first more there area is_data.is_page.first (λ files pages may some.
+    let same : there ≡ c.args.place = (λ i. record { file = files i; page = pages i }) in
+    puts_it.same_owner ∙ subst (λ (p : Place). IsForArea (Pending old) p area) same may y on_y (subst (λ (n : ℕ). 1 ≤ n) puts_it.same_owner some))
+
+pub returns-clause-owners : goal.returns-clause-owners
+returns-clause-owners g c = let v = g.D.Disk.view in let old = v c.args.disk.now in let mid = v c.read.new.self in
+    let reads = reads_once old mid c.read.result c.read.ensures.counts c.read.ensures.kept in
+    let f = area_file c.args.place.file in let at = c.args.place.page - 1 in
+    let new = v c.write.new.self in let told = still_tells old mid reads.told in
+    let y = c.read.new.into in let x = c.put_on.new.page in let names = c.requires.place in
+    λ t now was there area is_file is_data.
+    let left = g.met.D.Disk.content_left c.args.disk.now old.moment t (omega arith) in
+    let on_y = read_pends old left c.area_file-file.result f c.slot_of-slot.result at y c.area_file-file.ensures c.slot_of-slot.ensures (c.in_ok-read.ensures.bytes t) in
+    let is_page = was.pages.page c.args.place.file c.args.place.page y (area_is c.args.key c.args.place names) names.is_data on_y in
+    let puts_it = c.in-Ok.ensures.puts is_page in
+    let more = more_behind old mid new c.area_file-file.result f c.slot_of-slot.result at x c.area_file-file.ensures c.slot_of-slot.ensures t reads (c.write.ensures.pending (told t)) in
+    owners_behind old new c.args.place.file c.args.place.page x names.is_data.is_page.first more there area is_data.is_page.first (λ files pages may some.
+    let same : there ≡ c.args.place = (λ i. record { file = files i; page = pages i }) in
+    puts_it.same_owner ∙ subst (λ (p : Place). IsForArea (Pending old) p area) same may y on_y (subst (λ (n : ℕ). 1 ≤ n) puts_it.same_owner some))

@@ -3,7 +3,7 @@ use Rattle.rdb_outside.specs.Disk.{Pending}
 use Rattle.rdb_outside.specs.Runs.{no_calls, then_reads}
 use Rattle.stable_lines.specs.Slots.{area_file}
 use Rattle.line_moves.proofs.Runs.{facts_read, still_tells, writes_none, reads_then_writes}
-use Rattle.line_moves.proofs.PageClasses.{classes_read}
+use Rattle.line_moves.proofs.PageClasses.{owners_stay, classes_read}
 use Rattle.line_moves.proofs.OnlyPut.{keeps_lines, some_page}
 use Rattle.line_moves.proofs.FilledPages.{some_there}
 use Rattle.stable_lines.specs.Facts.{StandsAs}
@@ -186,3 +186,17 @@ returns-in-Written-clause-classes g c = let v = g.D.Disk.view in let before = v 
 pub returns-clause-classes : goal.returns-clause-classes
 returns-clause-classes g c = let v = g.D.Disk.view in
     λ t now was classes had. classes_read classes (v c.args.disk.now) (v c.loop-back.disk) c.loop-back.invariant.reads t had
+
+pub returns-in_err-undo_line-clause-owners : goal.returns-in_err-undo_line-clause-owners
+returns-in_err-undo_line-clause-owners g c = let v = g.D.Disk.view in let before = v c.args.disk.now in let mid = v c.loop-back.disk in
+    let so_far = c.loop-back.invariant in
+    λ t now was there area is_file is_data may. c.undo_line.ensures.owners (still_tells before mid so_far.told t) now (facts_read before mid so_far.reads t now was) there area is_file is_data (owners_stay before mid (so_far.reads.keeps t).pending there area may)
+
+pub returns-in-Written-clause-owners : goal.returns-in-Written-clause-owners
+returns-in-Written-clause-owners g c = let v = g.D.Disk.view in let before = v c.args.disk.now in let mid = v c.loop-back.disk in
+    let so_far = c.loop-back.invariant in
+    λ t now was there area is_file is_data may. c.undo_line.ensures.owners (still_tells before mid so_far.told t) now (facts_read before mid so_far.reads t now was) there area is_file is_data (owners_stay before mid (so_far.reads.keeps t).pending there area may)
+
+pub returns-clause-owners : goal.returns-clause-owners
+returns-clause-owners g c = let v = g.D.Disk.view in
+    λ t now was there area is_file is_data. owners_stay (v c.args.disk.now) (v c.loop-back.disk) (c.loop-back.invariant.reads.keeps t).pending there area

@@ -86,3 +86,12 @@ returns-in_err-next-clause-classes g c = λ t now was by_area its had.
 pub returns-clause-classes : goal.returns-clause-classes
 returns-clause-classes g c = λ t now was by_area its had.
     c.write_page.ensures.classes t now was by_area (λ line is. its c.args.at line _ is (got_at c.args.classes.now c.args.at _ (search rules))) had
+
+pub returns-then-at-lines-clause-owners : goal.returns-then-at-lines-clause-owners
+returns-then-at-lines-clause-owners g c = λ t now was there area is_file is_data lies may. may
+
+pub returns-in_err-next-clause-owners : goal.returns-in_err-next-clause-owners
+returns-in_err-next-clause-owners g c = λ t now was there area is_file is_data lies. c.write_page.ensures.owners t now was there area is_file is_data lies
+
+pub returns-clause-owners : goal.returns-clause-owners
+returns-clause-owners g c = λ t now was there area is_file is_data lies. c.write_page.ensures.owners t now was there area is_file is_data lies

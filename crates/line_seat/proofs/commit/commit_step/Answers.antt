@@ -5,7 +5,7 @@ use Rattle.rdb_types.specs.declared.file.FileKind.TheVariants.{Area, Aij}
 use Rattle.new_database.specs.Maker.{aij_file}
 use Rattle.stable_lines.specs.Slots.{area_file}
 use Rattle.line_moves.proofs.Runs.{writes_none}
-use Rattle.line_moves.proofs.PageClasses.{classes_read, classes_beside}
+use Rattle.line_moves.proofs.PageClasses.{owners_stay, owners_beside, classes_read, classes_beside}
 use Rattle.line_moves.proofs.OnlyPut.{keeps_lines, lines_beside}
 use Rattle.stable_lines.specs.Progress.{flying}
 use Rattle.stable_lines.specs.Facts.{Facts}
@@ -168,3 +168,34 @@ returns-in_err-make_stable-in-Landing-clause-classes g c = let v = g.D.Disk.view
 pub returns-in_ok-make_stable-in-Landing-clause-classes : goal.returns-in_ok-make_stable-in-Landing-clause-classes
 returns-in_ok-make_stable-in-Landing-clause-classes g c = let v = g.D.Disk.view in
     λ t now was by_area its had. classes_read by_area (v c.args.disk.now) (v c.make_stable-in-Landing.new.disk) c.make_stable-in-Landing.ensures.reads t had
+
+pub returns-in-Changing-clause-owners : goal.returns-in-Changing-clause-owners
+returns-in-Changing-clause-owners g c = λ t now was there area is_file is_data lies. c.change_page.ensures.owners t now was there area is_file is_data lies
+
+pub returns-in-Imaging-clause-owners : goal.returns-in-Imaging-clause-owners
+returns-in-Imaging-clause-owners g c = let v = g.D.Disk.view in let w = c.journal_image.ensures.writes in
+    λ t now was there area is_file is_data lies. owners_beside (v c.args.disk.now) (v c.journal_image.new.disk) aij_file w.0 t (λ a. let bad : Aij ≡ Area = a in cc) w.1 there area
+
+pub returns-in_err-write_commit-in-Sealing-clause-owners : goal.returns-in_err-write_commit-in-Sealing-clause-owners
+returns-in_err-write_commit-in-Sealing-clause-owners g c = let v = g.D.Disk.view in
+    λ t now was there area is_file is_data lies. owners_beside (v c.args.disk.now) (v c.write_commit.new.disk) aij_file (c.args.group.slot + length c.args.lines.now) t (λ a. let bad : Aij ≡ Area = a in cc) c.write_commit.ensures.writes there area
+
+pub returns-in_ok-write_commit-in-Sealing-clause-owners : goal.returns-in_ok-write_commit-in-Sealing-clause-owners
+returns-in_ok-write_commit-in-Sealing-clause-owners g c = let v = g.D.Disk.view in
+    λ t now was there area is_file is_data lies. owners_beside (v c.args.disk.now) (v c.write_commit.new.disk) aij_file (c.args.group.slot + length c.args.lines.now) t (λ a. let bad : Aij ≡ Area = a in cc) c.write_commit.ensures.writes there area
+
+pub returns-in_err-make_stable-in-Gathering-clause-owners : goal.returns-in_err-make_stable-in-Gathering-clause-owners
+returns-in_err-make_stable-in-Gathering-clause-owners g c = let v = g.D.Disk.view in
+    λ t now was there area is_file is_data lies. owners_stay (v c.args.disk.now) (v c.make_stable.new.disk) (c.make_stable.ensures.reads.keeps t).pending there area
+
+pub returns-in_ok-make_stable-in-Gathering-clause-owners : goal.returns-in_ok-make_stable-in-Gathering-clause-owners
+returns-in_ok-make_stable-in-Gathering-clause-owners g c = let v = g.D.Disk.view in
+    λ t now was there area is_file is_data lies. owners_stay (v c.args.disk.now) (v c.make_stable.new.disk) (c.make_stable.ensures.reads.keeps t).pending there area
+
+pub returns-in_err-make_stable-in-Landing-clause-owners : goal.returns-in_err-make_stable-in-Landing-clause-owners
+returns-in_err-make_stable-in-Landing-clause-owners g c = let v = g.D.Disk.view in
+    λ t now was there area is_file is_data lies. owners_stay (v c.args.disk.now) (v c.make_stable-in-Landing.new.disk) (c.make_stable-in-Landing.ensures.reads.keeps t).pending there area
+
+pub returns-in_ok-make_stable-in-Landing-clause-owners : goal.returns-in_ok-make_stable-in-Landing-clause-owners
+returns-in_ok-make_stable-in-Landing-clause-owners g c = let v = g.D.Disk.view in
+    λ t now was there area is_file is_data lies. owners_stay (v c.args.disk.now) (v c.make_stable-in-Landing.new.disk) (c.make_stable-in-Landing.ensures.reads.keeps t).pending there area

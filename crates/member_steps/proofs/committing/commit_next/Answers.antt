@@ -2,7 +2,7 @@ use Rattle.std.proofs.Common.{◌≡◌, ◌∙◌, ap, refl, sym, subst}
 use Rattle.rdb_types.specs.declared.file.FileKind.TheVariants.{Area, Snap}
 use Rattle.stable_lines.specs.Slots.{area_file}
 use Rattle.line_moves.proofs.Runs.{writes_none}
-use Rattle.line_moves.proofs.PageClasses.{classes_read}
+use Rattle.line_moves.proofs.PageClasses.{owners_stay, classes_read}
 use Rattle.line_seat.proofs.CommitSteps.{if_ok}
 use Rattle.member_steps.specs.declared.committing.CommitTurn.{CommitTurn}
 use Rattle.member_steps.specs.declared.committing.CommitTurn.TheVariants.{Going}
@@ -67,3 +67,13 @@ returns-in-Securing-clause-classes g c = let v = g.D.Disk.view in
 
 pub returns-in-Going-clause-classes : goal.returns-in-Going-clause-classes
 returns-in-Going-clause-classes g c = λ t ledger was by_area its had. c.go_further.ensures.classes t ledger was by_area its had
+
+pub returns-in-Entering-clause-owners : goal.returns-in-Entering-clause-owners
+returns-in-Entering-clause-owners g c = λ t ledger was there area is_file is_data lies. c.enter_next.ensures.owners t there area is_data
+
+pub returns-in-Securing-clause-owners : goal.returns-in-Securing-clause-owners
+returns-in-Securing-clause-owners g c = let v = g.D.Disk.view in
+    λ t ledger was there area is_file is_data lies. owners_stay (v c.args.disk.now) (v c.secure.new.disk) (c.secure.ensures.reads.keeps t).pending there area
+
+pub returns-in-Going-clause-owners : goal.returns-in-Going-clause-owners
+returns-in-Going-clause-owners g c = λ t ledger was there area is_file is_data lies. c.go_further.ensures.owners t ledger was there area is_file is_data lies
