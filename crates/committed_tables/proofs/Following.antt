@@ -15,7 +15,7 @@ use Rattle.line_view.proofs.FullMap.{laid_found}
 use Rattle.line_view.proofs.Written.{same_line}
 use Rattle.line_moves.proofs.Putting.{nat_cases}
 use Rattle.page_table.specs.declared.uses.PageUse.{PageUse}
-use Rattle.page_table.specs.Pages.{Pages, empty_of, use_of, owner_in, class_in, has_image, IsLineOf, IsUsedLine, Puts, PutsLine}
+use Rattle.page_table.specs.Pages.{Pages, empty_of, use_of, owner_in, class_in, state_in, is_present, has_image, IsLineOf, IsUsedLine, Puts, PutsLine}
 use Rattle.page_table.proofs.Said.{none_has}
 use Rattle.committed_tables.specs.Tables.{HasCommitted}
 
@@ -26,8 +26,14 @@ ties Less is = cc
 ties Equal is = refl
 ties Greater is = cc
 
-same_key : (q k : Dbkey) → is_eq (dbkey_order q k) ≡ true → q ≡ k
+pub same_key : (q k : Dbkey) → is_eq (dbkey_order q k) ≡ true → q ≡ k
 same_key q k is = same_dbkey q k (ties (dbkey_order q k) is)
+
+pub not_same : (k key : Dbkey) → is_eq (dbkey_order k key) ≡ false → k ≡ key → ⊥
+not_same k key apart same = true≢false (sym (tied key) ∙ (ap (λ (q : Dbkey). is_eq (dbkey_order q key)) (sym same) ∙ apart))
+  where
+    tied : (q : Dbkey) → is_eq (dbkey_order q q) ≡ true
+    tied q = ap is_eq (tied_itself dbkey_total q)
 
 pub some_owner : (file area : ℕ) → IsOwner file area → 1 ≤ area
 some_owner file area (inl first) = omega (arith, first.1)
@@ -40,7 +46,7 @@ is_a_some None is = absurd (true≢false (sym is))
 
 -- ---- a line is put
 
-module _ (pages kept : Pages) (key : Dbkey) (is_present : Bool) (puts : PutsLine key is_present pages kept) where
+module _ (pages kept : Pages) (key : Dbkey) (has : Bool) (puts : PutsLine key has pages kept) where
   same_owner : (page : ℕ) → 1 ≤ page → owner_in kept page ≡ owner_in pages page
   same_owner page first = ⊎_elim
       (λ (here : page ≡ key.page). subst (λ (n : ℕ). owner_in kept n ≡ owner_in pages n) (sym here) puts.owner)
@@ -51,7 +57,7 @@ module _ (pages kept : Pages) (key : Dbkey) (is_present : Bool) (puts : PutsLine
       (λ (here : page ≡ key.page). subst (λ (n : ℕ). class_in kept n ≡ class_in pages n) (sym here) puts.class)
       (λ away. ap (λ (u : PageUse). u.class) (puts.others page first away)) (nat_cases page key.page)
 
-  line_there : (k : Dbkey) → IsLineOf pages k → IsLineOf kept k
+  pub line_there : (k : Dbkey) → IsLineOf pages k → IsLineOf kept k
   line_there k is = record {
     within = record { first = is.within.first; last = let last = is.within.last in let long = puts.long in omega (arith, last, long) };
     owner = same_owner k.page is.within.first ∙ is.owner;
@@ -65,11 +71,11 @@ module _ (pages kept : Pages) (key : Dbkey) (is_present : Bool) (puts : PutsLine
     line = let line = is.line in subst (λ (c : ℕ). k.line < lines_of c) (same_class k.page is.within.first) line;
   }
 
-  -- another line has its image, or none
-  same_image : (k : Dbkey) → IsLineOf pages key → IsLineOf pages k → (k ≡ key → ⊥) → has_image (use_of kept k.page) k.line ≡ has_image (use_of pages k.page) k.line
-  same_image k of_key of_k apart = ⊎_elim
-      (λ (here : k.page ≡ key.page). subst (λ (n : ℕ). has_image (use_of kept n) k.line ≡ has_image (use_of pages n) k.line) (sym here) (puts.beside k.line (other here)))
-      (λ away. ap (λ (u : PageUse). has_image u k.line) (puts.others k.page of_k.within.first away)) (nat_cases k.page key.page)
+  -- another line has its state
+  pub same_state : (k : Dbkey) → IsLineOf pages key → IsLineOf pages k → (k ≡ key → ⊥) → state_in (use_of kept k.page) k.line ≡ state_in (use_of pages k.page) k.line
+  same_state k of_key of_k apart = ⊎_elim
+      (λ (here : k.page ≡ key.page). subst (λ (n : ℕ). state_in (use_of kept n) k.line ≡ state_in (use_of pages n) k.line) (sym here) (puts.beside k.line (other here)))
+      (λ away. ap (λ (u : PageUse). state_in u k.line) (puts.others k.page of_k.within.first away)) (nat_cases k.page key.page)
     where
       other : k.page ≡ key.page → k.line ≢ key.line
       other page line =
@@ -77,15 +83,13 @@ module _ (pages kept : Pages) (key : Dbkey) (is_present : Bool) (puts : PutsLine
           let same : k ≡ key = (λ i. record { area = area i; page = page i; line = line i }) in
           apart same
 
+  -- its image, or none
+  same_image : (k : Dbkey) → IsLineOf pages key → IsLineOf pages k → (k ≡ key → ⊥) → has_image (use_of kept k.page) k.line ≡ has_image (use_of pages k.page) k.line
+  same_image k of_key of_k apart = ap is_present (same_state k of_key of_k apart)
+
 -- ---- behind a commit
 
 module _ (pages kept : Pages) (file : ℕ) (lines : Lines) (key : Dbkey) (image : Option (List ℕ)) (was : HasCommitted pages file lines) (owner : IsOwner file key.area) (is_line : IsLineOf pages key) (puts : PutsLine key (is_some image) pages kept) where
-  not_same : (k : Dbkey) → is_eq (dbkey_order k key) ≡ false → k ≡ key → ⊥
-  not_same k apart same = true≢false (sym (tied key) ∙ (ap (λ (q : Dbkey). is_eq (dbkey_order q key)) (sym same) ∙ apart))
-    where
-      tied : (q : Dbkey) → is_eq (dbkey_order q q) ≡ true
-      tied q = ap is_eq (tied_itself dbkey_total q)
-
   used_behind : (k : Dbkey) → IsOwner file k.area → IsUsedLine kept k → (b : Bool) → is_eq (dbkey_order k key) ≡ b → (bytes : List ℕ) × (line_in k (laid key image lines) ≡ Some bytes)
   used_behind k of_file is true same =
       let here : k ≡ key = same_key k key same in
@@ -94,7 +98,7 @@ module _ (pages kept : Pages) (file : ℕ) (lines : Lines) (key : Dbkey) (image 
       (some.0, laid_found k key image lines ∙ (ap (λ b. cond b image (line_in k lines)) same ∙ some.1))
   used_behind k of_file is false apart =
       let of_k = line_back pages kept key (is_some image) puts k is.is_line in
-      let old = was.used k of_file (record { is_line = of_k; image = sym (same_image pages kept key (is_some image) puts k is_line of_k (not_same k apart)) ∙ is.image }) in
+      let old = was.used k of_file (record { is_line = of_k; image = sym (same_image pages kept key (is_some image) puts k is_line of_k (not_same k key apart)) ∙ is.image }) in
       (old.0, same_line lines key k image apart ∙ old.1)
 
   committed_behind : (k : Dbkey) (bytes : List ℕ) → IsOwner file k.area → line_in k (laid key image lines) ≡ Some bytes → (b : Bool) → is_eq (dbkey_order k key) ≡ b → IsUsedLine kept k
@@ -104,7 +108,7 @@ module _ (pages kept : Pages) (file : ℕ) (lines : Lines) (key : Dbkey) (image 
       subst (λ (q : Dbkey). IsUsedLine kept q) (sym here) (record { is_line = line_there pages kept key (is_some image) puts key is_line; image = puts.here ∙ ap is_some some })
   committed_behind k bytes of_file is false apart =
       let old = was.committed k bytes of_file (sym (same_line lines key k image apart) ∙ is) in
-      record { is_line = line_there pages kept key (is_some image) puts k old.is_line; image = same_image pages kept key (is_some image) puts k is_line old.is_line (not_same k apart) ∙ old.image }
+      record { is_line = line_there pages kept key (is_some image) puts k old.is_line; image = same_image pages kept key (is_some image) puts k is_line old.is_line (not_same k key apart) ∙ old.image }
 
   pub laid_behind : HasCommitted kept file (laid key image lines)
   laid_behind = record {
@@ -132,7 +136,7 @@ module _ (pages kept : Pages) (file : ℕ) (lines : Lines) (page area class : �
   not_there : (k : Dbkey) → IsUsedLine kept k → k.page ≢ page
   not_there k is here =
       let empty : use_of kept k.page ≡ empty_of area class = ap (λ (n : ℕ). use_of kept n) here ∙ puts.here in
-      true≢false (sym is.image ∙ (ap (λ (u : PageUse). has_image u k.line) empty ∙ none_has k.line))
+      true≢false (sym is.image ∙ (ap (λ (u : PageUse). has_image u k.line) empty ∙ ap is_present (none_has k.line)))
 
   moved : (a b : Pages) (k : Dbkey) → use_of b k.page ≡ use_of a k.page → length b ≡ length a → IsUsedLine a k → IsUsedLine b k
   moved a b k same long is = record {

@@ -1,3 +1,4 @@
 pub mod Following
 pub mod Finding
 pub mod AtOpening
+pub mod EverUsed

@@ -7,8 +7,9 @@ ghost use Rattle.area_files.specs.Areas.{IsDataPage};
 ghost use Rattle.stable_lines.specs.Slots.{area_file};
 ghost use Rattle.stable_lines.specs.Progress.{Open, Flight};
 ghost use Rattle.line_moves.specs.Calls.{OnlyWrites};
+ghost use Rattle.line_moves.specs.Classes.{HaveTheirClasses};
 ghost use Rattle.line_moves.specs.Lines.{AreDistinct, PutsOnly};
-ghost use Rattle.line_seat.specs.Groups.{AreAllowed, ArePlaced, HaveClasses};
+ghost use Rattle.line_seat.specs.Groups.{AreAllowed, AreOfClasses, ArePlaced, HaveClasses};
 ghost use Rattle.line_seat.specs.declared.commit.CommitStage.TheVariants.{Gathering};
 ghost use Rattle.line_seat.specs.Stages.{IsNextStage};
 ghost use Rattle.disk_seats.specs.Ledgers.{Ledger, this_commit, held_up, behind_step};
@@ -48,6 +49,13 @@ pub fn go_on<D: Disk>(
     ensures changes { IsTrue (D.view disk.old).tells → (ledger : Ledger)
         → LedgerFacts (D.view disk.old) ledger
         → PutsOnly lines.now (D.view disk.old).content (D.view disk.new).content }
+
+    // Whatever it answers, pages have the classes of their areas where they had, and each line comes with its area's.
+    ensures classes { IsTrue (D.view disk.old).tells → (ledger : Ledger)
+        → LedgerFacts (D.view disk.old) ledger → (by_area : ℕ → ℕ)
+        → AreOfClasses by_area lines.now classes.now
+        → HaveTheirClasses by_area (D.view disk.old).content
+        → HaveTheirClasses by_area (D.view disk.new).content }
 
     // Whatever it answers, the commit can go on.
     ensures keeps { IsTrue (D.view disk.old).tells

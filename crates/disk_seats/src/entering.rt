@@ -7,6 +7,7 @@ ghost use Rattle.area_files.specs.Areas.{IsDataPage, space_page_of};
 ghost use Rattle.space_pages.specs.Space.{IsSpace};
 ghost use Rattle.stable_lines.specs.Slots.{area_file, IsAreaFile};
 ghost use Rattle.line_moves.specs.Calls.{OnlyWrites};
+ghost use Rattle.line_moves.specs.Classes.{HaveTheirClasses};
 ghost use Rattle.line_moves.specs.Changes.{IsForArea, IsPlaceOf, KeepsLines};
 ghost use Rattle.line_moves.specs.Lines.{ChangedLines};
 ghost use Rattle.disk_seats.specs.Ledgers.{Ledger};
@@ -39,6 +40,11 @@ pub fn enter<D: Disk>(disk: &mut D, place: Place, area: u32) -> Result<(), Fault
     ensures lines { IsTrue (D.view disk.old).tells → (ledger : Ledger)
         → LedgerFacts (D.view disk.old) ledger
         → KeepsLines (D.view disk.old).content (D.view disk.new).content }
+
+    // Whatever it answers, pages have the classes of their areas where they had.
+    ensures classes { IsTrue (D.view disk.old).tells → (classes : ℕ → ℕ)
+        → HaveTheirClasses classes (D.view disk.old).content
+        → HaveTheirClasses classes (D.view disk.new).content }
 
     // Whatever it answers, the ledger stays, where nobody commits and no other area has the page.
     ensures keeps { IsTrue (D.view disk.old).tells → (ledger : Ledger)

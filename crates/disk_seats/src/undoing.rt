@@ -6,6 +6,7 @@ ghost use Rattle.area_files.specs.Areas.{IsDataPage};
 ghost use Rattle.stable_lines.specs.Slots.{area_file, Undo};
 ghost use Rattle.stable_lines.specs.Progress.{Open};
 ghost use Rattle.line_moves.specs.Calls.{OnlyWrites};
+ghost use Rattle.line_moves.specs.Classes.{HaveTheirClasses};
 ghost use Rattle.line_opening.specs.Undoing.{PutsBack};
 ghost use Rattle.disk_seats.specs.Ledgers.{Ledger, undoing, stands_as};
 ghost use Rattle.disk_seats.specs.Members.{LedgerFacts};
@@ -48,6 +49,12 @@ pub fn undo<D: Disk>(
         → ledger.base.going member ≡ Some transaction → tsn ≡ transaction.tsn
         → pages ≡ ledger.base.limits.pages
         → PutsBack transaction (D.view disk.old).content (D.view disk.new).content }
+
+    // Whatever it answers, pages have the classes of their areas where they had.
+    ensures classes { IsTrue (D.view disk.old).tells → (ledger : Ledger)
+        → LedgerFacts (D.view disk.old) ledger → (classes : ℕ → ℕ)
+        → HaveTheirClasses classes (D.view disk.old).content
+        → HaveTheirClasses classes (D.view disk.new).content }
 
     // Whatever it answers, the ledger stays, and it may be begun again.
     ensures keeps { IsTrue (D.view disk.old).tells

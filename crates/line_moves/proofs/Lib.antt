@@ -16,3 +16,4 @@ pub mod EveryMoment
 pub mod Entering
 pub mod Journalled
 pub mod OnlyPut
+pub mod PageClasses

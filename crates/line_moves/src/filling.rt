@@ -10,6 +10,7 @@ ghost use Rattle.stable_lines.specs.Progress.{Progress};
 ghost use Rattle.stable_lines.specs.Facts.{Facts};
 ghost use Rattle.line_moves.specs.Calls.{OnlyWrites};
 ghost use Rattle.line_moves.specs.Changes.{IsPlaceOf};
+ghost use Rattle.line_moves.specs.Classes.{HaveTheirClasses};
 ghost use Rattle.line_moves.specs.Lines.{AllFit, AllFitBegun, AreDistinct, ArePut, Fills, MayBegin, IsStarted, MayPutAll, PutsOnly};
 
 use crate::pages::{NoPlace, put_on};
@@ -118,6 +119,13 @@ pub fn write_page<D: Disk>(
         → let old = (D.view disk.old).content (file_named place.file) (place.page - 1) in
         let new = (D.view disk.new).content (file_named place.file) (place.page - 1) in
         (IsUnused old → class_at new ≡ class) × ((IsUnused old → ⊥) → class_at new ≡ class_at old)) }
+
+    // Whatever it answers, pages have the classes of their areas where they had, and this is that of the first line's area.
+    ensures classes { IsTrue (D.view disk.old).tells → (now : Progress)
+        → Facts (Pending (D.view disk.old)) now → (classes : ℕ → ℕ)
+        → ((line : _) → slice_get lines.now from ≡ Some line → class ≡ classes line.0.area)
+        → HaveTheirClasses classes (D.view disk.old).content
+        → HaveTheirClasses classes (D.view disk.new).content }
 
     // Whatever it answers, each line is as it was, or one of these.
     ensures changes { IsTrue (D.view disk.old).tells → (now : Progress)

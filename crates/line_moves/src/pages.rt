@@ -13,6 +13,7 @@ ghost use Rattle.stable_lines.specs.Facts.{Facts};
 ghost use Rattle.line_moves.specs.Calls.{OnlyWrites};
 ghost use Rattle.line_moves.specs.Contents.{PutsLine};
 ghost use Rattle.line_moves.specs.Changes.{IsPlaceOf, MayPut, Fits, PutsOne};
+ghost use Rattle.line_moves.specs.Classes.{HaveTheirClasses};
 
 use crate::places::{Place, area_file};
 use area_files::slot_of;
@@ -84,6 +85,12 @@ pub fn change_line<D: Disk>(
         → Facts (Pending (D.view disk.old)) now → (other : Key) → other ≢ key
         → line_in_image (D.view disk.new).content other
         ≡ line_in_image (D.view disk.old).content other) }
+
+    // Whatever it answers, pages have the classes of their areas where they had.
+    ensures classes { IsTrue (D.view disk.old).tells → (now : Progress)
+        → Facts (Pending (D.view disk.old)) now → (classes : ℕ → ℕ)
+        → HaveTheirClasses classes (D.view disk.old).content
+        → HaveTheirClasses classes (D.view disk.new).content }
 
     // Whatever it answers, no other line is changed, and this one is as it was or stands.
     ensures changes { IsTrue (D.view disk.old).tells → (now : Progress)

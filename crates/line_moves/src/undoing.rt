@@ -11,6 +11,7 @@ ghost use Rattle.stable_lines.specs.Facts.{IsNotOpen, Facts};
 ghost use Rattle.line_moves.specs.declared.undoing.Undone.TheVariants.{Nothing};
 ghost use Rattle.line_moves.specs.Calls.{OnlyWrites};
 ghost use Rattle.line_moves.specs.Changes.{IsUndoing, PutsOne};
+ghost use Rattle.line_moves.specs.Classes.{HaveTheirClasses};
 
 use crate::lines::line_at;
 use crate::pages::change_line;
@@ -80,6 +81,12 @@ pub fn undo_line<D: Disk>(
         → IsUndoing (Pending (D.view disk.old)) now member transaction index pages
         → tsn ≡ transaction.tsn → slice_get transaction.entries (index - 1) ≡ Some undo
         → PutsOne undo.key undo.before (D.view disk.old).content (D.view disk.new).content }
+
+    // Whatever it answers, pages have the classes of their areas where they had.
+    ensures classes { IsTrue (D.view disk.old).tells → (now : Progress)
+        → Facts (Pending (D.view disk.old)) now → (classes : ℕ → ℕ)
+        → HaveTheirClasses classes (D.view disk.old).content
+        → HaveTheirClasses classes (D.view disk.new).content }
 
     // No page is refused.
     ensures bad { (file : File) (slot : ℕ) → IsErrOf result (Fault.Bad file slot)

@@ -9,6 +9,7 @@ ghost use Rattle.stable_lines.specs.Slots.{area_file as file_named, line_at as l
 ghost use Rattle.stable_lines.specs.Progress.{Open, Progress};
 ghost use Rattle.stable_lines.specs.Facts.{IsNotOpen, Facts, StandsAs};
 ghost use Rattle.line_moves.specs.Calls.{OnlyWrites};
+ghost use Rattle.line_moves.specs.Classes.{HaveTheirClasses};
 ghost use Rattle.line_opening.specs.Undoing.{AreUndone, MayUndo, PutsBack};
 
 use line_moves::{Undone, undo_line};
@@ -42,6 +43,12 @@ pub fn undo_next<D: Disk>(
         → MayUndo (Pending (D.view disk.old)) now member transaction entries pages
         → tsn ≡ transaction.tsn
         → PutsBack transaction (D.view disk.old).content (D.view disk.new).content }
+
+    // Whatever it answers, pages have the classes of their areas where they had.
+    ensures classes { IsTrue (D.view disk.old).tells → (now : Progress)
+        → Facts (Pending (D.view disk.old)) now → (classes : ℕ → ℕ)
+        → HaveTheirClasses classes (D.view disk.old).content
+        → HaveTheirClasses classes (D.view disk.new).content }
 
     // Whatever it answers, the facts stay.
     ensures keeps { IsTrue (D.view disk.old).tells → (now : Progress) (transaction : Open)

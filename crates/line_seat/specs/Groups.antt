@@ -37,6 +37,10 @@ group_of at lines classes = record { number = at.number; tsn = at.tsn; lines = g
 abbrev pub AreAllowed : ChangedLines → List ℕ → Type 0
 AreAllowed lines classes = (i : ℕ) (line : Dbkey × Line) (class : ℕ) → slice_get lines i ≡ Some line → slice_get classes i ≡ Some class → IsAllowedLine (group_line line class)
 
+-- each line comes with its area's class
+abbrev pub AreOfClasses : (ℕ → ℕ) → ChangedLines → List ℕ → Type 0
+AreOfClasses by_area lines classes = (i : ℕ) (line : Dbkey × Line) (class : ℕ) → slice_get lines i ≡ Some line → slice_get classes i ≡ Some class → class ≡ by_area line.0.area
+
 -- each line has a place
 abbrev pub ArePlaced : ChangedLines → Type 0
 ArePlaced lines = (i : ℕ) (line : Dbkey × Line) → slice_get lines i ≡ Some line → (place : Place) × IsPlaceOf line.0 place

@@ -10,8 +10,9 @@ ghost use Rattle.stable_lines.specs.Slots.{area_file as file_named};
 ghost use Rattle.stable_lines.specs.Progress.{Open, Flight, Progress};
 ghost use Rattle.stable_lines.specs.Facts.{Facts};
 ghost use Rattle.line_moves.specs.Calls.{OnlyWrites};
+ghost use Rattle.line_moves.specs.Classes.{HaveTheirClasses};
 ghost use Rattle.line_moves.specs.Lines.{AreDistinct, PutsOnly};
-ghost use Rattle.line_seat.specs.Groups.{AreAllowed, ArePlaced, HaveClasses, IsCommitting, group_line};
+ghost use Rattle.line_seat.specs.Groups.{AreAllowed, AreOfClasses, ArePlaced, HaveClasses, IsCommitting, group_line};
 ghost use Rattle.line_seat.specs.Stages.{CommitFacts, IsNextStage, progress_at};
 ghost use Rattle.line_seat.specs.declared.commit.CommitStage.TheVariants.{Changing, Imaging, Gathering};
 
@@ -97,6 +98,11 @@ fn change_page<D: Disk>(
     ensures changes { IsTrue (D.view disk.old).tells → (now : Progress)
         → Facts (Pending (D.view disk.old)) now
         → PutsOnly lines.now (D.view disk.old).content (D.view disk.new).content }
+    ensures classes { IsTrue (D.view disk.old).tells → (now : Progress)
+        → Facts (Pending (D.view disk.old)) now → (by_area : ℕ → ℕ)
+        → AreOfClasses by_area lines.now classes.now
+        → HaveTheirClasses by_area (D.view disk.old).content
+        → HaveTheirClasses by_area (D.view disk.new).content }
     ensures order { IfOk result (IsNextStage (Changing at)) }
     ensures goes_on { IfOk result (λ next. IsTrue (D.view disk.old).tells
         → (now : Progress) (group : _) (flight : Flight)
@@ -184,6 +190,13 @@ pub fn commit_step<D: Disk>(
     ensures changes { IsTrue (D.view disk.old).tells → (now : Progress)
         → Facts (Pending (D.view disk.old)) now
         → PutsOnly lines.now (D.view disk.old).content (D.view disk.new).content }
+
+    // Whatever it answers, pages have the classes of their areas where they had, and each line comes with its area's.
+    ensures classes { IsTrue (D.view disk.old).tells → (now : Progress)
+        → Facts (Pending (D.view disk.old)) now → (by_area : ℕ → ℕ)
+        → AreOfClasses by_area lines.now classes.now
+        → HaveTheirClasses by_area (D.view disk.old).content
+        → HaveTheirClasses by_area (D.view disk.new).content }
 
     // The stages come one behind another.
     ensures order { IfOk result (IsNextStage stage) }

@@ -17,8 +17,8 @@ use Rattle.line_store.specs.declared.answers.CommitStop.{CommitStop}
 use Rattle.line_store.specs.declared.answers.CommitStop.TheVariants as commit
 use Rattle.line_store.specs.declared.answers.Stepped.{Stepped}
 use Rattle.line_store.specs.declared.answers.Stepped.TheVariants.{More, Done, Committed, Recovered}
-use Rattle.line_store.specs.Seats.{Seat, outside, changing, committing, closing, dead, in_flight, done_at, writes_of, lines_added, lines_written, is_written, Adds}
-use Rattle.line_store.specs.Shelves.{Space, Clock, Shelf, Elapses}
+use Rattle.line_store.specs.Seats.{Seat, outside, changing, committing, closing, dead, in_flight, done_at, writes_of, lines_added, lines_written, group_of, is_written, Adds}
+use Rattle.line_store.specs.Shelves.{Space, Clock, Shelf, Elapses, set_aside_beside}
 
 -- ---- seats
 
@@ -94,18 +94,18 @@ MayStopChange h s more change.NoMemory = Unit {0}
 
 -- ---- commits, and steps
 
--- what a commit of so many lines takes of the after-image journal: a slot for each line, and one for the commit
+-- The journal is told to be full where more than its limit is wanted: its header, what is in use, what is set aside for others, and the group of this commit. One that writes no line is never stopped so.
 abbrev pub MayStopCommit : Shelf → ℕ → CommitStop → Type 0
-MayStopCommit h s (commit.AijFull limit) = (limit ≡ h.space.limits.slots) × (0 < lines_written (writes_of (h.seat s))) × (limit < (1 + h.space.slots) + (1 + lines_written (writes_of (h.seat s))))
+MayStopCommit h s (commit.AijFull limit) = (limit ≡ h.space.limits.slots) × (0 < lines_written (writes_of (h.seat s))) × (limit < (1 + h.space.slots) + (set_aside_beside s h + group_of (writes_of (h.seat s))))
 MayStopCommit h s commit.NoMemory = Unit {0}
 
 pub record TakesGroup (ws : List Write) (old new : Space) : Type 0 where
   pub limits : new.limits ≡ old.limits
   pub taken : (file page : ℕ) → new.taken file page ≡ old.taken file page
   pub snaps : new.snaps ≤ old.snaps
-  pub slots : new.slots ≤ old.slots + (1 + lines_written ws)
+  pub slots : new.slots ≤ old.slots + group_of ws
 
--- The writes are committed at this moment, and session s comes to this seat.
+-- The writes are committed at this moment, in the room that was set aside for them, and session s comes to this seat.
 pub record Commits (s : ℕ) (ws : List Write) (seat : Seat) (moment : ℕ) (old new : Shelf) : Type 0 where
   pub now : new.now ≡ laid_all ws old.now
   pub mine : new.seat s ≡ seat
@@ -151,7 +151,6 @@ Comes s old new (Err fault) = Fails s fault old new
 abbrev pub MayStand : Shelf → Lines → Type 0
 MayStand h lines = (lines ≡ h.now) ⊎ ((s : ℕ) × (ws : List Write) × (in_flight (h.seat s) ≡ Some ws) × (lines ≡ laid_all ws h.now))
 
--- What a crash since a moment might have left, it might have left before the call, or it may stand before the call or behind it. What a crash may leave now, may stand now.
+-- What a crash since a moment might have left, it might have left before the call, or it may stand before the call or behind it.
 pub record Lasts (before behind : ℕ → Lines → Type 0) (old new : Shelf) : Type 0 where
   pub since : (t : ℕ) (lines : Lines) → t ≤ old.clock.time → behind t lines → before t lines ⊎ (MayStand old lines ⊎ MayStand new lines)
-  pub now : (lines : Lines) → behind new.clock.time lines → MayStand new lines

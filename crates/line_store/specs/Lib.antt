@@ -2,3 +2,4 @@ pub mod Seats
 pub mod Shelves
 pub mod Rooms
 pub mod Calls
+pub mod Sights

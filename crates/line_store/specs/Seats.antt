@@ -16,6 +16,8 @@ pub data Seat : Type 0 where
   writing : List Write → Seat
   -- the last statement's writes, which are among these, are laid
   changing : List Write → Seat
+  -- room is set aside for its commit, and memory is taken
+  prepared : List Write → Seat
   committing : List Write → Seat
   rolling_back : List Write → Seat
   -- the transaction is committed, and what its commit left is put away
@@ -29,9 +31,13 @@ pub record IsMember (s : ℕ) : Type 0 where
   pub first : 1 ≤ s
   pub last : s ≤ 16
 
+abbrev pub members : List ℕ
+members = 1 ∷ 2 ∷ 3 ∷ 4 ∷ 5 ∷ 6 ∷ 7 ∷ 8 ∷ 9 ∷ 10 ∷ 11 ∷ 12 ∷ 13 ∷ 14 ∷ 15 ∷ 16 ∷ []
+
 abbrev pub writes_of : Seat → List Write
 writes_of (writing ws) = ws
 writes_of (changing ws) = ws
+writes_of (prepared ws) = ws
 writes_of (committing ws) = ws
 writes_of (rolling_back ws) = ws
 writes_of (dead commits ws) = ws
@@ -42,6 +48,11 @@ writes_of _ = []
 abbrev pub IsWriting : Seat → Type 0
 IsWriting (writing ws) = Unit {0}
 IsWriting _ = ⊥
+
+-- it may commit, and goes on writing only once that is given back
+abbrev pub IsPrepared : Seat → Type 0
+IsPrepared (prepared ws) = Unit {0}
+IsPrepared _ = ⊥
 
 abbrev pub IsReader : Seat → Type 0
 IsReader (reading start) = Unit {0}
@@ -56,6 +67,7 @@ IsAtRest _ = ⊥
 abbrev pub IsUnderWay : Seat → Type 0
 IsUnderWay outside = ⊥
 IsUnderWay (writing ws) = ⊥
+IsUnderWay (prepared ws) = ⊥
 IsUnderWay (reading start) = ⊥
 IsUnderWay _ = Unit {0}
 
@@ -75,8 +87,16 @@ in_flight _ = None
 
 -- ---- what a call makes of a seat
 
+abbrev pub prepared_by : Seat → Seat
+prepared_by (writing ws) = prepared ws
+prepared_by seat = seat
+
+abbrev pub given_back : Seat → Seat
+given_back (prepared ws) = writing ws
+given_back seat = seat
+
 abbrev pub committing_by : Seat → Seat
-committing_by (writing ws) = committing ws
+committing_by (prepared ws) = committing ws
 committing_by seat = seat
 
 abbrev pub rolled_back : Seat → Seat
@@ -107,6 +127,17 @@ lines_added before (w ∷ ws) = (if is_written w.key before then 0 else 1) + lin
 -- how many lines are written
 abbrev pub lines_written : List Write → ℕ
 lines_written = lines_added []
+
+-- what a commit takes of the after-image journal: a slot for each line, and one for the commit
+abbrev pub group_of : List Write → ℕ
+group_of ws = 1 + lines_written ws
+
+-- the slots that are set aside for a commit, from when it is prepared until it stands or is given up
+abbrev pub set_aside : Seat → ℕ
+set_aside (prepared ws) = group_of ws
+set_aside (committing ws) = group_of ws
+set_aside (dead true ws) = group_of ws
+set_aside _ = 0
 
 -- These are the writes before, and behind them more: over each map they come to the same, and they are on the same lines.
 pub record Adds (more before behind : List Write) : Type 0 where

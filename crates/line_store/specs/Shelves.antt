@@ -1,11 +1,11 @@
 -- What a store of lines holds.
-use Rattle.std.specs.Prelude.{◌≡◌, ◌≤◌, ◌==◌, ℕ, Bool, false, None}
+use Rattle.std.specs.Prelude.{◌≡◌, ◌≤◌, ◌==◌, if◌then◌else◌, ℕ, Bool, false, None, sum_by}
 use Rattle.rdb_types.specs.declared.keys.Limits.{Limits}
 use Rattle.line_view.specs.Knowledge.{Lines}
 use Rattle.line_view.specs.Writes.{laid_all}
-use Rattle.line_store.specs.Seats.{Seat, outside, beginning, writing, changing, committing, rolling_back, closing, reading, dead, in_flight}
+use Rattle.line_store.specs.Seats.{Seat, outside, beginning, writing, changing, prepared, committing, rolling_back, closing, reading, dead, in_flight, members, set_aside}
 
--- The room that there is: the limits, which pages of the area files are taken, and at most how many slots of the snapshot files and of the after-image journal are in use.
+-- The room that there is: the limits, which pages of the area files are taken, and at most how many slots of the snapshot files and of the after-image journal are in use. (What is set aside for a commit is told by its seat.)
 pub record Space : Type 0 where
   pub limits : Limits
   pub taken : (file page : ℕ) → Bool
@@ -32,6 +32,7 @@ seen_from outside now = now
 seen_from beginning now = now
 seen_from (writing ws) now = laid_all ws now
 seen_from (changing ws) now = laid_all ws now
+seen_from (prepared ws) now = laid_all ws now
 seen_from (committing ws) now = laid_all ws now
 seen_from (rolling_back ws) now = laid_all ws now
 seen_from closing now = now
@@ -44,6 +45,10 @@ seen_by s h = seen_from (h.seat s) h.now
 -- no other session's commit is under way
 abbrev pub IsAlone : ℕ → Shelf → Type 0
 IsAlone s h = (t : ℕ) → (t == s) ≡ false → in_flight (h.seat t) ≡ None
+
+-- the slots of the journal that are set aside for others
+abbrev pub set_aside_beside : ℕ → Shelf → ℕ
+set_aside_beside s h = sum_by (λ t. if t == s then 0 else set_aside (h.seat t)) members
 
 -- time goes on, and faults are counted
 pub record Elapses (old new : Clock) : Type 0 where

@@ -42,12 +42,12 @@ pub enum ChangeStop {
     RujFull(u32),
     /// The snapshot files have no room within this limit.
     SnapFull(u32),
-    /// This line stands on no page of its logical area, or its image is too long for that page.
+    /// This line stands on no page of its logical area and of that area's class, its image is too long for the page, or another open transaction has written it.
     Unfit(Dbkey),
     NoMemory,
 }
 
-/// Why a commit can't begin.
+/// Why a commit can't be prepared.
 #[derive(Clone, Copy, Debug, PartialEq, Eq)]
 pub enum CommitStop {
     /// The after-image journal has no room within this limit.

@@ -15,7 +15,7 @@ use Rattle.member_steps.specs.Standing.{MayBeLeft}
 use Rattle.member_steps.proofs.Standings.{same_lines}
 
 module _ (v : View) (g : Ledger) (was : LedgerFacts v g) (image : Image) where
-  by_case : StandsAs (progress_of g) image → MayBeLeft g image
+  pub by_case : StandsAs (progress_of g) image → MayBeLeft g image
   by_case (as_committed kept) = inl (record { classes = (progress_of g).classes; journal = (progress_of g).journal; kept = subst (λ (l : Lines). Kept (progress_of g).classes l (progress_of g).journal image) (same_lines v g was) kept })
   by_case (with_former j is kept) = let bad : None ≡ Some j = sym (same_former v g was ∙ was.settled) ∙ is in absurd (cc)
   by_case (with_flight f is kept) = ⊎_elim

@@ -5,3 +5,4 @@ pub mod Begun
 pub mod Standings
 pub mod Ceilings
 pub mod Left
+pub mod ClassesHad

@@ -8,8 +8,9 @@ ghost use Rattle.stable_lines.specs.Slots.{Undo, area_file};
 ghost use Rattle.stable_lines.specs.Progress.{Open, Flight};
 ghost use Rattle.line_moves.specs.Calls.{OnlyWrites};
 ghost use Rattle.line_moves.specs.Changes.{KeepsLines};
+ghost use Rattle.line_moves.specs.Classes.{HaveTheirClasses};
 ghost use Rattle.line_moves.specs.Lines.{AreDistinct, PutsOnly};
-ghost use Rattle.line_seat.specs.Groups.{AreAllowed, ArePlaced, HaveClasses};
+ghost use Rattle.line_seat.specs.Groups.{AreAllowed, AreOfClasses, ArePlaced, HaveClasses};
 ghost use Rattle.line_seat.specs.declared.commit.CommitStage.TheVariants.{Gathering};
 ghost use Rattle.disk_seats.specs.Ledgers.{Ledger};
 ghost use Rattle.disk_seats.specs.Members.{LedgerFacts};
@@ -48,6 +49,9 @@ fn enter_next<D: Disk>(
     ensures lines { IsTrue (D.view disk.old).tells → (ledger : Ledger)
         → LedgerFacts (D.view disk.old) ledger
         → KeepsLines (D.view disk.old).content (D.view disk.new).content }
+    ensures classes { IsTrue (D.view disk.old).tells → (by_area : ℕ → ℕ)
+        → HaveTheirClasses by_area (D.view disk.old).content
+        → HaveTheirClasses by_area (D.view disk.new).content }
     ensures order { IfOk result (IsNextTurn (Entering at)) }
     ensures keeps { IsTrue (D.view disk.old).tells → (ledger : Ledger) (plan : Plan)
         → LedgerFacts (D.view disk.old) ledger → plan.lines ≡ lines.now
@@ -112,6 +116,11 @@ fn go_further<D: Disk>(
     ensures changes { IsTrue (D.view disk.old).tells → (ledger : Ledger)
         → LedgerFacts (D.view disk.old) ledger
         → PutsOnly lines.now (D.view disk.old).content (D.view disk.new).content }
+    ensures classes { IsTrue (D.view disk.old).tells → (ledger : Ledger)
+        → LedgerFacts (D.view disk.old) ledger → (by_area : ℕ → ℕ)
+        → AreOfClasses by_area lines.now classes.now
+        → HaveTheirClasses by_area (D.view disk.old).content
+        → HaveTheirClasses by_area (D.view disk.new).content }
     ensures keeps { IsTrue (D.view disk.old).tells
         → (ledger : Ledger) (member : ℕ) (transaction : Open) (all : List Undo) (flight : Flight)
         → LedgerFacts (D.view disk.old) ledger
@@ -160,6 +169,13 @@ pub fn commit_next<D: Disk>(
     ensures changes { IsTrue (D.view disk.old).tells → (ledger : Ledger)
         → LedgerFacts (D.view disk.old) ledger
         → PutsOnly lines.now (D.view disk.old).content (D.view disk.new).content }
+
+    // Whatever it answers, pages have the classes of their areas where they had, and each line comes with its area's.
+    ensures classes { IsTrue (D.view disk.old).tells → (ledger : Ledger)
+        → LedgerFacts (D.view disk.old) ledger → (by_area : ℕ → ℕ)
+        → AreOfClasses by_area lines.now classes.now
+        → HaveTheirClasses by_area (D.view disk.old).content
+        → HaveTheirClasses by_area (D.view disk.new).content }
 
     // Whatever it answers, the ledger stays, and the commit can go on.
     ensures keeps { IsTrue (D.view disk.old).tells

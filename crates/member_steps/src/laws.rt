@@ -1,7 +1,7 @@
 // What a member's beginning and its commit ask for, from what is known.
 ghost use Rattle.std.specs.Prelude.{◌≡◌, ◌≢◌, ◌≤◌, ◌<◌, ◌-◌, ◌⊎◌, ℕ, List, IsTrue};
 ghost use Rattle.rdb_types.specs.declared.file.FileId.{FileId};
-ghost use Rattle.rdb_types.specs.declared.file.FileKind.TheVariants.{Root as RootKind};
+ghost use Rattle.rdb_types.specs.declared.file.FileKind.TheVariants.{Area, Root as RootKind};
 ghost use Rattle.rdb_outside.specs.Disk.{Pending, IsStable, OnlyReads};
 ghost use Rattle.root_file.specs.declared.Root.{Root};
 ghost use Rattle.root_file.specs.Root.{IsRoot};
@@ -12,9 +12,14 @@ ghost use Rattle.stable_lines.specs.Slots.{area_file, owner_at, IsAreaFile};
 ghost use Rattle.line_moves.specs.declared.places.Place.{Place};
 ghost use Rattle.line_moves.specs.Calls.{OnlyWrites};
 ghost use Rattle.line_moves.specs.Changes.{IsForArea};
+ghost use Rattle.line_moves.specs.Classes.{HaveTheirClasses};
+ghost use Rattle.line_seat.specs.Groups.{HaveClasses};
+ghost use Rattle.line_seat.specs.declared.commit.CommitStage.TheVariants.{Gathering};
 ghost use Rattle.disk_seats.specs.Ledgers.{Ledger};
 ghost use Rattle.disk_seats.specs.Members.{LedgerFacts};
 ghost use Rattle.member_steps.specs.Beginning.{HasCeiling};
+ghost use Rattle.member_steps.specs.declared.committing.CommitTurn.TheVariants.{Going};
+ghost use Rattle.member_steps.specs.Turns.{Plan, TurnFacts};
 
 use rdb_outside::Disk;
 
@@ -53,4 +58,20 @@ pub fn pages_for_areas<D: Disk>(disk: &D)
     ensures unused { (place : Place) (area : ℕ) → IsStable (D.view disk.now)
         → owner_at ((D.view disk.now).content (area_file place.file) (place.page - 1)) ≡ 0
         → IsForArea (Pending (D.view disk.now)) place area }
+{}
+
+/// A commit may take off where pages have the classes of their areas. They keep them behind reads, and where another file than a storage area's is written.
+pub fn pages_have_classes<D: Disk>(before: &D, after: &D)
+    requires { IsTrue (D.view before.now).tells }
+    ensures gathers { (ledger : Ledger) (plan : Plan) → LedgerFacts (D.view before.now) ledger
+        → TurnFacts (Going Gathering) (D.view before.now) ledger plan
+        → HaveTheirClasses plan.flight.classes (D.view before.now).content
+        → HaveClasses (D.view before.now).content ledger.base plan.flight }
+    ensures reads { (classes : ℕ → ℕ) → OnlyReads (D.view before.now) (D.view after.now)
+        → HaveTheirClasses classes (D.view before.now).content
+        → HaveTheirClasses classes (D.view after.now).content }
+    ensures writes { (classes : ℕ → ℕ) (file : FileId) (slot : ℕ) → file.kind ≢ Area
+        → OnlyWrites file slot (D.view before.now) (D.view after.now)
+        → HaveTheirClasses classes (D.view before.now).content
+        → HaveTheirClasses classes (D.view after.now).content }
 {}

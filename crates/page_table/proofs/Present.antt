@@ -19,8 +19,8 @@ use Rattle.line_moves.proofs.Putting.{place_says}
 use Rattle.line_moves.proofs.Reading.{line_none}
 use Rattle.database_opening.specs.Owners.{owner_said}
 use Rattle.page_table.specs.declared.uses.PageUse.{PageUse}
-use Rattle.page_table.specs.Pages.{Pages, nobodys, use_of, has_image, IsUsedLine}
-use Rattle.page_table.specs.Reading.{is_present, line_of, SaysUse, IsTableOf}
+use Rattle.page_table.specs.Pages.{Pages, nobodys, use_of, is_present, has_image, IsUsedLine}
+use Rattle.page_table.specs.Reading.{line_of, SaysUse, IsTableOf}
 
 present : (s : LineState) → is_present s ≡ true → s ≡ Present
 present Never is = let bad : ⊥ = cc in absurd bad
@@ -49,7 +49,7 @@ module _ (image : Image) (file pages : ℕ) (table : Pages) (formed : IsWellForm
   image_is : SaysUse key.page bytes (use_of table key.page) → owner_at bytes ≡ key.area → has_image (use_of table key.page) key.line ≡ is_present (line_at image key).state
   image_is says owned =
       let same : line_of key.page bytes key.line ≡ line_on key bytes = λ i. line_on (record { area = owned i; page = key.page; line = key.line }) bytes in
-      says.images key.line ∙ ap (λ (l : Line). is_present l.state) (same ∙ sym stands_on)
+      ap is_present (says.states key.line) ∙ ap (λ (l : Line). is_present l.state) (same ∙ sym stands_on)
 
   pub used_is_present : IsUsedLine table key → (line_at image key).state ≡ Present
   used_is_present used = ⊎_elim none some (is.page key.page on_data (let last = used.is_line.within.last in let long = is.long in omega (arith, last, long)))

@@ -1,9 +1,11 @@
 -- What the bytes of a page say of it, and what is kept.
-use Rattle.std.proofs.Common.{◌≡◌, ℕ, zero, suc, ◌≤◌, ◌<◌, Bool, true, false, List, length, replicate, drop, get_or, ◌⊎◌, inl, inr, ⊎_elim, refl, sym, ◌∙◌, ap, subst, arith, if◌then◌else◌}
+use Rattle.std.proofs.Common.{◌≡◌, ℕ, zero, suc, ◌≤◌, ◌<◌, Bool, true, List, length, replicate, drop, get_or, ◌⊎◌, inl, inr, ⊎_elim, refl, sym, ◌∙◌, ap, subst, arith, if◌then◌else◌}
 use Rattle.std.proofs.lemmas.Bool.{eq-eqb, le-leb, lt-ltb, and_from}
 use Rattle.slot_fields.specs.Fields.{number_at}
 use Rattle.byteorder.specs.Endian.{little_from}
 use Rattle.rdb_types.specs.declared.keys.Line.{Line}
+use Rattle.rdb_types.specs.declared.keys.LineState.{LineState}
+use Rattle.rdb_types.specs.declared.keys.LineState.TheVariants.{Never}
 use Rattle.rdb_page.specs.declared.head.Head.{Head}
 use Rattle.rdb_page.specs.Page.{IsOwner, IsUnused, StandsAs, class_at, lines_of}
 use Rattle.rdb_page.specs.Lines.{line_place, never}
@@ -12,10 +14,10 @@ use Rattle.stable_lines.specs.Slots.{owner_at, has_place, said_at, line_on}
 use Rattle.stable_lines.proofs.Never.{nothing_on, zeros_owner, little_zeros, zero_behind}
 use Rattle.line_moves.proofs.Reading.{owner_is, class_is}
 use Rattle.line_moves.proofs.Spots.{never_past}
-use Rattle.page_table.specs.Pages.{nobodys, no_images}
-use Rattle.page_table.specs.Reading.{is_present, line_of, SaysUse}
+use Rattle.page_table.specs.Pages.{nobodys, no_lines}
+use Rattle.page_table.specs.Reading.{line_of, SaysUse}
 
-pub none_has : (line : ℕ) → get_or no_images line false ≡ false
+pub none_has : (line : ℕ) → get_or no_lines line Never ≡ Never
 none_has zero = refl
 none_has (suc zero) = refl
 none_has (suc (suc zero)) = refl
@@ -31,7 +33,7 @@ pub unused_says : (number : ℕ) (page : List ℕ) → IsUnused page → SaysUse
 unused_says number page unused = record {
   owner = sym (zeros_owner page unused);
   class = sym (zeros_class page unused);
-  images = λ line. none_has line ∙ sym (ap (λ (l : Line). is_present l.state) (nothing_on (record { area = owner_at page; page = number; line = line }) page (zeros_owner page unused)));
+  states = λ line. none_has line ∙ sym (ap (λ (l : Line). l.state) (nothing_on (record { area = owner_at page; page = number; line = line }) page (zeros_owner page unused)));
 }
 
 owned : (file owner : ℕ) → IsOwner file owner → 1 ≤ owner
@@ -53,14 +55,14 @@ module _ (file : ℕ) (page : List ℕ) (head : Head) (stands : StandsAs page fi
       has : has_place (record { area = owner_at page; page = head.page; line = line }) page ≡ true
       has = and_from _ _ (and_from _ _ (and_from _ _ (and_from _ _ (le-leb 1 (owner_at page) first) (le-leb 1 head.page numbered.first)) (le-leb head.page 65536 numbered.last)) (eq-eqb (owner_at page) (owner_at page) refl)) (lt-ltb line (lines_of (class_at page)) room)
 
-  past : (line : ℕ) → lines_of head.class ≤ line → is_present (line_of head.page page line).state ≡ false
-  past line behind = ap (λ (l : Line). is_present l.state) (never_past (record { area = owner_at page; page = head.page; line = line }) page head stands.head behind)
+  past : (line : ℕ) → lines_of head.class ≤ line → (line_of head.page page line).state ≡ Never
+  past line behind = ap (λ (l : Line). l.state) (never_past (record { area = owner_at page; page = head.page; line = line }) page head stands.head behind)
 
   -- of each line what its bytes say, and nothing of a line that there is not
-  pub images_are : (images : List Bool) → ((line : ℕ) → line < lines_of head.class → get_or images line false ≡ is_present (said_at (line_place (class_at page) line) page).state)
-      → ((line : ℕ) → lines_of head.class ≤ line → get_or images line false ≡ false)
-      → (line : ℕ) → get_or images line false ≡ is_present (line_of head.page page line).state
-  images_are images here none line = ⊎_elim (λ less. here line less ∙ sym (ap (λ (l : Line). is_present l.state) (within line less))) (λ behind. none line behind ∙ sym (past line behind)) (cases line (lines_of head.class))
+  pub states_are : (states : List LineState) → ((line : ℕ) → line < lines_of head.class → get_or states line Never ≡ (said_at (line_place (class_at page) line) page).state)
+      → ((line : ℕ) → lines_of head.class ≤ line → get_or states line Never ≡ Never)
+      → (line : ℕ) → get_or states line Never ≡ (line_of head.page page line).state
+  states_are states here none line = ⊎_elim (λ less. here line less ∙ sym (ap (λ (l : Line). l.state) (within line less))) (λ behind. none line behind ∙ sym (past line behind)) (cases line (lines_of head.class))
     where
       cases : (a b : ℕ) → (a < b) ⊎ (b ≤ a)
       cases a b = grind arith

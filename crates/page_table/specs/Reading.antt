@@ -1,8 +1,6 @@
 -- What a table says of an image.
-use Rattle.std.specs.Prelude.{ℕ, ◌-◌, ◌≤◌, ◌≡◌, ◌⊎◌, Bool, true, false, List, length}
+use Rattle.std.specs.Prelude.{ℕ, ◌-◌, ◌≤◌, ◌≡◌, ◌⊎◌, List, length}
 use Rattle.rdb_types.specs.declared.keys.Line.{Line}
-use Rattle.rdb_types.specs.declared.keys.LineState.{LineState}
-use Rattle.rdb_types.specs.declared.keys.LineState.TheVariants.{Never, Present, Erased}
 use Rattle.rdb_page.specs.Page.{class_at}
 use Rattle.rdb_page.specs.Whole.{IsPageOf}
 use Rattle.rdb_outside.specs.Disk.{Image}
@@ -11,13 +9,7 @@ use Rattle.space_pages.specs.Space.{IsSpace}
 use Rattle.stable_lines.specs.Slots.{area_file, owner_at, line_on}
 use Rattle.database_opening.specs.Owners.{owner_said}
 use Rattle.page_table.specs.declared.uses.PageUse.{PageUse}
-use Rattle.page_table.specs.Pages.{Pages, nobodys, use_of, has_image}
-
--- whether a line of this state has an image
-abbrev pub is_present : LineState → Bool
-is_present Never = false
-is_present Present = true
-is_present Erased = false
+use Rattle.page_table.specs.Pages.{Pages, nobodys, use_of, state_in}
 
 -- the line of a number on a page, for the logical area that the page names
 abbrev pub line_of : (page : ℕ) → List ℕ → ℕ → Line
@@ -27,7 +19,7 @@ line_of page bytes line = line_on (record { area = owner_at bytes; page = page; 
 pub record SaysUse (page : ℕ) (bytes : List ℕ) (u : PageUse) : Type 0 where
   pub owner : u.owner ≡ owner_at bytes
   pub class : u.class ≡ class_at bytes
-  pub images : (line : ℕ) → has_image u line ≡ is_present (line_of page bytes line).state
+  pub states : (line : ℕ) → state_in u line ≡ (line_of page bytes line).state
 
 -- Nobody owns the page by its space page, or its bytes say this of it.
 abbrev pub IsEntryOf : (owner page : ℕ) → List ℕ → PageUse → Type 0

@@ -7,13 +7,14 @@ use Rattle.area_files.specs.Areas.{IsSpacePage}
 use Rattle.line_store.specs.Rooms.{IsBehind}
 use Rattle.page_table.specs.declared.uses.PageUse.{PageUse}
 use Rattle.page_table.specs.declared.uses.Sought.{Sought}
-use Rattle.page_table.specs.declared.uses.Sought.TheVariants.{Used, Free}
-use Rattle.page_table.specs.Pages.{Pages, use_of, owner_in, has_image, IsLineOf}
+use Rattle.page_table.specs.declared.uses.Sought.TheVariants.{Used, Ever, Free}
+use Rattle.page_table.specs.Pages.{Pages, use_of, owner_in, has_image, was_used, IsLineOf}
 
 -- ---- lines
 
 abbrev pub IsSought : Sought → PageUse → ℕ → Type 0
 IsSought Used u line = has_image u line ≡ true
+IsSought Ever u line = was_used u line ≡ true
 IsSought (Free class) u line = (u.class ≡ class) × (has_image u line ≡ false)
 
 -- a line of the area, behind another, that is sought

@@ -1,4 +1,4 @@
-//! What is kept in memory of the pages of an area file: whose each is, and which of its lines have an image. So rooms are found and areas are scanned without a read.
+//! What is kept in memory of the pages of an area file: whose each is, and which of its lines have an image or had one. So rooms are found and areas are scanned without a read.
 #![tactic(auto)]
 
 mod laws;

@@ -10,7 +10,7 @@ ghost use Rattle.rdb_page.specs.Whole.{IsPageOf};
 ghost use Rattle.stable_lines.specs.Slots.{area_file as area_named, said_at};
 ghost use Rattle.page_table.specs.declared.uses.PageUse.{PageUse as PageEntry};
 ghost use Rattle.page_table.specs.Pages.{nobodys, IsWithin, Puts};
-ghost use Rattle.page_table.specs.Reading.{is_present as is_present_in, SaysUse, IsEntryOf, IsTableOf, ArePages};
+ghost use Rattle.page_table.specs.Reading.{SaysUse, IsEntryOf, IsTableOf, ArePages};
 
 use crate::table::PageTable;
 use crate::uses::PageUse;
@@ -23,31 +23,21 @@ use rdb_page::{BadPage, Head, lines_of, read_head, read_line};
 use rdb_types::LineState;
 use std::alloc::Global;
 
-fn is_present(state: LineState) -> bool
-    ensures { result ≡ is_present_in state }
-{
-    match state {
-        LineState::Never => false,
-        LineState::Present => true,
-        LineState::Erased => false,
-    }
-}
-
-// Whether the line of a number has an image.
-fn has_image(page: &[u8], line: u16) -> Result<bool, BadPage>
+// The state of the line of a number.
+fn state_at(page: &[u8], line: u16) -> Result<LineState, BadPage>
     requires size { length page.now ≡ 1024 }
     requires class { IsClass (class_at page.now) }
     requires line { line < lines_in (class_at page.now) }
-    ensures found { IfOk result (λ is_present. is_present
-        ≡ is_present_in (said_at (line_place (class_at page.now) line) page.now).state) }
+    ensures found { IfOk result (λ state. state
+        ≡ (said_at (line_place (class_at page.now) line) page.now).state) }
     ensures none { OnErr result ((value : _) → IsLine page.now (class_at page.now) line value → ⊥) }
 {
     let value = read_line(page, line)?;
-    Ok(is_present(value.state))
+    Ok(value.state)
 }
 
 // What a page with this head says.
-fn with_images(page: &[u8], file: u32, head: Head) -> Result<PageUse, BadPage>
+fn with_states(page: &[u8], file: u32, head: Head) -> Result<PageUse, BadPage>
     requires size { length page.now ≡ 1024 }
     requires page { IsPage head.page }
     requires head { StandsAs page.now file head.page head }
@@ -56,8 +46,8 @@ fn with_images(page: &[u8], file: u32, head: Head) -> Result<PageUse, BadPage>
 {
     let mut used = PageUse::empty(head.owner, head.class);
     for line in 0..lines_of(head.class) {
-        let is_present = has_image(page, line)?;
-        used = used.with_line(line, is_present);
+        let state = state_at(page, line)?;
+        used = used.with_line(line, state);
     }
     Ok(used)
 }
@@ -70,7 +60,7 @@ fn use_on(page: &[u8], file: u32, number: u32) -> Result<PageUse, BadPage>
     ensures refused { OnErr result (IsPageOf file number page.now → ⊥) }
 {
     match read_head(page, file, number)? {
-        Some(head) => with_images(page, file, head),
+        Some(head) => with_states(page, file, head),
         None => Ok(PageUse::empty(0, 0)),
     }
 }

@@ -2,7 +2,7 @@
 ghost use Rattle.std.specs.Prelude.{◌≡◌, ◌≤◌, ◌<◌, ℕ, true, false, IfSome, IfNone};
 ghost use Rattle.rdb_types.specs.declared.keys.Dbkey.{Dbkey as Key};
 ghost use Rattle.line_store.specs.Rooms.{IsBehind};
-ghost use Rattle.page_table.specs.declared.uses.Sought.TheVariants.{Used, Free};
+ghost use Rattle.page_table.specs.declared.uses.Sought.TheVariants.{Used, Ever, Free};
 ghost use Rattle.page_table.specs.Pages.{IsWithin};
 ghost use Rattle.page_table.specs.Lines.{IsFirstOn};
 ghost use Rattle.page_table.specs.Scans.{Fits, IsFirst, HasNone, IsNew, IsFirstNew, HasNoNew, IsNextRoom, HasNoRoom};
@@ -63,6 +63,14 @@ impl PageTable {
         ensures none { IfNone result (HasNone self.now Used area from) }
     {
         self.next_line(Sought::Used, area, from)
+    }
+
+    /// The next line of a logical area that was ever used.
+    pub fn next_ever(&self, area: u32, from: Option<Dbkey>) -> Option<Dbkey>
+        ensures found { IfSome result (IsFirst self.now Ever area from) }
+        ensures none { IfNone result (HasNone self.now Ever area from) }
+    {
+        self.next_line(Sought::Ever, area, from)
     }
 
     // Whether nobody owns a page, and it may hold lines.

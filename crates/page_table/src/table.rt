@@ -1,10 +1,10 @@
 // The table, and what is put into it.
 ghost use Rattle.std.specs.Prelude.{◌≡◌, ◌≤◌, ◌<◌, ℕ, true, false, length, replicate, IfOk};
-ghost use Rattle.page_table.specs.Pages.{nobodys, empty_of, use_of, owner_in, IsWithin, IsLineOf, IsUsedLine, Puts, PutsLine};
+ghost use Rattle.page_table.specs.Pages.{nobodys, empty_of, use_of, owner_in, IsWithin, IsLineOf, IsUsedLine, IsEverUsed, Puts, PutsLine};
 
 use crate::uses::PageUse;
 use rdb_page::lines_of;
-use rdb_types::{Dbkey, NoMemory};
+use rdb_types::{Dbkey, LineState, NoMemory};
 use std::alloc::Global;
 use std::marker::Model;
 
@@ -68,13 +68,18 @@ impl PageTable {
         self.put(page, PageUse::empty(area, class));
     }
 
-    /// Keeps that a line has an image, or none.
+    /// Keeps that a line has an image, or has none any more.
     pub fn put_line(&mut self, key: Dbkey, is_present: bool)
         requires { IsLineOf self.old key }
         ensures { PutsLine key is_present self.old self.new }
     {
         let used = self.use_of(key.page);
-        self.put(key.page, used.with_line(key.line, is_present));
+        let state = if is_present {
+            LineState::Present
+        } else {
+            LineState::Erased
+        };
+        self.put(key.page, used.with_line(key.line, state));
     }
 
     /// Whether a line has an image.
@@ -87,5 +92,17 @@ impl PageTable {
         }
         let used = self.use_of(key.page);
         used.owner == key.area && key.line < lines_of(used.class) && used.has_image(key.line)
+    }
+
+    /// Whether a line was ever used.
+    pub fn was_used(&self, key: Dbkey) -> bool
+        ensures yes { result ≡ true → IsEverUsed self.now key }
+        ensures no { result ≡ false → IsEverUsed self.now key → ⊥ }
+    {
+        if key.page < 1 || key.page > self.count() {
+            return false;
+        }
+        let used = self.use_of(key.page);
+        used.owner == key.area && key.line < lines_of(used.class) && used.was_used(key.line)
     }
 }

@@ -3,26 +3,38 @@ ghost use Rattle.std.specs.Prelude.{◌≡◌, ◌≢◌, ◌<◌, ◌≤◌, �
 ghost use Rattle.rdb_types.specs.declared.keys.Dbkey.{Dbkey as Key};
 ghost use Rattle.rdb_page.specs.Page.{lines_of as lines_in};
 ghost use Rattle.line_store.specs.Rooms.{IsBehind};
-ghost use Rattle.page_table.specs.Pages.{empty_of, has_image};
+ghost use Rattle.page_table.specs.Pages.{empty_of, state_in, has_image, was_used, is_present as is_present_in};
 ghost use Rattle.page_table.specs.Scans.{IsSought};
 ghost use Rattle.page_table.specs.Lines.{FitsAt, IsFirstAt};
 
 use rdb_page::lines_of;
-use rdb_types::Dbkey;
+use rdb_types::{Dbkey, LineState};
 
-/// The logical area that owns a page, 0 being nobody; the class of its lines; and which of them have an image.
+/// The logical area that owns a page, 0 being nobody; the class of its lines; and of each of them whether it has an image, or had one.
 #[derive(Clone, Copy)]
 pub struct PageUse {
     pub owner: u32,
     pub class: u16,
-    pub lines: [bool; 4],
+    pub lines: [LineState; 4],
 }
 
-/// Lines that are looked for: those that have an image, or those without one on pages of a class.
+/// Lines that are looked for: those that have an image, those that were ever used, or those without an image on pages of a class.
 #[derive(Clone, Copy)]
 pub enum Sought {
     Used,
+    Ever,
     Free { class: u16 },
+}
+
+// Whether a line of this state has an image.
+fn is_present(state: LineState) -> bool
+    ensures { result ≡ is_present_in state }
+{
+    match state {
+        LineState::Never => false,
+        LineState::Present => true,
+        LineState::Erased => false,
+    }
 }
 
 /// Whether a line is behind another.
@@ -37,14 +49,25 @@ pub(crate) fn is_behind(from: Option<Dbkey>, key: Dbkey) -> bool
 }
 
 impl PageUse {
-    /// A page on which no line has an image.
+    /// A page on which no line was ever used.
     pub fn empty(owner: u32, class: u16) -> PageUse
         ensures { result ≡ empty_of owner class }
     {
         PageUse {
             owner,
             class,
-            lines: [false; 4],
+            lines: [LineState::Never; 4],
+        }
+    }
+
+    // The state of a line; one that there is not was never used.
+    fn state_of(&self, line: u16) -> LineState
+        ensures { result ≡ state_in self.now line }
+    {
+        if line < 4 {
+            self.lines[line as usize]
+        } else {
+            LineState::Never
         }
     }
 
@@ -52,24 +75,31 @@ impl PageUse {
     pub fn has_image(&self, line: u16) -> bool
         ensures { result ≡ has_image self.now line }
     {
-        if line < 4 {
-            self.lines[line as usize]
-        } else {
-            false
+        is_present(self.state_of(line))
+    }
+
+    /// Whether a line was ever used.
+    pub fn was_used(&self, line: u16) -> bool
+        ensures { result ≡ was_used self.now line }
+    {
+        match self.state_of(line) {
+            LineState::Never => false,
+            LineState::Present => true,
+            LineState::Erased => true,
         }
     }
 
-    /// The same with an image of a line, or without one.
-    pub fn with_line(self, line: u16, is_present: bool) -> PageUse
+    /// The same with another state of a line.
+    pub fn with_line(self, line: u16, state: LineState) -> PageUse
         requires { line < 4 }
-        ensures here { has_image result line ≡ is_present }
+        ensures here { state_in result line ≡ state }
         ensures others { (other : ℕ) → other ≢ line
-            → has_image result other ≡ has_image self other }
+            → state_in result other ≡ state_in self other }
         ensures owner { result.owner ≡ self.owner }
         ensures class { result.class ≡ self.class }
     {
         let mut lines = self.lines;
-        lines[line as usize] = is_present;
+        lines[line as usize] = state;
         PageUse {
             owner: self.owner,
             class: self.class,
@@ -83,6 +113,7 @@ impl PageUse {
     {
         match sought {
             Sought::Used => self.has_image(line),
+            Sought::Ever => self.was_used(line),
             Sought::Free { class } => self.class == class && !self.has_image(line),
         }
     }

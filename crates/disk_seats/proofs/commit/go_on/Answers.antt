@@ -23,3 +23,6 @@ returns-clause-goes_on g c = let v = g.D.Disk.view in
 
 pub returns-clause-changes : goal.returns-clause-changes
 returns-clause-changes g c = λ t ledger was. c.commit_step.ensures.changes t (progress_of ledger) was.facts
+
+pub returns-clause-classes : goal.returns-clause-classes
+returns-clause-classes g c = λ t ledger was by_area its had. c.commit_step.ensures.classes t (progress_of ledger) was.facts by_area its had

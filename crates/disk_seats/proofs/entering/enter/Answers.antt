@@ -1,5 +1,6 @@
 use Rattle.std.proofs.Common.{◌≤◌, sym, subst}
 use Rattle.line_moves.proofs.Runs.{on_ok}
+use Rattle.line_moves.proofs.PageClasses.{classes_beside_space_of}
 use Rattle.disk_seats.specs.Ledgers.{progress_of}
 use Rattle.disk_seats.proofs.Progresses.{same_limits}
 use Rattle.disk_seats.proofs.Entered.{space_behind, owned_more}
@@ -18,3 +19,7 @@ returns-clause-owned g c = let v = g.D.Disk.view in
 
 pub returns-clause-lines : goal.returns-clause-lines
 returns-clause-lines g c = λ t ledger was. c.enter_page.ensures.lines t (progress_of ledger) was.facts
+
+pub returns-clause-classes : goal.returns-clause-classes
+returns-clause-classes g c = let v = g.D.Disk.view in
+    λ t classes had. classes_beside_space_of classes (v c.args.disk.now) (v c.enter_page.new.disk) c.args.place.file c.args.place.page t c.requires.page c.enter_page.ensures.writes had

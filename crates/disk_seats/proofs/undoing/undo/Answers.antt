@@ -28,3 +28,6 @@ returns-clause-undone g c = let v = g.D.Disk.view in let some = c.requires.some 
 pub returns-clause-restores : goal.returns-clause-restores
 returns-clause-restores g c = let v = g.D.Disk.view in λ t ledger o all was stands going same limit.
     c.undo_next.ensures.restores t (progress_of ledger) o (may_undo (v c.args.disk.now) ledger c.args.member o all c.args.left was stands going c.args.pages limit) same
+
+pub returns-clause-classes : goal.returns-clause-classes
+returns-clause-classes g c = λ t ledger was classes had. c.undo_next.ensures.classes t (progress_of ledger) was.facts classes had

@@ -8,6 +8,8 @@ use Rattle.line_moves.proofs.KeyPlaces.{area_is}
 use Rattle.line_moves.proofs.PageWrite.{page_written}
 use Rattle.line_moves.proofs.FilledPages.{SameLines, some_there, got_pair, sure_filled, put_more}
 use Rattle.line_moves.proofs.OnlyPut.{keeps_lines, same_behind, elsewhere_behind, puts_only}
+use Rattle.line_moves.specs.Classes.{HasItsClass, HaveTheirClasses}
+use Rattle.line_moves.proofs.PageClasses.{classes_read, classes_stay, class_kept, class_begun, classes_behind}
 use Rattle.line_moves.proofs.FirstLines.{same_lines, started_page, sure_started, class_started}
 use Rattle.line_moves.proofs.filling.write_page.Goals as goal
 
@@ -196,4 +198,58 @@ returns-clause-changes g c = let v = g.D.Disk.view in let old = v c.args.disk.no
     let put : Puts c.area_file-file.result c.slot_of-slot.result x mid.content new.content → PutsOnly c.args.lines.now old.content new.content = λ puts. puts_only old.content new.content c.args.lines.now c.args.from c.in-Ok.next c.args.place z x (omega (arith, further.0)) lines_of (c.in-Ok.ensures.fills is_page)
     (here_at new c.area_file-file.result f c.slot_of-slot.result at x c.area_file-file.ensures c.slot_of-slot.ensures puts.here)
     (elsewhere_behind old mid new c.area_file-file.result c.args.place.file c.args.place.page c.slot_of-slot.result x c.area_file-file.ensures c.slot_of-slot.ensures (reads.keeps t).content puts) in
+    put (c.in_ok-write.ensures.written (told t))
+
+pub returns-in_err-read-clause-classes : goal.returns-in_err-read-clause-classes
+returns-in_err-read-clause-classes g c = let v = g.D.Disk.view in let old = v c.args.disk.now in let mid = v c.read.new.self in
+    let reads = reads_once old mid c.read.result c.read.ensures.counts c.read.ensures.kept in
+    λ t now was classes its had. classes_read classes old mid reads t had
+
+pub returns-in_default-clause-classes : goal.returns-in_default-clause-classes
+returns-in_default-clause-classes g c = let v = g.D.Disk.view in let old = v c.args.disk.now in let mid = v c.read.new.self in
+    let reads = reads_once old mid c.read.result c.read.ensures.counts c.read.ensures.kept in
+    λ t now was classes its had. classes_read classes old mid reads t had
+
+pub returns-in_err-write-clause-classes : goal.returns-in_err-write-clause-classes
+returns-in_err-write-clause-classes g c = let v = g.D.Disk.view in let old = v c.args.disk.now in let mid = v c.read.new.self in
+    let reads = reads_once old mid c.read.result c.read.ensures.counts c.read.ensures.kept in
+    let f = area_file c.args.place.file in let at = c.args.place.page - 1 in
+    let new = v c.write.new.self in let told = still_tells old mid reads.told in
+    let y = c.read.new.into in let z = c.start.new.page in let x = c.fill.new.page in
+    let got = got_pair c.args.lines.now c.args.from c.index-lines-from.result c.index-lines-from.result c.requires.within in
+    let names = c.requires.place _ got in
+    let first = (slice_index_or c.args.lines.now c.args.from c.index-lines-from.result).0 in
+    λ t now was classes its had.
+    let left = g.met.D.Disk.content_left c.args.disk.now old.moment t (omega arith) in
+    let same : y ≡ old.content f at = c.in_ok-read.ensures.bytes t ∙ (λ i. old.content (c.area_file-file.ensures i) (c.slot_of-slot.ensures i)) in
+    let there = read_pends old left c.area_file-file.result f c.slot_of-slot.result at y c.area_file-file.ensures c.slot_of-slot.ensures (c.in_ok-read.ensures.bytes t) in
+    let is_page = started_page first c.args.place c.args.class y z names c.start.ensures.started (was.pages.page c.args.place.file c.args.place.page y (area_is first c.args.place names) names.is_data there) in
+    let fills = c.in-Ok.ensures.fills is_page in
+    let on_y = subst (λ (b : List ℕ). HasItsClass classes b) (sym same) (had c.args.place.file c.args.place.page (area_is first c.args.place names) names.is_data) in
+    let on_x = class_kept classes z x fills.same_owner fills.same_class (class_begun classes c.args.place first.area c.args.class y z c.start.ensures.started (its _ got) on_y) in
+    let put : Puts c.area_file-file.result c.slot_of-slot.result x mid.content new.content → HaveTheirClasses classes new.content = λ puts. classes_behind classes old.content new.content c.args.place.file c.args.place.page x names.is_data.is_page.first
+    (elsewhere_behind old mid new c.area_file-file.result c.args.place.file c.args.place.page c.slot_of-slot.result x c.area_file-file.ensures c.slot_of-slot.ensures (reads.keeps t).content puts)
+    (here_at new c.area_file-file.result f c.slot_of-slot.result at x c.area_file-file.ensures c.slot_of-slot.ensures puts.here) on_x had in
+    ⊎_elim (λ none. classes_stay classes mid.content new.content none (classes_read classes old mid reads t had)) put (c.in_err-write.ensures.failed (told t))
+
+pub returns-clause-classes : goal.returns-clause-classes
+returns-clause-classes g c = let v = g.D.Disk.view in let old = v c.args.disk.now in let mid = v c.read.new.self in
+    let reads = reads_once old mid c.read.result c.read.ensures.counts c.read.ensures.kept in
+    let f = area_file c.args.place.file in let at = c.args.place.page - 1 in
+    let new = v c.write.new.self in let told = still_tells old mid reads.told in
+    let y = c.read.new.into in let z = c.start.new.page in let x = c.fill.new.page in
+    let got = got_pair c.args.lines.now c.args.from c.index-lines-from.result c.index-lines-from.result c.requires.within in
+    let names = c.requires.place _ got in
+    let first = (slice_index_or c.args.lines.now c.args.from c.index-lines-from.result).0 in
+    λ t now was classes its had.
+    let left = g.met.D.Disk.content_left c.args.disk.now old.moment t (omega arith) in
+    let same : y ≡ old.content f at = c.in_ok-read.ensures.bytes t ∙ (λ i. old.content (c.area_file-file.ensures i) (c.slot_of-slot.ensures i)) in
+    let there = read_pends old left c.area_file-file.result f c.slot_of-slot.result at y c.area_file-file.ensures c.slot_of-slot.ensures (c.in_ok-read.ensures.bytes t) in
+    let is_page = started_page first c.args.place c.args.class y z names c.start.ensures.started (was.pages.page c.args.place.file c.args.place.page y (area_is first c.args.place names) names.is_data there) in
+    let fills = c.in-Ok.ensures.fills is_page in
+    let on_y = subst (λ (b : List ℕ). HasItsClass classes b) (sym same) (had c.args.place.file c.args.place.page (area_is first c.args.place names) names.is_data) in
+    let on_x = class_kept classes z x fills.same_owner fills.same_class (class_begun classes c.args.place first.area c.args.class y z c.start.ensures.started (its _ got) on_y) in
+    let put : Puts c.area_file-file.result c.slot_of-slot.result x mid.content new.content → HaveTheirClasses classes new.content = λ puts. classes_behind classes old.content new.content c.args.place.file c.args.place.page x names.is_data.is_page.first
+    (elsewhere_behind old mid new c.area_file-file.result c.args.place.file c.args.place.page c.slot_of-slot.result x c.area_file-file.ensures c.slot_of-slot.ensures (reads.keeps t).content puts)
+    (here_at new c.area_file-file.result f c.slot_of-slot.result at x c.area_file-file.ensures c.slot_of-slot.ensures puts.here) on_x had in
     put (c.in_ok-write.ensures.written (told t))

@@ -8,6 +8,7 @@ use Rattle.rdb_outside.specs.Runs.{then_reads}
 use Rattle.stable_lines.specs.Slots.{ruj_file, area_file, file_of, slot_of, line_on, line_at, entry_at}
 use Rattle.stable_lines.specs.Facts.{IsNotOpen}
 use Rattle.line_moves.specs.Changes.{IsPlaceOf, Fits}
+use Rattle.line_moves.proofs.PageClasses.{classes_read}
 use Rattle.line_moves.proofs.KeyPlaces.{area_is, place_content}
 use Rattle.line_moves.proofs.LinePut.{same_key}
 use Rattle.line_moves.proofs.Runs.{pends, reads_once, facts_read, read_pends, still_tells, writes_none, reads_then_writes}
@@ -421,3 +422,47 @@ returns-then-line-tsn-clause-nothing g c = let v = g.D.Disk.view in let v0 = v c
     let reads = reads_once v0 v1 c.read.result c.read.ensures.counts c.read.ensures.kept in
     let v2 = v c.line_at.new.disk in
     λ is. then_reads v0 v1 v2 reads c.line_at.ensures.reads
+
+pub returns-in_err-read-clause-classes : goal.returns-in_err-read-clause-classes
+returns-in_err-read-clause-classes g c = let v = g.D.Disk.view in let v0 = v c.args.disk.now in let v1 = v c.read.new.self in
+    let reads = reads_once v0 v1 c.read.result c.read.ensures.counts c.read.ensures.kept in
+    λ t now was classes had. classes_read classes v0 v1 reads t had
+
+pub returns-in_default-clause-classes : goal.returns-in_default-clause-classes
+returns-in_default-clause-classes g c = let v = g.D.Disk.view in let v0 = v c.args.disk.now in let v1 = v c.read.new.self in
+    let reads = reads_once v0 v1 c.read.result c.read.ensures.counts c.read.ensures.kept in
+    λ t now was classes had. classes_read classes v0 v1 reads t had
+
+pub returns-in_default-place_of-clause-classes : goal.returns-in_default-place_of-clause-classes
+returns-in_default-place_of-clause-classes g c = let v = g.D.Disk.view in let v0 = v c.args.disk.now in let v1 = v c.read.new.self in
+    let reads = reads_once v0 v1 c.read.result c.read.ensures.counts c.read.ensures.kept in
+    λ t now was classes had. classes_read classes v0 v1 reads t had
+
+pub returns-then-place-pages-clause-classes : goal.returns-then-place-pages-clause-classes
+returns-then-place-pages-clause-classes g c = let v = g.D.Disk.view in let v0 = v c.args.disk.now in let v1 = v c.read.new.self in
+    let reads = reads_once v0 v1 c.read.result c.read.ensures.counts c.read.ensures.kept in
+    λ t now was classes had. classes_read classes v0 v1 reads t had
+
+pub returns-in_err-line-clause-classes : goal.returns-in_err-line-clause-classes
+returns-in_err-line-clause-classes g c = let v = g.D.Disk.view in let v0 = v c.args.disk.now in let v1 = v c.read.new.self in
+    let reads = reads_once v0 v1 c.read.result c.read.ensures.counts c.read.ensures.kept in
+    let v2 = v c.line_at.new.disk in let both = then_reads v0 v1 v2 reads c.line_at.ensures.reads in
+    λ t now was classes had. classes_read classes v0 v2 both t had
+
+pub returns-then-line-tsn-clause-classes : goal.returns-then-line-tsn-clause-classes
+returns-then-line-tsn-clause-classes g c = let v = g.D.Disk.view in let v0 = v c.args.disk.now in let v1 = v c.read.new.self in
+    let reads = reads_once v0 v1 c.read.result c.read.ensures.counts c.read.ensures.kept in
+    let v2 = v c.line_at.new.disk in let both = then_reads v0 v1 v2 reads c.line_at.ensures.reads in
+    λ t now was classes had. classes_read classes v0 v2 both t had
+
+pub returns-in-Ok-clause-classes : goal.returns-in-Ok-clause-classes
+returns-in-Ok-clause-classes g c = let v = g.D.Disk.view in let v0 = v c.args.disk.now in let v1 = v c.read.new.self in
+    let reads = reads_once v0 v1 c.read.result c.read.ensures.counts c.read.ensures.kept in
+    let v2 = v c.line_at.new.disk in let both = then_reads v0 v1 v2 reads c.line_at.ensures.reads in
+    λ t now was classes had. c.change_line.ensures.classes (still_tells v0 v2 both.told t) now (facts_read v0 v2 both t now was) classes (classes_read classes v0 v2 both t had)
+
+pub returns-in-Err-clause-classes : goal.returns-in-Err-clause-classes
+returns-in-Err-clause-classes g c = let v = g.D.Disk.view in let v0 = v c.args.disk.now in let v1 = v c.read.new.self in
+    let reads = reads_once v0 v1 c.read.result c.read.ensures.counts c.read.ensures.kept in
+    let v2 = v c.line_at.new.disk in let both = then_reads v0 v1 v2 reads c.line_at.ensures.reads in
+    λ t now was classes had. c.change_line.ensures.classes (still_tells v0 v2 both.told t) now (facts_read v0 v2 both t now was) classes (classes_read classes v0 v2 both t had)

@@ -2,7 +2,8 @@ use Rattle.std.proofs.Common.{rules, ◌≡◌, ◌+◌, ◌-◌, ◌≤◌, ◌
 use Rattle.rdb_outside.specs.Disk.{Pending}
 use Rattle.rdb_outside.specs.Runs.{no_calls, then_reads}
 use Rattle.stable_lines.specs.Slots.{area_file}
-use Rattle.line_moves.proofs.Runs.{still_tells, writes_none, reads_then_writes}
+use Rattle.line_moves.proofs.Runs.{facts_read, still_tells, writes_none, reads_then_writes}
+use Rattle.line_moves.proofs.PageClasses.{classes_read}
 use Rattle.line_moves.proofs.OnlyPut.{keeps_lines, some_page}
 use Rattle.line_moves.proofs.FilledPages.{some_there}
 use Rattle.stable_lines.specs.Facts.{StandsAs}
@@ -171,3 +172,17 @@ returns-clause-writes g c = let v = g.D.Disk.view in (1, 1, some_page, writes_no
 pub returns-clause-restores : goal.returns-clause-restores
 returns-clause-restores g c = let v = g.D.Disk.view in
     λ t p o may same key. inl (keeps_lines (v c.args.disk.now).content (v c.loop-back.disk).content (c.loop-back.invariant.reads.keeps t).content key)
+
+pub returns-in_err-undo_line-clause-classes : goal.returns-in_err-undo_line-clause-classes
+returns-in_err-undo_line-clause-classes g c = let v = g.D.Disk.view in let before = v c.args.disk.now in let mid = v c.loop-back.disk in
+    let so_far = c.loop-back.invariant in
+    λ t now was classes had. c.undo_line.ensures.classes (still_tells before mid so_far.told t) now (facts_read before mid so_far.reads t now was) classes (classes_read classes before mid so_far.reads t had)
+
+pub returns-in-Written-clause-classes : goal.returns-in-Written-clause-classes
+returns-in-Written-clause-classes g c = let v = g.D.Disk.view in let before = v c.args.disk.now in let mid = v c.loop-back.disk in
+    let so_far = c.loop-back.invariant in
+    λ t now was classes had. c.undo_line.ensures.classes (still_tells before mid so_far.told t) now (facts_read before mid so_far.reads t now was) classes (classes_read classes before mid so_far.reads t had)
+
+pub returns-clause-classes : goal.returns-clause-classes
+returns-clause-classes g c = let v = g.D.Disk.view in
+    λ t now was classes had. classes_read classes (v c.args.disk.now) (v c.loop-back.disk) c.loop-back.invariant.reads t had

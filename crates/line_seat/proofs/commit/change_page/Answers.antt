@@ -75,3 +75,14 @@ returns-clause-writes g c =
 
 pub returns-clause-changes : goal.returns-clause-changes
 returns-clause-changes g c = λ t now was. c.write_page.ensures.changes t now was
+
+pub returns-then-at-lines-clause-classes : goal.returns-then-at-lines-clause-classes
+returns-then-at-lines-clause-classes g c = λ t now was by_area its had. had
+
+pub returns-in_err-next-clause-classes : goal.returns-in_err-next-clause-classes
+returns-in_err-next-clause-classes g c = λ t now was by_area its had.
+    c.write_page.ensures.classes t now was by_area (λ line is. its c.args.at line _ is (got_at c.args.classes.now c.args.at _ (search rules))) had
+
+pub returns-clause-classes : goal.returns-clause-classes
+returns-clause-classes g c = λ t now was by_area its had.
+    c.write_page.ensures.classes t now was by_area (λ line is. its c.args.at line _ is (got_at c.args.classes.now c.args.at _ (search rules))) had

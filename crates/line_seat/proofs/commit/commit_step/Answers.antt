@@ -5,6 +5,7 @@ use Rattle.rdb_types.specs.declared.file.FileKind.TheVariants.{Area, Aij}
 use Rattle.new_database.specs.Maker.{aij_file}
 use Rattle.stable_lines.specs.Slots.{area_file}
 use Rattle.line_moves.proofs.Runs.{writes_none}
+use Rattle.line_moves.proofs.PageClasses.{classes_read, classes_beside}
 use Rattle.line_moves.proofs.OnlyPut.{keeps_lines, lines_beside}
 use Rattle.stable_lines.specs.Progress.{flying}
 use Rattle.stable_lines.specs.Facts.{Facts}
@@ -136,3 +137,34 @@ returns-in_ok-make_stable-in-Landing-clause-changes g c = let v = g.D.Disk.view 
 
 pub returns-in-Committed-clause-writes : goal.returns-in-Committed-clause-writes
 returns-in-Committed-clause-writes g c = let old = g.D.Disk.view c.args.disk.now in (aij_file, 0, inr refl, writes_none aij_file 0 old old (no_calls old))
+
+pub returns-in-Changing-clause-classes : goal.returns-in-Changing-clause-classes
+returns-in-Changing-clause-classes g c = λ t now was by_area its had. c.change_page.ensures.classes t now was by_area its had
+
+pub returns-in-Imaging-clause-classes : goal.returns-in-Imaging-clause-classes
+returns-in-Imaging-clause-classes g c = let v = g.D.Disk.view in let w = c.journal_image.ensures.writes in
+    λ t now was by_area its had. classes_beside by_area (v c.args.disk.now) (v c.journal_image.new.disk) aij_file w.0 t (λ a. let bad : Aij ≡ Area = a in cc) w.1 had
+
+pub returns-in_err-write_commit-in-Sealing-clause-classes : goal.returns-in_err-write_commit-in-Sealing-clause-classes
+returns-in_err-write_commit-in-Sealing-clause-classes g c = let v = g.D.Disk.view in
+    λ t now was by_area its had. classes_beside by_area (v c.args.disk.now) (v c.write_commit.new.disk) aij_file (c.args.group.slot + length c.args.lines.now) t (λ a. let bad : Aij ≡ Area = a in cc) c.write_commit.ensures.writes had
+
+pub returns-in_ok-write_commit-in-Sealing-clause-classes : goal.returns-in_ok-write_commit-in-Sealing-clause-classes
+returns-in_ok-write_commit-in-Sealing-clause-classes g c = let v = g.D.Disk.view in
+    λ t now was by_area its had. classes_beside by_area (v c.args.disk.now) (v c.write_commit.new.disk) aij_file (c.args.group.slot + length c.args.lines.now) t (λ a. let bad : Aij ≡ Area = a in cc) c.write_commit.ensures.writes had
+
+pub returns-in_err-make_stable-in-Gathering-clause-classes : goal.returns-in_err-make_stable-in-Gathering-clause-classes
+returns-in_err-make_stable-in-Gathering-clause-classes g c = let v = g.D.Disk.view in
+    λ t now was by_area its had. classes_read by_area (v c.args.disk.now) (v c.make_stable.new.disk) c.make_stable.ensures.reads t had
+
+pub returns-in_ok-make_stable-in-Gathering-clause-classes : goal.returns-in_ok-make_stable-in-Gathering-clause-classes
+returns-in_ok-make_stable-in-Gathering-clause-classes g c = let v = g.D.Disk.view in
+    λ t now was by_area its had. classes_read by_area (v c.args.disk.now) (v c.make_stable.new.disk) c.make_stable.ensures.reads t had
+
+pub returns-in_err-make_stable-in-Landing-clause-classes : goal.returns-in_err-make_stable-in-Landing-clause-classes
+returns-in_err-make_stable-in-Landing-clause-classes g c = let v = g.D.Disk.view in
+    λ t now was by_area its had. classes_read by_area (v c.args.disk.now) (v c.make_stable-in-Landing.new.disk) c.make_stable-in-Landing.ensures.reads t had
+
+pub returns-in_ok-make_stable-in-Landing-clause-classes : goal.returns-in_ok-make_stable-in-Landing-clause-classes
+returns-in_ok-make_stable-in-Landing-clause-classes g c = let v = g.D.Disk.view in
+    λ t now was by_area its had. classes_read by_area (v c.args.disk.now) (v c.make_stable-in-Landing.new.disk) c.make_stable-in-Landing.ensures.reads t had

@@ -2,6 +2,7 @@ use Rattle.std.proofs.Common.{◌≡◌, ◌∙◌, ap, refl, sym, subst}
 use Rattle.rdb_types.specs.declared.file.FileKind.TheVariants.{Area, Snap}
 use Rattle.stable_lines.specs.Slots.{area_file}
 use Rattle.line_moves.proofs.Runs.{writes_none}
+use Rattle.line_moves.proofs.PageClasses.{classes_read}
 use Rattle.line_seat.proofs.CommitSteps.{if_ok}
 use Rattle.member_steps.specs.declared.committing.CommitTurn.{CommitTurn}
 use Rattle.member_steps.specs.declared.committing.CommitTurn.TheVariants.{Going}
@@ -56,3 +57,13 @@ returns-in-Going-clause-goes_on g c = let v = g.D.Disk.view in
 pub returns-in-Securing-clause-writes : goal.returns-in-Securing-clause-writes
 returns-in-Securing-clause-writes g c = let v = g.D.Disk.view in
     (area_file 1, 1, (λ k. let bad : Area ≡ Snap = k in cc), writes_none (area_file 1) 1 (v c.args.disk.now) (v c.secure.new.disk) c.secure.ensures.reads)
+
+pub returns-in-Entering-clause-classes : goal.returns-in-Entering-clause-classes
+returns-in-Entering-clause-classes g c = λ t ledger was by_area its had. c.enter_next.ensures.classes t by_area had
+
+pub returns-in-Securing-clause-classes : goal.returns-in-Securing-clause-classes
+returns-in-Securing-clause-classes g c = let v = g.D.Disk.view in
+    λ t ledger was by_area its had. classes_read by_area (v c.args.disk.now) (v c.secure.new.disk) c.secure.ensures.reads t had
+
+pub returns-in-Going-clause-classes : goal.returns-in-Going-clause-classes
+returns-in-Going-clause-classes g c = λ t ledger was by_area its had. c.go_further.ensures.classes t ledger was by_area its had

@@ -1,0 +1,148 @@
+-- What a store shows of what it holds. A store on a disk holds its lines there, so that its memory alone doesn't say which they are: it shows a shelf, and which one is a relation.
+use Rattle.std.specs.Prelude.{◌≡◌, ◌<◌, ◌==◌, ◌^◌, ℕ, true, false, List, [], Option, Some, None, Result, Ok, Err, is_some}
+use Rattle.rdb_types.specs.declared.keys.Dbkey.{Dbkey}
+use Rattle.line_view.specs.Knowledge.{Lines, line_in, lines_in}
+use Rattle.line_view.specs.Held.{Held, with_line, with_area}
+use Rattle.line_store.specs.declared.answers.Fault.{Fault}
+use Rattle.line_store.specs.declared.answers.Progress.{Progress}
+use Rattle.line_store.specs.declared.answers.ReadStop.{ReadStop}
+use Rattle.line_store.specs.declared.answers.Stepped.{Stepped}
+use Rattle.line_store.specs.declared.answers.Stepped.TheVariants.{More, Done, Committed, Recovered}
+use Rattle.line_store.specs.Seats.{Seat, outside, beginning, writing, changing, prepared, committing, rolling_back, closing, reading, dead, prepared_by, given_back, committing_by, rolled_back, died, is_committing, in_flight, done_at, IsAlive}
+use Rattle.line_store.specs.Shelves.{Shelf, seen_by}
+use Rattle.line_store.specs.Calls.{Moves, IsRead, Learns, Comes, Lasts, MayStand}
+
+-- The memory knows where each session stands. Shelves are shown only where the disk tells its content.
+pub record Sight : Type 1 where
+  -- what the store holds is as on this shelf
+  pub shows : Shelf → Type 0
+  -- where a session stands, up to the lines that it wrote or reads
+  pub stand : ℕ → Seat
+  -- how often at most a call of a session may still answer that there is more to do
+  pub steps : ℕ → ℕ
+  -- the maps of lines for which the images stand that a crash since a moment might have left
+  pub left : ℕ → Lines → Type 0
+
+-- a seat without lines
+abbrev pub bare : Seat → Seat
+bare outside = outside
+bare beginning = beginning
+bare (writing ws) = writing []
+bare (changing ws) = changing []
+bare (prepared ws) = prepared []
+bare (committing ws) = committing []
+bare (rolling_back ws) = rolling_back []
+bare closing = closing
+bare (reading start) = reading []
+bare (dead commits ws) = dead commits []
+
+-- a session stands as on each shelf that is shown
+abbrev pub Agrees : Sight → Type 0
+Agrees sight = (h : Shelf) → sight.shows h → (s : ℕ) → bare (sight.stand s) ≡ bare (h.seat s)
+
+-- a session's steps are counted as on each shelf that is shown, and in a number that a loop can count to
+pub record Counts (sight : Sight) : Type 0 where
+  pub same : (h : Shelf) → sight.shows h → (s : ℕ) → sight.steps s ≡ h.steps s
+  pub few : (s : ℕ) → sight.steps s < 2 ^ 64
+
+-- what a crash may leave now, may stand on each shelf that is shown
+abbrev pub Stands : Sight → Type 0
+Stands sight = (h : Shelf) → sight.shows h → (lines : Lines) → sight.left h.clock.time lines → MayStand h lines
+
+-- ---- calls
+
+-- A shelf is shown behind the call that is related to the one before it.
+pub record Behind (old new : Sight) (R : Shelf → Shelf → Type 0) (before : Shelf) : Type 0 where
+  pub shelf : Shelf
+  pub shown : new.shows shelf
+  pub related : R before shelf
+  pub lasts : Lasts old.left new.left before shelf
+
+-- Session s comes to stand there, and others stand as they did and have as many steps. Where a shelf was shown, one is shown that is related to it.
+pub record Does (s : ℕ) (there : Seat) (R : Shelf → Shelf → Type 0) (old new : Sight) : Type 0 where
+  pub mine : bare (new.stand s) ≡ bare there
+  pub others : (t : ℕ) → (t == s) ≡ false → bare (new.stand t) ≡ bare (old.stand t)
+  pub steps : (t : ℕ) → (t == s) ≡ false → new.steps t ≡ old.steps t
+  pub each : (h : Shelf) → old.shows h → Behind old new R h
+
+abbrev pub IsSame : Shelf → Shelf → Type 0
+IsSame old new = new ≡ old
+
+-- nothing changes
+abbrev pub Stays : ℕ → Sight → Sight → Type 0
+Stays s old new = Does s (old.stand s) IsSame old new
+
+-- the reader sees what is committed
+abbrev pub BeginsReading : ℕ → Shelf → Shelf → Type 0
+BeginsReading s old new = Moves s (reading old.now) old new
+
+abbrev pub Prepares : ℕ → Shelf → Shelf → Type 0
+Prepares s old new = Moves s (prepared_by (old.seat s)) old new
+
+abbrev pub BeginsCommit : ℕ → Shelf → Shelf → Type 0
+BeginsCommit s old new = Moves s (committing_by (old.seat s)) old new
+
+abbrev pub GivesBack : ℕ → Shelf → Shelf → Type 0
+GivesBack s old new = Moves s (given_back (old.seat s)) old new
+
+abbrev pub RollsBack : ℕ → Shelf → Shelf → Type 0
+RollsBack s old new = Moves s (rolled_back (old.seat s)) old new
+
+abbrev pub Dies : ℕ → Shelf → Shelf → Type 0
+Dies s old new = Moves s (died (old.seat s)) old new
+
+abbrev pub Reads : ℕ → Result Progress ReadStop → Shelf → Shelf → Type 0
+Reads s result old new = IsRead s old new result
+
+abbrev pub Steps : ℕ → Result Stepped Fault → Shelf → Shelf → Type 0
+Steps s result old new = Comes s old new result
+
+-- ---- reading
+
+-- The line is known, with what the session sees there.
+pub record LearnsLine (sight : Sight) (s : ℕ) (key : Dbkey) (old new : Held) : Type 0 where
+  pub image : Option (List ℕ)
+  pub learnt : new ≡ with_line key image old
+  pub seen : (h : Shelf) → sight.shows h → image ≡ line_in key (seen_by s h)
+
+-- The area is known, with the lines that the session sees there.
+pub record LearnsArea (sight : Sight) (s area : ℕ) (old new : Held) : Type 0 where
+  pub lines : Lines
+  pub learnt : new ≡ with_area area (lines_in area lines) old
+  pub seen : (h : Shelf) → sight.shows h → lines_in area lines ≡ lines_in area (seen_by s h)
+
+-- Some of these lines are known in addition.
+pub record LearnsSome (sight : Sight) (s area : ℕ) (old new : Held) : Type 0 where
+  pub lines : Lines
+  pub learnt : Learns (lines_in area lines) old new
+  pub seen : (h : Shelf) → sight.shows h → lines_in area lines ≡ lines_in area (seen_by s h)
+
+-- ---- steps, as memory knows them
+
+-- where there is more to do, it is less than before
+abbrev pub IsLess : ℕ → Sight → Sight → Type 0
+IsLess s old new = new.steps s < old.steps s
+
+-- what a step may answer, by where its session stands
+abbrev pub MayAnswer : Seat → Result Stepped Fault → Type 0
+MayAnswer seat (Ok More) = Unit {0}
+MayAnswer seat (Ok Done) = is_some (done_at seat) ≡ true
+MayAnswer seat (Ok (Committed moment)) = is_committing seat ≡ true
+MayAnswer seat (Ok (Recovered is_committed moment)) = IsAlive seat → ⊥
+MayAnswer seat (Err fault) = Unit {0}
+
+abbrev pub seat_or : Seat → Option Seat → Seat
+seat_or seat (Some there) = there
+seat_or seat None = seat
+
+-- where the session stands behind a step
+abbrev pub stepped_to : Seat → Result Stepped Fault → Seat
+stepped_to seat (Ok More) = seat
+stepped_to seat (Ok Done) = seat_or seat (done_at seat)
+stepped_to seat (Ok (Committed moment)) = closing
+stepped_to seat (Ok (Recovered is_committed moment)) = outside
+stepped_to seat (Err fault) = seat
+
+-- no other session's commit is under way, as memory knows it
+abbrev pub StandsAlone : ℕ → Sight → Type 0
+StandsAlone s sight = (t : ℕ) → (t == s) ≡ false → in_flight (sight.stand t) ≡ None
