@@ -1,0 +1,4 @@
+pub mod Memory
+pub mod Seats
+pub mod Standing
+pub mod Shown

@@ -1,0 +1,25 @@
+-- What a store on a disk keeps in memory.
+use Rattle.std.specs.Prelude.{ℕ, List, slice_set}
+use Rattle.rdb_types.specs.declared.keys.Limits.{Limits}
+use Rattle.line_opening.specs.declared.groups.NextGroup.{NextGroup}
+use Rattle.version_writing.specs.declared.snapshot_slots.SnapshotSlots.{SnapshotSlots}
+use Rattle.disk_store.specs.declared.member.Member.{Member}
+use Rattle.disk_store.specs.declared.member.MemberStage.{MemberStage}
+use Rattle.disk_store.specs.declared.held.Numbers.{Numbers}
+use Rattle.disk_store.specs.declared.held.Tables.{Tables}
+
+-- Each session's member stands in the place of its number.
+pub record StoreMemory : Type 0 where
+  pub limits : Limits
+  pub numbers : Numbers
+  pub next : NextGroup
+  pub tables : Tables
+  pub slots : SnapshotSlots
+  pub members : List Member
+
+-- one session's member is another
+abbrev pub with_member : ℕ → Member → StoreMemory → StoreMemory
+with_member s m held = record held { members = slice_set held.members s m }
+
+abbrev pub at_stage : MemberStage → Member → Member
+at_stage next m = record m { stage = next }

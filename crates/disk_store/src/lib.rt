@@ -1,0 +1,10 @@
+//! The store of lines on a disk: what it keeps in memory beside its disk, what it shows of both as the trait of stores asks for it, and its calls.
+#![tactic(auto)]
+
+mod held;
+mod member;
+mod moves;
+
+pub use held::{Held, Numbers, Tables};
+pub use member::{Member, MemberStage, Recovery};
+pub use moves::{begin, commit, give_back};
