@@ -1,3 +1,5 @@
-mod Members
-mod Moving
-mod Stages
+pub mod Members
+pub mod Moving
+pub mod Stages
+pub mod Beside
+pub mod Stepping

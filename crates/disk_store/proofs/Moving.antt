@@ -28,7 +28,7 @@ true_from_T : (b : Bool) → T b → b ≡ true
 true_from_T true h = refl
 true_from_T false h = absurd h
 
-itself : (n : ℕ) → (n == n) ≡ true
+pub itself : (n : ℕ) → (n == n) ≡ true
 itself n = true_from_T _ (eqb_refl n)
 
 -- A member of one stage may come to another: no commit of it is under way, and what the first stage stands on is enough for the other.

@@ -1,0 +1,231 @@
+-- A step of a session that doesn't commit: what is shown behind it.
+use Rattle.std.proofs.Common.{◌≡◌, ◌≢◌, ◌≤◌, ◌<◌, ◌==◌, ◌⊎◌, inl, inr, ℕ, Bool, true, false, IsTrue, List, [], length, Option, Some, None, refl, sym, ap, subst, ◌∙◌, arith}
+use Rattle.std.specs.Prelude.{slice_get, slice_set, if◌then◌else◌}
+use Rattle.std.proofs.lemmas.Bool.{eqb-true}
+use Rattle.std.proofs.lemmas.Option.{same_Some, none-some}
+use Rattle.rdb_outside.specs.Disk.{View, LeavesOnly, IsPending}
+use Rattle.line_view.specs.declared.writes.Write.{Write}
+use Rattle.line_view.specs.Knowledge.{Lines}
+use Rattle.line_view.specs.Writes.{laid_all}
+use Rattle.line_store.specs.Seats.{Seat, in_flight}
+use Rattle.line_store.specs.Shelves.{Shelf, Clock}
+use Rattle.line_store.specs.Calls.{Moves, Lasts}
+use Rattle.line_store.specs.Sights.{bare, Does, Behind}
+use Rattle.line_versions.specs.Course.{Course}
+use Rattle.disk_seats.specs.Ledgers.{resting, Ledger, Commit}
+use Rattle.disk_seats.specs.Members.{LedgerFacts}
+use Rattle.stable_lines.specs.Journal.{lines_behind}
+use Rattle.version_writing.specs.Tables.{HoldsAll}
+use Rattle.ledger_versions.specs.Readers.{ReaderFacts, Waiting}
+use Rattle.store_shows.specs.Shows.{Leaves, ShowsLines, IsInFlight}
+use Rattle.store_shows.proofs.Standing.{may_stand, lasts_with}
+use Rattle.member_memory.specs.Memory.{writes_in}
+use Rattle.disk_store.specs.declared.member.Member.{Member}
+use Rattle.disk_store.specs.declared.member.MemberStage.{MemberStage}
+use Rattle.disk_store.specs.declared.member.MemberStage.TheVariants as stage
+use Rattle.disk_store.specs.declared.held.Numbers.{Numbers}
+use Rattle.disk_store.specs.Memory.{StoreMemory, with_member}
+use Rattle.disk_store.specs.Seats.{seat_with, stand_of, stand_at, steps_in, steps_of, steps_at}
+use Rattle.disk_store.specs.Standing.{StageStands}
+use Rattle.disk_store.specs.Shown.{Sits, SitsAs, NumbersStand, TablesStand, WaitsAs, IsReading, Shown, sight_of}
+use Rattle.disk_store.proofs.Members.{set-here, set-beside}
+use Rattle.disk_store.proofs.Moving.{itself}
+
+-- what a step comes to, beside a ledger, a course and the lines that wait
+pub record ComesTo (v w : View) (held : StoreMemory) (numbers : Numbers) (s : ℕ) (n : Member) (g : Ledger) (course : Course) (waiting : Waiting) : Type 0 where
+  pub ledger : Ledger
+  pub facts : LedgerFacts w ledger
+  pub lines : ledger.base.lines ≡ g.base.lines
+  pub limits : ledger.base.limits ≡ g.base.limits
+  pub commit : ledger.commit ≡ g.commit
+  pub none : (t : ℕ) → (t == s) ≡ false → g.standing t ≡ resting → ledger.standing t ≡ resting
+  pub others : (t : ℕ) (x : Member) → (t == s) ≡ false → StageStands x.stage v g t x → StageStands x.stage w ledger t x
+  pub mine : StageStands n.stage w ledger s n
+  pub numbered : NumbersStand w ledger numbers held.next
+  pub tabled : TablesStand w ledger held.tables
+  pub course_behind : Course
+  pub waiting_behind : Waiting
+  pub readers : ReaderFacts w ledger held.limits.snaps course_behind waiting_behind
+  pub slots : HoldsAll w.content course_behind.followed held.limits.snaps held.slots
+  pub waits : WaitsAs n.stage waiting_behind s n
+  pub waits_beside : (t : ℕ) → (t == s) ≡ false → waiting_behind t ≡ waiting t
+  pub reads : (t : ℕ) → course_behind.reader t ≡ course.reader t
+
+module _ (v w : View) (held : StoreMemory) (numbers : Numbers) (s : ℕ) (m n : Member) (within : s < length held.members) (was : slice_get held.members s ≡ Some m)
+    (still : (ws : List Write) (start : Lines) → in_flight (seat_with m.stage ws start) ≡ None) (writes : n.stage ≢ stage.Reading) (told : w.tells ≡ v.tells)
+    (leaves : IsTrue v.tells → LeavesOnly v w (λ image. IsPending v image ⊎ IsPending w image))
+    (comes : (h : Shelf) (shown : Shown v held h) → StageStands m.stage v shown.ledger s m → ComesTo v w held numbers s n shown.ledger shown.versions.course shown.versions.waiting) where
+  abbrev behind : StoreMemory
+  behind = record (with_member s n held) { numbers = numbers }
+
+  abbrev before-ws : List Write
+  before-ws = writes_in m.written.lines
+
+  abbrev ws : List Write
+  ws = writes_in n.written.lines
+
+  here : slice_get behind.members s ≡ Some n
+  here = set-here held.members s n within
+
+  beside : (t : ℕ) → (t == s) ≡ false → slice_get behind.members t ≡ slice_get held.members t
+  beside t apart = set-beside held.members s t n apart
+
+  -- the shelf that is shown behind it
+  abbrev after : Lines → Shelf → Shelf
+  after start h = record h {
+    seat = λ t. if t == s then seat_with n.stage ws start else h.seat t;
+    steps = λ t. if t == s then steps_in n.stage n else h.steps t;
+    clock = record { time = w.moment; faults = w.faults };
+  }
+
+  seat-here : (start : Lines) (h : Shelf) → (after start h).seat s ≡ seat_with n.stage ws start
+  seat-here start h = ap (λ b. if b then seat_with n.stage ws start else h.seat s) (itself s)
+
+  seat-beside : (start : Lines) (h : Shelf) (t : ℕ) → (t == s) ≡ false → (after start h).seat t ≡ h.seat t
+  seat-beside start h t apart = ap (λ b. if b then seat_with n.stage ws start else h.seat t) apart
+
+  steps-here : (start : Lines) (h : Shelf) → (after start h).steps s ≡ steps_in n.stage n
+  steps-here start h = ap (λ b. if b then steps_in n.stage n else h.steps s) (itself s)
+
+  steps-beside : (start : Lines) (h : Shelf) (t : ℕ) → (t == s) ≡ false → (after start h).steps t ≡ h.steps t
+  steps-beside start h t apart = ap (λ b. if b then steps_in n.stage n else h.steps t) apart
+
+  module _ (h : Shelf) (shown : Shown v held h) where
+    sat : SitsAs v shown.ledger s m (h.seat s)
+    sat = subst (λ x. Sits v shown.ledger s x (h.seat s)) was (shown.seats s)
+
+    abbrev to : ComesTo v w held numbers s n shown.ledger shown.versions.course shown.versions.waiting
+    to = comes h shown sat.stands
+
+    abbrev shelf : Shelf
+    shelf = after sat.start h
+
+    flight-stays : (c : Commit) (b : Bool) → (c.member == s) ≡ b → IsInFlight shown.ledger c.flight (h.seat c.member) → IsInFlight to.ledger c.flight (shelf.seat c.member)
+    flight-stays c true same flies =
+        let at-s : in_flight (h.seat s) ≡ Some flies.writes = ap (λ t. in_flight (h.seat t)) (sym (eqb-true c.member s same)) ∙ flies.under_way in
+        absurd (none-some _ (sym (ap in_flight sat.is ∙ still before-ws sat.start) ∙ at-s))
+    flight-stays c false apart flies = record {
+      writes = flies.writes;
+      under_way = ap in_flight (seat-beside sat.start h c.member apart) ∙ flies.under_way;
+      laid = ap (lines_behind c.flight.group) to.lines ∙ flies.laid ∙ ap (λ all. laid_all flies.writes all) (sym to.lines);
+    }
+
+    lines-stay : ShowsLines w to.ledger shelf
+    lines-stay = record {
+      now = shown.lines.now ∙ sym to.lines;
+      time = refl;
+      faults = refl;
+      flight = λ c is. flight-stays c (c.member == s) refl (shown.lines.flight c (sym to.commit ∙ is));
+    }
+
+    sits-beside : (t : ℕ) → (t == s) ≡ false → (x : Option Member) (seat : Seat) → Sits v shown.ledger t x seat → Sits w to.ledger t x seat
+    sits-beside t apart None seat sits = (sits.0, to.none t apart sits.1)
+    sits-beside t apart (Some x) seat sits = record { start = sits.start; is = sits.is; stands = to.others t x apart sits.stands }
+
+    seats-stand : (t : ℕ) (b : Bool) → (t == s) ≡ b → Sits w to.ledger t (slice_get behind.members t) (shelf.seat t)
+    seats-stand t true same =
+        let it : SitsAs w to.ledger s n (shelf.seat s) = record { start = sat.start; is = seat-here sat.start h; stands = to.mine } in
+        subst (λ u. Sits w to.ledger u (slice_get behind.members u) (shelf.seat u)) (sym (eqb-true t s same)) (subst (λ x. Sits w to.ledger s x (shelf.seat s)) (sym here) it)
+    seats-stand t false apart =
+        subst (λ x. Sits w to.ledger t x (shelf.seat t)) (sym (beside t apart)) (subst (λ seat. Sits w to.ledger t (slice_get held.members t) seat) (sym (seat-beside sat.start h t apart)) (sits-beside t apart _ _ (shown.seats t)))
+
+    steps-stand : (t : ℕ) (b : Bool) → (t == s) ≡ b → shelf.steps t ≡ steps_at behind.members t
+    steps-stand t true same = subst (λ u. shelf.steps u ≡ steps_at behind.members u) (sym (eqb-true t s same)) (steps-here sat.start h ∙ ap steps_of (sym here))
+    steps-stand t false apart = steps-beside sat.start h t apart ∙ (shown.steps t ∙ ap steps_of (sym (beside t apart)))
+
+    is-n : (t : ℕ) (x : Member) → t ≡ s → slice_get behind.members t ≡ Some x → n ≡ x
+    is-n t x e is = same_Some _ _ (sym here ∙ (ap (λ u. slice_get behind.members u) (sym e) ∙ is))
+
+    waits-alike : (st : MemberStage) (t : ℕ) (x : Member) → to.waiting_behind t ≡ shown.versions.waiting t → WaitsAs st shown.versions.waiting t x → WaitsAs st to.waiting_behind t x
+    waits-alike stage.Outside t x e has = tt
+    waits-alike stage.Beginning t x e has = tt
+    waits-alike stage.Writing t x e has = e ∙ has
+    waits-alike stage.Changing t x e has = tt
+    waits-alike stage.Broken t x e has = tt
+    waits-alike stage.Prepared t x e has = e ∙ has
+    waits-alike (stage.Committing turn) t x e has = e ∙ has
+    waits-alike stage.RollingBack t x e has = tt
+    waits-alike stage.Closing t x e has = tt
+    waits-alike stage.Reading t x e has = tt
+    waits-alike (stage.Dead commits left) t x e has = tt
+
+    waits-stand : (t : ℕ) (b : Bool) → (t == s) ≡ b → (x : Member) → slice_get behind.members t ≡ Some x → WaitsAs x.stage to.waiting_behind t x
+    waits-stand t true same x is =
+        let e : t ≡ s = eqb-true t s same in
+        subst (λ u. WaitsAs x.stage to.waiting_behind u x) (sym e) (subst (λ (y : Member). WaitsAs y.stage to.waiting_behind s y) (is-n t x e is) to.waits)
+    waits-stand t false apart x is = waits-alike x.stage t x (to.waits_beside t apart) (shown.versions.waits t x (sym (beside t apart) ∙ is))
+
+    reading-stands : (t : ℕ) (b : Bool) → (t == s) ≡ b → (x : Member) (start : Lines) → slice_get behind.members t ≡ Some x → x.stage ≡ stage.Reading → shelf.seat t ≡ seat_with stage.Reading [] start → IsReading to.course_behind t x start
+    reading-stands t true same x start is reads seat = absurd (writes (ap (λ (y : Member). y.stage) (is-n t x (eqb-true t s same) is) ∙ reads))
+    reading-stands t false apart x start is reads seat =
+        let it = shown.versions.reading t x start (sym (beside t apart) ∙ is) reads (sym (seat-beside sat.start h t apart) ∙ seat) in
+        record { reading = it.reading; goes = to.reads t ∙ it.goes; kept = it.kept; lines = it.lines }
+
+    shown-behind : Shown w behind shelf
+    shown-behind = record {
+      tells = told ∙ shown.tells;
+      ledger = to.ledger;
+      facts = to.facts;
+      limits = to.limits ∙ shown.limits;
+      lines = lines-stay;
+      seats = λ t. seats-stand t (t == s) refl;
+      steps = λ t. steps-stand t (t == s) refl;
+      numbers = to.numbered;
+      tables = to.tabled;
+      versions = record {
+        course = to.course_behind;
+        waiting = to.waiting_behind;
+        readers = to.readers;
+        slots = to.slots;
+        waits = λ t x is. waits-stand t (t == s) refl x is;
+        reading = λ t x start is reads seat. reading-stands t (t == s) refl x start is reads seat;
+      };
+      space = record { limits = shown.space.limits; pages = shown.space.pages; snaps = shown.space.snaps; slots = shown.space.slots };
+    }
+
+    shelf-lasts : Lasts (Leaves v) (Leaves w) h shelf
+    shelf-lasts = lasts_with v w h shelf shown.lines.time (leaves shown.tells) (may_stand v shown.ledger h shown.facts shown.lines) (may_stand w to.ledger shelf to.facts lines-stay)
+
+  -- what is known of the shelves before and behind it
+  pub record Related (h g : Shelf) (start : Lines) : Type 0 where
+    pub seat : h.seat s ≡ seat_with m.stage before-ws start
+    pub steps : h.steps s ≡ steps_in m.stage m
+    pub steps_behind : g.steps s ≡ steps_in n.stage n
+    pub time : h.clock.time ≡ v.moment
+    pub faults : h.clock.faults ≡ v.faults
+    pub time_behind : g.clock.time ≡ w.moment
+    pub faults_behind : g.clock.faults ≡ w.faults
+    pub moves : Moves s (seat_with n.stage ws start) h g
+
+  -- time goes on
+  pub does-step : v.moment ≤ w.moment → v.faults ≤ w.faults → (there : Seat) (R : Shelf → Shelf → Type 0) → bare (seat_with n.stage [] []) ≡ bare there →
+      ((h g : Shelf) (start : Lines) → Related h g start → R h g) → Does s there R (sight_of v held) (sight_of w behind)
+  does-step later no-fewer there R arrives as-asked = record {
+    mine = ap (λ x. bare (stand_of x)) here ∙ arrives;
+    others = λ t apart. ap (λ x. bare (stand_of x)) (beside t apart);
+    steps = λ t apart. ap steps_of (beside t apart);
+    each = λ h shown. record {
+      shelf = shelf h shown;
+      shown = shown-behind h shown;
+      related = as-asked h (shelf h shown) (sat h shown).start (record {
+        seat = (sat h shown).is;
+        steps = shown.steps s ∙ ap steps_of was;
+        steps_behind = steps-here (sat h shown).start h;
+        time = shown.lines.time;
+        faults = shown.lines.faults;
+        time_behind = refl;
+        faults_behind = refl;
+        moves = record {
+          now = refl;
+          mine = seat-here (sat h shown).start h;
+          others = record {
+            seat = λ t apart. seat-beside (sat h shown).start h t apart;
+            steps = λ t apart. steps-beside (sat h shown).start h t apart;
+            later = record { later = subst (λ (n : ℕ). n ≤ w.moment) (sym shown.lines.time) later; no_fewer = subst (λ (n : ℕ). n ≤ w.faults) (sym shown.lines.faults) no-fewer };
+          };
+          space = record { limits = refl; taken = λ file page. refl; snaps = omega arith; slots = omega arith };
+        };
+      });
+      lasts = shelf-lasts h shown;
+    };
+  }
