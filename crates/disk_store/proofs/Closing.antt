@@ -23,8 +23,7 @@ use Rattle.disk_store.specs.Memory.{StoreMemory, with_member, at_stage}
 use Rattle.disk_store.specs.Seats.{seat_with, stand_of, stand_at, IsAtStage}
 use Rattle.disk_store.specs.Standing.{StageStands}
 use Rattle.disk_store.specs.Shown.{Shown, sight_of}
-use Rattle.disk_store.proofs.Members.{get-within}
-use Rattle.disk_store.proofs.Stepping.{does-step, Related}
+use Rattle.disk_store.proofs.Stepping.{does-step, Related, becomes-member, space-same}
 use Rattle.disk_store.proofs.Passing.{passes-aside, same-ledger}
 use Rattle.disk_store.proofs.Failing.{KeepsIt}
 
@@ -75,8 +74,8 @@ module _ (v w : View) (held : StoreMemory) (s : ℕ) (m : Member) (was : slice_g
   does-close =
       subst (λ (x : Option Member). Does s (seat_or (stand_of x) (done_at (stand_of x))) (λ h g. IsDone s h g) (sight_of v held) (sight_of w (with_member s (at_stage stage.Outside m) held))) (sym was)
       (subst (λ (x : Option Seat). Does s (seat_or (stand_of (Some m)) x) (λ h g. IsDone s h g) (sight_of v held) (sight_of w (with_member s (at_stage stage.Outside m) held))) (sym (ended-done m.stage ended [] []))
-      (does-step v w held held.numbers s m (at_stage stage.Outside m) (get-within held.members s m was) was (ended-still m.stage ended) (λ e. cc) only.told only.leaves
+      (does-step v w held (record (with_member s (at_stage stage.Outside m) held) { numbers = held.numbers }) s m (at_stage stage.Outside m) was (becomes-member held held.numbers s (at_stage stage.Outside m)) (λ e. cc) only.told only.leaves
           (λ h shown stands. same-ledger v w (keeps-it.passes shown.tells) held s (at_stage stage.Outside m) h shown (keeps-it.ceiling shown.tells shown.numbers.ceiling) (keeps-it.facts h shown stands)
               (ended-rests m.stage ended v shown.ledger s m stands) tt)
-          only.later only.no_fewer outside (λ h g. IsDone s h g) refl
-          (λ h g start related. record { seat = outside; comes = ap done_at related.seat ∙ ended-done m.stage ended _ start; moves = related.moves })))
+          only.later only.no_fewer outside (λ h g. IsDone s h g) refl (ended-still m.stage ended) (λ h shown stands. record { lines = refl; commit = refl }) space-same
+          (λ h g start related moves. record { seat = outside; comes = ap done_at related.seat ∙ ended-done m.stage ended _ start; moves = moves })))

@@ -21,9 +21,9 @@ use Rattle.disk_store.specs.Memory.{StoreMemory, with_member}
 use Rattle.disk_store.specs.Seats.{seat_with, stand_of, stand_at, IsAtStage}
 use Rattle.disk_store.specs.Standing.{StageStands}
 use Rattle.disk_store.specs.Shown.{Shown, sight_of}
-use Rattle.disk_store.proofs.Members.{get-within, set-same}
+use Rattle.disk_store.proofs.Members.{set-same}
 use Rattle.disk_store.proofs.Beside.{stays-there}
-use Rattle.disk_store.proofs.Stepping.{does-step, Related}
+use Rattle.disk_store.proofs.Stepping.{does-step, Related, becomes-member, space-same}
 use Rattle.disk_store.proofs.Passing.{Passes, same-ledger}
 
 -- what a device call of a session comes to that keeps the ledger
@@ -41,11 +41,11 @@ module _ (v w : View) (held : StoreMemory) (s : ℕ) (m : Member) (was : slice_g
   pub does-stay : (R : Shelf → Shelf → Type 0) → ((h g : Shelf) → Moves s (h.seat s) h g → h.clock.faults ≡ v.faults → g.clock.faults ≡ w.faults → h.clock.time ≡ v.moment → g.clock.time ≡ w.moment → R h g) → Does s (stand_at held.members s) R (sight_of v held) (sight_of w held)
   does-stay R as-asked =
       let does : Does s (stand_of (Some m)) R (sight_of v held) (sight_of w (record (with_member s m held) { numbers = held.numbers })) =
-          does-step v w held held.numbers s m m (get-within held.members s m was) was still writes keeps.told keeps.leaves
+          does-step v w held (record (with_member s m held) { numbers = held.numbers }) s m m was (becomes-member held held.numbers s m) writes keeps.told keeps.leaves
           (λ h shown stands. let p = keeps.passes shown.tells in same-ledger v w p held s m h shown (keeps.ceiling shown.tells shown.numbers.ceiling) (keeps.facts h shown stands)
               (stays-there v w shown.ledger shown.ledger s p.areas (record { standing = inl refl; going = refl; commit = refl }) m stands) (shown.versions.waits s m was))
-          keeps.later keeps.no_fewer (stand_of (Some m)) R refl
-          (λ h g start related. as-asked h g (subst (λ seat. Moves s seat h g) (sym related.seat) related.moves) related.faults related.faults_behind related.time related.time_behind) in
+          keeps.later keeps.no_fewer (stand_of (Some m)) R refl still (λ h shown stands. record { lines = refl; commit = refl }) space-same
+          (λ h g start related moves. as-asked h g (subst (λ seat. Moves s seat h g) (sym related.seat) moves) related.shown.lines.faults related.faults_behind related.shown.lines.time related.time_behind) in
       subst (λ x. Does s (stand_of x) R (sight_of v held) (sight_of w held)) (sym was)
       (subst (λ members. Does s (stand_of (Some m)) R (sight_of v held) (sight_of w (record held { members = members }))) (set-same held.members s m was) does)
 
