@@ -9,7 +9,7 @@ mod moves;
 mod rolling;
 
 pub use beginning::draw;
-pub use endings::put_away;
+pub use endings::{bury, put_away};
 pub use held::{Held, Numbers, Tables};
 pub use member::{Member, MemberStage, Recovery};
 pub use moves::{begin, commit, give_back};
