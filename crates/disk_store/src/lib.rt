@@ -4,7 +4,9 @@
 mod held;
 mod member;
 mod moves;
+mod preparing;
 
 pub use held::{Held, Numbers, Tables};
 pub use member::{Member, MemberStage, Recovery};
 pub use moves::{begin, commit, give_back};
+pub use preparing::prepare;
