@@ -6,3 +6,8 @@ pub mod Stepping
 pub mod Aside
 pub mod Written
 pub mod Room
+pub mod Passing
+pub mod Failing
+pub mod Closing
+pub mod Drawing
+pub mod EndingOpen

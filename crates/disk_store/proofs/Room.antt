@@ -1,10 +1,10 @@
 -- The journal has no room for a session's group.
-use Rattle.std.proofs.Common.{◌≡◌, ◌≤◌, ◌<◌, ◌+◌, ◌-◌, ◌==◌, if◌then◌else◌, ℕ, Bool, true, false, List, [], Option, Some, None, sum_by, refl, sym, ap, subst, ◌∙◌, arith}
-use Rattle.std.specs.Prelude.{slice_get}
+use Rattle.std.proofs.Common.{◌≡◌, ◌≤◌, ◌<◌, ◌+◌, ◌-◌, ◌==◌, if◌then◌else◌, ℕ, true, false, List, [], Option, Some, None, is_some, ◌⊎◌, sum_by, refl, sym, ap, subst, ◌∙◌, arith}
+use Rattle.std.specs.Prelude.{slice_get, MatchOption}
 use Rattle.rdb_outside.specs.Disk.{View}
 use Rattle.line_view.specs.declared.writes.Write.{Write}
 use Rattle.line_view.specs.Knowledge.{Lines}
-use Rattle.line_store.specs.Seats.{Seat, IsWriting, writes_of, set_aside, group_of, lines_written, members}
+use Rattle.line_store.specs.Seats.{IsWriting, writes_of, set_aside, group_of, lines_written, members}
 use Rattle.line_store.specs.Shelves.{Shelf, set_aside_beside}
 use Rattle.line_store.specs.Calls.{MayStopCommit}
 use Rattle.line_store.specs.declared.answers.CommitStop.TheVariants.{AijFull}
@@ -12,7 +12,6 @@ use Rattle.member_memory.specs.Memory.{writes_in}
 use Rattle.disk_store.specs.declared.member.Member.{Member}
 use Rattle.disk_store.specs.declared.member.MemberStage.{MemberStage}
 use Rattle.disk_store.specs.declared.member.MemberStage.TheVariants as stage
-use Rattle.disk_store.specs.declared.member.Recovery.{Recovery}
 use Rattle.disk_store.specs.Memory.{StoreMemory}
 use Rattle.disk_store.specs.Seats.{seat_with, stand_of, stand_at}
 use Rattle.disk_store.specs.Shown.{Sits, SitsAs, Shown}
@@ -59,3 +58,26 @@ module _ (v : View) (held : StoreMemory) (h : Shelf) (s : ℕ) (shown : Shown v 
   pub no-room : IsWriting (stand_at held.members s) → ((m : Member) → slice_get held.members s ≡ Some m → (1 ≤ lines_written (writes_in m.written.lines)) × (held.limits.slots < held.next.slot + (aside_beside s held.members + group_of (writes_in m.written.lines)))) →
       MayStopCommit h s (AijFull held.limits.slots)
   no-room writes full = own (slice_get held.members s) refl writes full
+
+-- ---- memory's own reckoning
+
+abbrev pub IsTooMuch : StoreMemory → ℕ → Member → Type 0
+IsTooMuch held s m = (1 ≤ lines_written (writes_in m.written.lines)) × (held.limits.slots < held.next.slot + (aside_beside s held.members + group_of (writes_in m.written.lines)))
+
+abbrev pub HasRoom : StoreMemory → ℕ → Member → Type 0
+HasRoom held s m = (lines_written (writes_in m.written.lines) ≡ 0) ⊎ (held.next.slot + (aside_beside s held.members + group_of (writes_in m.written.lines)) ≤ held.limits.slots)
+
+pub past-end : (slot slots aside lines n : ℕ) → lines ≡ n → (n ≡ 0 → ⊥) → (slot ≤ slots → ⊥) → (1 ≤ lines) × (slots < slot + (aside + (1 + lines)))
+past-end slot slots aside lines n is some not = (omega (arith, is, some), omega (arith, is, not))
+
+pub own-past : (slot slots aside lines n unused : ℕ) → lines ≡ n → (n ≡ 0 → ⊥) → slot ≤ slots → unused ≡ slots - slot → (1 + n ≤ unused → ⊥) → (1 ≤ lines) × (slots < slot + (aside + (1 + lines)))
+own-past slot slots aside lines n unused is some within rest not = (omega (arith, is, some), omega (arith, is, within, rest, not))
+
+module _ (slot slots aside lines n unused room : ℕ) (is : lines ≡ n) (some : n ≡ 0 → ⊥) (within : slot ≤ slots) (rest : unused ≡ slots - slot) (own : 1 + n ≤ unused) (room_is : room ≡ unused - (1 + n)) where
+  pub beside-past : (left : Option ℕ) → MatchOption left (room < aside) (λ l. l + aside ≡ room) → is_some left ≡ false → (1 ≤ lines) × (slots < slot + (aside + (1 + lines)))
+  beside-past None full is-none = (omega (arith, is, some), omega (arith, is, within, rest, own, room_is, full))
+  beside-past (Some l) has is-none = absurd (cc)
+
+  pub beside-within : (left : Option ℕ) → MatchOption left (room < aside) (λ l. l + aside ≡ room) → is_some left ≡ true → slot + (aside + (1 + lines)) ≤ slots
+  beside-within None full there = absurd (cc)
+  beside-within (Some l) has there = omega (arith, is, within, rest, own, room_is, has)

@@ -1,12 +1,12 @@
 -- Which stages a session may come to from those that its stand allows.
-use Rattle.std.proofs.Common.{◌≡◌, ◌≢◌, ◌<◌, ℕ, Bool, true, false, List, [], length, Option, Some, None, refl, sym, ap, subst, ◌∙◌, arith}
+use Rattle.std.proofs.Common.{◌≡◌, ℕ, List, [], refl, sym, ap, subst, arith}
 use Rattle.rdb_outside.specs.Disk.{View}
 use Rattle.line_view.specs.declared.writes.Write.{Write}
 use Rattle.line_view.specs.Knowledge.{Lines}
-use Rattle.line_store.specs.Seats.{Seat, outside, beginning, writing, prepared, committing, IsPrepared, IsWriting, in_flight, writes_of, prepared_by, given_back, committing_by}
+use Rattle.line_store.specs.Seats.{outside, writing, prepared, committing, rolling_back, IsPrepared, IsWriting, in_flight, writes_of, prepared_by, given_back, committing_by, rolled_back}
 use Rattle.member_steps.specs.declared.committing.CommitTurn.TheVariants.{Entering}
-use Rattle.disk_seats.specs.Ledgers.{resting, Ledger}
-use Rattle.ledger_versions.specs.Readers.{Waiting}
+use Rattle.disk_seats.specs.Ledgers.{Ledger}
+use Rattle.disk_seats.specs.Members.{MayEnd}
 use Rattle.disk_store.specs.declared.member.Member.{Member}
 use Rattle.disk_store.specs.declared.member.MemberStage.{MemberStage}
 use Rattle.disk_store.specs.declared.member.MemberStage.TheVariants as stage
@@ -91,7 +91,7 @@ committing-now m ws start is = ap (λ st. committing_by (seat_with st ws start))
 
 -- ---- a session that writes
 
-is-writing : (st : MemberStage) → IsWriting (seat_with st [] []) → st ≡ stage.Writing
+pub is-writing : (st : MemberStage) → IsWriting (seat_with st [] []) → st ≡ stage.Writing
 is-writing stage.Outside is = absurd is
 is-writing stage.Beginning is = absurd is
 is-writing stage.Writing is = refl
@@ -119,3 +119,10 @@ prepared-now m ws start is = ap (λ st. prepared_by (seat_with st ws start)) (is
 
 pub written-now : (m : Member) (ws : List Write) (start : Lines) → IsWriting (seat_with m.stage [] []) → writes_of (seat_with m.stage ws start) ≡ ws
 written-now m ws start is = ap (λ st. writes_of (seat_with st ws start)) (is-writing m.stage is)
+
+pub rolled-now : (m : Member) (ws : List Write) (start : Lines) → IsWriting (seat_with m.stage [] []) → rolled_back (seat_with m.stage ws start) ≡ rolling_back ws
+rolled-now m ws start is = ap (λ st. rolled_back (seat_with st ws start)) (is-writing m.stage is)
+
+-- of a transaction that has written no page
+pub may-end-begun : (g : Ledger) (s : ℕ) (m : Member) → HasBegun g s m → MayEnd (g.standing s)
+may-end-begun g s m has = subst MayEnd (sym has.stands) tt

@@ -22,7 +22,7 @@ fn aside_for(member: &Member) -> usize
     let lines = member.written.keys().len();
     match member.stage {
         MemberStage::Prepared | MemberStage::Committing(_) => 1 + lines,
-        MemberStage::Dead { commits: true, .. } => 1 + lines,
+        MemberStage::Dead { commits, .. } => if commits { 1 + lines } else { 0 },
         _ => 0,
     }
 }

@@ -1,4 +1,4 @@
-use Rattle.std.proofs.Common.{◌≡◌, ◌≤◌, ◌<◌, ◌+◌, ◌-◌, ◌==◌, ℕ, zero, suc, List, [], ◌∷◌, length, get_or, Option, Some, None, SomeIff, MatchOption, true, false, refl, sym, ap, subst, ◌∙◌, arith}
+use Rattle.std.proofs.Common.{◌≡◌, ◌≤◌, ◌<◌, ◌+◌, ◌-◌, ◌==◌, ℕ, zero, suc, List, [], ◌∷◌, length, get_or, Option, Some, None, SomeIff, MatchOption, false, refl, sym, ap, subst, ◌∙◌, arith}
 use Rattle.std.specs.Prelude.{slice_get}
 use Rattle.std.specs.ControlFlow.{continue_value}
 use Rattle.std.proofs.lemmas.Bool.{eq-eqb}
@@ -12,7 +12,6 @@ taken-off r P v x h is = subst (λ (o : Option ℕ). SomeIff o P v) is h
 
 other : (a b : ℕ) → (a ≡ b → ⊥) → (a == b) ≡ false
 other a b h = grind arith
-
 
 there : {X : Type 0} (xs : List X) (i : ℕ) (x : X) → i < length xs → ((d : X) → x ≡ get_or xs i d) → slice_get xs i ≡ Some x
 there [] i x h k = absurd (omega (arith, h))
