@@ -1,12 +1,15 @@
 -- The header of an ended transaction is closed.
-use Rattle.std.proofs.Common.{◌≡◌, ◌≢◌, ◌≤◌, ◌⊎◌, ℕ, IsTrue, List, [], Option, Some, None, inl, inr, refl, sym, ap, subst, ◌∙◌}
-use Rattle.std.specs.Prelude.{slice_get}
+use Rattle.std.proofs.Common.{◌≡◌, ◌≢◌, ◌≤◌, ◌⊎◌, ℕ, IsTrue, List, [], Option, Some, None, inl, inr, ⊎_elim, refl, sym, ap, subst, ◌∙◌, arith}
+use Rattle.std.specs.Prelude.{slice_get, Ok}
 use Rattle.std.proofs.lemmas.Option.{same_Some}
-use Rattle.rdb_outside.specs.Disk.{View}
+use Rattle.rdb_outside.specs.Disk.{View, Pending, LeavesOnly, IsPending}
+use Rattle.rdb_outside.specs.Causes.{Rose}
 use Rattle.line_view.specs.declared.writes.Write.{Write}
 use Rattle.line_view.specs.Knowledge.{Lines}
 use Rattle.line_store.specs.Seats.{Seat, outside, in_flight, done_at}
+use Rattle.line_store.specs.Shelves.{Shelf}
 use Rattle.line_store.specs.Calls.{IsDone}
+use Rattle.line_store.specs.declared.answers.Stepped.TheVariants.{Done}
 use Rattle.line_store.specs.Sights.{Does, seat_or}
 use Rattle.stable_lines.specs.Slots.{ruj_file}
 use Rattle.line_moves.specs.Calls.{OnlyWrites}
@@ -19,8 +22,8 @@ use Rattle.disk_store.specs.declared.member.MemberStage.TheVariants as stage
 use Rattle.disk_store.specs.Memory.{StoreMemory, with_member, at_stage}
 use Rattle.disk_store.specs.Seats.{seat_with, stand_of, stand_at, IsAtStage}
 use Rattle.disk_store.specs.Standing.{StageStands}
-use Rattle.disk_store.specs.Shown.{sight_of}
-use Rattle.disk_store.proofs.Stepping.{does-step, becomes-member, space-same}
+use Rattle.disk_store.specs.Shown.{Shown, sight_of}
+use Rattle.disk_store.proofs.Stepping.{does-step, Related, becomes-member, space-same}
 use Rattle.disk_store.proofs.Passing.{passes-aside, same-ledger}
 use Rattle.disk_store.proofs.Failing.{KeepsIt}
 
@@ -72,7 +75,7 @@ module _ (v w : View) (held : StoreMemory) (s : ℕ) (m : Member) (was : slice_g
       subst (λ (x : Option Member). Does s (seat_or (stand_of x) (done_at (stand_of x))) (λ h g. IsDone s h g) (sight_of v held) (sight_of w (with_member s (at_stage stage.Outside m) held))) (sym was)
       (subst (λ (x : Option Seat). Does s (seat_or (stand_of (Some m)) x) (λ h g. IsDone s h g) (sight_of v held) (sight_of w (with_member s (at_stage stage.Outside m) held))) (sym (ended-done m.stage ended [] []))
       (does-step v w held (record (with_member s (at_stage stage.Outside m) held) { numbers = held.numbers }) s m (at_stage stage.Outside m) was (becomes-member held held.numbers s (at_stage stage.Outside m)) (λ e. cc) only.told only.leaves
-      (λ h shown stands. same-ledger v w (keeps-it.passes shown.tells) held s (at_stage stage.Outside m) h shown (keeps-it.ceiling shown.tells shown.numbers.ceiling) (keeps-it.facts h shown stands)
-      (ended-rests m.stage ended v shown.ledger s m stands) tt)
-      only.later only.no_fewer outside (λ h g. IsDone s h g) refl (ended-still m.stage ended) (λ h shown stands. record { lines = refl; commit = refl }) space-same
-      (λ h g start related moves. record { seat = outside; comes = ap done_at related.seat ∙ ended-done m.stage ended _ start; moves = moves })))
+          (λ h shown stands. same-ledger v w (keeps-it.passes shown.tells) held s (at_stage stage.Outside m) h shown (keeps-it.ceiling shown.tells shown.numbers.ceiling) (keeps-it.facts h shown stands)
+              (ended-rests m.stage ended v shown.ledger s m stands) tt)
+          only.later only.no_fewer outside (λ h g. IsDone s h g) refl (ended-still m.stage ended) (λ h shown stands. record { lines = refl; commit = refl }) space-same
+          (λ h g start related moves. record { seat = outside; comes = ap done_at related.seat ∙ ended-done m.stage ended _ start; moves = moves })))

@@ -1,5 +1,5 @@
 -- A step of a session: what is shown behind it.
-use Rattle.std.proofs.Common.{◌≡◌, ◌≢◌, ◌≤◌, ◌==◌, ◌⊎◌, ℕ, Bool, true, false, IsTrue, List, [], Option, Some, None, refl, sym, ap, subst, ◌∙◌, arith}
+use Rattle.std.proofs.Common.{◌≡◌, ◌≢◌, ◌≤◌, ◌<◌, ◌==◌, ◌⊎◌, inl, inr, ℕ, Bool, true, false, IsTrue, List, [], length, Option, Some, None, refl, sym, ap, subst, ◌∙◌, arith}
 use Rattle.std.specs.Prelude.{slice_get, slice_set, if◌then◌else◌}
 use Rattle.std.proofs.lemmas.Bool.{eqb-true}
 use Rattle.std.proofs.lemmas.Option.{same_Some, none-some}
@@ -10,7 +10,7 @@ use Rattle.line_view.specs.Writes.{laid_all}
 use Rattle.line_store.specs.Seats.{Seat, in_flight}
 use Rattle.line_store.specs.Shelves.{Shelf, Space}
 use Rattle.line_store.specs.Calls.{Moves, KeepsOthers, KeepsSpace, Lasts}
-use Rattle.line_store.specs.Sights.{bare, Does}
+use Rattle.line_store.specs.Sights.{bare, Does, Behind}
 use Rattle.line_versions.specs.Course.{Course}
 use Rattle.disk_seats.specs.Ledgers.{resting, Ledger, Commit}
 use Rattle.disk_seats.specs.Members.{LedgerFacts}
@@ -25,7 +25,7 @@ use Rattle.disk_store.specs.declared.member.MemberStage.{MemberStage}
 use Rattle.disk_store.specs.declared.member.MemberStage.TheVariants as stage
 use Rattle.disk_store.specs.declared.held.Numbers.{Numbers}
 use Rattle.disk_store.specs.Memory.{StoreMemory, with_member}
-use Rattle.disk_store.specs.Seats.{seat_with, stand_of, steps_in, steps_of, steps_at}
+use Rattle.disk_store.specs.Seats.{seat_with, stand_of, stand_at, steps_in, steps_of, steps_at}
 use Rattle.disk_store.specs.Standing.{StageStands}
 use Rattle.disk_store.specs.Shown.{Sits, SitsAs, NumbersStand, TablesStand, WaitsAs, IsReading, SpaceStands, Shown, sight_of}
 use Rattle.disk_store.proofs.Members.{set-here, set-beside, get-within}
@@ -247,11 +247,11 @@ module _ (v w : View) (held behind : StoreMemory) (s : ℕ) (m n : Member) (was 
         ((space : Space) → KeepsSpace space (becomes.space_of space)) →
         ((h g : Shelf) (start : Lines) → Related h g start → Moves s (seat_with n.stage ws start) h g → R h g) → Does s there R (sight_of v held) (sight_of w behind)
     does-step still commits keeps-space as-asked = does-any (λ h shown c is. flight-stays h shown c (c.member == s) refl (shown.lines.flight c (sym (commits h shown (sat h shown).stands).commit ∙ is))) (λ h g start related. as-asked h g start related (record {
-      now = related.now_behind ∙ again h related.shown related.stands ∙ sym related.shown.lines.now;
-      mine = related.seat_behind;
-      others = related.others;
-      space = subst (λ space. KeepsSpace h.space space) (sym related.space_behind) (keeps-space h.space);
-    }))
+        now = related.now_behind ∙ again h related.shown related.stands ∙ sym related.shown.lines.now;
+        mine = related.seat_behind;
+        others = related.others;
+        space = subst (λ space. KeepsSpace h.space space) (sym related.space_behind) (keeps-space h.space);
+      }))
       where
         again : (h : Shelf) (shown : Shown v held h) (stands : StageStands m.stage v shown.ledger s m) → (comes h shown stands).ledger.base.lines ≡ shown.ledger.base.lines
         again h shown stands = (commits h shown stands).lines
