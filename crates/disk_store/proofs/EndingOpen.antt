@@ -34,7 +34,7 @@ use Rattle.disk_store.specs.Standing.{StageStands}
 use Rattle.disk_store.specs.Shown.{WaitsAs, Shown, sight_of}
 use Rattle.disk_store.proofs.Moving.{itself}
 use Rattle.disk_store.proofs.Beside.{StaysOf, stays-there}
-use Rattle.disk_store.proofs.Stepping.{ComesTo, does-step, Related, becomes-member, space-same}
+use Rattle.disk_store.proofs.Stepping.{ComesTo, does-apart, Related, becomes-member, space-same}
 use Rattle.disk_store.proofs.Passing.{passes-none, none-leaves, tables-pass}
 
 -- its transaction
@@ -127,9 +127,9 @@ module _ (v : View) (held : StoreMemory) (s : ℕ) (m : Member) (was : slice_get
     }
 
   -- the call of the trait that comes to this
-  pub does-end : (there : Seat) (R : Shelf → Shelf → Type 0) → bare (seat_with next [] []) ≡ bare there → ((ws : List Write) (start : Lines) → in_flight (seat_with m.stage ws start) ≡ None) →
+  pub does-end : (there : Seat) (R : Shelf → Shelf → Type 0) → bare (seat_with next [] []) ≡ bare there →
       ((h g : Shelf) (start : Lines) → h.seat s ≡ seat_with m.stage (writes_in m.written.lines) start → Moves s (seat_with next (writes_in m.written.lines) start) h g → R h g) →
       Does s there R (sight_of v held) (sight_of v (with_member s n held))
-  does-end there R arrives still as-asked =
-      does-step v v held (record (with_member s n held) { numbers = held.numbers }) s m n was (becomes-member held held.numbers s n) plain refl (none-leaves v) ends-now (omega arith) (omega arith) there R arrives
-      still (λ h shown stands. record { lines = refl; commit = refl }) space-same (λ h g start related moves. as-asked h g start related.seat moves)
+  does-end there R arrives as-asked =
+      does-apart v v held (record (with_member s n held) { numbers = held.numbers }) s m n was (becomes-member held held.numbers s n) plain refl (none-leaves v) ends-now (omega arith) (omega arith) there R arrives
+      (λ h shown stands c is. not_ending v shown.ledger s shown.facts (may shown.ledger stands) c is) (λ h shown stands. record { lines = refl; commit = refl }) space-same (λ h g start related moves. as-asked h g start related.seat moves)

@@ -11,3 +11,4 @@ pub mod Failing
 pub mod Closing
 pub mod Drawing
 pub mod EndingOpen
+pub mod Agreeing

@@ -242,26 +242,62 @@ module _ (v w : View) (held behind : StoreMemory) (s : ℕ) (m n : Member) (was 
       };
     }
 
-    -- the session has no commit under way, and nothing becomes committed
-    pub does-step : ((ws : List Write) (start : Lines) → in_flight (seat_with m.stage ws start) ≡ None) → ((h : Shelf) (shown : Shown v held h) (stands : StageStands m.stage v shown.ledger s m) → StillCommits shown.ledger (comes h shown stands).ledger) →
+    -- nothing becomes committed
+    pub does-moves : ((h : Shelf) (shown : Shown v held h) (c : Commit) → (to h shown).ledger.commit ≡ Some c → IsInFlight (to h shown).ledger c.flight ((shelf h shown).seat c.member)) →
+        ((h : Shelf) (shown : Shown v held h) (stands : StageStands m.stage v shown.ledger s m) → (comes h shown stands).ledger.base.lines ≡ shown.ledger.base.lines) →
         ((space : Space) → KeepsSpace space (becomes.space_of space)) →
         ((h g : Shelf) (start : Lines) → Related h g start → Moves s (seat_with n.stage ws start) h g → R h g) → Does s there R (sight_of v held) (sight_of w behind)
-    does-step still commits keeps-space as-asked = does-any (λ h shown c is. flight-stays h shown c (c.member == s) refl (shown.lines.flight c (sym (commits h shown (sat h shown).stands).commit ∙ is))) (λ h g start related. as-asked h g start related (record {
-        now = related.now_behind ∙ again h related.shown related.stands ∙ sym related.shown.lines.now;
+    does-moves flight same keeps-space as-asked = does-any flight (λ h g start related. as-asked h g start related (record {
+        now = related.now_behind ∙ same h related.shown related.stands ∙ sym related.shown.lines.now;
         mine = related.seat_behind;
         others = related.others;
         space = subst (λ space. KeepsSpace h.space space) (sym related.space_behind) (keeps-space h.space);
       }))
-      where
-        again : (h : Shelf) (shown : Shown v held h) (stands : StageStands m.stage v shown.ledger s m) → (comes h shown stands).ledger.base.lines ≡ shown.ledger.base.lines
-        again h shown stands = (commits h shown stands).lines
 
-        flight-stays : (h : Shelf) (shown : Shown v held h) (c : Commit) (b : Bool) → (c.member == s) ≡ b → IsInFlight shown.ledger c.flight (h.seat c.member) → IsInFlight (to h shown).ledger c.flight ((shelf h shown).seat c.member)
-        flight-stays h shown c true same flies =
-            let at-s : in_flight (h.seat s) ≡ Some flies.writes = ap (λ t. in_flight (h.seat t)) (sym (eqb-true c.member s same)) ∙ flies.under_way in
-            absurd (none-some _ (sym (ap in_flight (sat h shown).is ∙ still before-ws (sat h shown).start) ∙ at-s))
-        flight-stays h shown c false apart flies = record {
+    -- and the commit that is under way is another's
+    pub does-apart : ((h : Shelf) (shown : Shown v held h) → StageStands m.stage v shown.ledger s m → (c : Commit) → shown.ledger.commit ≡ Some c → c.member ≢ s) →
+        ((h : Shelf) (shown : Shown v held h) (stands : StageStands m.stage v shown.ledger s m) → StillCommits shown.ledger (comes h shown stands).ledger) →
+        ((space : Space) → KeepsSpace space (becomes.space_of space)) →
+        ((h g : Shelf) (start : Lines) → Related h g start → Moves s (seat_with n.stage ws start) h g → R h g) → Does s there R (sight_of v held) (sight_of w behind)
+    does-apart apart commits keeps-space as-asked = does-moves
+        (λ h shown c is. let was-there = sym (commits h shown (sat h shown).stands).commit ∙ is in flight-stays h shown c (c.member == s) refl (apart h shown (sat h shown).stands c was-there) (shown.lines.flight c was-there))
+        (λ h shown stands. (commits h shown stands).lines) keeps-space as-asked
+      where
+        flight-stays : (h : Shelf) (shown : Shown v held h) (c : Commit) (b : Bool) → (c.member == s) ≡ b → c.member ≢ s → IsInFlight shown.ledger c.flight (h.seat c.member) → IsInFlight (to h shown).ledger c.flight ((shelf h shown).seat c.member)
+        flight-stays h shown c true same other flies = absurd (other (eqb-true c.member s same))
+        flight-stays h shown c false other-one other flies = record {
           writes = flies.writes;
-          under_way = ap in_flight (seat-beside-here h shown c.member apart) ∙ flies.under_way;
+          under_way = ap in_flight (seat-beside-here h shown c.member other-one) ∙ flies.under_way;
           laid = ap (lines_behind c.flight.group) (commits h shown (sat h shown).stands).lines ∙ flies.laid ∙ ap (λ all. laid_all flies.writes all) (sym (commits h shown (sat h shown).stands).lines);
         }
+
+    -- its seat stays
+    pub does-seated : ((start : Lines) → seat_with n.stage ws start ≡ seat_with m.stage before-ws start) → ((h : Shelf) (shown : Shown v held h) (stands : StageStands m.stage v shown.ledger s m) → StillCommits shown.ledger (comes h shown stands).ledger) →
+        ((space : Space) → KeepsSpace space (becomes.space_of space)) →
+        ((h g : Shelf) (start : Lines) → Related h g start → Moves s (seat_with n.stage ws start) h g → R h g) → Does s there R (sight_of v held) (sight_of w behind)
+    does-seated seats commits keeps-space as-asked = does-moves
+        (λ h shown c is. flight-stays h shown c (c.member == s) refl (shown.lines.flight c (sym (commits h shown (sat h shown).stands).commit ∙ is)))
+        (λ h shown stands. (commits h shown stands).lines) keeps-space as-asked
+      where
+        seat-stays : (h : Shelf) (shown : Shown v held h) (t : ℕ) (b : Bool) → (t == s) ≡ b → (shelf h shown).seat t ≡ h.seat t
+        seat-stays h shown t true same =
+            ap (λ b. if b then seat_with n.stage ws (sat h shown).start else h.seat t) same ∙ seats (sat h shown).start ∙ sym (sat h shown).is ∙ ap h.seat (sym (eqb-true t s same))
+        seat-stays h shown t false apart = seat-beside-here h shown t apart
+
+        flight-stays : (h : Shelf) (shown : Shown v held h) (c : Commit) (b : Bool) → (c.member == s) ≡ b → IsInFlight shown.ledger c.flight (h.seat c.member) → IsInFlight (to h shown).ledger c.flight ((shelf h shown).seat c.member)
+        flight-stays h shown c b is flies = record {
+          writes = flies.writes;
+          under_way = ap in_flight (seat-stays h shown c.member b is) ∙ flies.under_way;
+          laid = ap (lines_behind c.flight.group) (commits h shown (sat h shown).stands).lines ∙ flies.laid ∙ ap (λ all. laid_all flies.writes all) (sym (commits h shown (sat h shown).stands).lines);
+        }
+
+    -- the session has none under way
+    pub does-step : ((ws : List Write) (start : Lines) → in_flight (seat_with m.stage ws start) ≡ None) → ((h : Shelf) (shown : Shown v held h) (stands : StageStands m.stage v shown.ledger s m) → StillCommits shown.ledger (comes h shown stands).ledger) →
+        ((space : Space) → KeepsSpace space (becomes.space_of space)) →
+        ((h g : Shelf) (start : Lines) → Related h g start → Moves s (seat_with n.stage ws start) h g → R h g) → Does s there R (sight_of v held) (sight_of w behind)
+    does-step still commits keeps-space as-asked = does-apart never commits keeps-space as-asked
+      where
+        never : (h : Shelf) (shown : Shown v held h) → StageStands m.stage v shown.ledger s m → (c : Commit) → shown.ledger.commit ≡ Some c → c.member ≢ s
+        never h shown stands c is same =
+            let flies = shown.lines.flight c is in
+            none-some _ (sym (ap in_flight (sat h shown).is ∙ still before-ws (sat h shown).start) ∙ (ap (λ t. in_flight (h.seat t)) (sym same) ∙ flies.under_way))

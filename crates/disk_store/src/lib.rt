@@ -4,14 +4,16 @@
 mod beginning;
 mod endings;
 mod held;
+mod laws;
 mod member;
 mod moves;
 mod preparing;
 mod rolling;
 
 pub use beginning::draw;
-pub use endings::put_away;
+pub use endings::{bury, put_away};
 pub use held::{Held, Numbers, Tables};
+pub use laws::the_sight_is_right;
 pub use member::{Member, MemberStage, Recovery};
 pub use moves::{begin, commit, give_back};
 pub use preparing::prepare;
