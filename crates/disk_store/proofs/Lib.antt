@@ -3,6 +3,9 @@ pub mod Moving
 pub mod Stages
 pub mod Beside
 pub mod Stepping
+pub mod Aside
+pub mod Written
+pub mod Room
 pub mod Passing
 pub mod Failing
 pub mod Closing

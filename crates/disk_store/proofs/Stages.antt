@@ -3,7 +3,7 @@ use Rattle.std.proofs.Common.{◌≡◌, ◌≢◌, ◌<◌, ℕ, Bool, true, fa
 use Rattle.rdb_outside.specs.Disk.{View}
 use Rattle.line_view.specs.declared.writes.Write.{Write}
 use Rattle.line_view.specs.Knowledge.{Lines}
-use Rattle.line_store.specs.Seats.{Seat, outside, beginning, writing, prepared, committing, rolling_back, IsPrepared, IsWriting, in_flight, given_back, committing_by, rolled_back}
+use Rattle.line_store.specs.Seats.{Seat, outside, beginning, writing, prepared, committing, rolling_back, IsPrepared, IsWriting, in_flight, writes_of, prepared_by, given_back, committing_by, rolled_back}
 use Rattle.member_steps.specs.declared.committing.CommitTurn.TheVariants.{Entering}
 use Rattle.disk_seats.specs.Ledgers.{resting, Ledger}
 use Rattle.disk_seats.specs.Members.{MayEnd}
@@ -104,6 +104,22 @@ is-writing stage.RollingBack is = absurd is
 is-writing stage.Closing is = absurd is
 is-writing stage.Reading is = absurd is
 is-writing (stage.Dead commits left) is = absurd is
+
+pub may-prepare : (v : View) (s : ℕ) (m : Member) → IsWriting (seat_with m.stage [] []) → MayCome v s m stage.Prepared
+may-prepare v s m is =
+    let at : m.stage ≡ stage.Writing = is-writing m.stage is in
+    record {
+      still = λ ws start. ap (λ st. in_flight (seat_with st ws start)) at;
+      stands = λ g stands. journalled-at g s m stage.Prepared (subst (λ st. StageStands st v g s m) at stands);
+      waits = λ waiting has. subst (λ st. WaitsAs st waiting s m) at has;
+      writes = λ e. cc;
+    }
+
+pub prepared-now : (m : Member) (ws : List Write) (start : Lines) → IsWriting (seat_with m.stage [] []) → prepared_by (seat_with m.stage ws start) ≡ prepared ws
+prepared-now m ws start is = ap (λ st. prepared_by (seat_with st ws start)) (is-writing m.stage is)
+
+pub written-now : (m : Member) (ws : List Write) (start : Lines) → IsWriting (seat_with m.stage [] []) → writes_of (seat_with m.stage ws start) ≡ ws
+written-now m ws start is = ap (λ st. writes_of (seat_with st ws start)) (is-writing m.stage is)
 
 pub rolled-now : (m : Member) (ws : List Write) (start : Lines) → IsWriting (seat_with m.stage [] []) → rolled_back (seat_with m.stage ws start) ≡ rolling_back ws
 rolled-now m ws start is = ap (λ st. rolled_back (seat_with st ws start)) (is-writing m.stage is)

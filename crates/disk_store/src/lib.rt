@@ -7,6 +7,7 @@ mod held;
 mod laws;
 mod member;
 mod moves;
+mod preparing;
 mod rolling;
 
 pub use beginning::draw;
@@ -15,4 +16,5 @@ pub use held::{Held, Numbers, Tables};
 pub use laws::the_sight_is_right;
 pub use member::{Member, MemberStage, Recovery};
 pub use moves::{begin, commit, give_back};
+pub use preparing::prepare;
 pub use rolling::roll_back;
