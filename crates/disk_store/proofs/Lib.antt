@@ -3,3 +3,7 @@ pub mod Moving
 pub mod Stages
 pub mod Beside
 pub mod Stepping
+pub mod Passing
+pub mod Failing
+pub mod Closing
+pub mod Drawing

@@ -1,6 +1,7 @@
 -- One member that is another, and the members beside it.
-use Rattle.std.proofs.Common.{◌≡◌, ◌<◌, ◌==◌, ℕ, zero, suc, Bool, true, false, List, [], ◌∷◌, length, Option, Some, None, refl, ap, ◌∙◌, arith}
+use Rattle.std.proofs.Common.{◌≡◌, ◌<◌, ◌==◌, ℕ, zero, suc, Bool, true, false, List, [], ◌∷◌, length, Option, Some, None, refl, sym, ap, ◌∙◌, arith}
 use Rattle.std.specs.Prelude.{slice_get, slice_set}
+use Rattle.std.proofs.lemmas.Option.{same_Some, none-some}
 use Rattle.std.proofs.lemmas.Bool.{eqb-false}
 
 pub set-here : {X : Type 0} (xs : List X) (i : ℕ) (y : X) → i < length xs → slice_get (slice_set xs i y) i ≡ Some y
@@ -17,3 +18,13 @@ get-apart (z ∷ zs) (suc i) (suc t) y h = get-apart zs i t y (λ e. h (ap suc e
 
 pub set-beside : {X : Type 0} (xs : List X) (i t : ℕ) (y : X) → (t == i) ≡ false → slice_get (slice_set xs i y) t ≡ slice_get xs t
 set-beside xs i t y apart = get-apart xs i t y (eqb-false t i apart)
+
+pub get-within : {X : Type 0} (xs : List X) (i : ℕ) (x : X) → slice_get xs i ≡ Some x → i < length xs
+get-within [] i x is = absurd (none-some x is)
+get-within (y ∷ ys) zero x is = omega arith
+get-within (y ∷ ys) (suc i) x is = omega (arith, get-within ys i x is)
+
+pub set-same : {X : Type 0} (xs : List X) (i : ℕ) (x : X) → slice_get xs i ≡ Some x → slice_set xs i x ≡ xs
+set-same [] i x is = refl
+set-same (y ∷ ys) zero x is = ap (λ z. z ∷ ys) (sym (same_Some _ _ is))
+set-same (y ∷ ys) (suc i) x is = ap (λ zs. y ∷ zs) (set-same ys i x is)

@@ -1,5 +1,5 @@
 -- Where a session stands, as its member's stage says it.
-use Rattle.std.specs.Prelude.{ℕ, ◌+◌, ◌-◌, List, [], length, Option, Some, None, slice_get}
+use Rattle.std.specs.Prelude.{◌≡◌, ℕ, ◌+◌, ◌-◌, List, [], length, Option, Some, None, slice_get}
 use Rattle.line_view.specs.declared.writes.Write.{Write}
 use Rattle.line_view.specs.Knowledge.{Lines}
 use Rattle.line_seat.specs.declared.commit.CommitStage.{CommitStage}
@@ -34,6 +34,12 @@ stand_of (Some m) = seat_with m.stage [] []
 
 abbrev pub stand_at : List Member → ℕ → Seat
 stand_at members s = stand_of (slice_get members s)
+
+-- the session's member is at this stage
+pub record IsAtStage (members : List Member) (s : ℕ) (st : MemberStage) : Type 0 where
+  pub member : Member
+  pub is : slice_get members s ≡ Some member
+  pub at : member.stage ≡ st
 
 -- ---- steps
 

@@ -2,12 +2,14 @@
 ghost use Rattle.std.specs.Prelude.{◌≡◌, ◌<◌, Some, length, slice_get};
 ghost use Rattle.line_store.specs.Seats.{IsMember};
 ghost use Rattle.disk_store.specs.declared.member.Member.{Member as Sits};
-ghost use Rattle.disk_store.specs.Memory.{at_stage, with_member};
+ghost use Rattle.disk_store.specs.Memory.{at_stage, with_member, with_number};
 
 use crate::{Member, MemberStage};
 use line_opening::NextGroup;
 use page_table::PageTable;
-use rdb_types::{Limits, Session};
+use member_memory::MemberLines;
+use rdb_types::{Limits, Session, Tsn};
+use std::alloc::Global;
 use std::marker::Model;
 use version_writing::SnapshotSlots;
 
@@ -35,6 +37,7 @@ pub struct Held {
     pub(crate) tables: Tables,
     pub(crate) slots: SnapshotSlots,
     pub(crate) members: Vec<Member>,
+    pub(crate) alloc: Global,
 }
 
 impl Model for Held {
@@ -58,5 +61,23 @@ impl Held {
     {
         let member = &mut self.members[s.number as usize];
         member.stage = next;
+    }
+
+    // A session that begins draws the next number.
+    pub(crate) fn draw_number(&mut self, s: Session)
+        requires member { IsMember s.number }
+        requires below { self.old.numbers.next < self.old.numbers.ceiling }
+        ensures { (m : Sits) × (slice_get self.old.members s.number ≡ Some m)
+            × (self.new ≡ with_number s.number m self.old) }
+    {
+        let number = self.numbers.next;
+        let _ceiling = self.numbers.ceiling;
+        let member = &mut self.members[s.number as usize];
+        member.stage = MemberStage::Writing;
+        member.tsn = Tsn { number };
+        member.written = MemberLines::new(self.alloc);
+        member.journalled = 0;
+        member.pushed = 0;
+        self.numbers.next = number + 1;
     }
 }

@@ -1,10 +1,14 @@
 //! The store of lines on a disk: what it keeps in memory beside its disk, what it shows of both as the trait of stores asks for it, and its calls.
 #![tactic(auto)]
 
+mod beginning;
+mod endings;
 mod held;
 mod member;
 mod moves;
 
+pub use beginning::draw;
+pub use endings::put_away;
 pub use held::{Held, Numbers, Tables};
 pub use member::{Member, MemberStage, Recovery};
 pub use moves::{begin, commit, give_back};

@@ -10,7 +10,7 @@ use Rattle.disk_store.specs.Seats.{seat_with, stand_of}
 use Rattle.disk_store.specs.Shown.{sight_of}
 use Rattle.disk_store.proofs.Moving.{does-move}
 use Rattle.disk_store.proofs.Stages.{may-begin, may-give_back, may-commit, given-back, committing-now}
-use Rattle.disk_store.proofs.Beside.{stays-there}
+use Rattle.disk_store.proofs.Passing.{same-ledger}
 use Rattle.disk_store.proofs.Stepping.{ComesTo}
 use Rattle.disk_store.proofs.moves.begin.Goals as goal
 
