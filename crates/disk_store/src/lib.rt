@@ -6,9 +6,11 @@ mod endings;
 mod held;
 mod member;
 mod moves;
+mod rooms;
 
 pub use beginning::draw;
 pub use endings::put_away;
 pub use held::{Held, Numbers, Tables};
 pub use member::{Member, MemberStage, Recovery};
 pub use moves::{begin, commit, give_back};
+pub use rooms::room;

@@ -1,5 +1,5 @@
 -- Rooms beside a transaction's lines, on the shelf.
-use Rattle.std.proofs.Common.{◌≡◌, ◌≢◌, ◌≤◌, ◌⊎◌, inl, inr, ℕ, Bool, true, false, not, List, length, Option, Some, None, refl, sym, ap, subst, ◌∙◌, arith}
+use Rattle.std.proofs.Common.{◌≡◌, ◌≢◌, ◌≤◌, ◌⊎◌, inl, inr, ℕ, Bool, true, false, not, List, Option, Some, None, refl, sym, ap, subst, ◌∙◌, arith}
 use Rattle.std.proofs.lemmas.Bool.{true≢false}
 use Rattle.std.proofs.lemmas.Option.{none-some}
 use Rattle.std.specs.FinMap.Entries.{find, is_sorted}
@@ -14,12 +14,12 @@ use Rattle.line_store.specs.Shelves.{Shelf, seen_by}
 use Rattle.line_store.specs.Rooms.{IsRoom, IsFull, first_line}
 use Rattle.page_table.specs.declared.uses.Sought.TheVariants.{Free}
 use Rattle.page_table.specs.Pages.{Pages, IsUsedLine, owner_in}
-use Rattle.page_table.specs.Scans.{Fits, IsNew}
+use Rattle.page_table.specs.Scans.{Fits}
 use Rattle.committed_tables.specs.Tables.{HasCommitted}
 use Rattle.store_shows.specs.Rooms.{is_free, HasPages}
 use Rattle.store_shows.proofs.Taken.{free_new, is_taken, isn't_taken}
 use Rattle.member_memory.specs.Memory.{writes_in}
-use Rattle.member_memory.proofs.Laying.{after, laid-after, over, waiting-after}
+use Rattle.member_memory.proofs.Laying.{laid-after, over, waiting-after}
 use Rattle.member_rooms.specs.Rooms.{image_of, own_image, IsOnNew, IsRoomBeside, HasNoPage}
 
 some-owner : (file area : ℕ) → IsOwner file area → 1 ≤ area

@@ -4,7 +4,7 @@ use Rattle.std.specs.FinMap.Entries.{find}
 use Rattle.rdb_types.specs.declared.keys.Dbkey.{Dbkey}
 use Rattle.rdb_types.specs.declared.keys.Line.{Line}
 use Rattle.rdb_types.specs.Order.{dbkey_order}
-use Rattle.line_store.specs.Rooms.{IsBehind, first_line}
+use Rattle.line_store.specs.Rooms.{first_line}
 use Rattle.line_versions.specs.Lines.{shown}
 use Rattle.page_table.specs.declared.uses.Sought.TheVariants.{Free}
 use Rattle.page_table.specs.Pages.{Pages}

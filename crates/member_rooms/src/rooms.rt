@@ -1,6 +1,7 @@
 // What is found in the table beside a transaction's lines.
 ghost use Rattle.std.specs.Prelude.{◌≡◌, ◌≤◌, ℕ, List, None, Some, true, false, IfSome, IfNone};
 ghost use Rattle.line_store.specs.Rooms.{first_line};
+ghost use Rattle.line_versions.specs.Lines.{shown};
 ghost use Rattle.page_table.specs.declared.uses.Sought.TheVariants.{Free};
 ghost use Rattle.page_table.specs.Pages.{IsWithin};
 ghost use Rattle.page_table.specs.Scans.{Fits, IsNew};
@@ -9,7 +10,18 @@ ghost use Rattle.member_rooms.specs.Rooms.{own_image, IsRoomBeside, HasNoPage};
 use area_files::is_space_page;
 use member_memory::MemberLines;
 use page_table::{PageTable, Sought};
-use rdb_types::{Dbkey, LineState};
+use rdb_types::{Dbkey, Line, LineState};
+
+// Whether a line has an image.
+fn is_present(line: &Line) -> bool
+    ensures yes { result ≡ true → shown line.now ≡ Some line.now.image }
+    ensures no { result ≡ false → shown line.now ≡ None }
+{
+    match line.state {
+        LineState::Present => true,
+        LineState::Never | LineState::Erased => false,
+    }
+}
 
 // Whether the transaction wrote an image on a line.
 fn has_image(own: &MemberLines, key: Dbkey) -> bool
@@ -17,7 +29,7 @@ fn has_image(own: &MemberLines, key: Dbkey) -> bool
     ensures no { result ≡ false → own_image own.now.lines key ≡ None }
 {
     match own.line(key) {
-        Some(line) => line.state == LineState::Present,
+        Some(line) => is_present(line),
         None => false,
     }
 }
