@@ -7,4 +7,4 @@ pub mod Passing
 pub mod Failing
 pub mod Closing
 pub mod Drawing
-mod Rooms
+mod Finding
