@@ -29,10 +29,9 @@ use Rattle.disk_store.specs.Memory.{StoreMemory, with_member, with_number, begun
 use Rattle.disk_store.specs.Seats.{seat_with, stand_of, stand_at, IsAtStage}
 use Rattle.disk_store.specs.Standing.{HasJournalled, StageStands}
 use Rattle.disk_store.specs.Shown.{Shown, sight_of}
-use Rattle.disk_store.proofs.Members.{get-within}
 use Rattle.disk_store.proofs.Moving.{itself}
 use Rattle.disk_store.proofs.Beside.{StaysOf, stays-there}
-use Rattle.disk_store.proofs.Stepping.{ComesTo, does-step, Related}
+use Rattle.disk_store.proofs.Stepping.{ComesTo, does-step, Related, becomes-member, space-same}
 use Rattle.disk_store.proofs.Passing.{Passes, passes-none, none-leaves, tables-pass}
 
 module _ (v : View) (held : StoreMemory) (s : ℕ) (m : Member) (was : slice_get held.members s ≡ Some m) (is-member : IsMember s) (begins : m.stage ≡ stage.Beginning) (below : held.numbers.next < held.numbers.ceiling) where
@@ -80,13 +79,11 @@ module _ (v : View) (held : StoreMemory) (s : ℕ) (m : Member) (was : slice_get
       all_written = refl;
     }
 
-    comes : ComesTo v v held (drawn held.numbers) s n g shown.versions.course shown.versions.waiting
+    abbrev comes : ComesTo v v (with_number s m held) s n g shown.versions.course shown.versions.waiting
     comes = record {
       ledger = begun_by s g;
       facts = facts;
-      lines = refl;
       limits = refl;
-      commit = refl;
       none = λ t apart rests. ap (λ b. if b then changing [] 0 else g.standing t) apart ∙ rests;
       others = λ t x apart stands. stays-there v v g (begun_by s g) t (λ file slot. refl) (stays t apart) x stands;
       mine = mine;
@@ -103,5 +100,6 @@ module _ (v : View) (held : StoreMemory) (s : ℕ) (m : Member) (was : slice_get
 
   pub does-draw : Does s (writing []) (IsDone s) (sight_of v held) (sight_of v (with_number s m held))
   does-draw =
-      does-step v v held (drawn held.numbers) s m n (get-within held.members s m was) was still (λ e. cc) refl (none-leaves v) comes (omega arith) (omega arith) (writing []) (IsDone s) refl
-      (λ h g start related. record { seat = writing []; comes = ap done_at related.seat ∙ ap (λ x. done_at (seat_with x (writes_in m.written.lines) start)) begins; moves = related.moves })
+      does-step v v held (with_number s m held) s m n was (becomes-member held (drawn held.numbers) s n) (λ e. cc) refl (none-leaves v) comes (omega arith) (omega arith) (writing []) (IsDone s) refl
+      still (λ h shown stands. record { lines = refl; commit = refl }) space-same
+      (λ h g start related moves. record { seat = writing []; comes = ap done_at related.seat ∙ ap (λ x. done_at (seat_with x (writes_in m.written.lines) start)) begins; moves = moves })

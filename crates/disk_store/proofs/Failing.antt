@@ -1,5 +1,5 @@
 -- A step that fails, or that comes to no other stage: the session stands as it did.
-use Rattle.std.proofs.Common.{◌≡◌, ◌≢◌, ◌≤◌, ◌<◌, ◌==◌, ◌⊎◌, ℕ, IsTrue, List, [], length, Option, Some, None, inl, refl, sym, ap, subst, ◌∙◌, arith}
+use Rattle.std.proofs.Common.{◌≡◌, ◌≢◌, ◌≤◌, ◌<◌, ◌==◌, ◌⊎◌, ℕ, Bool, true, false, IsTrue, List, [], length, Option, Some, None, inl, refl, sym, ap, subst, ◌∙◌, arith}
 use Rattle.std.specs.Prelude.{slice_get, slice_set}
 use Rattle.rdb_outside.specs.Disk.{View, Pending, LeavesOnly, IsPending}
 use Rattle.rdb_outside.specs.Causes.{Rose}
@@ -21,9 +21,9 @@ use Rattle.disk_store.specs.Memory.{StoreMemory, with_member}
 use Rattle.disk_store.specs.Seats.{seat_with, stand_of, stand_at, IsAtStage}
 use Rattle.disk_store.specs.Standing.{StageStands}
 use Rattle.disk_store.specs.Shown.{Shown, sight_of}
-use Rattle.disk_store.proofs.Members.{get-within, set-same}
+use Rattle.disk_store.proofs.Members.{set-same}
 use Rattle.disk_store.proofs.Beside.{stays-there}
-use Rattle.disk_store.proofs.Stepping.{does-step, Related}
+use Rattle.disk_store.proofs.Stepping.{does-seated, Related, becomes-member, space-same}
 use Rattle.disk_store.proofs.Passing.{Passes, same-ledger}
 
 -- what a device call of a session comes to that keeps the ledger
@@ -36,16 +36,17 @@ pub record KeepsIt (v w : View) (held : StoreMemory) (s : ℕ) (m : Member) : Ty
   pub ceiling : IsTrue v.tells → HasCeiling (Pending v) held.numbers.ceiling → HasCeiling (Pending w) held.numbers.ceiling
   pub facts : (h : Shelf) (shown : Shown v held h) → StageStands m.stage v shown.ledger s m → LedgerFacts w shown.ledger
 
-module _ (v w : View) (held : StoreMemory) (s : ℕ) (m : Member) (was : slice_get held.members s ≡ Some m) (still : (ws : List Write) (start : Lines) → in_flight (seat_with m.stage ws start) ≡ None) (writes : m.stage ≢ stage.Reading) (keeps : KeepsIt v w held s m) where
+module _ (v w : View) (held : StoreMemory) (s : ℕ) (m : Member) (was : slice_get held.members s ≡ Some m) (writes : m.stage ≢ stage.Reading) (keeps : KeepsIt v w held s m) where
   -- nothing changes but time and faults
   pub does-stay : (R : Shelf → Shelf → Type 0) → ((h g : Shelf) → Moves s (h.seat s) h g → h.clock.faults ≡ v.faults → g.clock.faults ≡ w.faults → h.clock.time ≡ v.moment → g.clock.time ≡ w.moment → R h g) → Does s (stand_at held.members s) R (sight_of v held) (sight_of w held)
   does-stay R as-asked =
       let does : Does s (stand_of (Some m)) R (sight_of v held) (sight_of w (record (with_member s m held) { numbers = held.numbers })) =
-          does-step v w held held.numbers s m m (get-within held.members s m was) was still writes keeps.told keeps.leaves
+          does-seated v w held (record (with_member s m held) { numbers = held.numbers }) s m m was (becomes-member held held.numbers s m) writes keeps.told keeps.leaves
           (λ h shown stands. let p = keeps.passes shown.tells in same-ledger v w p held s m h shown (keeps.ceiling shown.tells shown.numbers.ceiling) (keeps.facts h shown stands)
               (stays-there v w shown.ledger shown.ledger s p.areas (record { standing = inl refl; going = refl; commit = refl }) m stands) (shown.versions.waits s m was))
           keeps.later keeps.no_fewer (stand_of (Some m)) R refl
-          (λ h g start related. as-asked h g (subst (λ seat. Moves s seat h g) (sym related.seat) related.moves) related.faults related.faults_behind related.time related.time_behind) in
+          (λ start. refl) (λ h shown stands. record { lines = refl; commit = refl }) space-same
+          (λ h g start related moves. as-asked h g (subst (λ seat. Moves s seat h g) (sym related.seat) moves) related.shown.lines.faults related.faults_behind related.shown.lines.time related.time_behind) in
       subst (λ x. Does s (stand_of x) R (sight_of v held) (sight_of w held)) (sym was)
       (subst (λ members. Does s (stand_of (Some m)) R (sight_of v held) (sight_of w (record held { members = members }))) (set-same held.members s m was) does)
 

@@ -8,3 +8,4 @@ pub mod Failing
 pub mod Closing
 pub mod Drawing
 mod Finding
+pub mod EndingOpen

@@ -27,7 +27,7 @@ use Rattle.ledger_versions.proofs.Written.{still_reads, still_aside}
 use Rattle.disk_store.specs.declared.member.Member.{Member}
 use Rattle.disk_store.specs.declared.held.Numbers.{Numbers}
 use Rattle.disk_store.specs.declared.held.Tables.{Tables}
-use Rattle.disk_store.specs.Memory.{StoreMemory}
+use Rattle.disk_store.specs.Memory.{StoreMemory, with_member}
 use Rattle.disk_store.specs.Standing.{StageStands}
 use Rattle.disk_store.specs.Shown.{NumbersStand, TablesStand, WaitsAs, Shown, pages_of}
 use Rattle.disk_store.proofs.Beside.{SameAreas, StaysOf, stays-there}
@@ -94,14 +94,12 @@ module _ (v w : View) (passes : Passes v w) where
   }
 
   -- the ledger and the course stay, and the session comes to another member
-  pub same-ledger : (held : StoreMemory) (s : ℕ) (n : Member) (h : Shelf) (shown : Shown v held h) → HasCeiling (Pending w) held.numbers.ceiling → LedgerFacts w shown.ledger
-      → StageStands n.stage w shown.ledger s n → WaitsAs n.stage shown.versions.waiting s n → ComesTo v w held held.numbers s n shown.ledger shown.versions.course shown.versions.waiting
+  abbrev pub same-ledger : (held : StoreMemory) (s : ℕ) (n : Member) (h : Shelf) (shown : Shown v held h) → HasCeiling (Pending w) held.numbers.ceiling → LedgerFacts w shown.ledger
+      → StageStands n.stage w shown.ledger s n → WaitsAs n.stage shown.versions.waiting s n → ComesTo v w (record (with_member s n held) { numbers = held.numbers }) s n shown.ledger shown.versions.course shown.versions.waiting
   same-ledger held s n h shown ceiling facts mine waits = record {
     ledger = shown.ledger;
     facts = facts;
-    lines = refl;
     limits = refl;
-    commit = refl;
     none = λ t apart rests. rests;
     others = λ t x apart stands. stays-there v w shown.ledger shown.ledger t passes.areas (record { standing = inl refl; going = refl; commit = refl }) x stands;
     mine = mine;

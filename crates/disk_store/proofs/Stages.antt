@@ -3,9 +3,10 @@ use Rattle.std.proofs.Common.{◌≡◌, ◌≢◌, ◌<◌, ℕ, Bool, true, fa
 use Rattle.rdb_outside.specs.Disk.{View}
 use Rattle.line_view.specs.declared.writes.Write.{Write}
 use Rattle.line_view.specs.Knowledge.{Lines}
-use Rattle.line_store.specs.Seats.{Seat, outside, beginning, writing, prepared, committing, IsPrepared, in_flight, given_back, committing_by}
+use Rattle.line_store.specs.Seats.{Seat, outside, beginning, writing, prepared, committing, rolling_back, IsPrepared, IsWriting, in_flight, given_back, committing_by, rolled_back}
 use Rattle.member_steps.specs.declared.committing.CommitTurn.TheVariants.{Entering}
 use Rattle.disk_seats.specs.Ledgers.{resting, Ledger}
+use Rattle.disk_seats.specs.Members.{MayEnd}
 use Rattle.ledger_versions.specs.Readers.{Waiting}
 use Rattle.disk_store.specs.declared.member.Member.{Member}
 use Rattle.disk_store.specs.declared.member.MemberStage.{MemberStage}
@@ -88,3 +89,25 @@ given-back m ws start is = ap (λ st. given_back (seat_with st ws start)) (is-pr
 
 pub committing-now : (m : Member) (ws : List Write) (start : Lines) → IsPrepared (seat_with m.stage [] []) → committing_by (seat_with m.stage ws start) ≡ committing ws
 committing-now m ws start is = ap (λ st. committing_by (seat_with st ws start)) (is-prepared m.stage is)
+
+-- ---- a session that writes
+
+pub is-writing : (st : MemberStage) → IsWriting (seat_with st [] []) → st ≡ stage.Writing
+is-writing stage.Outside is = absurd is
+is-writing stage.Beginning is = absurd is
+is-writing stage.Writing is = refl
+is-writing stage.Changing is = absurd is
+is-writing stage.Broken is = absurd is
+is-writing stage.Prepared is = absurd is
+is-writing (stage.Committing turn) is = absurd is
+is-writing stage.RollingBack is = absurd is
+is-writing stage.Closing is = absurd is
+is-writing stage.Reading is = absurd is
+is-writing (stage.Dead commits left) is = absurd is
+
+pub rolled-now : (m : Member) (ws : List Write) (start : Lines) → IsWriting (seat_with m.stage [] []) → rolled_back (seat_with m.stage ws start) ≡ rolling_back ws
+rolled-now m ws start is = ap (λ st. rolled_back (seat_with st ws start)) (is-writing m.stage is)
+
+-- of a transaction that has written no page
+pub may-end-begun : (g : Ledger) (s : ℕ) (m : Member) → HasBegun g s m → MayEnd (g.standing s)
+may-end-begun g s m has = subst MayEnd (sym has.stands) tt

@@ -7,10 +7,12 @@ mod held;
 mod member;
 mod moves;
 mod rooms;
+mod rolling;
 
 pub use beginning::draw;
-pub use endings::put_away;
+pub use endings::{bury, put_away};
 pub use held::{Held, Numbers, Tables};
 pub use member::{Member, MemberStage, Recovery};
 pub use moves::{begin, commit, give_back};
 pub use rooms::room;
+pub use rolling::roll_back;

@@ -9,7 +9,7 @@ use Rattle.disk_store.specs.Memory.{with_member, at_stage}
 use Rattle.disk_store.specs.Seats.{stand_at, IsAtStage}
 use Rattle.disk_store.specs.Shown.{sight_of}
 use Rattle.disk_store.proofs.Failing.{does-fail}
-use Rattle.disk_store.proofs.Closing.{ended-at, ended-still, ended-plain, keeps-it, does-close, one-member}
+use Rattle.disk_store.proofs.Closing.{ended-at, ended-plain, ended-rests, keeps-it, does-close, one-member}
 use Rattle.disk_store.proofs.endings.put_away.Goals as goal
 
 pub returns-in_default-clause-comes : goal.returns-in_default-clause-comes
@@ -17,8 +17,8 @@ returns-in_default-clause-comes g c =
     let v = g.D.Disk.view c.args.disk.now in
     let w = g.D.Disk.view c.close.new.disk in
     let at = ended-at c.args.held.now.members c.args.s.number c.requires.ended in
-    does-fail v w c.args.held.now c.args.s.number at.member at.is (ended-still at.member.stage at.ended) (ended-plain at.member.stage at.ended)
-    (keeps-it v w c.args.held.now c.args.s.number at.member at.is at.ended c.close.ensures.writes c.close.ensures.keeps) (c.in_default.ensures.counts.cause refl)
+    does-fail v w c.args.held.now c.args.s.number at.member at.is (ended-plain at.member.stage at.ended)
+    (keeps-it v w c.args.held.now c.args.s.number at.member at.is (λ ledger stands. ended-rests at.member.stage at.ended v ledger c.args.s.number at.member stands) c.close.ensures.writes c.close.ensures.keeps) (c.in_default.ensures.counts.cause refl)
 
 pub returns-clause-comes : goal.returns-clause-comes
 returns-clause-comes g c =
