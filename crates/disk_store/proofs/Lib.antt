@@ -10,5 +10,6 @@ pub mod Passing
 pub mod Failing
 pub mod Closing
 pub mod Drawing
+mod Finding
 pub mod EndingOpen
 pub mod Agreeing
