@@ -5,4 +5,4 @@ mod lines;
 mod seen;
 
 pub use lines::committed_line;
-pub use seen::MemberSeen;
+pub use seen::HasBeforeImages;

@@ -13,7 +13,7 @@ ghost use Rattle.disk_seats.specs.Ledgers.{Ledger};
 ghost use Rattle.disk_seats.specs.Members.{LedgerFacts};
 ghost use Rattle.committed_lines.specs.Seen.{AreSeen};
 
-use crate::seen::{MemberSeen, bearer, place_in};
+use crate::seen::{HasBeforeImages, bearer};
 use line_moves::{line_at, place_of, ruj_file};
 use line_store::Fault;
 use rdb_outside::Disk;
@@ -51,25 +51,24 @@ fn before_image<D: Disk>(disk: &mut D, member: u32, slot: u32) -> Result<Line, F
     }
 }
 
-/// The committed image of a line, or None: the line as it stands, where it bears no open transaction; else the before-image of it in the journal of the member whose transaction it bears, which commits or is being undone. Two reads at most.
-pub fn committed_line<D: Disk>(
+/// The committed image of a line, or None: the line as it stands, where it bears no open transaction; else the before-image of it in the journal of the member whose transaction it bears, which commits or is being undone. Each member stands in the place of its number. Two reads at most.
+pub fn committed_line<D: Disk, T: HasBeforeImages>(
     disk: &mut D,
     key: Dbkey,
-    members: &[MemberSeen],
+    members: &[T],
 ) -> Result<Option<Image>, Fault>
-    requires { (i : ℕ) (seen : _) → slice_get members.now i ≡ Some seen
-        → length seen.keys.now < 2 ^ 32 - 1 }
+    requires { length members.now < 2 ^ 32 }
     ensures reads { OnlyReads (D.view disk.old) (D.view disk.new) }
     ensures failed { IsErrOf result Fault.Failed
         → Rose (D.view disk.old).faults (D.view disk.new).faults }
     ensures committed { IfOk result (λ image. IsTrue (D.view disk.old).tells → (ledger : Ledger)
-        → LedgerFacts (D.view disk.old) ledger → AreSeen ledger members.now
+        → LedgerFacts (D.view disk.old) ledger → AreSeen T.seen ledger members.now
         → image ≡ line_in key ledger.base.lines) }
 
     // No slot is refused.
     ensures bad { (f : File) (s : ℕ) → IsErrOf result (Fault.Bad f s)
         → IsTrue (D.view disk.old).tells → (ledger : Ledger)
-        → LedgerFacts (D.view disk.old) ledger → AreSeen ledger members.now → ⊥ }
+        → LedgerFacts (D.view disk.old) ledger → AreSeen T.seen ledger members.now → ⊥ }
 {
     let Some(place) = place_of(key) else {
         return Ok(None);
@@ -78,13 +77,13 @@ pub fn committed_line<D: Disk>(
         Ok(line) => line,
         Err(fault) => return Err(fault),
     };
-    let Some(seen) = bearer(members, line.tsn) else {
+    let Some(member) = bearer(members, line.tsn) else {
         return Ok(shown(line));
     };
-    let Some(index) = place_in(seen.keys, key) else {
-        return Err(Fault::Bad(ruj_file(seen.member), 0));
+    let Some(index) = members[member as usize].place(key) else {
+        return Err(Fault::Bad(ruj_file(member), 0));
     };
-    match before_image(disk, seen.member, index + 1) {
+    match before_image(disk, member, index + 1) {
         Ok(before) => Ok(shown(before)),
         Err(fault) => Err(fault),
     }

@@ -1,5 +1,5 @@
 -- What a statement's writes make of the lines in memory.
-use Rattle.std.specs.Prelude.{◌≡◌, ℕ, ◌+◌, ◌++◌, true, false, List, [], ◌∷◌, length, slice_get, is_some, Option, Some, None}
+use Rattle.std.specs.Prelude.{◌≡◌, ◌<◌, ◌^◌, ℕ, ◌+◌, ◌++◌, true, false, List, [], ◌∷◌, length, slice_get, is_some, Option, Some, None}
 use Rattle.std.specs.FinMap.Entries.{find, put}
 use Rattle.rdb_types.specs.declared.keys.Dbkey.{Dbkey}
 use Rattle.rdb_types.specs.declared.keys.Line.{Line}
@@ -49,6 +49,7 @@ pub record HasGrown (count : ℕ) (new : Memory) : Type 0 where
   pub grows : Grows tsn writes old new
   pub counted : count ≡ length old.keys
   pub kept : AreKeysOf old.lines old.keys
+  pub few : length old.keys < 2 ^ 32
 
 -- ---- lines that are laid
 
