@@ -5,11 +5,11 @@ pub mod Beside
 pub mod Stepping
 pub mod Aside
 pub mod Written
-pub mod Room
+pub mod JournalRoom
 pub mod Passing
 pub mod Failing
 pub mod Closing
 pub mod Drawing
-mod Finding
+pub mod Finding
 pub mod EndingOpen
 pub mod Agreeing

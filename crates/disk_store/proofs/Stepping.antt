@@ -254,22 +254,27 @@ module _ (v w : View) (held behind : StoreMemory) (s : ℕ) (m n : Member) (was 
         space = subst (λ space. KeepsSpace h.space space) (sym related.space_behind) (keeps-space h.space);
       }))
 
-    -- and the commit that is under way is another's
-    pub does-apart : ((h : Shelf) (shown : Shown v held h) → StageStands m.stage v shown.ledger s m → (c : Commit) → shown.ledger.commit ≡ Some c → c.member ≢ s) →
+    -- the commit that is under way is another's
+    pub apart-flight : ((h : Shelf) (shown : Shown v held h) → StageStands m.stage v shown.ledger s m → (c : Commit) → shown.ledger.commit ≡ Some c → c.member ≢ s) →
         ((h : Shelf) (shown : Shown v held h) (stands : StageStands m.stage v shown.ledger s m) → StillCommits shown.ledger (comes h shown stands).ledger) →
-        ((space : Space) → KeepsSpace space (becomes.space_of space)) →
-        ((h g : Shelf) (start : Lines) → Related h g start → Moves s (seat_with n.stage ws start) h g → R h g) → Does s there R (sight_of v held) (sight_of w behind)
-    does-apart apart commits keeps-space as-asked = does-moves
-        (λ h shown c is. let was-there = sym (commits h shown (sat h shown).stands).commit ∙ is in flight-stays h shown c (c.member == s) refl (apart h shown (sat h shown).stands c was-there) (shown.lines.flight c was-there))
-        (λ h shown stands. (commits h shown stands).lines) keeps-space as-asked
+        (h : Shelf) (shown : Shown v held h) (c : Commit) → (to h shown).ledger.commit ≡ Some c → IsInFlight (to h shown).ledger c.flight ((shelf h shown).seat c.member)
+    apart-flight apart commits h shown c is =
+        let was-there = sym (commits h shown (sat h shown).stands).commit ∙ is in
+        flight-stays (c.member == s) refl (apart h shown (sat h shown).stands c was-there) (shown.lines.flight c was-there)
       where
-        flight-stays : (h : Shelf) (shown : Shown v held h) (c : Commit) (b : Bool) → (c.member == s) ≡ b → c.member ≢ s → IsInFlight shown.ledger c.flight (h.seat c.member) → IsInFlight (to h shown).ledger c.flight ((shelf h shown).seat c.member)
-        flight-stays h shown c true same other flies = absurd (other (eqb-true c.member s same))
-        flight-stays h shown c false other-one other flies = record {
+        flight-stays : (b : Bool) → (c.member == s) ≡ b → c.member ≢ s → IsInFlight shown.ledger c.flight (h.seat c.member) → IsInFlight (to h shown).ledger c.flight ((shelf h shown).seat c.member)
+        flight-stays true same other flies = absurd (other (eqb-true c.member s same))
+        flight-stays false other-one other flies = record {
           writes = flies.writes;
           under_way = ap in_flight (seat-beside-here h shown c.member other-one) ∙ flies.under_way;
           laid = ap (lines_behind c.flight.group) (commits h shown (sat h shown).stands).lines ∙ flies.laid ∙ ap (λ all. laid_all flies.writes all) (sym (commits h shown (sat h shown).stands).lines);
         }
+
+    pub does-apart : ((h : Shelf) (shown : Shown v held h) → StageStands m.stage v shown.ledger s m → (c : Commit) → shown.ledger.commit ≡ Some c → c.member ≢ s) →
+        ((h : Shelf) (shown : Shown v held h) (stands : StageStands m.stage v shown.ledger s m) → StillCommits shown.ledger (comes h shown stands).ledger) →
+        ((space : Space) → KeepsSpace space (becomes.space_of space)) →
+        ((h g : Shelf) (start : Lines) → Related h g start → Moves s (seat_with n.stage ws start) h g → R h g) → Does s there R (sight_of v held) (sight_of w behind)
+    does-apart apart commits keeps-space as-asked = does-moves (apart-flight apart commits) (λ h shown stands. (commits h shown stands).lines) keeps-space as-asked
 
     -- its seat stays
     pub does-seated : ((start : Lines) → seat_with n.stage ws start ≡ seat_with m.stage before-ws start) → ((h : Shelf) (shown : Shown v held h) (stands : StageStands m.stage v shown.ledger s m) → StillCommits shown.ledger (comes h shown stands).ledger) →
@@ -291,13 +296,13 @@ module _ (v w : View) (held behind : StoreMemory) (s : ℕ) (m n : Member) (was 
           laid = ap (lines_behind c.flight.group) (commits h shown (sat h shown).stands).lines ∙ flies.laid ∙ ap (λ all. laid_all flies.writes all) (sym (commits h shown (sat h shown).stands).lines);
         }
 
+    pub never : ((ws : List Write) (start : Lines) → in_flight (seat_with m.stage ws start) ≡ None) → (h : Shelf) (shown : Shown v held h) → StageStands m.stage v shown.ledger s m → (c : Commit) → shown.ledger.commit ≡ Some c → c.member ≢ s
+    never still h shown stands c is same =
+        let flies = shown.lines.flight c is in
+        none-some _ (sym (ap in_flight (sat h shown).is ∙ still before-ws (sat h shown).start) ∙ (ap (λ t. in_flight (h.seat t)) (sym same) ∙ flies.under_way))
+
     -- the session has none under way
     pub does-step : ((ws : List Write) (start : Lines) → in_flight (seat_with m.stage ws start) ≡ None) → ((h : Shelf) (shown : Shown v held h) (stands : StageStands m.stage v shown.ledger s m) → StillCommits shown.ledger (comes h shown stands).ledger) →
         ((space : Space) → KeepsSpace space (becomes.space_of space)) →
         ((h g : Shelf) (start : Lines) → Related h g start → Moves s (seat_with n.stage ws start) h g → R h g) → Does s there R (sight_of v held) (sight_of w behind)
-    does-step still commits keeps-space as-asked = does-apart never commits keeps-space as-asked
-      where
-        never : (h : Shelf) (shown : Shown v held h) → StageStands m.stage v shown.ledger s m → (c : Commit) → shown.ledger.commit ≡ Some c → c.member ≢ s
-        never h shown stands c is same =
-            let flies = shown.lines.flight c is in
-            none-some _ (sym (ap in_flight (sat h shown).is ∙ still before-ws (sat h shown).start) ∙ (ap (λ t. in_flight (h.seat t)) (sym same) ∙ flies.under_way))
+    does-step still commits keeps-space as-asked = does-apart (never still) commits keeps-space as-asked
