@@ -5,7 +5,6 @@ use Rattle.rdb_outside.specs.Disk.{View}
 use Rattle.line_view.specs.declared.writes.Write.{Write}
 use Rattle.line_view.specs.Knowledge.{Lines}
 use Rattle.line_store.specs.Seats.{Seat}
-use Rattle.line_store.specs.Shelves.{Shelf}
 use Rattle.line_store.specs.Sights.{bare, Agrees, Stands}
 use Rattle.store_shows.proofs.Standing.{now_stands}
 use Rattle.disk_seats.specs.Ledgers.{Ledger}
@@ -15,7 +14,7 @@ use Rattle.disk_store.specs.declared.member.MemberStage.{MemberStage}
 use Rattle.disk_store.specs.declared.member.MemberStage.TheVariants as stage
 use Rattle.disk_store.specs.Memory.{StoreMemory}
 use Rattle.disk_store.specs.Seats.{seat_with, stand_of}
-use Rattle.disk_store.specs.Shown.{Sits, Shown, sight_of}
+use Rattle.disk_store.specs.Shown.{Sits, sight_of}
 
 bare-alike : (st : MemberStage) (ws : List Write) (start : Lines) → bare (seat_with st [] []) ≡ bare (seat_with st ws start)
 bare-alike stage.Outside ws start = refl

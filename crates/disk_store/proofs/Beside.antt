@@ -1,20 +1,19 @@
 -- The members beside a session that makes a step.
-use Rattle.std.proofs.Common.{◌≡◌, ◌⊎◌, inl, inr, ℕ, List, length, Option, Some, None, refl, sym, ap, subst, ◌∙◌, arith}
-use Rattle.std.specs.Prelude.{slice_get}
+use Rattle.std.proofs.Common.{◌≡◌, ◌⊎◌, inl, inr, ℕ, length, sym, ap, subst, ◌∙◌}
 use Rattle.rdb_outside.specs.Disk.{View}
 use Rattle.stable_lines.specs.Slots.{area_file}
 use Rattle.member_steps.specs.declared.committing.CommitTurn.{CommitTurn}
 use Rattle.member_steps.specs.declared.committing.CommitTurn.TheVariants.{Entering, Securing, Going}
 use Rattle.line_moves.specs.Lines.{ChangedLines}
 use Rattle.space_pages.specs.Space.{owner_of}
-use Rattle.disk_seats.specs.Ledgers.{Standing, resting, changing, broken, committing, undoing, gained, Ledger, all_stable}
+use Rattle.disk_seats.specs.Ledgers.{Standing, resting, changing, broken, committing, undoing, gained, Ledger}
 use Rattle.disk_seats.specs.Members.{MayEnd, AreOwned}
 use Rattle.disk_store.specs.declared.member.Member.{Member}
 use Rattle.disk_store.specs.declared.member.MemberStage.{MemberStage}
 use Rattle.disk_store.specs.declared.member.MemberStage.TheVariants as stage
 use Rattle.disk_store.specs.declared.member.Recovery.{Recovery}
 use Rattle.disk_store.specs.declared.member.Recovery.TheVariants as recovery
-use Rattle.disk_store.specs.Standing.{HasBegun, HasJournalled, IsCommitOf, HasEntered, TurnStands, IsJudged, IsUndone, RecoveryStands, StageStands}
+use Rattle.disk_store.specs.Standing.{HasBegun, HasJournalled, IsCommitOf, HasEntered, TurnStands, IsUndone, RecoveryStands, StageStands}
 
 -- A member stands as before, or its before-images are stable now; the commit that is under way is as before.
 pub record StaysOf (t : ℕ) (g h : Ledger) : Type 0 where

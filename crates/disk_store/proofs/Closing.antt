@@ -1,15 +1,13 @@
 -- The header of an ended transaction is closed.
-use Rattle.std.proofs.Common.{◌≡◌, ◌≢◌, ◌≤◌, ◌⊎◌, ℕ, Bool, IsTrue, List, [], Option, Some, None, inl, inr, ⊎_elim, refl, sym, ap, subst, ◌∙◌, arith}
-use Rattle.std.specs.Prelude.{slice_get, Ok}
+use Rattle.std.proofs.Common.{◌≡◌, ◌≢◌, ◌≤◌, ◌⊎◌, ℕ, Bool, IsTrue, List, [], Option, Some, None, inl, inr, refl, sym, ap, subst, ◌∙◌}
+use Rattle.std.specs.Prelude.{slice_get}
 use Rattle.std.proofs.lemmas.Option.{same_Some}
-use Rattle.rdb_outside.specs.Disk.{View, Pending, LeavesOnly, IsPending}
-use Rattle.rdb_outside.specs.Causes.{Rose}
+use Rattle.rdb_outside.specs.Disk.{View}
 use Rattle.line_view.specs.declared.writes.Write.{Write}
 use Rattle.line_view.specs.Knowledge.{Lines}
 use Rattle.line_store.specs.Seats.{Seat, outside, in_flight, done_at}
 use Rattle.line_store.specs.Shelves.{Shelf}
 use Rattle.line_store.specs.Calls.{Moves, IsDone, IsUndone}
-use Rattle.line_store.specs.declared.answers.Stepped.TheVariants.{Done}
 use Rattle.line_store.specs.Sights.{Does, seat_or}
 use Rattle.stable_lines.specs.Slots.{ruj_file}
 use Rattle.line_moves.specs.Calls.{OnlyWrites}
@@ -25,8 +23,8 @@ use Rattle.disk_store.specs.declared.member.Recovery.TheVariants as recovery
 use Rattle.disk_store.specs.Memory.{StoreMemory, with_member, at_stage}
 use Rattle.disk_store.specs.Seats.{seat_with, stand_of, stand_at, IsAtStage}
 use Rattle.disk_store.specs.Standing.{StageStands}
-use Rattle.disk_store.specs.Shown.{Shown, sight_of}
-use Rattle.disk_store.proofs.Stepping.{does-apart, Related, becomes-member, space-same}
+use Rattle.disk_store.specs.Shown.{sight_of}
+use Rattle.disk_store.proofs.Stepping.{does-apart, becomes-member, space-same}
 use Rattle.disk_store.proofs.Passing.{passes-aside, same-ledger}
 use Rattle.disk_store.proofs.Failing.{KeepsIt}
 

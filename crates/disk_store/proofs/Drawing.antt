@@ -1,5 +1,5 @@
 -- A transaction draws its number.
-use Rattle.std.proofs.Common.{◌≡◌, ◌≢◌, ◌≤◌, ◌<◌, ◌==◌, ◌+◌, ◌⊎◌, ℕ, Bool, true, false, IsTrue, List, [], Option, Some, None, inl, inr, refl, sym, ap, subst, ◌∙◌, arith}
+use Rattle.std.proofs.Common.{◌≡◌, ◌≤◌, ◌<◌, ◌==◌, ◌+◌, ℕ, false, List, [], Some, None, inl, refl, sym, ap, subst, ◌∙◌, arith}
 use Rattle.std.specs.Prelude.{slice_get, if◌then◌else◌}
 use Rattle.std.proofs.lemmas.Option.{none-some}
 use Rattle.rdb_outside.specs.Disk.{View, Pending}
@@ -8,11 +8,11 @@ use Rattle.root_file.specs.Root.{IsRoot}
 use Rattle.new_database.specs.Maker.{root_file}
 use Rattle.line_view.specs.declared.writes.Write.{Write}
 use Rattle.line_view.specs.Knowledge.{Lines}
-use Rattle.line_store.specs.Seats.{Seat, outside, beginning, writing, in_flight, done_at, IsMember}
+use Rattle.line_store.specs.Seats.{writing, in_flight, done_at, IsMember}
 use Rattle.line_store.specs.Shelves.{Shelf}
 use Rattle.line_store.specs.Calls.{IsDone}
 use Rattle.line_store.specs.Sights.{Does}
-use Rattle.disk_seats.specs.Ledgers.{resting, changing, set_standing, begun_by, Ledger}
+use Rattle.disk_seats.specs.Ledgers.{resting, changing, begun_by, Ledger}
 use Rattle.disk_seats.specs.Members.{LedgerFacts}
 use Rattle.disk_seats.proofs.Begins.{begun_facts}
 use Rattle.disk_seats.proofs.Standings.{not_resting}
@@ -23,16 +23,15 @@ use Rattle.ledger_versions.specs.Readers.{set_waiting}
 use Rattle.ledger_versions.proofs.MembersEnd.{member_begins}
 use Rattle.member_memory.specs.Memory.{writes_in}
 use Rattle.disk_store.specs.declared.member.Member.{Member}
-use Rattle.disk_store.specs.declared.member.MemberStage.{MemberStage}
 use Rattle.disk_store.specs.declared.member.MemberStage.TheVariants as stage
-use Rattle.disk_store.specs.Memory.{StoreMemory, with_member, with_number, begun_with, drawn}
-use Rattle.disk_store.specs.Seats.{seat_with, stand_of, stand_at, IsAtStage}
+use Rattle.disk_store.specs.Memory.{StoreMemory, with_number, begun_with, drawn}
+use Rattle.disk_store.specs.Seats.{seat_with}
 use Rattle.disk_store.specs.Standing.{HasJournalled, StageStands}
 use Rattle.disk_store.specs.Shown.{Shown, sight_of}
 use Rattle.disk_store.proofs.Moving.{itself}
 use Rattle.disk_store.proofs.Beside.{StaysOf, stays-there}
-use Rattle.disk_store.proofs.Stepping.{ComesTo, does-step, Related, becomes-member, space-same}
-use Rattle.disk_store.proofs.Passing.{Passes, passes-none, none-leaves, tables-pass}
+use Rattle.disk_store.proofs.Stepping.{ComesTo, does-step, becomes-member, space-same}
+use Rattle.disk_store.proofs.Passing.{passes-none, none-leaves, tables-pass}
 
 module _ (v : View) (held : StoreMemory) (s : ℕ) (m : Member) (was : slice_get held.members s ≡ Some m) (is-member : IsMember s) (begins : m.stage ≡ stage.Beginning) (below : held.numbers.next < held.numbers.ceiling) where
   abbrev n : Member

@@ -1,11 +1,10 @@
 -- An open transaction of which no page was written ends as undone.
-use Rattle.std.proofs.Common.{◌≡◌, ◌≢◌, ◌≤◌, ◌<◌, ◌==◌, ◌&&◌, ◌-◌, ◌⊎◌, ℕ, Bool, true, false, not, IsTrue, List, [], Option, Some, None, inl, inr, refl, sym, ap, subst, ◌∙◌, arith}
+use Rattle.std.proofs.Common.{◌≡◌, ◌≢◌, ◌==◌, ℕ, Bool, true, false, not, IsTrue, [], Some, None, inl, refl, sym, ap, ◌∙◌, arith}
 use Rattle.std.specs.Prelude.{slice_get, if◌then◌else◌}
 use Rattle.std.proofs.lemmas.Bool.{eqb-true, eq-eqb, true≢false, and_parts}
 use Rattle.rdb_outside.specs.Disk.{View, LeftNow}
-use Rattle.line_view.specs.declared.writes.Write.{Write}
 use Rattle.line_view.specs.Knowledge.{Lines}
-use Rattle.line_store.specs.Seats.{Seat, in_flight}
+use Rattle.line_store.specs.Seats.{Seat}
 use Rattle.line_store.specs.Shelves.{Shelf}
 use Rattle.line_store.specs.Calls.{Moves}
 use Rattle.line_store.specs.Sights.{bare, Does}
@@ -14,8 +13,8 @@ use Rattle.line_versions.specs.Files.{entries_in}
 use Rattle.line_versions.specs.Course.{Course}
 use Rattle.stable_lines.specs.Slots.{IsAreaFile}
 use Rattle.stable_lines.specs.Progress.{Open, Progress}
-use Rattle.disk_seats.specs.Ledgers.{Standing, resting, changing, broken, committing, undoing, set_standing, ended_by, Ledger}
-use Rattle.disk_seats.specs.Members.{LedgerFacts, MemberStands, MayEnd}
+use Rattle.disk_seats.specs.Ledgers.{Standing, resting, changing, broken, committing, undoing, ended_by, Ledger}
+use Rattle.disk_seats.specs.Members.{MemberStands, MayEnd}
 use Rattle.disk_seats.proofs.EndsUndone.{ended_facts}
 use Rattle.disk_seats.proofs.Standings.{not_ending}
 use Rattle.disk_versions.specs.Courses.{course_given, course_undone}
@@ -34,7 +33,7 @@ use Rattle.disk_store.specs.Standing.{StageStands}
 use Rattle.disk_store.specs.Shown.{WaitsAs, Shown, sight_of}
 use Rattle.disk_store.proofs.Moving.{itself}
 use Rattle.disk_store.proofs.Beside.{StaysOf, stays-there}
-use Rattle.disk_store.proofs.Stepping.{ComesTo, does-apart, Related, becomes-member, space-same}
+use Rattle.disk_store.proofs.Stepping.{ComesTo, does-apart, becomes-member, space-same}
 use Rattle.disk_store.proofs.Passing.{passes-none, none-leaves, tables-pass}
 
 -- its transaction

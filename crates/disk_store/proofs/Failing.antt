@@ -1,29 +1,23 @@
 -- A step that fails, or that comes to no other stage: the session stands as it did.
-use Rattle.std.proofs.Common.{◌≡◌, ◌≢◌, ◌≤◌, ◌<◌, ◌==◌, ◌⊎◌, ℕ, Bool, true, false, IsTrue, List, [], length, Option, Some, None, inl, refl, sym, ap, subst, ◌∙◌, arith}
-use Rattle.std.specs.Prelude.{slice_get, slice_set}
+use Rattle.std.proofs.Common.{◌≡◌, ◌≢◌, ◌≤◌, ◌⊎◌, ℕ, IsTrue, Some, inl, refl, sym, subst}
+use Rattle.std.specs.Prelude.{slice_get}
 use Rattle.rdb_outside.specs.Disk.{View, Pending, LeavesOnly, IsPending}
 use Rattle.rdb_outside.specs.Causes.{Rose}
-use Rattle.line_view.specs.declared.writes.Write.{Write}
-use Rattle.line_view.specs.Knowledge.{Lines}
-use Rattle.line_store.specs.Seats.{Seat, in_flight}
 use Rattle.line_store.specs.Shelves.{Shelf}
-use Rattle.line_store.specs.Calls.{Moves, Fails, HasCause}
-use Rattle.line_store.specs.declared.answers.Fault.{Fault}
+use Rattle.line_store.specs.Calls.{Moves, Fails}
 use Rattle.line_store.specs.declared.answers.Fault.TheVariants.{Failed, Bad}
-use Rattle.line_store.specs.Sights.{bare, Does}
-use Rattle.disk_seats.specs.Ledgers.{Ledger}
+use Rattle.line_store.specs.Sights.{Does}
 use Rattle.disk_seats.specs.Members.{LedgerFacts}
 use Rattle.member_steps.specs.Beginning.{HasCeiling}
-use Rattle.member_memory.specs.Memory.{writes_in}
 use Rattle.disk_store.specs.declared.member.Member.{Member}
 use Rattle.disk_store.specs.declared.member.MemberStage.TheVariants as stage
 use Rattle.disk_store.specs.Memory.{StoreMemory, with_member}
-use Rattle.disk_store.specs.Seats.{seat_with, stand_of, stand_at, IsAtStage}
+use Rattle.disk_store.specs.Seats.{stand_of, stand_at}
 use Rattle.disk_store.specs.Standing.{StageStands}
 use Rattle.disk_store.specs.Shown.{Shown, sight_of}
 use Rattle.disk_store.proofs.Members.{set-same}
 use Rattle.disk_store.proofs.Beside.{stays-there}
-use Rattle.disk_store.proofs.Stepping.{does-seated, Related, becomes-member, space-same}
+use Rattle.disk_store.proofs.Stepping.{does-seated, becomes-member, space-same}
 use Rattle.disk_store.proofs.Passing.{Passes, same-ledger}
 
 -- what a device call of a session comes to that keeps the ledger

@@ -1,25 +1,25 @@
 -- A session that comes to another stage, while nothing else changes in memory, and nothing on the disk.
-use Rattle.std.proofs.Common.{◌≡◌, ◌≢◌, ◌≤◌, ◌<◌, ◌==◌, ℕ, Bool, true, false, cond, List, [], length, Option, Some, None, inl, T, refl, sym, ap, subst, ◌∙◌, arith}
-use Rattle.std.specs.Prelude.{slice_get, slice_set, if◌then◌else◌}
+use Rattle.std.proofs.Common.{◌≡◌, ◌≢◌, ◌<◌, ◌==◌, ℕ, Bool, true, false, List, [], length, Some, None, inl, T, refl, sym, ap, subst, ◌∙◌, arith}
+use Rattle.std.specs.Prelude.{slice_get, if◌then◌else◌}
 use Rattle.std.proofs.Math.Dec.{eqb_refl}
-use Rattle.std.proofs.lemmas.Bool.{eqb-true, true≢false}
+use Rattle.std.proofs.lemmas.Bool.{eqb-true}
 use Rattle.std.proofs.lemmas.Option.{same_Some, none-some}
 use Rattle.rdb_outside.specs.Disk.{View}
 use Rattle.line_view.specs.declared.writes.Write.{Write}
 use Rattle.line_view.specs.Knowledge.{Lines}
 use Rattle.line_store.specs.Seats.{Seat, in_flight}
-use Rattle.line_store.specs.Shelves.{Shelf, Space}
-use Rattle.line_store.specs.Calls.{Moves, KeepsOthers, KeepsSpace}
-use Rattle.line_store.specs.Sights.{bare, Does, Behind}
+use Rattle.line_store.specs.Shelves.{Shelf}
+use Rattle.line_store.specs.Calls.{Moves}
+use Rattle.line_store.specs.Sights.{bare, Does}
 use Rattle.disk_seats.specs.Ledgers.{Ledger, Commit}
 use Rattle.ledger_versions.specs.Readers.{Waiting}
-use Rattle.store_shows.specs.Shows.{Leaves, ShowsLines, IsInFlight}
+use Rattle.store_shows.specs.Shows.{ShowsLines, IsInFlight}
 use Rattle.member_memory.specs.Memory.{writes_in}
 use Rattle.disk_store.specs.declared.member.Member.{Member}
 use Rattle.disk_store.specs.declared.member.MemberStage.{MemberStage}
 use Rattle.disk_store.specs.declared.member.MemberStage.TheVariants as stage
 use Rattle.disk_store.specs.Memory.{StoreMemory, with_member, at_stage}
-use Rattle.disk_store.specs.Seats.{seat_with, stand_of, stand_at, steps_in, steps_of, steps_at}
+use Rattle.disk_store.specs.Seats.{seat_with, stand_of, steps_in, steps_of, steps_at}
 use Rattle.disk_store.specs.Standing.{StageStands}
 use Rattle.disk_store.specs.Shown.{Sits, SitsAs, WaitsAs, IsReading, Shown, sight_of}
 use Rattle.disk_store.proofs.Members.{set-here, set-beside}

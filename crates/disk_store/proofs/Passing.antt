@@ -1,36 +1,32 @@
 -- A device call that writes no area file and no snapshot file, and what stays shown behind it.
-use Rattle.std.proofs.Common.{◌≡◌, ◌≢◌, ◌≤◌, ◌==◌, ◌-◌, ℕ, Bool, true, false, IsTrue, List, Option, Some, ◌⊎◌, inl, inr, refl, sym, ap, subst, ◌∙◌, arith}
+use Rattle.std.proofs.Common.{◌≡◌, ◌≢◌, ◌≤◌, ◌-◌, ℕ, IsTrue, List, ◌⊎◌, inl, refl, sym, ap, subst, arith}
 use Rattle.rdb_types.specs.declared.file.FileId.{FileId}
-use Rattle.rdb_types.specs.declared.file.FileKind.TheVariants.{Area, Snap, Root as RootKind}
-use Rattle.rdb_outside.specs.Disk.{View, Pending, LeavesOnly, IsPending, OnlyReads, Image}
+use Rattle.rdb_types.specs.declared.file.FileKind.TheVariants.{Area, Snap}
+use Rattle.rdb_outside.specs.Disk.{View, Pending, LeavesOnly, IsPending, OnlyReads}
 use Rattle.rdb_outside.specs.Moments.{weaker, started, each_slot}
-use Rattle.rdb_page.specs.Page.{class_at}
 use Rattle.new_database.specs.Maker.{root_file}
 use Rattle.snapshot_file.specs.Entry.{IsEntry}
-use Rattle.line_versions.specs.Files.{entries_in, snap_file}
+use Rattle.line_versions.specs.Files.{snap_file}
 use Rattle.line_versions.specs.Course.{Course}
 use Rattle.line_versions.specs.Versions.{Followed}
-use Rattle.stable_lines.specs.Slots.{area_file, owner_at}
+use Rattle.stable_lines.specs.Slots.{area_file}
 use Rattle.line_moves.specs.Calls.{OnlyWrites}
 use Rattle.line_moves.specs.Classes.{HasItsClass}
 use Rattle.line_store.specs.Shelves.{Shelf}
 use Rattle.disk_seats.specs.Ledgers.{Ledger}
 use Rattle.disk_seats.specs.Members.{LedgerFacts}
 use Rattle.member_steps.specs.Beginning.{HasCeiling}
-use Rattle.member_steps.proofs.Ceilings.{stays_written}
 use Rattle.committed_tables.specs.Tables.{HasCommitted}
-use Rattle.version_writing.specs.Slots.{HoldsFile}
-use Rattle.version_writing.specs.Tables.{HoldsAll, table_of}
+use Rattle.version_writing.specs.Tables.{HoldsAll}
 use Rattle.version_writing.specs.declared.snapshot_slots.SnapshotSlots.{SnapshotSlots}
 use Rattle.ledger_versions.specs.Readers.{ReaderFacts, Waiting}
 use Rattle.ledger_versions.proofs.Written.{still_reads, still_aside}
 use Rattle.disk_store.specs.declared.member.Member.{Member}
-use Rattle.disk_store.specs.declared.held.Numbers.{Numbers}
 use Rattle.disk_store.specs.declared.held.Tables.{Tables}
 use Rattle.disk_store.specs.Memory.{StoreMemory, with_member}
 use Rattle.disk_store.specs.Standing.{StageStands}
-use Rattle.disk_store.specs.Shown.{NumbersStand, TablesStand, WaitsAs, Shown, pages_of}
-use Rattle.disk_store.proofs.Beside.{SameAreas, StaysOf, stays-there}
+use Rattle.disk_store.specs.Shown.{TablesStand, WaitsAs, Shown, pages_of}
+use Rattle.disk_store.proofs.Beside.{SameAreas, stays-there}
 use Rattle.disk_store.proofs.Stepping.{ComesTo}
 
 pub record Passes (v w : View) : Type 0 where

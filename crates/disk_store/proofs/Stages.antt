@@ -1,13 +1,12 @@
 -- Which stages a session may come to from those that its stand allows.
-use Rattle.std.proofs.Common.{◌≡◌, ◌≢◌, ◌<◌, ℕ, Bool, true, false, List, [], length, Option, Some, None, refl, sym, ap, subst, ◌∙◌, arith}
+use Rattle.std.proofs.Common.{◌≡◌, ℕ, List, [], refl, sym, ap, subst, arith}
 use Rattle.rdb_outside.specs.Disk.{View}
 use Rattle.line_view.specs.declared.writes.Write.{Write}
 use Rattle.line_view.specs.Knowledge.{Lines}
-use Rattle.line_store.specs.Seats.{Seat, outside, beginning, writing, prepared, committing, rolling_back, IsPrepared, IsWriting, in_flight, writes_of, prepared_by, given_back, committing_by, rolled_back}
+use Rattle.line_store.specs.Seats.{outside, writing, prepared, committing, rolling_back, IsPrepared, IsWriting, in_flight, writes_of, prepared_by, given_back, committing_by, rolled_back}
 use Rattle.member_steps.specs.declared.committing.CommitTurn.TheVariants.{Entering}
-use Rattle.disk_seats.specs.Ledgers.{resting, Ledger}
+use Rattle.disk_seats.specs.Ledgers.{Ledger}
 use Rattle.disk_seats.specs.Members.{MayEnd}
-use Rattle.ledger_versions.specs.Readers.{Waiting}
 use Rattle.disk_store.specs.declared.member.Member.{Member}
 use Rattle.disk_store.specs.declared.member.MemberStage.{MemberStage}
 use Rattle.disk_store.specs.declared.member.MemberStage.TheVariants as stage

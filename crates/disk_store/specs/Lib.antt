@@ -3,4 +3,3 @@ pub mod Seats
 pub mod Standing
 pub mod Shown
 pub mod Preparing
-pub mod Changing

@@ -1,12 +1,12 @@
 -- How a member's memory stands to the ledger of all transactions on the disk.
-use Rattle.std.specs.Prelude.{ℕ, ◌≡◌, true, List, length, Option, Some, None, slice_get}
+use Rattle.std.specs.Prelude.{ℕ, ◌≡◌, true, List, length, Some, slice_get}
 use Rattle.rdb_outside.specs.Disk.{View}
 use Rattle.stable_lines.specs.Slots.{Undo}
 use Rattle.stable_lines.specs.Progress.{Open}
 use Rattle.line_seat.specs.declared.commit.CommitStage.{CommitStage}
 use Rattle.member_steps.specs.declared.committing.CommitTurn.{CommitTurn}
 use Rattle.member_steps.specs.declared.committing.CommitTurn.TheVariants.{Entering, Securing, Going}
-use Rattle.disk_seats.specs.Ledgers.{resting, changing, undoing, Commit, Ledger, flies}
+use Rattle.disk_seats.specs.Ledgers.{resting, changing, undoing, Ledger, flies}
 use Rattle.disk_seats.specs.Members.{MayEnd, AreOwned}
 use Rattle.member_steps.specs.Turns.{Plan, commit_of_plan}
 use Rattle.disk_store.specs.declared.member.Member.{Member}

@@ -2,7 +2,6 @@
 #![tactic(auto)]
 
 mod beginning;
-mod changing;
 mod endings;
 mod held;
 mod laws;
@@ -13,7 +12,6 @@ mod rooms;
 mod rolling;
 
 pub use beginning::draw;
-pub use changing::change;
 pub use endings::{bury, put_away};
 pub use held::{Held, Numbers, Tables};
 pub use laws::the_sight_is_right;

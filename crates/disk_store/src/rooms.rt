@@ -18,7 +18,7 @@ use rdb_types::{Dbkey, Session};
 
 impl Held {
     // The table of an area file.
-    pub(crate) fn table(&self, file: u32) -> &PageTable
+    fn table(&self, file: u32) -> &PageTable
         ensures { result.now ≡ pages_of self.now.tables file }
     {
         match file {

@@ -1,4 +1,4 @@
-use Rattle.std.proofs.Common.{◌≡◌, [], refl, sym, subst, ap, ◌∙◌}
+use Rattle.std.proofs.Common.{◌≡◌, [], sym, subst, ap, ◌∙◌}
 use Rattle.line_store.specs.Seats.{writing}
 use Rattle.line_store.specs.Calls.{IsDone}
 use Rattle.line_store.specs.Sights.{Does}

@@ -1,17 +1,13 @@
-use Rattle.std.proofs.Common.{◌≡◌, [], refl, sym, ap, subst, ◌∙◌}
-use Rattle.line_store.specs.Seats.{outside, beginning, writing, committing, IsPrepared, given_back, committing_by}
+use Rattle.std.proofs.Common.{◌≡◌, [], refl, sym, subst}
+use Rattle.line_store.specs.Seats.{outside, beginning}
 use Rattle.line_store.specs.Calls.{Moves}
-use Rattle.line_store.specs.Sights.{Does, GivesBack, BeginsCommit}
-use Rattle.member_steps.specs.declared.committing.CommitTurn.TheVariants.{Entering}
-use Rattle.member_memory.specs.Memory.{writes_in}
+use Rattle.line_store.specs.Sights.{Does}
 use Rattle.disk_store.specs.declared.member.Member.{Member}
 use Rattle.disk_store.specs.declared.member.MemberStage.TheVariants as stage
 use Rattle.disk_store.specs.Seats.{seat_with, stand_of}
 use Rattle.disk_store.specs.Shown.{sight_of}
 use Rattle.disk_store.proofs.Moving.{does-move}
-use Rattle.disk_store.proofs.Stages.{may-begin, may-give_back, may-commit, given-back, committing-now}
-use Rattle.disk_store.proofs.Passing.{same-ledger}
-use Rattle.disk_store.proofs.Stepping.{ComesTo}
+use Rattle.disk_store.proofs.Stages.{may-begin}
 use Rattle.disk_store.proofs.moves.begin.Goals as goal
 
 pub returns : goal.returns

@@ -1,7 +1,7 @@
-use Rattle.std.proofs.Common.{◌≡◌, [], refl, sym, ap, subst, ◌∙◌}
-use Rattle.line_store.specs.Seats.{outside, beginning, writing, committing, IsPrepared, given_back, committing_by}
+use Rattle.std.proofs.Common.{[], refl, sym, ap, subst, ◌∙◌}
+use Rattle.line_store.specs.Seats.{committing, IsPrepared, committing_by}
 use Rattle.line_store.specs.Calls.{Moves}
-use Rattle.line_store.specs.Sights.{Does, GivesBack, BeginsCommit}
+use Rattle.line_store.specs.Sights.{Does, BeginsCommit}
 use Rattle.member_steps.specs.declared.committing.CommitTurn.TheVariants.{Entering}
 use Rattle.member_memory.specs.Memory.{writes_in}
 use Rattle.disk_store.specs.declared.member.Member.{Member}
@@ -9,7 +9,7 @@ use Rattle.disk_store.specs.declared.member.MemberStage.TheVariants as stage
 use Rattle.disk_store.specs.Seats.{seat_with, stand_of}
 use Rattle.disk_store.specs.Shown.{sight_of}
 use Rattle.disk_store.proofs.Moving.{does-move}
-use Rattle.disk_store.proofs.Stages.{may-begin, may-give_back, may-commit, given-back, committing-now}
+use Rattle.disk_store.proofs.Stages.{may-commit, committing-now}
 use Rattle.disk_store.proofs.moves.commit.Goals as goal
 
 pub returns : goal.returns

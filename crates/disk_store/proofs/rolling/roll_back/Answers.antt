@@ -1,5 +1,5 @@
-use Rattle.std.proofs.Common.{◌≡◌, ◌≤◌, [], refl, sym, ap, subst, ◌∙◌, arith}
-use Rattle.line_store.specs.Seats.{writing, rolling_back, rolled_back, IsWriting, in_flight}
+use Rattle.std.proofs.Common.{◌≡◌, [], refl, sym, ap, subst, ◌∙◌, arith}
+use Rattle.line_store.specs.Seats.{rolling_back, rolled_back, IsWriting}
 use Rattle.line_store.specs.Calls.{Moves}
 use Rattle.line_store.specs.Sights.{Does, RollsBack}
 use Rattle.member_memory.specs.Memory.{writes_in}
