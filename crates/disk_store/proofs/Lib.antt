@@ -12,3 +12,4 @@ pub mod Closing
 pub mod Drawing
 pub mod EndingOpen
 pub mod Agreeing
+pub mod Deaths
