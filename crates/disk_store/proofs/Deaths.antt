@@ -65,10 +65,10 @@ module _ (v : View) (held : StoreMemory) (s : ℕ) (m : Member) (was : slice_get
         let n : Member = record m { stage = stage.Dead false recovery.Ending; written = w } in
         let rests-now : (g : Ledger) → StageStands m.stage v g s m → g.standing s ≡ resting = λ g stands. rests g (subst (λ x. StageStands x v g s m) at stands) in
         stood n (does-apart v v held (record (with_member s n held) { numbers = held.numbers }) s m n was (becomes-member held held.numbers s n) (λ e. cc) refl (none-leaves v)
-            (λ h shown stands. same-ledger v v (passes-none v) held s n h shown shown.numbers.ceiling shown.facts (rests-now shown.ledger stands) tt)
-            (omega arith) (omega arith) (died (seat_with m.stage [] [])) (Dies s) (arrives-at false arrives)
-            (λ h shown stands c is. not_resting v shown.ledger s shown.facts (rests-now shown.ledger stands) c is) (λ h shown stands. record { lines = refl; commit = refl }) space-same
-            (λ h g start related moves. dies-from h g start false (writes_in w.lines) related.seat (dies-at false (writes_in w.lines) dies start) moves))
+        (λ h shown stands. same-ledger v v (passes-none v) held s n h shown shown.numbers.ceiling shown.facts (rests-now shown.ledger stands) tt)
+        (omega arith) (omega arith) (died (seat_with m.stage [] [])) (Dies s) (arrives-at false arrives)
+        (λ h shown stands c is. not_resting v shown.ledger s shown.facts (rests-now shown.ledger stands) c is) (λ h shown stands. record { lines = refl; commit = refl }) space-same
+        (λ h g start related moves. dies-from h g start false (writes_in w.lines) related.seat (dies-at false (writes_in w.lines) dies start) moves))
 
     -- ---- one of which no page was written
 
@@ -89,11 +89,11 @@ module _ (v : View) (held : StoreMemory) (s : ℕ) (m : Member) (was : slice_get
     judged flown =
         let n : Member = at_stage (stage.Dead true recovery.Judging) m in
         stood n (does-flying v v held (record (with_member s n held) { numbers = held.numbers }) s m n was (becomes-member held held.numbers s n) (λ e. cc) refl (none-leaves v)
-            (λ h shown stands. same-ledger v v (passes-none v) held s n h shown shown.numbers.ceiling shown.facts
-                (let is = turned shown.ledger stands in record { at = at-turn; commit = record { plan = is.plan; its = is.its; number = is.number; lines = is.lines; count = is.count; under_way = is.under_way }; flying = flown }) tt)
-            (omega arith) (omega arith) (died (seat_with m.stage [] [])) (Dies s) (arrives-at (stage.Committing (Going at-turn)) at true refl)
-            (λ start. sym (ap (λ x. in_flight (seat_with x ws start)) at)) (λ h shown stands. record { lines = refl; commit = refl }) space-same
-            (λ h g start related moves. dies-from h g start true ws related.seat (dies-at (stage.Committing (Going at-turn)) at true ws (λ start. refl) start) moves))
+        (λ h shown stands. same-ledger v v (passes-none v) held s n h shown shown.numbers.ceiling shown.facts
+        (let is = turned shown.ledger stands in record { at = at-turn; commit = record { plan = is.plan; its = is.its; number = is.number; lines = is.lines; count = is.count; under_way = is.under_way }; flying = flown }) tt)
+        (omega arith) (omega arith) (died (seat_with m.stage [] [])) (Dies s) (arrives-at (stage.Committing (Going at-turn)) at true refl)
+        (λ start. sym (ap (λ x. in_flight (seat_with x ws start)) at)) (λ h shown stands. record { lines = refl; commit = refl }) space-same
+        (λ h g start related moves. dies-from h g start true ws related.seat (dies-at (stage.Committing (Going at-turn)) at true ws (λ start. refl) start) moves))
 
     -- it is given up
     module _ (grounded : flies at-turn ≡ false) where
