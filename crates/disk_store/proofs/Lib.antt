@@ -10,6 +10,7 @@ pub mod Passing
 pub mod Failing
 pub mod Closing
 pub mod Drawing
+mod Finding
 pub mod EndingOpen
 pub mod Agreeing
 pub mod Deaths

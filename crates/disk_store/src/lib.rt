@@ -9,6 +9,7 @@ mod laws;
 mod member;
 mod moves;
 mod preparing;
+mod rooms;
 mod rolling;
 
 pub use beginning::draw;
@@ -19,4 +20,5 @@ pub use laws::the_sight_is_right;
 pub use member::{Member, MemberStage, Recovery};
 pub use moves::{begin, commit, give_back};
 pub use preparing::prepare;
+pub use rooms::room;
 pub use rolling::roll_back;
