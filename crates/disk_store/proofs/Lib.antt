@@ -5,7 +5,7 @@ pub mod Beside
 pub mod Stepping
 pub mod Aside
 pub mod Written
-pub mod Room
+pub mod JournalRoom
 pub mod Passing
 pub mod Failing
 pub mod Closing

@@ -11,7 +11,7 @@ use Rattle.disk_store.specs.Seats.{seat_with, stand_of}
 use Rattle.disk_store.specs.Shown.{sight_of}
 use Rattle.disk_store.proofs.Moving.{does-move}
 use Rattle.disk_store.proofs.Stages.{may-prepare, prepared-now}
-use Rattle.disk_store.proofs.Room.{no-room}
+use Rattle.disk_store.proofs.JournalRoom.{no-room}
 use Rattle.disk_store.proofs.preparing.prepare.Goals as goal
 
 pub returns-then-has_room-clause-ok : goal.returns-then-has_room-clause-ok

@@ -6,7 +6,7 @@ use Rattle.disk_store.specs.declared.member.Member.{Member}
 use Rattle.disk_store.specs.Memory.{StoreMemory}
 use Rattle.disk_store.specs.Preparing.{aside_beside}
 use Rattle.disk_store.proofs.Written.{member-counted}
-use Rattle.disk_store.proofs.Room.{IsTooMuch, HasRoom, past-end, own-past, beside-past, beside-within}
+use Rattle.disk_store.proofs.JournalRoom.{IsTooMuch, HasRoom, past-end, own-past, beside-past, beside-within}
 use Rattle.disk_store.proofs.held.Held.has_room.Goals as goal
 
 pub returns-then-lines-eq0-clause-fits : goal.returns-then-lines-eq0-clause-fits
