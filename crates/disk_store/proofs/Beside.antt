@@ -5,8 +5,9 @@ use Rattle.stable_lines.specs.Slots.{area_file}
 use Rattle.member_steps.specs.declared.committing.CommitTurn.{CommitTurn}
 use Rattle.member_steps.specs.declared.committing.CommitTurn.TheVariants.{Entering, Securing, Going}
 use Rattle.line_moves.specs.Lines.{ChangedLines}
+use Rattle.member_steps.specs.Turns.{commit_of_plan}
 use Rattle.space_pages.specs.Space.{owner_of}
-use Rattle.disk_seats.specs.Ledgers.{Standing, resting, changing, broken, committing, undoing, gained, Ledger}
+use Rattle.disk_seats.specs.Ledgers.{Standing, resting, changing, broken, committing, undoing, gained, Commit, Ledger}
 use Rattle.disk_seats.specs.Members.{MayEnd, AreOwned}
 use Rattle.disk_store.specs.declared.member.Member.{Member}
 use Rattle.disk_store.specs.declared.member.MemberStage.{MemberStage}
@@ -21,11 +22,17 @@ pub record StaysOf (t : ℕ) (g h : Ledger) : Type 0 where
   pub going : h.base.going t ≡ g.base.going t
   pub commit : h.commit ≡ g.commit
 
+-- The same, but that a commit that is under way need only be as before where it is the member's own.
+pub record StaysWith (t : ℕ) (g h : Ledger) : Type 0 where
+  pub standing : (h.standing t ≡ g.standing t) ⊎ (h.standing t ≡ gained (g.standing t))
+  pub going : h.base.going t ≡ g.base.going t
+  pub commit : (c : Commit) → c.member ≡ t → g.commit ≡ Some c → h.commit ≡ Some c
+
 -- reads of area files give what they gave
 abbrev pub SameAreas : View → View → Type 0
 SameAreas v w = (file slot : ℕ) → w.content (area_file file) slot ≡ v.content (area_file file) slot
 
-module _ (v w : View) (g h : Ledger) (t : ℕ) (same : SameAreas v w) (stays : StaysOf t g h) where
+module _ (v w : View) (g h : Ledger) (t : ℕ) (same : SameAreas v w) (stays : StaysWith t g h) where
   pub rests : g.standing t ≡ resting → h.standing t ≡ resting
   rests was = elim stays.standing [ inl is ↦ is ∙ was | inr is ↦ is ∙ ap gained was ]
 
@@ -55,7 +62,7 @@ module _ (v w : View) (g h : Ledger) (t : ℕ) (same : SameAreas v w) (stays : S
   journalled m has = record { begun = begun m has.begun; all_written = has.all_written }
 
   commit-of : (m : Member) (at : _) → IsCommitOf g t m at → IsCommitOf h t m at
-  commit-of m at is = record { plan = is.plan; its = is.its; number = is.number; lines = is.lines; under_way = stays.commit ∙ is.under_way }
+  commit-of m at is = record { plan = is.plan; its = is.its; number = is.number; lines = is.lines; count = is.count; under_way = stays.commit (commit_of_plan is.plan at) is.its is.under_way }
 
   owned : (lines : ChangedLines) (n : ℕ) → AreOwned v.content lines n → AreOwned w.content lines n
   owned lines n are i line place below at of = ap (λ bytes. owner_of place.page bytes) (same place.file _) ∙ are i line place below at of
@@ -90,5 +97,8 @@ module _ (v w : View) (g h : Ledger) (t : ℕ) (same : SameAreas v w) (stays : S
   stage-stays stage.Reading m is = rests is
   stage-stays (stage.Dead commits left) m is = recovers left m is
 
-  pub stays-there : (m : Member) → StageStands m.stage v g t m → StageStands m.stage w h t m
-  stays-there m is = stage-stays m.stage m is
+  pub stays-with : (m : Member) → StageStands m.stage v g t m → StageStands m.stage w h t m
+  stays-with m is = stage-stays m.stage m is
+
+pub stays-there : (v w : View) (g h : Ledger) (t : ℕ) → SameAreas v w → StaysOf t g h → (m : Member) → StageStands m.stage v g t m → StageStands m.stage w h t m
+stays-there v w g h t same stays = stays-with v w g h t same (record { standing = stays.standing; going = stays.going; commit = λ c own is. stays.commit ∙ is })

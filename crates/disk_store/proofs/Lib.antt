@@ -13,3 +13,4 @@ pub mod Drawing
 pub mod Finding
 pub mod EndingOpen
 pub mod Agreeing
+pub mod Deaths

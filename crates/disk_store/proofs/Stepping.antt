@@ -306,3 +306,23 @@ module _ (v w : View) (held behind : StoreMemory) (s : ℕ) (m n : Member) (was 
         ((space : Space) → KeepsSpace space (becomes.space_of space)) →
         ((h g : Shelf) (start : Lines) → Related h g start → Moves s (seat_with n.stage ws start) h g → R h g) → Does s there R (sight_of v held) (sight_of w behind)
     does-step still commits keeps-space as-asked = does-apart (never still) commits keeps-space as-asked
+
+    -- its own commit may be under way, before and behind it
+    pub does-flying : ((start : Lines) → in_flight (seat_with n.stage ws start) ≡ in_flight (seat_with m.stage before-ws start)) → ((h : Shelf) (shown : Shown v held h) (stands : StageStands m.stage v shown.ledger s m) → StillCommits shown.ledger (comes h shown stands).ledger) →
+        ((space : Space) → KeepsSpace space (becomes.space_of space)) →
+        ((h g : Shelf) (start : Lines) → Related h g start → Moves s (seat_with n.stage ws start) h g → R h g) → Does s there R (sight_of v held) (sight_of w behind)
+    does-flying flown commits keeps-space as-asked = does-moves
+        (λ h shown c is. flight-stays h shown c (c.member == s) refl (shown.lines.flight c (sym (commits h shown (sat h shown).stands).commit ∙ is)))
+        (λ h shown stands. (commits h shown stands).lines) keeps-space as-asked
+      where
+        flies-still : (h : Shelf) (shown : Shown v held h) (t : ℕ) (b : Bool) → (t == s) ≡ b → in_flight ((shelf h shown).seat t) ≡ in_flight (h.seat t)
+        flies-still h shown t true same =
+            ap (λ b. in_flight (if b then seat_with n.stage ws (sat h shown).start else h.seat t)) same ∙ flown (sat h shown).start ∙ sym (ap in_flight (sat h shown).is) ∙ ap (λ u. in_flight (h.seat u)) (sym (eqb-true t s same))
+        flies-still h shown t false apart = ap in_flight (seat-beside-here h shown t apart)
+
+        flight-stays : (h : Shelf) (shown : Shown v held h) (c : Commit) (b : Bool) → (c.member == s) ≡ b → IsInFlight shown.ledger c.flight (h.seat c.member) → IsInFlight (to h shown).ledger c.flight ((shelf h shown).seat c.member)
+        flight-stays h shown c b is flies = record {
+          writes = flies.writes;
+          under_way = flies-still h shown c.member b is ∙ flies.under_way;
+          laid = ap (lines_behind c.flight.group) (commits h shown (sat h shown).stands).lines ∙ flies.laid ∙ ap (λ all. laid_all flies.writes all) (sym (commits h shown (sat h shown).stands).lines);
+        }

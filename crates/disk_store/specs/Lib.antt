@@ -3,3 +3,4 @@ pub mod Seats
 pub mod Standing
 pub mod Shown
 pub mod Preparing
+pub mod Dying

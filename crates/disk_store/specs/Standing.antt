@@ -31,12 +31,13 @@ pub record HasJournalled (g : Ledger) (s : ℕ) (m : Member) : Type 0 where
   pub begun : HasBegun g s m
   pub all_written : m.journalled ≡ length m.written.keys
 
--- The commit that is under way is its own, of its lines, and is at this stage.
+-- The commit that is under way is its own, of its lines and all its before-images, and is at this stage.
 pub record IsCommitOf (g : Ledger) (s : ℕ) (m : Member) (at : CommitStage) : Type 0 where
   pub plan : Plan
   pub its : plan.member ≡ s
   pub number : plan.transaction.tsn ≡ m.tsn
   pub lines : plan.lines ≡ m.written.lines
+  pub count : m.journalled ≡ length plan.all
   pub under_way : g.commit ≡ Some (commit_of_plan plan at)
 
 -- so many of its lines' pages are their areas', by the space pages

@@ -2,6 +2,7 @@
 #![tactic(auto)]
 
 mod beginning;
+mod dying;
 mod endings;
 mod held;
 mod laws;
@@ -12,6 +13,7 @@ mod rooms;
 mod rolling;
 
 pub use beginning::draw;
+pub use dying::die;
 pub use endings::{bury, put_away};
 pub use held::{Held, Numbers, Tables};
 pub use laws::the_sight_is_right;
