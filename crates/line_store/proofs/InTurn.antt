@@ -43,6 +43,7 @@ lasts-in-turn a b c h m g later between first then = record { since = λ t lines
     among t lines (inl left) = inl left
     among t lines (inr (inl before)) = inr (inl before)
     among t lines (inr (inr mid)) = inr (between lines mid)
+
     by : (t : ℕ) (lines : Lines) → t ≤ h.clock.time → b t lines ⊎ (MayStand m lines ⊎ MayStand g lines) → a t lines ⊎ (MayStand h lines ⊎ MayStand g lines)
     by t lines early (inl left) = among t lines (first.since t lines early left)
     by t lines early (inr (inl mid)) = inr (between lines mid)

@@ -26,11 +26,11 @@ use Rattle.member_memory.proofs.Rewriting.{rewritten_if, rewritten_by, found-rew
 
 -- ---- a line behind writes
 
-abbrev after : Dbkey → List Write → Option (List ℕ) → Option (List ℕ)
+abbrev pub after : Dbkey → List Write → Option (List ℕ) → Option (List ℕ)
 after q [] x = x
 after q (w ∷ ws) x = after q ws (cond (is_eq (dbkey_order q w.key)) w.image x)
 
-laid-after : (q : Dbkey) (ws : List Write) (all : Lines) → line_in q (laid_all ws all) ≡ after q ws (line_in q all)
+pub laid-after : (q : Dbkey) (ws : List Write) (all : Lines) → line_in q (laid_all ws all) ≡ after q ws (line_in q all)
 laid-after q [] all = refl
 laid-after q (w ∷ ws) all = laid-after q ws (laid w.key w.image all) ∙ ap (after q ws) (laid_found q w.key w.image all)
 
@@ -53,7 +53,7 @@ none-after q (w ∷ ws) x not-it =
 
 -- ---- the lines in memory as writes
 
-abbrev over : Option Line → Option (List ℕ) → Option (List ℕ)
+abbrev pub over : Option Line → Option (List ℕ) → Option (List ℕ)
 over None x = x
 over (Some line) x = shown line
 

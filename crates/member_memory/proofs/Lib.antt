@@ -2,4 +2,4 @@ mod Counting
 mod Growing
 mod Adding
 mod Rewriting
-mod Laying
+pub mod Laying

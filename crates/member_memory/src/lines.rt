@@ -57,7 +57,8 @@ impl MemberLines {
 
     /// The line of a key, where the transaction wrote it.
     pub fn line(&self, key: Dbkey) -> Option<&Line>
-        ensures { option_copied result ≡ find dbkey_order key self.now.lines }
+        ensures found { option_copied result ≡ find dbkey_order key self.now.lines }
+        ensures ordered { IsTrue (is_sorted dbkey_order self.now.lines) }
     {
         self.lines.find(&key)
     }

@@ -28,7 +28,7 @@ use Rattle.line_seat.specs.declared.commit.GroupPlace.{GroupPlace}
 use Rattle.line_seat.specs.Groups.{HaveClasses, group_of}
 use Rattle.line_seat.proofs.GroupSlots.{of_lines}
 
-is_area_file : (area : ℕ) → IsAreaFile (storage_area area)
+pub is_area_file : (area : ℕ) → IsAreaFile (storage_area area)
 is_area_file area = of (nat_eq area 1) (nat_eq (area % 2) 0)
   where
     of : (a b : Bool) → IsAreaFile (if a then 1 else (if b then 2 else 3))
@@ -46,7 +46,7 @@ module _ (P : PendingContents) (now : Progress) (facts : Facts P now) (key : Dbk
     says : HasPlace key x
     says = place_says key x has
 
-    is_data : IsDataPage key.page
+    pub is_data : IsDataPage key.page
     is_data = record {
       is_page = record { first = says.first; last = says.last };
       plain = λ space. let none = space_owner x key.page (facts.pages.space (storage_area key.area) key.page x (is_area_file key.area) (record { first = says.first; last = says.last }) space there) in

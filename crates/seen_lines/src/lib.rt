@@ -1,0 +1,8 @@
+//! The lines of a disk as a read-write transaction sees them: those that are committed, under what it wrote itself and keeps in memory.
+#![tactic(auto)]
+
+mod areas;
+mod lines;
+
+pub use areas::{present_lines, seen_area};
+pub use lines::seen_line;
