@@ -1,5 +1,5 @@
 -- Keys of writes that are added one after another.
-use Rattle.std.proofs.Common.{◌≡◌, ℕ, zero, suc, ◌+◌, ◌≤◌, ◌<◌, ◌||◌, Bool, true, false, cond, List, [], ◌∷◌, take, get_or, length, Option, Some, None, refl, sym, ap, ◌∙◌, arith}
+use Rattle.std.proofs.Common.{◌≡◌, ℕ, zero, suc, ◌+◌, ◌≤◌, ◌<◌, ◌||◌, ◌⊎◌, inl, inr, Bool, true, false, cond, List, [], ◌∷◌, take, get_or, length, Option, Some, None, refl, sym, ap, ◌∙◌, arith}
 use Rattle.std.specs.Prelude.{is_some, if◌then◌else◌}
 use Rattle.std.specs.Ordering.{is_eq}
 use Rattle.std.specs.Cmp.{tied_itself}
@@ -20,13 +20,13 @@ use Rattle.member_memory.proofs.Growing.{tied, length-more, grown-more}
 pub record AddsSome (tsn : Tsn) (limit : ℕ) (writes : List Write) (n : ℕ) (old new : Memory) : Type 0 where
   pub grows : Grows tsn writes old new
   pub added : AreAdded (take n writes) old new
-  pub fits : length old.keys ≤ limit → length new.keys ≤ limit
+  pub fits : (length new.keys ≤ limit) ⊎ (length new.keys ≡ length old.keys)
 
 pub adds-none : (tsn : Tsn) (limit : ℕ) (writes : List Write) (m : Memory) → AddsSome tsn limit writes 0 m m
 adds-none tsn limit writes m = record {
   grows = same m refl;
   added = record { seen = λ key. sym (written-in key m.lines); count = omega arith };
-  fits = λ h. h;
+  fits = inr refl;
 }
 
 abbrev one-unless : Bool → ℕ
@@ -86,7 +86,7 @@ module _ (tsn : Tsn) (limit : ℕ) (writes : List Write) (n : ℕ) (w : Write) (
           let more : one-unless (is_written w.key (behind (writes_in old.lines) (take n writes))) ≡ 1 = ap one-unless (seen-here ∙ ap is_some none) in
           omega (arith, one, more, so-far.added.count, length-more new.keys w.key);
     };
-    fits = λ h. omega (arith, length-more new.keys w.key, room);
+    fits = inl (omega (arith, length-more new.keys w.key, room));
   }
 
   -- it has none, and there are as many as there may be

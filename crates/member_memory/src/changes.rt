@@ -1,5 +1,5 @@
 // A statement's writes laid over the lines, in two passes: what wants memory stands in the first.
-ghost use Rattle.std.specs.Prelude.{◌≡◌, ◌<◌, ◌≤◌, ◌+◌, ◌++◌, ◌∷◌, [], ℕ, List, Some, None, is_some, length, OnOk, OnErr, IsErrOf};
+ghost use Rattle.std.specs.Prelude.{◌≡◌, ◌<◌, ◌≤◌, ◌+◌, ◌++◌, ◌∷◌, ◌⊎◌, [], ℕ, List, Some, None, is_some, length, OnOk, OnErr, IsErrOf};
 ghost use Rattle.std.specs.FinMap.Entries.{find, put};
 ghost use Rattle.rdb_types.specs.declared.keys.Tsn.{Tsn as Number};
 ghost use Rattle.rdb_types.specs.Order.{dbkey_order};
@@ -112,7 +112,7 @@ fn add_keys(
         (record { lines = lines.new; keys = keys.new.items })) }
     ensures full { IsErrOf result AddStop.Full
         → limit < length keys.old.items + lines_added (writes_in lines.old) writes.now }
-    ensures fits { OnOk result (length keys.old.items ≤ limit → length keys.new.items ≤ limit) }
+    ensures fits { OnOk result ((length keys.new.items ≤ limit) ⊎ (length keys.new.items ≡ length keys.old.items)) }
 {
     for write in writes {
         if lines.find(&write.key).is_none() {

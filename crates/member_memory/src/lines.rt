@@ -1,5 +1,5 @@
 // The lines, and what is asked of them.
-ghost use Rattle.std.specs.Prelude.{◌≡◌, ◌<◌, [], ℕ, Some, is_some, length, slice_get, true, IsTrue, IfSome};
+ghost use Rattle.std.specs.Prelude.{◌≡◌, ◌<◌, ◌^◌, [], ℕ, Some, is_some, length, slice_get, true, IsTrue, IfSome};
 ghost use Rattle.std.specs.Option.{option_copied};
 ghost use Rattle.std.specs.FinMap.Entries.{find, put, is_sorted};
 ghost use Rattle.rdb_types.specs.declared.keys.Line.{Line as Waiting};
@@ -19,13 +19,14 @@ pub struct MemberLines {
 }
 
 impl Model for MemberLines {
+    ghost use Rattle.std.specs.Prelude.{◌<◌, ◌^◌, length};
     ghost use Rattle.member_memory.specs.Memory.{Memory, AreKeysOf};
 
     ghost Value = { Memory };
 
     ghost view = { λ m. record { lines = m.lines; keys = m.keys.items } };
 
-    ghost invariant = { λ m. AreKeysOf m.lines m.keys.items };
+    ghost invariant = { λ m. AreKeysOf m.lines m.keys.items × (length m.keys.items < 2 ^ 32) };
 }
 
 impl MemberLines {
@@ -51,6 +52,7 @@ impl MemberLines {
     pub fn keys(&self) -> &[Dbkey]
         ensures value { result.now ≡ self.now.keys }
         ensures its { AreKeysOf self.now.lines self.now.keys }
+        ensures few { length result.now < 2 ^ 32 }
     {
         self.keys.as_slice()
     }

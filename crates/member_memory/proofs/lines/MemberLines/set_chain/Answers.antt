@@ -16,10 +16,10 @@ put-in c = on-some c.exchange-before.result c.in-Some.line.now _ (c.exchange-bef
 
 pub invariant_of-self : goal.invariant_of-self
 invariant_of-self c =
-    subst (λ lines. AreKeysOf lines c.self.inside.keys.items) (sym (put-in c)) (put-kept c.args.key (next_of c) c.in-Some.line.now c.self.inside.lines c.self.inside.keys.items (sym c.in-Some.ensures) c.self.invariant)
+    (subst (λ lines. AreKeysOf lines c.self.inside.keys.items) (sym (put-in c)) (put-kept c.args.key (next_of c) c.in-Some.line.now c.self.inside.lines c.self.inside.keys.items (sym c.in-Some.ensures) c.self.invariant.0), c.self.invariant.1)
 
 pub returns-in-Some-clause-same : goal.returns-in-Some-clause-same
 returns-in-Some-clause-same c =
     ap writes_in (put-in c)
-    ∙ same-writes c.args.key (next_of c) c.in-Some.line.now c.self.inside.lines c.self.invariant.ordered (sym c.in-Some.ensures) (ap (shown_as c.in-Some.line.now.state) (c.from_bytes.ensures ∙ c.bytes.ensures.value))
+    ∙ same-writes c.args.key (next_of c) c.in-Some.line.now c.self.inside.lines c.self.invariant.0.ordered (sym c.in-Some.ensures) (ap (shown_as c.in-Some.line.now.state) (c.from_bytes.ensures ∙ c.bytes.ensures.value))
     ∙ ap (λ m. writes_in m.lines) c.self.view_is
