@@ -8,3 +8,5 @@ pub mod Failing
 pub mod Closing
 pub mod Drawing
 pub mod EndingOpen
+pub mod Journalled
+pub mod Reading

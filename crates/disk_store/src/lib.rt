@@ -1,9 +1,11 @@
 //! The store of lines on a disk: what it keeps in memory beside its disk, what it shows of both as the trait of stores asks for it, and its calls.
 #![tactic(auto)]
 
+mod before_images;
 mod beginning;
 mod endings;
 mod held;
+mod learning;
 mod member;
 mod moves;
 mod rolling;
@@ -11,6 +13,7 @@ mod rolling;
 pub use beginning::draw;
 pub use endings::{bury, put_away};
 pub use held::{Held, Numbers, Tables};
+pub use learning::learn_written;
 pub use member::{Member, MemberStage, Recovery};
 pub use moves::{begin, commit, give_back};
 pub use rolling::roll_back;
