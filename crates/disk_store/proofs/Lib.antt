@@ -14,3 +14,5 @@ pub mod Finding
 pub mod EndingOpen
 pub mod Agreeing
 pub mod Deaths
+pub mod Journalled
+pub mod Reading

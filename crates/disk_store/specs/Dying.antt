@@ -1,6 +1,5 @@
 -- What becomes of a session that dies.
 use Rattle.std.specs.Prelude.{ℕ, Bool, true, false, []}
-use Rattle.line_seat.specs.declared.commit.CommitStage.{CommitStage}
 use Rattle.member_steps.specs.declared.committing.CommitTurn.{CommitTurn}
 use Rattle.member_steps.specs.declared.committing.CommitTurn.TheVariants.{Entering, Securing, Going}
 use Rattle.disk_seats.specs.Ledgers.{flies}

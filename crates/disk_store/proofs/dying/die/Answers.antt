@@ -1,4 +1,4 @@
-use Rattle.std.proofs.Common.{◌≡◌, true, false, refl, sym, ap, subst, ◌∙◌, arith}
+use Rattle.std.proofs.Common.{◌≡◌, sym, ap, subst, ◌∙◌, arith}
 use Rattle.line_store.specs.Seats.{IsAlive, died}
 use Rattle.line_store.specs.Sights.{Does, Dies}
 use Rattle.disk_store.specs.declared.member.Member.{Member}
