@@ -14,3 +14,4 @@ mod Finding
 pub mod EndingOpen
 pub mod Agreeing
 pub mod Deaths
+pub mod Restored

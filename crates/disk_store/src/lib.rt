@@ -10,6 +10,7 @@ mod member;
 mod moves;
 mod preparing;
 mod rooms;
+mod restoring;
 mod rolling;
 
 pub use beginning::draw;
@@ -21,4 +22,5 @@ pub use member::{Member, MemberStage, Recovery};
 pub use moves::{begin, commit, give_back};
 pub use preparing::prepare;
 pub use rooms::room;
+pub use restoring::restore;
 pub use rolling::roll_back;
