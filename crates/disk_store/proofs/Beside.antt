@@ -63,7 +63,7 @@ module _ (v w : View) (g h : Ledger) (t : ℕ) (same : SameAreas v w) (stays : S
   journalled m has = record { begun = begun m has.begun; all_written = has.all_written }
 
   commit-of : (m : Member) (at : _) → IsCommitOf g t m at → IsCommitOf h t m at
-  commit-of m at is = record { plan = is.plan; its = is.its; number = is.number; lines = is.lines; count = is.count; under_way = stays.commit (commit_of_plan is.plan at) is.its is.under_way }
+  commit-of m at is = record { plan = is.plan; its = is.its; number = is.number; lines = is.lines; count = is.count; keys = is.keys; under_way = stays.commit (commit_of_plan is.plan at) is.its is.under_way }
 
   owned : (lines : ChangedLines) (n : ℕ) → AreOwned v.content lines n → AreOwned w.content lines n
   owned lines n are i line place below at of = ap (λ bytes. owner_of place.page bytes) (same place.file _) ∙ are i line place below at of
@@ -72,7 +72,7 @@ module _ (v w : View) (g h : Ledger) (t : ℕ) (same : SameAreas v w) (stays : S
   entered m n has = record { journalled = journalled m has.journalled; owned = owned m.written.lines n has.owned }
 
   undone : (m : Member) (left : ℕ) → IsUndone g t m left → IsUndone h t m left
-  undone m left is = record { transaction = is.transaction; all = is.all; stands = undoing-stays is.all left is.stands; is_open = stays.going ∙ is.is_open; number = is.number }
+  undone m left is = record { transaction = is.transaction; all = is.all; stands = undoing-stays is.all left is.stands; is_open = stays.going ∙ is.is_open; number = is.number; keys = is.keys }
 
   turns : (turn : CommitTurn) (m : Member) → TurnStands turn v g t m → TurnStands turn w h t m
   turns (Entering at) m is = entered m at is

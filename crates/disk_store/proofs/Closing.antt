@@ -90,7 +90,7 @@ does-close v w held s m was ended only keeps =
     subst (λ (x : Option Member). Does s (seat_or (stand_of x) (done_at (stand_of x))) (λ h g. IsDone s h g) (sight_of v held) (sight_of w (with_member s (at_stage stage.Outside m) held))) (sym was)
     (subst (λ (x : Option Seat). Does s (seat_or (stand_of (Some m)) x) (λ h g. IsDone s h g) (sight_of v held) (sight_of w (with_member s (at_stage stage.Outside m) held))) (sym (ended-done m.stage ended [] []))
     (does-leave v w held s m was (λ g stands. ended-rests m.stage ended v g s m stands) only keeps (λ h g. IsDone s h g)
-        (λ h g start seat time moves. record { seat = outside; comes = ap done_at seat ∙ ended-done m.stage ended _ start; moves = moves })))
+    (λ h g start seat time moves. record { seat = outside; comes = ap done_at seat ∙ ended-done m.stage ended _ start; moves = moves })))
 
 -- ---- a session that died
 

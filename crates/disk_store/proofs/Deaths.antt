@@ -90,7 +90,7 @@ module _ (v : View) (held : StoreMemory) (s : ℕ) (m : Member) (was : slice_get
         let n : Member = at_stage (stage.Dead true recovery.Judging) m in
         stood n (does-flying v v held (record (with_member s n held) { numbers = held.numbers }) s m n was (becomes-member held held.numbers s n) (λ e. cc) refl (none-leaves v)
         (λ h shown stands. same-ledger v v (passes-none v) held s n h shown shown.numbers.ceiling shown.facts
-        (let is = turned shown.ledger stands in record { at = at-turn; commit = record { plan = is.plan; its = is.its; number = is.number; lines = is.lines; count = is.count; under_way = is.under_way }; flying = flown }) tt)
+        (let is = turned shown.ledger stands in record { at = at-turn; commit = record { plan = is.plan; its = is.its; number = is.number; lines = is.lines; count = is.count; keys = is.keys; under_way = is.under_way }; flying = flown }) tt)
         (omega arith) (omega arith) (died (seat_with m.stage [] [])) (Dies s) (arrives-at (stage.Committing (Going at-turn)) at true refl)
         (λ start. sym (ap (λ x. in_flight (seat_with x ws start)) at)) (λ h shown stands. record { lines = refl; commit = refl }) space-same
         (λ h g start related moves. dies-from h g start true ws related.seat (dies-at (stage.Committing (Going at-turn)) at true ws (λ start. refl) start) moves))
@@ -136,7 +136,7 @@ module _ (v : View) (held : StoreMemory) (s : ℕ) (m : Member) (was : slice_get
           limits = refl;
           none = λ t apart rests. beside-it t apart ∙ rests;
           others = λ t x apart stood. stays-with v v g after t (λ file slot. refl) (stays t apart) x stood;
-          mine = record { transaction = c.transaction; all = is.plan.all; stands = own; is_open = ap (λ k. g.base.going k) (sym is.its) ∙ old.is.is_open; number = sym is.number };
+          mine = record { transaction = c.transaction; all = is.plan.all; stands = own; is_open = ap (λ k. g.base.going k) (sym is.its) ∙ old.is.is_open; number = sym is.number; keys = is.keys };
           numbered = record { number = shown.numbers.number; first = shown.numbers.first; ceiling = shown.numbers.ceiling; group = shown.numbers.group };
           tabled = tables-pass v v (passes-none v) g after held.tables refl shown.tables;
           course_behind = shown.versions.course;

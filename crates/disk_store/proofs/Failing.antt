@@ -41,12 +41,12 @@ module _ (v w : View) (held : StoreMemory) (s : ℕ) (m : Member) (was : slice_g
   pub does-stay : (R : Shelf → Shelf → Type 0) → ((h g : Shelf) → Moves s (h.seat s) h g → h.clock.faults ≡ v.faults → g.clock.faults ≡ w.faults → h.clock.time ≡ v.moment → g.clock.time ≡ w.moment → R h g) → Does s (stand_at held.members s) R (sight_of v held) (sight_of w held)
   does-stay R as-asked =
       let does : Does s (stand_of (Some m)) R (sight_of v held) (sight_of w (record (with_member s m held) { numbers = held.numbers })) =
-          does-seated v w held (record (with_member s m held) { numbers = held.numbers }) s m m was (becomes-member held held.numbers s m) writes keeps.told keeps.leaves
-          (λ h shown stands. let p = keeps.passes shown.tells in same-ledger v w p held s m h shown (keeps.ceiling shown.tells shown.numbers.ceiling) (keeps.facts h shown stands)
-              (stays-there v w shown.ledger shown.ledger s p.areas (record { standing = inl refl; going = refl; commit = refl }) m stands) (shown.versions.waits s m was))
-          keeps.later keeps.no_fewer (stand_of (Some m)) R refl
-          (λ start. refl) (λ h shown stands. record { lines = refl; commit = refl }) space-same
-          (λ h g start related moves. as-asked h g (subst (λ seat. Moves s seat h g) (sym related.seat) moves) related.shown.lines.faults related.faults_behind related.shown.lines.time related.time_behind) in
+      does-seated v w held (record (with_member s m held) { numbers = held.numbers }) s m m was (becomes-member held held.numbers s m) writes keeps.told keeps.leaves
+      (λ h shown stands. let p = keeps.passes shown.tells in same-ledger v w p held s m h shown (keeps.ceiling shown.tells shown.numbers.ceiling) (keeps.facts h shown stands)
+      (stays-there v w shown.ledger shown.ledger s p.areas (record { standing = inl refl; going = refl; commit = refl }) m stands) (shown.versions.waits s m was))
+      keeps.later keeps.no_fewer (stand_of (Some m)) R refl
+      (λ start. refl) (λ h shown stands. record { lines = refl; commit = refl }) space-same
+      (λ h g start related moves. as-asked h g (subst (λ seat. Moves s seat h g) (sym related.seat) moves) related.shown.lines.faults related.faults_behind related.shown.lines.time related.time_behind) in
       subst (λ x. Does s (stand_of x) R (sight_of v held) (sight_of w held)) (sym was)
       (subst (λ members. Does s (stand_of (Some m)) R (sight_of v held) (sight_of w (record held { members = members }))) (set-same held.members s m was) does)
 

@@ -15,3 +15,5 @@ pub mod EndingOpen
 pub mod Agreeing
 pub mod Deaths
 pub mod Restored
+pub mod Journalled
+pub mod Reading

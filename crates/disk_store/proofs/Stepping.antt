@@ -248,11 +248,11 @@ module _ (v w : View) (held behind : StoreMemory) (s : ℕ) (m n : Member) (was 
         ((space : Space) → KeepsSpace space (becomes.space_of space)) →
         ((h g : Shelf) (start : Lines) → Related h g start → Moves s (seat_with n.stage ws start) h g → R h g) → Does s there R (sight_of v held) (sight_of w behind)
     does-moves flight same keeps-space as-asked = does-any flight (λ h g start related. as-asked h g start related (record {
-        now = related.now_behind ∙ same h related.shown related.stands ∙ sym related.shown.lines.now;
-        mine = related.seat_behind;
-        others = related.others;
-        space = subst (λ space. KeepsSpace h.space space) (sym related.space_behind) (keeps-space h.space);
-      }))
+      now = related.now_behind ∙ same h related.shown related.stands ∙ sym related.shown.lines.now;
+      mine = related.seat_behind;
+      others = related.others;
+      space = subst (λ space. KeepsSpace h.space space) (sym related.space_behind) (keeps-space h.space);
+    }))
 
     -- and the commit that is under way is another's
     pub does-apart : ((h : Shelf) (shown : Shown v held h) → StageStands m.stage v shown.ledger s m → (c : Commit) → shown.ledger.commit ≡ Some c → c.member ≢ s) →

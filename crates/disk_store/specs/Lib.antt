@@ -4,3 +4,4 @@ pub mod Standing
 pub mod Shown
 pub mod Preparing
 pub mod Dying
+pub mod BeforeImages

@@ -31,13 +31,14 @@ pub record HasJournalled (g : Ledger) (s : ℕ) (m : Member) : Type 0 where
   pub begun : HasBegun g s m
   pub all_written : m.journalled ≡ length m.written.keys
 
--- The commit that is under way is its own, of its lines and all its before-images, and is at this stage.
+-- The commit that is under way is its own, of its lines and all its before-images, and is at this stage. Its before-images are those of its keys.
 pub record IsCommitOf (g : Ledger) (s : ℕ) (m : Member) (at : CommitStage) : Type 0 where
   pub plan : Plan
   pub its : plan.member ≡ s
   pub number : plan.transaction.tsn ≡ m.tsn
   pub lines : plan.lines ≡ m.written.lines
   pub count : m.journalled ≡ length plan.all
+  pub keys : (i : ℕ) (undo : Undo) → slice_get plan.all i ≡ Some undo → slice_get m.written.keys i ≡ Some undo.key
   pub under_way : g.commit ≡ Some (commit_of_plan plan at)
 
 -- so many of its lines' pages are their areas', by the space pages
@@ -56,13 +57,14 @@ pub record IsJudged (g : Ledger) (s : ℕ) (m : Member) : Type 0 where
   pub commit : IsCommitOf g s m at
   pub flying : flies at ≡ true
 
--- so many of its before-images are to be put back
+-- So many of its before-images, which are those of its keys, are to be put back.
 pub record IsUndone (g : Ledger) (s : ℕ) (m : Member) (left : ℕ) : Type 0 where
   pub transaction : Open
   pub all : List Undo
   pub stands : g.standing s ≡ undoing all left
   pub is_open : g.base.going s ≡ Some transaction
   pub number : m.tsn ≡ transaction.tsn
+  pub keys : (i : ℕ) (undo : Undo) → slice_get all i ≡ Some undo → slice_get m.written.keys i ≡ Some undo.key
 
 abbrev pub RecoveryStands : Recovery → Ledger → ℕ → Member → Type 0
 RecoveryStands recovery.Ending g s m = g.standing s ≡ resting

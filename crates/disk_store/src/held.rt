@@ -6,8 +6,8 @@ ghost use Rattle.disk_store.specs.Memory.{at_stage, with_member, with_number};
 
 use crate::{Member, MemberStage};
 use line_opening::NextGroup;
-use page_table::PageTable;
 use member_memory::MemberLines;
+use page_table::PageTable;
 use rdb_types::{Limits, Session, Tsn};
 use std::alloc::Global;
 use std::marker::Model;

@@ -1,16 +1,18 @@
 //! The store of lines on a disk: what it keeps in memory beside its disk, what it shows of both as the trait of stores asks for it, and its calls.
 #![tactic(auto)]
 
+mod before_images;
 mod beginning;
 mod dying;
 mod endings;
 mod held;
 mod laws;
+mod learning;
 mod member;
 mod moves;
 mod preparing;
-mod rooms;
 mod restoring;
+mod rooms;
 mod rolling;
 
 pub use beginning::draw;
@@ -18,9 +20,10 @@ pub use dying::die;
 pub use endings::{bury, put_away};
 pub use held::{Held, Numbers, Tables};
 pub use laws::the_sight_is_right;
+pub use learning::learn_written;
 pub use member::{Member, MemberStage, Recovery};
 pub use moves::{begin, commit, give_back};
 pub use preparing::prepare;
-pub use rooms::room;
 pub use restoring::restore;
+pub use rooms::room;
 pub use rolling::roll_back;
