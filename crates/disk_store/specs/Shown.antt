@@ -1,5 +1,5 @@
 -- What a store on a disk shows.
-use Rattle.std.specs.Prelude.{ℕ, ◌+◌, ◌-◌, ◌≤◌, ◌≡◌, ◌⊎◌, ◌==◌, Bool, true, IsTrue, if◌then◌else◌, List, [], length, Option, Some, None, slice_get}
+use Rattle.std.specs.Prelude.{ℕ, ◌+◌, ◌-◌, ◌≤◌, ◌≡◌, ◌⊎◌, ◌==◌, Bool, true, IsTrue, if◌then◌else◌, List, [], length, replicate, Option, Some, None, slice_get}
 use Rattle.rdb_types.specs.declared.keys.Dbkey.{Dbkey}
 use Rattle.rdb_outside.specs.Disk.{View, Pending}
 use Rattle.line_view.specs.Knowledge.{Lines, line_in}
@@ -17,7 +17,7 @@ use Rattle.line_moves.specs.Classes.{HaveTheirClasses}
 use Rattle.disk_seats.specs.Ledgers.{resting, Ledger}
 use Rattle.disk_seats.specs.Members.{LedgerFacts}
 use Rattle.member_steps.specs.Beginning.{HasCeiling}
-use Rattle.page_table.specs.Pages.{Pages, owner_in, class_in, IsWithin}
+use Rattle.page_table.specs.Pages.{Pages, nobodys, owner_in, class_in, IsWithin}
 use Rattle.committed_tables.specs.Tables.{HasCommitted, WereUsed}
 use Rattle.version_writing.specs.Slots.{SlotTable}
 use Rattle.version_writing.specs.Tables.{table_of, HoldsAll}
@@ -57,8 +57,9 @@ pub record NumbersStand (v : View) (g : Ledger) (numbers : Numbers) (next : Next
 
 -- ---- pages
 
+-- the table of an area file, and of any other number one without owners
 abbrev pub pages_of : Tables → ℕ → Pages
-pages_of tables file = if file == 1 then tables.catalog else (if file == 2 then tables.relations else tables.indexes)
+pages_of tables file = if file == 1 then tables.catalog else (if file == 2 then tables.relations else (if file == 3 then tables.indexes else replicate (length tables.indexes) nobodys))
 
 -- The tables have the committed lines, and of each page the area whose it is or may become, and its class.
 pub record TablesStand (v : View) (g : Ledger) (tables : Tables) : Type 0 where

@@ -4,6 +4,7 @@ ghost use Rattle.rdb_page.specs.Page.{IsOwner, IsClass};
 ghost use Rattle.line_store.specs.Seats.{IsMember, IsWriting};
 ghost use Rattle.line_store.specs.Shelves.{Shelf};
 ghost use Rattle.line_store.specs.Rooms.{IsRoom, IsFull};
+ghost use Rattle.stable_lines.specs.Slots.{IsAreaFile};
 ghost use Rattle.disk_store.specs.declared.member.Member.{Member as Sits};
 ghost use Rattle.disk_store.specs.Seats.{stand_at};
 ghost use Rattle.disk_store.specs.Shown.{pages_of, Shown};
@@ -19,12 +20,14 @@ use rdb_types::{Dbkey, Session};
 impl Held {
     // The table of an area file.
     fn table(&self, file: u32) -> &PageTable
+        requires { IsAreaFile file }
         ensures { result.now ≡ pages_of self.now.tables file }
     {
         match file {
             1 => &self.tables.catalog,
             2 => &self.tables.relations,
-            _ => &self.tables.indexes,
+            3 => &self.tables.indexes,
+            _ => unreachable!(),
         }
     }
 
