@@ -17,3 +17,5 @@ pub mod Deaths
 pub mod Restored
 pub mod Journalled
 pub mod Reading
+mod Tabled
+mod Taking

@@ -1,6 +1,7 @@
 -- What a store on a disk shows.
 use Rattle.std.specs.Prelude.{ℕ, ◌+◌, ◌-◌, ◌≤◌, ◌≡◌, ◌⊎◌, ◌==◌, Bool, true, IsTrue, if◌then◌else◌, List, [], length, replicate, Option, Some, None, slice_get}
 use Rattle.rdb_types.specs.declared.keys.Dbkey.{Dbkey}
+use Rattle.rdb_page.specs.Page.{IsOwner}
 use Rattle.rdb_outside.specs.Disk.{View, Pending}
 use Rattle.line_view.specs.Knowledge.{Lines, line_in}
 use Rattle.line_store.specs.Seats.{Seat, outside}
@@ -66,7 +67,7 @@ pub record TablesStand (v : View) (g : Ledger) (tables : Tables) : Type 0 where
   pub committed : (file : ℕ) → IsAreaFile file → HasCommitted (pages_of tables file) file g.base.lines
   pub classes : ℕ → ℕ
   pub lie : HaveTheirClasses classes v.content
-  pub class : (file page : ℕ) → IsAreaFile file → IsWithin (pages_of tables file) page → 1 ≤ owner_in (pages_of tables file) page → class_in (pages_of tables file) page ≡ classes (owner_in (pages_of tables file) page)
+  pub class : (file page : ℕ) → IsWithin (pages_of tables file) page → IsOwner file (owner_in (pages_of tables file) page) → class_in (pages_of tables file) page ≡ classes (owner_in (pages_of tables file) page)
   pub owned : (place : Place) (area : ℕ) → IsAreaFile place.file → IsWithin (pages_of tables place.file) place.page
       → (owner_in (pages_of tables place.file) place.page ≡ 0) ⊎ (owner_in (pages_of tables place.file) place.page ≡ area) → IsForArea (Pending v) place area
 

@@ -25,5 +25,5 @@ pub use member::{Member, MemberStage, Recovery};
 pub use moves::{begin, commit, give_back};
 pub use preparing::prepare;
 pub use restoring::restore;
-pub use rooms::room;
+pub use rooms::{room, take_room};
 pub use rolling::roll_back;
