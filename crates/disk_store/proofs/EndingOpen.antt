@@ -56,21 +56,21 @@ may-end-undone (committing all) may = absurd may
 may-end-undone (undoing all left) may = absurd may
 
 -- the slots that hold what the transaction pushed, by the table
-abbrev pushed-by : SnapshotSlots → ℕ → ℕ → ℕ → Bool
+abbrev pub pushed-by : SnapshotSlots → ℕ → ℕ → ℕ → Bool
 pushed-by slots tsn = λ file chain. (pusher_at (table_of slots file).pushers chain).number == tsn
 
 module _ (v : View) (limit : ℕ) (slots : SnapshotSlots) (course : Course) (tsn : ℕ) (holds : HoldsAll v.content course.followed limit slots) (files : (file chain : ℕ) → course.followed file chain ≡ true → IsAreaFile file) where
-  its : (file chain : ℕ) (e : SnapEntry) → pushed-by slots tsn file chain ≡ true → course.followed file chain ≡ true → entries_in v.content file chain e → e.pusher.number ≡ tsn
+  pub its : (file chain : ℕ) (e : SnapEntry) → pushed-by slots tsn file chain ≡ true → course.followed file chain ≡ true → entries_in v.content file chain e → e.pusher.number ≡ tsn
   its file chain e given follows stands =
       ap (λ t. t.number) (sym ((holds file (files file chain follows)).pusher chain e follows stands)) ∙ eqb-true _ tsn given
 
-  none-left : (file chain : ℕ) (e : SnapEntry) → (course_given (pushed-by slots tsn) course).followed file chain ≡ true → entries_in v.content file chain e → e.pusher.number ≢ tsn
+  pub none-left : (file chain : ℕ) (e : SnapEntry) → (course_given (pushed-by slots tsn) course).followed file chain ≡ true → entries_in v.content file chain e → e.pusher.number ≢ tsn
   none-left file chain e follows stands same =
       let both = and_parts _ _ follows in
       let pusher = ap (λ t. t.number) ((holds file (files file chain both.0)).pusher chain e both.0 stands) in
       true≢false (sym (ap not (sym (eq-eqb _ tsn (pusher ∙ same))) ∙ both.1))
 
-  still-held : HoldsAll v.content (course_given (pushed-by slots tsn) course).followed limit slots
+  pub still-held : HoldsAll v.content (course_given (pushed-by slots tsn) course).followed limit slots
   still-held file is = record {
     long = (holds file is).long;
     used = λ chain first follows. (holds file is).used chain first (and_parts _ _ follows).0;

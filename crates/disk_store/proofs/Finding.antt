@@ -24,11 +24,7 @@ use Rattle.disk_store.specs.declared.member.MemberStage.TheVariants as stage
 use Rattle.disk_store.specs.Memory.{StoreMemory}
 use Rattle.disk_store.specs.Seats.{seat_with}
 use Rattle.disk_store.specs.Shown.{Sits, SitsAs, pages_of, Shown}
-
-file-of : (file area : ℕ) → IsOwner file area → IsAreaFile file
-file-of file area (inl first) = record { first = omega (arith, first.0); last = omega (arith, first.0) }
-file-of file area (inr (inl second)) = record { first = omega (arith, second.0); last = omega (arith, second.0) }
-file-of file area (inr (inr third)) = record { first = omega (arith, third.0); last = omega (arith, third.0) }
+use Rattle.disk_store.proofs.Tabled.{file-of}
 
 sees-written : (at : MemberStage) (ws : List Write) (start now : Lines) → IsWriting (seat_with at [] []) → seen_from (seat_with at ws start) now ≡ laid_all ws now
 sees-written stage.Writing ws start now is = refl

@@ -14,5 +14,8 @@ pub mod Finding
 pub mod EndingOpen
 pub mod Agreeing
 pub mod Deaths
+pub mod Restored
 pub mod Journalled
 pub mod Reading
+mod Tabled
+mod Taking

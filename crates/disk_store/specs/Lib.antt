@@ -5,3 +5,4 @@ pub mod Shown
 pub mod Preparing
 pub mod Dying
 pub mod BeforeImages
+pub mod Taken

@@ -35,3 +35,7 @@ drawn numbers = record numbers { next = numbers.next + 1 }
 -- a session draws the next number
 abbrev pub with_number : ℕ → Member → StoreMemory → StoreMemory
 with_number s m held = record (with_member s (begun_with held.numbers.next m) held) { numbers = drawn held.numbers }
+
+-- the tables of pages are others
+abbrev pub with_tables : Tables → StoreMemory → StoreMemory
+with_tables tables held = record held { tables = tables }

@@ -1,6 +1,7 @@
 -- What a store on a disk shows.
-use Rattle.std.specs.Prelude.{ℕ, ◌+◌, ◌-◌, ◌≤◌, ◌≡◌, ◌⊎◌, ◌==◌, IsTrue, if◌then◌else◌, [], length, Option, Some, None, slice_get}
+use Rattle.std.specs.Prelude.{ℕ, ◌+◌, ◌-◌, ◌≤◌, ◌≡◌, ◌⊎◌, ◌==◌, Bool, true, IsTrue, if◌then◌else◌, List, [], length, replicate, Option, Some, None, slice_get}
 use Rattle.rdb_types.specs.declared.keys.Dbkey.{Dbkey}
+use Rattle.rdb_page.specs.Page.{IsOwner}
 use Rattle.rdb_outside.specs.Disk.{View, Pending}
 use Rattle.line_view.specs.Knowledge.{Lines, line_in}
 use Rattle.line_store.specs.Seats.{Seat, outside}
@@ -17,8 +18,8 @@ use Rattle.line_moves.specs.Classes.{HaveTheirClasses}
 use Rattle.disk_seats.specs.Ledgers.{resting, Ledger}
 use Rattle.disk_seats.specs.Members.{LedgerFacts}
 use Rattle.member_steps.specs.Beginning.{HasCeiling}
-use Rattle.page_table.specs.Pages.{Pages, owner_in, class_in, IsWithin}
-use Rattle.committed_tables.specs.Tables.{HasCommitted}
+use Rattle.page_table.specs.Pages.{Pages, nobodys, owner_in, class_in, IsWithin}
+use Rattle.committed_tables.specs.Tables.{HasCommitted, WereUsed}
 use Rattle.version_writing.specs.Slots.{SlotTable}
 use Rattle.version_writing.specs.Tables.{HoldsAll}
 use Rattle.ledger_versions.specs.Readers.{ReaderFacts, Waiting}
@@ -57,15 +58,16 @@ pub record NumbersStand (v : View) (g : Ledger) (numbers : Numbers) (next : Next
 
 -- ---- pages
 
+-- the table of an area file, and of any other number one without owners
 abbrev pub pages_of : Tables → ℕ → Pages
-pages_of tables file = if file == 1 then tables.catalog else (if file == 2 then tables.relations else tables.indexes)
+pages_of tables file = if file == 1 then tables.catalog else (if file == 2 then tables.relations else (if file == 3 then tables.indexes else replicate (length tables.indexes) nobodys))
 
 -- The tables have the committed lines, and of each page the area whose it is or may become, and its class.
 pub record TablesStand (v : View) (g : Ledger) (tables : Tables) : Type 0 where
   pub committed : (file : ℕ) → IsAreaFile file → HasCommitted (pages_of tables file) file g.base.lines
   pub classes : ℕ → ℕ
   pub lie : HaveTheirClasses classes v.content
-  pub class : (file page : ℕ) → IsAreaFile file → IsWithin (pages_of tables file) page → 1 ≤ owner_in (pages_of tables file) page → class_in (pages_of tables file) page ≡ classes (owner_in (pages_of tables file) page)
+  pub class : (file page : ℕ) → IsWithin (pages_of tables file) page → IsOwner file (owner_in (pages_of tables file) page) → class_in (pages_of tables file) page ≡ classes (owner_in (pages_of tables file) page)
   pub owned : (place : Place) (area : ℕ) → IsAreaFile place.file → IsWithin (pages_of tables place.file) place.page
       → (owner_in (pages_of tables place.file) place.page ≡ 0) ⊎ (owner_in (pages_of tables place.file) place.page ≡ area) → IsForArea (Pending v) place area
 

@@ -31,7 +31,7 @@ pub record HasJournalled (g : Ledger) (s : ℕ) (m : Member) : Type 0 where
   pub begun : HasBegun g s m
   pub all_written : m.journalled ≡ length m.written.keys
 
--- The commit that is under way is its own, of its lines and all its before-images, and is at this stage.
+-- The commit that is under way is its own, of its lines and all its before-images, and is at this stage. Its before-images are those of its keys.
 pub record IsCommitOf (g : Ledger) (s : ℕ) (m : Member) (at : CommitStage) : Type 0 where
   pub plan : Plan
   pub its : plan.member ≡ s

@@ -11,6 +11,7 @@ mod learning;
 mod member;
 mod moves;
 mod preparing;
+mod restoring;
 mod rooms;
 mod rolling;
 
@@ -23,5 +24,6 @@ pub use learning::learn_written;
 pub use member::{Member, MemberStage, Recovery};
 pub use moves::{begin, commit, give_back};
 pub use preparing::prepare;
-pub use rooms::room;
+pub use restoring::restore;
+pub use rooms::{room, take_room};
 pub use rolling::roll_back;

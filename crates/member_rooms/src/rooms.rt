@@ -3,7 +3,6 @@ ghost use Rattle.std.specs.Prelude.{◌≡◌, ◌≤◌, ℕ, List, None, Some,
 ghost use Rattle.line_store.specs.Rooms.{first_line};
 ghost use Rattle.line_versions.specs.Lines.{shown};
 ghost use Rattle.page_table.specs.declared.uses.Sought.TheVariants.{Free};
-ghost use Rattle.page_table.specs.Pages.{IsWithin};
 ghost use Rattle.page_table.specs.Scans.{Fits, IsNew};
 ghost use Rattle.member_rooms.specs.Rooms.{own_image, IsRoomBeside, HasNoPage};
 
@@ -58,13 +57,12 @@ fn free_line(
     None
 }
 
-// Whether nobody owns a page, and it may hold lines.
-fn is_new(table: &PageTable, page: u32) -> bool
-    requires { IsWithin table.now page }
+/// Whether nobody owns a page, and it may hold lines.
+pub fn is_new(table: &PageTable, page: u32) -> bool
     ensures yes { result ≡ true → IsNew table.now page }
     ensures no { result ≡ false → IsNew table.now page → ⊥ }
 {
-    !is_space_page(page) && table.use_of(page).owner == 0
+    page >= 1 && page <= table.count() && !is_space_page(page) && table.use_of(page).owner == 0
 }
 
 // The first line of a page that nobody owns, on which the transaction wrote no image.
