@@ -111,11 +111,11 @@ module _ (v : View) (g : Ledger) (tables : Tables) (facts : LedgerFacts v g) (st
         within-table : IsWithin (pages_of tables f) number → ⊥
         within-table within = ⊎_elim
             (λ (nobody : owner_in (pages_of tables f) number ≡ 0).
-                let for = stand.owned (record { file = f; page = number }) (area + 1) is within (inl nobody) (v.content (area_file f) (number - 1)) (now (area_file f) (number - 1)) (omega (arith, is-area, some)) in
-                absurd (omega (arith, for, is-area)))
+            let for = stand.owned (record { file = f; page = number }) (area + 1) is within (inl nobody) (v.content (area_file f) (number - 1)) (now (area_file f) (number - 1)) (omega (arith, is-area, some)) in
+            absurd (omega (arith, for, is-area)))
             (λ (other : owner_in (pages_of tables f) number ≢ 0).
-                let for = stand.owned (record { file = f; page = number }) (owner_in (pages_of tables f) number) is within (inr refl) (v.content (area_file f) (number - 1)) (now (area_file f) (number - 1)) (omega (arith, is-area, some)) in
-                none number (subst (λ (n : ℕ). IsWithin (pages_of tables n) number) same-file within) (ap (λ (n : ℕ). owner_in (pages_of tables n) number) (sym same-file) ∙ (sym for ∙ is-area)))
+            let for = stand.owned (record { file = f; page = number }) (owner_in (pages_of tables f) number) is within (inr refl) (v.content (area_file f) (number - 1)) (now (area_file f) (number - 1)) (omega (arith, is-area, some)) in
+            none number (subst (λ (n : ℕ). IsWithin (pages_of tables n) number) same-file within) (ap (λ (n : ℕ). owner_in (pages_of tables n) number) (sym same-file) ∙ (sym for ∙ is-area)))
             (nat_cases (owner_in (pages_of tables f) number) 0)
 
         by : (b : Bool) → nat_le number (length (pages_of tables f)) ≡ b → ⊥

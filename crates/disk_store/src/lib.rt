@@ -12,8 +12,8 @@ mod member;
 mod moves;
 mod preparing;
 mod restoring;
-mod rooms;
 mod rolling;
+mod rooms;
 
 pub use beginning::draw;
 pub use dying::die;
@@ -25,5 +25,5 @@ pub use member::{Member, MemberStage, Recovery};
 pub use moves::{begin, commit, give_back};
 pub use preparing::prepare;
 pub use restoring::restore;
-pub use rooms::{room, take_room};
 pub use rolling::roll_back;
+pub use rooms::{room, take_room};
