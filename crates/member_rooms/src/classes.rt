@@ -1,6 +1,5 @@
 // Which class the pages of an area have.
 ghost use Rattle.std.specs.Prelude.{◌≡◌, IfSome, IfNone};
-
 ghost use Rattle.member_rooms.specs.Classes.{IsClassOf, HasNoOwned};
 
 use page_table::PageTable;
