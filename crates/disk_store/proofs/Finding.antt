@@ -1,5 +1,5 @@
 -- Rooms that are found in memory, on each shelf that is shown.
-use Rattle.std.proofs.Common.{◌≡◌, ℕ, inl, inr, true, List, [], Option, Some, refl, sym, ap, subst, ◌∙◌, arith}
+use Rattle.std.proofs.Common.{◌≡◌, ℕ, true, List, [], Option, Some, refl, sym, ap, subst, ◌∙◌}
 use Rattle.std.specs.Prelude.{slice_get}
 use Rattle.std.specs.FinMap.Entries.{is_sorted}
 use Rattle.rdb_types.specs.declared.keys.Dbkey.{Dbkey}
@@ -13,7 +13,6 @@ use Rattle.line_view.specs.Writes.{laid_all}
 use Rattle.line_store.specs.Seats.{Seat, IsWriting}
 use Rattle.line_store.specs.Shelves.{Shelf, seen_from, seen_by}
 use Rattle.line_store.specs.Rooms.{IsRoom, IsFull}
-use Rattle.stable_lines.specs.Slots.{IsAreaFile}
 use Rattle.committed_tables.specs.Tables.{HasCommitted}
 use Rattle.member_memory.specs.Memory.{writes_in}
 use Rattle.member_rooms.specs.Rooms.{IsRoomBeside, HasNoPage}

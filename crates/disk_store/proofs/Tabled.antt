@@ -1,22 +1,21 @@
 -- The tables behind a page that is taken.
 use Rattle.std.specs.Prelude.{nat_le}
-use Rattle.std.proofs.Common.{◌≡◌, ◌≢◌, ◌≤◌, ◌<◌, ◌-◌, ◌+◌, ◌==◌, ◌⊎◌, inl, inr, ⊎_elim, ℕ, Bool, true, false, cond, List, length, replicate, refl, sym, ap, subst, ◌∙◌, arith}
+use Rattle.std.proofs.Common.{◌≡◌, ◌≢◌, ◌≤◌, ◌-◌, ◌+◌, ◌==◌, ◌⊎◌, inl, inr, ⊎_elim, ℕ, Bool, true, false, cond, List, length, replicate, refl, sym, ap, subst, ◌∙◌, arith}
 use Rattle.std.proofs.lemmas.Bool.{eqb-true, eqb-false, leb-true, leb-false}
 use Rattle.std.proofs.lemmas.List.{length-replicate}
 use Rattle.rdb_types.specs.File.{slot_bytes}
 use Rattle.rdb_page.specs.Page.{IsOwner, IsUnused, class_at}
 use Rattle.rdb_page.specs.Whole.{IsUsedPage}
 use Rattle.rdb_outside.specs.Disk.{View, Pending, IsPending, zeros}
-use Rattle.area_files.specs.Areas.{IsPage, IsDataPage}
-use Rattle.line_versions.specs.Lines.{storage_area}
+use Rattle.area_files.specs.Areas.{IsDataPage}
 use Rattle.stable_lines.specs.Slots.{area_file, owner_at, IsAreaFile}
 use Rattle.stable_lines.proofs.Never.{zeros_owner}
 use Rattle.line_moves.specs.declared.places.Place.{Place}
-use Rattle.line_moves.specs.Changes.{IsForArea, IsPlaceOf}
-use Rattle.line_moves.specs.Classes.{HasItsClass, HaveTheirClasses}
+use Rattle.line_moves.specs.Changes.{IsForArea}
+use Rattle.line_moves.specs.Classes.{HaveTheirClasses}
 use Rattle.line_moves.proofs.Reading.{owner_is}
 use Rattle.line_moves.proofs.Putting.{nat_cases}
-use Rattle.disk_seats.specs.Ledgers.{Ledger, progress_of}
+use Rattle.disk_seats.specs.Ledgers.{Ledger}
 use Rattle.disk_seats.specs.Members.{LedgerFacts}
 use Rattle.disk_seats.proofs.Progresses.{same_limits}
 use Rattle.page_table.specs.declared.uses.PageUse.{PageUse}

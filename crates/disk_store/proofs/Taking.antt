@@ -1,13 +1,13 @@
 -- What is shown behind a page that is taken.
-use Rattle.std.proofs.Common.{◌≡◌, ◌≤◌, ◌==◌, ℕ, Bool, true, false, not, List, length, Option, Some, inl, refl, sym, ap, subst, ◌∙◌, arith}
+use Rattle.std.proofs.Common.{◌≡◌, ◌==◌, ℕ, Bool, true, false, not, length, inl, refl, sym, ap, subst, ◌∙◌, arith}
 use Rattle.std.proofs.lemmas.Bool.{eqb-true, eqb-false}
 use Rattle.rdb_types.specs.declared.keys.Dbkey.{Dbkey}
 use Rattle.rdb_page.specs.Page.{IsOwner}
 use Rattle.rdb_outside.specs.Disk.{View}
 use Rattle.line_store.specs.Shelves.{Shelf, Space}
 use Rattle.line_store.specs.Rooms.{Takes, IsTaken}
-use Rattle.line_store.specs.Sights.{Does, Behind, Stays, IsSame, bare}
-use Rattle.page_table.specs.Pages.{Pages, empty_of, Puts}
+use Rattle.line_store.specs.Sights.{Does, Stays}
+use Rattle.page_table.specs.Pages.{Pages}
 use Rattle.page_table.specs.Scans.{IsNew}
 use Rattle.store_shows.specs.Rooms.{is_free, HasPages}
 use Rattle.store_shows.proofs.Taken.{is_taken, page_is_taken}

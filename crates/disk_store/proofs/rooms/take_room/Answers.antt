@@ -1,4 +1,4 @@
-use Rattle.std.proofs.Common.{◌≡◌, ℕ, ⊎_elim, sym, ap, subst, ◌∙◌, arith}
+use Rattle.std.proofs.Common.{⊎_elim, sym, ap, subst, ◌∙◌, arith}
 use Rattle.rdb_types.specs.declared.keys.Limits.{Limits}
 use Rattle.rdb_outside.specs.Disk.{IsPending}
 use Rattle.rdb_outside.specs.Moments.{each_slot}
