@@ -1,5 +1,5 @@
-mod Counting
-mod Growing
-mod Adding
-mod Rewriting
+pub mod Counting
+pub mod Growing
+pub mod Adding
+pub mod Rewriting
 pub mod Laying

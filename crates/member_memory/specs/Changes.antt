@@ -1,5 +1,5 @@
 -- What a statement's writes make of the lines in memory.
-use Rattle.std.specs.Prelude.{◌≡◌, ℕ, ◌+◌, ◌++◌, true, false, List, [], ◌∷◌, length, slice_get, is_some, Option, Some, None}
+use Rattle.std.specs.Prelude.{◌≡◌, ◌<◌, ◌^◌, ℕ, ◌+◌, ◌++◌, true, false, List, [], ◌∷◌, length, slice_get, is_some, Option, Some, None}
 use Rattle.std.specs.FinMap.Entries.{find, put}
 use Rattle.rdb_types.specs.declared.keys.Dbkey.{Dbkey}
 use Rattle.rdb_types.specs.declared.keys.Line.{Line}
@@ -8,7 +8,7 @@ use Rattle.rdb_types.specs.declared.keys.Tsn.{Tsn}
 use Rattle.rdb_types.specs.Order.{dbkey_order}
 use Rattle.line_view.specs.declared.writes.Write.{Write}
 use Rattle.line_store.specs.Seats.{is_written, lines_added, Adds}
-use Rattle.member_memory.specs.Memory.{Memory, writes_in}
+use Rattle.member_memory.specs.Memory.{Memory, AreKeysOf, writes_in}
 
 -- ---- keys that are added
 
@@ -34,6 +34,22 @@ behind before (write ∷ writes) = behind (write ∷ before) writes
 pub record AreAdded (writes : List Write) (old new : Memory) : Type 0 where
   pub seen : (key : Dbkey) → is_some (find dbkey_order key new.lines) ≡ is_written key (behind (writes_in old.lines) writes)
   pub count : length new.keys ≡ length old.keys + lines_added (writes_in old.lines) writes
+
+-- the first half of a change
+pub record Adding (tsn : Tsn) (writes : List Write) (old new : Memory) : Type 0 where
+  pub grows : Grows tsn writes old new
+  pub added : AreAdded writes old new
+  pub kept : AreKeysOf old.lines old.keys
+
+-- keys were added behind so many
+pub record HasGrown (count : ℕ) (new : Memory) : Type 0 where
+  pub tsn : Tsn
+  pub writes : List Write
+  pub old : Memory
+  pub grows : Grows tsn writes old new
+  pub counted : count ≡ length old.keys
+  pub kept : AreKeysOf old.lines old.keys
+  pub few : length old.keys < 2 ^ 32
 
 -- ---- lines that are laid
 

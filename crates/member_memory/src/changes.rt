@@ -6,7 +6,7 @@ ghost use Rattle.rdb_types.specs.Order.{dbkey_order};
 ghost use Rattle.line_view.specs.declared.writes.Write.{Write as Written};
 ghost use Rattle.line_store.specs.Seats.{lines_added};
 ghost use Rattle.member_memory.specs.Memory.{Memory, writes_in};
-ghost use Rattle.member_memory.specs.Changes.{AreAdded, Grows, Lays, blank, rewritten, rewritten_all, with_key};
+ghost use Rattle.member_memory.specs.Changes.{Adding, AreAdded, Grows, HasGrown, Lays, blank, rewritten, rewritten_all, with_key};
 
 use crate::MemberLines;
 use line_view::Write;
@@ -138,9 +138,9 @@ fn rewrite_all(lines: &mut Entries<Dbkey, Line>, writes: &[Write])
 }
 
 impl MemberLines {
-    /// Lays a statement's writes over the lines, where so many are no more than the limit: that of the entries of the member's journal. Where it answers that they are, or memory fails, the lines are as they were.
-    pub fn change(&mut self, tsn: Tsn, limit: u32, writes: &[Write]) -> Result<(), AddStop>
-        ensures lays { OnOk result (Lays tsn writes.now self.old self.new) }
+    /// Gives each write's line that is new a place behind the others and a blank line, where so many lines are no more than the limit. It is the first half of a change, and alone wants memory: behind it `lay` lays the writes, or `take_back` undoes it. Where it answers that there is no room, or memory fails, the lines are as they were.
+    pub fn add(&mut self, tsn: Tsn, limit: u32, writes: &[Write]) -> Result<(), AddStop>
+        ensures added { OnOk result (Adding tsn writes.now self.old self.new) }
         ensures fits { OnOk result (length self.old.keys ≤ limit → length self.new.keys ≤ limit) }
         ensures full { IsErrOf result AddStop.Full
             → limit < length self.old.keys + lines_added (writes_in self.old.lines) writes.now }
@@ -151,7 +151,36 @@ impl MemberLines {
             take_back(&mut self.lines, &mut self.keys, count);
             return Err(stop);
         }
+        Ok(())
+    }
+
+    /// Undoes `add`: so many keys are left. It wants no memory.
+    pub fn take_back(&mut self, count: usize)
+        requires { HasGrown count self.old }
+        ensures { (tsn : Number) (writes : List Written) (old : Memory) → Grows tsn writes old self.old
+            → count ≡ length old.keys → self.new ≡ old }
+    {
+        take_back(&mut self.lines, &mut self.keys, count);
+    }
+
+    /// Gives each line that is written the image of its last write, behind `add`. It wants no memory.
+    pub fn lay(&mut self, writes: &[Write])
+        ensures lines { self.new.lines ≡ rewritten_all writes.now self.old.lines }
+        ensures keys { self.new.keys ≡ self.old.keys }
+    {
         rewrite_all(&mut self.lines, writes);
+    }
+
+    /// Lays a statement's writes over the lines, where so many are no more than the limit: that of the entries of the member's journal. Where it answers that they are, or memory fails, the lines are as they were.
+    pub fn change(&mut self, tsn: Tsn, limit: u32, writes: &[Write]) -> Result<(), AddStop>
+        ensures lays { OnOk result (Lays tsn writes.now self.old self.new) }
+        ensures fits { OnOk result (length self.old.keys ≤ limit → length self.new.keys ≤ limit) }
+        ensures full { IsErrOf result AddStop.Full
+            → limit < length self.old.keys + lines_added (writes_in self.old.lines) writes.now }
+        ensures stays { OnErr result (self.new ≡ self.old) }
+    {
+        self.add(tsn, limit, writes)?;
+        self.lay(writes);
         Ok(())
     }
 }

@@ -1,0 +1,104 @@
+-- The members beside a session that makes a step.
+use Rattle.std.proofs.Common.{Some, ◌≡◌, ◌⊎◌, inl, inr, ℕ, length, sym, ap, subst, ◌∙◌}
+use Rattle.rdb_outside.specs.Disk.{View}
+use Rattle.stable_lines.specs.Slots.{area_file}
+use Rattle.member_steps.specs.declared.committing.CommitTurn.{CommitTurn}
+use Rattle.member_steps.specs.declared.committing.CommitTurn.TheVariants.{Entering, Securing, Going}
+use Rattle.line_moves.specs.Lines.{ChangedLines}
+use Rattle.member_steps.specs.Turns.{commit_of_plan}
+use Rattle.space_pages.specs.Space.{owner_of}
+use Rattle.disk_seats.specs.Ledgers.{Standing, resting, changing, broken, committing, undoing, gained, Commit, Ledger}
+use Rattle.disk_seats.specs.Members.{MayEnd, AreOwned}
+use Rattle.disk_store.specs.declared.member.Member.{Member}
+use Rattle.disk_store.specs.declared.member.MemberStage.{MemberStage}
+use Rattle.disk_store.specs.declared.member.MemberStage.TheVariants as stage
+use Rattle.disk_store.specs.declared.member.Recovery.{Recovery}
+use Rattle.disk_store.specs.declared.member.Recovery.TheVariants as recovery
+use Rattle.disk_store.specs.Standing.{HasBegun, HasJournalled, IsCommitOf, HasEntered, TurnStands, IsUndone, RecoveryStands, StageStands}
+
+-- A member stands as before, or its before-images are stable now; the commit that is under way is as before.
+pub record StaysOf (t : ℕ) (g h : Ledger) : Type 0 where
+  pub standing : (h.standing t ≡ g.standing t) ⊎ (h.standing t ≡ gained (g.standing t))
+  pub going : h.base.going t ≡ g.base.going t
+  pub commit : h.commit ≡ g.commit
+
+-- The same, but that a commit that is under way need only be as before where it is the member's own.
+pub record StaysWith (t : ℕ) (g h : Ledger) : Type 0 where
+  pub standing : (h.standing t ≡ g.standing t) ⊎ (h.standing t ≡ gained (g.standing t))
+  pub going : h.base.going t ≡ g.base.going t
+  pub commit : (c : Commit) → c.member ≡ t → g.commit ≡ Some c → h.commit ≡ Some c
+
+-- reads of area files give what they gave
+abbrev pub SameAreas : View → View → Type 0
+SameAreas v w = (file slot : ℕ) → w.content (area_file file) slot ≡ v.content (area_file file) slot
+
+module _ (v w : View) (g h : Ledger) (t : ℕ) (same : SameAreas v w) (stays : StaysWith t g h) where
+  pub rests : g.standing t ≡ resting → h.standing t ≡ resting
+  rests was = elim stays.standing [ inl is ↦ is ∙ was | inr is ↦ is ∙ ap gained was ]
+
+  ends : MayEnd (g.standing t) → MayEnd (h.standing t)
+  ends may = elim stays.standing [
+    | inl is ↦ subst MayEnd (sym is) may
+    | inr is ↦ subst MayEnd (sym is) (by (g.standing t) may)
+  ]
+    where
+      by : (x : Standing) → MayEnd x → MayEnd (gained x)
+      by resting m = absurd m
+      by (changing all stable) m = tt
+      by broken m = tt
+      by (committing all) m = absurd m
+      by (undoing all left) m = absurd m
+
+  undoing-stays : (all : _) (left : ℕ) → g.standing t ≡ undoing all left → h.standing t ≡ undoing all left
+  undoing-stays all left was = elim stays.standing [ inl is ↦ is ∙ was | inr is ↦ is ∙ ap gained was ]
+
+  begun : (m : Member) → HasBegun g t m → HasBegun h t m
+  begun m has = elim stays.standing [
+    | inl is ↦ record { transaction = has.transaction; all = has.all; stable = has.stable; stands = is ∙ has.stands; is_open = stays.going ∙ has.is_open; number = has.number; count = has.count; keys = has.keys }
+    | inr is ↦ record { transaction = has.transaction; all = has.all; stable = length has.all; stands = is ∙ ap gained has.stands; is_open = stays.going ∙ has.is_open; number = has.number; count = has.count; keys = has.keys }
+  ]
+
+  journalled : (m : Member) → HasJournalled g t m → HasJournalled h t m
+  journalled m has = record { begun = begun m has.begun; all_written = has.all_written }
+
+  commit-of : (m : Member) (at : _) → IsCommitOf g t m at → IsCommitOf h t m at
+  commit-of m at is = record { plan = is.plan; its = is.its; number = is.number; lines = is.lines; count = is.count; keys = is.keys; under_way = stays.commit (commit_of_plan is.plan at) is.its is.under_way }
+
+  owned : (lines : ChangedLines) (n : ℕ) → AreOwned v.content lines n → AreOwned w.content lines n
+  owned lines n are i line place below at of = ap (λ bytes. owner_of place.page bytes) (same place.file _) ∙ are i line place below at of
+
+  entered : (m : Member) (n : ℕ) → HasEntered v g t m n → HasEntered w h t m n
+  entered m n has = record { journalled = journalled m has.journalled; owned = owned m.written.lines n has.owned }
+
+  undone : (m : Member) (left : ℕ) → IsUndone g t m left → IsUndone h t m left
+  undone m left is = record { transaction = is.transaction; all = is.all; stands = undoing-stays is.all left is.stands; is_open = stays.going ∙ is.is_open; number = is.number; keys = is.keys }
+
+  turns : (turn : CommitTurn) (m : Member) → TurnStands turn v g t m → TurnStands turn w h t m
+  turns (Entering at) m is = entered m at is
+  turns Securing m is = entered m (length m.written.lines) is
+  turns (Going at) m is = commit-of m at is
+
+  recovers : (left : Recovery) (m : Member) → RecoveryStands left g t m → RecoveryStands left h t m
+  recovers recovery.Ending m is = rests is
+  recovers recovery.Judging m is = record { at = is.at; commit = commit-of m is.at is.commit; flying = is.flying }
+  recovers (recovery.Undoing left) m is = undone m left is
+  recovers recovery.Restoring m is = undone m 0 is
+
+  stage-stays : (st : MemberStage) (m : Member) → StageStands st v g t m → StageStands st w h t m
+  stage-stays stage.Outside m is = rests is
+  stage-stays stage.Beginning m is = rests is
+  stage-stays stage.Writing m is = journalled m is
+  stage-stays stage.Changing m is = begun m is
+  stage-stays stage.Broken m is = ends is
+  stage-stays stage.Prepared m is = journalled m is
+  stage-stays (stage.Committing turn) m is = turns turn m is
+  stage-stays stage.RollingBack m is = rests is
+  stage-stays stage.Closing m is = rests is
+  stage-stays stage.Reading m is = rests is
+  stage-stays (stage.Dead commits left) m is = recovers left m is
+
+  pub stays-with : (m : Member) → StageStands m.stage v g t m → StageStands m.stage w h t m
+  stays-with m is = stage-stays m.stage m is
+
+pub stays-there : (v w : View) (g h : Ledger) (t : ℕ) → SameAreas v w → StaysOf t g h → (m : Member) → StageStands m.stage v g t m → StageStands m.stage w h t m
+stays-there v w g h t same stays = stays-with v w g h t same (record { standing = stays.standing; going = stays.going; commit = λ c own is. stays.commit ∙ is })

@@ -1,0 +1,111 @@
+-- A device call that writes no area file and no snapshot file, and what stays shown behind it.
+use Rattle.std.proofs.Common.{◌≡◌, ◌≢◌, ◌≤◌, ◌-◌, ℕ, IsTrue, List, ◌⊎◌, inl, refl, sym, ap, subst, arith}
+use Rattle.rdb_types.specs.declared.file.FileId.{FileId}
+use Rattle.rdb_types.specs.declared.file.FileKind.TheVariants.{Area, Snap}
+use Rattle.rdb_outside.specs.Disk.{View, Pending, LeavesOnly, IsPending, OnlyReads}
+use Rattle.rdb_outside.specs.Moments.{weaker, started, each_slot}
+use Rattle.new_database.specs.Maker.{root_file}
+use Rattle.snapshot_file.specs.Entry.{IsEntry}
+use Rattle.line_versions.specs.Files.{snap_file}
+use Rattle.line_versions.specs.Course.{Course}
+use Rattle.line_versions.specs.Versions.{Followed}
+use Rattle.stable_lines.specs.Slots.{area_file}
+use Rattle.line_moves.specs.Calls.{OnlyWrites}
+use Rattle.line_moves.specs.Classes.{HasItsClass}
+use Rattle.line_store.specs.Shelves.{Shelf}
+use Rattle.disk_seats.specs.Ledgers.{Ledger}
+use Rattle.disk_seats.specs.Members.{LedgerFacts}
+use Rattle.member_steps.specs.Beginning.{HasCeiling}
+use Rattle.committed_tables.specs.Tables.{HasCommitted}
+use Rattle.version_writing.specs.Tables.{HoldsAll}
+use Rattle.version_writing.specs.declared.snapshot_slots.SnapshotSlots.{SnapshotSlots}
+use Rattle.ledger_versions.specs.Readers.{ReaderFacts, Waiting}
+use Rattle.ledger_versions.proofs.Written.{still_reads, still_aside}
+use Rattle.disk_store.specs.declared.member.Member.{Member}
+use Rattle.disk_store.specs.declared.held.Tables.{Tables}
+use Rattle.disk_store.specs.Memory.{StoreMemory, with_member}
+use Rattle.disk_store.specs.Standing.{StageStands}
+use Rattle.disk_store.specs.Shown.{TablesStand, WaitsAs, Shown, pages_of}
+use Rattle.disk_store.proofs.Beside.{SameAreas, stays-there}
+use Rattle.disk_store.proofs.Stepping.{ComesTo}
+
+pub record Passes (v w : View) : Type 0 where
+  pub told : w.tells ≡ v.tells
+  pub later : v.moment ≤ w.moment
+  pub no_fewer : v.faults ≤ w.faults
+  pub areas : SameAreas v w
+  pub snaps : (file slot : ℕ) → w.content (snap_file file) slot ≡ v.content (snap_file file) slot
+  pub pending : (file slot : ℕ) (x : List ℕ) → Pending w (area_file file) slot x → Pending v (area_file file) slot x
+  pub readers : (g : Ledger) (limit : ℕ) (course : Course) (waiting : Waiting) → ReaderFacts v g limit course waiting → ReaderFacts w g limit course waiting
+
+pub passes-none : (v : View) → Passes v v
+passes-none v = record { told = refl; later = omega arith; no_fewer = omega arith; areas = λ file slot. refl; snaps = λ file slot. refl; pending = λ file slot x p. p; readers = λ g limit course waiting was. was }
+
+pub passes-reads : (v w : View) → IsTrue v.tells → OnlyReads v w → Passes v w
+passes-reads v w t only = record {
+  told = only.told;
+  later = only.later;
+  no_fewer = only.no_fewer;
+  areas = λ file slot. (only.keeps t).content (area_file file) slot;
+  snaps = λ file slot. (only.keeps t).content (snap_file file) slot;
+  pending = λ file slot x p. (only.keeps t).pending (area_file file) slot x p;
+  readers = λ g limit course waiting was. still_reads v w limit course waiting g t was only;
+}
+
+pub passes-aside : (v w : View) (file : FileId) (slot : ℕ) → IsTrue v.tells → file.kind ≢ Snap → file.kind ≢ Area → OnlyWrites file slot v w → Passes v w
+passes-aside v w file slot t not-snap not-area only = record {
+  told = only.told;
+  later = only.later;
+  no_fewer = only.no_fewer;
+  areas = λ f i. only.content t (area_file f) i (λ same at. not-area (ap (λ (x : FileId). x.kind) (sym same)));
+  snaps = λ f i. only.content t (snap_file f) i (λ same at. not-snap (ap (λ (x : FileId). x.kind) (sym same)));
+  pending = λ f i x p. only.pending t (area_file f) i x (λ same at. not-area (ap (λ (y : FileId). y.kind) (sym same))) p;
+  readers = λ g limit course waiting was. still_aside v w limit course waiting g t was file slot not-snap not-area only;
+}
+
+pub reads-leave : (v w : View) → OnlyReads v w → IsTrue v.tells → LeavesOnly v w (λ image. IsPending v image ⊎ IsPending w image)
+reads-leave v w only t = weaker v w (IsPending v) (λ image. IsPending v image ⊎ IsPending w image) (λ image p. inl p) (only.leaves t)
+
+pub none-leaves : (v : View) → IsTrue v.tells → LeavesOnly v v (λ image. IsPending v image ⊎ IsPending v image)
+none-leaves v t = started v (λ image. IsPending v image ⊎ IsPending v image) (λ image left. inl (each_slot v image left))
+
+pub reads-ceiling : (v w : View) → IsTrue v.tells → OnlyReads v w → (ceiling : ℕ) → HasCeiling (Pending v) ceiling → HasCeiling (Pending w) ceiling
+reads-ceiling v w t only ceiling was content root p is = was content root ((only.keeps t).pending root_file 0 content p) is
+
+module _ (v w : View) (passes : Passes v w) where
+  pub tables-pass : (g h : Ledger) (tables : Tables) → h.base.lines ≡ g.base.lines → TablesStand v g tables → TablesStand w h tables
+  tables-pass g h tables same was = record {
+    committed = λ file is. subst (λ lines. HasCommitted (pages_of tables file) file lines) (sym same) (was.committed file is);
+    classes = was.classes;
+    lie = λ file number is plain. subst (λ bytes. HasItsClass was.classes bytes) (sym (passes.areas file (number - 1))) (was.lie file number is plain);
+    class = was.class;
+    owned = λ place area is within owner x p. was.owned place area is within owner x (passes.pending place.file (place.page - 1) x p);
+  }
+
+  pub slots-pass : (followed : Followed) (limit : ℕ) (slots : SnapshotSlots) → HoldsAll v.content followed limit slots → HoldsAll w.content followed limit slots
+  slots-pass followed limit slots was file is = record {
+    long = (was file is).long;
+    used = (was file is).used;
+    pusher = λ chain entry follows stands. (was file is).pusher chain entry follows (record { number = stands.number; is = subst (λ bytes. IsEntry bytes entry) (passes.snaps file (chain - 1)) stands.is });
+  }
+
+  -- the ledger and the course stay, and the session comes to another member
+  abbrev pub same-ledger : (held : StoreMemory) (s : ℕ) (n : Member) (h : Shelf) (shown : Shown v held h) → HasCeiling (Pending w) held.numbers.ceiling → LedgerFacts w shown.ledger
+      → StageStands n.stage w shown.ledger s n → WaitsAs n.stage shown.versions.waiting s n → ComesTo v w (record (with_member s n held) { numbers = held.numbers }) s n shown.ledger shown.versions.course shown.versions.waiting
+  same-ledger held s n h shown ceiling facts mine waits = record {
+    ledger = shown.ledger;
+    facts = facts;
+    limits = refl;
+    none = λ t apart rests. rests;
+    others = λ t x apart stands. stays-there v w shown.ledger shown.ledger t passes.areas (record { standing = inl refl; going = refl; commit = refl }) x stands;
+    mine = mine;
+    numbered = record { number = shown.numbers.number; first = shown.numbers.first; ceiling = ceiling; group = shown.numbers.group };
+    tabled = tables-pass shown.ledger shown.ledger held.tables refl shown.tables;
+    course_behind = shown.versions.course;
+    waiting_behind = shown.versions.waiting;
+    readers = passes.readers shown.ledger held.limits.snaps shown.versions.course shown.versions.waiting shown.versions.readers;
+    slots = slots-pass shown.versions.course.followed held.limits.snaps held.slots shown.versions.slots;
+    waits = waits;
+    waits_beside = λ t apart. refl;
+    reads = λ t. refl;
+  }

@@ -1,0 +1,114 @@
+-- What is shown behind a page that is taken.
+use Rattle.std.proofs.Common.{◌≡◌, ◌==◌, ℕ, Bool, true, false, not, length, inl, refl, sym, ap, subst, ◌∙◌, arith}
+use Rattle.std.proofs.lemmas.Bool.{eqb-true, eqb-false}
+use Rattle.rdb_types.specs.declared.keys.Dbkey.{Dbkey}
+use Rattle.rdb_page.specs.Page.{IsOwner}
+use Rattle.rdb_outside.specs.Disk.{View}
+use Rattle.line_store.specs.Shelves.{Shelf, Space}
+use Rattle.line_store.specs.Rooms.{Takes, IsTaken}
+use Rattle.line_store.specs.Sights.{Does, Stays}
+use Rattle.page_table.specs.Pages.{Pages}
+use Rattle.page_table.specs.Scans.{IsNew}
+use Rattle.store_shows.specs.Rooms.{is_free, HasPages}
+use Rattle.store_shows.proofs.Taken.{is_taken, page_is_taken}
+use Rattle.disk_store.specs.declared.held.Tables.{Tables}
+use Rattle.disk_store.specs.Memory.{StoreMemory, with_tables}
+use Rattle.disk_store.specs.Seats.{stand_at}
+use Rattle.disk_store.specs.Shown.{pages_of, TablesStand, Shown, sight_of}
+use Rattle.disk_store.specs.Taken.{TakesIn}
+
+-- nothing changes
+pub stays : (v : View) (held : StoreMemory) (s : ℕ) → Stays s (sight_of v held) (sight_of v held)
+stays v held s = record {
+  mine = refl;
+  others = λ t apart. refl;
+  steps = λ t apart. refl;
+  each = λ h shown. record { shelf = h; shown = shown; related = refl; lasts = record { since = λ t lines early is. inl is } };
+}
+
+module _ (v : View) (held : StoreMemory) (s file class : ℕ) (key : Dbkey) (owner : IsOwner file key.area) where
+  -- a page that isn't new was taken
+  pub was-taken : (IsNew (pages_of held.tables file) key.page → ⊥) → (h : Shelf) → Shown v held h → IsTaken key h.space
+  was-taken none h shown = record { file = file; lies = owner; taken = is_taken (pages_of held.tables) h.space shown.space.pages file key.page none }
+
+  -- so taking it once more changes nothing
+  pub takes-again : (IsNew (pages_of held.tables file) key.page → ⊥) → Does s (stand_at held.members s) (Takes key) (sight_of v held) (sight_of v held)
+  takes-again none = record {
+    mine = refl;
+    others = λ t apart. refl;
+    steps = λ t apart. refl;
+    each = λ h shown. record {
+      shelf = h;
+      shown = shown;
+      related = record {
+        file = file;
+        lies = owner;
+        page = record { here = is_taken (pages_of held.tables) h.space shown.space.pages file key.page none; others = λ f p apart. refl; limits = refl; snaps = refl; slots = refl };
+        now = refl;
+        seat = λ t. refl;
+        steps = λ t. refl;
+        later = record { later = omega arith; no_fewer = omega arith };
+      };
+      lasts = record { since = λ t lines early is. inl is };
+    };
+  }
+
+  module _ (kept : Tables) (new : IsNew (pages_of held.tables file) key.page) (takes : TakesIn file key.page key.area class held.tables kept) (stand : (h : Shelf) (shown : Shown v held h) → TablesStand v shown.ledger kept) where
+    abbrev space-behind : Shelf → Space
+    space-behind h = record { limits = h.space.limits; taken = λ f p. not (is_free (pages_of kept f) p); snaps = h.space.snaps; slots = h.space.slots }
+
+    abbrev behind : Shelf → Shelf
+    behind h = record h { space = space-behind h }
+
+    long : (f : ℕ) → length (pages_of kept f) ≡ length (pages_of held.tables f)
+    long f = by (f == file) refl
+      where
+        by : (b : Bool) → (f == file) ≡ b → length (pages_of kept f) ≡ length (pages_of held.tables f)
+        by true same = subst (λ (n : ℕ). length (pages_of kept n) ≡ length (pages_of held.tables n)) (sym (eqb-true f file same)) takes.here.long
+        by false apart = ap (λ (ps : Pages). length ps) (takes.others f (eqb-false f file apart))
+
+    has-pages : (h : Shelf) → Shown v held h → HasPages (pages_of kept) (space-behind h)
+    has-pages h shown = record { taken = λ f p. refl; limit = λ f. long f ∙ shown.space.pages.limit f }
+
+    shown-behind : (h : Shelf) → Shown v held h → Shown v (with_tables kept held) (behind h)
+    shown-behind h shown = record {
+      tells = shown.tells;
+      ledger = shown.ledger;
+      facts = shown.facts;
+      limits = shown.limits;
+      lines = record { now = shown.lines.now; time = shown.lines.time; faults = shown.lines.faults; flight = shown.lines.flight };
+      seats = shown.seats;
+      steps = shown.steps;
+      numbers = shown.numbers;
+      tables = stand h shown;
+      versions = record {
+        course = shown.versions.course;
+        waiting = shown.versions.waiting;
+        readers = shown.versions.readers;
+        slots = shown.versions.slots;
+        waits = shown.versions.waits;
+        reading = shown.versions.reading;
+      };
+      space = record { limits = shown.space.limits; pages = has-pages h shown; snaps = shown.space.snaps; slots = shown.space.slots };
+    }
+
+    pub takes-page : Does s (stand_at held.members s) (Takes key) (sight_of v held) (sight_of v (with_tables kept held))
+    takes-page = record {
+      mine = refl;
+      others = λ t apart. refl;
+      steps = λ t apart. refl;
+      each = λ h shown. record {
+        shelf = behind h;
+        shown = shown-behind h shown;
+        related = record {
+          file = file;
+          lies = owner;
+          page = page_is_taken (pages_of held.tables) (pages_of kept) h.space (space-behind h) file class key shown.space.pages (has-pages h shown) owner new.first takes.here takes.others refl refl refl;
+          now = refl;
+          seat = λ t. refl;
+          steps = λ t. refl;
+          later = record { later = omega arith; no_fewer = omega arith };
+        };
+        lasts = record { since = λ t lines early is. inl is };
+      };
+    }

@@ -1,0 +1,41 @@
+use Rattle.std.proofs.Common.{◌≡◌, [], refl, sym, subst, ap, ◌∙◌}
+use Rattle.line_store.specs.Seats.{outside, IsAlive}
+use Rattle.line_store.specs.Calls.{IsUndone}
+use Rattle.line_store.specs.Sights.{Does}
+use Rattle.disk_store.specs.declared.member.Member.{Member}
+use Rattle.disk_store.specs.declared.member.MemberStage.TheVariants as stage
+use Rattle.disk_store.specs.declared.member.Recovery.TheVariants as recovery
+use Rattle.disk_store.specs.Memory.{with_member, at_stage}
+use Rattle.disk_store.specs.Seats.{stand_of, seat_with}
+use Rattle.disk_store.specs.Shown.{sight_of}
+use Rattle.disk_store.proofs.Failing.{does-fail}
+use Rattle.disk_store.proofs.Closing.{keeps-it, does-bury, dead-rests, one-member}
+use Rattle.disk_store.proofs.endings.bury.Goals as goal
+
+pub returns-in_default-clause-comes : goal.returns-in_default-clause-comes
+returns-in_default-clause-comes g c =
+    let v = g.D.Disk.view c.args.disk.now in
+    let w = g.D.Disk.view c.close.new.disk in
+    let s = c.args.s.number in
+    let at = c.requires.died.1 in
+    let st : at.member.stage ≡ stage.Dead c.requires.died.0 recovery.Ending = at.at in
+    does-fail v w c.args.held.now s at.member at.is (λ reads. cc)
+    (keeps-it v w c.args.held.now s at.member at.is (λ ledger stands. dead-rests v ledger s at.member c.requires.died.0 at.at stands) c.close.ensures.writes c.close.ensures.keeps) (c.in_default.ensures.counts.cause refl)
+
+pub returns-clause-answers : goal.returns-clause-answers
+returns-clause-answers g c alive =
+    let at = c.requires.died.1 in
+    subst IsAlive (ap stand_of at.is ∙ ap (λ st. seat_with st [] []) at.at) alive
+
+pub returns-clause-comes : goal.returns-clause-comes
+returns-clause-comes g c =
+    let v = g.D.Disk.view c.args.disk.now in
+    let w = g.D.Disk.view c.close.new.disk in
+    let s = c.args.s.number in
+    let held = c.args.held.now in
+    let at = c.requires.died.1 in
+    let comes = c.set_stage.ensures.comes in
+    let same : comes.0 ≡ at.member = one-member held.members s comes.0 at.member comes.1 at.is in
+    subst (λ new. Does s outside (λ h k. IsUndone s c.moment.result.number h k) (sight_of v held) (sight_of w new))
+    (sym (comes.2 ∙ ap (λ (x : Member). with_member s (at_stage stage.Outside x) held) same))
+    (does-bury v w held s c.moment.result.number at.member c.requires.died.0 at.is at.at c.close.ensures.writes c.close.ensures.keeps c.moment.ensures)

@@ -1,0 +1,32 @@
+use Rattle.std.proofs.Common.{◌≡◌, refl, sym, subst, ap, ◌∙◌}
+use Rattle.line_store.specs.Calls.{IsDone}
+use Rattle.line_store.specs.Seats.{done_at}
+use Rattle.line_store.specs.Sights.{Does, seat_or}
+use Rattle.disk_store.specs.declared.member.Member.{Member}
+use Rattle.disk_store.specs.declared.member.MemberStage.TheVariants as stage
+use Rattle.disk_store.specs.Memory.{with_member, at_stage}
+use Rattle.disk_store.specs.Seats.{stand_at}
+use Rattle.disk_store.specs.Shown.{sight_of}
+use Rattle.disk_store.proofs.Failing.{does-fail}
+use Rattle.disk_store.proofs.Closing.{ended-at, ended-plain, ended-rests, keeps-it, does-close, one-member}
+use Rattle.disk_store.proofs.endings.put_away.Goals as goal
+
+pub returns-in_default-clause-comes : goal.returns-in_default-clause-comes
+returns-in_default-clause-comes g c =
+    let v = g.D.Disk.view c.args.disk.now in
+    let w = g.D.Disk.view c.close.new.disk in
+    let at = ended-at c.args.held.now.members c.args.s.number c.requires.ended in
+    does-fail v w c.args.held.now c.args.s.number at.member at.is (ended-plain at.member.stage at.ended)
+    (keeps-it v w c.args.held.now c.args.s.number at.member at.is (λ ledger stands. ended-rests at.member.stage at.ended v ledger c.args.s.number at.member stands) c.close.ensures.writes c.close.ensures.keeps) (c.in_default.ensures.counts.cause refl)
+
+pub returns-clause-comes : goal.returns-clause-comes
+returns-clause-comes g c =
+    let v = g.D.Disk.view c.args.disk.now in
+    let w = g.D.Disk.view c.close.new.disk in
+    let s = c.args.s.number in
+    let at = ended-at c.args.held.now.members s c.requires.ended in
+    let comes = c.set_stage.ensures.comes in
+    let same : comes.0 ≡ at.member = one-member c.args.held.now.members s comes.0 at.member comes.1 at.is in
+    subst (λ held. Does s (seat_or (stand_at c.args.held.now.members s) (done_at (stand_at c.args.held.now.members s))) (λ h g. IsDone s h g) (sight_of v c.args.held.now) (sight_of w held))
+    (sym (comes.2 ∙ ap (λ (x : Member). with_member s (at_stage stage.Outside x) c.args.held.now) same))
+    (does-close v w c.args.held.now s at.member at.is at.ended c.close.ensures.writes c.close.ensures.keeps)

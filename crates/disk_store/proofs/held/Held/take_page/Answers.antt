@@ -1,0 +1,30 @@
+use Rattle.std.proofs.Common.{ap, subst}
+use Rattle.disk_store.specs.declared.held.Tables.{Tables}
+use Rattle.disk_store.specs.Memory.{StoreMemory, with_tables}
+use Rattle.disk_store.specs.Taken.{TakesIn}
+use Rattle.disk_store.proofs.Tabled.{takes-catalog, takes-relations, takes-indexes}
+use Rattle.disk_store.proofs.held.Held.take_page.Goals as goal
+
+pub returns-in-1 : goal.returns-in-1
+returns-in-1 c =
+    let kept : Tables = record { catalog = c.take_page.new.self; relations = c.self.inside.tables.relations; indexes = c.self.inside.tables.indexes } in (
+      kept,
+      ap (λ (k : StoreMemory). with_tables kept k) c.self.view_is,
+      subst (λ (k : StoreMemory). TakesIn c.args.file c.args.page c.args.area c.args.class k.tables kept) c.self.view_is (takes-catalog c.args.file c.args.page c.args.area c.args.class c.self.inside.tables c.take_page.new.self c.in-1.is c.take_page.ensures),
+    )
+
+pub returns-in-2 : goal.returns-in-2
+returns-in-2 c =
+    let kept : Tables = record { catalog = c.self.inside.tables.catalog; relations = c.take_page-in-2.new.self; indexes = c.self.inside.tables.indexes } in (
+      kept,
+      ap (λ (k : StoreMemory). with_tables kept k) c.self.view_is,
+      subst (λ (k : StoreMemory). TakesIn c.args.file c.args.page c.args.area c.args.class k.tables kept) c.self.view_is (takes-relations c.args.file c.args.page c.args.area c.args.class c.self.inside.tables c.take_page-in-2.new.self c.in-2.is c.take_page-in-2.ensures),
+    )
+
+pub returns-in-3 : goal.returns-in-3
+returns-in-3 c =
+    let kept : Tables = record { catalog = c.self.inside.tables.catalog; relations = c.self.inside.tables.relations; indexes = c.take_page-in-3.new.self } in (
+      kept,
+      ap (λ (k : StoreMemory). with_tables kept k) c.self.view_is,
+      subst (λ (k : StoreMemory). TakesIn c.args.file c.args.page c.args.area c.args.class k.tables kept) c.self.view_is (takes-indexes c.args.file c.args.page c.args.area c.args.class c.self.inside.tables c.take_page-in-3.new.self c.in-3.is c.take_page-in-3.ensures),
+    )

@@ -1,0 +1,49 @@
+use Rattle.std.proofs.Common.{⊎_elim, sym, ap, subst, ◌∙◌, arith}
+use Rattle.rdb_types.specs.declared.keys.Limits.{Limits}
+use Rattle.rdb_outside.specs.Disk.{IsPending}
+use Rattle.rdb_outside.specs.Moments.{each_slot}
+use Rattle.line_store.specs.Shelves.{Shelf}
+use Rattle.line_store.specs.Rooms.{Takes}
+use Rattle.line_store.specs.Sights.{Does}
+use Rattle.page_table.specs.Pages.{Pages}
+use Rattle.page_table.specs.Scans.{IsNew}
+use Rattle.member_rooms.specs.Classes.{IsClassOf, HasNoOwned}
+use Rattle.disk_store.specs.Memory.{StoreMemory}
+use Rattle.disk_store.specs.Seats.{stand_at}
+use Rattle.disk_store.specs.Shown.{pages_of, TablesStand, Shown, sight_of}
+use Rattle.disk_store.proofs.Tabled.{stand-as, stand-anew}
+use Rattle.disk_store.proofs.Taking.{stays, takes-again, takes-page}
+use Rattle.disk_store.proofs.rooms.take_room.Goals as goal
+
+pub unreachable-requires : goal.unreachable-requires
+unreachable-requires g c = c.in_default.ensures.none c.requires.area.0 c.requires.area.1
+
+pub returns-then-not-is_new-clause-taken : goal.returns-then-not-is_new-clause-taken
+returns-then-not-is_new-clause-taken g c is =
+    takes-again (g.D.Disk.view c.args._disk.now) c.args.held.now c.args._s.number c.in-Some.file c.args.class c.args.key c.in-Some.ensures.found
+    (λ new. c.is_new.ensures.no c.if-not-is_new.true (subst (λ (ps : Pages). IsNew ps c.args.key.page) (sym c.table.ensures) new))
+
+pub returns-then-not-is_new-clause-refused : goal.returns-then-not-is_new-clause-refused
+returns-then-not-is_new-clause-refused g c not = stays (g.D.Disk.view c.args._disk.now) c.args.held.now c.args._s.number
+
+pub returns-clause-taken : goal.returns-clause-taken
+returns-clause-taken g c is =
+    let v = g.D.Disk.view c.args._disk.now in
+    let held : StoreMemory = c.args.held.now in
+    let s = c.args._s.number in
+    let file = c.in-Some.file in
+    let owner = c.in-Some.ensures.found in
+    let kept = c.take_page.ensures.0 in
+    let new : IsNew (pages_of held.tables file) c.args.key.page = subst (λ (ps : Pages). IsNew ps c.args.key.page) c.table.ensures (c.is_new.ensures.yes c.if-not-is_new.false) in
+    let takes = c.take_page.ensures.2 in
+    let stand : (h : Shelf) (shown : Shown v held h) → TablesStand v shown.ledger kept = λ h shown.
+    let now : IsPending v v.content = each_slot v v.content (g.met.D.Disk.content_left c.args._disk.now v.moment shown.tells (omega arith)) in
+    ⊎_elim
+    (λ (has : IsClassOf c.table-2.result.now c.args.key.area c.class_for-its.result). stand-as v shown.ledger held.tables shown.facts shown.tables now file c.args.key.area owner kept c.args.key.page c.class_for-its.result new takes
+    (subst (λ (ps : Pages). IsClassOf ps c.args.key.area c.class_for-its.result) c.table-2.ensures has))
+    (λ (none : HasNoOwned c.table-2.result.now c.args.key.area). stand-anew v shown.ledger held.tables shown.facts shown.tables now file c.args.key.area owner kept c.args.key.page c.class_for-its.result new takes
+    (λ f. shown.space.pages.limit f ∙ ap (λ (l : Limits). l.pages) (shown.space.limits ∙ sym shown.limits))
+    (subst (λ (ps : Pages). HasNoOwned ps c.args.key.area) c.table-2.ensures none))
+    c.class_for-its.ensures in
+    subst (λ (x : StoreMemory). Does s (stand_at held.members s) (Takes c.args.key) (sight_of v held) (sight_of v x)) (sym c.take_page.ensures.1)
+    (takes-page v held s file c.class_for-its.result c.args.key owner kept new takes stand)

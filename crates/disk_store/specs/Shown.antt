@@ -1,0 +1,133 @@
+-- What a store on a disk shows.
+use Rattle.std.specs.Prelude.{ℕ, ◌+◌, ◌-◌, ◌≤◌, ◌≡◌, ◌⊎◌, ◌==◌, Bool, true, IsTrue, if◌then◌else◌, List, [], length, replicate, Option, Some, None, slice_get}
+use Rattle.rdb_types.specs.declared.keys.Dbkey.{Dbkey}
+use Rattle.rdb_page.specs.Page.{IsOwner}
+use Rattle.rdb_outside.specs.Disk.{View, Pending}
+use Rattle.line_view.specs.Knowledge.{Lines, line_in}
+use Rattle.line_store.specs.Seats.{Seat, outside}
+use Rattle.line_store.specs.Shelves.{Space, Shelf}
+use Rattle.line_store.specs.Sights.{Sight}
+use Rattle.snapshot_file.specs.Slots.{left_in}
+use Rattle.line_versions.specs.Course.{Course, Reading}
+use Rattle.stable_lines.specs.Slots.{IsAreaFile}
+use Rattle.line_opening.specs.Passing.{IsNext}
+use Rattle.line_opening.specs.declared.groups.NextGroup.{NextGroup}
+use Rattle.line_moves.specs.declared.places.Place.{Place}
+use Rattle.line_moves.specs.Changes.{IsForArea}
+use Rattle.line_moves.specs.Classes.{HaveTheirClasses}
+use Rattle.disk_seats.specs.Ledgers.{resting, Ledger}
+use Rattle.disk_seats.specs.Members.{LedgerFacts}
+use Rattle.member_steps.specs.Beginning.{HasCeiling}
+use Rattle.page_table.specs.Pages.{Pages, nobodys, owner_in, class_in, IsWithin}
+use Rattle.committed_tables.specs.Tables.{HasCommitted, WereUsed}
+use Rattle.version_writing.specs.Slots.{SlotTable}
+use Rattle.version_writing.specs.Tables.{HoldsAll}
+use Rattle.ledger_versions.specs.Readers.{ReaderFacts, Waiting}
+use Rattle.store_shows.specs.Shows.{Leaves, ShowsLines}
+use Rattle.store_shows.specs.Rooms.{HasPages}
+use Rattle.member_memory.specs.Memory.{writes_in}
+use Rattle.disk_store.specs.declared.member.Member.{Member}
+use Rattle.disk_store.specs.declared.member.MemberStage.{MemberStage}
+use Rattle.disk_store.specs.declared.member.MemberStage.TheVariants as stage
+use Rattle.disk_store.specs.declared.held.Numbers.{Numbers}
+use Rattle.disk_store.specs.declared.held.Tables.{Tables}
+use Rattle.disk_store.specs.Memory.{StoreMemory}
+use Rattle.disk_store.specs.Seats.{seat_with, stand_at, steps_at}
+use Rattle.disk_store.specs.Standing.{StageStands}
+
+-- ---- sessions
+
+-- A session's seat is that of its member, whose memory stands as its stage says.
+pub record SitsAs (v : View) (g : Ledger) (s : ℕ) (m : Member) (seat : Seat) : Type 0 where
+  pub start : Lines
+  pub is : seat ≡ seat_with m.stage (writes_in m.written.lines) start
+  pub stands : StageStands m.stage v g s m
+
+abbrev pub Sits : View → Ledger → ℕ → Option Member → Seat → Type 0
+Sits v g s None seat = (seat ≡ outside) × (g.standing s ≡ resting)
+Sits v g s (Some m) seat = SitsAs v g s m seat
+
+-- ---- numbers
+
+-- Numbers below the ceiling may be drawn, and the next group is written where the journal ends.
+pub record NumbersStand (v : View) (g : Ledger) (numbers : Numbers) (next : NextGroup) : Type 0 where
+  pub number : g.base.next_tsn ≡ numbers.next
+  pub first : 1 ≤ numbers.next
+  pub ceiling : HasCeiling (Pending v) numbers.ceiling
+  pub group : IsNext g.base.journal next
+
+-- ---- pages
+
+-- the table of an area file, and of any other number one without owners
+abbrev pub pages_of : Tables → ℕ → Pages
+pages_of tables file = if file == 1 then tables.catalog else (if file == 2 then tables.relations else (if file == 3 then tables.indexes else replicate (length tables.indexes) nobodys))
+
+-- The tables have the committed lines, and of each page the area whose it is or may become, and its class.
+pub record TablesStand (v : View) (g : Ledger) (tables : Tables) : Type 0 where
+  pub committed : (file : ℕ) → IsAreaFile file → HasCommitted (pages_of tables file) file g.base.lines
+  pub classes : ℕ → ℕ
+  pub lie : HaveTheirClasses classes v.content
+  pub class : (file page : ℕ) → IsWithin (pages_of tables file) page → IsOwner file (owner_in (pages_of tables file) page) → class_in (pages_of tables file) page ≡ classes (owner_in (pages_of tables file) page)
+  pub owned : (place : Place) (area : ℕ) → IsAreaFile place.file → IsWithin (pages_of tables place.file) place.page
+      → (owner_in (pages_of tables place.file) place.page ≡ 0) ⊎ (owner_in (pages_of tables place.file) place.page ≡ area) → IsForArea (Pending v) place area
+
+-- ---- versions
+
+-- a reader goes on, which came to its start's lines
+pub record IsReading (course : Course) (s : ℕ) (m : Member) (start : Lines) : Type 0 where
+  pub reading : Reading
+  pub goes : course.reader s ≡ Some reading
+  pub kept : m.reader ≡ Some reading.start
+  pub lines : (key : Dbkey) → reading.lines key ≡ line_in key start
+
+-- what of a member's memory waits to be put on pages
+abbrev pub WaitsAs : MemberStage → Waiting → ℕ → Member → Type 0
+WaitsAs stage.Writing waiting s m = waiting s ≡ m.written.lines
+WaitsAs stage.Prepared waiting s m = waiting s ≡ m.written.lines
+WaitsAs (stage.Committing turn) waiting s m = waiting s ≡ m.written.lines
+WaitsAs _ waiting s m = Unit {0}
+
+-- Each reader comes to its lines, and the slots of the snapshot files that are followed are in use.
+pub record VersionsStand (v : View) (g : Ledger) (held : StoreMemory) (h : Shelf) : Type 0 where
+  pub course : Course
+  pub waiting : Waiting
+  pub readers : ReaderFacts v g held.limits.snaps course waiting
+  pub slots : HoldsAll v.content course.followed held.limits.snaps held.slots
+  pub waits : (s : ℕ) (m : Member) → slice_get held.members s ≡ Some m → WaitsAs m.stage waiting s m
+  pub reading : (s : ℕ) (m : Member) (start : Lines) → slice_get held.members s ≡ Some m → m.stage ≡ stage.Reading → h.seat s ≡ seat_with stage.Reading [] start → IsReading course s m start
+
+-- ---- space
+
+-- how many slots of a snapshot file are in use or set aside
+abbrev pub used_in : SlotTable → ℕ
+used_in table = (length table.slots - left_in table.slots) + table.aside
+
+pub record SpaceStands (held : StoreMemory) (space : Space) : Type 0 where
+  pub limits : space.limits ≡ held.limits
+  pub pages : HasPages (pages_of held.tables) space
+  pub snaps : space.snaps ≡ used_in held.slots.catalog + used_in held.slots.relations + used_in held.slots.indexes
+  pub slots : space.slots ≡ held.next.slot - 1
+
+-- ---- all of it
+
+pub record Shown (v : View) (held : StoreMemory) (h : Shelf) : Type 0 where
+  pub tells : IsTrue v.tells
+  pub ledger : Ledger
+  pub facts : LedgerFacts v ledger
+  pub limits : ledger.base.limits ≡ held.limits
+  pub lines : ShowsLines v ledger h
+  pub seats : (s : ℕ) → Sits v ledger s (slice_get held.members s) (h.seat s)
+  pub steps : (s : ℕ) → h.steps s ≡ steps_at held.members s
+  pub numbers : NumbersStand v ledger held.numbers held.next
+  pub tables : TablesStand v ledger held.tables
+  pub versions : VersionsStand v ledger held h
+  pub space : SpaceStands held h.space
+
+-- what a store on a disk shows, of its disk and its memory
+abbrev pub sight_of : View → StoreMemory → Sight
+sight_of v held = record {
+  shows = Shown v held;
+  stand = stand_at held.members;
+  steps = steps_at held.members;
+  left = Leaves v;
+}

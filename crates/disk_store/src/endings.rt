@@ -1,0 +1,47 @@
+// What an ended transaction left is put away: one write, which closes its header. Of a session that died, too.
+ghost use Rattle.std.specs.Prelude.{◌⊎◌, Bool};
+ghost use Rattle.line_store.specs.Seats.{IsMember};
+ghost use Rattle.line_store.specs.Sights.{Does, Steps, stepped_to, MayAnswer};
+ghost use Rattle.disk_store.specs.declared.member.MemberStage.TheVariants as stage;
+ghost use Rattle.disk_store.specs.declared.member.Recovery.TheVariants as recovery;
+ghost use Rattle.disk_store.specs.Seats.{stand_at, IsAtStage};
+ghost use Rattle.disk_store.specs.Shown.{sight_of};
+
+use crate::{Held, MemberStage};
+use disk_seats::close;
+use line_store::{Fault, Stepped};
+use rdb_outside::Disk;
+use rdb_types::Session;
+
+/// A step of a session whose transaction is rolled back, or is committed: its header is closed.
+pub fn put_away<D: Disk>(disk: &mut D, held: &mut Held, s: Session) -> Result<Stepped, Fault>
+    requires member { IsMember s.number }
+    requires ended { IsAtStage held.old.members s.number stage.RollingBack ⊎ IsAtStage held.old.members s.number stage.Closing }
+    ensures answers { MayAnswer (stand_at held.old.members s.number) result }
+    ensures comes { Does s.number (stepped_to (stand_at held.old.members s.number) result)
+        (Steps s.number result) (sight_of (D.view disk.old) held.old) (sight_of (D.view disk.new) held.new) }
+{
+    let Ok(()) = close(disk, s.number) else {
+        return Err(Fault::Failed);
+    };
+    held.set_stage(s, MemberStage::Outside);
+    Ok(Stepped::Done)
+}
+
+/// A step of the recovery of a session that died without a page written: its header is closed, and its transaction is undone.
+pub fn bury<D: Disk>(disk: &mut D, held: &mut Held, s: Session) -> Result<Stepped, Fault>
+    requires member { IsMember s.number }
+    requires died { (commits : Bool) × IsAtStage held.old.members s.number (stage.Dead commits recovery.Ending) }
+    ensures answers { MayAnswer (stand_at held.old.members s.number) result }
+    ensures comes { Does s.number (stepped_to (stand_at held.old.members s.number) result)
+        (Steps s.number result) (sight_of (D.view disk.old) held.old) (sight_of (D.view disk.new) held.new) }
+{
+    let Ok(()) = close(disk, s.number) else {
+        return Err(Fault::Failed);
+    };
+    held.set_stage(s, MemberStage::Outside);
+    Ok(Stepped::Recovered {
+        is_committed: false,
+        moment: disk.moment(),
+    })
+}

@@ -1,0 +1,83 @@
+// What a store keeps in memory.
+ghost use Rattle.std.specs.Prelude.{◌≡◌, ◌<◌, Some, length, slice_get};
+ghost use Rattle.line_store.specs.Seats.{IsMember};
+ghost use Rattle.disk_store.specs.declared.member.Member.{Member as Sits};
+ghost use Rattle.disk_store.specs.Memory.{at_stage, with_member, with_number};
+
+use crate::{Member, MemberStage};
+use line_opening::NextGroup;
+use member_memory::MemberLines;
+use page_table::PageTable;
+use rdb_types::{Limits, Session, Tsn};
+use std::alloc::Global;
+use std::marker::Model;
+use version_writing::SnapshotSlots;
+
+/// The number of the next transaction, and the ceiling that each root has which a crash may leave: numbers below it may be drawn.
+#[derive(Clone, Copy, Debug, PartialEq, Eq)]
+pub struct Numbers {
+    pub next: u64,
+    pub ceiling: u64,
+}
+
+/// The pages of the three area files.
+#[derive(Drop)]
+pub struct Tables {
+    pub catalog: PageTable,
+    pub relations: PageTable,
+    pub indexes: PageTable,
+}
+
+/// All that a store keeps beside its disk: the limits of the files; the numbers; where the next group is written; pages and slots of the snapshot files; and of each session, in the place of its number, where it is.
+#[derive(Drop)]
+pub struct Held {
+    pub(crate) limits: Limits,
+    pub(crate) numbers: Numbers,
+    pub(crate) next: NextGroup,
+    pub(crate) tables: Tables,
+    pub(crate) slots: SnapshotSlots,
+    pub(crate) members: Vec<Member>,
+    pub(crate) alloc: Global,
+}
+
+impl Model for Held {
+    ghost use Rattle.std.specs.Prelude.{◌≡◌, length};
+    ghost use Rattle.disk_store.specs.Memory.{StoreMemory};
+
+    ghost Value = { StoreMemory };
+
+    ghost view = { λ h. record { limits = h.limits; numbers = h.numbers; next = h.next; tables = h.tables; slots = h.slots; members = h.members.items } };
+
+    ghost invariant = { λ h. length h.members.items ≡ 17 };
+}
+
+impl Held {
+    // A session comes to another stage.
+    pub(crate) fn set_stage(&mut self, s: Session, next: MemberStage)
+        requires { IsMember s.number }
+        ensures within { s.number < length self.old.members }
+        ensures comes { (m : Sits) × (slice_get self.old.members s.number ≡ Some m)
+            × (self.new ≡ with_member s.number (at_stage next m) self.old) }
+    {
+        let member = &mut self.members[s.number as usize];
+        member.stage = next;
+    }
+
+    // A session that begins draws the next number.
+    pub(crate) fn draw_number(&mut self, s: Session)
+        requires member { IsMember s.number }
+        requires below { self.old.numbers.next < self.old.numbers.ceiling }
+        ensures { (m : Sits) × (slice_get self.old.members s.number ≡ Some m)
+            × (self.new ≡ with_number s.number m self.old) }
+    {
+        let number = self.numbers.next;
+        let _ceiling = self.numbers.ceiling;
+        let member = &mut self.members[s.number as usize];
+        member.stage = MemberStage::Writing;
+        member.tsn = Tsn { number };
+        member.written = MemberLines::new(self.alloc);
+        member.journalled = 0;
+        member.pushed = 0;
+        self.numbers.next = number + 1;
+    }
+}

@@ -1,0 +1,29 @@
+//! The store of lines on a disk: what it keeps in memory beside its disk, what it shows of both as the trait of stores asks for it, and its calls.
+#![tactic(auto)]
+
+mod before_images;
+mod beginning;
+mod dying;
+mod endings;
+mod held;
+mod laws;
+mod learning;
+mod member;
+mod moves;
+mod preparing;
+mod restoring;
+mod rolling;
+mod rooms;
+
+pub use beginning::draw;
+pub use dying::die;
+pub use endings::{bury, put_away};
+pub use held::{Held, Numbers, Tables};
+pub use laws::the_sight_is_right;
+pub use learning::learn_written;
+pub use member::{Member, MemberStage, Recovery};
+pub use moves::{begin, commit, give_back};
+pub use preparing::prepare;
+pub use restoring::restore;
+pub use rolling::roll_back;
+pub use rooms::{room, take_room};

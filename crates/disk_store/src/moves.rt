@@ -1,0 +1,40 @@
+// Calls that change where a session stands, and nothing on the disk.
+ghost use Rattle.std.specs.Prelude.{◌≡◌, []};
+ghost use Rattle.line_store.specs.Seats.{IsMember, IsPrepared, outside, beginning, writing, committing};
+ghost use Rattle.line_store.specs.Calls.{Moves};
+ghost use Rattle.line_store.specs.Sights.{Does, GivesBack, BeginsCommit, StandsAlone};
+ghost use Rattle.disk_store.specs.Seats.{stand_at};
+ghost use Rattle.disk_store.specs.Shown.{sight_of};
+
+use crate::{Held, MemberStage};
+use member_steps::CommitTurn;
+use rdb_outside::Disk;
+use rdb_types::Session;
+
+/// A session begins a read-write transaction.
+pub fn begin<D: Disk>(_disk: &D, held: &mut Held, s: Session)
+    requires member { IsMember s.number }
+    requires outside { stand_at held.old.members s.number ≡ outside }
+    ensures { Does s.number beginning (Moves s.number beginning) (sight_of (D.view _disk.now) held.old) (sight_of (D.view _disk.now) held.new) }
+{
+    held.set_stage(s, MemberStage::Beginning);
+}
+
+/// What was set aside for a session's commit is given back.
+pub fn give_back<D: Disk>(_disk: &D, held: &mut Held, s: Session)
+    requires member { IsMember s.number }
+    requires prepared { IsPrepared (stand_at held.old.members s.number) }
+    ensures { Does s.number (writing []) (GivesBack s.number) (sight_of (D.view _disk.now) held.old) (sight_of (D.view _disk.now) held.new) }
+{
+    held.set_stage(s, MemberStage::Writing);
+}
+
+/// A session that is prepared begins to commit.
+pub fn commit<D: Disk>(_disk: &D, held: &mut Held, s: Session)
+    requires member { IsMember s.number }
+    requires prepared { IsPrepared (stand_at held.old.members s.number) }
+    requires alone { StandsAlone s.number (sight_of (D.view _disk.now) held.old) }
+    ensures { Does s.number (committing []) (BeginsCommit s.number) (sight_of (D.view _disk.now) held.old) (sight_of (D.view _disk.now) held.new) }
+{
+    held.set_stage(s, MemberStage::Committing(CommitTurn::Entering(0)));
+}

@@ -1,0 +1,10 @@
+//! Rooms for a session on a disk, by the table of an area file's pages and by what its transaction wrote.
+#![tactic(auto)]
+
+mod classes;
+mod laws;
+mod rooms;
+
+pub use classes::class_of;
+pub use laws::rooms_beside_are_shown;
+pub use rooms::{is_new, next_room};
