@@ -6,10 +6,9 @@ ghost use Rattle.line_view.specs.Held.{knows};
 ghost use Rattle.relation_rows.specs.Stored.{IsAreaKnown};
 ghost use Rattle.areas_at_rest.specs.Runs.{IsQuiet, AtRest};
 
-use before_images::OpenTransaction;
 use line_opening::OpeningFault;
 use line_view::Known;
-use lines_at_rest::{learn_area, read_area};
+use lines_at_rest::{RestReading, learn_area, read_area};
 use rdb_outside::Disk;
 use std::alloc::Global;
 
@@ -17,13 +16,13 @@ use std::alloc::Global;
 pub fn view_of<D: Disk>(
     alloc: Global,
     disk: &mut D,
-    held: &[OpenTransaction],
+    held: &RestReading,
     area: u32,
 ) -> Result<Known, OpeningFault>
     ensures known { IfOk result (λ known. IsAreaKnown (knows known) area) }
     ensures agrees { IfOk result (λ known. (file : ℕ) → IsOwner file area
         → AtRest (D.view disk.old) held.now (λ all. Agrees (knows known) all)) }
-    ensures quiet { IsQuiet (D.view disk.old) (D.view disk.new) result }
+    ensures quiet { IsQuiet held.now.faulty (D.view disk.old) (D.view disk.new) result }
 {
     let mut known = Known::new(alloc);
     learn_area(alloc, disk, held, area, &mut known)?;
@@ -34,12 +33,12 @@ pub fn view_of<D: Disk>(
 pub fn count_lines<D: Disk>(
     alloc: Global,
     disk: &mut D,
-    held: &[OpenTransaction],
+    held: &RestReading,
     area: u32,
 ) -> Result<u64, OpeningFault>
     ensures count { IfOk result (λ count. (file : ℕ) → IsOwner file area
         → AtRest (D.view disk.old) held.now (λ all. count ≡ length (lines_in area all))) }
-    ensures quiet { IsQuiet (D.view disk.old) (D.view disk.new) result }
+    ensures quiet { IsQuiet held.now.faulty (D.view disk.old) (D.view disk.new) result }
 {
     let found = read_area(alloc, disk, held, area)?;
     Ok(found.len() as u64)

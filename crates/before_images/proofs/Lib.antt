@@ -1,4 +1,5 @@
 mod Before
+mod Elsewhere
 mod Held
 mod Laid
 mod Numbers

@@ -2,6 +2,8 @@
 use Rattle.std.specs.Prelude.{ℕ, ◌≡◌, ◌==◌, List, [], ◌∷◌, Option, Some, None, if◌then◌else◌, unwrap_or}
 use Rattle.std.specs.FinMap.Entries.{find}
 use Rattle.rdb_types.specs.Order.{dbkey_order}
+use Rattle.rdb_types.specs.declared.file.FileId.{FileId}
+use Rattle.rdb_types.specs.declared.file.FileKind.TheVariants.{Area}
 use Rattle.rdb_types.specs.declared.keys.Dbkey.{Dbkey}
 use Rattle.rdb_types.specs.declared.keys.Tsn.{Tsn}
 use Rattle.rdb_types.specs.declared.keys.Line.{Line}
@@ -40,3 +42,7 @@ laid held key line = unwrap_or (find dbkey_order key (held_of line.tsn.number he
 -- laid over the image, they make each line the one that the image stands for
 abbrev pub LaysLines : Image → List Group → List OpenTransaction → Type 0
 LaysLines image groups held = (key : Dbkey) → LineIs image groups key (laid held key (line_at image key))
+
+-- an image with the same files, but for those of the areas
+abbrev pub HasOtherFiles : Image → Image → Type 0
+HasOtherFiles image other = (file : FileId) (slot : ℕ) → (file.kind ≡ Area → ⊥) → other file slot ≡ image file slot

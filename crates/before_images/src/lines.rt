@@ -4,11 +4,11 @@ ghost use Rattle.std.specs.FinMap.Entries.{find};
 ghost use Rattle.rdb_types.specs.Order.{dbkey_order};
 ghost use Rattle.rdb_types.specs.declared.file.FileId.{FileId as File};
 ghost use Rattle.rdb_outside.specs.Causes.{Rose};
-ghost use Rattle.rdb_outside.specs.Disk.{OnlyReads};
+ghost use Rattle.rdb_outside.specs.Disk.{OnlyReads, Image as Content};
 ghost use Rattle.stable_lines.specs.Slots.{IsMember, ruj_file as ruj_named};
 ghost use Rattle.stable_lines.specs.Kept.{IsRujHeader};
 ghost use Rattle.stable_lines.specs.Journal.{Journal, IsJournalOf};
-ghost use Rattle.before_images.specs.Before.{laid, LaysLines};
+ghost use Rattle.before_images.specs.Before.{laid, LaysLines, HasOtherFiles};
 ghost use Rattle.before_images.specs.Open.{HoldsMore};
 
 use crate::entries::read_entries;
@@ -61,10 +61,11 @@ pub fn read_before_images<D: Disk>(
     alloc: Global,
     disk: &mut D,
 ) -> Result<BeforeImages, OpeningFault>
-    // Laid over the lines as they stand, they give those that the disk's content stands for.
+    // Laid over the lines as they stand, they give those that the disk's content stands for, and whatever stands in the area files.
     ensures lays { IfOk result (λ held. IsTrue (D.view disk.old).tells
         → (journal : Journal) → IsJournalOf (D.view disk.old).content journal
-        → LaysLines (D.view disk.old).content journal.groups held) }
+        → (image : Content) → HasOtherFiles (D.view disk.old).content image
+        → LaysLines image journal.groups held) }
 
     // It doesn't give up by itself.
     ensures failed { IsErrOf result OpeningFault.Failed

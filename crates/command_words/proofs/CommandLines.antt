@@ -4,7 +4,7 @@ use Rattle.std.specs.Prelude.{codes, replicate, ◌++◌, true, false}
 use Rattle.command_words.specs.Orders.{is_order}
 use Rattle.command_words.specs.Words.{command_of, database_place, word_of, order_in}
 use Rattle.command_words.specs.declared.words.Command.{Command}
-use Rattle.command_words.specs.declared.words.Command.TheVariants.{Rdo}
+use Rattle.command_words.specs.declared.words.Command.TheVariants.{Rdo, Verify, Dump, DumpPage}
 
 -- `RDO --ORDER=1,2 PERS a b`
 in_turns : List (List ℕ)
@@ -83,3 +83,20 @@ thousand = refl
 one_more : is_order 1 (turns 1000) ≡ false
 unfolding turns
 one_more = refl
+
+-- the commands of RMU
+verify : command_of (codes "rmu/Verify" ∷ codes "PERS" ∷ []) ≡ Some Verify
+verify = refl
+
+dump : command_of (codes "RMU/DUMP" ∷ codes "PERS" ∷ []) ≡ Some Dump
+dump = refl
+
+page : command_of (codes "RMU/DUMP/PAGE" ∷ codes "PERS" ∷ codes "2" ∷ codes "65536" ∷ []) ≡ Some (DumpPage (record { file = 2; page = 65536 }))
+page = refl
+
+page-place : database_place (codes "RMU/DUMP/PAGE" ∷ codes "PERS" ∷ codes "2" ∷ codes "1" ∷ []) ≡ Some 1
+page-place = refl
+
+-- two databases, no database, a fourth area file, no page
+no_rows : (command_of (codes "RMU/VERIFY" ∷ codes "A" ∷ codes "B" ∷ []) ≡ None) × (command_of (codes "RMU/DUMP" ∷ []) ≡ None) × (command_of (codes "RMU/DUMP/PAGE" ∷ codes "A" ∷ codes "4" ∷ codes "1" ∷ []) ≡ None) × (command_of (codes "RMU/DUMP/PAGE" ∷ codes "A" ∷ codes "1" ∷ codes "0" ∷ []) ≡ None) × (command_of (codes "RMU/DUMP/PAGE" ∷ codes "A" ∷ codes "1" ∷ []) ≡ None)
+no_rows = (refl, refl, refl, refl, refl)

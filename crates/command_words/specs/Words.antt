@@ -5,12 +5,13 @@ use Rattle.rdb_types.specs.declared.keys.Limits.{Limits}
 use Rattle.std.specs.Char.{is_ascii_alphabetic, is_ascii_digit}
 use Rattle.root_file.specs.Root.{AreLimits}
 use Rattle.command_words.specs.Bytes.{upper_of, behind}
-use Rattle.command_words.specs.Options.{ask, limits_of, nothing_asked}
+use Rattle.command_words.specs.Options.{ask, limits_of, nothing_asked, number_in}
 use Rattle.command_words.specs.Orders.{is_order, sessions_in}
 use Rattle.command_words.specs.declared.options.Asked.{Asked}
 use Rattle.command_words.specs.declared.words.Scripts.{Scripts}
 use Rattle.command_words.specs.declared.words.Command.{Command}
-use Rattle.command_words.specs.declared.words.Command.TheVariants.{New, Rdo}
+use Rattle.command_words.specs.declared.words.PagePlace.{PagePlace}
+use Rattle.command_words.specs.declared.words.Command.TheVariants.{New, Rdo, Verify, Dump, DumpPage}
 
 -- a letter, a digit or `_`
 abbrev pub is_database_byte : ℕ → Bool
@@ -64,18 +65,52 @@ abbrev pub as_new : Option Limits → Option Command
 as_new None = None
 as_new (Some l) = Some (New l)
 
+-- a database alone
+abbrev pub is_one_database : List (List ℕ) → Bool
+is_one_database [] = false
+is_one_database (d ∷ []) = is_database d
+is_one_database (d ∷ w ∷ ws) = false
+
+-- an area file from 1 to 3 and a page of it from 1 to 65,536
+abbrev pub place_of : Option ℕ → Option ℕ → Option PagePlace
+place_of None page = None
+place_of (Some file) None = None
+place_of (Some file) (Some page) = Some (record { file = file; page = page })
+
+-- a database, an area file and a page
+abbrev pub page_words : List (List ℕ) → Option PagePlace
+page_words [] = None
+page_words (d ∷ []) = None
+page_words (d ∷ f ∷ []) = None
+page_words (d ∷ f ∷ p ∷ []) = if is_database d then place_of (number_in 1 3 f) (number_in 1 65536 p) else None
+page_words (d ∷ f ∷ p ∷ w ∷ ws) = None
+
+abbrev pub as_page : Option PagePlace → Option Command
+as_page None = None
+as_page (Some place) = Some (DumpPage place)
+
+-- a command of RMU, and the words behind it
+abbrev pub rmu_command : List ℕ → List (List ℕ) → Option Command
+rmu_command c ws =
+    if is_command (codes "RMU/VERIFY") c then (if is_one_database ws then Some Verify else None)
+    else (if is_command (codes "RMU/DUMP") c then (if is_one_database ws then Some Dump else None)
+    else (if is_command (codes "RMU/DUMP/PAGE") c then as_page (page_words ws) else None))
+
 -- the row of the table of commands that the words are
 abbrev pub command_of : List (List ℕ) → Option Command
 command_of [] = None
 command_of (c ∷ ws) =
     if is_command (codes "RDO") c then as_rdo (rdo_words ws)
-    else (if is_command (codes "NEW") c then as_new (new_words nothing_asked ws) else None)
+    else (if is_command (codes "NEW") c then as_new (new_words nothing_asked ws) else rmu_command c ws)
 
 -- the place of the database's word
 abbrev pub place_for : ℕ → Option Command → Option ℕ
 place_for n None = None
 place_for n (Some (Rdo s)) = Some (s.first - 1)
 place_for n (Some (New l)) = Some (n - 1)
+place_for n (Some Verify) = Some (n - 1)
+place_for n (Some Dump) = Some (n - 1)
+place_for n (Some (DumpPage p)) = Some (n - 3)
 
 abbrev pub database_place : List (List ℕ) → Option ℕ
 database_place words = place_for (length words) (command_of words)
@@ -103,6 +138,9 @@ sessions_said sessions (Some order) = sessions_in sessions order
 abbrev pub order_for : Option Command → Option (List ℕ) → List ℕ
 order_for None order = []
 order_for (Some (New l)) order = []
+order_for (Some Verify) order = []
+order_for (Some Dump) order = []
+order_for (Some (DumpPage p)) order = []
 order_for (Some (Rdo s)) order = sessions_said s.count order
 
 -- the sessions that `--ORDER` names, in order
@@ -118,7 +156,24 @@ pub record AreLast (words : List (List ℕ)) (s : Scripts) : Type 0 where
   pub database : slice_index_or words (s.first - 1) [] ≡ word_of words
   pub order : s.has_order ≡ is_some (said_order words)
 
--- the limits of a command are within their ranges, and its scripts within its words
+-- pages count from 1 to 65,536, and area files from 1 to 3
+pub record IsAllowedPlace (p : PagePlace) : Type 0 where
+  pub file : (1 ≤ p.file) × (p.file ≤ 3)
+  pub page : (1 ≤ p.page) × (p.page ≤ 65536)
+
+-- a command that only reads, and writes what it finds
+abbrev pub only_reads : Option Command → Bool
+only_reads None = false
+only_reads (Some (New l)) = false
+only_reads (Some (Rdo s)) = false
+only_reads (Some Verify) = true
+only_reads (Some Dump) = true
+only_reads (Some (DumpPage p)) = true
+
+-- the limits of a command and the page that it names are within their ranges, and its scripts within its words
 abbrev pub IsAllowedCommand : List (List ℕ) → Command → Type 0
 IsAllowedCommand words (New limits) = AreLimits limits
 IsAllowedCommand words (Rdo scripts) = AreLast words scripts
+IsAllowedCommand words Verify = Unit {0}
+IsAllowedCommand words Dump = Unit {0}
+IsAllowedCommand words (DumpPage place) = IsAllowedPlace place

@@ -6,4 +6,6 @@ mod options;
 mod orders;
 mod words;
 
-pub use words::{Command, Scripts, command_of, database_word, order_of, script_words};
+pub use words::{
+    Command, PagePlace, Scripts, command_of, database_word, only_reads, order_of, script_words,
+};

@@ -1,15 +1,16 @@
 //! The rows of the table of commands.
-ghost use Rattle.std.specs.Prelude.{◌≡◌, ◌≢◌, ◌≤◌, ◌<◌, ◌+◌, ◌&&◌, None, Some, IfSome, IfOk, All, codes, length, slice_index_or, []};
+ghost use Rattle.std.specs.Prelude.{◌≡◌, ◌≢◌, ◌≤◌, ◌<◌, ◌+◌, ◌&&◌, ℕ, List, None, Some, IfSome, IfOk, All, codes, length, slice_index_or, []};
 ghost use Rattle.std.specs.List.{list_all};
 ghost use Rattle.std.specs.Option.{option_copied};
 ghost use Rattle.command_words.specs.Words.{is_database_byte as database_byte, is_database as database, is_command, new_words as new_of};
 ghost use Rattle.command_words.specs.Words.{order_text as text_said, scripts_at as scripts_from, rdo_words as rdo_of, said_order as order_said};
 ghost use Rattle.command_words.specs.Words.{command_of as command_for, IsAllowedCommand, database_place, word_of, order_in};
-ghost use Rattle.command_words.specs.Options.{nothing_asked};
+ghost use Rattle.command_words.specs.Words.{is_one_database as is_one_database_of, place_of as place_for_numbers, page_words as page_words_of, rmu_command as rmu_command_for, only_reads as only_reads_for, IsAllowedPlace};
+ghost use Rattle.command_words.specs.Options.{nothing_asked, number_in as number_in_range};
 ghost use Rattle.root_file.specs.Root.{AreLimits};
 
 use crate::bytes::{behind, to_upper};
-use crate::options::{Asked, ask, limits_of};
+use crate::options::{Asked, ask, limits_of, number_in};
 use crate::orders::{is_order, sessions_of};
 use rdb_types::{Items, Limits, NoMemory, Word};
 use std::alloc::Global;
@@ -28,6 +29,15 @@ pub struct Scripts {
     pub has_order: bool,
 }
 
+/// The page that a command names.
+#[derive(Clone, Copy, Debug, PartialEq, Eq)]
+pub struct PagePlace {
+    /// The number of the area file, from 1 to 3.
+    pub file: u32,
+    /// The number of the page, from 1 to 65,536.
+    pub page: u32,
+}
+
 /// A command, by its words.
 #[derive(Clone, Copy, Debug, PartialEq, Eq)]
 pub enum Command {
@@ -35,6 +45,12 @@ pub enum Command {
     New(Limits),
     /// `RDO [--ORDER=list] db script ...` says 1 to 16 scripts to the database.
     Rdo(Scripts),
+    /// `RMU/VERIFY db` lists the faults of a database.
+    Verify,
+    /// `RMU/DUMP db` tells what a database is and holds.
+    Dump,
+    /// `RMU/DUMP/PAGE db file page` tells the bytes of a page of an area file.
+    DumpPage(PagePlace),
 }
 
 fn is_database_byte(b: u8) -> bool
@@ -78,6 +94,17 @@ fn is_new(word: &[u8]) -> bool
     match word {
         [n, e, w] => { to_upper(*n) == b'N' && to_upper(*e) == b'E' && to_upper(*w) == b'W' }
         _ => false,
+    }
+}
+
+/// Whether a word is a command's, which is given in capitals.
+fn is_named(name: &[u8], word: &[u8]) -> bool
+    ensures { result ≡ is_command name.now word.now }
+{
+    match behind(name, word) {
+        Some([]) => true,
+        Some([_, ..]) => false,
+        None => false,
     }
 }
 
@@ -155,6 +182,69 @@ fn rdo_words(words: &[Word]) -> Option<Scripts>
     }
 }
 
+/// Whether a database alone stands behind a command word.
+fn is_one_database(words: &[Word]) -> bool
+    ensures { result ≡ is_one_database_of words.now }
+{
+    match words {
+        [database] => is_database(database.as_slice()),
+        _ => false,
+    }
+}
+
+/// The page that a word of an area file's number and one of a page's number name.
+fn place_of(file: &[u8], page: &[u8]) -> Option<PagePlace>
+    ensures value { result ≡ place_for_numbers (number_in_range 1 3 file.now) (number_in_range 1 65536 page.now) }
+    ensures allowed { IfSome result (λ place. IsAllowedPlace place) }
+{
+    match (number_in(1, 3, file), number_in(1, 65536, page)) {
+        (Some(file), Some(page)) => Some(PagePlace { file, page }),
+        _ => None,
+    }
+}
+
+/// The page that the words behind `RMU/DUMP/PAGE` name.
+fn page_words(words: &[Word]) -> Option<PagePlace>
+    ensures value { result ≡ page_words_of words.now }
+    ensures allowed { IfSome result (λ place. IsAllowedPlace place) }
+{
+    match words {
+        [database, file, page] => if is_database(database.as_slice()) {
+            place_of(file.as_slice(), page.as_slice())
+        } else {
+            None
+        },
+        _ => None,
+    }
+}
+
+/// The command of RMU of a command word and the words behind it.
+fn rmu_command(command: &[u8], words: &[Word]) -> Option<Command>
+    ensures row { result ≡ rmu_command_for command.now words.now }
+    ensures allowed { (all : List (List ℕ)) → IfSome result (λ command. IsAllowedCommand all command) }
+{
+    if is_named(b"RMU/VERIFY", command) {
+        if is_one_database(words) {
+            Some(Command::Verify)
+        } else {
+            None
+        }
+    } else if is_named(b"RMU/DUMP", command) {
+        if is_one_database(words) {
+            Some(Command::Dump)
+        } else {
+            None
+        }
+    } else if is_named(b"RMU/DUMP/PAGE", command) {
+        match page_words(words) {
+            Some(place) => Some(Command::DumpPage(place)),
+            None => None,
+        }
+    } else {
+        None
+    }
+}
+
 /// The row of the table of commands that the words are.
 pub fn command_of(words: &[Word]) -> Option<Command>
     ensures row { result ≡ command_for words.now }
@@ -175,7 +265,7 @@ pub fn command_of(words: &[Word]) -> Option<Command>
                     None => None,
                 }
             } else {
-                None
+                rmu_command(command.as_slice(), rest)
             }
         }
     }
@@ -191,7 +281,24 @@ pub fn database_word(words: &[Word]) -> Option<usize>
     match command_of(words) {
         Some(Command::Rdo(scripts)) => Some(scripts.first.saturating_sub(1)),
         Some(Command::New(_)) => Some(words.len().saturating_sub(1)),
+        Some(Command::Verify) => Some(words.len().saturating_sub(1)),
+        Some(Command::Dump) => Some(words.len().saturating_sub(1)),
+        Some(Command::DumpPage(_)) => Some(words.len().saturating_sub(3)),
         None => None,
+    }
+}
+
+/// Whether the words are a command that changes nothing, and writes what it finds.
+pub fn only_reads(words: &[Word]) -> bool
+    ensures { result ≡ only_reads_for (command_for words.now) }
+{
+    match command_of(words) {
+        Some(Command::Verify) => true,
+        Some(Command::Dump) => true,
+        Some(Command::DumpPage(_)) => true,
+        Some(Command::New(_)) => false,
+        Some(Command::Rdo(_)) => false,
+        None => false,
     }
 }
 

@@ -6,8 +6,8 @@ ghost use Rattle.areas_at_rest.specs.Runs.{IsQuiet, AtRest};
 ghost use Rattle.database_dump.specs.Dumped.{relations_counted, indexes_counted};
 
 use areas_at_rest::count_lines;
-use before_images::OpenTransaction;
 use line_opening::OpeningFault;
+use lines_at_rest::RestReading;
 use ordered_entries::Entries;
 use rdb_meaning::{Index, Relation};
 use rdb_outside::Disk;
@@ -33,12 +33,12 @@ fn add_counted(
 pub(crate) fn count_relations<D: Disk>(
     alloc: Global,
     disk: &mut D,
-    held: &[OpenTransaction],
+    held: &RestReading,
     relations: &Entries<Chars, Relation>,
 ) -> Result<Items<Counted>, OpeningFault>
     requires { AllByRecursion (λ e. IsRelationArea e.1.area) relations.now }
     ensures counted { IfOk result (λ counted. AtRest (D.view disk.old) held.now (λ all. counted ≡ relations_counted all relations.now)) }
-    ensures quiet { IsQuiet (D.view disk.old) (D.view disk.new) result }
+    ensures quiet { IsQuiet held.now.faulty (D.view disk.old) (D.view disk.new) result }
 {
     let mut counted = Items::new(alloc);
     for (name, relation) in relations.as_slice() {
@@ -54,12 +54,12 @@ pub(crate) fn count_relations<D: Disk>(
 pub(crate) fn count_indexes<D: Disk>(
     alloc: Global,
     disk: &mut D,
-    held: &[OpenTransaction],
+    held: &RestReading,
     indexes: &Entries<Chars, Index>,
 ) -> Result<Items<Counted>, OpeningFault>
     requires { AllByRecursion (λ e. IsIndexArea e.1.area) indexes.now }
     ensures counted { IfOk result (λ counted. AtRest (D.view disk.old) held.now (λ all. counted ≡ indexes_counted all indexes.now)) }
-    ensures quiet { IsQuiet (D.view disk.old) (D.view disk.new) result }
+    ensures quiet { IsQuiet held.now.faulty (D.view disk.old) (D.view disk.new) result }
 {
     let mut counted = Items::new(alloc);
     for (name, index) in indexes.as_slice() {

@@ -1,5 +1,6 @@
 // The whole dump.
-ghost use Rattle.std.specs.Prelude.{◌≡◌, ◌++◌, length, OnOk, IsErrOf, IsTrue};
+ghost use Rattle.std.specs.Prelude.{◌≡◌, ◌++◌, ℕ, length, OnOk, IsErrOf, IsTrue};
+ghost use Rattle.rdb_types.specs.declared.file.FileId.{FileId as File};
 ghost use Rattle.rdb_outside.specs.Causes.{Rose};
 ghost use Rattle.rdb_outside.specs.Disk.{OnlyReads};
 ghost use Rattle.root_file.specs.declared.Root.{Root as RootSaid};
@@ -12,11 +13,13 @@ ghost use Rattle.stable_lines.specs.Image.{StandsFor};
 ghost use Rattle.stable_lines.specs.Journal.{Journal, IsJournalOf};
 ghost use Rattle.rmu_texts.specs.Dump.{dump_text as text_of_dump};
 ghost use Rattle.database_dump.specs.Dumped.{dump_of};
+ghost use Rattle.database_dump.specs.Dumpable.{IsDumpable};
 
 use crate::counts::{count_indexes, count_relations};
 use crate::definitions::catalog_of;
 use before_images::read_before_images;
 use line_opening::OpeningFault;
+use lines_at_rest::{FaultyPages, RestReading};
 use rdb_outside::Disk;
 use rdb_types::Bytes;
 use rmu_dump::{count_groups, root_of};
@@ -33,6 +36,10 @@ pub fn dump<D: Disk>(alloc: Global, disk: &mut D, out: &mut Bytes) -> Result<(),
         → (c : Decoded) → IsCatalogOf all c
         → out.new ≡ out.old ++ text_of_dump (dump_of root all c (length journal.groups))) }
 
+    // It is refused only where a root, a header, a page or the catalog is none.
+    ensures refused { (file : File) (slot : ℕ) → IsErrOf result (OpeningFault.Bad file slot)
+        → IsTrue (D.view disk.old).tells → IsDumpable (D.view disk.old).content → ⊥ }
+
     // It doesn't give up by itself.
     ensures failed { IsErrOf result OpeningFault.Failed
         → Rose (D.view disk.old).faults (D.view disk.new).faults }
@@ -42,10 +49,14 @@ pub fn dump<D: Disk>(alloc: Global, disk: &mut D, out: &mut Bytes) -> Result<(),
 {
     let root = root_of(disk)?;
     let groups = count_groups(disk)?;
-    let held = read_before_images(alloc, disk)?;
-    let catalog = catalog_of(alloc, disk, held.as_slice())?;
-    let relations = count_relations(alloc, disk, held.as_slice(), &catalog.tables.relations)?;
-    let indexes = count_indexes(alloc, disk, held.as_slice(), &catalog.tables.indexes)?;
+    let before = read_before_images(alloc, disk)?;
+    let held = RestReading {
+        before,
+        faulty: FaultyPages::Refused,
+    };
+    let catalog = catalog_of(alloc, disk, &held)?;
+    let relations = count_relations(alloc, disk, &held, &catalog.tables.relations)?;
+    let indexes = count_indexes(alloc, disk, &held, &catalog.tables.indexes)?;
     let dump = Dump {
         root,
         relations,

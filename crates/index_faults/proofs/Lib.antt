@@ -1,5 +1,6 @@
 pub mod Reached
 pub mod Bounds
+pub mod Passing
 pub mod Walked
 pub mod Lists
 pub mod Rows

@@ -41,6 +41,27 @@ own_inserted at (x ∷ xs) = elim (dbkey_order at x) as (λ r. dbkey_order at x 
   | Greater ↦ λ is. inr (own_inserted at xs)
 ] refl
 
+pub in_inserted_only : (key at : Dbkey) (ks : List Dbkey) → IsIn key (insert_key dbkey_order ks at) → IsIn key ks ⊎ (at ≡ key)
+in_inserted_only key at [] (inl is) = inr is
+in_inserted_only key at [] (inr none) = absurd none
+in_inserted_only key at (x ∷ xs) there = elim (dbkey_order at x) as (λ r. IsIn key (match_ordering r (at ∷ x ∷ xs) (x ∷ xs) (x ∷ insert_key dbkey_order xs at)) → IsIn key (x ∷ xs) ⊎ (at ≡ key)) [
+  | Less ↦ first
+  | Equal ↦ λ old. inl old
+  | Greater ↦ behind (in_inserted_only key at xs)
+] there
+  where
+    first : IsIn key (at ∷ x ∷ xs) → IsIn key (x ∷ xs) ⊎ (at ≡ key)
+    first (inl is) = inr is
+    first (inr rest) = inl rest
+
+    later : IsIn key xs ⊎ (at ≡ key) → IsIn key (x ∷ xs) ⊎ (at ≡ key)
+    later (inl old) = inl (inr old)
+    later (inr is) = inr is
+
+    behind : (IsIn key (insert_key dbkey_order xs at) → IsIn key xs ⊎ (at ≡ key)) → IsIn key (x ∷ insert_key dbkey_order xs at) → IsIn key (x ∷ xs) ⊎ (at ≡ key)
+    behind rest (inl is) = inl (inl is)
+    behind rest (inr there) = later (rest there)
+
 or_right : (a b : Bool) → b ≡ true → (a || b) ≡ true
 or_right true b h = refl
 or_right false b h = h

@@ -1,6 +1,10 @@
 -- A walk over what is below a node, child by child.
-use Rattle.std.proofs.Common.{◌≡◌, ◌≤◌, ◌<◌, ◌+◌, ◌-◌, ◌==◌, ℕ, zero, suc, Bool, true, false, List, [], ◌∷◌, ◌++◌, map, take, drop, length, get_or, Option, Some, None, refl, sym, ap, subst, ◌∙◌, arith}
-use Rattle.std.specs.List.{AllByRecursion, flat_map}
+use Rattle.std.specs.BTreeMap.{is_at}
+use Rattle.rdb_types.specs.Order.{dbkey_order}
+use Rattle.relation_rows.specs.Stored.{IsAreaKnown}
+use Rattle.line_faults.specs.Found.{IsIn}
+use Rattle.std.proofs.Common.{inl, inr, add-one, ◌≡◌, ◌≤◌, ◌<◌, ◌+◌, ◌-◌, ◌==◌, ℕ, zero, suc, Bool, true, false, List, [], ◌∷◌, ◌++◌, map, take, drop, length, get_or, Option, Some, None, refl, sym, ap, subst, ◌∙◌, arith}
+use Rattle.std.specs.List.{AllByRecursion, flat_map, list_any}
 use Rattle.std.proofs.lemmas.Bool.{eqb-true, eq-eqb}
 use Rattle.std.proofs.lemmas.List.{append-nil, append_assoc, map-append, take_more, take_all, drop_at, length-take-le, length-map}
 use Rattle.rdb_types.specs.declared.keys.Dbkey.{Dbkey}
@@ -9,14 +13,15 @@ use Rattle.index_node.specs.declared.node.IndexNode.{IndexNode}
 use Rattle.index_node.specs.Node.{IsAllowedNode}
 use Rattle.line_view.specs.Knowledge.{Knowledge, Lines, Agrees, line_in}
 use Rattle.sorted_index_laws.specs.Inner.Steps.{IsKnownAs}
-use Rattle.sorted_index_laws.specs.Tree.{Tree, Bears, place, pairs, places, Stands}
-use Rattle.sorted_index_laws.proofs.Frame.{StandsBelow}
+use Rattle.sorted_index_laws.specs.Tree.{Tree, Bears, place, node_of, pairs, places, Stands}
+use Rattle.sorted_index_laws.proofs.Frame.{IsApart, StandsBelow}
 use Rattle.sorted_index_laws.proofs.Removed.{PlacesOf}
-use Rattle.sorted_index_laws.proofs.Lines.{Distinct}
+use Rattle.sorted_index_laws.proofs.Lines.{Distinct, tail_distinct, head_apart}
 use Rattle.sorted_index_laws.proofs.Ordered.{all_append}
 use Rattle.index_faults.specs.declared.walk.Walk.{Walk}
-use Rattle.index_faults.specs.Walks.{are_between, IsReached, IsMissed, IsJudged, Reaches, places_below, IsWhole, Walks, IsInOrderWith}
-use Rattle.index_faults.proofs.Reached.{none_reached, one_reached, more_reached}
+use Rattle.index_faults.specs.Walks.{are_between, IsReached, IsMissed, IsJudged, Reaches, AreNew, ReachesOnly, IsPassed, places_below, IsWhole, Walks, IsInOrderWith}
+use Rattle.index_faults.proofs.Passing.{Around, AreChildren, ArePassed, here, below_it, placed, unreached, own_first, child_new, child_area, child_node, child_level, child_between, still_only, still_holds, not_apart, one_known, node_known, stands_bears, own_places}
+use Rattle.index_faults.proofs.Reached.{none_reached, one_reached, more_reached, in_inserted_only}
 use Rattle.index_faults.proofs.Bounds.{IsBetween, none_between, more_between, parted}
 
 -- ---- lists
@@ -66,6 +71,7 @@ pub record Progress (known : Knowledge) (below : ℕ) (entries : List NodeEntry)
   pub held : List NodeEntry
   pub pairs_are : now.pairs ≡ old.pairs ++ held
   pub whole : more ≡ [] → (all : Lines) → Agrees known all → HasChildren all old.area below entries count old.reached.keys now.reached.keys held
+  pub passed : IsAreaKnown known old.area → (all : Lines) → Agrees known all → (l : ℕ) → l ≡ below → (children : List (NodeEntry × Tree l)) → AreChildren all old.area l entries old.reached.keys children → ArePassed l children count more held old.reached.keys now.reached.keys
 
 pub start : (known : Knowledge) (below : ℕ) (entries : List NodeEntry) (old : Walk) → Progress known below entries 0 old old
 start known below entries old = record {
@@ -82,17 +88,26 @@ start known below entries old = record {
     holds = refl;
     reaches = none_reached old.reached.keys;
   };
+  passed = λ is all agrees l same children are. record { none = refl; holds = refl; only = λ key there. inl there };
 }
 
 -- a child that isn't there
-pub missed : (known : Knowledge) (below : ℕ) (entries : List NodeEntry) (count : ℕ) (old now new : Walk) (child : Dbkey) → Progress known below entries count old now → IsMissed child now new → Progress known below entries (count + 1) old new
-missed known below entries count old now new child p miss = record {
+pub missed : (known : Knowledge) (below : ℕ) (entries : List NodeEntry) (count : ℕ) (old now new : Walk) (child : Dbkey) → count < length entries → ((d : NodeEntry) → (get_or entries count d).child ≡ Some child) → Progress known below entries count old now → IsMissed known child (Some below) now new → Progress known below entries (count + 1) old new
+missed known below entries count old now new child inside entry p miss = record {
   area = miss.area ∙ p.area;
   more = p.more ++ child ∷ [];
   faults_are = miss.fault ∙ ap (λ l. l ++ child ∷ []) p.faults_are ∙ append_assoc old.faults p.more (child ∷ []);
   held = p.held;
   pairs_are = miss.pairs_stay ∙ p.pairs_are;
   whole = λ none all agrees. absurd (let first = none_then p.more (child ∷ []) none in let no : ⊥ = cc in no);
+  passed = λ is all agrees l same children are.
+      let q = p.passed is all agrees l same children are in
+      let it = here known all old.area l entries old.reached.keys now.reached.keys children are count q.only child inside entry in
+      absurd (miss.cause (node_of l it.it.1)
+      (child_area known all old.area l entries old.reached.keys now.reached.keys children are count q.only child inside entry ∙ sym p.area)
+      (child_new known all old.area l entries old.reached.keys now.reached.keys children are count q.only child inside entry)
+      (child_node known all old.area l entries old.reached.keys now.reached.keys children are count q.only child inside entry agrees is)
+      (child_level known all old.area l entries old.reached.keys now.reached.keys children are count q.only child inside entry below same));
 }
 
 -- what a judgement adds
@@ -100,16 +115,18 @@ record Adds (child : Dbkey) (between : Bool) (faults : ℕ) (old new : Walk) : T
   more : List Dbkey
   are : new.faults ≡ old.faults ++ more
   fine : length old.faults ≡ faults → more ≡ [] → between ≡ true
+  silent : between ≡ true → more ≡ []
 
 adds : (child : Dbkey) (between : Bool) (faults : ℕ) (old new : Walk) → IsJudged child between faults old new → Adds child between faults old new
-adds child true faults old new j = record { more = []; are = j.fine refl ∙ sym (append-nil old.faults); fine = λ same none. refl }
+adds child true faults old new j = record { more = []; are = j.fine refl ∙ sym (append-nil old.faults); fine = λ same none. refl; silent = λ is. refl }
 adds child false faults old new j = by (length old.faults == faults) refl where
   by : (b : Bool) → (length old.faults == faults) ≡ b → Adds child false faults old new
-  by true is = record { more = child ∷ []; are = j.bad (eqb-true (length old.faults) faults is) refl; fine = λ same none. absurd (let no : ⊥ = cc in no) }
+  by true is = record { more = child ∷ []; are = j.bad (eqb-true (length old.faults) faults is) refl; fine = λ same none. absurd (let no : ⊥ = cc in no); silent = λ is. absurd (let no : ⊥ = cc in no) }
   by false isnt = record {
     more = [];
     are = j.late (λ same. let is = eq-eqb (length old.faults) faults same in let no : ⊥ = cc in no) ∙ sym (append-nil old.faults);
     fine = λ same none. absurd (let is = eq-eqb (length old.faults) faults same in let no : ⊥ = cc in no);
+    silent = λ is. refl;
   }
 
 -- what stands below a child, at the level that it has
@@ -179,6 +196,59 @@ module _ (known : Knowledge) (below : ℕ) (entries : List NodeEntry) (count : �
           (more_reached old.reached.keys now.reached.keys new.reached.keys (PlacesOf below before.children) (places below leveled.tree) before.reaches reaches_own);
     }
 
+  -- where the node is in order
+  module _ (is : IsAreaKnown known old.area) (all : Lines) (agrees : Agrees known all) (l : ℕ) (same : l ≡ below) (children : List (NodeEntry × Tree l)) (are : AreChildren all old.area l entries old.reached.keys children) where
+    abbrev q : ArePassed l children count p.more p.held old.reached.keys now.reached.keys
+    q = p.passed is all agrees l same children are
+
+    abbrev it : Around count children
+    it = here known all old.area l entries old.reached.keys now.reached.keys children are count q.only child inside entry
+
+    stands_so : StandsBelow all old.area l it.it
+    stands_so = below_it known all old.area l entries old.reached.keys now.reached.keys children are count q.only child inside entry
+
+    placed_so : place l it.it.1 ≡ child
+    placed_so = placed known all old.area l entries old.reached.keys now.reached.keys children are count q.only child inside entry
+
+    abbrev first_of : Dbkey
+    first_of = place l it.it.1
+
+    distinct_so : Distinct (first_of ∷ places_below l it.it.1)
+    distinct_so = own_first known all old.area l entries old.reached.keys now.reached.keys children are count q.only child inside entry
+
+    its_node : node_of l it.it.1 ≡ node
+    its_node = one_known (known.line child) (node_of l it.it.1) node (child_node known all old.area l entries old.reached.keys now.reached.keys children are count q.only child inside entry agrees is) reached.bears
+
+    unreached_so : (key : Dbkey) → IsIn key (places_below l it.it.1) → IsIn key mid.reached.keys → ⊥
+    unreached_so key there was = elim (in_inserted_only key child now.reached.keys (subst (IsIn key) reached.reached was)) [
+      | inl before ↦ unreached known all old.area l entries old.reached.keys now.reached.keys children are count q.only child inside entry key (subst (IsIn key) (sym (own_places l it.it.1)) (inr there)) before
+      | inr is_child ↦ not_apart key (places_below l it.it.1) (subst (λ (k : Dbkey). IsApart k (places_below l it.it.1)) (placed_so ∙ is_child) (head_apart first_of (places_below l it.it.1) distinct_so)) there
+    ]
+
+    inner : IsPassed l it.it.1 walks.more walks.held mid.reached.keys next.reached.keys
+    inner = walks.passed (subst (IsAreaKnown known) (sym (reached.area ∙ p.area)) is) all agrees l it.it.1 its_node (subst (λ (a : ℕ). Stands all a l it.it.1) (sym (reached.area ∙ p.area)) stands_so.1)
+        (record { distinct = tail_distinct first_of (places_below l it.it.1) distinct_so; fresh = unreached_so })
+
+    quiet : judgement.more ≡ []
+    quiet = judgement.silent (ap (λ (ps : List NodeEntry). are_between count entries ps) (behind ∙ inner.holds) ∙ child_between known all old.area l entries old.reached.keys now.reached.keys children are count q.only child inside entry)
+
+    one_reached_only : ReachesOnly now.reached.keys mid.reached.keys (child ∷ [])
+    one_reached_only key there = elim (in_inserted_only key child now.reached.keys (subst (IsIn key) reached.reached there)) [
+      | inl before ↦ inl before
+      | inr is_child ↦ inr (inl is_child)
+    ]
+
+    passed_next : ArePassed l children (suc count) (p.more ++ (walks.more ++ judgement.more)) (p.held ++ walks.held) old.reached.keys new.reached.keys
+    passed_next = record {
+      none = λ i. q.none i ++ (inner.none i ++ quiet i);
+      holds = still_holds known all old.area l entries old.reached.keys now.reached.keys children are count q.only child inside entry p.held walks.held q.holds inner.holds;
+      only = subst (λ (ks : List Dbkey). ReachesOnly old.reached.keys ks (PlacesOf l (take (suc count) children))) (sym judged.reached_stay)
+          (still_only known all old.area l entries old.reached.keys now.reached.keys children are count q.only child inside entry mid.reached.keys next.reached.keys one_reached_only inner.only);
+    }
+
+    passed_on : ArePassed l children (count + 1) (p.more ++ (walks.more ++ judgement.more)) (p.held ++ walks.held) old.reached.keys new.reached.keys
+    passed_on = subst (λ (n : ℕ). ArePassed l children n (p.more ++ (walks.more ++ judgement.more)) (p.held ++ walks.held) old.reached.keys new.reached.keys) (sym (add-one count)) passed_next
+
   pub one_child : (d : NodeEntry) → Progress known below entries (count + 1) old new
   one_child d = record {
     area = judged.area ∙ walks.area ∙ reached.area ∙ p.area;
@@ -190,9 +260,31 @@ module _ (known : Knowledge) (below : ℕ) (entries : List NodeEntry) (count : �
     held = p.held ++ walks.held;
     pairs_are = judged.pairs_stay ∙ walks.pairs_are ∙ ap (λ l. l ++ walks.held) (reached.pairs_stay ∙ p.pairs_are) ∙ append_assoc old.pairs p.held walks.held;
     whole = λ none all agrees. with_child none all agrees d;
+    passed = λ is all agrees l same children are. passed_on is all agrees l same children are;
   }
 
 -- ---- the end
+
+leaf_holds : (l : ℕ) (tree : Tree l) (entries : List NodeEntry) → node_of l tree ≡ record { level = 0; entries = entries } → entries ≡ pairs l tree
+leaf_holds zero tree entries of = sym (ap (λ (n : IndexNode). n.entries) of)
+leaf_holds (suc l) tree entries of = absurd (let level : suc l ≡ 0 = ap (λ (n : IndexNode). n.level) of in let no : ⊥ = omega (arith, level) in no)
+
+-- the children of a node in order were all gone over
+finish_passed : (known : Knowledge) (level : ℕ) (entries : List NodeEntry) (count : ℕ) (old now : Walk) → length entries ≤ count → (q : Progress known level entries count old now) → IsAreaKnown known old.area → (all : Lines) → Agrees known all
+    → (l : ℕ) (tree : Tree l) → node_of l tree ≡ record { level = suc level; entries = entries } → Stands all old.area l tree → AreNew old.reached.keys (places_below l tree) → IsPassed l tree q.more q.held old.reached.keys now.reached.keys
+finish_passed known level entries count old now ended q is all agrees zero tree of stands apart = absurd (let at : 0 ≡ suc level = ap (λ (n : IndexNode). n.level) of in let no : ⊥ = omega (arith, at) in no)
+finish_passed known level entries count old now ended q is all agrees (suc l) tree of stands apart =
+    let at : suc l ≡ suc level = ap (λ (n : IndexNode). n.level) of in
+    let same : l ≡ level = omega (arith, at) in
+    let are : map (λ (c : NodeEntry × Tree l). c.0) tree.entries ≡ entries = ap (λ (n : IndexNode). n.entries) of in
+    let r = q.passed is all agrees l same tree.entries (record { are = are; stand = stands.2; parted = stands.3; new = apart }) in
+    let counted : length tree.entries ≡ length entries = sym (length-map tree.entries (λ (c : NodeEntry × Tree l). c.0)) ∙ ap length are in
+    let all_of : take count tree.entries ≡ tree.entries = take_all count tree.entries (omega (arith, counted, ended)) in
+    record {
+      none = r.none;
+      holds = r.holds ∙ ap (flat_map (λ (c : NodeEntry × Tree l). pairs l c.1)) all_of;
+      only = subst (λ (cs : List (NodeEntry × Tree l)). ReachesOnly old.reached.keys now.reached.keys (PlacesOf l cs)) all_of r.only;
+    }
 
 -- a leaf
 pub leaf : (known : Knowledge) (level : ℕ) (entries : List NodeEntry) (old new : Walk) → level ≡ 0 → new ≡ record old { pairs = old.pairs ++ entries } → Walks known (record { level = level; entries = entries }) old new
@@ -209,6 +301,11 @@ leaf known zero entries old new is added = record {
     stands = (own, bears);
     holds = refl;
     reaches = subst (λ (w : Walk). Reaches old.reached.keys w.reached.keys []) (sym added) (none_reached old.reached.keys);
+  };
+  passed = λ is all agrees l tree of stands apart. record {
+    none = refl;
+    holds = leaf_holds l tree entries of;
+    only = λ key there. inl (subst (λ (w : Walk). IsIn key w.reached.keys) added there);
   };
 }
 
@@ -233,6 +330,7 @@ finish known (suc level) below entries count old now inner is ended p =
             holds = has.holds;
             reaches = has.reaches;
           };
+      passed = finish_passed known level entries count old now ended q;
     }
 
 -- ---- the root
@@ -252,3 +350,32 @@ in_order known all root node first mid last area empty agrees reached walks none
       };
       holds = walks.pairs_are ∙ ap (λ l. l ++ walks.held) (reached.pairs_stay ∙ empty) ∙ its.holds;
     }
+
+-- ---- an index in order
+
+module _ (known : Knowledge) (all : Lines) (root : Dbkey) (held : List NodeEntry) (first : Walk) (area : first.area ≡ root.area) (empty : first.reached.keys ≡ []) (agrees : Agrees known all) (is : IsAreaKnown known root.area) (order : IsInOrderWith all root held) where
+  root_known : IsKnownAs (known.line root) (node_of order.level order.tree)
+  root_known = node_known known all root.area agrees is root (node_of order.level order.tree) refl (subst (λ (k : Dbkey). Bears (line_in k all) (node_of order.level order.tree)) order.index.rooted (stands_bears all root.area order.level order.tree order.index.stands))
+
+  abbrev inner_places : List Dbkey
+  inner_places = places_below order.level order.tree
+
+  all_distinct : Distinct (place order.level order.tree ∷ inner_places)
+  all_distinct = subst Distinct (own_places order.level order.tree) order.index.once
+
+  pub root_there : (new : Walk) → IsMissed known root None first new → ⊥
+  root_there new miss = miss.cause (node_of order.level order.tree) (sym area) (ap (list_any (is_at (dbkey_order root))) empty) root_known refl
+
+  pub no_fault : (node : IndexNode) (mid last : Walk) → first.faults ≡ [] → IsReached known root None node first mid → Walks known node mid last → last.faults ≡ []
+  no_fault node mid last none reached walks =
+      let mid_area : root.area ≡ mid.area = sym (reached.area ∙ area) in
+      let passed = walks.passed (subst (IsAreaKnown known) mid_area is) all agrees order.level order.tree (one_known (known.line root) (node_of order.level order.tree) node root_known reached.bears)
+      (subst (λ (a : ℕ). Stands all a order.level order.tree) mid_area order.index.stands)
+      (record { distinct = tail_distinct (place order.level order.tree) inner_places all_distinct; fresh = unreached_root mid reached }) in
+      walks.faults_are ∙ ap (λ l. mid.faults ++ l) passed.none ∙ append-nil mid.faults ∙ reached.faults_stay ∙ none
+    where
+      unreached_root : (mid : Walk) → IsReached known root None node first mid → (key : Dbkey) → IsIn key inner_places → IsIn key mid.reached.keys → ⊥
+      unreached_root mid reached key there was = elim (in_inserted_only key root first.reached.keys (subst (IsIn key) reached.reached was)) [
+        | inl before ↦ subst (IsIn key) empty before
+        | inr is_root ↦ not_apart key inner_places (subst (λ (k : Dbkey). IsApart k inner_places) (order.index.rooted ∙ is_root) (head_apart (place order.level order.tree) inner_places all_distinct)) there
+      ]

@@ -1,5 +1,5 @@
 -- The nodes of an index, gone over from its root.
-use Rattle.std.specs.Prelude.{◌≡◌, ◌+◌, ℕ, zero, suc, Bool, true, false, ◌&&◌, ◌==◌, List, [], ◌∷◌, ◌++◌, length, Option, Some, None, slice_get}
+use Rattle.std.specs.Prelude.{◌≡◌, ◌⊎◌, ◌+◌, ℕ, zero, suc, Bool, true, false, ◌&&◌, ◌==◌, List, [], ◌∷◌, ◌++◌, length, Option, Some, None, slice_get}
 use Rattle.std.specs.List.{IsDistinct, flat_map, list_all, list_any}
 use Rattle.std.specs.Ordering.{is_eq, is_lt, is_le}
 use Rattle.std.specs.BTreeMap.{is_at}
@@ -11,7 +11,8 @@ use Rattle.index_node.specs.declared.node.IndexNode.{IndexNode}
 use Rattle.index_node.specs.Order.{entry_order}
 use Rattle.line_view.specs.Knowledge.{Knowledge, Lines, Agrees, line_in}
 use Rattle.sorted_index_laws.specs.Inner.Steps.{IsKnownAs}
-use Rattle.sorted_index_laws.specs.Tree.{Tree, Bears, place, pairs, places, Stands, IsIndex}
+use Rattle.sorted_index_laws.specs.Tree.{Tree, Bears, place, node_of, pairs, places, Stands, IsIndex}
+use Rattle.relation_rows.specs.Stored.{IsAreaKnown}
 use Rattle.line_faults.specs.Found.{IsIn}
 use Rattle.index_faults.specs.declared.walk.Walk.{Walk}
 
@@ -51,8 +52,20 @@ pub record IsReached (known : Knowledge) (at : Dbkey) (level : Option ℕ) (node
   pub pairs_stay : new.pairs ≡ old.pairs
   pub faults_stay : new.faults ≡ old.faults
 
--- Something of that isn't so, and the line is at fault.
-pub record IsMissed (at : Dbkey) (old new : Walk) : Type 0 where
+-- something of that isn't so
+abbrev pub IsAmiss : Knowledge → Dbkey → Option ℕ → Walk → Type 0
+IsAmiss known at level old = (node : IndexNode) → at.area ≡ old.area → list_any (is_at (dbkey_order at)) old.reached.keys ≡ false → IsKnownAs (known.line at) node → has_level level node ≡ true → ⊥
+
+-- Then nothing is found, but the line may have been reached.
+pub record IsNotFound (known : Knowledge) (at : Dbkey) (level : Option ℕ) (old new : Walk) : Type 0 where
+  pub cause : IsAmiss known at level old
+  pub area : new.area ≡ old.area
+  pub pairs_stay : new.pairs ≡ old.pairs
+  pub faults_stay : new.faults ≡ old.faults
+
+-- And the line is at fault.
+pub record IsMissed (known : Knowledge) (at : Dbkey) (level : Option ℕ) (old new : Walk) : Type 0 where
+  pub cause : IsAmiss known at level old
   pub area : new.area ≡ old.area
   pub pairs_stay : new.pairs ≡ old.pairs
   pub fault : new.faults ≡ old.faults ++ at ∷ []
@@ -90,7 +103,22 @@ pub record IsWhole (all : Lines) (area : ℕ) (at : Dbkey) (level : ℕ) (held :
   pub holds : held ≡ pairs level tree
   pub reaches : Reaches old new (places_below level tree)
 
--- What is below a node was gone over: faults and pairs were added, and where no fault was, an index is in order there.
+-- different lines, of which none was reached
+pub record AreNew (old keys : List Dbkey) : Type 0 where
+  pub distinct : IsDistinct (λ a b. is_eq (dbkey_order a b)) keys
+  pub fresh : (key : Dbkey) → IsIn key keys → IsIn key old → ⊥
+
+-- nothing but these lines was reached
+abbrev pub ReachesOnly : List Dbkey → List Dbkey → List Dbkey → Type 0
+ReachesOnly old new keys = (key : Dbkey) → IsIn key new → IsIn key old ⊎ IsIn key keys
+
+-- what is below a node in order was gone over: nothing is at fault, its pairs were found, and its lines alone were reached
+pub record IsPassed (level : ℕ) (tree : Tree level) (more : List Dbkey) (held : List NodeEntry) (old new : List Dbkey) : Type 0 where
+  pub none : more ≡ []
+  pub holds : held ≡ pairs level tree
+  pub only : ReachesOnly old new (places_below level tree)
+
+-- What is below a node was gone over: faults and pairs were added. Where no fault was, an index is in order there; and where one is, no fault was.
 pub record Walks (known : Knowledge) (node : IndexNode) (old new : Walk) : Type 0 where
   pub area : new.area ≡ old.area
   pub more : List Dbkey
@@ -98,6 +126,7 @@ pub record Walks (known : Knowledge) (node : IndexNode) (old new : Walk) : Type 
   pub held : List NodeEntry
   pub pairs_are : new.pairs ≡ old.pairs ++ held
   pub whole : more ≡ [] → (all : Lines) (at : Dbkey) → Agrees known all → Bears (line_in at all) node → at.area ≡ old.area → IsWhole all old.area at node.level held old.reached.keys new.reached.keys
+  pub passed : IsAreaKnown known old.area → (all : Lines) → Agrees known all → (level : ℕ) (tree : Tree level) → node_of level tree ≡ node → Stands all old.area level tree → AreNew old.reached.keys (places_below level tree) → IsPassed level tree more held old.reached.keys new.reached.keys
 
 -- ---- a whole index
 

@@ -1,11 +1,12 @@
 // The nodes of an index, gone over from its root.
-ghost use Rattle.std.specs.Prelude.{◌≡◌, ◌≤◌, ◌<◌, ◌++◌, ◌∷◌, [], ℕ, true, false, Some, length, drop, get_or, IsSome, IfOk, IfSome, IfNone, OnOk};
+ghost use Rattle.relation_rows.specs.Stored.{IsAreaKnown};
+ghost use Rattle.std.specs.Prelude.{◌≡◌, ◌≤◌, ◌<◌, ◌++◌, ◌∷◌, [], ℕ, List, true, false, Some, length, drop, get_or, IsSome, IfOk, IfSome, IfNone, OnOk};
 ghost use Rattle.std.specs.List.{All};
 ghost use Rattle.rdb_types.specs.declared.keys.Dbkey.{Dbkey as Place};
 ghost use Rattle.index_node.specs.declared.entry.NodeEntry.{NodeEntry as Entry};
 ghost use Rattle.index_node.specs.Node.{IsAllowedNode};
 ghost use Rattle.line_view.specs.Knowledge.{Lines, Agrees};
-ghost use Rattle.index_faults.specs.Walks.{has_level as has_level_of, are_between as are_between_of, IsReached, IsMissed, IsJudged, Walks, IsInOrderWith};
+ghost use Rattle.index_faults.specs.Walks.{has_level as has_level_of, are_between as are_between_of, IsReached, IsNotFound, IsMissed, IsJudged, Walks, IsInOrderWith};
 
 use crate::between::are_between;
 use crate::nodes::node_at;
@@ -34,7 +35,34 @@ fn has_level(node: &IndexNode, level: Option<u8>) -> bool
     }
 }
 
-// The node of a line that is reached. A line of another area, one that was reached before, and one that is no node of the level are at fault.
+// The node of a line that is reached: a node of this level, on a line of the index's area that wasn't reached before.
+fn find<V: View>(
+    alloc: Global,
+    view: &V,
+    at: Dbkey,
+    level: Option<u8>,
+    walk: &mut Walk,
+) -> Result<Option<IndexNode>, NoMemory>
+    ensures node { IfOk result (λ read. IfSome read (λ node. IsReached (V.knows view.now) at level node walk.old walk.new)) }
+    ensures none { IfOk result (λ read. IfNone read (IsNotFound (V.knows view.now) at level walk.old walk.new)) }
+{
+    if at.area != walk.area {
+        return Ok(None);
+    }
+    if !walk.reached.insert(at)? {
+        return Ok(None);
+    }
+    let Some(node) = node_at(alloc, view, at)? else {
+        return Ok(None);
+    };
+    if has_level(&node, level) {
+        Ok(Some(node))
+    } else {
+        Ok(None)
+    }
+}
+
+// The node of a line that is reached. A line that isn't found is at fault.
 fn reach<V: View>(
     alloc: Global,
     view: &V,
@@ -43,17 +71,15 @@ fn reach<V: View>(
     walk: &mut Walk,
 ) -> Result<Option<IndexNode>, NoMemory>
     ensures node { IfOk result (λ read. IfSome read (λ node. IsReached (V.knows view.now) at level node walk.old walk.new)) }
-    ensures none { IfOk result (λ read. IfNone read (IsMissed at walk.old walk.new)) }
+    ensures none { IfOk result (λ read. IfNone read (IsMissed (V.knows view.now) at level walk.old walk.new)) }
 {
-    if at.area == walk.area && walk.reached.insert(at)? {
-        if let Some(node) = node_at(alloc, view, at)? {
-            if has_level(&node, level) {
-                return Ok(Some(node));
-            }
+    match find(alloc, view, at, level, walk)? {
+        Some(node) => Ok(Some(node)),
+        None => {
+            walk.faults.push(at)?;
+            Ok(None)
         }
     }
-    walk.faults.push(at)?;
-    Ok(None)
 }
 
 // The child of the entry at a place.
@@ -116,10 +142,15 @@ fn walk_below<V: View>(
     Ok(())
 }
 
-/// Goes over the index of a root, in a view that knows its logical area. Where nothing is at fault, it is in order, with the pairs that were found. A line that is reached is to be a node of the index's area, of one level less than the node above it, and to be reached once; the pairs below a child are to stand between the entries beside it. Lines that aren't so are at fault, and what is below them is left out.
+/// Goes over the index of a root, in a view that knows its logical area. Where nothing is at fault, it is in order, with the pairs that were found; where a line is, it isn't. A line that is reached is to be a node of the index's area, of one level less than the node above it, and to be reached once; the pairs below a child are to stand between the entries beside it. Lines that aren't so are at fault, and what is below them is left out.
 pub fn walk_index<V: View>(alloc: Global, view: &V, root: Dbkey) -> Result<Walk, NoMemory>
-    ensures { IfOk result (λ walk. walk.faults ≡ [] → (all : Lines) → Agrees (V.knows view.now) all
+    ensures fine { IfOk result (λ walk. walk.faults ≡ [] → (all : Lines) → Agrees (V.knows view.now) all
         → IsInOrderWith all root walk.pairs) }
+
+    // A line at fault tells that the index isn't in order.
+    ensures at_fault { IfOk result (λ walk. (walk.faults ≡ [] → ⊥) → IsAreaKnown (V.knows view.now) root.area
+        → (all : Lines) → Agrees (V.knows view.now) all
+        → (held : List Entry) → IsInOrderWith all root held → ⊥) }
 {
     let mut walk = Walk {
         area: root.area,

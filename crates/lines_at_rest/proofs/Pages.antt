@@ -16,6 +16,7 @@ use Rattle.line_view.specs.Knowledge.{Lines}
 use Rattle.line_versions.specs.Lines.{shown, storage_area}
 use Rattle.stable_lines.specs.Slots.{area_file, file_of, slot_of, has_place, line_on, line_at}
 use Rattle.stable_lines.proofs.Never.{nothing_on, zeros_owner, space_owner}
+use Rattle.page_faults.specs.Checks.{page_at}
 use Rattle.line_moves.specs.declared.places.Place.{Place}
 use Rattle.line_moves.specs.Changes.{IsPlaceOf}
 use Rattle.line_moves.proofs.KeyPlaces.{file_is}
@@ -32,7 +33,7 @@ pub file_of_area : (file area : ℕ) → IsOwner file area → file ≡ storage_
 file_of_area file area owner = file_is (record { area = area; page = 2; line = 0 }) (record { file = file; page = 2 })
     (record { owner = owner; page = refl; is_data = record { is_page = record { first = omega arith; last = omega arith }; plain = λ is. let bad : 1 ≡ 0 = is in omega (arith, bad) } })
 
-isnt : (b : Bool) → (b ≡ true → ⊥) → b ≡ false
+pub isnt : (b : Bool) → (b ≡ true → ⊥) → b ≡ false
 isnt true no_it = absurd (no_it refl)
 isnt false no_it = refl
 
@@ -100,19 +101,18 @@ page_added image groups held file area number head bytes old new stands owned la
 
 -- ---- behind the last page
 
-zeros_unused : (file : FileId) (x : List ℕ) → x ≡ zeros file → IsUnused x
+pub zeros_unused : (file : FileId) (x : List ℕ) → x ≡ zeros file → IsUnused x
 zeros_unused file x is = is ∙ ap (λ (k : ℕ). replicate {A = ℕ} k 0) (sym (ap (λ (l : List ℕ). length l) is ∙ length-replicate (slot_bytes file) 0))
 
--- slots that were never written
-module _ (image : Image) (file area length count : ℕ) (owner : IsOwner file area) (ends : (slot : ℕ) → length ≤ slot → image (area_file file) slot ≡ zeros (area_file file)) (q : Dbkey) (own : q.area ≡ area) (past : count + 1 ≤ q.page) (rest : (page : ℕ) → count < page → page ≤ 65536 → length ≤ page - 1) where
-  never_written : length ≤ q.page - 1 → line_at image q ≡ never
-  never_written behind =
+-- pages that were never used
+module _ (image : Image) (file area count : ℕ) (owner : IsOwner file area) (ends : (page : ℕ) → count < page → page ≤ 65536 → IsUnused (page_at image file page)) (q : Dbkey) (own : q.area ≡ area) (past : count + 1 ≤ q.page) where
+  never_used : q.page ≤ 65536 → line_at image q ≡ never
+  never_used some =
       let same : file ≡ storage_area q.area = file_of_area file area owner ∙ ap storage_area (sym own) in
-      let there : image (file_of q) (slot_of q) ≡ zeros (area_file file) = (λ i. image (area_file (sym same i)) (slot_of q)) ∙ ends (slot_of q) behind in
-      unused_there q (image (file_of q) (slot_of q)) (zeros_unused (area_file file) (image (file_of q) (slot_of q)) there)
+      unused_there q (image (file_of q) (slot_of q)) (subst (λ (f : ℕ). IsUnused (image (area_file f) (slot_of q))) same (ends q.page (omega (arith, past)) some))
 
   either_way : (a b : ℕ) → (b < a) ⊎ (a ≤ b)
   either_way a b = grind arith
 
   pub behind_the_end : line_at image q ≡ never
-  behind_the_end = ⊎_elim (λ many. no_such_page q (image (file_of q) (slot_of q)) (inr many)) (λ some. never_written (rest q.page (omega (arith, past)) some)) (either_way q.page 65536)
+  behind_the_end = ⊎_elim (λ many. no_such_page q (image (file_of q) (slot_of q)) (inr many)) never_used (either_way q.page 65536)

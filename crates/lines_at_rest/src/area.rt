@@ -2,7 +2,7 @@
 ghost use Rattle.std.specs.Prelude.{◌≡◌, ◌≤◌, ◌<◌, ◌+◌, ◌-◌, ℕ, IfOk, OnOk, IsErrOf, IsTrue, List};
 ghost use Rattle.rdb_types.specs.declared.file.FileId.{FileId as File};
 ghost use Rattle.rdb_outside.specs.Causes.{Rose};
-ghost use Rattle.rdb_outside.specs.Disk.{OnlyReads};
+ghost use Rattle.rdb_outside.specs.Disk.{OnlyReads, Image as Content};
 ghost use Rattle.journal_scan.specs.declared.group.Group.{Group};
 ghost use Rattle.rdb_page.specs.Page.{IsOwner};
 ghost use Rattle.area_files.specs.Areas.{IsPage};
@@ -11,10 +11,13 @@ ghost use Rattle.stable_lines.specs.Image.{StandsFor};
 ghost use Rattle.page_faults.specs.Checks.{Passes};
 ghost use Rattle.before_images.specs.Before.{LaysLines};
 ghost use Rattle.lines_at_rest.specs.Area.{HoldsTo};
+ghost use Rattle.lines_at_rest.specs.Left.{IsPageSlot, IsReadAs};
+ghost use Rattle.stable_lines.specs.Slots.{area_file as area_named};
+ghost use Rattle.lines_at_rest.specs.declared.reading.FaultyPages.TheVariants.{Refused};
 
-use crate::page::add_page;
+use crate::page::add_read;
+use crate::reading::RestReading;
 use area_files::{slot_of, storage_area};
-use before_images::OpenTransaction;
 use line_moves::area_file;
 use line_opening::OpeningFault;
 use ordered_entries::Entries;
@@ -31,16 +34,19 @@ fn read_page<D: Disk>(
     file: u32,
     area: u32,
     number: u32,
-    held: &[OpenTransaction],
+    held: &RestReading,
     found: &mut AreaLines,
 ) -> Result<(), OpeningFault>
     requires { IsPage number }
-    ensures lines { OnOk result (IsTrue (D.view disk.old).tells → (groups : List Group)
-        → LaysLines (D.view disk.old).content groups held.now → IsOwner file area
-        → HoldsTo (D.view disk.old).content held.now area number 0 found.old
-        → HoldsTo (D.view disk.old).content held.now area (number + 1) 0 found.new) }
+    ensures lines { OnOk result (IsTrue (D.view disk.old).tells
+        → (left : Content) → IsReadAs held.now.faulty (D.view disk.old).content left
+        → (groups : List Group) → LaysLines left groups held.now.before → IsOwner file area
+        → HoldsTo left held.now.before area number 0 found.old
+        → HoldsTo left held.now.before area (number + 1) 0 found.new) }
     ensures failed { IsErrOf result OpeningFault.Failed
         → Rose (D.view disk.old).faults (D.view disk.new).faults }
+    ensures refused { (f : File) (slot : ℕ) → IsErrOf result (OpeningFault.Bad f slot)
+        → (held.now.faulty ≡ Refused) × (f ≡ area_named file) × IsPage (slot + 1) }
     ensures bad { (f : File) (slot : ℕ) → IsErrOf result (OpeningFault.Bad f slot)
         → IsTrue (D.view disk.old).tells
         → Passes f.number (slot + 1) ((D.view disk.old).content f slot) → ⊥ }
@@ -48,7 +54,7 @@ fn read_page<D: Disk>(
 {
     let mut page = [0; 1024];
     disk.read(area_file(file), slot_of(number), &mut page)?;
-    match add_page(&page, file, area, number, held, found) {
+    match add_read(&page, file, area, number, held, found) {
         Ok(true) => Ok(()),
         Ok(false) => Err(OpeningFault::Bad(area_file(file), slot_of(number))),
         Err(_) => Err(OpeningFault::NoMemory),
@@ -61,16 +67,19 @@ fn read_pages<D: Disk>(
     file: u32,
     area: u32,
     count: u32,
-    held: &[OpenTransaction],
+    held: &RestReading,
     found: &mut AreaLines,
 ) -> Result<(), OpeningFault>
     requires { count ≤ 65536 }
-    ensures lines { OnOk result (IsTrue (D.view disk.old).tells → (groups : List Group)
-        → LaysLines (D.view disk.old).content groups held.now → IsOwner file area
-        → HoldsTo (D.view disk.old).content held.now area 1 0 found.old
-        → HoldsTo (D.view disk.old).content held.now area (count + 1) 0 found.new) }
+    ensures lines { OnOk result (IsTrue (D.view disk.old).tells
+        → (left : Content) → IsReadAs held.now.faulty (D.view disk.old).content left
+        → (groups : List Group) → LaysLines left groups held.now.before → IsOwner file area
+        → HoldsTo left held.now.before area 1 0 found.old
+        → HoldsTo left held.now.before area (count + 1) 0 found.new) }
     ensures failed { IsErrOf result OpeningFault.Failed
         → Rose (D.view disk.old).faults (D.view disk.new).faults }
+    ensures refused { (f : File) (slot : ℕ) → IsErrOf result (OpeningFault.Bad f slot)
+        → (held.now.faulty ≡ Refused) × (f ≡ area_named file) × IsPage (slot + 1) }
     ensures bad { (f : File) (slot : ℕ) → IsErrOf result (OpeningFault.Bad f slot)
         → IsTrue (D.view disk.old).tells
         → Passes f.number (slot + 1) ((D.view disk.old).content f slot) → ⊥ }
@@ -94,20 +103,23 @@ fn pages_within(length: u32) -> u32
 pub fn read_area<D: Disk>(
     alloc: Global,
     disk: &mut D,
-    held: &[OpenTransaction],
+    held: &RestReading,
     area: u32,
 ) -> Result<AreaLines, OpeningFault>
-    // They are the area's of the map that the disk's content stands for.
+    // They are the area's of the map that the disk's content stands for, or what that leaves.
     ensures lines { IfOk result (λ found. IsTrue (D.view disk.old).tells
-        → (file : ℕ) → IsOwner file area → (groups : List Group) (lines : Lines)
-        → LaysLines (D.view disk.old).content groups held.now
-        → StandsFor (D.view disk.old).content groups lines → found ≡ lines_in area lines) }
+        → (file : ℕ) → IsOwner file area
+        → (left : Content) → IsReadAs held.now.faulty (D.view disk.old).content left
+        → (groups : List Group) (lines : Lines) → LaysLines left groups held.now.before
+        → StandsFor left groups lines → found ≡ lines_in area lines) }
 
     // It doesn't give up by itself.
     ensures failed { IsErrOf result OpeningFault.Failed
         → Rose (D.view disk.old).faults (D.view disk.new).faults }
 
-    // It is refused only where that page fails its decoder.
+    // It is refused only where such pages are, and that page fails its decoder.
+    ensures refused { (f : File) (slot : ℕ) → IsErrOf result (OpeningFault.Bad f slot)
+        → (held.now.faulty ≡ Refused) × IsPageSlot f slot }
     ensures bad { (f : File) (slot : ℕ) → IsErrOf result (OpeningFault.Bad f slot)
         → IsTrue (D.view disk.old).tells
         → Passes f.number (slot + 1) ((D.view disk.old).content f slot) → ⊥ }

@@ -4,6 +4,8 @@
 mod area;
 mod learn;
 mod page;
+mod reading;
 
 pub use area::{AreaLines, read_area};
 pub use learn::learn_area;
+pub use reading::{FaultyPages, RestReading};

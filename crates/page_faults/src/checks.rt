@@ -30,8 +30,8 @@ pub fn area_file(number: u32) -> FileId
     }
 }
 
-// Whether a slot is the page or the space page of this number.
-fn passes(bytes: &[u8], file: u32, page: u32) -> bool
+/// Whether a slot is the page or the space page of this number.
+pub fn passes(bytes: &[u8], file: u32, page: u32) -> bool
     requires size { length bytes.now ≡ 1024 }
     requires page { IsPage page }
     ensures yes { result ≡ true → Passes file page bytes.now }

@@ -6,7 +6,7 @@ mod laws;
 mod pages;
 mod stop;
 
-pub use checks::{PageCheck, area_file};
+pub use checks::{PageCheck, area_file, passes};
 pub use laws::{listed_once, nothing_listed};
 pub use pages::{check_pages, verify_pages};
 pub use stop::RmuStop;

@@ -3,7 +3,7 @@
 
 ghost use Rattle.std.specs.Prelude.{[]};
 
-use command_words::{database_word, script_words};
+use command_words::{database_word, only_reads, script_words};
 use rdb_drive::{Act, Gate, Point};
 use rdb_hostdisk::{HostDisk, HostSink, HostSource};
 use rdb_outside::Disk;
@@ -11,6 +11,7 @@ use rdb_top::run;
 use rdb_types::{Copied, Items, NoMemory, Session, Word};
 use std::alloc::Global;
 use std::env;
+use std::fs::File;
 use std::process::ExitCode;
 use std::rt::{Env, Files};
 use std::sync::Wait;
@@ -47,6 +48,20 @@ fn base_of(alloc: Global, words: &[Word]) -> Result<Word, NoMemory> {
     }
 }
 
+// The files of the database, which a command that only reads may share with others of its kind.
+fn disk_of<R: Files<File = File> + Clone + Drop>(
+    rt: &R,
+    alloc: Global,
+    words: &[Word],
+    base: &Word,
+) -> Result<HostDisk<R>, NoMemory> {
+    if only_reads(words) {
+        HostDisk::reading(rt, alloc, base)
+    } else {
+        HostDisk::over(rt, alloc, base)
+    }
+}
+
 fn names_of(words: &[Word]) -> &[Word] {
     let (first, count) = script_words(words);
     if first <= words.len() && count <= words.len() - first {
@@ -71,7 +86,7 @@ fn main(rt: HostRuntime) -> ExitCode {
         Err(_) => 5,
         Ok(words) => match base_of(rt.alloc(), words.as_slice()) {
             Err(_) => 5,
-            Ok(base) => match HostDisk::over(&rt, rt.alloc(), &base) {
+            Ok(base) => match disk_of(&rt, rt.alloc(), words.as_slice(), &base) {
                 Err(_) => 5,
                 Ok(disk) => match status_of(&rt, rt.alloc(), words.as_slice(), disk) {
                     Ok(status) => status,

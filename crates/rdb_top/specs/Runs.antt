@@ -12,7 +12,7 @@ use Rattle.session_steps.specs.Openings.{opening}
 use Rattle.cluster.specs.Turns.{KeepsTurns, is_session}
 use Rattle.command_words.specs.declared.words.Scripts.{Scripts}
 use Rattle.command_words.specs.declared.words.Command.{Command}
-use Rattle.command_words.specs.declared.words.Command.TheVariants.{New, Rdo}
+use Rattle.command_words.specs.declared.words.Command.TheVariants.{New, Rdo, Verify, Dump, DumpPage}
 use Rattle.script_streams.specs.declared.read.ReadStop.{ReadStop}
 use Rattle.script_streams.specs.declared.read.ReadStop.TheVariants.{Failed, OutOfMemory, TooLong}
 
@@ -29,6 +29,9 @@ abbrev pub sessions_of : Option Command → ℕ
 sessions_of None = 0
 sessions_of (Some (New limits)) = 0
 sessions_of (Some (Rdo scripts)) = scripts.count
+sessions_of (Some Verify) = 0
+sessions_of (Some Dump) = 0
+sessions_of (Some (DumpPage place)) = 0
 
 -- the statuses at which every item was said
 abbrev pub IsWhole : ℕ → Type 0
@@ -46,7 +49,7 @@ abbrev pub OfSomeScripts : ℕ → Type 0 → List (List Item) → (List (List I
 OfSomeScripts sessions Tells own Holds = (scripts : List (List Item)) × (length scripts ≡ sessions) × (Tells → scripts ≡ own) × Holds scripts
 
 abbrev pub is_status : ℕ → Bool
-is_status n = list_any (nat_eq n) (0 ∷ 1 ∷ 2 ∷ 3 ∷ 5 ∷ 6 ∷ 9 ∷ 10 ∷ [])
+is_status n = list_any (nat_eq n) (0 ∷ 1 ∷ 2 ∷ 3 ∷ 4 ∷ 5 ∷ 6 ∷ 7 ∷ 9 ∷ 10 ∷ [])
 
 -- the statuses of a run of scripts
 abbrev pub is_script_status : ℕ → Bool

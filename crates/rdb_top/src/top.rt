@@ -1,12 +1,13 @@
-ghost use Rattle.std.specs.Prelude.{◌≡◌, ◌⊎◌, ◌↔◌, ◌<◌, ◌≤◌, true, None, Some, ◌++◌, length, map, ℕ, List, [], All, IsTrue, IfOk, OnErr};
+ghost use Rattle.std.specs.Prelude.{◌≡◌, ◌⊎◌, ◌↔◌, ◌<◌, ◌≤◌, true, false, None, Some, ◌++◌, length, map, ℕ, List, [], All, IsTrue, IfOk, OnErr};
 ghost use Rattle.rdb_types.specs.declared.keys.Limits.{Limits};
 ghost use Rattle.rdb_outside.specs.Causes.{Rose};
-ghost use Rattle.rdb_outside.specs.Disk.{Image, LeftNow, LeavesOnly, Keeps};
+ghost use Rattle.rdb_outside.specs.Disk.{Image, LeftNow, LeavesOnly, Keeps, OnlyReads};
 ghost use Rattle.root_file.specs.Root.{AreLimits};
 ghost use Rattle.new_database.specs.Maker.{IsUnmade, HasRoot};
 ghost use Rattle.new_database.specs.New.{IsNewDatabase, IsNewDatabaseOrNone};
 ghost use Rattle.command_words.specs.declared.words.Scripts.{Scripts as GivenScripts};
-ghost use Rattle.command_words.specs.Words.{command_of as command_for, word_of, order_in, AreLast};
+ghost use Rattle.command_words.specs.declared.words.PagePlace.{PagePlace as GivenPage};
+ghost use Rattle.command_words.specs.Words.{command_of as command_for, word_of, order_in, only_reads, AreLast};
 ghost use Rattle.script_streams.specs.Fronts.{WritesFront};
 ghost use Rattle.rdb_drive.specs.Boards.{IsSession};
 ghost use Rattle.rdb_meaning.specs.Contents.{no_tables};
@@ -14,6 +15,8 @@ ghost use Rattle.rdb_account.specs.Events.{event_of};
 ghost use Rattle.rdb_account.specs.Legal.{IsLegal, AreWhole};
 ghost use Rattle.session_steps.specs.Openings.{opening};
 ghost use Rattle.cluster.specs.Turns.{KeepsTurns, is_session};
+ghost use Rattle.rmu_commands.specs.Usable.{HasRootInUse, IsUsable, IsDumped};
+ghost use Rattle.rmu_commands.specs.Written.{Verifies, Dumps, DumpsPage, IsCleanDatabase, is_verify_status, is_dump_status};
 ghost use Rattle.rdb_top.specs.Runs.{IsWhole, IsRun, OfSomeScripts, is_status, is_script_status, status_at, scripts_of, transcripts, sessions_of};
 
 use crate::scripts::{read_scripts, write_transcripts};
@@ -24,6 +27,7 @@ use rdb_account::Account;
 use rdb_drive::Gate;
 use rdb_outside::{Disk, Sink, Source};
 use rdb_types::{Copied, Items, Limits, NoMemory, Word};
+use rmu_commands::{dump_command, page_command, verify_command};
 use script_streams::ReadStop;
 use session_steps::ItemQueue;
 use std::alloc::Global;
@@ -226,7 +230,18 @@ fn run_new<D: Disk>(disk: &mut D, limits: Limits) -> u8
     }
 }
 
-/// Runs a command: `NEW` makes a database, `RDO` says 1 to 16 scripts, each by a session of its own.
+/// What is handed back of a command that runs no script.
+fn ended_unsaid<D>(alloc: Global, status: u8, disk: D) -> Finish<D>
+    ensures status { result.status ≡ status }
+    ensures disk { result.disk ≡ disk }
+    ensures opening { result.account.opening ≡ no_tables }
+    ensures events { result.account.events ≡ [] }
+    ensures earlier { result.earlier ≡ [] }
+{
+    ended_with(alloc, unsaid(alloc, status), disk)
+}
+
+/// Runs a command: `NEW` makes a database, `RDO` says 1 to 16 scripts, each by a session of its own, `RMU/VERIFY` lists the faults of a database, `RMU/DUMP` and `RMU/DUMP/PAGE` tell what it holds.
 pub fn run<R, D, S, K, G>(
     rt: &R,
     alloc: Global,
@@ -272,10 +287,10 @@ where
     // The events keep to the order that the words name.
     ensures order { (given : GivenScripts) → command_for words.now ≡ Some (Command.Rdo given) → given.has_order ≡ true → S.tells scripts.old ≡ true → IsWhole result.status →
         KeepsTurns (opening (word_of words.now) (scripts_of (S.left scripts.old) given.count)) given.count (order_in words.now) result.account.events }
-    // What was written are the transcripts in the order of the sessions, or a front of them.
-    ensures written { K.tells out.old ≡ true → result.status ≡ 0 →
+    // What was written are the transcripts in the order of the sessions, or a front of them, but for the commands that write what they read.
+    ensures written { only_reads (command_for words.now) ≡ false → K.tells out.old ≡ true → result.status ≡ 0 →
         K.taken out.new ≡ K.taken out.old ++ transcripts (sessions_of (command_for words.now)) result.account.events }
-    ensures front { K.tells out.old ≡ true →
+    ensures front { only_reads (command_for words.now) ≡ false → K.tells out.old ≡ true →
         WritesFront (K.taken out.old) (K.taken out.new) (transcripts (sessions_of (command_for words.now)) result.account.events) }
     // A script changes no file yet.
     ensures disk { (given : GivenScripts) → command_for words.now ≡ Some (Command.Rdo given) → result.disk ≡ disk }
@@ -302,6 +317,39 @@ where
     // The statuses of NEW.
     ensures new_statuses { (limits : Limits) → command_for words.now ≡ Some (Command.New limits) →
         (result.status ≡ 0) ⊎ (result.status ≡ 3) ⊎ (result.status ≡ 9) }
+    // VERIFY writes the faults that the database has and how many there are; status 7 says that there are some.
+    ensures verifies { command_for words.now ≡ Some Command.Verify →
+        Verifies (D.view disk) result.status (K.tells out.old ≡ true) (K.taken out.old) (K.taken out.new) }
+    // Status 0 of VERIFY means that all pages pass their decoders, owners agree and the lines are sound.
+    ensures clean { command_for words.now ≡ Some Command.Verify → result.status ≡ 0 →
+        IsTrue (D.view disk).tells → IsCleanDatabase (D.view disk).content }
+    // DUMP writes what the database is and holds.
+    ensures dumps { command_for words.now ≡ Some Command.Dump →
+        Dumps (D.view disk) result.status (K.tells out.old ≡ true) (K.taken out.old) (K.taken out.new) }
+    // DUMP/PAGE writes the bytes of the page.
+    ensures dumps_page { (place : GivenPage) → command_for words.now ≡ Some (Command.DumpPage place) →
+        DumpsPage (D.view disk) place.file place.page result.status (K.tells out.old ≡ true) (K.taken out.old) (K.taken out.new) }
+    // VERIFY and DUMP change nothing, at any moment.
+    ensures reads { only_reads (command_for words.now) ≡ true → OnlyReads (D.view disk) (D.view result.disk) }
+    // Some fault is listed.
+    ensures faults { result.status ≡ 7 → command_for words.now ≡ Some Command.Verify }
+    // A database can't be read.
+    ensures unread_root { result.status ≡ 4 → only_reads (command_for words.now) ≡ true }
+    // VERIFY: its root isn't one in use, or the header of a journal is none.
+    ensures unverified { command_for words.now ≡ Some Command.Verify → result.status ≡ 4 →
+        IsTrue (D.view disk).tells → IsUsable (D.view disk).content → ⊥ }
+    // DUMP: so it is, or a page or the catalog is none.
+    ensures undumped { command_for words.now ≡ Some Command.Dump → result.status ≡ 4 →
+        IsTrue (D.view disk).tells → IsDumped (D.view disk).content → ⊥ }
+    // DUMP/PAGE: its root isn't one in use.
+    ensures unpaged { (place : GivenPage) → command_for words.now ≡ Some (Command.DumpPage place) → result.status ≡ 4 →
+        IsTrue (D.view disk).tells → HasRootInUse (D.view disk).content → ⊥ }
+    // Nothing is said by commands that only read.
+    ensures silent { only_reads (command_for words.now) ≡ true → result.account.events ≡ [] }
+    // The statuses of VERIFY and DUMP.
+    ensures verify_statuses { command_for words.now ≡ Some Command.Verify → is_verify_status result.status ≡ true }
+    ensures dump_statuses { command_for words.now ≡ Some Command.Dump → is_dump_status result.status ≡ true }
+    ensures page_statuses { (place : GivenPage) → command_for words.now ≡ Some (Command.DumpPage place) → is_dump_status result.status ≡ true }
 {
     match command_of(words) {
         None => ended_with(alloc, unsaid(alloc, 1), disk),
@@ -309,6 +357,21 @@ where
             let mut disk = disk;
             let status = run_new(&mut disk, limits);
             ended_with(alloc, unsaid(alloc, status), disk)
+        }
+        Some(Command::Verify) => {
+            let mut disk = disk;
+            let status = verify_command(alloc, &mut disk, out);
+            ended_unsaid(alloc, status, disk)
+        }
+        Some(Command::Dump) => {
+            let mut disk = disk;
+            let status = dump_command(alloc, &mut disk, out);
+            ended_unsaid(alloc, status, disk)
+        }
+        Some(Command::DumpPage(place)) => {
+            let mut disk = disk;
+            let status = page_command(alloc, &mut disk, place.file, place.page, out);
+            ended_unsaid(alloc, status, disk)
         }
         Some(Command::Rdo(given)) => {
             ended_with(

@@ -12,7 +12,10 @@ use std::alloc::Global;
 const SLOTS: u32 = 500;
 
 /// How many calls there may be.
-const CALLS: u32 = 3000;
+const CALLS: u32 = 6000;
+
+/// How many slots of each file are copied.
+const COPIED: u32 = 3;
 
 /// Bytes for a place of a slot of the file of this number.
 #[derive(Drop)]
@@ -75,45 +78,117 @@ fn put_small(disk: &mut MemoryDisk, file: FileId, put: &Put) -> bool
     disk.write(file, put.slot, &held).is_ok()
 }
 
+/// The file of a word and a number: `root`, `aij`, `ruj` or `area`.
+pub fn named_file(about: &str, number: u32) -> Option<FileId> {
+    let kind = match about {
+        "area" => FileKind::Area,
+        "root" => FileKind::Root,
+        "ruj" => FileKind::Ruj,
+        "aij" => FileKind::Aij,
+        _ => return None,
+    };
+    Some(FileId { kind, number })
+}
+
 /// `area 2 1 24 0d00` puts these bytes from byte 24 of slot 1 of area file 2 on. So do `root`, `ruj` and `aij` in their files. False is answered where the line says nothing of the kind.
 pub fn write_bytes(disk: &mut MemoryDisk, about: &str, rest: &str) -> bool {
     let Some(put) = put_of(rest) else {
         return false;
     };
-    let number = put.number;
-    match about {
-        "area" => put_large(
-            disk,
-            FileId {
-                kind: FileKind::Area,
-                number,
-            },
-            &put,
-        ),
-        "root" => put_large(
-            disk,
-            FileId {
-                kind: FileKind::Root,
-                number,
-            },
-            &put,
-        ),
-        "ruj" => put_small(
-            disk,
-            FileId {
-                kind: FileKind::Ruj,
-                number,
-            },
-            &put,
-        ),
-        "aij" => put_small(
-            disk,
-            FileId {
-                kind: FileKind::Aij,
-                number,
-            },
-            &put,
-        ),
-        _ => false,
+    let Some(file) = named_file(about, put.number) else {
+        return false;
+    };
+    put_into(disk, file, &put)
+}
+
+// Puts the bytes into a slot of the size that the file's have.
+fn put_into(disk: &mut MemoryDisk, file: FileId, put: &Put) -> bool {
+    if file.slot_bytes() == 1024 {
+        put_large(disk, file, put)
+    } else if file.slot_bytes() == 512 {
+        put_small(disk, file, put)
+    } else {
+        false
+    }
+}
+
+/// Changes the highest bit of a byte.
+pub fn flip(disk: &mut MemoryDisk, file: FileId, slot: u32, at: usize) {
+    if file.slot_bytes() == 1024 {
+        let mut held = [0; 1024];
+        if disk.read(file, slot, &mut held).is_ok() && at < 1024 {
+            held[at] ^= 128;
+            let _ = disk.write(file, slot, &held);
+        }
+    } else if file.slot_bytes() == 512 {
+        let mut held = [0; 512];
+        if disk.read(file, slot, &mut held).is_ok() && at < 512 {
+            held[at] ^= 128;
+            let _ = disk.write(file, slot, &held);
+        }
+    }
+}
+
+/// What stands in the first slots of a disk's files.
+#[derive(Drop)]
+pub struct Snapshot {
+    large: Vec<(FileId, u32, [u8; 1024])>,
+    small: Vec<(FileId, u32, [u8; 512])>,
+}
+
+impl Snapshot {
+    // Keeps the first slots of a file that aren't zeros.
+    fn keep(&mut self, disk: &mut MemoryDisk, file: FileId) -> Result<(), NoMemory> {
+        let mut large = [0; 1024];
+        let mut small = [0; 512];
+        for slot in 0..COPIED {
+            if file.slot_bytes() == 1024 {
+                if disk.read(file, slot, &mut large).is_ok() && large.iter().any(|b| *b != 0) {
+                    self.large.push((file, slot, large))?;
+                }
+            } else if file.slot_bytes() == 512 {
+                if disk.read(file, slot, &mut small).is_ok() && small.iter().any(|b| *b != 0) {
+                    self.small.push((file, slot, small))?;
+                }
+            }
+        }
+        Ok(())
+    }
+
+    /// Of a disk.
+    pub fn of(alloc: Global, disk: &mut MemoryDisk) -> Result<Snapshot, NoMemory> {
+        let mut snapshot = Snapshot {
+            large: Vec::new(alloc),
+            small: Vec::new(alloc),
+        };
+        for (about, first, last) in [
+            ("root", 0, 0),
+            ("aij", 0, 0),
+            ("area", 1, 3),
+            ("ruj", 1, 16),
+        ] {
+            for number in first..=last {
+                if let Some(file) = named_file(about, number) {
+                    snapshot.keep(disk, file)?;
+                }
+            }
+        }
+        Ok(snapshot)
+    }
+
+    /// A disk with these slots.
+    pub fn disk(&self, alloc: Global) -> Result<MemoryDisk, NoMemory> {
+        let mut disk = MemoryDisk::new(alloc, SLOTS, 400, &[])?;
+        for (file, slot, bytes) in self.large.as_slice() {
+            if file.slot_bytes() == 1024 {
+                let _ = disk.write(*file, *slot, bytes);
+            }
+        }
+        for (file, slot, bytes) in self.small.as_slice() {
+            if file.slot_bytes() == 512 {
+                let _ = disk.write(*file, *slot, bytes);
+            }
+        }
+        Ok(disk)
     }
 }

@@ -3,7 +3,7 @@ use crate::texts::{tell_stop, tell_text};
 use before_images::read_before_images;
 use case_words::{number_of, put_bytes, put_key};
 use database_dump::dump;
-use lines_at_rest::read_area;
+use lines_at_rest::{FaultyPages, RestReading, read_area};
 use rdb_outside::MemoryDisk;
 use rdb_types::Bytes;
 
@@ -17,14 +17,15 @@ pub fn tell_dump(rt: &HostRuntime, disk: &mut MemoryDisk) {
     tell_text(rt, text.as_slice());
 }
 
-/// `lines 16` tells the present lines of logical area 16, with the open transactions undone.
-pub fn tell_lines(rt: &HostRuntime, disk: &mut MemoryDisk, rest: &str) {
+/// `lines 16` tells the present lines of logical area 16, with the open transactions undone. Pages that fail their decoders are refused, or left out.
+pub fn tell_lines(rt: &HostRuntime, disk: &mut MemoryDisk, rest: &str, faulty: FaultyPages) {
     let area = number_of(Some(rest)).unwrap_or(0);
-    let Ok(held) = read_before_images(rt.alloc(), disk) else {
+    let Ok(before) = read_before_images(rt.alloc(), disk) else {
         tell_stop(rt);
         return;
     };
-    let Ok(found) = read_area(rt.alloc(), disk, held.as_slice(), area) else {
+    let held = RestReading { before, faulty };
+    let Ok(found) = read_area(rt.alloc(), disk, &held, area) else {
         tell_stop(rt);
         return;
     };

@@ -1,1 +1,4 @@
 pub mod Added
+pub mod Listing
+pub mod Owners
+pub mod Verified

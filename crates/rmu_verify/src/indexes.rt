@@ -5,6 +5,7 @@ ghost use Rattle.rdo_ast.specs.Tree.{Name};
 ghost use Rattle.rdb_meaning.specs.Contents.{Row};
 ghost use Rattle.rdb_page.specs.Page.{IsOwner};
 ghost use Rattle.std.specs.List.Sorted.{IsStrictlySortedBy};
+ghost use Rattle.index_node.specs.declared.entry.NodeEntry.{NodeEntry as Entry};
 ghost use Rattle.index_node.specs.Order.{entry_order};
 ghost use Rattle.index_faults.specs.Contents.{HasTheRows, HoldsRows};
 ghost use Rattle.index_faults.specs.Walks.{IsInOrderWith};
@@ -17,12 +18,12 @@ ghost use Rattle.rmu_verify.specs.Added.{IsRooted};
 
 use crate::relations::{entry_in, version_of};
 use areas_at_rest::view_of;
-use before_images::OpenTransaction;
 use catalog::Catalog;
 use catalog_lines::{CatalogLine, IndexLine};
 use index_faults::{Judgement, Walk, judge_contents, walk_index};
 use index_node::NodeEntry;
 use line_opening::OpeningFault;
+use lines_at_rest::RestReading;
 use rdb_outside::Disk;
 use rdb_types::{Chars, Copied, Dbkey, Items, Keys, NoMemory};
 use relation_rows::StoredRelation;
@@ -30,7 +31,7 @@ use std::alloc::Global;
 
 /// The nodes that are at fault, and the indexes that don't hold their rows' keys, in the order of the catalog's lines.
 #[derive(Drop)]
-pub struct IndexFaults {
+pub(crate) struct IndexFaults {
     pub nodes: Keys,
     pub names: Items<Chars>,
 }
@@ -38,12 +39,14 @@ pub struct IndexFaults {
 fn walk_of<D: Disk>(
     alloc: Global,
     disk: &mut D,
-    held: &[OpenTransaction],
+    held: &RestReading,
     root: Dbkey,
 ) -> Result<Walk, OpeningFault>
     ensures found { IfOk result (λ walk. walk.faults ≡ [] → (file : ℕ) → IsOwner file root.area
         → AtRest (D.view disk.old) held.now (λ all. IsInOrderWith all root walk.pairs)) }
-    ensures quiet { IsQuiet (D.view disk.old) (D.view disk.new) result }
+    ensures at_fault { IfOk result (λ walk. (walk.faults ≡ [] → ⊥) → (file : ℕ) → IsOwner file root.area
+        → AtRest (D.view disk.old) held.now (λ all. (pairs : List Entry) → IsInOrderWith all root pairs → ⊥)) }
+    ensures quiet { IsQuiet held.now.faulty (D.view disk.old) (D.view disk.new) result }
 {
     let known = view_of(alloc, disk, held, root.area)?;
     match walk_index(alloc, &known, root) {
@@ -55,7 +58,7 @@ fn walk_of<D: Disk>(
 fn judged<D: Disk>(
     alloc: Global,
     disk: &mut D,
-    held: &[OpenTransaction],
+    held: &RestReading,
     relation: &StoredRelation<'_>,
     index: &IndexLine,
     pairs: &[NodeEntry],
@@ -68,7 +71,7 @@ fn judged<D: Disk>(
         → IsStrictlySortedBy entry_order pairs.now → HoldsRows index.now.fields index.now.unique pairs.now rows → ⊥)) }
     ensures unjudged { IfOk result (λ judged. judged ≡ Judgement.Unjudged → (file : ℕ) → IsOwner file relation.now.area
         → AtRest (D.view disk.old) held.now (λ all. (rows : List (Place × Row)) → HasTheRows relation.now all rows → ⊥)) }
-    ensures quiet { IsQuiet (D.view disk.old) (D.view disk.new) result }
+    ensures quiet { IsQuiet held.now.faulty (D.view disk.old) (D.view disk.new) result }
 {
     let known = view_of(alloc, disk, held, relation.area)?;
     match judge_contents(alloc, &known, relation, index, pairs) {
@@ -88,7 +91,7 @@ fn add_name(alloc: Global, name: &Chars, names: &mut Items<Chars>) -> Result<(),
 fn verify_index<D: Disk>(
     alloc: Global,
     disk: &mut D,
-    held: &[OpenTransaction],
+    held: &RestReading,
     catalog: &Catalog,
     index: &IndexLine,
     found: &mut IndexFaults,
@@ -99,17 +102,17 @@ fn verify_index<D: Disk>(
     ensures found { OnOk result (AtRest (D.view disk.old) held.now (λ all. (nodes : List Place) × (names : List Name)
         × (found.new.nodes ≡ found.old.nodes ++ nodes) × (found.new.names ≡ found.old.names ++ names)
         × IsJudgedOf all (versions_in catalog.now.lines) (entry_at index.now.relation catalog.now.tables.relations) index.now nodes names)) }
-    ensures quiet { IsQuiet (D.view disk.old) (D.view disk.new) result }
+    ensures quiet { IsQuiet held.now.faulty (D.view disk.old) (D.view disk.new) result }
 {
     let Some((name, relation)) = entry_in(&catalog.tables, index.relation) else {
         return Ok(());
     };
     let walk = walk_of(alloc, disk, held, index.root)?;
     if !walk.faults.is_empty() {
-        return match found.nodes.append(walk.faults) {
-            Ok(()) => Ok(()),
-            Err(_) => Err(OpeningFault::NoMemory),
+        let Ok(()) = found.nodes.append(walk.faults) else {
+            return Err(OpeningFault::NoMemory);
         };
+        return Ok(());
     }
     let stored = StoredRelation {
         area: relation.area,
@@ -130,7 +133,7 @@ fn verify_index<D: Disk>(
 fn verify_line<D: Disk>(
     alloc: Global,
     disk: &mut D,
-    held: &[OpenTransaction],
+    held: &RestReading,
     catalog: &Catalog,
     line: &CatalogLine,
     found: &mut IndexFaults,
@@ -141,7 +144,7 @@ fn verify_line<D: Disk>(
     ensures found { OnOk result (AtRest (D.view disk.old) held.now (λ all. (nodes : List Place) × (names : List Name)
         × (found.new.nodes ≡ found.old.nodes ++ nodes) × (found.new.names ≡ found.old.names ++ names)
         × FindsIndex all (versions_in catalog.now.lines) catalog.now.tables line.now nodes names)) }
-    ensures quiet { IsQuiet (D.view disk.old) (D.view disk.new) result }
+    ensures quiet { IsQuiet held.now.faulty (D.view disk.old) (D.view disk.new) result }
 {
     match line {
         CatalogLine::Index(index) => verify_index(alloc, disk, held, catalog, index, found),
@@ -152,10 +155,10 @@ fn verify_line<D: Disk>(
 }
 
 /// Adds what is at fault of all indexes of a catalog. The lines of one index's area are in memory at a time, and then its pairs with the lines of its relation's area.
-pub fn verify_indexes<D: Disk>(
+pub(crate) fn verify_indexes<D: Disk>(
     alloc: Global,
     disk: &mut D,
-    held: &[OpenTransaction],
+    held: &RestReading,
     catalog: &Catalog,
     found: &mut IndexFaults,
 ) -> Result<(), OpeningFault>
@@ -163,7 +166,7 @@ pub fn verify_indexes<D: Disk>(
     ensures found { OnOk result (AtRest (D.view disk.old) held.now (λ all. (nodes : List Place) × (names : List Name)
         × (found.new.nodes ≡ found.old.nodes ++ nodes) × (found.new.names ≡ found.old.names ++ names)
         × FindsIndexes all (versions_in catalog.now.lines) catalog.now.tables catalog.now.lines nodes names)) }
-    ensures quiet { IsQuiet (D.view disk.old) (D.view disk.new) result }
+    ensures quiet { IsQuiet held.now.faulty (D.view disk.old) (D.view disk.new) result }
 {
     for line in catalog.lines.as_slice() {
         verify_line(alloc, disk, held, catalog, &line.line, found)?;

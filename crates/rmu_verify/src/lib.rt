@@ -1,13 +1,15 @@
-//! The parts of a verification of a database at rest: lines that are no rows, lines without a relation, and what is at fault of indexes.
+//! The verification of a database at rest: all faults of its pages, of its catalog, of its rows and of its indexes.
 #![tactic(auto)]
 
 mod indexes;
+mod laws;
+mod lines;
+mod listing;
 mod owners;
 mod relations;
 mod rows;
 mod strays;
+mod whole;
 
-pub use indexes::{IndexFaults, verify_indexes};
-pub use owners::owners_of;
-pub use rows::verify_rows;
-pub use strays::verify_strays;
+pub use laws::no_fault_is_sound;
+pub use whole::verify;

@@ -10,10 +10,10 @@ ghost use Rattle.rmu_verify.specs.Added.{AddsSome};
 
 use crate::relations::version_of;
 use areas_at_rest::view_of;
-use before_images::OpenTransaction;
 use catalog::Catalog;
 use line_faults::row_faults;
 use line_opening::OpeningFault;
+use lines_at_rest::RestReading;
 use rdb_meaning::Relation;
 use rdb_outside::Disk;
 use rdb_types::Keys;
@@ -23,7 +23,7 @@ use std::alloc::Global;
 fn verify_relation<D: Disk>(
     alloc: Global,
     disk: &mut D,
-    held: &[OpenTransaction],
+    held: &RestReading,
     version: u16,
     relation: &Relation,
     keys: &mut Keys,
@@ -31,7 +31,7 @@ fn verify_relation<D: Disk>(
     requires { IsRelationArea relation.now.area }
     ensures found { OnOk result (AtRest (D.view disk.old) held.now
         (λ all. AddsSome (AreRowFaults (stored version relation.now) all) keys.old keys.new)) }
-    ensures quiet { IsQuiet (D.view disk.old) (D.view disk.new) result }
+    ensures quiet { IsQuiet held.now.faulty (D.view disk.old) (D.view disk.new) result }
 {
     let known = view_of(alloc, disk, held, relation.area)?;
     let stored = StoredRelation {
@@ -46,17 +46,17 @@ fn verify_relation<D: Disk>(
 }
 
 /// Adds the lines of all relations that are no rows of theirs. One area is in memory at a time.
-pub fn verify_rows<D: Disk>(
+pub(crate) fn verify_rows<D: Disk>(
     alloc: Global,
     disk: &mut D,
-    held: &[OpenTransaction],
+    held: &RestReading,
     catalog: &Catalog,
     keys: &mut Keys,
 ) -> Result<(), OpeningFault>
     requires { IsWhole catalog.now }
     ensures found { OnOk result (AtRest (D.view disk.old) held.now
         (λ all. AddsSome (FindsRows all (versions_in catalog.now.lines) catalog.now.tables.relations) keys.old keys.new)) }
-    ensures quiet { IsQuiet (D.view disk.old) (D.view disk.new) result }
+    ensures quiet { IsQuiet held.now.faulty (D.view disk.old) (D.view disk.new) result }
 {
     for (name, relation) in catalog.tables.relations.as_slice() {
         let version = version_of(catalog.lines.as_slice(), name);

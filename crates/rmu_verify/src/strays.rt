@@ -3,15 +3,14 @@ ghost use Rattle.std.specs.Prelude.{◌≡◌, ◌++◌, ℕ, List, OnOk};
 ghost use Rattle.rdb_page.specs.Page.{IsOwner};
 ghost use Rattle.line_view.specs.Knowledge.{Lines, lines_in, keys_of};
 ghost use Rattle.verified_lines.specs.Relations.{is_stray as is_stray_of, strays_in};
-ghost use Rattle.verified_lines.specs.Faults.{IsAmong};
+ghost use Rattle.verified_lines.specs.Faults.{Covers};
+ghost use Rattle.lines_at_rest.specs.declared.reading.FaultyPages.TheVariants.{LeftOut};
 ghost use Rattle.areas_at_rest.specs.Runs.{IsQuiet, AtRest};
-ghost use Rattle.rmu_verify.specs.Added.{HasOwners};
 
 use crate::owners::owners_of;
 use crate::relations::entry_in;
-use before_images::OpenTransaction;
 use line_opening::OpeningFault;
-use lines_at_rest::{AreaLines, read_area};
+use lines_at_rest::{AreaLines, RestReading, read_area};
 use rdb_meaning::Tables;
 use rdb_outside::Disk;
 use rdb_types::{Keys, NoMemory};
@@ -39,13 +38,13 @@ fn add_keys(found: &AreaLines, keys: &mut Keys) -> Result<(), NoMemory>
 fn add_area<D: Disk>(
     alloc: Global,
     disk: &mut D,
-    held: &[OpenTransaction],
+    held: &RestReading,
     area: u32,
     keys: &mut Keys,
 ) -> Result<(), OpeningFault>
     ensures found { OnOk result ((file : ℕ) → IsOwner file area
         → AtRest (D.view disk.old) held.now (λ all. keys.new ≡ keys.old ++ keys_of (lines_in area all))) }
-    ensures quiet { IsQuiet (D.view disk.old) (D.view disk.new) result }
+    ensures quiet { IsQuiet held.now.faulty (D.view disk.old) (D.view disk.new) result }
 {
     let found = read_area(alloc, disk, held, area)?;
     match add_keys(&found, keys) {
@@ -55,17 +54,17 @@ fn add_area<D: Disk>(
 }
 
 /// Adds the lines of the even logical areas that own pages and that no relation has.
-pub fn verify_strays<D: Disk>(
+pub(crate) fn verify_strays<D: Disk>(
     alloc: Global,
     disk: &mut D,
-    held: &[OpenTransaction],
+    held: &RestReading,
     tables: &Tables,
     keys: &mut Keys,
 ) -> Result<(), OpeningFault>
+    requires { held.now.faulty ≡ LeftOut }
     ensures found { OnOk result (AtRest (D.view disk.old) held.now (λ all. (areas : List ℕ)
-        × HasOwners (D.view disk.old).content 2 65536 areas
-        × (((area : ℕ) → IsAmong area areas → IsOwner 2 area) → keys.new ≡ keys.old ++ strays_in all tables.now areas))) }
-    ensures quiet { IsQuiet (D.view disk.old) (D.view disk.new) result }
+        × Covers all areas × (keys.new ≡ keys.old ++ strays_in all tables.now areas))) }
+    ensures quiet { IsQuiet held.now.faulty (D.view disk.old) (D.view disk.new) result }
 {
     let owners = owners_of(alloc, disk, RELATIONS)?;
     for area in &owners {

@@ -175,7 +175,7 @@ sound_index : (all : Lines) (versions : List (Name × ℕ)) (x : IndexLine) (e :
     → IsJudgedOf all versions e x [] [] → IsSoundIndex all x w
 sound_index all versions x None w matched some short judged = absurd (let no : ⊥ = cc in no)
 sound_index all versions x (Some e) None matched some short judged = absurd matched
-sound_index all versions x (Some e) (Some w) matched some short (broken nodes names) = absurd (nodes refl)
+sound_index all versions x (Some e) (Some w) matched some short (broken nodes names order) = absurd (nodes refl)
 sound_index all versions x (Some e) (Some w) matched some short (differs held nodes names order isnt) = absurd (let no : ⊥ = cc in no)
 sound_index all versions x (Some e) (Some w) matched some short (holds held nodes names order keys) =
     let has = keys w.rows matched.rows in

@@ -49,7 +49,7 @@ entry_in area (e ∷ es) = if e.1.area == area then Some e else entry_in area es
 
 -- An index isn't in order, and some of its nodes are at fault; or it is in order, and it holds its relation's rows, if the lines of the relation are rows, or it doesn't and its name is at fault.
 pub data IsJudged (all : Lines) (r : StoredRelation) (x : IndexLine) (nodes : List Dbkey) (names : List Name) : Type 0 where
-  broken : (nodes ≡ [] → ⊥) → names ≡ [] → IsJudged all r x nodes names
+  broken : (nodes ≡ [] → ⊥) → names ≡ [] → ((held : List NodeEntry) → IsInOrderWith all x.root held → ⊥) → IsJudged all r x nodes names
   holds : (held : List NodeEntry) → nodes ≡ [] → names ≡ [] → IsInOrderWith all x.root held → ((rows : List (Dbkey × Row)) → HasTheRows r all rows → HoldsRows x.fields x.unique held rows) → IsJudged all r x nodes names
   differs : (held : List NodeEntry) → nodes ≡ [] → names ≡ x.name ∷ [] → IsInOrderWith all x.root held → ((rows : List (Dbkey × Row)) → HasTheRows r all rows → HoldsRows x.fields x.unique held rows → ⊥) → IsJudged all r x nodes names
 

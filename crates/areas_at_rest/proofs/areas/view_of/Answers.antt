@@ -11,5 +11,5 @@ returns-clause-known g c =
     subst (λ (h : Held). IsAreaKnown (knows h) c.args.area) (sym k.1) (area_learnt c.new-known.result c.args.area k.0)
 
 pub returns-clause-agrees : goal.returns-clause-agrees
-returns-clause-agrees g c = λ file owner t groups lines lays stands.
-    c.learn_area.ensures.agrees t file owner groups lines lays stands (subst (λ (h : Held). Agrees (knows h) lines) (sym c.new-known.ensures) (nothing_agrees lines))
+returns-clause-agrees g c = λ file owner t left so groups lines lays stands.
+    c.learn_area.ensures.agrees t file owner left so groups lines lays stands (subst (λ (h : Held). Agrees (knows h) lines) (sym c.new-known.ensures) (nothing_agrees lines))

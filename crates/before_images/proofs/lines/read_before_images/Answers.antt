@@ -5,6 +5,7 @@ use Rattle.line_moves.proofs.Runs.{still_tells}
 use Rattle.line_opening.proofs.Passed.{image_same}
 use Rattle.before_images.specs.declared.lines.OpenTransaction.{OpenTransaction}
 use Rattle.before_images.specs.Open.{HoldsMore}
+use Rattle.before_images.proofs.Elsewhere.{are_held, are_open}
 use Rattle.before_images.proofs.Laid.{AreHeld, none_held, next_held, all_laid}
 use Rattle.before_images.proofs.lines.read_before_images.Goals as goal
 
@@ -30,6 +31,8 @@ loop-place-preserved g c = let v = g.D.Disk.view in
     }
 
 pub returns-clause-lays : goal.returns-clause-lays
-returns-clause-lays g c = let before = g.D.Disk.view c.args.disk.now in λ t journal is.
+returns-clause-lays g c = let before = g.D.Disk.view c.args.disk.now in λ t journal is image same.
     let past : 16 ≤ c.loop-place.place = search rules in
-    all_laid before.content journal.groups c.in_ok-numbers.numbers (c.loop-place.place + 1) c.loop-place.held (c.in_ok-numbers.ensures.open t journal is) (omega (arith, past)) (c.loop-place.invariant.held t)
+    let numbers = c.in_ok-numbers.numbers in
+    all_laid image journal.groups numbers (c.loop-place.place + 1) c.loop-place.held (are_open before.content image same journal.groups numbers (c.in_ok-numbers.ensures.open t journal is)) (omega (arith, past))
+    (are_held before.content image same numbers (c.loop-place.place + 1) c.loop-place.held (c.loop-place.invariant.held t))

@@ -20,7 +20,7 @@ returns-in_err-lines-clause-quiet g c =
     let v = g.D.Disk.view in
     let p = err_from_is_err_and c.from_residual.result c.from_residual.ensures.1 in
     rw (p.1, p.2) (behind_reads (v c.args.disk.now) (v c.loop-name.disk) (v c.count_lines.new.disk) (Err c.in_err-lines.field-0.0) c.loop-name.invariant.reads
-    (stopped (v c.loop-name.disk) (v c.count_lines.new.disk) c.in_err-lines.field-0.0 (subst (λ (r : Result ℕ OpeningFault). IsQuiet (v c.loop-name.disk) (v c.count_lines.new.disk) r) c.in_err-lines.was c.count_lines.ensures.quiet)))
+    (stopped (v c.loop-name.disk) (v c.count_lines.new.disk) c.in_err-lines.field-0.0 (subst (λ (r : Result ℕ OpeningFault). IsQuiet c.args.held.now.faulty (v c.loop-name.disk) (v c.count_lines.new.disk) r) c.in_err-lines.was c.count_lines.ensures.quiet)))
 
 pub returns-in_default-clause-quiet : goal.returns-in_default-clause-quiet
 returns-in_default-clause-quiet g c =
@@ -41,18 +41,18 @@ loop-name-preserved g c =
     (subst (λ (l : List (Name × Relation)). AllByRecursion (λ (e : Name × Relation). IsRelationArea e.1.area) l) (sym value) c.requires) in
     record {
       reads = then_reads before mid (v c.count_lines.new.disk) was.reads c.count_lines.ensures.quiet.reads;
-      counted = λ t groups lines lays stands.
-          let count : c.in_ok-lines.lines ≡ length (lines_in b.1.area lines) = at_rest before mid c.args.held.now (λ (all : Lines). c.in_ok-lines.lines ≡ length (lines_in b.1.area all)) was.reads (c.in_ok-lines.ensures.count 2 (relation_owner b.1.area area)) t groups lines lays stands in
+      counted = λ t left so groups lines lays stands.
+          let count : c.in_ok-lines.lines ≡ length (lines_in b.1.area lines) = at_rest before mid c.args.held.now (λ (all : Lines). c.in_ok-lines.lines ≡ length (lines_in b.1.area all)) was.reads (c.in_ok-lines.ensures.count 2 (relation_owner b.1.area area)) t left so groups lines lays stands in
           let one : Counted = record { name = b.0; area = b.1.area; lines = c.in_ok-lines.lines } in
           let its : one ≡ counted lines b.0 b.1.area = λ j. record { name = b.0; area = b.1.area; lines = count j } in
           let next : map (λ (e : Name × Relation). counted lines e.0 e.1.area) (take (i + 1) items) ≡ map (λ (e : Name × Relation). counted lines e.0 e.1.area) (take i items) ++ counted lines b.0 b.1.area ∷ [] =
           map_more (λ (e : Name × Relation). counted lines e.0 e.1.area) items i b c.loop-name-test.true ∙ (λ j. map (λ (e : Name × Relation). counted lines e.0 e.1.area) (take i items) ++ counted lines (sym c.loop-name-item.is j).0 (sym c.loop-name-item.is j).1.area ∷ []) in
-          c.in-Ok.ensures ∙ (λ j. was.counted t groups lines lays stands j ++ its j ∷ []) ∙ (λ j. map (λ (e : Name × Relation). counted lines e.0 e.1.area) (take i (sym value j)) ++ counted lines b.0 b.1.area ∷ []) ∙ sym next ∙ (λ j. map (λ (e : Name × Relation). counted lines e.0 e.1.area) (take (i + 1) (value j)));
+          c.in-Ok.ensures ∙ (λ j. was.counted t left so groups lines lays stands j ++ its j ∷ []) ∙ (λ j. map (λ (e : Name × Relation). counted lines e.0 e.1.area) (take i (sym value j)) ++ counted lines b.0 b.1.area ∷ []) ∙ sym next ∙ (λ j. map (λ (e : Name × Relation). counted lines e.0 e.1.area) (take (i + 1) (value j)));
     }
 
 pub returns-clause-counted : goal.returns-clause-counted
-returns-clause-counted g c = λ t groups lines lays stands.
+returns-clause-counted g c = λ t left so groups lines lays stands.
     let items : List (Name × Relation) = c.as_slice-name-items.result.now in
     let value : items ≡ c.args.relations.now = c.as_slice-name-items.ensures.value in
     let whole : take c.loop-name.name-index c.args.relations.now ≡ c.args.relations.now = ap (take c.loop-name.name-index) (sym value) ∙ take_all c.loop-name.name-index items c.loop-name-test.false ∙ value in
-    c.loop-name.invariant.counted t groups lines lays stands ∙ ap (relations_counted lines) whole
+    c.loop-name.invariant.counted t left so groups lines lays stands ∙ ap (relations_counted lines) whole

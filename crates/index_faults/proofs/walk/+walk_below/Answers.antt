@@ -1,9 +1,9 @@
 use Rattle.std.proofs.Common.{◌≡◌, ◌<◌, ◌≤◌, ◌-◌, ℕ, List, [], Option, Some, None, length, drop, get_or, refl, subst}
-use Rattle.std.specs.Prelude.{IfSome}
+use Rattle.std.specs.Prelude.{IfSome, IfNone}
 use Rattle.index_node.specs.declared.entry.NodeEntry.{NodeEntry}
 use Rattle.index_node.specs.declared.node.IndexNode.{IndexNode}
-use Rattle.index_faults.specs.Walks.{are_between, IsReached, IsJudged}
-use Rattle.index_faults.proofs.Walked.{start, one_child, leaf, finish}
+use Rattle.index_faults.specs.Walks.{are_between, IsReached, IsMissed, IsJudged}
+use Rattle.index_faults.proofs.Walked.{start, missed, one_child, leaf, finish}
 use Rattle.index_faults.proofs.walk.+walk_below.Goals as goal
 
 pub returns-then-level-eq0 : goal.returns-then-level-eq0
@@ -29,6 +29,17 @@ loop-at-preserved g t c =
     one_child known (c.args.node.level - 1) entries c.loop-at.at c.args.walk.now c.loop-at.walk c.reach.new.walk next new child c.in-Some.below c.loop-at.invariant reached c.in_ok-walk_below.ensures judged inside
     (λ d. subst (λ (es : List NodeEntry). (get_or es c.loop-at.at d).child ≡ Some child) same (c.child_of-child.ensures d))
     (record { key = []; row = child; child = None })
+
+pub loop-at-preserved-in_default : goal.loop-at-preserved-in_default
+loop-at-preserved-in_default g t c =
+    let known = g.V.View.knows c.args.view.now in
+    let entries = c.args.node.entries in
+    let child = c.child_of-child.result in
+    let same : c.as_slice.result.now ≡ entries = c.as_slice.ensures in
+    let miss = subst (λ (o : Option IndexNode). IfNone o (IsMissed known child (Some (c.args.node.level - 1)) c.loop-at.walk c.reach.new.walk)) c.in_default.is c.in_ok-below.ensures.none in
+    let inside : c.loop-at.at < length entries = subst (λ (n : ℕ). c.loop-at.at < n) c.len-at-end.ensures c.loop-at-test.true in
+    missed known (c.args.node.level - 1) entries c.loop-at.at c.args.walk.now c.loop-at.walk c.reach.new.walk child inside
+    (λ d. subst (λ (es : List NodeEntry). (get_or es c.loop-at.at d).child ≡ Some child) same (c.child_of-child.ensures d)) c.loop-at.invariant miss
 
 pub returns : goal.returns
 returns g t c = finish (g.V.View.knows c.args.view.now) c.args.node.level (c.args.node.level - 1) c.args.node.entries c.loop-at.at c.args.walk.now c.loop-at.walk (λ none. c.if-level-eq0.false none) refl

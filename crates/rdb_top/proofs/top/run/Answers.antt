@@ -28,7 +28,7 @@ returns-in-Some-Rdo-clause-order g c given row has_order tells whole =
     (same-given c.in-Some-Rdo.given given _ (ap Some (sym c.in-Some-Rdo.field-0-is) ∙ c.in-Some-Rdo.ensures.row) row) (c.run_rdo.ensures.order (ap (λ (n : Scripts). n.has_order) (same-given c.in-Some-Rdo.given given _ (ap Some (sym c.in-Some-Rdo.field-0-is) ∙ c.in-Some-Rdo.ensures.row) row) ∙ has_order) tells (rw (sym c.ended_with-in-Some-Rdo.ensures.status) whole)))
 
 pub returns-in-Some-Rdo-clause-front : goal.returns-in-Some-Rdo-clause-front
-returns-in-Some-Rdo-clause-front g c tells =
+returns-in-Some-Rdo-clause-front g c writes tells =
     rw c.ended_with-in-Some-Rdo.ensures.account (rw (sym c.in-Some-Rdo.ensures.row) (rw c.in-Some-Rdo.field-0-is (c.run_rdo.ensures.front tells)))
 
 pub returns-in-Some-Rdo-clause-account : goal.returns-in-Some-Rdo-clause-account

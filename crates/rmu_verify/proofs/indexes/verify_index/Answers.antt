@@ -18,6 +18,7 @@ use Rattle.index_faults.specs.Walks.{IsInOrderWith}
 use Rattle.relation_rows.specs.declared.stored.StoredRelation.{StoredRelation}
 use Rattle.sound_lines.specs.Contents.{versions_in, version_of}
 use Rattle.verified_lines.specs.Relations.{entry_in, stored_entry, IsJudgedOf}
+use Rattle.verified_lines.specs.Relations.IsJudged.{broken}
 use Rattle.areas_at_rest.specs.Runs.{IsQuiet}
 use Rattle.areas_at_rest.proofs.Defined.{relation_owner, index_owner}
 use Rattle.areas_at_rest.proofs.Quiet.{then as behind_reads, stopped, done, want, at_rest}
@@ -25,11 +26,11 @@ use Rattle.rmu_verify.proofs.IndexLines.{IsRead, entry_area, holds_of, unjudged_
 use Rattle.rmu_verify.proofs.indexes.verify_index.Goals as goal
 
 pub returns-in_default-clause-found : goal.returns-in_default-clause-found
-returns-in_default-clause-found g c = λ t groups lines lays stands.
+returns-in_default-clause-found g c = λ t left so groups lines lays stands.
     ([], [], sym (append-nil _), sym (append-nil _), subst (λ (o : Option (Name × Rows)). IsJudgedOf lines (versions_in c.args.catalog.now.lines) o c.args.index.now [] []) (sym c.in_default.ensures.none) (refl, refl))
 
 pub returns-in-Holds-clause-found : goal.returns-in-Holds-clause-found
-returns-in-Holds-clause-found g c = λ t groups lines lays stands.
+returns-in-Holds-clause-found g c = λ t left so groups lines lays stands.
     let v = g.D.Disk.view in
     let e = c.in-Some.field-0.now in
     let versions = versions_in c.args.catalog.now.lines in
@@ -40,12 +41,12 @@ returns-in-Holds-clause-found g c = λ t groups lines lays stands.
     let owner = relation_owner e.1.area (subst IsRelationArea (sym (entry_area c.args.index.now.relation c.args.catalog.now.tables.relations e found)) c.requires.allowed.relation) in
     let root = index_owner c.args.index.now.root.area (subst IsIndexArea (sym c.requires.rooted) c.requires.allowed.area) in
     let held : c.as_slice-3.result.now ≡ c.in_ok-walk.walk.pairs = c.as_slice-3.ensures in
-    let in_order : IsInOrderWith lines c.args.index.now.root c.as_slice-3.result.now = subst (IsInOrderWith lines c.args.index.now.root) (sym held) (c.in_ok-walk.ensures.found empty 3 root t groups lines lays stands) in
-    let said = at_rest (v c.args.disk.now) (v c.walk_of.new.disk) c.args.held.now (λ (all : Lines). (rows : List (Dbkey × Row)) → HasTheRows read all rows → IsStrictlySortedBy entry_order c.as_slice-3.result.now → HoldsRows c.args.index.now.fields c.args.index.now.unique c.as_slice-3.result.now rows) c.walk_of.ensures.quiet.reads (c.in_ok-judged.ensures.holds (first_of (cc, search rules)) 2 owner) t groups lines lays stands in
+    let in_order : IsInOrderWith lines c.args.index.now.root c.as_slice-3.result.now = subst (IsInOrderWith lines c.args.index.now.root) (sym held) (c.in_ok-walk.ensures.found empty 3 root t left so groups lines lays stands) in
+    let said = at_rest (v c.args.disk.now) (v c.walk_of.new.disk) c.args.held.now (λ (all : Lines). (rows : List (Dbkey × Row)) → HasTheRows read all rows → IsStrictlySortedBy entry_order c.as_slice-3.result.now → HoldsRows c.args.index.now.fields c.args.index.now.unique c.as_slice-3.result.now rows) c.walk_of.ensures.quiet.reads (c.in_ok-judged.ensures.holds (first_of (cc, search rules)) 2 owner) t left so groups lines lays stands in
     ([], [], sym (append-nil _), sym (append-nil _), subst (λ (o : Option (Name × Rows)). IsJudgedOf lines versions o c.args.index.now [] []) (sym found) (holds_of lines read (stored_entry versions e) c.args.index.now c.as_slice-3.result.now is_read in_order said))
 
 pub returns-in-Unjudged-clause-found : goal.returns-in-Unjudged-clause-found
-returns-in-Unjudged-clause-found g c = λ t groups lines lays stands.
+returns-in-Unjudged-clause-found g c = λ t left so groups lines lays stands.
     let v = g.D.Disk.view in
     let e = c.in-Some.field-0.now in
     let versions = versions_in c.args.catalog.now.lines in
@@ -56,12 +57,12 @@ returns-in-Unjudged-clause-found g c = λ t groups lines lays stands.
     let owner = relation_owner e.1.area (subst IsRelationArea (sym (entry_area c.args.index.now.relation c.args.catalog.now.tables.relations e found)) c.requires.allowed.relation) in
     let root = index_owner c.args.index.now.root.area (subst IsIndexArea (sym c.requires.rooted) c.requires.allowed.area) in
     let held : c.as_slice-3.result.now ≡ c.in_ok-walk.walk.pairs = c.as_slice-3.ensures in
-    let in_order : IsInOrderWith lines c.args.index.now.root c.as_slice-3.result.now = subst (IsInOrderWith lines c.args.index.now.root) (sym held) (c.in_ok-walk.ensures.found empty 3 root t groups lines lays stands) in
-    let said = at_rest (v c.args.disk.now) (v c.walk_of.new.disk) c.args.held.now (λ (all : Lines). (rows : List (Dbkey × Row)) → HasTheRows read all rows → ⊥) c.walk_of.ensures.quiet.reads (c.in_ok-judged.ensures.unjudged (first_of (cc, search rules)) 2 owner) t groups lines lays stands in
+    let in_order : IsInOrderWith lines c.args.index.now.root c.as_slice-3.result.now = subst (IsInOrderWith lines c.args.index.now.root) (sym held) (c.in_ok-walk.ensures.found empty 3 root t left so groups lines lays stands) in
+    let said = at_rest (v c.args.disk.now) (v c.walk_of.new.disk) c.args.held.now (λ (all : Lines). (rows : List (Dbkey × Row)) → HasTheRows read all rows → ⊥) c.walk_of.ensures.quiet.reads (c.in_ok-judged.ensures.unjudged (first_of (cc, search rules)) 2 owner) t left so groups lines lays stands in
     ([], [], sym (append-nil _), sym (append-nil _), subst (λ (o : Option (Name × Rows)). IsJudgedOf lines versions o c.args.index.now [] []) (sym found) (unjudged_of lines read (stored_entry versions e) c.args.index.now c.as_slice-3.result.now is_read in_order said))
 
 pub returns-in-Ok-add_name-clause-found : goal.returns-in-Ok-add_name-clause-found
-returns-in-Ok-add_name-clause-found g c = λ t groups lines lays stands.
+returns-in-Ok-add_name-clause-found g c = λ t left so groups lines lays stands.
     let v = g.D.Disk.view in
     let e = c.in-Some.field-0.now in
     let versions = versions_in c.args.catalog.now.lines in
@@ -72,8 +73,8 @@ returns-in-Ok-add_name-clause-found g c = λ t groups lines lays stands.
     let owner = relation_owner e.1.area (subst IsRelationArea (sym (entry_area c.args.index.now.relation c.args.catalog.now.tables.relations e found)) c.requires.allowed.relation) in
     let root = index_owner c.args.index.now.root.area (subst IsIndexArea (sym c.requires.rooted) c.requires.allowed.area) in
     let held : c.as_slice-3.result.now ≡ c.in_ok-walk.walk.pairs = c.as_slice-3.ensures in
-    let in_order : IsInOrderWith lines c.args.index.now.root c.as_slice-3.result.now = subst (IsInOrderWith lines c.args.index.now.root) (sym held) (c.in_ok-walk.ensures.found empty 3 root t groups lines lays stands) in
-    let said = at_rest (v c.args.disk.now) (v c.walk_of.new.disk) c.args.held.now (λ (all : Lines). (rows : List (Dbkey × Row)) → HasTheRows read all rows → IsStrictlySortedBy entry_order c.as_slice-3.result.now → HoldsRows c.args.index.now.fields c.args.index.now.unique c.as_slice-3.result.now rows → ⊥) c.walk_of.ensures.quiet.reads (c.in_ok-judged.ensures.differs (first_of (cc, search rules)) 2 owner) t groups lines lays stands in
+    let in_order : IsInOrderWith lines c.args.index.now.root c.as_slice-3.result.now = subst (IsInOrderWith lines c.args.index.now.root) (sym held) (c.in_ok-walk.ensures.found empty 3 root t left so groups lines lays stands) in
+    let said = at_rest (v c.args.disk.now) (v c.walk_of.new.disk) c.args.held.now (λ (all : Lines). (rows : List (Dbkey × Row)) → HasTheRows read all rows → IsStrictlySortedBy entry_order c.as_slice-3.result.now → HoldsRows c.args.index.now.fields c.args.index.now.unique c.as_slice-3.result.now rows → ⊥) c.walk_of.ensures.quiet.reads (c.in_ok-judged.ensures.differs (first_of (cc, search rules)) 2 owner) t left so groups lines lays stands in
     ([], (c.args.index.now.name ∷ []), sym (append-nil _), c.in-Ok-add_name.ensures, subst (λ (o : Option (Name × Rows)). IsJudgedOf lines versions o c.args.index.now [] (c.args.index.now.name ∷ [])) (sym found) (differs_of lines read (stored_entry versions e) c.args.index.now c.as_slice-3.result.now is_read in_order said))
 
 pub returns-in-Holds-clause-quiet : goal.returns-in-Holds-clause-quiet
@@ -101,4 +102,15 @@ returns-in_err-judged-clause-quiet g c =
     let v = g.D.Disk.view in
     let p = err_from_is_err_and c.from_residual-in_err-judged.result c.from_residual-in_err-judged.ensures.1 in
     rw (p.1, p.2) (behind_reads (v c.args.disk.now) (v c.walk_of.new.disk) (v c.judged.new.disk) (Err c.in_err-judged.field-0.0) c.walk_of.ensures.quiet.reads
-    (stopped (v c.walk_of.new.disk) (v c.judged.new.disk) c.in_err-judged.field-0.0 (subst (λ (r : Result Judgement OpeningFault). IsQuiet (v c.walk_of.new.disk) (v c.judged.new.disk) r) c.in_err-judged.was c.judged.ensures.quiet)))
+    (stopped (v c.walk_of.new.disk) (v c.judged.new.disk) c.in_err-judged.field-0.0 (subst (λ (r : Result Judgement OpeningFault). IsQuiet c.args.held.now.faulty (v c.walk_of.new.disk) (v c.judged.new.disk) r) c.in_err-judged.was c.judged.ensures.quiet)))
+
+pub returns-then-not-is_empty-clause-found : goal.returns-then-not-is_empty-clause-found
+returns-then-not-is_empty-clause-found g c = λ t left so groups lines lays stands.
+    let e = c.in-Some.field-0.now in
+    let versions = versions_in c.args.catalog.now.lines in
+    let faults = c.in_ok-walk.walk.faults in
+    let found : entry_in c.args.index.now.relation c.args.catalog.now.tables.relations ≡ Some e = c.in-Some.ensures.some in
+    let some : faults ≡ [] → ⊥ = (λ none. let is = c.is_empty.ensures.1 none in let no : ⊥ = first_of (cc, search rules) in no) in
+    let root = index_owner c.args.index.now.root.area (subst IsIndexArea (sym c.requires.rooted) c.requires.allowed.area) in
+    let order = c.in_ok-walk.ensures.at_fault some 3 root t left so groups lines lays stands in
+    (faults, [], c.in-Ok.ensures, sym (append-nil _), subst (λ (o : Option (Name × Rows)). IsJudgedOf lines versions o c.args.index.now faults []) (sym found) (broken some refl order))

@@ -33,7 +33,7 @@ verify_line-requires-clause-rooted g c =
 pub loop-line-init : goal.loop-line-init
 loop-line-init g c = record {
   reads = search rules;
-  found = λ t groups lines lays stands. record { more = []; others = []; nodes_are = sym (append-nil _); names_are = sym (append-nil _); are = (refl, refl) };
+  found = λ t left so groups lines lays stands. record { more = []; others = []; nodes_are = sym (append-nil _); names_are = sym (append-nil _); are = (refl, refl) };
 }
 
 pub returns-in_err-verify_line-clause-quiet : goal.returns-in_err-verify_line-clause-quiet
@@ -41,7 +41,7 @@ returns-in_err-verify_line-clause-quiet g c =
     let v = g.D.Disk.view in
     let p = err_from_is_err_and c.from_residual.result c.from_residual.ensures.1 in
     rw (p.1, p.2) (behind_reads (v c.args.disk.now) (v c.loop-line.disk) (v c.verify_line.new.disk) (Err c.in_err-verify_line.field-0.0) c.loop-line.invariant.reads
-    (subst (λ (r : Result Unit OpeningFault). IsQuiet (v c.loop-line.disk) (v c.verify_line.new.disk) r) c.in_err-verify_line.was c.verify_line.ensures.quiet))
+    (subst (λ (r : Result Unit OpeningFault). IsQuiet c.args.held.now.faulty (v c.loop-line.disk) (v c.verify_line.new.disk) r) c.in_err-verify_line.was c.verify_line.ensures.quiet))
 
 pub loop-line-preserved : goal.loop-line-preserved
 loop-line-preserved g c =
@@ -60,9 +60,9 @@ loop-line-preserved g c =
     let new = c.verify_line.new.found in
     record {
       reads = then_reads before mid (v c.verify_line.new.disk) was.reads c.verify_line.ensures.quiet.reads;
-      found = λ t groups lines lays stands.
-          let here = at_rest before mid c.args.held.now (λ (all : Lines). (nodes : List Dbkey) × (names : List Name) × (new.nodes ≡ old.nodes ++ nodes) × (new.names ≡ old.names ++ names) × FindsIndex all versions t0 p.line nodes names) was.reads c.in_ok-verify_line.ensures.found t groups lines lays stands in
-          let held = was.found t groups lines lays stands in
+      found = λ t left so groups lines lays stands.
+          let here = at_rest before mid c.args.held.now (λ (all : Lines). (nodes : List Dbkey) × (names : List Name) × (new.nodes ≡ old.nodes ++ nodes) × (new.names ≡ old.names ++ names) × FindsIndex all versions t0 p.line nodes names) was.reads c.in_ok-verify_line.ensures.found t left so groups lines lays stands in
+          let held = was.found t left so groups lines lays stands in
           let next : take (i + 1) ps ≡ take i ps ++ p ∷ [] = ap (take (i + 1)) (sym value) ∙ take_more items i p c.loop-line-test.true ∙ (λ j. take i (value j) ++ sym c.line-item.is j ∷ []) in
           record {
             more = held.more ++ here.0;
@@ -74,10 +74,10 @@ loop-line-preserved g c =
     }
 
 pub returns-clause-found : goal.returns-clause-found
-returns-clause-found g c = λ t groups lines lays stands.
+returns-clause-found g c = λ t left so groups lines lays stands.
     let ps = c.args.catalog.now.lines in
     let items : List PlacedLine = c.as_slice-line-items.result.now in
     let value : items ≡ ps = c.as_slice-line-items.ensures in
     let whole : take c.loop-line.line-index ps ≡ ps = ap (take c.loop-line.line-index) (sym value) ∙ take_all c.loop-line.line-index items c.loop-line-test.false ∙ value in
-    let held = c.loop-line.invariant.found t groups lines lays stands in
+    let held = c.loop-line.invariant.found t left so groups lines lays stands in
     (held.more, held.others, held.nodes_are, held.names_are, subst (λ (l : List PlacedLine). FindsIndexes lines (versions_in ps) c.args.catalog.now.tables l held.more held.others) whole held.are)

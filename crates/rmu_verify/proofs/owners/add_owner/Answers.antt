@@ -1,7 +1,8 @@
-use Rattle.std.proofs.Common.{sym}
-use Rattle.stable_lines.specs.Slots.{owner_at}
+use Rattle.std.proofs.Common.{rules, ◌≡◌, true}
 use Rattle.rmu_verify.proofs.Owning.{owner_added}
 use Rattle.rmu_verify.proofs.owners.add_owner.Goals as goal
 
-pub returns-in_ok-_is_new : goal.returns-in_ok-_is_new
-returns-in_ok-_is_new c = owner_added c.u32_at-owner.result (owner_at c.args.page.now) c.args.owners.now.keys c.insert.new.self.keys (sym c.u32_at-owner.ensures) c.in_ok-_is_new.ensures.keys
+pub returns : goal.returns
+returns c =
+    let does : c.passes.result ≡ true = first_of (cc, search rules) in
+    owner_added c.args.file c.args.number c.args.page.now c.u32_at-owner.result c.args.owners.now.keys c.insert.new.self.keys c.u32_at-owner.ensures (λ none. c.if-owner-eq0.false none) (c.passes.ensures.yes does) c.in_ok-_is_new.ensures.keys

@@ -1,6 +1,6 @@
 use Rattle.std.proofs.Common.{IsTrue}
 use Rattle.rdb_outside.specs.Disk.{OnlyReads}
-use Rattle.rmu_verify.specs.Added.{HasOwners}
+use Rattle.rmu_verify.specs.Owners.{HasOwners}
 use Rattle.rmu_verify.proofs.owners.owners_to.Given as goal
 
 abbrev pub invariant-loop-slot : goal.invariant-loop-slot
