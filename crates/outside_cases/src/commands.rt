@@ -1,5 +1,5 @@
 // The words of the command line.
-use command_words::{Command, command_of, database_word, order_of, script_words};
+use command_words::{Command, PagePlace, command_of, database_word, order_of, script_words};
 use rdb_types::{Items, Limits, NoMemory, Word};
 use std::alloc::Global;
 
@@ -31,6 +31,15 @@ fn tell_row(rt: &HostRuntime, words: &[Word]) {
             let _ = println!(rt;
                 "  {count} scripts from word {first} on, in an order: {has_order}"
             );
+        }
+        Some(Command::Verify) => {
+            let _ = println!(rt; "  verify");
+        }
+        Some(Command::Dump) => {
+            let _ = println!(rt; "  dump");
+        }
+        Some(Command::DumpPage(PagePlace { file, page })) => {
+            let _ = println!(rt; "  dump page {page} of area file {file}");
         }
         None => {
             let _ = println!(rt; "  refused");
