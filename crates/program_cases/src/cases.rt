@@ -1,4 +1,5 @@
 // What lines of the cases say.
+use crate::keeping::run_made;
 use crate::making::{tell_again, tell_stopped};
 use crate::meeting::tell_meeting;
 use crate::runs::{Fails, NONE, Outcome, run_failing};
@@ -119,6 +120,16 @@ fn failing<R: Print + AllocGlobal + Threads + Wait + Sync>(
     run(rt, line, fails)
 }
 
+// A command over a new database, past a sink of which one call fails, 0 for none.
+fn over<R: Print + AllocGlobal + Threads + Wait + Sync>(
+    rt: &R,
+    line: &str,
+    sink: u32,
+) -> Result<(), NoMemory> {
+    tell(rt, &run_made(rt, line, sink)?);
+    Ok(())
+}
+
 /// Does what a line says.
 pub fn say<R: Print + AllocGlobal + Threads + Wait + Sync>(
     rt: &R,
@@ -138,6 +149,8 @@ pub fn say<R: Print + AllocGlobal + Threads + Wait + Sync>(
         "say-chain" => say_chain(rt, rest),
         "failing-source" | "failing-sink" | "failing-disk" => failing(rt, about, rest),
         "again" => tell_again(rt, rest),
+        "over" => over(rt, rest, 0),
+        "over-failing-sink" => over(rt, rest, 1),
         "stopped" => tell_stopped(rt, rest),
         "meeting" => tell_meeting(rt, rest),
         _ => {

@@ -2,6 +2,7 @@
 #![tactic(auto)]
 
 mod cases;
+mod keeping;
 mod making;
 mod meeting;
 mod runs;

@@ -82,6 +82,6 @@ pub fn run_failing<R: Print + AllocGlobal + Threads + Wait + Sync>(
     let alloc = rt.alloc();
     let source = MemorySource::new(alloc, scripts, &[fails.source])?;
     let out = MemorySink::new(alloc, 65536, &[fails.sink])?;
-    let disk = MemoryDisk::new(alloc, 4, 64, &[fails.disk])?;
+    let disk = MemoryDisk::new(alloc, 4, 256, &[fails.disk])?;
     Ok(run_on(rt, words, source, out, disk))
 }

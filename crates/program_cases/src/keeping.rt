@@ -1,0 +1,103 @@
+// Commands that read a database, over one that NEW made.
+use crate::runs::{NONE, Outcome, run_failing, run_on};
+use crate::texts::words_in;
+use rdb_outside::{Disk, MemoryDisk, MemorySink, MemorySource};
+use rdb_types::{FileId, FileKind, NoMemory};
+use std::sync::Wait;
+use std::thread::Threads;
+
+/// One byte of a slot of a file.
+#[derive(Clone, Copy, Debug)]
+struct Spot {
+    file: FileId,
+    slot: u32,
+    at: usize,
+    byte: u8,
+}
+
+fn number_in(word: Option<&str>) -> Option<u32> {
+    word?.parse::<u32>().ok()
+}
+
+fn kind_of(word: &str) -> Option<FileKind> {
+    match word {
+        "root" => Some(FileKind::Root),
+        "area" => Some(FileKind::Area),
+        "ruj" => Some(FileKind::Ruj),
+        "aij" => Some(FileKind::Aij),
+        _ => None,
+    }
+}
+
+// The file, the slot, the place in it and the byte that words say.
+fn spot_of(words: &str) -> Option<Spot> {
+    let mut words = words.split(' ');
+    let kind = kind_of(words.next()?)?;
+    let number = number_in(words.next())?;
+    let slot = number_in(words.next())?;
+    let at = number_in(words.next())? as usize;
+    let byte = u8::try_from(number_in(words.next())?).ok()?;
+    Some(Spot {
+        file: FileId { kind, number },
+        slot,
+        at,
+        byte,
+    })
+}
+
+// Puts the byte.
+fn spoil(disk: &mut MemoryDisk, spot: Spot) {
+    if spot.file.slot_bytes() == 1024 {
+        let mut slot = [0; 1024];
+        if disk.read(spot.file, spot.slot, &mut slot).is_ok() && spot.at < 1024 {
+            slot[spot.at] = spot.byte;
+            let _ = disk.write(spot.file, spot.slot, &slot);
+        }
+    } else if spot.file.slot_bytes() == 512 {
+        let mut slot = [0; 512];
+        if disk.read(spot.file, spot.slot, &mut slot).is_ok() && spot.at < 512 {
+            slot[spot.at] = spot.byte;
+            let _ = disk.write(spot.file, spot.slot, &slot);
+        }
+    }
+}
+
+// Runs a command over a disk, past a sink of which one call fails, 0 for none.
+fn run_over<R: Print + AllocGlobal + Threads + Wait + Sync>(
+    rt: &R,
+    line: &str,
+    disk: MemoryDisk,
+    sink: u32,
+) -> Result<Outcome, NoMemory> {
+    let alloc = rt.alloc();
+    let words = words_in(alloc, line)?;
+    let source = MemorySource::new(alloc, Vec::new(alloc), &[])?;
+    let out = MemorySink::new(alloc, 65536, &[sink])?;
+    Ok(run_on(rt, words.as_slice(), source, out, disk))
+}
+
+// The disk that NEW leaves.
+fn new_disk<R: Print + AllocGlobal + Threads + Wait + Sync>(
+    rt: &R,
+) -> Result<MemoryDisk, NoMemory> {
+    let words = words_in(rt.alloc(), "NEW P")?;
+    Ok(run_failing(rt, words.as_slice(), Vec::new(rt.alloc()), NONE)?.disk)
+}
+
+/// `over RMU/VERIFY P` runs a command over a new database; `over root 0 0 6 2|RMU/VERIFY P` puts byte 2 at place 6 of slot 0 of the root first.
+pub fn run_made<R: Print + AllocGlobal + Threads + Wait + Sync>(
+    rt: &R,
+    line: &str,
+    sink: u32,
+) -> Result<Outcome, NoMemory> {
+    let mut disk = new_disk(rt)?;
+    match line.split_once('|') {
+        None => run_over(rt, line, disk, sink),
+        Some((words, command)) => {
+            if let Some(spot) = spot_of(words) {
+                spoil(&mut disk, spot);
+            }
+            run_over(rt, command, disk, sink)
+        }
+    }
+}
