@@ -1,5 +1,5 @@
-mod Flying
-mod Journal
-mod Seating
+pub mod Flying
+pub mod Journal
+pub mod Seating
 pub mod Seats
-mod Telling
+pub mod Telling

@@ -1,0 +1,59 @@
+-- Sessions that have said nothing are sound.
+use Rattle.std.proofs.Common.{◌≡◌, ◌≤◌, ◌+◌, ℕ, zero, suc, ◌∷◌, [], List, length, map, refl, ◌∙◌, sym, ap, subst, arith, Option, Some, None, option_map, slice_get}
+use Rattle.std.proofs.lemmas.Option.{none-some, same_Some}
+use Rattle.rdo_ast.specs.declared.syntax.Item.{Item}
+use Rattle.rdo_ast.specs.Views.{uttered_of}
+use Rattle.rdb_account.specs.Places.{Opening}
+use Rattle.line_store.specs.Seats.{Seat, outside}
+use Rattle.line_store.specs.Sights.{Sight, Agrees, bare}
+use Rattle.session_jobs.specs.Records.{Model, IsOrderly}
+use Rattle.session_states.specs.declared.stage.Member.{Member}
+use Rattle.session_states.specs.declared.stage.Phase.TheVariants.{Outside}
+use Rattle.session_states.specs.declared.stage.Life.TheVariants.{Alive}
+use Rattle.session_states.specs.Kept.{IsFresh, AreKept, IsOpened}
+use Rattle.session_states.proofs.Opened.{opened}
+use Rattle.session_stands.specs.Sessions.{AreSeated, IsTold, dead_in, sharing}
+use Rattle.session_stands.proofs.Seating.{began}
+use Rattle.session_stands.proofs.Seats.{outside-seat}
+use Rattle.stage_steps.specs.Scenes.{Scene}
+use Rattle.line_cluster.specs.declared.sessions.Halt.{Halt}
+use Rattle.line_cluster.specs.Sound.{IsSound, FollowsScripts, IsOpenedBy, fresh_member}
+
+map-got : {A B : Type 0} (f : A → B) (xs : List A) (i : ℕ) (y : B) → slice_get (map f xs) i ≡ Some y → (x : A) × (slice_get xs i ≡ Some x) × (f x ≡ y)
+map-got f [] i y h = absurd (none-some y h)
+map-got f (x ∷ xs) zero y h = (x, refl, same_Some (f x) y h)
+map-got f (x ∷ xs) (suc i) y h = map-got f xs i y h
+
+as-long : {A B : Type 0} (f : A → B) (xs : List A) → length (map f xs) ≡ length xs
+as-long f [] = refl
+as-long f (x ∷ xs) = ap suc (as-long f xs)
+
+none-dead : (scripts : List (List Item)) → dead_in (map fresh_member scripts) ≡ 0
+none-dead [] = refl
+none-dead (items ∷ more) = let e = none-dead more in omega (arith, e)
+
+pub begins : (M : Model) (orderly : IsOrderly M) (told : Type 0) (o : Opening) (c : Scene) (scripts : List (List Item)) → Agrees c.sight → ((s : ℕ) → c.sight.stand s ≡ outside) → c.locks.parties ≡ [] → c.locks.trail ≡ [] →
+    FollowsScripts o scripts → (told → IsOpenedBy M o c.word c.sight) → IsSound M told o c (map fresh_member scripts) [] None
+begins M orderly told o c scripts agrees away parties trail follows opens = record {
+  legal = λ t. (tells t).kept.right.legal;
+  seated = λ none. began c.sight.stand c.locks (map fresh_member scripts) parties (λ s. ap bare (away s)) fresh-phase;
+  kept = λ none t. tells t;
+}
+  where
+    fresh-phase : (i : ℕ) (m : Member) → slice_get (map fresh_member scripts) i ≡ Some m → (m.phase ≡ Outside) × (m.life ≡ Alive)
+    fresh-phase i m h = let at = map-got fresh_member scripts i m h in (sym (ap (λ (y : Member). y.phase) at.2), sym (ap (λ (y : Member). y.life) at.2))
+
+    tells : told → IsTold M o c.word c.sight c.locks (map fresh_member scripts) []
+    tells t = let is : IsOpenedBy M o c.word c.sight = opens t in record {
+      shelf = is.shelf;
+      shown = is.shown;
+      kept = subst (λ (d : ℕ). AreKept M o (sharing c.word is.shelf c.locks d) (map fresh_member scripts) []) (sym (none-dead scripts))
+          (opened M orderly o (sharing c.word is.shelf c.locks 0) (map fresh_member scripts) (is.opened c.locks parties trail) (λ i m h. let at = map-got fresh_member scripts i m h in record {
+            left = at.0;
+            all = length at.0;
+            is = sym at.2;
+            script = follows i at.0 at.1;
+            total = as-long uttered_of at.0;
+            seat = outside-seat (is.shelf.seat (suc i)) (sym (agrees is.shelf is.shown (suc i)) ∙ ap bare (away (suc i)));
+          }));
+    }

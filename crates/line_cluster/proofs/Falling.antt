@@ -1,0 +1,194 @@
+-- Sessions die and are recovered, and all of them stay sound.
+use Rattle.std.proofs.Common.{◌≡◌, ◌≤◌, ◌+◌, ◌-◌, ℕ, zero, suc, ◌++◌, ◌∷◌, [], ◌&&◌, not, true, List, refl, ◌∙◌, sym, ap, subst, arith, Option, Some, None, Result, Ok, Err, slice_get, slice_set}
+use Rattle.std.proofs.lemmas.Option.{none-some, same_Some}
+use Rattle.rdb_types.specs.declared.session.Cause.{Cause}
+use Rattle.rdo_ast.specs.declared.syntax.Item.{Item}
+use Rattle.rdb_account.specs.Events.{Event, Died}
+use Rattle.rdb_account.specs.Places.{Opening}
+use Rattle.rdb_account.specs.Legal.{is_stop}
+use Rattle.line_store.specs.declared.answers.Fault.{Fault}
+use Rattle.lock_tree_laws.specs.Forest.{State}
+use Rattle.line_store.specs.Seats.{Seat, outside, beginning, writing, changing, prepared, committing, rolling_back, closing, reading, dead, done_at, IsAlive}
+use Rattle.line_store.specs.Sights.{bare}
+use Rattle.line_store.proofs.InTurn.{does-as}
+use Rattle.session_jobs.specs.Records.{Model, IsOrderly}
+use Rattle.session_states.specs.declared.stage.Phase.{Phase}
+use Rattle.session_states.specs.declared.stage.Life.{Life}
+use Rattle.session_states.specs.declared.stage.Life.TheVariants.{Alive, Dead, Gone}
+use Rattle.session_states.specs.declared.stage.Member.{Member}
+use Rattle.session_states.specs.declared.stage.Work.TheVariants.{Opening as OpeningIt, Due, Out, Lacking, Housing, Fetching, Lodging}
+use Rattle.session_states.specs.declared.stage.Laying.TheVariants.{Claiming, Changing}
+use Rattle.session_states.specs.declared.stage.End.TheVariants.{Preparing, Journal, Ready, Committing, RollingBack, Leaving}
+use Rattle.session_states.specs.declared.stage.Stage.{Stage}
+use Rattle.session_states.specs.declared.stage.Stage.TheVariants.{Between, Working, Gathering, Reserving, Saying, Ending}
+use Rattle.session_states.specs.declared.stage.Phase.TheVariants.{Outside, Closing, Writing, Reading, Over}
+use Rattle.session_states.specs.States.{commits_in, session, dead_session, gone_session}
+use Rattle.session_states.specs.Steps.{Fall}
+use Rattle.session_stands.specs.Seated.{stand_of, IsStandOf, HasFallen, LivesAt}
+use Rattle.session_stands.specs.Sessions.{AreSeated, IsTold, dead_in, one_dead, sharing}
+use Rattle.session_stands.proofs.Seating.{seated}
+use Rattle.session_stands.proofs.Seats.{dead-seat}
+use Rattle.session_stands.proofs.Telling.{falls}
+use Rattle.stage_steps.specs.declared.dying.Recovery.{Recovery}
+use Rattle.stage_steps.specs.declared.dying.Recovery.TheVariants.{More, Done}
+use Rattle.stage_steps.specs.Deaths.{DiesIn, RecoversIn, life_behind, recovered_by, dead_behind, recovery_events}
+use Rattle.stage_steps.specs.Scenes.{Scene, Goes, on_shelf}
+use Rattle.line_cluster.specs.declared.sessions.Halt.{Halt}
+use Rattle.line_cluster.specs.Sound.{IsSound}
+use Rattle.line_cluster.proofs.Places.{suc-less}
+use Rattle.line_cluster.proofs.Stepping.{session-of, seated-at}
+
+-- how many are dead where one has another life
+dead-moved : (ms : List Member) (i : ℕ) (m n : Member) → slice_get ms i ≡ Some m → dead_in (slice_set ms i n) + one_dead m.life ≡ dead_in ms + one_dead n.life
+dead-moved [] i m n found = absurd (none-some m found)
+dead-moved (x ∷ xs) zero m n found = let e : one_dead x.life ≡ one_dead m.life = ap (λ (y : Member). one_dead y.life) (same_Some x m found) in omega (arith, e)
+dead-moved (x ∷ xs) (suc i) m n found = let rest = dead-moved xs i m n found in omega (arith, rest)
+
+module _ (M : Model) (orderly : IsOrderly M) (told : Type 0) (o : Opening) (c d : Scene) (members : List Member) (events : List Event) (i : ℕ) (was : IsSound M told o c members events None) where
+  -- one comes to another life
+  module _ (es : List Event) (m n : Member) (halt : Option Halt) (found : slice_get members i ≡ Some m) (same : n.phase ≡ m.phase)
+      (goes : Goes (suc i) m.phase m.life m.phase n.life (λ h g. Fall M o (suc i) (on_shelf c h (dead_in members)) m (on_shelf d g (dead_in (slice_set members i n))) n es) c d) where
+    tells : told → IsTold M o d.word d.sight d.locks (slice_set members i n) (events ++ es)
+    tells t = falls M orderly o c.word d.word c.sight d.sight c.locks d.locks members events es i m n (d.sight.stand (suc i)) found goes.does (was.kept refl t)
+
+    pub fallen : IsSound M told o d (slice_set members i n) (events ++ es) halt
+    fallen = record {
+      legal = λ t. (tells t).kept.right.legal;
+      seated = λ none. seated c.sight.stand d.sight.stand c.locks d.locks members i m n (was.seated refl) found goes.does.others goes.parties
+          (subst (λ (x : Phase). LivesAt d.sight.stand d.locks (suc i) x n.life) (sym same) (goes.lives ((was.seated refl).each (suc i) m found)));
+      kept = λ none t. tells t;
+    }
+
+  module _ (left : List Item) (total : ℕ) (x : Phase) (halt : Option Halt) where
+    pub dies : slice_get members i ≡ Some (session left total x) → (cause : Cause) → (o.may_die (suc i) cause && not (is_stop cause)) ≡ true → DiesIn M (suc i) x c d →
+        IsSound M told o d (slice_set members i (dead_session left total x)) (events ++ Died (suc i) cause ∷ []) halt
+    dies found cause may g =
+        let more : dead_in (slice_set members i (dead_session left total x)) ≡ dead_in members + 1 = (let e = dead-moved members i (session left total x) (dead_session left total x) found in omega (arith, e)) in
+        fallen (Died (suc i) cause ∷ []) (session left total x) (dead_session left total x) halt found refl (record {
+          lives = g.lives;
+          parties = g.parties;
+          does = does-as (suc i) (d.sight.stand (suc i))
+              (λ h k. (p : Opening) (dead : ℕ) (ls : List Item) (n : ℕ) (a : Cause) → (p.may_die (suc i) a && not (is_stop a)) ≡ true → Fall M p (suc i) (on_shelf c h dead) (session ls n x) (on_shelf d k (dead + 1)) (dead_session ls n x) (Died (suc i) a ∷ []))
+              (λ h k. Fall M o (suc i) (on_shelf c h (dead_in members)) (session left total x) (on_shelf d k (dead_in (slice_set members i (dead_session left total x)))) (dead_session left total x) (Died (suc i) cause ∷ []))
+              c.sight d.sight
+              (λ h k shown then all. subst (λ (n : ℕ). Fall M o (suc i) (on_shelf c h (dead_in members)) (session left total x) (on_shelf d k n) (dead_session left total x) (Died (suc i) cause ∷ [])) (sym more) (all o (dead_in members) left total cause may))
+              g.does;
+        })
+
+    life-of-behind : (result : Result Recovery Fault) → (recovered_by result left total x).life ≡ life_behind result
+    life-of-behind (Ok (Done committed moment)) = refl
+    life-of-behind (Ok More) = refl
+    life-of-behind (Err fault) = refl
+
+    phase-of-behind : (result : Result Recovery Fault) → (recovered_by result left total x).phase ≡ x
+    phase-of-behind (Ok (Done committed moment)) = refl
+    phase-of-behind (Ok More) = refl
+    phase-of-behind (Err fault) = refl
+
+    fewer : slice_get members i ≡ Some (dead_session left total x) → (result : Result Recovery Fault) → dead_in (slice_set members i (recovered_by result left total x)) ≡ dead_behind result (dead_in members)
+    fewer found (Ok (Done committed moment)) = let e = dead-moved members i (dead_session left total x) (gone_session left total x) found in omega (arith, e)
+    fewer found (Ok More) = let e = dead-moved members i (dead_session left total x) (dead_session left total x) found in omega (arith, e)
+    fewer found (Err fault) = let e = dead-moved members i (dead_session left total x) (dead_session left total x) found in omega (arith, e)
+
+    pub recovers : slice_get members i ≡ Some (dead_session left total x) → (result : Result Recovery Fault) → RecoversIn M (suc i) x c d result →
+        IsSound M told o d (slice_set members i (recovered_by result left total x)) (events ++ recovery_events (suc i) result) halt
+    recovers found result g =
+        fallen (recovery_events (suc i) result) (dead_session left total x) (recovered_by result left total x) halt found (phase-of-behind result) (record {
+          lives = λ f. subst (λ (l : Life). LivesAt d.sight.stand d.locks (suc i) x l) (sym (life-of-behind result)) (g.lives f);
+          parties = g.parties;
+          does = does-as (suc i) (d.sight.stand (suc i))
+              (λ h k. (p : Opening) (dead : ℕ) (ls : List Item) (n : ℕ) → Fall M p (suc i) (on_shelf c h dead) (dead_session ls n x) (on_shelf d k (dead_behind result dead)) (recovered_by result ls n x) (recovery_events (suc i) result))
+              (λ h k. Fall M o (suc i) (on_shelf c h (dead_in members)) (dead_session left total x) (on_shelf d k (dead_in (slice_set members i (recovered_by result left total x)))) (recovered_by result left total x) (recovery_events (suc i) result))
+              c.sight d.sight
+              (λ h k shown then all. subst (λ (n : ℕ). Fall M o (suc i) (on_shelf c h (dead_in members)) (dead_session left total x) (on_shelf d k n) (recovered_by result left total x) (recovery_events (suc i) result)) (sym (fewer found result)) (all o (dead_in members) left total))
+              g.does;
+        })
+
+-- ---- as the code has it
+
+pub has-died : (M : Model) (orderly : IsOrderly M) (told : Type 0) (o : Opening) (c d : Scene) (members put : List Member) (events more : List Event) (s at : ℕ) (m : Member) (cause : Cause) (old halt : Option Halt) →
+    1 ≤ s → at ≡ s - 1 → old ≡ None → slice_get members at ≡ Some m → m.life ≡ Alive → IsSound M told o c members events old → (o.may_die s cause && not (is_stop cause)) ≡ true → DiesIn M s m.phase c d →
+    put ≡ slice_set members at (record { left = m.left; total = m.total; phase = m.phase; life = Dead }) → more ≡ events ++ Died s cause ∷ [] → IsSound M told o d put more halt
+has-died M orderly told o c d members put events more s at m cause old halt first is none found alive was may dies-in put-is more-is =
+    let e : s ≡ suc at = sym (ap suc is ∙ suc-less s first) in
+    subst (λ (ms : List Member). IsSound M told o d ms more halt) (sym put-is)
+    (subst (λ (es : List Event). IsSound M told o d (slice_set members at (dead_session m.left m.total m.phase)) es halt) (ap (λ (t : ℕ). events ++ Died t cause ∷ []) (sym e) ∙ sym more-is)
+    (dies M orderly told o c d members events at (subst (λ (x : Option Halt). IsSound M told o c members events x) none was) m.left m.total m.phase halt (found ∙ ap Some (session-of m alive)) cause
+        (subst (λ (t : ℕ). (o.may_die t cause && not (is_stop cause)) ≡ true) e may) (subst (λ (t : ℕ). DiesIn M t m.phase c d) e dies-in)))
+
+behind-is : (result : Result Recovery Fault) (left : List Item) (total : ℕ) (x : Phase) → recovered_by result left total x ≡ record { left = left; total = total; phase = x; life = life_behind result }
+behind-is (Ok (Done committed moment)) left total x = refl
+behind-is (Ok More) left total x = refl
+behind-is (Err fault) left total x = refl
+
+pub has-recovered : (M : Model) (orderly : IsOrderly M) (told : Type 0) (o : Opening) (c d : Scene) (members put : List Member) (events more : List Event) (at : ℕ) (m : Member) (result : Result Recovery Fault) (old halt : Option Halt) →
+    old ≡ None → slice_get members at ≡ Some m → m.life ≡ Dead → IsSound M told o c members events old → RecoversIn M (at + 1) m.phase c d result →
+    put ≡ slice_set members at (record { left = m.left; total = m.total; phase = m.phase; life = life_behind result }) → more ≡ events ++ recovery_events (at + 1) result → IsSound M told o d put more halt
+has-recovered M orderly told o c d members put events more at m result old halt none found dead was recovers-in put-is more-is =
+    let e : at + 1 ≡ suc at = omega arith in
+    subst (λ (ms : List Member). IsSound M told o d ms more halt) (ap (λ (x : Member). slice_set members at x) (behind-is result m.left m.total m.phase) ∙ sym put-is)
+    (subst (λ (es : List Event). IsSound M told o d (slice_set members at (recovered_by result m.left m.total m.phase)) es halt) (ap (λ (t : ℕ). events ++ recovery_events t result) (sym e) ∙ sym more-is)
+    (recovers M orderly told o c d members events at (subst (λ (x : Option Halt). IsSound M told o c members events x) none was) m.left m.total m.phase halt
+        (found ∙ ap (λ (l : Life). Some (record { left = m.left; total = m.total; phase = m.phase; life = l })) dead) result (subst (λ (t : ℕ). RecoversIn M t m.phase c d result) e recovers-in)))
+
+-- the session at this place is dead for the store
+pub dead-stands : (stand : ℕ → Seat) (locks : State) (members : List Member) (at : ℕ) (m : Member) → slice_get members at ≡ Some m → m.life ≡ Dead → AreSeated stand locks members → IsAlive (stand (at + 1)) → ⊥
+dead-stands stand locks members at m found dead k alive =
+    let e : at + 1 ≡ suc at = omega arith in
+    let f : HasFallen stand locks (suc at) m.phase = subst (λ (l : Life). LivesAt stand locks (suc at) m.phase l) dead (k.each (suc at) m found) in
+    dead-seat (stand (suc at)) (commits_in m.phase) f.seat (subst (λ (t : ℕ). IsAlive (stand t)) e alive)
+
+-- a session that lives isn't dead for the store
+stage-lives : (stage : Stage) → IsAlive (stand_of stage)
+stage-lives Between = tt
+stage-lives (Working item OpeningIt) = tt
+stage-lives (Working item Due) = tt
+stage-lives (Working item Out) = tt
+stage-lives (Working item (Lacking n)) = tt
+stage-lives (Working item (Housing room key)) = tt
+stage-lives (Working item (Fetching n)) = tt
+stage-lives (Working item (Lodging room key)) = tt
+stage-lives (Gathering item gather later place) = tt
+stage-lives (Reserving item r locks place) = tt
+stage-lives (Saying item r (Claiming place)) = tt
+stage-lives (Saying item r Changing) = tt
+stage-lives (Ending Preparing) = tt
+stage-lives (Ending Journal) = tt
+stage-lives (Ending Ready) = tt
+stage-lives (Ending Committing) = tt
+stage-lives (Ending RollingBack) = tt
+stage-lives (Ending Leaving) = tt
+
+done-lives : (seat : Seat) → done_at seat ≡ Some outside → IsAlive seat
+done-lives outside h = tt
+done-lives beginning h = tt
+done-lives (writing ws) h = tt
+done-lives (changing ws) h = tt
+done-lives (prepared ws) h = tt
+done-lives (committing ws) h = tt
+done-lives (rolling_back ws) h = tt
+done-lives closing h = tt
+done-lives (reading start) h = tt
+done-lives (dead commits ws) h = absurd (none-some outside h)
+
+phase-lives : (x : Phase) (seat : Seat) → IsStandOf x seat → IsAlive seat
+phase-lives Outside seat h = subst (λ (y : Seat). IsAlive y) (sym h) tt
+phase-lives Closing seat h = done-lives seat h
+phase-lives (Writing w) seat h = subst (λ (y : Seat). IsAlive y) (sym h) (stage-lives w.stage)
+phase-lives (Reading r) seat h = subst (λ (y : Seat). IsAlive y) (sym h) tt
+phase-lives Over seat h = subst (λ (y : Seat). IsAlive y) (sym h) tt
+
+bare-lives : (seat : Seat) → IsAlive (bare seat) → IsAlive seat
+bare-lives outside h = tt
+bare-lives beginning h = tt
+bare-lives (writing ws) h = tt
+bare-lives (changing ws) h = tt
+bare-lives (prepared ws) h = tt
+bare-lives (committing ws) h = tt
+bare-lives (rolling_back ws) h = tt
+bare-lives closing h = tt
+bare-lives (reading start) h = tt
+bare-lives (dead commits ws) h = h
+
+pub alive-stands : (stand : ℕ → Seat) (locks : State) (members : List Member) (s at : ℕ) (m : Member) → 1 ≤ s → at ≡ s - 1 → slice_get members at ≡ Some m → m.life ≡ Alive → AreSeated stand locks members → IsAlive (stand s)
+alive-stands stand locks members s at m first is found alive k = bare-lives (stand s) (phase-lives m.phase (bare (stand s)) (seated-at stand locks members s at m first is found alive k).seat)

@@ -1,0 +1,193 @@
+-- One session steps, and all of them stay sound.
+use Rattle.std.proofs.Common.{◌≡◌, ◌≤◌, ◌-◌, ℕ, zero, suc, true, false, arith, ◌++◌, ◌∷◌, [], List, refl, ◌∙◌, sym, ap, subst, Option, Some, None, slice_get, slice_set, append-nil}
+use Rattle.std.proofs.lemmas.Bool.{false≢true}
+use Rattle.rdo_ast.specs.declared.syntax.Item.{Item}
+use Rattle.rdb_account.specs.Events.{Event}
+use Rattle.rdb_account.specs.Places.{Opening}
+use Rattle.rdb_account.specs.Legal.{IsLegal}
+use Rattle.lock_tree_laws.specs.Forest.{State, Parties, party_of}
+use Rattle.journal_waits.specs.Holders.{WantsExclusively}
+use Rattle.line_steps.specs.Images.{journal_node}
+use Rattle.line_store.specs.Seats.{Seat}
+use Rattle.line_store.specs.Sights.{Sight}
+use Rattle.line_store.proofs.InTurn.{does-as, does-nothing}
+use Rattle.session_jobs.specs.Records.{Model, IsOrderly}
+use Rattle.session_states.specs.declared.stage.Writer.{Writer}
+use Rattle.session_states.specs.declared.stage.Phase.{Phase}
+use Rattle.session_states.specs.declared.stage.Phase.TheVariants.{Outside, Closing, Writing, Reading, Over}
+use Rattle.session_states.specs.declared.stage.Life.{Life}
+use Rattle.session_states.specs.declared.stage.Life.TheVariants.{Alive, Dead, Gone}
+use Rattle.session_states.specs.declared.stage.Member.{Member}
+use Rattle.session_states.specs.States.{session}
+use Rattle.session_states.specs.Steps.{Step}
+use Rattle.session_states.specs.Shared.{Shared, with_locks}
+use Rattle.session_states.specs.Fits.{WantsAtMost}
+use Rattle.session_stands.specs.Seated.{lock_in, NeedsFit, IsSeated, LivesAt}
+use Rattle.session_stands.specs.Sessions.{AreSeated, IsTold, dead_in, sharing}
+use Rattle.session_stands.proofs.Seating.{seated, keep-to, flies-all}
+use Rattle.session_stands.proofs.Telling.{steps}
+use Rattle.stage_steps.specs.declared.happening.Happening.{Happening}
+use Rattle.stage_steps.specs.declared.happening.Happening.TheVariants.{Quiet, Began, Answered, Unstarted, Asleep, Noticed, Got, Refused, RefusedStart, Committed, RolledBack, Left, Failed, Unlaid, Unworked, Unanswered}
+use Rattle.stage_steps.specs.Happenings.{events_of, handed_back}
+use Rattle.stage_steps.specs.Scenes.{Scene, scene, on_shelf}
+use Rattle.stage_steps.specs.Turns.{Comes}
+use Rattle.line_cluster.specs.declared.sessions.Halt.{Halt}
+use Rattle.line_cluster.specs.Going.{GoesOn, IsAmong, IsWriterAt, writes_at, is_over, is_done, is_alive, is_alive_life, is_dead, is_dead_life}
+use Rattle.line_cluster.proofs.Places.{suc-less, set-same}
+use Rattle.line_cluster.specs.Sound.{IsSound}
+
+-- what is handed back is no event
+back-quiet : (s : ℕ) (h : Happening) (item : Item) (more : List Item) → handed_back h ≡ item ∷ more → events_of s h ≡ []
+back-quiet s Quiet item more e = refl
+back-quiet s (Began kind) item more e = cc e
+back-quiet s (Answered a) item more e = cc e
+back-quiet s (Unstarted a) item more e = cc e
+back-quiet s (Asleep t x) item more e = cc e
+back-quiet s (Noticed t n mode x) item more e = cc e
+back-quiet s (Got x) item more e = cc e
+back-quiet s (Refused x a) item more e = cc e
+back-quiet s (RefusedStart x a) item more e = cc e
+back-quiet s (Committed moment) item more e = cc e
+back-quiet s RolledBack item more e = cc e
+back-quiet s Left item more e = cc e
+back-quiet s (Failed fault) item more e = refl
+back-quiet s (Unlaid stop) item more e = refl
+back-quiet s Unworked item more e = refl
+back-quiet s (Unanswered i) item more e = refl
+
+-- the sessions rest on each other so
+pub among : (c : Scene) (members : List Member) (s : ℕ) → AreSeated c.sight.stand c.locks members → IsAmong c.sight.stand c.locks s
+among c members s k = record { rest = λ t other. keep-to c.sight.stand c.locks members k t; flies = flies-all c.sight.stand c.locks members k }
+
+module _ (M : Model) (orderly : IsOrderly M) (told : Type 0) (o : Opening) (c d : Scene) (members : List Member) (events : List Event) (i : ℕ) (left rest : List Item) (total : ℕ) (x y : Phase)
+    (lives : dead_in members ≡ 0) (found : slice_get members i ≡ Some (session left total x)) (was : IsSound M told o c members events None) where
+  sits : (es : List Event) → GoesOn M (suc i) c left x d rest y es → AreSeated d.sight.stand d.locks (slice_set members i (session rest total y))
+  sits es g = seated c.sight.stand d.sight.stand c.locks d.locks members i (session left total x) (session rest total y) (was.seated refl) found g.does.others g.parties
+      (g.lives ((was.seated refl).each (suc i) (session left total x) found))
+
+  tells : (es : List Event) → GoesOn M (suc i) c left x d rest y es → told → IsTold M o d.word d.sight d.locks (slice_set members i (session rest total y)) (events ++ es)
+  tells es g t = steps M orderly o c.word d.word c.sight d.sight c.locks d.locks members events es i (session left total x) (session rest total y) (d.sight.stand (suc i)) found lives refl refl
+      (does-as (suc i) (d.sight.stand (suc i)) (λ h k. (dead n : ℕ) → Step M (suc i) (on_shelf c h dead) (session left n x) (on_shelf d k dead) (session rest n y) es)
+          (λ h k. (dead : ℕ) → Step M (suc i) (sharing c.word h c.locks dead) (session left total x) (sharing d.word k d.locks dead) (session rest total y) es)
+          c.sight d.sight (λ h k shown then all dead. all dead total) g.does)
+      (was.kept refl t)
+
+  -- the session went on
+  pub moved : (es : List Event) (halt : Option Halt) → GoesOn M (suc i) c left x d rest y es → IsSound M told o d (slice_set members i (session rest total y)) (events ++ es) halt
+  moved es halt g = record {
+    legal = λ t. (tells es g t).kept.right.legal;
+    seated = λ none. sits es g;
+    kept = λ none t. tells es g t;
+  }
+
+  -- or its item was handed back, and no session goes on
+  pub stepped : (h : Happening) (halt : Option Halt) → (handed_back h ≡ [] → GoesOn M (suc i) c left x d rest y (events_of (suc i) h)) → (halt ≡ None → handed_back h ≡ []) →
+      IsSound M told o d (slice_set members i (session rest total y)) (events ++ events_of (suc i) h) halt
+  stepped h halt goes going = by (handed_back h) refl
+    where
+      by : (back : List Item) → handed_back h ≡ back → IsSound M told o d (slice_set members i (session rest total y)) (events ++ events_of (suc i) h) halt
+      by [] e = moved (events_of (suc i) h) halt (goes e)
+      by (item ∷ more) e = record {
+        legal = λ t. subst (λ (es : List Event). IsLegal o es) (sym (append-nil events) ∙ ap (λ es. events ++ es) (sym (back-quiet (suc i) h item more e))) (was.legal t);
+        seated = λ none. cc (sym e ∙ going none);
+        kept = λ none. cc (sym e ∙ going none);
+      }
+
+-- ---- a notice
+
+-- it stands as it did where its needs and its want are what they were
+seated-on : (stand : ℕ → Seat) (locks behind : State) (s : ℕ) (x : Phase) → behind.parties ≡ locks.parties → IsSeated stand locks s x → IsSeated stand behind s x
+seated-on stand locks behind s x same f = record {
+  seat = f.seat;
+  wants = subst (λ (ps : Parties). WantsAtMost (lock_in x) (party_of ps s).opened) (sym same) f.wants;
+  beside = subst (λ (ps : Parties). WantsExclusively journal_node (party_of ps s).opened) (sym same) f.beside;
+  needs = subst (λ (ps : Parties). NeedsFit x (party_of ps s).needs) (sym same) f.needs;
+  statement = f.statement;
+}
+
+-- the session whose lock comes down is in a read-write transaction
+alive-writer : (m : Member) → writes_at m.phase m.life ≡ true → (w : Writer) × (m ≡ session m.left m.total (Writing w))
+alive-writer m h = by m.phase m.life refl refl h
+  where
+    by : (x : Phase) (l : Life) → m.phase ≡ x → m.life ≡ l → writes_at x l ≡ true → (w : Writer) × (m ≡ session m.left m.total (Writing w))
+    by (Writing w) Alive px pl h = (w, subst (λ (x : Phase). m ≡ record { left = m.left; total = m.total; phase = x; life = Alive }) px (subst (λ (l : Life). m ≡ record { left = m.left; total = m.total; phase = m.phase; life = l }) pl refl))
+    by (Writing w) Dead px pl h = absurd (false≢true h)
+    by (Writing w) Gone px pl h = absurd (false≢true h)
+    by Outside l px pl h = absurd (false≢true h)
+    by Closing l px pl h = absurd (false≢true h)
+    by (Reading r) l px pl h = absurd (false≢true h)
+    by Over l px pl h = absurd (false≢true h)
+
+pub served : (M : Model) (orderly : IsOrderly M) (told : Type 0) (o : Opening) (word : List ℕ) (sight : Sight) (locks behind : State) (members : List Member) (events es : List Event) (s : ℕ) (halt : Option Halt) →
+    dead_in members ≡ 0 → IsWriterAt members s → IsSound M told o (scene word sight locks) members events None → behind.parties ≡ locks.parties →
+    ((c : Shared) (w : Writer) → Comes M s (with_locks locks c) (Writing w) (with_locks behind c) (Writing w) es) → IsSound M told o (scene word sight behind) members (events ++ es) halt
+served M orderly told o word sight locks behind members events es s halt lives is was parties comes =
+    let at = alive-writer is.member is.writes in
+    let w : Writer = at.0 in
+    let left : List Item = is.member.left in
+    let total : ℕ = is.member.total in
+    let found : slice_get members is.at ≡ Some (session left total (Writing w)) = is.found ∙ ap Some at.1 in
+    let all : (c : Shared) (v : Writer) → Comes M (suc is.at) (with_locks locks c) (Writing v) (with_locks behind c) (Writing v) es =
+        subst (λ (t : ℕ). (c : Shared) (v : Writer) → Comes M t (with_locks locks c) (Writing v) (with_locks behind c) (Writing v) es) is.number comes in
+    subst (λ (ms : List Member). IsSound M told o (scene word sight behind) ms (events ++ es) halt) (set-same members is.at (session left total (Writing w)) found)
+    (moved M orderly told o (scene word sight locks) (scene word sight behind) members events is.at left left total (Writing w) (Writing w) lives found was es halt (record {
+      lives = seated-on sight.stand locks behind (suc is.at) (Writing w) parties;
+      parties = λ u other. ap (λ (ps : Parties). party_of ps u) parties;
+      does = does-nothing (suc is.at) (λ h g. (dead n : ℕ) → Step M (suc is.at) (on_shelf (scene word sight locks) h dead) (session left n (Writing w)) (on_shelf (scene word sight behind) g dead) (session left n (Writing w)) es) sight
+          (λ h shown dead n. all (sharing word h locks dead) w left n);
+    }))
+
+-- ---- as the code has it
+
+over-alive : (m : Member) (l : Life) → is_over m l ≡ false → l ≡ Alive
+over-alive m Alive h = refl
+over-alive m Dead h = absurd (false≢true (sym h))
+over-alive m Gone h = absurd (false≢true (sym h))
+
+pub work-alive : (m : Member) → is_over m m.life ≡ false → m.life ≡ Alive
+work-alive m h = over-alive m m.life h
+
+alive-true : (l : Life) → is_alive_life l ≡ true → l ≡ Alive
+alive-true Alive h = refl
+alive-true Dead h = absurd (false≢true h)
+alive-true Gone h = absurd (false≢true h)
+
+pub is-alive : (m : Member) → is_alive m ≡ true → m.life ≡ Alive
+is-alive m h = alive-true m.life h
+
+dead-true : (l : Life) → is_dead_life l ≡ true → l ≡ Dead
+dead-true Alive h = absurd (false≢true h)
+dead-true Dead h = refl
+dead-true Gone h = absurd (false≢true h)
+
+pub is-dead : (m : Member) → is_dead m ≡ true → m.life ≡ Dead
+is-dead m h = dead-true m.life h
+
+pub session-of : (m : Member) → m.life ≡ Alive → m ≡ session m.left m.total m.phase
+session-of m e = ap (λ (l : Life). record { left = m.left; total = m.total; phase = m.phase; life = l }) e
+
+pub going-on : (m : Member) → m.life ≡ Alive → is_over m m.life ≡ false → is_done m.left m.phase ≡ false
+going-on m e h = subst (λ (l : Life). is_over m l ≡ false) e h
+
+-- where session s stands
+pub seated-at : (stand : ℕ → Seat) (locks : State) (members : List Member) (s at : ℕ) (m : Member) → 1 ≤ s → at ≡ s - 1 → slice_get members at ≡ Some m → m.life ≡ Alive → AreSeated stand locks members → IsSeated stand locks s m.phase
+seated-at stand locks members s at m first is found alive k =
+    let e : suc at ≡ s = ap suc is ∙ suc-less s first in
+    subst (λ (t : ℕ). IsSeated stand locks t m.phase) e (subst (λ (l : Life). LivesAt stand locks (suc at) m.phase l) alive (k.each (suc at) m found))
+
+pub turned : (M : Model) (orderly : IsOrderly M) (told : Type 0) (o : Opening) (c d : Scene) (members put : List Member) (events more : List Event) (s at : ℕ) (m : Member) (rest : List Item) (y : Phase) (h : Happening) (old halt : Option Halt) →
+    1 ≤ s → at ≡ s - 1 → old ≡ None → dead_in members ≡ 0 → slice_get members at ≡ Some m → m.life ≡ Alive → IsSound M told o c members events old →
+    (handed_back h ≡ [] → GoesOn M s c m.left m.phase d rest y (events_of s h)) → (halt ≡ None → handed_back h ≡ []) →
+    put ≡ slice_set members at (record { left = rest; total = m.total; phase = y; life = m.life }) → more ≡ events ++ events_of s h → IsSound M told o d put more halt
+turned M orderly told o c d members put events more s at m rest y h old halt first is none lives found alive was goes going put-is more-is =
+    let e : s ≡ suc at = sym (ap suc is ∙ suc-less s first) in
+    let behind : record { left = rest; total = m.total; phase = y; life = m.life } ≡ session rest m.total y = ap (λ (l : Life). record { left = rest; total = m.total; phase = y; life = l }) alive in
+    let put-at : slice_set members at (session rest m.total y) ≡ put = ap (λ (x : Member). slice_set members at x) (sym behind) ∙ sym put-is in
+    let events-at : events ++ events_of (suc at) h ≡ more = ap (λ (t : ℕ). events ++ events_of t h) (sym e) ∙ sym more-is in
+    subst (λ (ms : List Member). IsSound M told o d ms more halt) put-at (subst (λ (es : List Event). IsSound M told o d (slice_set members at (session rest m.total y)) es halt) events-at
+    (stepped M orderly told o c d members events at m.left rest m.total m.phase y lives (found ∙ ap Some (session-of m alive)) (subst (λ (x : Option Halt). IsSound M told o c members events x) none was) h halt
+        (λ back. subst (λ (t : ℕ). GoesOn M t c m.left m.phase d rest y (events_of t h)) e (goes back)) going))
+
+-- a notice that changed nothing is no event
+pub unserved : (M : Model) (told : Type 0) (o : Opening) (c : Scene) (members : List Member) (events : List Event) (halt : Option Halt) → IsSound M told o c members (events ++ []) halt → IsSound M told o c members events halt
+unserved M told o c members events halt h = subst (λ (es : List Event). IsSound M told o c members es halt) (append-nil events) h

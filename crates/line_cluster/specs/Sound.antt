@@ -1,0 +1,59 @@
+-- What is true of the sessions of a run at every moment.
+use Rattle.std.specs.Prelude.{◌≡◌, ◌≤◌, ◌-◌, ◌==◌, ◌&&◌, ℕ, suc, Bool, true, false, List, [], length, map, Option, Some, None, is_some, slice_get}
+use Rattle.rdo_ast.specs.declared.syntax.Item.{Item}
+use Rattle.rdo_ast.specs.Views.{uttered_of}
+use Rattle.rdb_account.specs.Events.{Event, event_of}
+use Rattle.rdb_account.specs.declared.event.Event.{Event as Declared}
+use Rattle.rdb_account.specs.Places.{Opening}
+use Rattle.rdb_account.specs.Legal.{IsLegal}
+use Rattle.lock_tree_laws.specs.Forest.{State}
+use Rattle.line_store.specs.Seats.{Seat}
+use Rattle.line_store.specs.Shelves.{Shelf}
+use Rattle.line_store.specs.Sights.{Sight}
+use Rattle.session_jobs.specs.Records.{Model}
+use Rattle.session_states.specs.declared.stage.Phase.TheVariants.{Outside}
+use Rattle.session_states.specs.declared.stage.Member.{Member}
+use Rattle.session_states.specs.States.{session}
+use Rattle.session_states.specs.Kept.{IsOpened}
+use Rattle.session_stands.specs.Sessions.{AreSeated, IsTold, sharing}
+use Rattle.stage_steps.specs.Scenes.{Scene}
+use Rattle.line_cluster.specs.declared.sessions.Halt.{Halt}
+
+-- Where the opening told what the store holds, the account is legal. As long as no halt has come, each session stands where its phase has it, and what is shown is kept.
+pub record IsSound (M : Model) (told : Type 0) (o : Opening) (c : Scene) (members : List Member) (events : List Event) (halt : Option Halt) : Type 0 where
+  pub legal : told → IsLegal o events
+  pub seated : halt ≡ None → AreSeated c.sight.stand c.locks members
+  pub kept : halt ≡ None → told → IsTold M o c.word c.sight c.locks members events
+
+-- session s is one of these
+pub record IsOneOf (members : List Member) (s : ℕ) : Type 0 where
+  pub first : 1 ≤ s
+  pub last : s ≤ length members
+  pub few : length members ≤ 16
+
+-- the scripts are those of the opening
+abbrev pub FollowsScripts : Opening → List (List Item) → Type 0
+FollowsScripts o scripts = (i : ℕ) (items : List Item) → slice_get scripts i ≡ Some items → o.script (suc i) ≡ map uttered_of items
+
+-- a shelf is shown as an account opens
+pub record IsOpenedBy (M : Model) (o : Opening) (word : List ℕ) (sight : Sight) : Type 0 where
+  pub shelf : Shelf
+  pub shown : sight.shows shelf
+  pub opened : (locks : State) → locks.parties ≡ [] → locks.trail ≡ [] → IsOpened M o (sharing word shelf locks 0)
+
+abbrev pub fresh_member : List Item → Member
+fresh_member script = session script (length script) Outside
+
+-- as contracts see them
+pub record Sessions : Type 0 where
+  pub members : List Member
+  pub events : List Declared
+
+-- they are sound, and so many: no more than the tree of locks has owners
+pub record AreSound (M : Model) (told : Type 0) (o : Opening) (sessions : ℕ) (c : Scene) (members : List Member) (events : List Event) (halt : Option Halt) : Type 0 where
+  pub sound : IsSound M told o c members events halt
+  pub count : length members ≡ sessions
+  pub few : sessions ≤ 16
+
+abbrev pub IsSession : ℕ → ℕ → Type 0
+IsSession sessions s = (1 ≤ s) × (s ≤ sessions)

@@ -1,0 +1,141 @@
+//! The sessions of a run, of one origin.
+ghost use Rattle.std.specs.Prelude.{◌≡◌, ◌≤◌, ◌&&◌, ℕ, [], length, map, not, true, IfOk};
+ghost use Rattle.rdb_account.specs.Events.{event_of};
+ghost use Rattle.rdb_account.specs.Legal.{IsLegal, is_stop};
+ghost use Rattle.line_store.specs.Seats.{outside};
+ghost use Rattle.line_cluster.specs.Sound.{FollowsScripts, IsOpenedBy, IsSession, fresh_member};
+
+use crate::sessions::{Core, Turn};
+use crate::notes::Notes;
+use crate::origin::Origin;
+use line_store::LineStore;
+use lock_tree::Tree;
+use rdb_account::{Event, Events};
+use rdb_types::{Cause, Items, NoMemory, Session, Word};
+use session_jobs::Statements;
+use session_states::{ItemQueue, Life, Member, Phase};
+use stage_steps::Common;
+use std::alloc::Global;
+use std::marker::{Model, PhantomData};
+
+/// The sessions of a run over a store of lines, each with its script, and their account.
+#[derive(Drop)]
+pub struct LineCluster<O: Origin, S: Statements, L: LineStore + Drop> {
+    core: Core<O, S, L>,
+}
+
+impl<O: Origin, S: Statements, L: LineStore + Drop> Model for LineCluster<O, S, L> {
+    ghost use Rattle.std.specs.Prelude.{map};
+    ghost use Rattle.std.specs.Coded.{codes};
+    ghost use Rattle.rdo_ast.specs.contracts.syntax.Action as action_type;
+    ghost use Rattle.rdb_account.specs.Events.{event_of};
+    ghost use Rattle.stage_steps.specs.Scenes.{scene};
+    ghost use Rattle.line_cluster.specs.Sound.{Sessions, AreSound};
+
+    ghost Value = { Sessions };
+
+    ghost coded = { Prim.hlevel (codes, action_type.the_row.coded) };
+
+    ghost view = { λ c. record { members = c.core.members.items; events = c.core.events.items } };
+
+    ghost invariant = {
+        λ c. AreSound S.stands O.told O.opening O.sessions (scene c.core.common.word (L.sight c.core.common.store) c.core.common.tree) c.core.members.items (map event_of c.core.events.items) c.core.halt
+    };
+}
+
+// A session of each script, which has said nothing.
+fn members_of(alloc: Global, scripts: Vec<ItemQueue>) -> Result<Vec<Member>, NoMemory>
+    ensures { IfOk result (λ members. members.items ≡ map fresh_member scripts.items) }
+{
+    let mut members = Vec::new(alloc);
+    for left in scripts {
+        let Ok(total) = u32::try_from(left.len()) else {
+            return Err(NoMemory {});
+        };
+        members.push(Member {
+            left,
+            total,
+            phase: Phase::Outside,
+            life: Life::Alive,
+        })?;
+    }
+    Ok(members)
+}
+
+impl<O: Origin, S: Statements, L: LineStore + Drop> LineCluster<O, S, L> {
+    /// Sessions that have said nothing, over a store in which nobody has a transaction open.
+    pub fn start(
+        alloc: Global,
+        word: Word,
+        store: L,
+        scripts: Vec<ItemQueue>,
+    ) -> Result<Self, NoMemory>
+        requires sessions { length scripts.items ≡ O.sessions }
+        requires few { O.sessions ≤ 16 }
+        requires scripts { FollowsScripts O.opening scripts.items }
+        requires outside { (s : ℕ) → (L.sight store).stand s ≡ outside }
+        requires opened { O.told → IsOpenedBy S.stands O.opening word (L.sight store) }
+        ensures events { IfOk result (λ c. c.events ≡ []) }
+        ensures members { IfOk result (λ c. c.members ≡ map fresh_member scripts.items) }
+    {
+        let members = members_of(alloc, scripts)?;
+        Ok(LineCluster {
+            core: Core {
+                common: Common {
+                    alloc,
+                    word,
+                    store,
+                    tree: Tree::new(alloc),
+                },
+                members,
+                notes: Notes::new(),
+                events: Vec::new(alloc),
+                halt: None,
+                of: PhantomData,
+            },
+        })
+    }
+
+    /// A turn of a session: its next step, or whom it waits for.
+    pub fn turn(&mut self, s: Session) -> Turn
+        requires session { IsSession O.sessions s.number }
+    {
+        self.core.turn(s)
+    }
+
+    /// A session dies where it stands.
+    pub fn die(&mut self, s: Session, cause: Cause)
+        requires session { IsSession O.sessions s.number }
+        requires mortal { (O.opening.may_die s.number cause && not (is_stop cause)) ≡ true }
+    {
+        self.core.die(s, cause);
+    }
+
+    /// A step of the recovery of the first session that died.
+    pub fn recover(&mut self) -> Turn
+    {
+        self.core.recover()
+    }
+
+    /// What happened so far.
+    pub fn events(&self) -> &[Event]
+        ensures { result.now ≡ self.now.events }
+    {
+        &self.core.events
+    }
+
+    /// What is true of the sessions at every moment.
+    pub fn facts(&self)
+        ensures legal { O.told → IsLegal O.opening (map event_of self.now.events) }
+    {
+        let _ = &self.core;
+    }
+
+    /// The events of the run.
+    pub fn into_events(self) -> Events
+        ensures { result ≡ self.events }
+    {
+        let LineCluster { core } = self;
+        Items::from_vec(core.events)
+    }
+}

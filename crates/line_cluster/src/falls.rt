@@ -1,0 +1,164 @@
+//! Sessions that die, and their recovery.
+ghost use Rattle.std.specs.Prelude.{◌≡◌, ◌≤◌, ◌+◌, ◌-◌, ◌&&◌, length, map, not, true, false, None, Some, slice_get, IfSome};
+ghost use Rattle.std.specs.Vec.{vec_len, vec_capacity};
+ghost use Rattle.rdb_account.specs.Events.{event_of};
+ghost use Rattle.rdb_account.specs.Legal.{is_stop};
+ghost use Rattle.session_states.specs.declared.stage.Life.TheVariants as life;
+ghost use Rattle.session_states.specs.declared.stage.Member.{Member as MemberValue};
+ghost use Rattle.session_stands.specs.Sessions.{dead_in};
+ghost use Rattle.stage_steps.specs.Deaths.{life_behind as life_behind_it};
+ghost use Rattle.stage_steps.specs.Scenes.{scene};
+ghost use Rattle.line_cluster.specs.Going.{IsDeadAt, is_dead as is_dead_at, is_alive as is_alive_at};
+ghost use Rattle.line_cluster.specs.Sound.{IsSound, IsOneOf};
+
+use crate::members::{put_member, take_member};
+use crate::origin::Origin;
+use crate::sessions::{Core, Halt, Turn};
+use line_account::{record_death, record_recovery, reserve_step};
+use line_store::{Fault, LineStore};
+use rdb_types::{Cause, Session};
+use session_jobs::Statements;
+use session_states::{Life, Member};
+use stage_steps::{Recovery, die, recover};
+
+fn is_dead(member: &Member) -> bool
+    ensures { result ≡ is_dead_at member.now }
+{
+    matches!(member.life, Life::Dead)
+}
+
+fn is_alive(member: &Member) -> bool
+    ensures { result ≡ is_alive_at member.now }
+{
+    matches!(member.life, Life::Alive)
+}
+
+/// The place of the first session that died and awaits its recovery.
+pub(crate) fn first_dead(members: &[Member]) -> Option<usize>
+    ensures dead { IfSome result (λ at. IsDeadAt members.now at) }
+    ensures none { result ≡ None → dead_in members.now ≡ 0 }
+{
+    for at in 0..members.len() {
+        if is_dead(&members[at]) {
+            return Some(at);
+        }
+    }
+    None
+}
+
+// How a session lives behind a step of its recovery.
+fn life_behind(step: &Result<Recovery, Fault>) -> Life
+    ensures { result ≡ life_behind_it step.now }
+{
+    match step {
+        Ok(Recovery::Done { .. }) => Life::Gone,
+        Ok(Recovery::More) | Err(_) => Life::Dead,
+    }
+}
+
+impl<O: Origin, S: Statements, L: LineStore> Core<O, S, L> {
+    /// A session dies where it stands. Nothing changes where it has died before, nor behind a halt.
+    pub fn die(&mut self, s: Session, cause: Cause)
+        requires one { IsOneOf self.old.members.items s.number }
+        requires mortal { (O.opening.may_die s.number cause && not (is_stop cause)) ≡ true }
+        requires sound { IsSound S.stands O.told O.opening (scene self.old.common.word (L.sight self.old.common.store) self.old.common.tree) self.old.members.items (map event_of self.old.events.items) self.old.halt }
+        ensures sound { IsSound S.stands O.told O.opening (scene self.new.common.word (L.sight self.new.common.store) self.new.common.tree) self.new.members.items (map event_of self.new.events.items) self.new.halt }
+        ensures count { length self.new.members.items ≡ length self.old.members.items }
+    {
+        let at = s.number as usize - 1;
+        if self.halt.is_some() || !is_alive(&self.members[at]) {
+            return;
+        }
+        if reserve_step(&mut self.events).is_err() {
+            let _turn = self.stop(Halt::NoMemory);
+            return;
+        }
+        self.fall(s, at, cause);
+    }
+
+    fn fall(&mut self, s: Session, at: usize, cause: Cause)
+        requires one { IsOneOf self.old.members.items s.number }
+        requires at { at ≡ s.number - 1 }
+        requires mortal { (O.opening.may_die s.number cause && not (is_stop cause)) ≡ true }
+        requires sound { IsSound S.stands O.told O.opening (scene self.old.common.word (L.sight self.old.common.store) self.old.common.tree) self.old.members.items (map event_of self.old.events.items) self.old.halt }
+        requires going { self.old.halt ≡ None }
+        requires room { vec_len self.old.events + 6 ≤ vec_capacity self.old.events }
+        requires alive { (m : MemberValue) → slice_get self.old.members.items at ≡ Some m → is_alive_at m ≡ true }
+        ensures sound { IsSound S.stands O.told O.opening (scene self.new.common.word (L.sight self.new.common.store) self.new.common.tree) self.new.members.items (map event_of self.new.events.items) self.new.halt }
+        ensures count { length self.new.members.items ≡ length self.old.members.items }
+    {
+        let Member {
+            left,
+            total,
+            phase,
+            life: _,
+        } = take_member(&mut self.members, at, self.common.alloc);
+        die::<S, L>(&mut self.common.store, s);
+        let behind = Member {
+            left,
+            total,
+            phase,
+            life: Life::Dead,
+        };
+        put_member(&mut self.members, at, behind);
+        record_death(&mut self.events, s, cause);
+    }
+
+    /// A step of the recovery of the first session that died.
+    pub fn recover(&mut self) -> Turn
+        requires few { length self.old.members.items ≤ 16 }
+        requires sound { IsSound S.stands O.told O.opening (scene self.old.common.word (L.sight self.old.common.store) self.old.common.tree) self.old.members.items (map event_of self.old.events.items) self.old.halt }
+        ensures sound { IsSound S.stands O.told O.opening (scene self.new.common.word (L.sight self.new.common.store) self.new.common.tree) self.new.members.items (map event_of self.new.events.items) self.new.halt }
+        ensures count { length self.new.members.items ≡ length self.old.members.items }
+    {
+        if self.halt.is_some() {
+            return Turn::Stopped;
+        }
+        let Some(at) = first_dead(&self.members) else {
+            return Turn::Ended;
+        };
+        if reserve_step(&mut self.events).is_err() {
+            return self.stop(Halt::NoMemory);
+        }
+        self.recover_at(at)
+    }
+
+    fn recover_at(&mut self, at: usize) -> Turn
+        requires few { length self.old.members.items ≤ 16 }
+        requires sound { IsSound S.stands O.told O.opening (scene self.old.common.word (L.sight self.old.common.store) self.old.common.tree) self.old.members.items (map event_of self.old.events.items) self.old.halt }
+        requires going { self.old.halt ≡ None }
+        requires room { vec_len self.old.events + 6 ≤ vec_capacity self.old.events }
+        requires dead { IsDeadAt self.old.members.items at }
+        ensures sound { IsSound S.stands O.told O.opening (scene self.new.common.word (L.sight self.new.common.store) self.new.common.tree) self.new.members.items (map event_of self.new.events.items) self.new.halt }
+        ensures count { length self.new.members.items ≡ length self.old.members.items }
+    {
+        let _count = self.members.len();
+        let s = Session {
+            number: at as u32 + 1,
+        };
+        let Member {
+            left,
+            total,
+            phase,
+            life: _,
+        } = take_member(&mut self.members, at, self.common.alloc);
+        let step = recover::<S, L>(&mut self.common, s);
+        let behind = Member {
+            left,
+            total,
+            phase,
+            life: life_behind(&step),
+        };
+        put_member(&mut self.members, at, behind);
+        match step {
+            Ok(step) => {
+                record_recovery(&mut self.events, s, step);
+                Turn::Moved
+            }
+            Err(fault) => {
+                self.halt = Some(Halt::Device(fault));
+                Turn::Stopped
+            }
+        }
+    }
+}

@@ -1,0 +1,66 @@
+// Sessions by their numbers.
+ghost use Rattle.std.specs.Prelude.{◌≡◌, ◌<◌, ◌-◌, false, true, Some, None, slice_get, slice_set, IfOk};
+ghost use Rattle.std.specs.Vec.{vec_len};
+ghost use Rattle.session_states.specs.declared.stage.Life.TheVariants as life;
+ghost use Rattle.session_states.specs.declared.stage.Phase.TheVariants as phase;
+ghost use Rattle.session_states.specs.declared.stage.Member.{Member as MemberValue};
+ghost use Rattle.line_cluster.specs.Going.{is_done as is_done_at, is_over as is_over_at, writes_at};
+
+use rdb_types::Session;
+use session_states::{ItemQueue, Life, Member, Phase};
+use std::alloc::Global;
+use std::mem::{forget, replace};
+
+/// Whether a session has nothing left to do.
+pub(crate) fn is_over(member: &Member) -> bool
+    ensures { result ≡ is_over_at member.now member.now.life }
+{
+    match member.life {
+        Life::Alive => is_done(member),
+        Life::Dead | Life::Gone => true,
+    }
+}
+
+fn is_done(member: &Member) -> bool
+    ensures { result ≡ is_done_at member.now.left member.now.phase }
+{
+    match &member.phase {
+        Phase::Outside => member.left.len() == 0,
+        Phase::Over => true,
+        _ => false,
+    }
+}
+
+/// Whether a session has a read-write transaction, and so may hold locks that come down.
+pub(crate) fn is_writing(member: &Member) -> bool
+    ensures { result ≡ writes_at member.now.phase member.now.life }
+{
+    match (&member.life, &member.phase) {
+        (Life::Alive, Phase::Writing(_)) => true,
+        _ => false,
+    }
+}
+
+/// Takes a session out; another stands in its place until it is put back.
+pub(crate) fn take_member(members: &mut Vec<Member>, at: usize, alloc: Global) -> Member
+    requires { at < vec_len members.old }
+    ensures taken { slice_get members.old.items at ≡ Some result }
+    ensures rest { (m : MemberValue) → slice_set members.new.items at m ≡ slice_set members.old.items at m }
+    ensures len { vec_len members.new ≡ vec_len members.old }
+{
+    let gone = Member {
+        left: ItemQueue::new(alloc),
+        total: 0,
+        phase: Phase::Over,
+        life: Life::Gone,
+    };
+    replace(&mut members[at], gone)
+}
+
+/// Puts a session back. (What stood in its place owns nothing.)
+pub(crate) fn put_member(members: &mut Vec<Member>, at: usize, member: Member)
+    requires { at < vec_len members.old }
+    ensures { members.new.items ≡ slice_set members.old.items at member }
+{
+    forget(replace(&mut members[at], member));
+}

@@ -1,0 +1,49 @@
+//! What all sessions share, and the sessions.
+use crate::notes::Notes;
+use crate::origin::Origin;
+use line_store::{ChangeStop, Fault, LineStore};
+use rdb_account::Event;
+use rdb_types::Session;
+use session_jobs::Statements;
+use session_states::Member;
+use stage_steps::Common;
+use std::marker::PhantomData;
+
+/// Why no session goes on any more.
+#[derive(Clone, Copy, Debug)]
+pub enum Halt {
+    /// No memory was found for the events of a step.
+    NoMemory,
+    /// A device call failed, or a slot isn't what it has to be.
+    Device(Fault),
+    /// The store has no place for what the first statement of a transaction wrote.
+    Unlaid(ChangeStop),
+    /// Who works statements doesn't work this one.
+    Unworked,
+}
+
+/// What a turn of a session came to.
+#[derive(Clone, Copy, Debug)]
+pub enum Turn {
+    Moved,
+    /// It waits for this session.
+    Asleep(Session),
+    /// A session that died awaits its recovery.
+    Frozen,
+    /// It has nothing left to do.
+    Ended,
+    /// No session goes on.
+    Stopped,
+}
+
+/// The sessions, what they share, and what happened.
+#[derive(Drop)]
+pub struct Core<O: Origin, S: Statements, L: LineStore> {
+    pub common: Common<L>,
+    pub members: Vec<Member>,
+    pub notes: Notes,
+    pub events: Vec<Event>,
+    /// Why no session goes on, once that is so.
+    pub halt: Option<Halt>,
+    pub of: PhantomData<(O, S)>,
+}

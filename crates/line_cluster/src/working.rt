@@ -1,0 +1,82 @@
+//! A statement of a read-write transaction that is worked.
+ghost use Rattle.std.specs.Prelude.{◌≡◌, None};
+ghost use Rattle.line_store.specs.Seats.{IsMember};
+ghost use Rattle.session_states.specs.Locks.{lock_of};
+ghost use Rattle.session_stands.specs.Seated.{IsSeated};
+ghost use Rattle.stage_steps.specs.Asking.{IsOfStatement};
+ghost use Rattle.stage_steps.specs.Happenings.{events_of};
+ghost use Rattle.stage_steps.specs.Scenes.{ComesIn, scene};
+ghost use Rattle.stage_steps.specs.Turns.{at_stage};
+ghost use Rattle.line_cluster.specs.Going.{MayBeAsked};
+
+use line_store::LineStore;
+use line_view::Need;
+use rdb_types::Session;
+use rdo_ast::syntax::Item;
+use session_jobs::Statements;
+use session_states::{Stage, Work, lock_of};
+use stage_steps::{
+    Common, Happening, Terms, Turned, compute, fetch_locked, hand_out, open, quiet, want,
+};
+
+/// One step of a statement's work.
+pub(crate) fn go_on_working<S: Statements, L: LineStore>(
+    common: &mut Common<L>,
+    s: Session,
+    terms: Terms,
+    item: Item,
+    work: Work,
+) -> Turned
+    requires member { IsMember s.number }
+    requires seated { IsSeated (L.sight common.old.store).stand common.old.tree s.number (at_stage terms (Stage.Working item work)) }
+    ensures { ComesIn S.stands s.number (scene common.old.word (L.sight common.old.store) common.old.tree) (at_stage terms (Stage.Working item work))
+        (scene common.new.word (L.sight common.new.store) common.new.tree) result.phase (events_of s.number result.happened) }
+{
+    match work {
+        Work::Opening => open::<S, L>(&mut common.store, s, terms, item),
+        Work::Due => quiet(hand_out::<S>(terms, item)),
+        Work::Out => compute::<S, L>(common, s, terms, item),
+        Work::Fetching(need) => fetch_locked::<S, L>(common, s, terms, item, need),
+        Work::Lacking(Need::Room(room)) => {
+            leave_be(terms, Stage::Working(item, Work::Lacking(Need::Room(room))))
+        }
+        Work::Lodging(room, key) => {
+            leave_be(terms, Stage::Working(item, Work::Lodging(room, key)))
+        }
+        Work::Lacking(_) | Work::Housing(..) => {
+            want_lock::<S, L>(common, s, terms, Stage::Working(item, work))
+        }
+    }
+}
+
+/// Asks for the lock that the stage of a statement wants.
+pub(crate) fn want_lock<S: Statements, L: LineStore>(
+    common: &mut Common<L>,
+    s: Session,
+    terms: Terms,
+    stage: Stage,
+) -> Turned
+    requires member { IsMember s.number }
+    requires seated { IsSeated (L.sight common.old.store).stand common.old.tree s.number (at_stage terms stage) }
+    requires statement { IsOfStatement stage }
+    requires wants { lock_of stage ≡ None → ⊥ }
+    requires asked { MayBeAsked (lock_of stage) }
+    ensures { ComesIn S.stands s.number (scene common.old.word (L.sight common.old.store) common.old.tree) (at_stage terms stage)
+        (scene common.new.word (L.sight common.new.store) common.new.tree) result.phase (events_of s.number result.happened) }
+{
+    let Some(need) = lock_of(&stage) else {
+        unreachable!();
+    };
+    want::<S, L>(common, s, terms, stage, need)
+}
+
+/// A stage that isn't built yet stands as it does.
+pub(crate) fn leave_be(terms: Terms, stage: Stage) -> Turned
+    ensures phase { result.phase ≡ at_stage terms stage }
+    ensures happened { result.happened ≡ Happening.Unworked }
+{
+    Turned {
+        phase: terms.at(stage),
+        happened: Happening::Unworked,
+    }
+}
