@@ -15,7 +15,10 @@ use Rattle.line_store.proofs.InTurn.{does-as, does-nothing}
 use Rattle.session_jobs.specs.Records.{Model}
 use Rattle.session_states.specs.declared.stage.Phase.{Phase}
 use Rattle.session_states.specs.declared.stage.Life.TheVariants.{Alive}
-use Rattle.session_states.specs.States.{session}
+use Rattle.session_states.specs.declared.stage.Phase.TheVariants.{Reading}
+use Rattle.session_states.specs.declared.stage.Reader.{Reader}
+use Rattle.session_states.specs.declared.stage.ReaderStage.{ReaderStage}
+use Rattle.session_states.specs.States.{session, reader}
 use Rattle.session_states.specs.Steps.{Step}
 use Rattle.stage_steps.specs.declared.happening.Happening.{Happening}
 use Rattle.stage_steps.specs.declared.happening.Happening.TheVariants.{Quiet}
@@ -63,3 +66,9 @@ passes M s c x y p = record {
   parties = λ u other. refl;
   does = does-nothing s (λ h g. (dead : ℕ) → Comes M s (on_shelf c h dead) x (on_shelf c g dead) y []) c.sight (λ h shown dead. p.comes s (on_shelf c h dead));
 }
+
+-- ---- a reader at this stage
+
+pub reads-on : (M : Model) (s : ℕ) (old new : Scene) (r : Reader) (stage : ReaderStage) (y : Phase) (es : List Event) (left : List Item) → r.stage ≡ stage → ComesIn M s old (Reading (reader r.standing r.known r.spoken stage)) new y es → GoesOn M s old left (Reading r) new left y es
+reads-on M s old new r stage y es left e step = goes-on M s old new (Reading r) y es left
+    (subst (λ (st : ReaderStage). ComesIn M s old (Reading (reader r.standing r.known r.spoken st)) new y es) (sym e) step)

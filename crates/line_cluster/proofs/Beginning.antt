@@ -17,7 +17,9 @@ use Rattle.session_stands.proofs.Seating.{began}
 use Rattle.session_stands.proofs.Seats.{outside-seat}
 use Rattle.stage_steps.specs.Scenes.{Scene}
 use Rattle.line_cluster.specs.declared.sessions.Halt.{Halt}
-use Rattle.line_cluster.specs.Sound.{IsSound, FollowsScripts, IsOpenedBy, fresh_member}
+use Rattle.rdb_account.specs.Events.{event_of}
+use Rattle.rdb_account.specs.declared.event.Event.{Event as Declared}
+use Rattle.line_cluster.specs.Sound.{IsSound, AreSound, FollowsScripts, IsOpenedBy, fresh_member}
 
 map-got : {A B : Type 0} (f : A → B) (xs : List A) (i : ℕ) (y : B) → slice_get (map f xs) i ≡ Some y → (x : A) × (slice_get xs i ≡ Some x) × (f x ≡ y)
 map-got f [] i y h = absurd (none-some y h)
@@ -57,3 +59,13 @@ begins M orderly told o c scripts agrees away parties trail follows opens = reco
             seat = outside-seat (is.shelf.seat (suc i)) (sym (agrees is.shelf is.shown (suc i)) ∙ ap bare (away (suc i)));
           }));
     }
+
+pub starts : (M : Model) (orderly : IsOrderly M) (told : Type 0) (o : Opening) (sessions : ℕ) (c : Scene) (scripts : List (List Item)) (members : List Member) (events : List Declared) → Agrees c.sight → ((s : ℕ) → c.sight.stand s ≡ outside) →
+    c.locks.parties ≡ [] → c.locks.trail ≡ [] → FollowsScripts o scripts → (told → IsOpenedBy M o c.word c.sight) → members ≡ map fresh_member scripts → events ≡ [] → length scripts ≡ sessions → sessions ≤ 16 →
+    AreSound M told o sessions c members (map event_of events) None
+starts M orderly told o sessions c scripts members events agrees away parties trail follows opens are none count few = record {
+  sound = subst (λ (ms : List Member). IsSound M told o c ms (map event_of events) None) (sym are) (subst (λ (es : List Declared). IsSound M told o c (map fresh_member scripts) (map event_of es) None) (sym none)
+      (begins M orderly told o c scripts agrees away parties trail follows opens));
+  count = ap length are ∙ (as-long fresh_member scripts ∙ count);
+  few = few;
+}

@@ -36,7 +36,8 @@ use Rattle.stage_steps.specs.Scenes.{Scene, Goes, on_shelf}
 use Rattle.line_cluster.specs.declared.sessions.Halt.{Halt}
 use Rattle.line_cluster.specs.Sound.{IsSound}
 use Rattle.line_cluster.proofs.Places.{suc-less}
-use Rattle.line_cluster.proofs.Stepping.{session-of, seated-at}
+use Rattle.line_cluster.proofs.Stepping.{session-of, seated-at, is-dead}
+use Rattle.line_cluster.specs.Going.{IsDeadAt, is_dead}
 
 -- how many are dead where one has another life
 dead-moved : (ms : List Member) (i : ℕ) (m n : Member) → slice_get ms i ≡ Some m → dead_in (slice_set ms i n) + one_dead m.life ≡ dead_in ms + one_dead n.life
@@ -124,18 +125,18 @@ behind-is (Err fault) left total x = refl
 pub has-recovered : (M : Model) (orderly : IsOrderly M) (told : Type 0) (o : Opening) (c d : Scene) (members put : List Member) (events more : List Event) (at : ℕ) (m : Member) (result : Result Recovery Fault) (old halt : Option Halt) →
     old ≡ None → slice_get members at ≡ Some m → m.life ≡ Dead → IsSound M told o c members events old → RecoversIn M (at + 1) m.phase c d result →
     put ≡ slice_set members at (record { left = m.left; total = m.total; phase = m.phase; life = life_behind result }) → more ≡ events ++ recovery_events (at + 1) result → IsSound M told o d put more halt
-has-recovered M orderly told o c d members put events more at m result old halt none found dead was recovers-in put-is more-is =
+has-recovered M orderly told o c d members put events more at m result old halt none found died was recovers-in put-is more-is =
     let e : at + 1 ≡ suc at = omega arith in
     subst (λ (ms : List Member). IsSound M told o d ms more halt) (ap (λ (x : Member). slice_set members at x) (behind-is result m.left m.total m.phase) ∙ sym put-is)
     (subst (λ (es : List Event). IsSound M told o d (slice_set members at (recovered_by result m.left m.total m.phase)) es halt) (ap (λ (t : ℕ). events ++ recovery_events t result) (sym e) ∙ sym more-is)
     (recovers M orderly told o c d members events at (subst (λ (x : Option Halt). IsSound M told o c members events x) none was) m.left m.total m.phase halt
-        (found ∙ ap (λ (l : Life). Some (record { left = m.left; total = m.total; phase = m.phase; life = l })) dead) result (subst (λ (t : ℕ). RecoversIn M t m.phase c d result) e recovers-in)))
+        (found ∙ ap (λ (l : Life). Some (record { left = m.left; total = m.total; phase = m.phase; life = l })) died) result (subst (λ (t : ℕ). RecoversIn M t m.phase c d result) e recovers-in)))
 
 -- the session at this place is dead for the store
 pub dead-stands : (stand : ℕ → Seat) (locks : State) (members : List Member) (at : ℕ) (m : Member) → slice_get members at ≡ Some m → m.life ≡ Dead → AreSeated stand locks members → IsAlive (stand (at + 1)) → ⊥
-dead-stands stand locks members at m found dead k alive =
+dead-stands stand locks members at m found died k alive =
     let e : at + 1 ≡ suc at = omega arith in
-    let f : HasFallen stand locks (suc at) m.phase = subst (λ (l : Life). LivesAt stand locks (suc at) m.phase l) dead (k.each (suc at) m found) in
+    let f : HasFallen stand locks (suc at) m.phase = subst (λ (l : Life). LivesAt stand locks (suc at) m.phase l) died (k.each (suc at) m found) in
     dead-seat (stand (suc at)) (commits_in m.phase) f.seat (subst (λ (t : ℕ). IsAlive (stand t)) e alive)
 
 -- a session that lives isn't dead for the store
@@ -192,3 +193,7 @@ bare-lives (dead commits ws) h = h
 
 pub alive-stands : (stand : ℕ → Seat) (locks : State) (members : List Member) (s at : ℕ) (m : Member) → 1 ≤ s → at ≡ s - 1 → slice_get members at ≡ Some m → m.life ≡ Alive → AreSeated stand locks members → IsAlive (stand s)
 alive-stands stand locks members s at m first is found alive k = bare-lives (stand s) (phase-lives m.phase (bare (stand s)) (seated-at stand locks members s at m first is found alive k).seat)
+
+-- the session that was taken out is the one that died
+pub died-at : (members : List Member) (at : ℕ) (m : Member) → IsDeadAt members at → slice_get members at ≡ Some m → m.life ≡ Dead
+died-at members at m d found = is-dead m (subst (λ (x : Member). is_dead x ≡ true) (same_Some d.member m (sym d.found ∙ found)) d.dead)

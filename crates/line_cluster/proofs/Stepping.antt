@@ -118,10 +118,10 @@ alive-writer m h = by m.phase m.life refl refl h
     by (Reading r) l px pl h = absurd (false≢true h)
     by Over l px pl h = absurd (false≢true h)
 
-pub served : (M : Model) (orderly : IsOrderly M) (told : Type 0) (o : Opening) (word : List ℕ) (sight : Sight) (locks behind : State) (members : List Member) (events es : List Event) (s : ℕ) (halt : Option Halt) →
-    dead_in members ≡ 0 → IsWriterAt members s → IsSound M told o (scene word sight locks) members events None → behind.parties ≡ locks.parties →
-    ((c : Shared) (w : Writer) → Comes M s (with_locks locks c) (Writing w) (with_locks behind c) (Writing w) es) → IsSound M told o (scene word sight behind) members (events ++ es) halt
-served M orderly told o word sight locks behind members events es s halt lives is was parties comes =
+pub served : (M : Model) (orderly : IsOrderly M) (told : Type 0) (o : Opening) (word : List ℕ) (sight : Sight) (locks behind : State) (members : List Member) (events more es : List Event) (s : ℕ) (old halt : Option Halt) →
+    old ≡ None → dead_in members ≡ 0 → IsWriterAt members s → IsSound M told o (scene word sight locks) members events old → behind.parties ≡ locks.parties →
+    ((c : Shared) (w : Writer) → Comes M s (with_locks locks c) (Writing w) (with_locks behind c) (Writing w) es) → more ≡ events ++ es → IsSound M told o (scene word sight behind) members more halt
+served M orderly told o word sight locks behind members events more es s old halt none lives is was parties comes more-is =
     let at = alive-writer is.member is.writes in
     let w : Writer = at.0 in
     let left : List Item = is.member.left in
@@ -129,13 +129,15 @@ served M orderly told o word sight locks behind members events es s halt lives i
     let found : slice_get members is.at ≡ Some (session left total (Writing w)) = is.found ∙ ap Some at.1 in
     let all : (c : Shared) (v : Writer) → Comes M (suc is.at) (with_locks locks c) (Writing v) (with_locks behind c) (Writing v) es =
         subst (λ (t : ℕ). (c : Shared) (v : Writer) → Comes M t (with_locks locks c) (Writing v) (with_locks behind c) (Writing v) es) is.number comes in
-    subst (λ (ms : List Member). IsSound M told o (scene word sight behind) ms (events ++ es) halt) (set-same members is.at (session left total (Writing w)) found)
-    (moved M orderly told o (scene word sight locks) (scene word sight behind) members events is.at left left total (Writing w) (Writing w) lives found was es halt (record {
+    subst (λ (xs : List Event). IsSound M told o (scene word sight behind) members xs halt) (sym more-is)
+    (subst (λ (ms : List Member). IsSound M told o (scene word sight behind) ms (events ++ es) halt) (set-same members is.at (session left total (Writing w)) found)
+    (moved M orderly told o (scene word sight locks) (scene word sight behind) members events is.at left left total (Writing w) (Writing w) lives found
+    (subst (λ (x : Option Halt). IsSound M told o (scene word sight locks) members events x) none was) es halt (record {
       lives = seated-on sight.stand locks behind (suc is.at) (Writing w) parties;
       parties = λ u other. ap (λ (ps : Parties). party_of ps u) parties;
       does = does-nothing (suc is.at) (λ h g. (dead n : ℕ) → Step M (suc is.at) (on_shelf (scene word sight locks) h dead) (session left n (Writing w)) (on_shelf (scene word sight behind) g dead) (session left n (Writing w)) es) sight
           (λ h shown dead n. all (sharing word h locks dead) w left n);
-    }))
+    })))
 
 -- ---- as the code has it
 
@@ -187,7 +189,3 @@ turned M orderly told o c d members put events more s at m rest y h old halt fir
     subst (λ (ms : List Member). IsSound M told o d ms more halt) put-at (subst (λ (es : List Event). IsSound M told o d (slice_set members at (session rest m.total y)) es halt) events-at
     (stepped M orderly told o c d members events at m.left rest m.total m.phase y lives (found ∙ ap Some (session-of m alive)) (subst (λ (x : Option Halt). IsSound M told o c members events x) none was) h halt
         (λ back. subst (λ (t : ℕ). GoesOn M t c m.left m.phase d rest y (events_of t h)) e (goes back)) going))
-
--- a notice that changed nothing is no event
-pub unserved : (M : Model) (told : Type 0) (o : Opening) (c : Scene) (members : List Member) (events : List Event) (halt : Option Halt) → IsSound M told o c members (events ++ []) halt → IsSound M told o c members events halt
-unserved M told o c members events halt h = subst (λ (es : List Event). IsSound M told o c members es halt) (append-nil events) h

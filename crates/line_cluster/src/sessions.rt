@@ -1,9 +1,9 @@
 //! What all sessions share, and the sessions.
 use crate::notes::Notes;
 use crate::origin::Origin;
-use line_store::{ChangeStop, Fault, LineStore};
+use line_store::{Fault, LineStore};
 use rdb_account::Event;
-use rdb_types::Session;
+use rdb_types::{Dbkey, Session};
 use session_jobs::Statements;
 use session_states::Member;
 use stage_steps::Common;
@@ -16,8 +16,8 @@ pub enum Halt {
     NoMemory,
     /// A device call failed, or a slot isn't what it has to be.
     Device(Fault),
-    /// The store has no place for what the first statement of a transaction wrote.
-    Unlaid(ChangeStop),
+    /// The store has no place for this line, which a statement wrote.
+    Unlaid(Dbkey),
     /// Who works statements doesn't work this one.
     Unworked,
 }

@@ -32,7 +32,7 @@ fn turn_of(happened: &Happening) -> Result<Turn, Halt>
     match happened {
         Happening::Asleep(other, _) => Ok(Turn::Asleep(Session { number: *other })),
         Happening::Failed(fault) => Err(Halt::Device(*fault)),
-        Happening::Unlaid(stop) => Err(Halt::Unlaid(*stop)),
+        Happening::Unlaid(key) => Err(Halt::Unlaid(*key)),
         Happening::Unworked | Happening::Unanswered(_) => Err(Halt::Unworked),
         _ => Ok(Turn::Moved),
     }
