@@ -104,12 +104,7 @@ pub fn record(events: &mut Vec<Event>, alloc: Global, s: Session, happened: Happ
 }
 
 /// Puts the event of a notice that was served to a session behind those before: its lock at the node came down, or nothing did.
-pub fn record_demotion(
-    events: &mut Vec<Event>,
-    to: Session,
-    node: Node,
-    demotion: Option<Demotion>,
-)
+pub fn record_demotion(events: &mut Vec<Event>, to: Session, node: Node, demotion: Option<Demotion>)
     requires room { vec_len events.old + MOST_EVENTS ≤ vec_capacity events.old }
     ensures { map event_of events.new.items ≡ map event_of events.old.items ++ demoted_by to.number node demotion }
 {

@@ -1,5 +1,5 @@
 -- One session steps, and all of them stay sound.
-use Rattle.std.proofs.Common.{◌≡◌, ◌≤◌, ◌-◌, ℕ, zero, suc, true, false, arith, ◌++◌, ◌∷◌, [], List, refl, ◌∙◌, sym, ap, subst, Option, Some, None, slice_get, slice_set, append-nil}
+use Rattle.std.proofs.Common.{◌≡◌, ◌≤◌, ◌-◌, ℕ, zero, suc, true, false, arith, ◌++◌, ◌∷◌, [], List, length, refl, ◌∙◌, sym, ap, subst, Option, Some, None, slice_get, slice_set, append-nil}
 use Rattle.std.proofs.lemmas.Bool.{false≢true}
 use Rattle.rdo_ast.specs.declared.syntax.Item.{Item}
 use Rattle.rdb_account.specs.Events.{Event}
@@ -34,7 +34,7 @@ use Rattle.stage_steps.specs.Turns.{Comes}
 use Rattle.line_cluster.specs.declared.sessions.Halt.{Halt}
 use Rattle.line_cluster.specs.Going.{GoesOn, IsAmong, IsWriterAt, writes_at, is_over, is_done, is_alive, is_alive_life, is_dead, is_dead_life}
 use Rattle.line_cluster.proofs.Places.{suc-less, set-same}
-use Rattle.line_cluster.specs.Sound.{IsSound}
+use Rattle.line_cluster.specs.Sound.{IsSound, IsOneOf}
 
 -- what is handed back is no event
 back-quiet : (s : ℕ) (h : Happening) (item : Item) (more : List Item) → handed_back h ≡ item ∷ more → events_of s h ≡ []
@@ -189,3 +189,12 @@ turned M orderly told o c d members put events more s at m rest y h old halt fir
     subst (λ (ms : List Member). IsSound M told o d ms more halt) put-at (subst (λ (es : List Event). IsSound M told o d (slice_set members at (session rest m.total y)) es halt) events-at
     (stepped M orderly told o c d members events at m.left rest m.total m.phase y lives (found ∙ ap Some (session-of m alive)) (subst (λ (x : Option Halt). IsSound M told o c members events x) none was) h halt
         (λ back. subst (λ (t : ℕ). GoesOn M t c m.left m.phase d rest y (events_of t h)) e (goes back)) going))
+
+-- ---- the sessions of an origin
+
+pub one-of : (members : List Member) (sessions s : ℕ) → length members ≡ sessions → sessions ≤ 16 → (1 ≤ s) × (s ≤ sessions) → IsOneOf members s
+one-of members sessions s count few is = record {
+  first = is.0;
+  last = subst (λ n. s ≤ n) (sym count) is.1;
+  few = subst (λ n. n ≤ 16) (sym count) few;
+}
