@@ -115,7 +115,7 @@ has-died M orderly told o c d members put events more s at m cause old halt firs
     subst (λ (ms : List Member). IsSound M told o d ms more halt) (sym put-is)
     (subst (λ (es : List Event). IsSound M told o d (slice_set members at (dead_session m.left m.total m.phase)) es halt) (ap (λ (t : ℕ). events ++ Died t cause ∷ []) (sym e) ∙ sym more-is)
     (dies M orderly told o c d members events at (subst (λ (x : Option Halt). IsSound M told o c members events x) none was) m.left m.total m.phase halt (found ∙ ap Some (session-of m alive)) cause
-        (subst (λ (t : ℕ). (o.may_die t cause && not (is_stop cause)) ≡ true) e may) (subst (λ (t : ℕ). DiesIn M t m.phase c d) e dies-in)))
+    (subst (λ (t : ℕ). (o.may_die t cause && not (is_stop cause)) ≡ true) e may) (subst (λ (t : ℕ). DiesIn M t m.phase c d) e dies-in)))
 
 behind-is : (result : Result Recovery Fault) (left : List Item) (total : ℕ) (x : Phase) → recovered_by result left total x ≡ record { left = left; total = total; phase = x; life = life_behind result }
 behind-is (Ok (Done committed moment)) left total x = refl
@@ -130,7 +130,7 @@ has-recovered M orderly told o c d members put events more at m result old halt 
     subst (λ (ms : List Member). IsSound M told o d ms more halt) (ap (λ (x : Member). slice_set members at x) (behind-is result m.left m.total m.phase) ∙ sym put-is)
     (subst (λ (es : List Event). IsSound M told o d (slice_set members at (recovered_by result m.left m.total m.phase)) es halt) (ap (λ (t : ℕ). events ++ recovery_events t result) (sym e) ∙ sym more-is)
     (recovers M orderly told o c d members events at (subst (λ (x : Option Halt). IsSound M told o c members events x) none was) m.left m.total m.phase halt
-        (found ∙ ap (λ (l : Life). Some (record { left = m.left; total = m.total; phase = m.phase; life = l })) died) result (subst (λ (t : ℕ). RecoversIn M t m.phase c d result) e recovers-in)))
+    (found ∙ ap (λ (l : Life). Some (record { left = m.left; total = m.total; phase = m.phase; life = l })) died) result (subst (λ (t : ℕ). RecoversIn M t m.phase c d result) e recovers-in)))
 
 -- the session at this place is dead for the store
 pub dead-stands : (stand : ℕ → Seat) (locks : State) (members : List Member) (at : ℕ) (m : Member) → slice_get members at ≡ Some m → m.life ≡ Dead → AreSeated stand locks members → IsAlive (stand (at + 1)) → ⊥

@@ -1,5 +1,5 @@
 -- One session steps, and all of them stay sound.
-use Rattle.std.proofs.Common.{◌≡◌, ◌≤◌, ◌-◌, ℕ, zero, suc, true, false, arith, ◌++◌, ◌∷◌, [], List, length, refl, ◌∙◌, sym, ap, subst, Option, Some, None, slice_get, slice_set, append-nil}
+use Rattle.std.proofs.Common.{◌≡◌, ◌≤◌, ◌-◌, ℕ, zero, suc, true, false, arith, ◌++◌, ◌∷◌, [], List, refl, ◌∙◌, sym, ap, subst, Option, Some, None, slice_get, slice_set, append-nil}
 use Rattle.std.proofs.lemmas.Bool.{false≢true}
 use Rattle.rdo_ast.specs.declared.syntax.Item.{Item}
 use Rattle.rdb_account.specs.Events.{Event}
@@ -34,7 +34,7 @@ use Rattle.stage_steps.specs.Turns.{Comes}
 use Rattle.line_cluster.specs.declared.sessions.Halt.{Halt}
 use Rattle.line_cluster.specs.Going.{GoesOn, IsAmong, IsWriterAt, writes_at, is_over, is_done, is_alive, is_alive_life, is_dead, is_dead_life}
 use Rattle.line_cluster.proofs.Places.{suc-less, set-same}
-use Rattle.line_cluster.specs.Sound.{IsSound, IsOneOf}
+use Rattle.line_cluster.specs.Sound.{IsSound}
 
 -- what is handed back is no event
 back-quiet : (s : ℕ) (h : Happening) (item : Item) (more : List Item) → handed_back h ≡ item ∷ more → events_of s h ≡ []
@@ -68,8 +68,8 @@ module _ (M : Model) (orderly : IsOrderly M) (told : Type 0) (o : Opening) (c d 
   tells : (es : List Event) → GoesOn M (suc i) c left x d rest y es → told → IsTold M o d.word d.sight d.locks (slice_set members i (session rest total y)) (events ++ es)
   tells es g t = steps M orderly o c.word d.word c.sight d.sight c.locks d.locks members events es i (session left total x) (session rest total y) (d.sight.stand (suc i)) found lives refl refl
       (does-as (suc i) (d.sight.stand (suc i)) (λ h k. (dead n : ℕ) → Step M (suc i) (on_shelf c h dead) (session left n x) (on_shelf d k dead) (session rest n y) es)
-          (λ h k. (dead : ℕ) → Step M (suc i) (sharing c.word h c.locks dead) (session left total x) (sharing d.word k d.locks dead) (session rest total y) es)
-          c.sight d.sight (λ h k shown then all dead. all dead total) g.does)
+      (λ h k. (dead : ℕ) → Step M (suc i) (sharing c.word h c.locks dead) (session left total x) (sharing d.word k d.locks dead) (session rest total y) es)
+      c.sight d.sight (λ h k shown then all dead. all dead total) g.does)
       (was.kept refl t)
 
   -- the session went on
@@ -128,7 +128,7 @@ served M orderly told o word sight locks behind members events more es s old hal
     let total : ℕ = is.member.total in
     let found : slice_get members is.at ≡ Some (session left total (Writing w)) = is.found ∙ ap Some at.1 in
     let all : (c : Shared) (v : Writer) → Comes M (suc is.at) (with_locks locks c) (Writing v) (with_locks behind c) (Writing v) es =
-        subst (λ (t : ℕ). (c : Shared) (v : Writer) → Comes M t (with_locks locks c) (Writing v) (with_locks behind c) (Writing v) es) is.number comes in
+    subst (λ (t : ℕ). (c : Shared) (v : Writer) → Comes M t (with_locks locks c) (Writing v) (with_locks behind c) (Writing v) es) is.number comes in
     subst (λ (xs : List Event). IsSound M told o (scene word sight behind) members xs halt) (sym more-is)
     (subst (λ (ms : List Member). IsSound M told o (scene word sight behind) ms (events ++ es) halt) (set-same members is.at (session left total (Writing w)) found)
     (moved M orderly told o (scene word sight locks) (scene word sight behind) members events is.at left left total (Writing w) (Writing w) lives found
@@ -188,13 +188,4 @@ turned M orderly told o c d members put events more s at m rest y h old halt fir
     let events-at : events ++ events_of (suc at) h ≡ more = ap (λ (t : ℕ). events ++ events_of t h) (sym e) ∙ sym more-is in
     subst (λ (ms : List Member). IsSound M told o d ms more halt) put-at (subst (λ (es : List Event). IsSound M told o d (slice_set members at (session rest m.total y)) es halt) events-at
     (stepped M orderly told o c d members events at m.left rest m.total m.phase y lives (found ∙ ap Some (session-of m alive)) (subst (λ (x : Option Halt). IsSound M told o c members events x) none was) h halt
-        (λ back. subst (λ (t : ℕ). GoesOn M t c m.left m.phase d rest y (events_of t h)) e (goes back)) going))
-
--- ---- the sessions of an origin
-
-pub one-of : (members : List Member) (sessions s : ℕ) → length members ≡ sessions → sessions ≤ 16 → (1 ≤ s) × (s ≤ sessions) → IsOneOf members s
-one-of members sessions s count few is = record {
-  first = is.0;
-  last = subst (λ n. s ≤ n) (sym count) is.1;
-  few = subst (λ n. n ≤ 16) (sym count) few;
-}
+    (λ back. subst (λ (t : ℕ). GoesOn M t c m.left m.phase d rest y (events_of t h)) e (goes back)) going))

@@ -5,9 +5,9 @@ ghost use Rattle.rdb_account.specs.Legal.{IsLegal, is_stop};
 ghost use Rattle.line_store.specs.Seats.{outside};
 ghost use Rattle.line_cluster.specs.Sound.{FollowsScripts, IsOpenedBy, IsSession, fresh_member};
 
-use crate::sessions::{Core, Turn};
 use crate::notes::Notes;
 use crate::origin::Origin;
+use crate::sessions::{Core, Turn};
 use line_store::LineStore;
 use lock_tree::Tree;
 use rdb_account::{Event, Events};
@@ -38,9 +38,7 @@ impl<O: Origin, S: Statements, L: LineStore + Drop> Model for LineCluster<O, S, 
 
     ghost view = { λ c. record { members = c.core.members.items; events = c.core.events.items } };
 
-    ghost invariant = {
-        λ c. AreSound S.stands O.told O.opening O.sessions (scene c.core.common.word (L.sight c.core.common.store) c.core.common.tree) c.core.members.items (map event_of c.core.events.items) c.core.halt
-    };
+    ghost invariant = { λ c. AreSound S.stands O.told O.opening O.sessions (scene c.core.common.word (L.sight c.core.common.store) c.core.common.tree) c.core.members.items (map event_of c.core.events.items) c.core.halt };
 }
 
 // A session of each script, which has said nothing.
@@ -112,8 +110,7 @@ impl<O: Origin, S: Statements, L: LineStore + Drop> LineCluster<O, S, L> {
     }
 
     /// A step of the recovery of the first session that died.
-    pub fn recover(&mut self) -> Turn
-    {
+    pub fn recover(&mut self) -> Turn {
         self.core.recover()
     }
 

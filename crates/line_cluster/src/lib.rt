@@ -16,5 +16,5 @@ mod working;
 mod writing;
 
 pub use cluster::LineCluster;
-pub use sessions::{Core, Halt, Turn};
 pub use origin::Origin;
+pub use sessions::{Core, Halt, Turn};

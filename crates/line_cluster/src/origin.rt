@@ -19,18 +19,16 @@ impl Origin for Brand {
     ghost use Rattle.std.specs.Prelude.{[], false};
     ghost use Rattle.rdb_meaning.specs.Contents.{no_tables};
 
-    ghost opening = {
-        record {
-            word = [];
-            script = λ s. [];
-            tables = no_tables;
-            limits = record { pages = 0; snapshots = 0; entries = 0; slots = 0 };
-            has_owner = λ file page. false;
-            group_slots = 0;
-            moment = 0;
-            may_die = λ s cause. false;
-        }
-    };
+    ghost opening = { record {
+      word = [];
+      script = λ s. [];
+      tables = no_tables;
+      limits = record { pages = 0; snapshots = 0; entries = 0; slots = 0 };
+      has_owner = λ file page. false;
+      group_slots = 0;
+      moment = 0;
+      may_die = λ s cause. false;
+    } };
 
     ghost sessions = { 0 };
 

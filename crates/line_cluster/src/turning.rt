@@ -10,12 +10,12 @@ ghost use Rattle.line_cluster.specs.Sound.{IsSound, IsOneOf};
 ghost use Rattle.line_cluster.specs.Going.{IsWriterAt, is_over as is_over_at};
 ghost use Rattle.std.specs.Vec.{vec_len, vec_capacity};
 
-use crate::sessions::{Core, Halt, Turn};
 use crate::falls::first_dead;
 use crate::going::go_on;
 use crate::members::{is_over, is_writing, put_member, take_member};
 use crate::notes::{Notes, Notice};
 use crate::origin::Origin;
+use crate::sessions::{Core, Halt, Turn};
 use line_account::{record, record_demotion, reserve_step};
 use line_store::LineStore;
 use rdb_account::Event;

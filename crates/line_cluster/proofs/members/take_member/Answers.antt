@@ -3,4 +3,3 @@ use Rattle.line_cluster.proofs.members.take_member.Goals as goal
 
 pub returns-clause-rest : goal.returns-clause-rest
 returns-clause-rest c m = set-set c.args.members.now.items c.args.at c.replace.new.dest m
-
