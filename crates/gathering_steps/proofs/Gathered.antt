@@ -1,0 +1,63 @@
+-- A need is read, by a step of the store, and the next one is wanted or the job is due.
+use Rattle.std.proofs.Common.{◌≡◌, ◌≤◌, ℕ, ◌+◌, Bool, [], List, refl, sym, ap, subst, ◌∙◌, arith, Option, Some, None, slice_get}
+use Rattle.std.specs.Prelude.{MatchOption}
+use Rattle.std.proofs.lemmas.Bool.{and_parts}
+use Rattle.rdb_types.specs.declared.keys.Dbkey.{Dbkey}
+use Rattle.rdo_ast.specs.declared.reply.Standing.{Standing}
+use Rattle.rdo_ast.specs.declared.syntax.Item.{Item}
+use Rattle.lock_needs.specs.declared.need.Need.{Need as LockNeed}
+use Rattle.line_view.specs.declared.need.Need.{Need}
+use Rattle.line_view.specs.declared.need.Need.TheVariants as need
+use Rattle.line_view.specs.declared.need.Room.{Room}
+use Rattle.line_view.specs.Held.{Held, knows}
+use Rattle.line_view.specs.Knowledge.{Lines, IsInOrder, Agrees}
+use Rattle.kept_apart.specs.Alike.{IsGuarded}
+use Rattle.line_store.specs.Shelves.{Space, Shelf, seen_by}
+use Rattle.line_store.specs.Calls.{KeepsOthers, KeepsSpace, Moves}
+use Rattle.line_store.specs.Rooms.{Takes}
+use Rattle.store_counts.specs.Counts.{TakesAt, is_on_line, written_of}
+use Rattle.store_counts.proofs.Kept.{counted-same, counted-takes}
+use Rattle.store_counts.proofs.Rooms.{takes-page, takes-nothing}
+use Rattle.session_jobs.specs.Records.{Model, IsOrderly}
+use Rattle.stepped_jobs.specs.Needs.{IsLocked}
+use Rattle.stepped_jobs.specs.More.{KnowsMore}
+use Rattle.session_states.specs.declared.stage.Gather.TheVariants.{Locking, Reading, Lodging as LodgingOf}
+use Rattle.session_states.specs.declared.stage.Work.TheVariants.{Due, Fetching, Lodging}
+use Rattle.session_states.specs.declared.stage.Stage.{Stage}
+use Rattle.session_states.specs.declared.stage.Stage.TheVariants.{Working, Gathering}
+use Rattle.session_states.specs.declared.stage.Phase.TheVariants.{Writing}
+use Rattle.session_states.specs.States.{session, writer}
+use Rattle.session_states.specs.Shared.{Shared, with_shelf}
+use Rattle.session_states.specs.Fits.{Learns}
+use Rattle.session_states.specs.Steps.{Step}
+use Rattle.session_states.proofs.Gathering.{drops-read, drops-lodging, reads-on, reads-more-of-it, lodges-more, lodges-on}
+use Rattle.session_states.proofs.InTurn.{steps-on}
+use Rattle.session_states.proofs.Working.{reads}
+
+module _ (M : Model) (orderly : IsOrderly M) (s : ℕ) (c : Shared) (left : List Item) (total : ℕ) (standing : Standing) (known new : Held) (spoken waits : Bool) (item : Item) where
+  module _ (g : Shelf) (n : Need) (later : List Need) (place : ℕ) (moves : Moves s (c.shelf.seat s) c.shelf g) (learns : Learns s c.shelf n known new) where
+    -- the last need is read
+    pub gathered-last : Step M s c (session left total (Writing (writer standing known spoken waits (Gathering item (Reading n) later place)))) (with_shelf g c) (session left total (Writing (writer standing new spoken waits (Working item Due)))) []
+    gathered-last =
+        steps-on M orderly s c c (with_shelf g c) (session left total (Writing (writer standing known spoken waits (Gathering item (Reading n) later place)))) (session left total (Writing (writer standing known spoken waits (Working item (Fetching n))))) (session left total (Writing (writer standing new spoken waits (Working item Due)))) [] [] refl
+        (drops-read M orderly s c left total standing known spoken waits item n later place)
+        (reads M orderly s c g left total standing known new spoken waits item (Fetching n) Due n
+        (λ got h. h) (λ got h. tt) (λ ws seat h. h) (λ ws seat h. h) (λ p h. tt) (λ o p h counted. counted-same o p s c.shelf g counted moves.others moves.now moves.space moves.mine) refl moves.others moves.now moves.mine learns)
+
+    module _ (more : KnowsMore known new) where
+      pub gathered-more : Step M s c (session left total (Writing (writer standing known spoken waits (Gathering item (Reading n) later place)))) (with_shelf g c) (session left total (Writing (writer standing new spoken waits (Gathering item (Reading n) later place)))) []
+      gathered-more = reads-more-of-it M orderly s c g left total standing known new spoken waits item n later place moves.others moves.now moves.mine moves.space learns more
+
+      pub gathered-on : (m : Need) → slice_get later place ≡ Some m → Step M s c (session left total (Writing (writer standing known spoken waits (Gathering item (Reading n) later place)))) (with_shelf g c) (session left total (Writing (writer standing new spoken waits (Gathering item (Locking m) later (place + 1))))) []
+      gathered-on m found = reads-on M orderly s c g left total standing known new spoken waits item n m later place found moves.others moves.now moves.mine moves.space learns more
+
+
+    -- whichever it is
+    pub gathered-behind : KnowsMore known new → (stage : Stage) → MatchOption (slice_get later place) (stage ≡ Working item Due) (λ m. stage ≡ Gathering item (Locking m) later (place + 1)) →
+        Step M s c (session left total (Writing (writer standing known spoken waits (Gathering item (Reading n) later place)))) (with_shelf g c) (session left total (Writing (writer standing new spoken waits stage))) []
+    gathered-behind more stage is = by (slice_get later place) refl is
+      where
+        by : (x : Option Need) → slice_get later place ≡ x → MatchOption x (stage ≡ Working item Due) (λ m. stage ≡ Gathering item (Locking m) later (place + 1)) →
+            Step M s c (session left total (Writing (writer standing known spoken waits (Gathering item (Reading n) later place)))) (with_shelf g c) (session left total (Writing (writer standing new spoken waits stage))) []
+        by None found e = subst (λ (y : Stage). Step M s c (session left total (Writing (writer standing known spoken waits (Gathering item (Reading n) later place)))) (with_shelf g c) (session left total (Writing (writer standing new spoken waits y))) []) (sym e) gathered-last
+        by (Some m) found e = subst (λ (y : Stage). Step M s c (session left total (Writing (writer standing known spoken waits (Gathering item (Reading n) later place)))) (with_shelf g c) (session left total (Writing (writer standing new spoken waits y))) []) (sym e) (gathered-on more m found)

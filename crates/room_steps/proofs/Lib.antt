@@ -1,0 +1,4 @@
+pub mod Before
+pub mod Clear
+pub mod Housed
+pub mod Lodged

@@ -1,0 +1,45 @@
+use Rattle.std.proofs.Common.{refl, sym, subst, ap, ◌∙◌, [], Ok, true, false}
+use Rattle.std.proofs.lemmas.Bool.{false≢true}
+use Rattle.line_store.specs.Shelves.{Shelf, seen_by}
+use Rattle.line_view.specs.Held.{Held, knows}
+use Rattle.kept_apart.specs.Alike.{IsGuarded}
+use Rattle.given_rooms.proofs.Learning.{none-guarded}
+use Rattle.session_states.specs.declared.stage.Life.TheVariants.{Alive}
+use Rattle.session_states.specs.declared.stage.Gather.TheVariants.{Lodging as LodgingOf}
+use Rattle.session_states.specs.declared.stage.Work.TheVariants.{Due, Lodging}
+use Rattle.session_states.specs.declared.stage.Stage.{Stage}
+use Rattle.session_states.specs.declared.stage.Stage.TheVariants.{Working, Gathering}
+use Rattle.session_states.specs.States.{session}
+use Rattle.session_states.proofs.InTurn.{steps-on}
+use Rattle.stage_steps.specs.Turns.{at_stage, shared, Comes}
+use Rattle.stage_steps.specs.Scenes.{scene, on_shelf}
+use Rattle.stage_steps.proofs.Goes.{goes, goes-still, goes-behind, goes-behind-none, comes-as}
+use Rattle.stage_steps.proofs.Resting.{as-before}
+use Rattle.stage_steps.proofs.Seated.{rests-at}
+use Rattle.stage_steps.proofs.Read.{was-read, was-more, was-forgone, was-fault}
+use Rattle.room_steps.proofs.Before.{comes-behind}
+use Rattle.room_steps.proofs.Lodged.{lodging-read, lodged-off, lodged-last, lodged-on, lodging-still, more-refl}
+use Rattle.room_steps.proofs.lodging.take_on.Goals as goal
+
+pub returns-in_default : goal.returns-in_default
+returns-in_default g c =
+    c.let_go.ensures c.args.given.room c.args.given.key
+
+pub returns-in-Ok-true : goal.returns-in-Ok-true
+returns-in-Ok-true g c =
+    comes-as g.S.Statements.stands c.args.s.number _ _ _ _ _ _ _ (c.quiet.ensures.phase ∙ c.at.ensures ∙ ap (λ (x : Stage). at_stage c.args.terms x) c.on.ensures) c.quiet.ensures.happened
+    (goes c.args.s.number _ Alive _ Alive _ _ _ _ _ (λ e f. rests-at _ _ c.args.s.number _ (e ∙ f.seat) f.wants f.needs f.statement) (λ u other. refl)
+    (λ h k shown told takes dead left total. lodged-on g.S.Statements.stands g.met.S.Statements.orderly c.args.s.number (shared c.args.common.now.word h c.args.common.now.tree dead) left total c.args.terms.standing c.args.terms.known c.args.terms.known c.args.terms.spoken c.args.terms.waits c.args.round.item c.args.given.room c.args.given.key c.args.round.later c.args.round.place k c.in-Some.next (sym c.next.ensures ∙ c.in-Some.is) takes (record { agrees = λ ordered agreed. agreed; guarded = λ got locked guarded. guarded }) (more-refl c.args.terms.known))
+    (c.take_room.ensures.taken (c.in-Ok-true.is ∙ ap Ok c.in-Ok-true.field-0-test)))
+
+pub returns-in-Ok-false : goal.returns-in-Ok-false
+returns-in-Ok-false g c =
+    goes-behind-none c.args.s.number (at_stage c.args.terms (Gathering c.args.round.item (LodgingOf c.args.given.room c.args.given.key) c.args.round.later c.args.round.place)) _ Alive c.args.common.now.word c.args.common.now.tree (g.L.LineStore.sight c.args.common.now.store) (g.L.LineStore.sight c.take_room.new.self) _ _
+    (c.take_room.ensures.refused (λ e. cc))
+    (c.let_go-in-Ok-false.ensures c.args.given.room c.args.given.key)
+
+pub returns-in-Err : goal.returns-in-Err
+returns-in-Err g c =
+    goes-behind-none c.args.s.number (at_stage c.args.terms (Gathering c.args.round.item (LodgingOf c.args.given.room c.args.given.key) c.args.round.later c.args.round.place)) _ Alive c.args.common.now.word c.args.common.now.tree (g.L.LineStore.sight c.args.common.now.store) (g.L.LineStore.sight c.take_room.new.self) _ _
+    (c.take_room.ensures.refused (λ e. cc))
+    (c.forgo.ensures.forgoes c.args.common.now.tree (Gathering c.args.round.item (LodgingOf c.args.given.room c.args.given.key) c.args.round.later c.args.round.place) (as-before c.args.common.now.tree) refl refl)
