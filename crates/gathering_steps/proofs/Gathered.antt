@@ -51,7 +51,6 @@ module _ (M : Model) (orderly : IsOrderly M) (s : ℕ) (c : Shared) (left : List
       pub gathered-on : (m : Need) → slice_get later place ≡ Some m → Step M s c (session left total (Writing (writer standing known spoken waits (Gathering item (Reading n) later place)))) (with_shelf g c) (session left total (Writing (writer standing new spoken waits (Gathering item (Locking m) later (place + 1))))) []
       gathered-on m found = reads-on M orderly s c g left total standing known new spoken waits item n m later place found moves.others moves.now moves.mine moves.space learns more
 
-
     -- whichever it is
     pub gathered-behind : KnowsMore known new → (stage : Stage) → MatchOption (slice_get later place) (stage ≡ Working item Due) (λ m. stage ≡ Gathering item (Locking m) later (place + 1)) →
         Step M s c (session left total (Writing (writer standing known spoken waits (Gathering item (Reading n) later place)))) (with_shelf g c) (session left total (Writing (writer standing new spoken waits stage))) []

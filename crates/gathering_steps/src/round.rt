@@ -36,12 +36,7 @@ impl Round {
     {
         // (so the place behind it is a number)
         let _count = self.later.len();
-        Stage::Gathering(
-            self.item,
-            Gather::Locking(next),
-            self.later,
-            self.place + 1,
-        )
+        Stage::Gathering(self.item, Gather::Locking(next), self.later, self.place + 1)
     }
 
     /// The stage behind a need that was read: the next one is wanted, or the job is due.

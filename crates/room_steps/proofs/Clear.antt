@@ -22,6 +22,7 @@ one-more C s k all is t first below apart = by (t == k) refl
     at : (((k == s) ≡ true) ⊎ (C k ≡ true)) → t ≡ k → C t ≡ true
     at (inl own) e = absurd (false≢true (sym apart ∙ (ap (λ u. u == s) e ∙ own)))
     at (inr clear) e = ap C e ∙ clear
+
     by : (b : Bool) → (t == k) ≡ b → C t ≡ true
     by true equal = at is (eqb-true t k equal)
     by false other = all t first (within-next t k below other) apart

@@ -23,7 +23,7 @@ use Rattle.room_steps.proofs.housing.house.Goals as goal
 pub returns-in-Line : goal.returns-in-Line
 returns-in-Line g c =
     let named : IsLineFor (g.L.LineStore.sight c.args.common.now.store) c.args.common.now.tree c.args.s.number c.args.room c.args.rooms.now c.in-Line.key =
-        subst (λ (n : Named). IsNamed (g.L.LineStore.sight c.args.common.now.store) c.args.common.now.tree c.args.s.number c.args.room c.args.rooms.now n) c.in-Line.is c.name_line.ensures in
+    subst (λ (n : Named). IsNamed (g.L.LineStore.sight c.args.common.now.store) c.args.common.now.tree c.args.s.number c.args.room c.args.rooms.now n) c.in-Line.is c.name_line.ensures in
     comes-behind g.S.Statements.stands g.met.S.Statements.orderly c.args.s.number (at_stage c.args.terms (Gathering c.args.round.item (Locking (RoomOf c.args.room)) c.args.round.later c.args.round.place)) (at_stage c.args.terms (Gathering c.args.round.item (Housing c.args.room c.in-Line.key) c.args.round.later c.args.round.place)) _ c.args.common.now.word (g.L.LineStore.sight c.args.common.now.store) c.args.common.now.tree _ _
     (λ h dead left total. houses-in-turn g.S.Statements.stands g.met.S.Statements.orderly c.args.s.number (shared c.args.common.now.word h c.args.common.now.tree dead) left total c.args.terms.standing c.args.terms.known c.args.terms.spoken c.args.terms.waits c.args.round.item c.args.room c.in-Line.key c.args.round.later c.args.round.place named.area)
     (λ f. house-seat _ _ c.args.s.number c.args.terms.standing c.args.terms.known c.args.terms.spoken c.args.terms.waits c.args.round.item f.seat c.requires.closed f.needs f.statement c.args.room c.in-Line.key c.args.round.later c.args.round.place)
