@@ -1,7 +1,8 @@
 -- The members beside a session that makes a step.
-use Rattle.std.proofs.Common.{◌≡◌, ◌⊎◌, inl, inr, ℕ, List, length, Option, Some, None, refl, sym, ap, subst, ◌∙◌, arith}
+use Rattle.std.proofs.Common.{◌≡◌, ◌-◌, ◌⊎◌, inl, inr, ℕ, List, length, Option, Some, None, refl, sym, ap, subst, ◌∙◌, arith}
 use Rattle.std.specs.Prelude.{slice_get}
 use Rattle.rdb_outside.specs.Disk.{View}
+use Rattle.area_files.specs.Areas.{IsDataPage, space_page_of}
 use Rattle.stable_lines.specs.Slots.{area_file}
 use Rattle.member_steps.specs.declared.committing.CommitTurn.{CommitTurn}
 use Rattle.member_steps.specs.declared.committing.CommitTurn.TheVariants.{Entering, Securing, Going}
@@ -33,7 +34,14 @@ pub record StaysWith (t : ℕ) (g h : Ledger) : Type 0 where
 abbrev pub SameAreas : View → View → Type 0
 SameAreas v w = (file slot : ℕ) → w.content (area_file file) slot ≡ v.content (area_file file) slot
 
-module _ (v w : View) (g h : Ledger) (t : ℕ) (same : SameAreas v w) (stays : StaysWith t g h) where
+-- the space pages give each data page the owner that they gave it
+abbrev pub SameOwners : View → View → Type 0
+SameOwners v w = (file page : ℕ) → IsDataPage page → owner_of page (w.content (area_file file) (space_page_of page - 1)) ≡ owner_of page (v.content (area_file file) (space_page_of page - 1))
+
+pub same-owners : (v w : View) → SameAreas v w → SameOwners v w
+same-owners v w same file page plain = ap (λ bytes. owner_of page bytes) (same file (space_page_of page - 1))
+
+module _ (v w : View) (g h : Ledger) (t : ℕ) (same : SameOwners v w) (stays : StaysWith t g h) where
   pub rests : g.standing t ≡ resting → h.standing t ≡ resting
   rests was = elim stays.standing [ inl is ↦ is ∙ was | inr is ↦ is ∙ ap gained was ]
 
@@ -66,7 +74,7 @@ module _ (v w : View) (g h : Ledger) (t : ℕ) (same : SameAreas v w) (stays : S
   commit-of m at is = record { plan = is.plan; its = is.its; number = is.number; lines = is.lines; count = is.count; keys = is.keys; under_way = stays.commit (commit_of_plan is.plan at) is.its is.under_way }
 
   owned : (lines : ChangedLines) (n : ℕ) → AreOwned v.content lines n → AreOwned w.content lines n
-  owned lines n are i line place below at of = ap (λ bytes. owner_of place.page bytes) (same place.file _) ∙ are i line place below at of
+  owned lines n are i line place below at of = same place.file place.page of.is_data ∙ are i line place below at of
 
   entered : (m : Member) (n : ℕ) → HasEntered v g t m n → HasEntered w h t m n
   entered m n has = record { journalled = journalled m has.journalled; owned = owned m.written.lines n has.owned }
@@ -102,4 +110,4 @@ module _ (v w : View) (g h : Ledger) (t : ℕ) (same : SameAreas v w) (stays : S
   stays-with m is = stage-stays m.stage m is
 
 pub stays-there : (v w : View) (g h : Ledger) (t : ℕ) → SameAreas v w → StaysOf t g h → (m : Member) → StageStands m.stage v g t m → StageStands m.stage w h t m
-stays-there v w g h t same stays = stays-with v w g h t same (record { standing = stays.standing; going = stays.going; commit = λ c own is. stays.commit ∙ is })
+stays-there v w g h t same stays = stays-with v w g h t (same-owners v w same) (record { standing = stays.standing; going = stays.going; commit = λ c own is. stays.commit ∙ is })

@@ -19,3 +19,4 @@ pub mod Journalled
 pub mod Reading
 mod Tabled
 mod Taking
+pub mod PageWritten
