@@ -40,8 +40,8 @@ const JOURNAL: Need = Need {
 };
 
 /// A COMMIT asks for the journal, for which it waits in any transaction; `behind` says what that is right behind its preparing, in one
-/// step. Nobody waits for who waits for the journal, and so its want is got in the end. Where no memory is found for it, what was taken
-/// for the COMMIT is given back: it is refused, and its transaction goes on.
+/// step. Whoever has the journal wants nothing, and so no lock refuses it. Where no memory is found for the want, what was taken for the
+/// COMMIT is given back: it is refused, and its transaction goes on.
 pub fn want_journal<S: Statements, L: LineStore>(
     common: &mut Common<L>,
     s: Session,
