@@ -3,6 +3,7 @@
 
 mod before_images;
 mod beginning;
+mod changing;
 mod dying;
 mod endings;
 mod held;
@@ -17,6 +18,7 @@ mod rooms;
 
 pub use beginning::draw;
 pub use dying::die;
+pub use changing::change;
 pub use endings::{bury, put_away};
 pub use held::{Held, Numbers, Tables};
 pub use laws::the_sight_is_right;
