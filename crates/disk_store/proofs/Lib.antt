@@ -16,6 +16,11 @@ pub mod Agreeing
 pub mod Deaths
 pub mod Restored
 pub mod Journalled
+pub mod Kept
 pub mod Reading
 mod Tabled
 mod Taking
+pub mod PutBack
+pub mod Raising
+mod FewSteps
+pub mod Judged
