@@ -1,6 +1,7 @@
 pub mod Stepping
-pub mod Arms
-pub mod Asked
 pub mod Falling
 pub mod Beginning
 pub mod Places
+pub mod Marks
+pub mod Coming
+pub mod Resting

@@ -1,10 +1,15 @@
 //! The sessions of a run, of one origin.
-ghost use Rattle.std.specs.Prelude.{◌≡◌, ◌≤◌, ◌&&◌, ℕ, [], length, map, not, true, IfOk};
+ghost use Rattle.std.specs.Prelude.{◌≡◌, ◌≤◌, ◌<◌, ◌^◌, ◌&&◌, ℕ, All, [], length, map, not, false, true, IfOk};
 ghost use Rattle.rdb_account.specs.Events.{event_of};
-ghost use Rattle.rdb_account.specs.Legal.{IsLegal, is_stop};
-ghost use Rattle.line_store.specs.Seats.{outside};
+ghost use Rattle.rdb_account.specs.Legal.{AreWhole, IsLegal, is_stop};
+ghost use Rattle.line_store.specs.Seats.{Seat, outside};
+ghost use Rattle.lock_tree_laws.specs.Forest.{IsWhole};
+ghost use Rattle.session_stands.specs.Sessions.{AreSeated};
 ghost use Rattle.line_cluster.specs.Sound.{FollowsScripts, IsOpenedBy, IsSession, fresh_member};
+ghost use Rattle.line_cluster.specs.Turned.{Came, HaveEnded, Rests, is_session};
 
+use crate::lent::SessionRooms;
+use crate::members::takes_item;
 use crate::notes::Notes;
 use crate::origin::Origin;
 use crate::sessions::{Core, Turn};
@@ -12,6 +17,8 @@ use line_store::LineStore;
 use lock_tree::Tree;
 use rdb_account::{Event, Events};
 use rdb_types::{Cause, Items, NoMemory, Session, Word};
+use reached_changes::Reaches;
+use reserved_locks::Reserves;
 use session_jobs::Statements;
 use session_states::{ItemQueue, Life, Member, Phase};
 use stage_steps::Common;
@@ -30,26 +37,26 @@ impl<O: Origin, S: Statements, L: LineStore + Drop> Model for LineCluster<O, S, 
     ghost use Rattle.rdo_ast.specs.contracts.syntax.Action as action_type;
     ghost use Rattle.rdb_account.specs.Events.{event_of};
     ghost use Rattle.stage_steps.specs.Scenes.{scene};
-    ghost use Rattle.line_cluster.specs.Sound.{Sessions, AreSound};
+    ghost use Rattle.line_cluster.specs.Sound.{AreSound};
+    ghost use Rattle.line_cluster.specs.Turned.{Sessions, sessions};
 
     ghost Value = { Sessions };
 
     ghost coded = { Prim.hlevel (codes, action_type.the_row.coded) };
 
-    ghost view = { λ c. record { members = c.core.members.items; events = c.core.events.items } };
+    ghost view = { λ c. sessions c.core.members.items c.core.events.items c.core.common.tree c.core.halt };
 
     ghost invariant = { λ c. AreSound S.stands O.told O.opening O.sessions (scene c.core.common.word (L.sight c.core.common.store) c.core.common.tree) c.core.members.items (map event_of c.core.events.items) c.core.halt };
 }
 
 // A session of each script, which has said nothing.
 fn members_of(alloc: Global, scripts: Vec<ItemQueue>) -> Result<Vec<Member>, NoMemory>
+    requires short { All (λ items. length items < 2 ^ 32) scripts.items }
     ensures { IfOk result (λ members. members.items ≡ map fresh_member scripts.items) }
 {
     let mut members = Vec::new(alloc);
     for left in scripts {
-        let Ok(total) = u32::try_from(left.len()) else {
-            return Err(NoMemory {});
-        };
+        let total = left.len() as u32;
         members.push(Member {
             left,
             total,
@@ -60,7 +67,7 @@ fn members_of(alloc: Global, scripts: Vec<ItemQueue>) -> Result<Vec<Member>, NoM
     Ok(members)
 }
 
-impl<O: Origin, S: Statements, L: LineStore + Drop> LineCluster<O, S, L> {
+impl<O: Origin, S: Reserves + Reaches, L: LineStore + Drop> LineCluster<O, S, L> {
     /// Sessions that have said nothing, over a store in which nobody has a transaction open.
     pub fn start(
         alloc: Global,
@@ -71,12 +78,15 @@ impl<O: Origin, S: Statements, L: LineStore + Drop> LineCluster<O, S, L> {
         requires sessions { length scripts.items ≡ O.sessions }
         requires few { O.sessions ≤ 16 }
         requires scripts { FollowsScripts O.opening scripts.items }
+        requires short { All (λ items. length items < 2 ^ 32) scripts.items }
         requires outside { (s : ℕ) → (L.sight store).stand s ≡ outside }
         requires opened { O.told → IsOpenedBy S.stands O.opening word (L.sight store) }
         ensures events { IfOk result (λ c. c.events ≡ []) }
         ensures members { IfOk result (λ c. c.members ≡ map fresh_member scripts.items) }
+        ensures going { IfOk result (λ c. c.halted ≡ false) }
     {
         let members = members_of(alloc, scripts)?;
+        let rooms = SessionRooms::new(alloc)?;
         Ok(LineCluster {
             core: Core {
                 common: Common {
@@ -87,6 +97,7 @@ impl<O: Origin, S: Statements, L: LineStore + Drop> LineCluster<O, S, L> {
                 },
                 members,
                 notes: Notes::new(),
+                rooms,
                 events: Vec::new(alloc),
                 halt: None,
                 of: PhantomData,
@@ -97,6 +108,8 @@ impl<O: Origin, S: Statements, L: LineStore + Drop> LineCluster<O, S, L> {
     /// A turn of a session: its next step, or whom it waits for.
     pub fn turn(&mut self, s: Session) -> Turn
         requires session { IsSession O.sessions s.number }
+        ensures came { Came s.number self.old self.new result }
+        ensures rests { O.told → Rests O.opening s.number self.old result }
     {
         self.core.turn(s)
     }
@@ -114,6 +127,20 @@ impl<O: Origin, S: Statements, L: LineStore + Drop> LineCluster<O, S, L> {
         self.core.recover()
     }
 
+    /// Whether a session's next turn takes up an item of its script.
+    pub fn begins_item(&self, s: Session) -> bool
+        requires session { IsSession O.sessions s.number }
+    {
+        takes_item(&self.core.members[s.number as usize - 1])
+    }
+
+    /// Whether no session goes on.
+    pub fn is_halted(&self) -> bool
+        ensures { result ≡ self.now.halted }
+    {
+        self.core.halt.is_some()
+    }
+
     /// What happened so far.
     pub fn events(&self) -> &[Event]
         ensures { result.now ≡ self.now.events }
@@ -124,8 +151,13 @@ impl<O: Origin, S: Statements, L: LineStore + Drop> LineCluster<O, S, L> {
     /// What is true of the sessions at every moment.
     pub fn facts(&self)
         ensures legal { O.told → IsLegal O.opening (map event_of self.now.events) }
+        ensures count { length self.now.members ≡ O.sessions }
+        ensures seated { self.now.halted ≡ false → (stand : ℕ → Seat) × AreSeated stand self.now.locks self.now.members }
+        ensures locks { IsWhole self.now.locks }
+        ensures whole { O.told → self.now.halted ≡ false → HaveEnded self.now.members → AreWhole (is_session O.sessions) O.opening (map event_of self.now.events) }
     {
-        let _ = &self.core;
+        // (so the tree is whole)
+        let _blocker = self.core.common.tree.blocker(1);
     }
 
     /// The events of the run.

@@ -1,15 +1,25 @@
 // Sessions by their numbers.
-ghost use Rattle.std.specs.Prelude.{◌≡◌, ◌<◌, ◌-◌, false, true, Some, None, slice_get, slice_set, IfOk};
+ghost use Rattle.std.specs.Prelude.{◌≡◌, ◌<◌, ◌-◌, false, true, length, Some, None, slice_get, slice_set, IfOk};
 ghost use Rattle.std.specs.Vec.{vec_len};
 ghost use Rattle.session_states.specs.declared.stage.Life.TheVariants as life;
 ghost use Rattle.session_states.specs.declared.stage.Phase.TheVariants as phase;
 ghost use Rattle.session_states.specs.declared.stage.Member.{Member as MemberValue};
-ghost use Rattle.line_cluster.specs.Going.{is_done as is_done_at, is_over as is_over_at, writes_at};
+ghost use Rattle.line_arms.specs.Going.{is_done as is_done_at};
+ghost use Rattle.line_cluster.specs.Going.{is_over as is_over_at, writes_at};
+ghost use Rattle.line_cluster.specs.Turned.{is_patient_at};
 
 use rdb_types::Session;
-use session_states::{ItemQueue, Life, Member, Phase};
+use session_states::{ItemQueue, Life, Member, Phase, ReaderStage, Stage};
 use std::alloc::Global;
 use std::mem::{forget, replace};
+
+/// The session at a place.
+pub(crate) fn member_at(members: &[Member], at: usize) -> &Member
+    requires { at < length members.now }
+    ensures { slice_get members.now at ≡ Some result.now }
+{
+    &members[at]
+}
 
 /// Whether a session has nothing left to do.
 pub(crate) fn is_over(member: &Member) -> bool
@@ -38,6 +48,28 @@ pub(crate) fn is_writing(member: &Member) -> bool
     match (&member.life, &member.phase) {
         (Life::Alive, Phase::Writing(_)) => true,
         _ => false,
+    }
+}
+
+/// Whether a want of a session sleeps where it isn't got at once.
+pub(crate) fn is_patient(member: &Member) -> bool
+    ensures { result ≡ is_patient_at member.now.phase }
+{
+    match &member.phase {
+        Phase::Writing(writer) => writer.waits,
+        _ => false,
+    }
+}
+
+/// Whether the next step of a session takes up an item of its script.
+pub(crate) fn takes_item(member: &Member) -> bool {
+    match &member.phase {
+        Phase::Outside => member.left.len() > 0,
+        Phase::Writing(writer) => matches!(writer.stage, Stage::Between) && member.left.len() > 0,
+        Phase::Reading(reader) => {
+            matches!(reader.stage, ReaderStage::Between) && member.left.len() > 0
+        }
+        Phase::Closing | Phase::Over => false,
     }
 }
 
