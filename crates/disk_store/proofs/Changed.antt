@@ -161,6 +161,7 @@ module _ (v : View) (held : StoreMemory) (s : ℕ) (m : Member) (more : List Wri
       waits = wait-laid m more written its over (shown.versions.waiting s) (subst (λ x. WaitsAs x shown.versions.waiting s m) at (shown.versions.waits s m was));
       waits_beside = λ t apart. refl;
       reads = λ t. refl;
+      used = shown.versions.used;
     }
 
   still : (ws : List Write) (start : Lines) → in_flight (seat_with m.stage ws start) ≡ None

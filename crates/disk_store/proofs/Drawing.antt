@@ -135,6 +135,7 @@ module _ (v w : View) (held : StoreMemory) (s ceiling : ℕ) (m : Member) (asked
       waiting_behind = set_waiting s [] shown.versions.waiting;
       readers = member_begins w g held.limits.snaps shown.versions.course shown.versions.waiting s facts-there rests going (p.readers g held.limits.snaps shown.versions.course shown.versions.waiting shown.versions.readers);
       slots = slots-pass v w p shown.versions.course.followed held.limits.snaps held.slots shown.versions.slots;
+      used = shown.versions.used;
       waits = ap (λ b. if b then [] else shown.versions.waiting s) (itself s);
       waits_beside = λ t apart. ap (λ b. if b then [] else shown.versions.waiting t) apart;
       reads = λ t. refl;

@@ -187,6 +187,7 @@ module _ (v w : View) (held : StoreMemory) (s : ℕ) (m : Member) (was : slice_g
         waits = subst (λ x. WaitsAs x (set_waiting s (shown.versions.waiting s) shown.versions.waiting) s more) (sym at) (subst (λ ls. WaitPushed ls m.pushed m.written) (sym waits-still) (subst (λ x. WaitsAs x shown.versions.waiting s m) at (shown.versions.waits s m was)));
         waits_beside = λ t apart. ap (λ b. if b then shown.versions.waiting s else shown.versions.waiting t) apart;
         reads = λ t. refl;
+        used = shown.versions.used;
       }
 
     pub does-journal : Does s (stand_at held.members s) (λ h g. GoesOn s h g) (sight_of v held) (sight_of w (with_member s more held))

@@ -131,6 +131,7 @@ module _ (v w : View) (held : StoreMemory) (s : ℕ) (m : Member) (commits : Boo
             waits = tt;
             waits_beside = λ t apart. refl;
             reads = λ t. refl;
+            used = shown.versions.used;
           }
 
     fewer : (a b : ℕ) → a ≡ m.journalled + 4 → b ≡ m.journalled + 3 → b < a

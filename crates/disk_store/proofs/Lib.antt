@@ -1,5 +1,6 @@
 pub mod Members
 pub mod Sound
+pub mod Readers
 pub mod Moving
 pub mod Stages
 pub mod Beside
@@ -30,6 +31,10 @@ pub mod SpentSlots
 pub mod WaitMore
 pub mod JournalSteps
 pub mod PushSteps
+mod Going
+mod Begun
+mod Seeing
+mod EndedReading
 mod Tabled
 mod Taking
 pub mod PutBack

@@ -141,6 +141,7 @@ module _ (v w : View) (held : StoreMemory) (s : ℕ) (m : Member) (commits : Boo
       waits = tt;
       waits_beside = λ t apart. refl;
       reads = λ t. refl;
+      used = shown.versions.used;
     }
 
   -- its seat stays

@@ -148,6 +148,7 @@ module _ (v w : View) (held : StoreMemory) (s ceiling : ℕ) (m : Member) (was :
       waits = tt;
       waits_beside = λ t apart. refl;
       reads = λ t. refl;
+      used = shown.versions.used;
     }
 
   abbrev becomes : Becomes held behind s n

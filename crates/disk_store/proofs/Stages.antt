@@ -19,7 +19,7 @@ use Rattle.disk_store.proofs.Moving.{MayCome}
 
 -- ---- a session outside
 
-is-outside : (st : MemberStage) → seat_with st [] [] ≡ outside → st ≡ stage.Outside
+pub is-outside : (st : MemberStage) → seat_with st [] [] ≡ outside → st ≡ stage.Outside
 is-outside stage.Outside is = refl
 is-outside (stage.Beginning ceiling) is = absurd (cc)
 is-outside stage.Writing is = absurd (cc)

@@ -10,3 +10,5 @@ pub mod BeforeImages
 pub mod Taken
 pub mod Changing
 pub mod ChangeSteps
+pub mod Readers
+pub mod Learning

@@ -9,7 +9,7 @@ use Rattle.rdb_outside.specs.Disk.{View, Pending}
 use Rattle.root_file.specs.declared.Root.{Root}
 use Rattle.root_file.specs.Root.{IsRoot}
 use Rattle.new_database.specs.Maker.{root_file}
-use Rattle.line_view.specs.Knowledge.{Lines, line_in}
+use Rattle.line_view.specs.Knowledge.{Lines, IsInOrder, line_in}
 use Rattle.line_store.specs.Seats.{Seat, outside}
 use Rattle.line_store.specs.Shelves.{Space, Shelf}
 use Rattle.line_store.specs.Sights.{Sight}
@@ -26,7 +26,7 @@ use Rattle.disk_seats.specs.Ledgers.{resting, Ledger}
 use Rattle.disk_seats.specs.Members.{LedgerFacts}
 use Rattle.member_steps.specs.Beginning.{HasCeiling}
 use Rattle.page_table.specs.Pages.{Pages, nobodys, owner_in, class_in, IsWithin}
-use Rattle.committed_tables.specs.Tables.{HasCommitted}
+use Rattle.committed_tables.specs.Tables.{HasCommitted, WereUsed}
 use Rattle.version_writing.specs.Slots.{SlotTable}
 use Rattle.version_writing.specs.Tables.{HoldsAll}
 use Rattle.ledger_versions.specs.Readers.{ReaderFacts, Waiting, HasVersionOf}
@@ -40,7 +40,7 @@ use Rattle.disk_store.specs.declared.held.Numbers.{Numbers}
 use Rattle.disk_store.specs.declared.held.Tables.{Tables}
 use Rattle.disk_store.specs.Memory.{StoreMemory}
 use Rattle.disk_store.specs.Numbers.{kept_in}
-use Rattle.disk_store.specs.Seats.{seat_with, stand_at, steps_at}
+use Rattle.disk_store.specs.Seats.{seat_with, stand_at, steps_at, IsAtStage}
 use Rattle.disk_store.specs.Standing.{StageStands}
 
 -- ---- sessions
@@ -92,8 +92,17 @@ pub record TablesStand (v : View) (g : Ledger) (tables : Tables) : Type 0 where
 pub record IsReading (course : Course) (s : ℕ) (m : Member) (start : Lines) : Type 0 where
   pub reading : Reading
   pub goes : course.reader s ≡ Some reading
-  pub kept : m.reader ≡ Some reading.start
+  pub kept : m.reader ≡ reading.start
   pub lines : (key : Dbkey) → reading.lines key ≡ line_in key start
+  pub ordered : IsInOrder start
+
+-- who goes on as a reader is at the stage of readers
+abbrev pub AreReaders : List Member → Course → Type 0
+AreReaders members course = (s : ℕ) (reading : Reading) → course.reader s ≡ Some reading → IsAtStage members s stage.Reading
+
+-- the lines at each reader's start were used, by the tables
+abbrev pub HaveStarts : Tables → Course → Type 0
+HaveStarts tables course = (s file : ℕ) (reading : Reading) (start : Lines) → IsAreaFile file → course.reader s ≡ Some reading → ((key : Dbkey) → reading.lines key ≡ line_in key start) → WereUsed (pages_of tables file) file start
 
 -- the line is one of the first so many, and memory has its transaction and the version before it
 pub record IsPushed (pushed : ℕ) (written : Memory) (key : Dbkey) (line : Line) : Type 0 where
@@ -126,6 +135,8 @@ pub record VersionsStand (v : View) (g : Ledger) (held : StoreMemory) (h : Shelf
   pub slots : HoldsAll v.content course.followed held.limits.snaps held.slots
   pub waits : (s : ℕ) (m : Member) → slice_get held.members s ≡ Some m → WaitsAs m.stage waiting s m
   pub reading : (s : ℕ) (m : Member) (start : Lines) → slice_get held.members s ≡ Some m → m.stage ≡ stage.Reading → h.seat s ≡ seat_with stage.Reading [] start → IsReading course s m start
+  pub only : AreReaders held.members course
+  pub used : HaveStarts held.tables course
 
 -- ---- space
 
