@@ -1,4 +1,5 @@
 pub mod Members
+pub mod Sound
 pub mod Moving
 pub mod Stages
 pub mod Beside

@@ -2,7 +2,9 @@ pub mod Memory
 pub mod Seats
 pub mod Standing
 pub mod Shown
+pub mod Sound
 pub mod Preparing
 pub mod Dying
 pub mod BeforeImages
 pub mod Taken
+pub mod Changing

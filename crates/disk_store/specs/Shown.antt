@@ -1,6 +1,9 @@
 -- What a store on a disk shows.
-use Rattle.std.specs.Prelude.{ℕ, ◌+◌, ◌-◌, ◌≤◌, ◌≡◌, ◌⊎◌, ◌==◌, Bool, true, IsTrue, if◌then◌else◌, List, [], length, replicate, Option, Some, None, slice_get}
+use Rattle.std.specs.Prelude.{ℕ, ◌+◌, ◌-◌, ◌≤◌, ◌<◌, ◌≡◌, ◌⊎◌, ◌==◌, Bool, true, IsTrue, if◌then◌else◌, List, [], length, replicate, Option, Some, None, slice_get}
+use Rattle.std.specs.FinMap.Entries.{find}
 use Rattle.rdb_types.specs.declared.keys.Dbkey.{Dbkey}
+use Rattle.rdb_types.specs.declared.keys.Line.{Line}
+use Rattle.rdb_types.specs.Order.{dbkey_order}
 use Rattle.rdb_page.specs.Page.{IsOwner}
 use Rattle.rdb_outside.specs.Disk.{View, Pending}
 use Rattle.line_view.specs.Knowledge.{Lines, line_in}
@@ -15,6 +18,7 @@ use Rattle.line_opening.specs.declared.groups.NextGroup.{NextGroup}
 use Rattle.line_moves.specs.declared.places.Place.{Place}
 use Rattle.line_moves.specs.Changes.{IsForArea}
 use Rattle.line_moves.specs.Classes.{HaveTheirClasses}
+use Rattle.line_moves.specs.Lines.{ChangedLines}
 use Rattle.disk_seats.specs.Ledgers.{resting, Ledger}
 use Rattle.disk_seats.specs.Members.{LedgerFacts}
 use Rattle.member_steps.specs.Beginning.{HasCeiling}
@@ -80,9 +84,36 @@ pub record IsReading (course : Course) (s : ℕ) (m : Member) (start : Lines) : 
   pub kept : m.reader ≡ Some reading.start
   pub lines : (key : Dbkey) → reading.lines key ≡ line_in key start
 
+-- a line as memory has it, whatever its image
+pub record HasVersion (m : Member) (key : Dbkey) (line : Line) : Type 0 where
+  pub now : Line
+  pub is : find dbkey_order key m.written.lines ≡ Some now
+  pub tsn : now.tsn ≡ line.tsn
+  pub chain : now.chain ≡ line.chain
+
+pub record IsPushed (m : Member) (key : Dbkey) (line : Line) : Type 0 where
+  pub place : ℕ
+  pub early : place < m.pushed
+  pub is : slice_get m.written.keys place ≡ Some key
+  pub version : HasVersion m key line
+
+-- a line of the key waits
+pub record Waits (lines : ChangedLines) (m : Member) (key : Dbkey) : Type 0 where
+  pub index : ℕ
+  pub line : Dbkey × Line
+  pub is : slice_get lines index ≡ Some line
+  pub key_is : line.0 ≡ key
+  pub version : HasVersion m key line.1
+
+-- Lines of the first so many keys wait, as they were when they were pushed aside.
+pub record WaitPushed (lines : ChangedLines) (m : Member) : Type 0 where
+  pub each : (i : ℕ) (line : Dbkey × Line) → slice_get lines i ≡ Some line → IsPushed m line.0 line.1
+  pub all : (place : ℕ) (key : Dbkey) → place < m.pushed → slice_get m.written.keys place ≡ Some key → Waits lines m key
+
 -- what of a member's memory waits to be put on pages
 abbrev pub WaitsAs : MemberStage → Waiting → ℕ → Member → Type 0
 WaitsAs stage.Writing waiting s m = waiting s ≡ m.written.lines
+WaitsAs stage.Changing waiting s m = WaitPushed (waiting s) m
 WaitsAs stage.Prepared waiting s m = waiting s ≡ m.written.lines
 WaitsAs (stage.Committing turn) waiting s m = waiting s ≡ m.written.lines
 WaitsAs _ waiting s m = Unit {0}

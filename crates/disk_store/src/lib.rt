@@ -3,6 +3,7 @@
 
 mod before_images;
 mod beginning;
+mod changing;
 mod dying;
 mod endings;
 mod held;
@@ -16,6 +17,7 @@ mod rolling;
 mod rooms;
 
 pub use beginning::draw;
+pub use changing::change;
 pub use dying::die;
 pub use endings::{bury, put_away};
 pub use held::{Held, Numbers, Tables};
