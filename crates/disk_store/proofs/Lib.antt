@@ -18,5 +18,8 @@ pub mod Deaths
 pub mod Restored
 pub mod Journalled
 pub mod Reading
+pub mod FoundLines
+pub mod LaidLines
+pub mod Changed
 mod Tabled
 mod Taking

@@ -26,7 +26,7 @@ use Rattle.page_table.specs.Pages.{Pages, nobodys, owner_in, class_in, IsWithin}
 use Rattle.committed_tables.specs.Tables.{HasCommitted, WereUsed}
 use Rattle.version_writing.specs.Slots.{SlotTable}
 use Rattle.version_writing.specs.Tables.{HoldsAll}
-use Rattle.ledger_versions.specs.Readers.{ReaderFacts, Waiting}
+use Rattle.ledger_versions.specs.Readers.{ReaderFacts, Waiting, HasVersionOf}
 use Rattle.store_shows.specs.Shows.{Leaves, ShowsLines}
 use Rattle.store_shows.specs.Rooms.{HasPages}
 use Rattle.member_memory.specs.Memory.{writes_in}
@@ -84,31 +84,20 @@ pub record IsReading (course : Course) (s : ℕ) (m : Member) (start : Lines) : 
   pub kept : m.reader ≡ Some reading.start
   pub lines : (key : Dbkey) → reading.lines key ≡ line_in key start
 
--- a line as memory has it, whatever its image
-pub record HasVersion (m : Member) (key : Dbkey) (line : Line) : Type 0 where
-  pub now : Line
-  pub is : find dbkey_order key m.written.lines ≡ Some now
-  pub tsn : now.tsn ≡ line.tsn
-  pub chain : now.chain ≡ line.chain
-
+-- the line is one of the first so many, and memory has its transaction and the version before it
 pub record IsPushed (m : Member) (key : Dbkey) (line : Line) : Type 0 where
   pub place : ℕ
   pub early : place < m.pushed
   pub is : slice_get m.written.keys place ≡ Some key
-  pub version : HasVersion m key line
+  pub now : Line
+  pub found : find dbkey_order key m.written.lines ≡ Some now
+  pub tsn : now.tsn ≡ line.tsn
+  pub chain : now.chain ≡ line.chain
 
--- a line of the key waits
-pub record Waits (lines : ChangedLines) (m : Member) (key : Dbkey) : Type 0 where
-  pub index : ℕ
-  pub line : Dbkey × Line
-  pub is : slice_get lines index ≡ Some line
-  pub key_is : line.0 ≡ key
-  pub version : HasVersion m key line.1
-
--- Lines of the first so many keys wait, as they were when they were pushed aside.
+-- Lines of the first so many keys wait, whatever they showed when they were pushed aside.
 pub record WaitPushed (lines : ChangedLines) (m : Member) : Type 0 where
   pub each : (i : ℕ) (line : Dbkey × Line) → slice_get lines i ≡ Some line → IsPushed m line.0 line.1
-  pub all : (place : ℕ) (key : Dbkey) → place < m.pushed → slice_get m.written.keys place ≡ Some key → Waits lines m key
+  pub all : (place : ℕ) (key : Dbkey) (now : Line) → place < m.pushed → slice_get m.written.keys place ≡ Some key → find dbkey_order key m.written.lines ≡ Some now → HasVersionOf lines key now
 
 -- what of a member's memory waits to be put on pages
 abbrev pub WaitsAs : MemberStage → Waiting → ℕ → Member → Type 0
