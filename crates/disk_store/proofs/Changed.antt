@@ -75,14 +75,11 @@ some-found : {X : Type 0} (x : Option X) → is_some x ≡ true → (y : X) × (
 some-found None has = absurd (false≢true has)
 some-found (Some y) has = (y, refl)
 
-module _ (m : Member) (more : List Write) (written : Memory) (wanted : Wanted) (keys : AreKeysOf m.written.lines m.written.keys) (over : LaysOver m.tsn more m.written written) where
-  abbrev n : Member
-  n = changing_with written wanted m
-
+module _ (m : Member) (more : List Write) (written : Memory) (keys : AreKeysOf m.written.lines m.written.keys) (over : LaysOver m.tsn more m.written written) where
   pub laid : Lays m.tsn more m.written written
   laid = subst (λ (w : Memory). Lays m.tsn more m.written w) (sym over.is) (lays m.tsn more m.written over.mid over.adding.grows over.adding.added keys.ordered)
 
-  wait-each : (i : ℕ) (line : Dbkey × Line) → slice_get m.written.lines i ≡ Some line → IsPushed n line.0 line.1
+  wait-each : (i : ℕ) (line : Dbkey × Line) → slice_get m.written.lines i ≡ Some line → IsPushed (length m.written.keys) written line.0 line.1
   wait-each i line is =
       let found = found-there m.written.lines i line keys.ordered is in
       let at = key-there m.written.keys line.0 (keys.same line.0 ∙ ap is_some found) in
@@ -99,8 +96,8 @@ module _ (m : Member) (more : List Write) (written : Memory) (wanted : Wanted) (
       let one : kept.line ≡ now = same_Some _ _ (sym kept.is ∙ found) in
       record { index = at.place; line = (key, has.0); is = at.is; key_is = refl; tsn_is = sym kept.tsn ∙ ap (λ (l : Line). l.tsn) one; chain_is = sym kept.chain ∙ ap (λ (l : Line). l.chain) one }
 
-  pub wait-laid : (lines : ChangedLines) → lines ≡ m.written.lines → WaitPushed lines n
-  wait-laid lines same = subst (λ (ls : ChangedLines). WaitPushed ls n) (sym same) (record { each = wait-each; all = wait-all })
+  pub wait-laid : (lines : ChangedLines) → lines ≡ m.written.lines → WaitPushed lines (length m.written.keys) written
+  wait-laid lines same = subst (λ (ls : ChangedLines). WaitPushed ls (length m.written.keys) written) (sym same) (record { each = wait-each; all = wait-all })
 
 -- ---- what is shown
 
@@ -142,7 +139,7 @@ module _ (v : View) (held : StoreMemory) (s : ℕ) (m : Member) (more : List Wri
       is_open = b.is_open;
       number = b.number;
       count = b.count;
-      keys = λ i undo got. (laid m more written wanted its over).keys i undo.key (b.keys i undo got);
+      keys = λ i undo got. (laid m more written its over).keys i undo.key (b.keys i undo got);
     }
 
     abbrev to-change : ComesTo v v behind s next g shown.versions.course shown.versions.waiting
@@ -159,7 +156,7 @@ module _ (v : View) (held : StoreMemory) (s : ℕ) (m : Member) (more : List Wri
       waiting_behind = shown.versions.waiting;
       readers = shown.versions.readers;
       slots = held-aside v shown.versions.course.followed held.limits.snaps wanted held.slots shown.versions.slots;
-      waits = wait-laid m more written wanted its over (shown.versions.waiting s) (subst (λ x. WaitsAs x shown.versions.waiting s m) at (shown.versions.waits s m was));
+      waits = wait-laid m more written its over (shown.versions.waiting s) (subst (λ x. WaitsAs x shown.versions.waiting s m) at (shown.versions.waits s m was));
       waits_beside = λ t apart. refl;
       reads = λ t. refl;
     }
@@ -172,7 +169,7 @@ module _ (v : View) (held : StoreMemory) (s : ℕ) (m : Member) (more : List Wri
       let before : writes_of (h.seat s) ≡ writes_in m.written.lines = ap writes_of related.seat ∙ ap (λ x. writes_of (seat_with x (writes_in m.written.lines) start)) at in
       record {
         behind = writes_in written.lines;
-        adds = subst (λ ws. Adds more ws (writes_in written.lines)) (sym before) (laid m more written wanted its over).adds;
+        adds = subst (λ ws. Adds more ws (writes_in written.lines)) (sym before) (laid m more written its over).adds;
         now = related.now_behind ∙ sym related.shown.lines.now;
         mine = related.seat_behind;
         others = related.others;

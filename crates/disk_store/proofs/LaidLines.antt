@@ -96,6 +96,10 @@ module _ (h : StoreMemory) (s : ℕ) (m : Member) (more : List Write) (written :
         last = its.last;
         keys = subst (λ w. AreKeysOf w.lines w.keys) (sym lays.is) (rewritten-kept more mid.lines mid.keys (grown-kept m.tsn more m.written mid lays.adding.grows its.keys));
         few = subst (λ w. length w.keys < 2 ^ 32) (sym lays.is) lays.few;
+        bears = λ q line is. let from = laid-from q line is in ap (λ (l : Line). l.tsn) (sym from.1) ∙ (kept-by q more from.0).0 ∙ elim from.2 [
+          | inl old ↦ its.bears q from.0 old
+          | inr new ↦ ap (λ (l : Line). l.tsn) new.0
+        ];
         lies = λ q line is. lies-now q line (laid-from q line is);
       }
     where

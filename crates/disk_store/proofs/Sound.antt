@@ -66,6 +66,7 @@ sound-empty tables n first last none = record {
   last = last;
   keys = subst (λ w. AreKeysOf w.lines w.keys) (sym none) no-keys;
   few = let e : length n.written.keys ≡ 0 = ap (λ w. length w.keys) none in omega (arith, e);
+  bears = λ key line is. absurd (none-some line (sym (ap (λ w. find dbkey_order key w.lines) none) ∙ is));
   lies = λ key line is. absurd (none-some line (sym (ap (λ w. find dbkey_order key w.lines) none) ∙ is));
 }
 
@@ -75,6 +76,7 @@ sound-as tables m n number same was = record {
   last = subst (λ t. t.number < 2 ^ 62) (sym number) was.last;
   keys = subst (λ w. AreKeysOf w.lines w.keys) (sym same) was.keys;
   few = subst (λ w. length w.keys < 2 ^ 32) (sym same) was.few;
+  bears = λ key line is. was.bears key line (ap (λ w. find dbkey_order key w.lines) (sym same) ∙ is) ∙ sym number;
   lies = λ key line is. was.lies key line (ap (λ w. find dbkey_order key w.lines) (sym same) ∙ is);
 }
 
@@ -146,7 +148,7 @@ module _ (old new : Tables) (keeps : KeepsPages old new) where
       }
 
   pub sound-still : (m : Member) → IsSoundMember old m → IsSoundMember new m
-  sound-still m was = record { first = was.first; last = was.last; keys = was.keys; few = was.few; lies = λ key line is. lies-still key line (was.lies key line is) }
+  sound-still m was = record { first = was.first; last = was.last; keys = was.keys; few = was.few; bears = was.bears; lies = λ key line is. lies-still key line (was.lies key line is) }
 
 pub sound-tables : (h : StoreMemory) (tables : Tables) → KeepsPages h.tables tables → IsSound h → IsSound (with_tables tables h)
 sound-tables h tables keeps sound = record { first = sound.first; last = sound.last; each = λ s m is. sound-still h.tables tables keeps m (sound.each s m is); apart = sound.apart; asides = sound.asides }

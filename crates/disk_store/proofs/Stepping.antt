@@ -145,7 +145,7 @@ module _ (v w : View) (held behind : StoreMemory) (s : ℕ) (m n : Member) (was 
     waits-alike stage.Outside t x e has = tt
     waits-alike stage.Beginning t x e has = tt
     waits-alike stage.Writing t x e has = e ∙ has
-    waits-alike stage.Changing t x e has = subst (λ ws. WaitPushed ws x) (sym e) has
+    waits-alike stage.Changing t x e has = subst (λ ws. WaitPushed ws x.pushed x.written) (sym e) has
     waits-alike stage.Broken t x e has = tt
     waits-alike stage.Prepared t x e has = e ∙ has
     waits-alike (stage.Committing turn) t x e has = e ∙ has

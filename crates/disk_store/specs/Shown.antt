@@ -29,7 +29,7 @@ use Rattle.version_writing.specs.Tables.{HoldsAll}
 use Rattle.ledger_versions.specs.Readers.{ReaderFacts, Waiting, HasVersionOf}
 use Rattle.store_shows.specs.Shows.{Leaves, ShowsLines}
 use Rattle.store_shows.specs.Rooms.{HasPages}
-use Rattle.member_memory.specs.Memory.{writes_in}
+use Rattle.member_memory.specs.Memory.{Memory, writes_in}
 use Rattle.disk_store.specs.declared.member.Member.{Member}
 use Rattle.disk_store.specs.declared.member.MemberStage.{MemberStage}
 use Rattle.disk_store.specs.declared.member.MemberStage.TheVariants as stage
@@ -85,24 +85,24 @@ pub record IsReading (course : Course) (s : ℕ) (m : Member) (start : Lines) : 
   pub lines : (key : Dbkey) → reading.lines key ≡ line_in key start
 
 -- the line is one of the first so many, and memory has its transaction and the version before it
-pub record IsPushed (m : Member) (key : Dbkey) (line : Line) : Type 0 where
+pub record IsPushed (pushed : ℕ) (written : Memory) (key : Dbkey) (line : Line) : Type 0 where
   pub place : ℕ
-  pub early : place < m.pushed
-  pub is : slice_get m.written.keys place ≡ Some key
+  pub early : place < pushed
+  pub is : slice_get written.keys place ≡ Some key
   pub now : Line
-  pub found : find dbkey_order key m.written.lines ≡ Some now
+  pub found : find dbkey_order key written.lines ≡ Some now
   pub tsn : now.tsn ≡ line.tsn
   pub chain : now.chain ≡ line.chain
 
 -- Lines of the first so many keys wait, whatever they showed when they were pushed aside.
-pub record WaitPushed (lines : ChangedLines) (m : Member) : Type 0 where
-  pub each : (i : ℕ) (line : Dbkey × Line) → slice_get lines i ≡ Some line → IsPushed m line.0 line.1
-  pub all : (place : ℕ) (key : Dbkey) (now : Line) → place < m.pushed → slice_get m.written.keys place ≡ Some key → find dbkey_order key m.written.lines ≡ Some now → HasVersionOf lines key now
+pub record WaitPushed (lines : ChangedLines) (pushed : ℕ) (written : Memory) : Type 0 where
+  pub each : (i : ℕ) (line : Dbkey × Line) → slice_get lines i ≡ Some line → IsPushed pushed written line.0 line.1
+  pub all : (place : ℕ) (key : Dbkey) (now : Line) → place < pushed → slice_get written.keys place ≡ Some key → find dbkey_order key written.lines ≡ Some now → HasVersionOf lines key now
 
 -- what of a member's memory waits to be put on pages
 abbrev pub WaitsAs : MemberStage → Waiting → ℕ → Member → Type 0
 WaitsAs stage.Writing waiting s m = waiting s ≡ m.written.lines
-WaitsAs stage.Changing waiting s m = WaitPushed (waiting s) m
+WaitsAs stage.Changing waiting s m = WaitPushed (waiting s) m.pushed m.written
 WaitsAs stage.Prepared waiting s m = waiting s ≡ m.written.lines
 WaitsAs (stage.Committing turn) waiting s m = waiting s ≡ m.written.lines
 WaitsAs _ waiting s m = Unit {0}

@@ -27,12 +27,13 @@ pub record LiesIn (tables : Tables) (key : Dbkey) (line : Line) : Type 0 where
   pub is_line : IsLineOf (pages_of tables place.file) key
   pub allowed : IsAllowedLine (group_line (key, line) (class_in (pages_of tables place.file) key.page))
 
--- A member has the number of a transaction, and what it wrote lies on pages.
+-- A member has the number of a transaction, and what it wrote bears that number and lies on pages.
 pub record IsSoundMember (tables : Tables) (m : Member) : Type 0 where
   pub first : 1 ≤ m.tsn.number
   pub last : m.tsn.number < 2 ^ 62
   pub keys : AreKeysOf m.written.lines m.written.keys
   pub few : length m.written.keys < 2 ^ 32
+  pub bears : (key : Dbkey) (line : Line) → find dbkey_order key m.written.lines ≡ Some line → line.tsn ≡ m.tsn
   pub lies : (key : Dbkey) (line : Line) → find dbkey_order key m.written.lines ≡ Some line → LiesIn tables key line
 
 -- no two members have written one line
