@@ -66,12 +66,12 @@ used-more wanted slots = omega arith
 
 -- ---- the lines that wait
 
-got-within : {X : Type 0} (xs : List X) (i : ℕ) → i < length xs → (x : X) × (slice_get xs i ≡ Some x)
+pub got-within : {X : Type 0} (xs : List X) (i : ℕ) → i < length xs → (x : X) × (slice_get xs i ≡ Some x)
 got-within [] i less = absurd (omega (arith, less))
 got-within (x ∷ xs) zero less = (x, refl)
 got-within (x ∷ xs) (suc i) less = got-within xs i (omega (arith, less))
 
-some-found : {X : Type 0} (x : Option X) → is_some x ≡ true → (y : X) × (x ≡ Some y)
+pub some-found : {X : Type 0} (x : Option X) → is_some x ≡ true → (y : X) × (x ≡ Some y)
 some-found None has = absurd (false≢true has)
 some-found (Some y) has = (y, refl)
 

@@ -21,5 +21,7 @@ pub mod Reading
 pub mod FoundLines
 pub mod LaidLines
 pub mod Changed
+pub mod LeftTo
+pub mod SnapWritten
 mod Tabled
 mod Taking

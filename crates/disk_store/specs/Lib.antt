@@ -8,3 +8,4 @@ pub mod Dying
 pub mod BeforeImages
 pub mod Taken
 pub mod Changing
+pub mod ChangeSteps
