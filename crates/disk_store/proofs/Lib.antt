@@ -23,5 +23,6 @@ pub mod LaidLines
 pub mod Changed
 pub mod LeftTo
 pub mod SnapWritten
+pub mod Breaking
 mod Tabled
 mod Taking
