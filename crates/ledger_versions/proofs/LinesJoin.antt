@@ -18,7 +18,7 @@ use Rattle.line_moves.proofs.OnlyPut.{lines_beside}
 use Rattle.disk_seats.specs.Ledgers.{Standing, changing, committing, entries_of, Commit, Ledger, stands_as}
 use Rattle.disk_seats.specs.Members.{LedgerFacts}
 use Rattle.disk_versions.specs.Courses.{course_pushed}
-use Rattle.disk_versions.specs.Versions.{SeatVersions, PutsIn, IsNoneOfThem, IsPushedBy}
+use Rattle.disk_versions.specs.Versions.{SeatVersions, PutsIn, IsNoneOfThem}
 use Rattle.disk_versions.proofs.Moves.{KeepsEntries, kept_aside, kept_in_slot, lines_in_slot, seat_moves, versions_move}
 use Rattle.disk_versions.proofs.Pushes.{unfollowed, seat_beside_push}
 use Rattle.disk_versions.proofs.SeatLines.{line_pushed, seat_pushes, seat_first, seat_further, seat_journalled}
@@ -54,12 +54,12 @@ seat_alike v course tsn all lines more alike was = record {
   bases = was.bases;
   bears = λ i l got. let h = alike.each i l got in sym h.tsn_is ∙ was.bears h.index h.line h.is;
   above = λ i l got.
-    let h = alike.each i l got in
-    alike_changed (entries_in v.content) course l.0 l.1 h.line.1 (sym h.tsn_is) (sym h.chain_is) (subst (λ (k : Dbkey). IsChanged (entries_in v.content) course k h.line.1) h.key_is (was.above h.index h.line h.is));
+      let h = alike.each i l got in
+      alike_changed (entries_in v.content) course l.0 l.1 h.line.1 (sym h.tsn_is) (sym h.chain_is) (subst (λ (k : Dbkey). IsChanged (entries_in v.content) course k h.line.1) h.key_is (was.above h.index h.line h.is));
   pushed = λ file chain e held s its.
-    let p = was.pushed file chain e held s its in
-    let h = alike.kept p.index p.line p.is in
-    record { index = h.index; line = h.line; is = h.is; key_is = h.key_is ∙ p.key_is; chain_is = h.chain_is ∙ p.chain_is; file_is = p.file_is };
+      let p = was.pushed file chain e held s its in
+      let h = alike.kept p.index p.line p.is in
+      record { index = h.index; line = h.line; is = h.is; key_is = h.key_is ∙ p.key_is; chain_is = h.chain_is ∙ p.chain_is; file_is = p.file_is };
 }
 
 module _ (v : View) (g : Ledger) (limit : ℕ) (course : Course) (waiting : Waiting) (member : ℕ) (all : List Undo) (stable : ℕ) (o : Open) (facts : LedgerFacts v g) (stands : g.standing member ≡ changing all stable) (is : g.base.going member ≡ Some o) (was : ReaderFacts v g limit course waiting) where

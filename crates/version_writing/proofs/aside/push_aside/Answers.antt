@@ -91,9 +91,9 @@ returns-in-1-clause-holds g c = λ image followed limit held.
     let slots = record c.args.slots.now { catalog = c.push_line.new.slots } in
     let names = its_file c.args.key c.args.place c.requires.place in
     all_hold image followed limit c.args.slots.now slots number
-        (λ f there apart. others_first c.args.slots.now c.push_line.new.slots f (λ same. apart (same ∙ sym (names ∙ at))))
-        (subst (λ (x : SlotTable). HoldsFile image followed number limit x) (sym (table_there slots number 1 (names ∙ at)))
-        (c.push_line.ensures.holds image followed number limit (held_there image followed limit c.args.slots.now c.args.key c.args.place 1 c.requires.place at held))) held
+    (λ f there apart. others_first c.args.slots.now c.push_line.new.slots f (λ same. apart (same ∙ sym (names ∙ at))))
+    (subst (λ (x : SlotTable). HoldsFile image followed number limit x) (sym (table_there slots number 1 (names ∙ at)))
+    (c.push_line.ensures.holds image followed number limit (held_there image followed limit c.args.slots.now c.args.key c.args.place 1 c.requires.place at held))) held
 
 pub returns-in-2-clause-spends : goal.returns-in-2-clause-spends
 returns-in-2-clause-spends g c =
@@ -112,9 +112,9 @@ returns-in-2-clause-holds g c = λ image followed limit held.
     let slots = record c.args.slots.now { relations = c.push_line-in-2.new.slots } in
     let names = its_file c.args.key c.args.place c.requires.place in
     all_hold image followed limit c.args.slots.now slots number
-        (λ f there apart. others_second c.args.slots.now c.push_line-in-2.new.slots f (λ same. apart (same ∙ sym (names ∙ at))))
-        (subst (λ (x : SlotTable). HoldsFile image followed number limit x) (sym (table_there slots number 2 (names ∙ at)))
-        (c.push_line-in-2.ensures.holds image followed number limit (held_there image followed limit c.args.slots.now c.args.key c.args.place 2 c.requires.place at held))) held
+    (λ f there apart. others_second c.args.slots.now c.push_line-in-2.new.slots f (λ same. apart (same ∙ sym (names ∙ at))))
+    (subst (λ (x : SlotTable). HoldsFile image followed number limit x) (sym (table_there slots number 2 (names ∙ at)))
+    (c.push_line-in-2.ensures.holds image followed number limit (held_there image followed limit c.args.slots.now c.args.key c.args.place 2 c.requires.place at held))) held
 
 pub returns-in_default-clause-spends : goal.returns-in_default-clause-spends
 returns-in_default-clause-spends g c =
@@ -139,6 +139,6 @@ returns-in_default-clause-holds g c = λ image followed limit held.
     let slots = record c.args.slots.now { indexes = c.push_line-in_default.new.slots } in
     let names = its_file c.args.key c.args.place c.requires.place in
     all_hold image followed limit c.args.slots.now slots number
-        (λ f there apart. others_third c.args.slots.now c.push_line-in_default.new.slots f there (λ same. apart (same ∙ sym (names ∙ at))))
-        (subst (λ (x : SlotTable). HoldsFile image followed number limit x) (sym (table_there slots number 3 (names ∙ at)))
-        (c.push_line-in_default.ensures.holds image followed number limit (held_there image followed limit c.args.slots.now c.args.key c.args.place 3 c.requires.place at held))) held
+    (λ f there apart. others_third c.args.slots.now c.push_line-in_default.new.slots f there (λ same. apart (same ∙ sym (names ∙ at))))
+    (subst (λ (x : SlotTable). HoldsFile image followed number limit x) (sym (table_there slots number 3 (names ∙ at)))
+    (c.push_line-in_default.ensures.holds image followed number limit (held_there image followed limit c.args.slots.now c.args.key c.args.place 3 c.requires.place at held))) held
