@@ -48,23 +48,23 @@ found-there (x ∷ xs) (suc i) e sorted is =
 
 pub stands-there : (es : List (Dbkey × Line)) (key : Dbkey) (line : Line) → find dbkey_order key es ≡ Some line → StandsAt es key line
 stands-there [] key line is = absurd (none-some line is)
-stands-there (x ∷ xs) key line is = by (is_eq (dbkey_order key x.0)) refl
+stands-there (x ∷ xs) key line is = by (λ found. stands-there xs key line found) (is_eq (dbkey_order key x.0)) refl
   where
-    by : (b : Bool) → is_eq (dbkey_order key x.0) ≡ b → StandsAt (x ∷ xs) key line
-    by true tie =
+    by : (find dbkey_order key xs ≡ Some line → StandsAt xs key line) → (b : Bool) → is_eq (dbkey_order key x.0) ≡ b → StandsAt (x ∷ xs) key line
+    by behind true tie =
         let same : key ≡ x.0 = same_dbkey key x.0 (tied _ tie) in
         let value : x.1 ≡ line = same_Some _ _ (ap (λ b. cond b (Some x.1) (find dbkey_order key xs)) (sym tie) ∙ is) in
         record { place = 0; is = ap Some (λ i. (sym same i, value i)) }
-    by false off =
-        let rest = stands-there xs key line (ap (λ b. cond b (Some x.1) (find dbkey_order key xs)) (sym off) ∙ is) in
+    by behind false off =
+        let rest = behind (ap (λ b. cond b (Some x.1) (find dbkey_order key xs)) (sym off) ∙ is) in
         record { place = suc rest.place; is = rest.is }
 
 pub key-there : (keys : List Dbkey) (key : Dbkey) → has_key key keys ≡ true → KeyAt keys key
 key-there [] key has = absurd (false≢true has)
-key-there (k ∷ ks) key has = by (is_eq (dbkey_order key k)) refl
+key-there (k ∷ ks) key has = by (λ it. key-there ks key it) (is_eq (dbkey_order key k)) refl
   where
-    by : (b : Bool) → is_eq (dbkey_order key k) ≡ b → KeyAt (k ∷ ks) key
-    by true tie = record { place = 0; is = ap Some (sym (same_dbkey key k (tied _ tie))) }
-    by false off =
-        let rest = key-there ks key (ap (λ b. b || has_key key ks) (sym off) ∙ has) in
+    by : (has_key key ks ≡ true → KeyAt ks key) → (b : Bool) → is_eq (dbkey_order key k) ≡ b → KeyAt (k ∷ ks) key
+    by behind true tie = record { place = 0; is = ap Some (sym (same_dbkey key k (tied _ tie))) }
+    by behind false off =
+        let rest = behind (ap (λ b. b || has_key key ks) (sym off) ∙ has) in
         record { place = suc rest.place; is = rest.is }

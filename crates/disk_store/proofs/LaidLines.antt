@@ -38,11 +38,10 @@ lies-image : (tables : Tables) (key : Dbkey) (image : Option (List ℕ)) (line :
 lies-image tables key None line has = record { place = has.place; is = has.is; is_line = has.is_line; allowed = record { class = has.class; image = omega arith; leaves = refl } }
 lies-image tables key (Some image) line has = record { place = has.place; is = has.is; is_line = has.is_line; allowed = record { class = has.class; image = has.fits; leaves = tt } }
 
-AllPlaced : Tables → List Write → Type 0
+abbrev AllPlaced : Tables → List Write → Type 0
 AllPlaced tables ws = (i : ℕ) (w : Write) → slice_get ws i ≡ Some w → HasPlace tables w
 
 lies-rewritten : (tables : Tables) (q : Dbkey) (ws : List Write) (line : Line) → AllPlaced tables ws → LiesIn tables q line → LiesIn tables q (rewritten_by q ws line)
-unfolding AllPlaced
 lies-rewritten tables q [] line placed lies = lies
 lies-rewritten tables q (w ∷ ws) line placed lies = lies-rewritten tables q ws (rewritten_if (is_eq (dbkey_order q w.key)) w.image line) (λ i x at. placed (suc i) x at) (by (is_eq (dbkey_order q w.key)) refl)
   where
@@ -52,22 +51,21 @@ lies-rewritten tables q (w ∷ ws) line placed lies = lies-rewritten tables q ws
 
 -- the place of a key that is written
 lies-written : (tables : Tables) (tsn : Tsn) (q : Dbkey) (ws : List Write) → AllPlaced tables ws → is_written q ws ≡ true → LiesIn tables q (blank tsn)
-unfolding AllPlaced
 lies-written tables tsn q [] placed written = absurd (false≢true written)
-lies-written tables tsn q (w ∷ ws) placed written = by (is_eq (dbkey_order q w.key)) refl
+lies-written tables tsn q (w ∷ ws) placed written = by (λ it. lies-written tables tsn q ws (λ i x at. placed (suc i) x at) it) (is_eq (dbkey_order q w.key)) refl
   where
-    by : (b : Bool) → is_eq (dbkey_order q w.key) ≡ b → LiesIn tables q (blank tsn)
-    by true tie = subst (λ (k : Dbkey). LiesIn tables k (blank tsn)) (sym (same_dbkey q w.key (tied _ tie))) (lies-blank tables tsn w (placed 0 w refl))
-    by false off = lies-written tables tsn q ws (λ i x at. placed (suc i) x at) (ap (λ b. b || is_written q ws) (sym off) ∙ written)
+    by : (is_written q ws ≡ true → LiesIn tables q (blank tsn)) → (b : Bool) → is_eq (dbkey_order q w.key) ≡ b → LiesIn tables q (blank tsn)
+    by behind true tie = subst (λ (k : Dbkey). LiesIn tables k (blank tsn)) (sym (same_dbkey q w.key (tied _ tie))) (lies-blank tables tsn w (placed 0 w refl))
+    by behind false off = behind (ap (λ b. b || is_written q ws) (sym off) ∙ written)
 
 -- nobody else has written a line that is free for each write of it
 free-written : (s : ℕ) (members : List Member) (q : Dbkey) (ws : List Write) → ((i : ℕ) (w : Write) → slice_get ws i ≡ Some w → IsFreeFor s members w.key) → is_written q ws ≡ true → IsFreeFor s members q
 free-written s members q [] free written = absurd (false≢true written)
-free-written s members q (w ∷ ws) free written = by (is_eq (dbkey_order q w.key)) refl
+free-written s members q (w ∷ ws) free written = by (λ it. free-written s members q ws (λ i x at. free (suc i) x at) it) (is_eq (dbkey_order q w.key)) refl
   where
-    by : (b : Bool) → is_eq (dbkey_order q w.key) ≡ b → IsFreeFor s members q
-    by true tie = subst (IsFreeFor s members) (sym (same_dbkey q w.key (tied _ tie))) (free 0 w refl)
-    by false off = free-written s members q ws (λ i x at. free (suc i) x at) (ap (λ b. b || is_written q ws) (sym off) ∙ written)
+    by : (is_written q ws ≡ true → IsFreeFor s members q) → (b : Bool) → is_eq (dbkey_order q w.key) ≡ b → IsFreeFor s members q
+    by behind true tie = subst (IsFreeFor s members) (sym (same_dbkey q w.key (tied _ tie))) (free 0 w refl)
+    by behind false off = behind (ap (λ b. b || is_written q ws) (sym off) ∙ written)
 
 -- ---- the session's lines
 
@@ -104,7 +102,6 @@ module _ (h : StoreMemory) (s : ℕ) (m : Member) (more : List Write) (written :
       }
     where
       placed : AllPlaced h.tables more
-      unfolding AllPlaced
       placed i w at = (fit i w at).placed
 
       lies-now : (q : Dbkey) (line : Line) → (before : Line) × (rewritten_by q more before ≡ line) × ((find dbkey_order q m.written.lines ≡ Some before) ⊎ ((before ≡ blank m.tsn) × (is_written q more ≡ true))) → LiesIn h.tables q line

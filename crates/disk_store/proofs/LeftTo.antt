@@ -92,27 +92,27 @@ module _ (v : View) (held : StoreMemory) (sound : IsSound held) (h : Shelf) (sho
 module _ (v : View) (g : Ledger) (facts : LedgerFacts v g) (s : ℕ) (all : List Undo) (stable : ℕ) (stands : g.standing s ≡ changing all stable) (key : Dbkey) (left : IsLeftTo s key g.standing) where
   -- what stands of an open transaction is what the ledger has of it
   its-entries : (m : ℕ) (st : Standing) → MemberStands v g.base m st → (o : Open) → g.base.going m ≡ Some o → (i : ℕ) (undo : Undo) → slice_get o.entries i ≡ Some undo → slice_get (entries_of st) i ≡ Some undo
-  its-entries m resting is o open i undo got = absurd (none-some o (sym is ∙ open))
-  its-entries m (changing es n) is o open i undo got =
-      let same : o ≡ is.transaction = same_Some _ _ (sym open ∙ is.seat.is_open) in
+  its-entries m resting is o going i undo got = absurd (none-some o (sym is ∙ going))
+  its-entries m (changing es n) is o going i undo got =
+      let same : o ≡ is.transaction = same_Some _ _ (sym going ∙ is.seat.is_open) in
       absurd (none-some undo (ap (λ (l : List Undo). slice_get l i) (sym (ap (λ (p : Open). p.entries) same ∙ is.seat.none_stands)) ∙ got))
-  its-entries m broken is o open i undo got = taken m [] is o open i undo got
+  its-entries m broken is o going i undo got = taken m [] is o going i undo got
     where
       taken : (m : ℕ) (es : List Undo) → HasOpen g.base m es → (o : Open) → g.base.going m ≡ Some o → (i : ℕ) (undo : Undo) → slice_get o.entries i ≡ Some undo → slice_get es i ≡ Some undo
-      taken m es is o open i undo got = let same : o ≡ is.transaction = same_Some _ _ (sym open ∙ is.is_open) in ap (λ (l : List Undo). slice_get l i) (sym (ap (λ (p : Open). p.entries) same ∙ is.entries)) ∙ got
-  its-entries m (committing es) is o open i undo got = let same : o ≡ is.transaction = same_Some _ _ (sym open ∙ is.is_open) in ap (λ (l : List Undo). slice_get l i) (sym (ap (λ (p : Open). p.entries) same ∙ is.entries)) ∙ got
-  its-entries m (undoing es n) is o open i undo got = let same : o ≡ is.transaction = same_Some _ _ (sym open ∙ is.is_open) in ap (λ (l : List Undo). slice_get l i) (sym (ap (λ (p : Open). p.entries) same ∙ is.entries)) ∙ got
+      taken m es is o going i undo got = let same : o ≡ is.transaction = same_Some _ _ (sym going ∙ is.is_open) in ap (λ (l : List Undo). slice_get l i) (sym (ap (λ (p : Open). p.entries) same ∙ is.entries)) ∙ got
+  its-entries m (committing es) is o going i undo got = let same : o ≡ is.transaction = same_Some _ _ (sym going ∙ is.is_open) in ap (λ (l : List Undo). slice_get l i) (sym (ap (λ (p : Open). p.entries) same ∙ is.entries)) ∙ got
+  its-entries m (undoing es n) is o going i undo got = let same : o ≡ is.transaction = same_Some _ _ (sym going ∙ is.is_open) in ap (λ (l : List Undo). slice_get l i) (sym (ap (λ (p : Open). p.entries) same ∙ is.entries)) ∙ got
 
   nothing-own : (o : Open) → g.base.going s ≡ Some o → (i : ℕ) (undo : Undo) → slice_get o.entries i ≡ Some undo → ⊥
-  nothing-own o open i undo got =
+  nothing-own o going i undo got =
       let is : IsChanging v g.base s all stable = subst (λ (st : Standing). MemberStands v g.base s st) stands (facts.member s) in
-      let same : o ≡ is.transaction = same_Some _ _ (sym open ∙ is.seat.is_open) in
+      let same : o ≡ is.transaction = same_Some _ _ (sym going ∙ is.seat.is_open) in
       none-some undo (ap (λ (l : List Undo). slice_get l i) (sym (ap (λ (p : Open). p.entries) same ∙ is.seat.none_stands)) ∙ got)
 
   untouched : (m : ℕ) (o : Open) → g.base.going m ≡ Some o → (i : ℕ) (undo : Undo) → slice_get o.entries i ≡ Some undo → undo.key ≢ key
-  untouched m o open i undo got same = ⊎_elim
-      (λ (here : m ≡ s). nothing-own o (ap (λ (k : ℕ). g.base.going k) (sym here) ∙ open) i undo got)
-      (λ away. left m i undo away (its-entries m (g.standing m) (facts.member m) o open i undo got) same)
+  untouched m o going i undo got same = ⊎_elim
+      (λ (here : m ≡ s). nothing-own o (ap (λ (k : ℕ). g.base.going k) (sym here) ∙ going) i undo got)
+      (λ away. left m i undo away (its-entries m (g.standing m) (facts.member m) o going i undo got) same)
       (nat_cases m s)
 
   module _ (limit : ℕ) (course : Course) (waiting : Waiting) (readers : ReaderFacts v g limit course waiting) (now : IsPending v v.content) where

@@ -21,8 +21,13 @@ pub mod Reading
 pub mod FoundLines
 pub mod LaidLines
 pub mod Changed
+pub mod Stopping
 pub mod LeftTo
 pub mod SnapWritten
 pub mod Breaking
+pub mod SpentSlots
+pub mod WaitMore
+pub mod JournalSteps
+pub mod PushSteps
 mod Tabled
 mod Taking

@@ -11,7 +11,10 @@ use Rattle.aij_journal.specs.Part.{IsAllowedLine}
 use Rattle.rdb_page.specs.Page.{IsOwner, lines_of}
 use Rattle.stable_lines.specs.Slots.{IsAreaFile}
 use Rattle.line_seat.specs.Groups.{group_line}
-use Rattle.page_table.specs.Pages.{Pages, IsWithin, IsLineOf, owner_in, class_in}
+use Rattle.line_moves.proofs.Putting.{nat_cases}
+use Rattle.page_table.specs.declared.uses.PageUse.{PageUse}
+use Rattle.page_table.specs.Pages.{Pages, IsWithin, IsLineOf, owner_in, class_in, use_of}
+use Rattle.page_table.specs.Scans.{IsNew}
 use Rattle.version_writing.specs.Tables.{table_of}
 use Rattle.member_memory.specs.Memory.{AreKeysOf}
 use Rattle.disk_store.specs.declared.member.Member.{Member}
@@ -19,6 +22,7 @@ use Rattle.disk_store.specs.declared.held.Tables.{Tables}
 use Rattle.disk_store.specs.declared.held.Numbers.{Numbers}
 use Rattle.disk_store.specs.Memory.{StoreMemory, with_member, with_tables}
 use Rattle.disk_store.specs.Shown.{pages_of}
+use Rattle.disk_store.specs.Taken.{TakesIn}
 use Rattle.disk_store.specs.Sound.{LiesIn, IsSoundMember, WroteApart, wanted_in, aside_in, IsSound}
 use Rattle.disk_store.proofs.Members.{set-here, set-either}
 
@@ -152,3 +156,21 @@ module _ (old new : Tables) (keeps : KeepsPages old new) where
 
 pub sound-tables : (h : StoreMemory) (tables : Tables) → KeepsPages h.tables tables → IsSound h → IsSound (with_tables tables h)
 sound-tables h tables keeps sound = record { first = sound.first; last = sound.last; each = λ s m is. sound-still h.tables tables keeps m (sound.each s m is); apart = sound.apart; asides = sound.asides }
+
+-- a page that was nobody's is taken
+pub takes-keeps : (file page area class : ℕ) (old new : Tables) → IsNew (pages_of old file) page → TakesIn file page area class old new → KeepsPages old new
+takes-keeps file page area class old new fresh takes = record {
+  long = λ f. elim (nat_cases f file) [
+    | inl same ↦ subst (λ (n : ℕ). length (pages_of new n) ≡ length (pages_of old n)) (sym same) takes.here.long
+    | inr apart ↦ ap (λ (ps : Pages). length ps) (takes.others f apart)
+  ];
+  owner = λ f p within some. ap (λ (u : PageUse). u.owner) (same-use f p within some);
+  class = λ f p within some. ap (λ (u : PageUse). u.class) (same-use f p within some);
+}
+  where
+    same-use : (f p : ℕ) → IsWithin (pages_of old f) p → 1 ≤ owner_in (pages_of old f) p → use_of (pages_of new f) p ≡ use_of (pages_of old f) p
+    same-use f p within some = elim (nat_cases f file) [
+      | inl same ↦ subst (λ (n : ℕ). use_of (pages_of new n) p ≡ use_of (pages_of old n) p) (sym same)
+          (takes.here.others p within.first (λ at. let none : owner_in (pages_of old f) p ≡ 0 = ap (λ (k : ℕ). owner_in (pages_of old k) p) same ∙ ap (λ (k : ℕ). owner_in (pages_of old file) k) at ∙ fresh.free in omega (arith, none, some)))
+      | inr apart ↦ ap (λ (ps : Pages). use_of ps p) (takes.others f apart)
+    ]

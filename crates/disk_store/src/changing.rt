@@ -1,5 +1,5 @@
 // A statement's writes are laid over the lines of its transaction, in memory.
-ghost use Rattle.std.specs.Prelude.{◌≡◌, ◌≤◌, ◌<◌, ◌^◌, ℕ, true, false, length, drop, IfNone, IfOk, IfSome, IfErr, OnOk, OnErr, slice_get, Some};
+ghost use Rattle.std.specs.Prelude.{◌≡◌, ◌≤◌, ◌<◌, ◌^◌, [], true, false, length, IfNone, IfOk, IfSome, IfErr, OnOk, OnErr};
 ghost use Rattle.line_store.specs.Seats.{IsMember, IsWriting, changing, is_written, lines_added};
 ghost use Rattle.line_store.specs.Shelves.{Shelf};
 ghost use Rattle.line_store.specs.Calls.{Changes, MayStopChange};

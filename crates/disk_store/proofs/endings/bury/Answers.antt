@@ -35,7 +35,7 @@ returns-clause-comes g c =
     let s = c.args.s.number in
     let held = c.args.held.now in
     let at = c.requires.died.1 in
-    let comes = c.forget.ensures.comes in
+    let comes = c.forget.ensures in
     let same : comes.0 ≡ at.member = one-member held.members s comes.0 at.member comes.1 at.is in
     subst (λ new. Does s outside (λ h k. IsUndone s c.moment.result.number h k) (sight_of v held) (sight_of w new))
     (sym (comes.2 ∙ ap (λ (x : Member). with_member s (forgotten stage.Outside x) held) same))

@@ -26,7 +26,7 @@ returns-clause-comes g c =
     let w = g.D.Disk.view c.close.new.disk in
     let s = c.args.s.number in
     let at = ended-at c.args.held.now.members s c.requires.ended in
-    let comes = c.forget.ensures.comes in
+    let comes = c.forget.ensures in
     let same : comes.0 ≡ at.member = one-member c.args.held.now.members s comes.0 at.member comes.1 at.is in
     subst (λ held. Does s (seat_or (stand_at c.args.held.now.members s) (done_at (stand_at c.args.held.now.members s))) (λ h g. IsDone s h g) (sight_of v c.args.held.now) (sight_of w held))
     (sym (comes.2 ∙ ap (λ (x : Member). with_member s (forgotten stage.Outside x) c.args.held.now) same))
