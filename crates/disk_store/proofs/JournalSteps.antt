@@ -111,7 +111,7 @@ module _ (v w : View) (held : StoreMemory) (s : ℕ) (m : Member) (was : slice_g
     abbrev more : Member
     more = journalled_more m
 
-    line : Line
+    abbrev line : Line
     line = (found-key held sound s m was m.journalled key is).0
 
     found : find dbkey_order key m.written.lines ≡ Some line

@@ -1,9 +1,9 @@
 -- A memory stays sound behind writes that are laid over a session's lines.
-use Rattle.std.proofs.Common.{◌≡◌, ◌≢◌, ◌≤◌, ◌<◌, ◌+◌, ◌==◌, ◌||◌, ℕ, zero, suc, Bool, true, false, if◌then◌else◌, cond, List, [], ◌∷◌, length, Option, Some, None, ◌⊎◌, inl, inr, refl, sym, ap, subst, ◌∙◌, arith}
+use Rattle.std.proofs.Common.{◌≡◌, ◌≢◌, ◌≤◌, ◌<◌, ◌+◌, ◌^◌, ◌==◌, ◌||◌, ℕ, zero, suc, Bool, true, false, if◌then◌else◌, cond, List, [], ◌∷◌, length, Option, Some, None, ◌⊎◌, inl, inr, refl, sym, ap, subst, ◌∙◌, arith}
 use Rattle.std.specs.Prelude.{slice_get, slice_set, option_map}
 use Rattle.std.specs.Ordering.{is_eq}
 use Rattle.std.specs.FinMap.Entries.{find}
-use Rattle.std.proofs.lemmas.Bool.{true≢false, false≢true, eqb-false}
+use Rattle.std.proofs.lemmas.Bool.{false≢true, eqb-true}
 use Rattle.std.proofs.lemmas.Option.{same_Some, none-some}
 use Rattle.rdb_types.specs.declared.keys.Dbkey.{Dbkey}
 use Rattle.rdb_types.specs.declared.keys.Line.{Line}
@@ -80,11 +80,14 @@ module _ (h : StoreMemory) (s : ℕ) (m : Member) (more : List Write) (written :
   -- a line is one of those before, or of a write
   laid-from : (q : Dbkey) (line : Line) → find dbkey_order q written.lines ≡ Some line → (before : Line) × (rewritten_by q more before ≡ line) × ((find dbkey_order q m.written.lines ≡ Some before) ⊎ ((before ≡ blank m.tsn) × (is_written q more ≡ true)))
   laid-from q line is =
-      let at = rewritten-some q more (find dbkey_order q mid.lines) line (sym (found-rewritten q more mid.lines) ∙ ap (λ w. find dbkey_order q w.lines) (sym lays.is) ∙ is) in
-      (at.0, at.2, elim (grown-found m.tsn more m.written mid q lays.adding.grows) [
-        | inl same ↦ inl (sym same ∙ at.1)
-        | inr new ↦ inr (same_Some _ _ (sym at.1 ∙ new.1), new.2)
-      ])
+      let at = rewritten-some q more (find dbkey_order q mid.lines) line (sym (found-rewritten q more mid.lines) ∙ ap (λ w. find dbkey_order q w.lines) (sym lays.is) ∙ is) in (
+        at.0,
+        at.2,
+        elim (grown-found m.tsn more m.written mid q lays.adding.grows) [
+          | inl same ↦ inl (sym same ∙ at.1)
+          | inr new ↦ inr (same_Some _ _ (sym at.1 ∙ new.1), new.2)
+        ],
+      )
 
   pub laid-member : (wanted : Wanted) → IsSoundMember h.tables (changing_with written wanted m)
   laid-member wanted =
@@ -115,14 +118,11 @@ module _ (h : StoreMemory) (s : ℕ) (m : Member) (more : List Write) (written :
   laid-apart t n q a b at has too = by (t == s) refl
     where
       by : (x : Bool) → (t == s) ≡ x → s ≡ t
-      by true same = sym (same-number t s same)
+      by true same = sym (eqb-true t s same)
       by false off = let from = laid-from q a has in elim from.2 [
         | inl old ↦ sound.apart s t m n q from.0 b was at old too
         | inr new ↦ absurd (free-written s h.members q more (λ i w k. (fit i w k).free) new.1 t n b off at too)
       ]
-
-      same-number : (t s : ℕ) → (t == s) ≡ true → t ≡ s
-      same-number t s e = grind arith
 
   -- ---- slots
 
@@ -156,8 +156,8 @@ module _ (h : StoreMemory) (s : ℕ) (m : Member) (more : List Write) (written :
           ]
         ];
         asides = λ file is.
-          let sum = sum-set (λ (x : Member). wanted_in file x.aside) h.members s m n was in
-          let all = sound.asides file is in
-          let new = aside-more wanted h.slots file in
-          omega (arith, sum, all, new);
+            let sum = sum-set (λ (x : Member). wanted_in file x.aside) h.members s m n was in
+            let all = sound.asides file is in
+            let new = aside-more wanted h.slots file in
+            omega (arith, sum, all, new);
       }

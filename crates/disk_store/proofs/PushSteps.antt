@@ -80,7 +80,7 @@ module _ (v w : View) (held behind : StoreMemory) (s : ℕ) (m n : Member) (was 
   abbrev becomes : Becomes held behind s n
   becomes = record { limits = limits-is; members = members-is; space_of = space-less held.slots behind.slots; spaced = λ space has. stands-less held behind space limits-is tables-is next-is fewer has }
 
-  before : Line
+  abbrev before : Line
   before = (found-key held sound s m was m.pushed key is).0
 
   found : find dbkey_order key m.written.lines ≡ Some before
@@ -108,7 +108,7 @@ module _ (v w : View) (held behind : StoreMemory) (s : ℕ) (m n : Member) (was 
     abbrev g : Ledger
     g = shown.ledger
 
-    has : HasBegun g s m
+    abbrev has : HasBegun g s m
     has = subst (λ x. StageStands x v g s m) at stands
 
     wait-was : WaitPushed (shown.versions.waiting s) m.pushed m.written
@@ -194,7 +194,7 @@ module _ (v w : View) (held behind : StoreMemory) (s : ℕ) (m n : Member) (was 
       t : IsTrue v.tells
       t = shown.tells
 
-      open-one : HasBegun shown.ledger s m
+      abbrev open-one : HasBegun shown.ledger s m
       open-one = has h shown stands
 
       readers-now : ReaderFacts w shown.ledger held.limits.snaps course (set_waiting s (more h shown stands) shown.versions.waiting)
@@ -231,7 +231,7 @@ module _ (v w : View) (held behind : StoreMemory) (s : ℕ) (m n : Member) (was 
       p : Passes v w
       p = passes-reads v w shown.tells reads
 
-      begun-one : HasBegun shown.ledger s m
+      abbrev begun-one : HasBegun shown.ledger s m
       begun-one = has h shown stands
 
       readers-first : ReaderFacts v shown.ledger held.limits.snaps shown.versions.course (set_waiting s (more h shown stands) shown.versions.waiting)

@@ -17,6 +17,8 @@ use Rattle.version_writing.specs.Slots.{IsFullOf, with_aside}
 use Rattle.version_writing.specs.declared.snapshot_slots.SnapshotSlots.{SnapshotSlots}
 use Rattle.version_writing.specs.declared.snapshot_slots.Wanted.{Wanted}
 use Rattle.member_memory.specs.Memory.{Memory, writes_in}
+use Rattle.member_memory.specs.declared.changes.AddStop.{AddStop}
+use Rattle.member_memory.specs.declared.changes.AddStop.TheVariants.{Full, NoMemory}
 use Rattle.member_memory.specs.Changes.{Adding, rewritten_all}
 use Rattle.disk_store.specs.declared.member.Member.{Member}
 use Rattle.disk_store.specs.declared.member.MemberStage.TheVariants as stage
@@ -90,6 +92,10 @@ pub record LacksSlots (lines : Memory) (more : List Write) (slots : SnapshotSlot
 pub record LacksEntries (lines : Memory) (more : List Write) (entries limit : ℕ) : Type 0 where
   pub limit_is : limit ≡ entries
   pub more_lines : entries < length lines.keys + lines_added (writes_in lines.lines) more
+
+abbrev pub stop_of : AddStop → ℕ → ChangeStop
+stop_of Full limit = stop.RujFull limit
+stop_of NoMemory limit = stop.NoMemory
 
 abbrev pub Stops : Memory → List Write → SnapshotSlots → ℕ → ChangeStop → Type 0
 Stops lines more slots entries (stop.RujFull limit) = LacksEntries lines more entries limit

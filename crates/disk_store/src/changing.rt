@@ -7,7 +7,7 @@ ghost use Rattle.line_store.specs.Sights.{Does, Stays};
 ghost use Rattle.stable_lines.specs.Slots.{IsAreaFile};
 ghost use Rattle.member_memory.specs.Memory.{writes_in};
 ghost use Rattle.disk_store.specs.declared.member.Member.{Member as Sits};
-ghost use Rattle.disk_store.specs.Changing.{AreFit, HasPlace, IsFreeFor, LaysOver, LaysWrites, Stops, StopsAt, all_of, size_of, with_asides};
+ghost use Rattle.disk_store.specs.Changing.{AreFit, HasPlace, IsFreeFor, LaysOver, LaysWrites, Stops, StopsAt, all_of, size_of, stop_of, with_asides};
 ghost use Rattle.disk_store.specs.Seats.{stand_at};
 ghost use Rattle.disk_store.specs.Shown.{Shown, pages_of, sight_of};
 
@@ -129,7 +129,9 @@ fn first_unfit(tables: &Tables, members: &[Member], s: Session, writes: &[Write]
 }
 
 // Why lines can't be added.
-fn stopped(stop: AddStop, limit: u32) -> ChangeStop {
+fn stopped(stop: AddStop, limit: u32) -> ChangeStop
+    ensures { result ≡ stop_of stop limit }
+{
     match stop {
         AddStop::Full => ChangeStop::RujFull(limit),
         AddStop::NoMemory => ChangeStop::NoMemory,
@@ -219,6 +221,8 @@ pub fn change<D: Disk>(
     if let Some(key) = held.unfit(s, writes) {
         return Err(ChangeStop::Unfit(key));
     }
-    held.lay_writes(s, writes)?;
+    if let Err(stop) = held.lay_writes(s, writes) {
+        return Err(stop);
+    }
     Ok(())
 }
