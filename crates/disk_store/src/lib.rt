@@ -3,6 +3,7 @@
 
 mod before_images;
 mod beginning;
+mod change_steps;
 mod changing;
 mod dying;
 mod endings;
@@ -17,6 +18,7 @@ mod rolling;
 mod rooms;
 
 pub use beginning::draw;
+pub use change_steps::journal_key;
 pub use changing::change;
 pub use dying::die;
 pub use endings::{bury, put_away};
