@@ -1,10 +1,11 @@
 -- The members beside a session that makes a step.
-use Rattle.std.proofs.Common.{Some, ◌≡◌, ◌⊎◌, inl, inr, ℕ, length, sym, ap, subst, ◌∙◌}
+use Rattle.std.proofs.Common.{Some, ◌≡◌, ◌-◌, ◌⊎◌, inl, inr, ℕ, length, sym, ap, subst, ◌∙◌}
 use Rattle.rdb_outside.specs.Disk.{View}
 use Rattle.stable_lines.specs.Slots.{area_file}
 use Rattle.member_steps.specs.declared.committing.CommitTurn.{CommitTurn}
 use Rattle.member_steps.specs.declared.committing.CommitTurn.TheVariants.{Entering, Securing, Going}
 use Rattle.line_moves.specs.Lines.{ChangedLines}
+use Rattle.line_moves.specs.Classes.{HasItsClass, HaveTheirClasses}
 use Rattle.member_steps.specs.Turns.{commit_of_plan}
 use Rattle.space_pages.specs.Space.{owner_of}
 use Rattle.disk_seats.specs.Ledgers.{Standing, resting, changing, broken, committing, undoing, gained, Commit, Ledger}
@@ -32,7 +33,11 @@ pub record StaysWith (t : ℕ) (g h : Ledger) : Type 0 where
 abbrev pub SameAreas : View → View → Type 0
 SameAreas v w = (file slot : ℕ) → w.content (area_file file) slot ≡ v.content (area_file file) slot
 
-module _ (v w : View) (g h : Ledger) (t : ℕ) (same : SameAreas v w) (stays : StaysWith t g h) where
+-- pages keep the classes of their areas
+abbrev pub KeepClasses : View → View → Type 0
+KeepClasses v w = (classes : ℕ → ℕ) → HaveTheirClasses classes v.content → HaveTheirClasses classes w.content
+
+module _ (v w : View) (g h : Ledger) (t : ℕ) (same : SameAreas v w) (keep : KeepClasses v w) (stays : StaysWith t g h) where
   pub rests : g.standing t ≡ resting → h.standing t ≡ resting
   rests was = elim stays.standing [ inl is ↦ is ∙ was | inr is ↦ is ∙ ap gained was ]
 
@@ -62,7 +67,7 @@ module _ (v w : View) (g h : Ledger) (t : ℕ) (same : SameAreas v w) (stays : S
   journalled m has = record { begun = begun m has.begun; all_written = has.all_written }
 
   commit-of : (m : Member) (at : _) → IsCommitOf g t m at → IsCommitOf h t m at
-  commit-of m at is = record { plan = is.plan; its = is.its; number = is.number; lines = is.lines; count = is.count; keys = is.keys; under_way = stays.commit (commit_of_plan is.plan at) is.its is.under_way }
+  commit-of m at is = record { plan = is.plan; its = is.its; number = is.number; lines = is.lines; long = is.long; count = is.count; keys = is.keys; under_way = stays.commit (commit_of_plan is.plan at) is.its is.under_way }
 
   owned : (lines : ChangedLines) (n : ℕ) → AreOwned v.content lines n → AreOwned w.content lines n
   owned lines n are i line place below at of = ap (λ bytes. owner_of place.page bytes) (same place.file _) ∙ are i line place below at of
@@ -76,7 +81,7 @@ module _ (v w : View) (g h : Ledger) (t : ℕ) (same : SameAreas v w) (stays : S
   turns : (turn : CommitTurn) (m : Member) → TurnStands turn v g t m → TurnStands turn w h t m
   turns (Entering at) m is = entered m at is
   turns Securing m is = entered m (length m.written.lines) is
-  turns (Going at) m is = commit-of m at is
+  turns (Going at) m is = record { commit = commit-of m at is.commit; classes = is.classes; of_areas = is.of_areas; lie = keep is.commit.plan.flight.classes is.lie }
 
   recovers : (left : Recovery) (m : Member) → RecoveryStands left g t m → RecoveryStands left h t m
   recovers recovery.Ending m is = rests is
@@ -100,5 +105,8 @@ module _ (v w : View) (g h : Ledger) (t : ℕ) (same : SameAreas v w) (stays : S
   pub stays-with : (m : Member) → StageStands m.stage v g t m → StageStands m.stage w h t m
   stays-with m is = stage-stays m.stage m is
 
+pub same-classes : (v w : View) → SameAreas v w → KeepClasses v w
+same-classes v w same classes was file number is plain = subst (λ bytes. HasItsClass classes bytes) (sym (same file (number - 1))) (was file number is plain)
+
 pub stays-there : (v w : View) (g h : Ledger) (t : ℕ) → SameAreas v w → StaysOf t g h → (m : Member) → StageStands m.stage v g t m → StageStands m.stage w h t m
-stays-there v w g h t same stays = stays-with v w g h t same (record { standing = stays.standing; going = stays.going; commit = λ c own is. stays.commit ∙ is })
+stays-there v w g h t same stays = stays-with v w g h t same (same-classes v w same) (record { standing = stays.standing; going = stays.going; commit = λ c own is. stays.commit ∙ is })

@@ -26,7 +26,7 @@ use Rattle.disk_store.specs.declared.member.Recovery.TheVariants as recovery
 use Rattle.disk_store.specs.Dying.{going_to, recovery_at, dead_at, has_none, forgotten}
 use Rattle.disk_store.specs.Memory.{StoreMemory, with_member, at_stage}
 use Rattle.disk_store.specs.Seats.{seat_with, stand_of, stand_at}
-use Rattle.disk_store.specs.Standing.{IsCommitOf, StageStands}
+use Rattle.disk_store.specs.Standing.{IsCommitOf, IsGoing, StageStands}
 use Rattle.disk_store.specs.Shown.{Shown, sight_of}
 use Rattle.disk_store.proofs.Moving.{itself}
 use Rattle.disk_store.proofs.Beside.{StaysWith, stays-with}
@@ -82,7 +82,7 @@ module _ (v : View) (held : StoreMemory) (s : ℕ) (m : Member) (was : slice_get
 
   module _ (at-turn : CommitStage) (at : m.stage ≡ stage.Committing (Going at-turn)) where
     turned : (g : Ledger) → StageStands m.stage v g s m → IsCommitOf g s m at-turn
-    turned g stands = subst (λ x. StageStands x v g s m) at stands
+    turned g stands = let going : IsGoing v g s m at-turn = subst (λ x. StageStands x v g s m) at stands in going.commit
 
     -- its group flies: it stays under way
     judged : flies at-turn ≡ true → DiesAs (at_stage (stage.Dead true recovery.Judging) m)
@@ -90,7 +90,7 @@ module _ (v : View) (held : StoreMemory) (s : ℕ) (m : Member) (was : slice_get
         let n : Member = at_stage (stage.Dead true recovery.Judging) m in
         stood n (does-flying v v held (record (with_member s n held) { numbers = held.numbers }) s m n was (becomes-member held held.numbers s n) (λ e. cc) refl (none-leaves v)
         (λ h shown stands. same-ledger v v (passes-none v) held s n h shown shown.numbers.ceiling shown.facts
-        (let is = turned shown.ledger stands in record { at = at-turn; commit = record { plan = is.plan; its = is.its; number = is.number; lines = is.lines; count = is.count; keys = is.keys; under_way = is.under_way }; flying = flown }) tt)
+        (let is = turned shown.ledger stands in record { at = at-turn; commit = record { plan = is.plan; its = is.its; number = is.number; lines = is.lines; long = is.long; count = is.count; keys = is.keys; under_way = is.under_way }; flying = flown }) tt)
         (omega arith) (omega arith) (died (seat_with m.stage [] [])) (Dies s) (arrives-at (stage.Committing (Going at-turn)) at true refl)
         (λ start. sym (ap (λ x. in_flight (seat_with x ws start)) at)) (λ h shown stands. record { lines = refl; commit = refl }) space-same
         (λ h g start related moves. dies-from h g start true ws related.seat (dies-at (stage.Committing (Going at-turn)) at true ws (λ start. refl) start) moves))
@@ -135,7 +135,7 @@ module _ (v : View) (held : StoreMemory) (s : ℕ) (m : Member) (was : slice_get
           facts = given_facts v g c shown.facts is.under_way grounded;
           limits = refl;
           none = λ t apart rests. beside-it t apart ∙ rests;
-          others = λ t x apart stood. stays-with v v g after t (λ file slot. refl) (stays t apart) x stood;
+          others = λ t x apart got stood. stays-with v v g after t (λ file slot. refl) (λ classes was. was) (stays t apart) x stood;
           mine = record { transaction = c.transaction; all = is.plan.all; stands = own; is_open = ap (λ k. g.base.going k) (sym is.its) ∙ old.is.is_open; number = sym is.number; keys = is.keys };
           numbered = record { number = shown.numbers.number; first = shown.numbers.first; ceiling = shown.numbers.ceiling; group = shown.numbers.group };
           tabled = tables-pass v v (passes-none v) g after held.tables refl shown.tables;

@@ -84,7 +84,7 @@ module _ (v : View) (held : StoreMemory) (s : ℕ) (m : Member) (was : slice_get
       facts = facts;
       limits = refl;
       none = λ t apart rests. ap (λ b. if b then changing [] 0 else g.standing t) apart ∙ rests;
-      others = λ t x apart stands. stays-there v v g (begun_by s g) t (λ file slot. refl) (stays t apart) x stands;
+      others = λ t x apart got stands. stays-there v v g (begun_by s g) t (λ file slot. refl) (stays t apart) x stands;
       mine = mine;
       numbered = record { number = ap (λ k. k + 1) shown.numbers.number; first = omega (arith, shown.numbers.first); ceiling = shown.numbers.ceiling; group = record { in_slot = shown.numbers.group.in_slot; numbered = shown.numbers.group.numbered } };
       tabled = tables-pass v v (passes-none v) g (begun_by s g) held.tables refl shown.tables;

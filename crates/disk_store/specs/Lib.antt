@@ -2,6 +2,10 @@ pub mod Memory
 pub mod Seats
 pub mod Standing
 pub mod Shown
+pub mod Sound
+pub mod Commits
+pub mod Landing
+pub mod Turns
 pub mod Preparing
 pub mod Dying
 pub mod BeforeImages

@@ -3,9 +3,12 @@
 
 mod before_images;
 mod beginning;
+mod classes;
+mod committing;
 mod dying;
 mod endings;
 mod held;
+mod landing;
 mod laws;
 mod learning;
 mod member;
@@ -16,6 +19,7 @@ mod rolling;
 mod rooms;
 
 pub use beginning::draw;
+pub use committing::{commit_step, is_at_barrier};
 pub use dying::die;
 pub use endings::{bury, put_away};
 pub use held::{Held, Numbers, Tables};

@@ -25,7 +25,7 @@ use rdb_types::{Dbkey, NoMemory, Session};
 
 impl Held {
     // The table of an area file.
-    fn table(&self, file: u32) -> &PageTable
+    pub(crate) fn table(&self, file: u32) -> &PageTable
         requires { IsAreaFile file }
         ensures { result.now ≡ pages_of self.now.tables file }
     {
@@ -65,7 +65,7 @@ impl Held {
     }
 
     // What a session's transaction wrote.
-    fn written(&self, s: Session) -> &MemberLines
+    pub(crate) fn written(&self, s: Session) -> &MemberLines
         requires { IsMember s.number }
         ensures { (m : Sits) × (slice_get self.now.members s.number ≡ Some m) × (result.now ≡ m.written) }
     {
