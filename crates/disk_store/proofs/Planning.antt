@@ -145,7 +145,7 @@ module _ (v : View) (held : StoreMemory) (s : ℕ) (m : Member) (was : slice_get
     abbrev all : List Undo
     all = has.begun.all
 
-    abbrev flight : Flight
+    abbrev pub flight : Flight
     flight = record { member = s; group = group_of place lines m.classes.items; classes = shown.tables.classes }
 
     abbrev pub plan : Plan

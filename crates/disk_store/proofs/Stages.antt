@@ -57,7 +57,7 @@ is-prepared stage.Reading is = absurd is
 is-prepared (stage.Dead commits left) is = absurd is
 
 -- the same before-images at another stage
-journalled-at : (g : Ledger) (s : ℕ) (m : Member) (next : MemberStage) → HasJournalled g s m → HasJournalled g s (at_stage next m)
+pub journalled-at : (g : Ledger) (s : ℕ) (m : Member) (next : MemberStage) → HasJournalled g s m → HasJournalled g s (at_stage next m)
 journalled-at g s m next has = record {
   begun = record { transaction = has.begun.transaction; all = has.begun.all; stable = has.begun.stable; stands = has.begun.stands; is_open = has.begun.is_open; number = has.begun.number; count = has.begun.count; keys = has.begun.keys };
   all_written = has.all_written;
