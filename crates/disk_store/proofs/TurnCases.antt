@@ -2,6 +2,7 @@
 use Rattle.std.proofs.Common.{◌≡◌, ◌≢◌, ◌==◌, inl, inr, ℕ, IsTrue, Bool, true, false, cond, List, length, Ok, Err, Option, Some, None, refl, sym, ap, subst, ◌∙◌, arith}
 use Rattle.std.specs.Prelude.{slice_get}
 use Rattle.std.proofs.lemmas.Bool.{eqb-false}
+use Rattle.std.proofs.lemmas.Option.{none-some}
 use Rattle.rdb_outside.specs.Disk.{View, LeftNow}
 use Rattle.line_store.specs.Shelves.{Shelf}
 use Rattle.line_store.specs.declared.answers.Fault.{Fault}
@@ -18,6 +19,7 @@ use Rattle.member_steps.specs.Turns.{Plan, TurnFacts, commit_of_plan, ledger_beh
 use Rattle.member_steps.proofs.ClassesHad.{classes_had}
 use Rattle.ledger_versions.specs.Readers.{ReaderFacts}
 use Rattle.reader_turns.proofs.TurnSteps.{turn_held, turn_further}
+use Rattle.member_memory.specs.Memory.{writes_in}
 use Rattle.disk_store.specs.declared.member.Member.{Member}
 use Rattle.disk_store.specs.declared.member.MemberStage.{MemberStage}
 use Rattle.disk_store.specs.declared.member.MemberStage.TheVariants as stage
@@ -28,10 +30,9 @@ use Rattle.disk_store.specs.Sound.{IsSound}
 use Rattle.disk_store.specs.Commits.{AreOfPages, KeepsCommits, group_for, turn_again}
 use Rattle.disk_store.specs.Turns.{MakesTurn}
 use Rattle.disk_store.proofs.Stages.{journalled-at}
-use Rattle.disk_store.proofs.Stepping.{ComesTo}
 use Rattle.disk_store.proofs.Beside.{StaysWith}
 use Rattle.disk_store.proofs.Planning.{plan, flight, may-commit-now, none-commits, plan-going, under-way-now, own-commit, of-areas, waits-now}
-use Rattle.disk_store.proofs.Turning.{SameBase, comes-turned}
+use Rattle.disk_store.proofs.Turning.{FliesAs, TurnedTo, SameBase, comes-turned, flies-going}
 
 same-base : (g : Ledger) → SameBase g g
 same-base g = record { lines = refl; journal = refl; next_tsn = refl; limits = refl }
@@ -52,11 +53,11 @@ module _ (v w : View) (held : StoreMemory) (s : ℕ) (m : Member) (was : slice_g
 
   -- what the session comes to at a turn, whatever was answered
   abbrev pub TurnsTo : CommitTurn → Type 0
-  TurnsTo next = ComesTo v w (record (with_member s (at-turn next m) held) { numbers = held.numbers }) s (at-turn next m) g shown.versions.course shown.versions.waiting
+  TurnsTo next = TurnedTo v w (record (with_member s (at-turn next m) held) { numbers = held.numbers }) s (at-turn next m) g shown.versions.course shown.versions.waiting
 
   module _ (turn : CommitTurn) (at : m.stage ≡ stage.Committing turn) (result : _) (makes : MakesTurn v w turn (group_for held m) m.written.lines m.classes.items result) where
-    turned : (next : CommitTurn) (k : Ledger) → LedgerFacts w k → SameBase g k → ((t : ℕ) → (t == s) ≡ false → StaysWith t g k) → StageStands (stage.Committing next) w k s (at-turn next m) → ReaderFacts w k held.limits.snaps shown.versions.course shown.versions.waiting → TurnsTo next
-    turned next k facts base stays mine readers = comes-turned v w held s m was turn at sound commits are result makes h shown next k facts base stays mine readers
+    turned : (next : CommitTurn) (k : Ledger) → LedgerFacts w k → SameBase g k → ((t : ℕ) → (t == s) ≡ false → StaysWith t g k) → StageStands (stage.Committing next) w k s (at-turn next m) → ReaderFacts w k held.limits.snaps shown.versions.course shown.versions.waiting → FliesAs s (writes_in m.written.lines) k → TurnsTo next
+    turned next k facts base stays mine readers flies = comes-turned v w held s m was turn at sound commits are result makes h shown next k facts base stays mine readers flies
 
     -- the ledger stays
     stay-same : (t : ℕ) → (t == s) ≡ false → StaysWith t g g
@@ -78,6 +79,9 @@ module _ (v w : View) (held : StoreMemory) (s : ℕ) (m : Member) (was : slice_g
       readers-held : TurnFacts turn v g its → ReaderFacts w (ledger_held turn its g) held.limits.snaps shown.versions.course shown.versions.waiting
       readers-held facts = turn_held v w g held.limits.snaps shown.versions.course shown.versions.waiting its makes.writes.file makes.writes.slot shown.tells shown.facts makes.writes.not_snap makes.writes.only
           (makes.changes shown.tells g shown.facts) makes.distinct (waits-now v held s m was turn at sound commits are h shown) shown.versions.readers turn facts
+
+      none-flies : FliesAs s (writes_in m.written.lines) g
+      none-flies c is = absurd (none-some c (sym (none-commits v held s m was turn at sound commits are h shown has) ∙ is))
 
       ledger-held : TurnFacts turn v g its → LedgerFacts w (ledger_held turn its g)
       ledger-held facts = makes.keeps shown.tells g s has.begun.transaction has.begun.all its.flight shown.facts facts
@@ -122,6 +126,7 @@ module _ (v w : View) (held : StoreMemory) (s : ℕ) (m : Member) (was : slice_g
       (stay-same v w held s m was sound commits are h shown (Entering j) at result makes)
       (entered v w held s m was sound commits are h shown (Entering j) at result makes has (Entering 0) 0 (λ i line place below got of. absurd (omega (arith, below))))
       (readers-held v w held s m was sound commits are h shown (Entering j) at result makes has facts)
+      (none-flies v w held s m was sound commits are h shown (Entering j) at result makes has)
   comes-again Securing at result makes stands =
       let has : HasJournalled shown.ledger s m = stands.journalled in
       let facts : TurnFacts Securing v shown.ledger (its v w held s m was sound commits are h shown Securing at result makes has) = (may-commit-now v held s m was Securing at sound commits are h shown has, stands.owned) in
@@ -129,6 +134,7 @@ module _ (v w : View) (held : StoreMemory) (s : ℕ) (m : Member) (was : slice_g
       (stay-same v w held s m was sound commits are h shown Securing at result makes)
       (entered v w held s m was sound commits are h shown Securing at result makes has (Entering 0) 0 (λ i line place below got of. absurd (omega (arith, below))))
       (readers-held v w held s m was sound commits are h shown Securing at result makes has facts)
+      (none-flies v w held s m was sound commits are h shown Securing at result makes has)
   comes-again (Going st) at result makes stands =
       let plan-now : Plan = its-going v w held s m was sound commits are h shown (Going st) at result makes st stands in
       let under = under-way-now v held s m was (Going st) at sound commits are h shown st stands in
@@ -139,6 +145,7 @@ module _ (v w : View) (held : StoreMemory) (s : ℕ) (m : Member) (was : slice_g
       (going-on v w held s m was sound commits are h shown (Going st) at result makes st stands (again st) (held_up (commit_of_plan plan-now st) shown.ledger) refl)
       (turn_held v w shown.ledger held.limits.snaps shown.versions.course shown.versions.waiting plan-now makes.writes.file makes.writes.slot shown.tells shown.facts makes.writes.not_snap makes.writes.only
       (makes.changes shown.tells shown.ledger shown.facts) makes.distinct (waits-now v held s m was (Going st) at sound commits are h shown) shown.versions.readers (Going st) under)
+      (flies-going v w held s m was (Going st) at sound commits are result makes h shown (held_up (commit_of_plan plan-now st) shown.ledger) (again st) plan-now (makes.keeps shown.tells shown.ledger s plan-now.transaction plan-now.all plan-now.flight shown.facts under) refl refl refl refl)
 
 -- ---- further
 
@@ -165,6 +172,7 @@ module _ (v w : View) (held : StoreMemory) (s : ℕ) (m : Member) (was : slice_g
       turned v w held s m was sound commits are h shown (Entering j) at (Ok next) makes next gl facts (same-base gl) (stay-same v w held s m was sound commits are h shown (Entering j) at (Ok next) makes)
       (stood (entered v w held s m was sound commits are h shown (Entering j) at (Ok next) makes has next n owned))
       (readers-on (Entering j) next at makes p refl refl (may-commit-now v held s m was (Entering j) at sound commits are h shown has, stands.owned) off)
+      (none-flies v w held s m was sound commits are h shown (Entering j) at (Ok next) makes has)
 
   -- the commit takes off
   takes-up : (k : ℕ) (at : m.stage ≡ stage.Committing Securing) → Makes Securing (Going (Changing k)) → HasEntered v gl s m (length m.written.lines) → TurnsTo v w held s m was sound commits are h shown (Going (Changing k))
@@ -188,6 +196,7 @@ module _ (v w : View) (held : StoreMemory) (s : ℕ) (m : Member) (was : slice_g
         lie = makes.classed shown.tells gl shown.facts shown.tables.classes (of-areas v held s m was Securing at sound commits are h shown) shown.tables.lie;
       })
       (readers-on Securing next at makes p refl refl facts (λ same. cc))
+      (flies-going v w held s m was Securing at sound commits are (Ok next) makes h shown behind (Changing k) p goes.0 refl refl refl goes.1)
 
   -- it goes on
   module _ (st nx : CommitStage) (at : m.stage ≡ stage.Committing (Going st)) (makes : Makes (Going st) (Going nx)) (stands : IsGoing v gl s m st) where
@@ -212,6 +221,7 @@ module _ (v w : View) (held : StoreMemory) (s : ℕ) (m : Member) (was : slice_g
         (λ t apart. stay-base v w held s m was sound commits are h shown (Going st) at (Ok (Going nx)) makes st stands t apart k refl refl)
         (going-on v w held s m was sound commits are h shown (Going st) at (Ok (Going nx)) makes st stands nx k refl)
         (subst (λ (x : Ledger). ReaderFacts w x held.limits.snaps shown.versions.course shown.versions.waiting) same (readers-on (Going st) (Going nx) at makes its-plan refl refl under (λ e. off (ap stage-in e))))
+        (flies-going v w held s m was (Going st) at sound commits are (Ok (Going nx)) makes h shown k nx its-plan (subst (λ (x : Ledger). LedgerFacts w x) same goes-behind) refl refl refl refl)
 
   going-further : (st nx : CommitStage) (at : m.stage ≡ stage.Committing (Going st)) → Makes (Going st) (Going nx) → IsGoing v gl s m st → nx ≢ Committed → TurnsTo v w held s m was sound commits are h shown (Going nx)
   going-further st (Changing k) at makes stands off = gone st (Changing k) at makes stands off refl

@@ -86,6 +86,16 @@ slots-aside v w t aside followed limit slots was file is = record {
   pusher = λ chain entry follows stands. (was file is).pusher chain entry follows (record { number = stands.number; is = subst (λ bytes. IsEntry bytes entry) (aside.only.content t (snap_file file) (chain - 1) (λ same at. aside.not_snap (ap (λ f. f.kind) (sym same)))) stands.is });
 }
 
+-- the commit that is under way is the session's, and comes to these writes
+abbrev pub FliesAs : ℕ → List Write → Ledger → Type 0
+FliesAs s ws k = (c : Commit) → k.commit ≡ Some c → (c.member ≡ s) × (lines_with k.base c.flight ≡ laid_all ws k.base.lines)
+
+-- what a turn comes to where nothing is committed
+pub record TurnedTo (v w : View) (behind : StoreMemory) (s : ℕ) (n : Member) (g : Ledger) (course : Course) (waiting : Waiting) : Type 0 where
+  pub comes : ComesTo v w behind s n g course waiting
+  pub flies : FliesAs s (writes_in n.written.lines) comes.ledger
+  pub same : comes.ledger.base.lines ≡ g.base.lines
+
 -- what stays of the ledger's base while nothing is committed
 pub record SameBase (g h : Ledger) : Type 0 where
   pub lines : h.base.lines ≡ g.base.lines
@@ -110,29 +120,33 @@ module _ (v w : View) (held : StoreMemory) (s : ℕ) (m : Member) (was : slice_g
 
   pub comes-turned : (next : CommitTurn) (k : Ledger) → LedgerFacts w k → SameBase g k → ((t : ℕ) → (t == s) ≡ false → StaysWith t g k)
       → StageStands (stage.Committing next) w k s (at_stage (stage.Committing next) m)
-      → ReaderFacts w k held.limits.snaps shown.versions.course shown.versions.waiting
-      → ComesTo v w (record (with_member s (at_stage (stage.Committing next) m) held) { numbers = held.numbers }) s (at_stage (stage.Committing next) m) g shown.versions.course shown.versions.waiting
-  comes-turned next k facts base stays mine readers = record {
-    ledger = k;
-    facts = facts;
-    limits = base.limits;
-    none = λ t apart rested. rests v v g k t (λ file slot. refl) (λ classes lie. lie) (stays t apart) rested;
-    others = λ t x apart got stood. beside-stands held s m was (ap is_flying at) commits v w g k t x apart (sym (set-beside held.members s t (at_stage (stage.Committing next) m) apart) ∙ got) (stays t apart) stood;
-    mine = mine;
-    numbered = record {
-      number = base.next_tsn ∙ shown.numbers.number;
-      first = shown.numbers.first;
-      ceiling = stays_written v w held.numbers.ceiling makes.writes.file makes.writes.slot shown.tells makes.writes.not_root makes.writes.only shown.numbers.ceiling;
-      group = record { in_slot = shown.numbers.group.in_slot ∙ ap next_slot (sym base.journal); numbered = shown.numbers.group.numbered ∙ ap next_number (sym base.journal) };
+      → ReaderFacts w k held.limits.snaps shown.versions.course shown.versions.waiting → FliesAs s (writes_in m.written.lines) k
+      → TurnedTo v w (record (with_member s (at_stage (stage.Committing next) m) held) { numbers = held.numbers }) s (at_stage (stage.Committing next) m) g shown.versions.course shown.versions.waiting
+  comes-turned next k facts base stays mine readers flies = record {
+    comes = record {
+      ledger = k;
+      facts = facts;
+      limits = base.limits;
+      none = λ t apart rested. rests v v g k t (λ file slot. refl) (λ classes lie. lie) (stays t apart) rested;
+      others = λ t x apart got stood. beside-stands held s m was (ap is_flying at) commits v w g k t x apart (sym (set-beside held.members s t (at_stage (stage.Committing next) m) apart) ∙ got) (stays t apart) stood;
+      mine = mine;
+      numbered = record {
+        number = base.next_tsn ∙ shown.numbers.number;
+        first = shown.numbers.first;
+        ceiling = stays_written v w held.numbers.ceiling makes.writes.file makes.writes.slot shown.tells makes.writes.not_root makes.writes.only shown.numbers.ceiling;
+        group = record { in_slot = shown.numbers.group.in_slot ∙ ap next_slot (sym base.journal); numbered = shown.numbers.group.numbered ∙ ap next_number (sym base.journal) };
+      };
+      tabled = tables-turned k base;
+      course_behind = shown.versions.course;
+      waiting_behind = shown.versions.waiting;
+      readers = readers;
+      slots = slots-aside v w shown.tells makes.writes shown.versions.course.followed held.limits.snaps held.slots shown.versions.slots;
+      waits = waits-now v held s m was turn at sound commits are h shown;
+      waits_beside = λ t apart. refl;
+      reads = λ t. refl;
     };
-    tabled = tables-turned k base;
-    course_behind = shown.versions.course;
-    waiting_behind = shown.versions.waiting;
-    readers = readers;
-    slots = slots-aside v w shown.tells makes.writes shown.versions.course.followed held.limits.snaps held.slots shown.versions.slots;
-    waits = waits-now v held s m was turn at sound commits are h shown;
-    waits_beside = λ t apart. refl;
-    reads = λ t. refl;
+    flies = flies;
+    same = base.lines;
   }
 
   -- the group of its commit has its writes
@@ -142,10 +156,7 @@ module _ (v w : View) (held : StoreMemory) (s : ℕ) (m : Member) (was : slice_g
       ap (λ group. lines_behind group k.base.lines) is.group
       ∙ ap (λ (ws : List Write). laid_all ws k.base.lines) ((λ i. map write_of (group_lines (lines-are i) (classes-are i))) ∙ same-writes m.written.lines m.classes.items are.long)
 
-  pub in-flight-as : (k : Ledger) (nx : CommitStage) (plan : Plan) (seat : Seat) → LedgerFacts w k → plan.lines ≡ m.written.lines → plan.classes ≡ m.classes.items → k.commit ≡ Some (commit_of_plan plan nx)
-      → seat ≡ committing (writes_in m.written.lines) → IsInFlight k plan.flight seat
-  in-flight-as k nx plan seat facts lines-are classes-are under is = record {
-    writes = writes_in m.written.lines;
-    under_way = ap in_flight is;
-    laid = flies-as k nx plan facts lines-are classes-are under;
-  }
+  pub flies-going : (k : Ledger) (nx : CommitStage) (plan : Plan) → LedgerFacts w k → plan.member ≡ s → plan.lines ≡ m.written.lines → plan.classes ≡ m.classes.items → k.commit ≡ Some (commit_of_plan plan nx) → FliesAs s (writes_in m.written.lines) k
+  flies-going k nx plan facts its lines-are classes-are under c is =
+      let same : commit_of_plan plan nx ≡ c = same_Some (commit_of_plan plan nx) c (sym under ∙ is) in
+      (ap (λ (x : Commit). x.member) (sym same) ∙ its, subst (λ (x : Commit). lines_with k.base x.flight ≡ laid_all (writes_in m.written.lines) k.base.lines) same (flies-as k nx plan facts lines-are classes-are under))
