@@ -10,3 +10,5 @@ pub mod Preparing
 pub mod Dying
 pub mod BeforeImages
 pub mod Taken
+pub mod Changing
+pub mod ChangeSteps

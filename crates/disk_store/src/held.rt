@@ -56,7 +56,7 @@ impl Model for Held {
 
     ghost view = { λ h. record { limits = h.limits; numbers = h.numbers; next = h.next; tables = h.tables; slots = h.slots; members = h.members.items } };
 
-    ghost invariant = { λ h. let held = record { limits = h.limits; numbers = h.numbers; next = h.next; tables = h.tables; slots = h.slots; members = h.members.items } in IsSound held × KeepsCommits held };
+    ghost invariant = { λ h. (length h.members.items ≡ 17) × IsSound (record { limits = h.limits; numbers = h.numbers; next = h.next; tables = h.tables; slots = h.slots; members = h.members.items }) × KeepsCommits (record { limits = h.limits; numbers = h.numbers; next = h.next; tables = h.tables; slots = h.slots; members = h.members.items }) };
 }
 
 impl Held {
@@ -64,14 +64,14 @@ impl Held {
     pub(crate) fn sound(&self)
         ensures { IsSound self.now }
     {
-        let _limits = &self.limits;
+        let _ = &self.limits;
     }
 
     // What it keeps of commits.
     pub(crate) fn keeps_commits(&self)
         ensures { KeepsCommits self.now }
     {
-        let _limits = &self.limits;
+        let _ = &self.limits;
     }
 
     // A session comes to another stage, at which no room of the journal is set aside for it.

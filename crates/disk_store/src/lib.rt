@@ -3,6 +3,7 @@
 
 mod before_images;
 mod beginning;
+mod changing;
 mod classes;
 mod committing;
 mod dying;
@@ -20,6 +21,7 @@ mod rooms;
 
 pub use beginning::draw;
 pub use committing::{commit_step, is_at_barrier};
+pub use changing::change;
 pub use dying::die;
 pub use endings::{bury, put_away};
 pub use held::{Held, Numbers, Tables};
