@@ -80,7 +80,7 @@ module _ (v w : View) (g h : Ledger) (t : ℕ) (same : SameAreas v w) (keep : Ke
   journalled : (m : Member) → HasJournalled g t m → HasJournalled h t m
   journalled m has = record { begun = begun m has.begun; all_written = has.all_written }
 
-  commit-of : (m : Member) (at : _) → IsCommitOf g t m at → IsCommitOf h t m at
+  abbrev commit-of : (m : Member) (at : _) → IsCommitOf g t m at → IsCommitOf h t m at
   commit-of m at is = record { plan = is.plan; its = is.its; number = is.number; lines = is.lines; long = is.long; count = is.count; keys = is.keys; under_way = stays.commit (commit_of_plan is.plan at) is.its is.under_way }
 
   owned : (lines : ChangedLines) (n : ℕ) → AreOwned v.content lines n → AreOwned w.content lines n

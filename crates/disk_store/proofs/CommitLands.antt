@@ -62,7 +62,7 @@ use Rattle.disk_store.proofs.LinesPut.{SamePages, all-same, all-committed}
 
 slots-long : (g : Group) (at : ℕ) (ls : _) → length (slots_from g at ls) ≡ length ls + 1
 slots-long g at [] = refl
-slots-long g at (l ∷ ls) = ap suc (slots-long g (at + 1) ls)
+slots-long g at (l ∷ ls) = let rest = slots-long g (at + 1) ls in omega (arith, rest)
 
 pub slot-behind : (j : Journal) (g : Group) → next_slot (with_group j g) ≡ next_slot j + (length g.lines + 1)
 slot-behind j g =
@@ -86,8 +86,8 @@ free-same old new same file page = by (nat_le 1 page) refl
         let long = same.long file in
         λ i. nat_le 1 page && nat_le page (long i) && not ((page - 1) % 200 == 0) && (owner i == 0)
     by false none =
-        ap (λ (b : Bool). b && (nat_le page (length (pages_of new file)) && not ((page - 1) % 200 == 0) && (owner_in (pages_of new file) page == 0))) none
-        ∙ sym (ap (λ (b : Bool). b && (nat_le page (length (pages_of old file)) && not ((page - 1) % 200 == 0) && (owner_in (pages_of old file) page == 0))) none)
+        ap (λ (b : Bool). b && nat_le page (length (pages_of new file)) && not ((page - 1) % 200 == 0) && (owner_in (pages_of new file) page == 0)) none
+        ∙ sym (ap (λ (b : Bool). b && nat_le page (length (pages_of old file)) && not ((page - 1) % 200 == 0) && (owner_in (pages_of old file) page == 0)) none)
 
 -- ---- what is shown
 
@@ -108,7 +108,7 @@ module _ (v w : View) (held : StoreMemory) (s : ℕ) (m : Member) (was : slice_g
   abbrev space-behind : Space → Space
   space-behind space = record { limits = space.limits; taken = space.taken; snaps = space.snaps; slots = behind.next.slot - 1 }
 
-  becomes : Becomes held behind s n
+  abbrev becomes : Becomes held behind s n
   becomes = record {
     limits = refl;
     members = refl;
@@ -170,14 +170,14 @@ module _ (v w : View) (held : StoreMemory) (s : ℕ) (m : Member) (was : slice_g
           same.class file page within.first ∙ (shown.tables.class file page (back file page within) (subst (λ (x : ℕ). IsOwner file x) owner-same owner) ∙ ap shown.tables.classes (sym owner-same));
       owned = λ there area is within plain whose.
           let owner-same = same.owner there.file there.page within.first in
-          let whose-was = elim whose [ inl none ↦ inl (sym owner-same ∙ none) | inr its ↦ inr (sym owner-same ∙ its) ] in
+          let whose-was : (owner_in (pages_of held.tables there.file) there.page ≡ 0) ⊎ (owner_in (pages_of held.tables there.file) there.page ≡ area) = elim whose [ inl none ↦ inl (sym owner-same ∙ none) | inr its ↦ inr (sym owner-same ∙ its) ] in
           makes.owners shown.tells g shown.facts there area is plain (lie-for held.tables m.written.lines m.classes.items are there area whose-was) (shown.tables.owned there area is (back there.file there.page within) plain whose-was);
     }
       where
         back : (file page : ℕ) → IsWithin (pages_of kept file) page → IsWithin (pages_of held.tables file) page
         back file page within = record { first = within.first; last = let last = within.last in let long = same.long file in omega (arith, last, long) }
 
-    pub lands-now : ComesTo v w behind s n g shown.versions.course shown.versions.waiting
+    abbrev pub lands-now : ComesTo v w behind s n g shown.versions.course shown.versions.waiting
     lands-now = record {
       ledger = k;
       facts = facts;

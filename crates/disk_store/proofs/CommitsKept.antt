@@ -6,6 +6,8 @@ use Rattle.std.proofs.lemmas.Option.{same_Some, none-some}
 use Rattle.rdb_page.specs.Page.{IsOwner, lines_of}
 use Rattle.line_store.specs.Seats.{IsMember, members, group_of, lines_written, set_aside}
 use Rattle.line_moves.specs.Lines.{ChangedLines}
+use Rattle.member_steps.specs.declared.committing.CommitTurn.{CommitTurn}
+use Rattle.member_steps.specs.declared.committing.CommitTurn.TheVariants.{Entering}
 use Rattle.line_moves.proofs.Putting.{nat_cases}
 use Rattle.page_table.specs.declared.uses.PageUse.{PageUse}
 use Rattle.page_table.specs.Pages.{Pages, use_of, owner_in, class_in, empty_of, IsLineOf, IsWithin}
@@ -14,21 +16,23 @@ use Rattle.member_memory.specs.Memory.{AreKeysOf, writes_in}
 use Rattle.disk_store.specs.declared.member.Member.{Member}
 use Rattle.disk_store.specs.declared.member.MemberStage.{MemberStage}
 use Rattle.disk_store.specs.declared.member.MemberStage.TheVariants as stage
+use Rattle.disk_store.specs.declared.held.Numbers.{Numbers}
 use Rattle.disk_store.specs.declared.held.Tables.{Tables}
 use Rattle.disk_store.specs.Memory.{StoreMemory, with_member, with_tables}
 use Rattle.disk_store.specs.Preparing.{aside_of, aside_beside}
-use Rattle.disk_store.specs.Seats.{seat_with}
+use Rattle.disk_store.specs.Seats.{seat_with, IsAtStage}
 use Rattle.disk_store.specs.Shown.{pages_of}
 use Rattle.disk_store.specs.Taken.{TakesIn}
 use Rattle.disk_store.specs.Landing.{PutsAll, landed_with}
 use Rattle.disk_store.specs.Dying.{forgotten}
-use Rattle.disk_store.specs.Commits.{is_bound, is_flying, group_slots, due_if, due_of, due_in, HasClass, AreOfPages, IsReady, AreAlone, KeepsCommits, HasRoomFor}
+use Rattle.disk_store.specs.Commits.{is_bound, is_flying, group_slots, due_if, due_of, due_in, HasClass, AreOfPages, IsReady, AreAlone, KeepsCommits, HasRoomFor, HasSome}
 use Rattle.disk_store.proofs.Members.{set-here, set-beside, get-within}
 use Rattle.disk_store.proofs.Moving.{itself}
 use Rattle.disk_store.proofs.Aside.{below}
 use Rattle.disk_store.proofs.Written.{lines-counted}
 use Rattle.disk_store.proofs.Tabled.{some-owner}
-use Rattle.disk_store.proofs.LinesPut.{SamePages, all-same, line-of-same}
+use Rattle.disk_store.proofs.Sound.{KeepsPages, takes-keeps}
+use Rattle.disk_store.proofs.LinesPut.{SamePages, all-same}
 
 -- ---- sums over sessions
 
@@ -56,7 +60,7 @@ below-before f s (suc n) before =
 
 below-split : (f : ℕ → ℕ) (s n : ℕ) → 1 ≤ s → s ≤ n → below f n ≡ below (without s f) n + f s
 below-split f s zero first last = absurd (omega (arith, first, last))
-below-split f s (suc n) first last = ⊎_elim here beyond (nat_cases s (suc n))
+below-split f s (suc n) first last = ⊎_elim here (beyond (λ inside. below-split f s n first inside)) (nat_cases s (suc n))
   where
     here : s ≡ suc n → below f (suc n) ≡ below (without s f) (suc n) + f s
     here same =
@@ -65,9 +69,9 @@ below-split f s (suc n) first last = ⊎_elim here beyond (nat_cases s (suc n))
         let value = ap f same in
         omega (arith, rest, mine, value)
 
-    beyond : (s ≡ suc n → ⊥) → below f (suc n) ≡ below (without s f) (suc n) + f s
-    beyond away =
-        let rest = below-split f s n first (omega (arith, last, away)) in
+    beyond : (s ≤ n → below f n ≡ below (without s f) n + f s) → (s ≡ suc n → ⊥) → below f (suc n) ≡ below (without s f) (suc n) + f s
+    beyond before away =
+        let rest = before (omega (arith, last, away)) in
         let apart : (suc n == s) ≡ false = by (suc n == s) refl in
         let one : without s f (suc n) ≡ f (suc n) = ap (λ (b : Bool). if b then 0 else f (suc n)) apart in
         omega (arith, rest, one)
@@ -184,6 +188,71 @@ pub free-kept : (held : StoreMemory) (s : ℕ) (m n : Member) → IsMember s →
 free-kept held s m n is was free kept =
     member-kept held s m n is was (let none = free-due (is_bound n.stage) (length n.written.keys) free in omega (arith, none)) (λ flies. absurd (free-flies n.stage free flies)) (free-ready n.stage held.tables n free) kept
 
+pub numbers-kept : (held : StoreMemory) (numbers : Numbers) → KeepsCommits held → KeepsCommits (record held { numbers = numbers })
+numbers-kept held numbers kept = record { alone = kept.alone; room = kept.room; number = kept.number; ready = kept.ready }
+
+flying-bound : (st : MemberStage) → is_flying st ≡ true → is_bound st ≡ true
+flying-bound stage.Outside flies = absurd (true≢false (sym flies))
+flying-bound stage.Beginning flies = absurd (true≢false (sym flies))
+flying-bound stage.Writing flies = absurd (true≢false (sym flies))
+flying-bound stage.Changing flies = absurd (true≢false (sym flies))
+flying-bound stage.Broken flies = absurd (true≢false (sym flies))
+flying-bound stage.Prepared flies = refl
+flying-bound (stage.Committing turn) flies = refl
+flying-bound stage.RollingBack flies = absurd (true≢false (sym flies))
+flying-bound stage.Closing flies = absurd (true≢false (sym flies))
+flying-bound stage.Reading flies = absurd (true≢false (sym flies))
+flying-bound (stage.Dead commits left) flies = flies
+
+-- a session that is dead
+pub dead-kept : (held : StoreMemory) (s : ℕ) (m n : Member) → IsMember s → slice_get held.members s ≡ Some m → (commits : Bool) (left : _) → n.stage ≡ stage.Dead commits left → (is_flying n.stage ≡ true → is_flying m.stage ≡ true) → n.written ≡ m.written → KeepsCommits held → KeepsCommits (with_member s n held)
+dead-kept held s m n is was commits left at flown written kept =
+    member-kept held s m n is was (by commits at) flown (subst (λ (st : MemberStage). IsReady st held.tables n) (sym at) tt) kept
+  where
+    by : (b : Bool) → n.stage ≡ stage.Dead b left → due_of (Some n) ≤ due_of (Some m)
+    by true dead =
+        let up = flying-bound m.stage (flown (ap is_flying dead)) in
+        let a : due_of (Some n) ≡ group_slots (length m.written.keys) = ap (λ (st : MemberStage). due_if (is_bound st) (length n.written.keys)) dead ∙ ap (λ w. group_slots (length w.keys)) written in
+        let b : due_of (Some m) ≡ group_slots (length m.written.keys) = ap (λ (x : Bool). due_if x (length m.written.keys)) up in
+        omega (arith, a, b)
+    by false dead = let a : due_of (Some n) ≡ 0 = ap (λ (st : MemberStage). due_if (is_bound st) (length n.written.keys)) dead in omega (arith, a)
+
+-- one that begins to commit, alone
+pub begun-kept : (held : StoreMemory) (s : ℕ) (m n : Member) → IsMember s → slice_get held.members s ≡ Some m → IsAtStage held.members s stage.Prepared → n.stage ≡ stage.Committing (Entering 0) → n.written ≡ m.written → n.classes ≡ m.classes
+    → ((t : ℕ) (x : Member) → (t == s) ≡ false → slice_get held.members t ≡ Some x → is_flying x.stage ≡ false) → KeepsCommits held → KeepsCommits (with_member s n held)
+begun-kept held s m n is was prepared at written classes alone kept = record {
+  alone = λ t u a b got also fa fb. by t u a b got also fa fb (t == s) refl (u == s) refl;
+  room = less-room held.next.slot held.limits.slots (due_in held.members) (due_in (slice_set held.members s n)) (let a = due-before held.members s m n was is in let b = due-after held.members s m n was is in let d = due in omega (arith, a, b, d)) kept.room;
+  number = kept.number;
+  ready = still-ready held.members s m n was held.tables (subst (λ (st : MemberStage). IsReady st held.tables n) (sym at) (subst (λ c. AreOfPages held.tables n.written.lines c.items) (sym classes) (subst (λ w. AreOfPages held.tables w.lines m.classes.items) (sym written) (subst (λ (st : MemberStage). IsReady st held.tables m) stood (kept.ready s m was))), tt)) kept.ready;
+}
+  where
+    stood : m.stage ≡ stage.Prepared
+    stood = subst (λ (x : Member). x.stage ≡ stage.Prepared) (same_Some prepared.member m (sym prepared.is ∙ was)) prepared.at
+
+    due : due_of (Some n) ≡ due_of (Some m)
+    due = (ap (λ (st : MemberStage). due_if (is_bound st) (length n.written.keys)) at ∙ ap (λ w. group_slots (length w.keys)) written) ∙ sym (ap (λ (st : MemberStage). due_if (is_bound st) (length m.written.keys)) stood)
+
+    off : (t : ℕ) (x : Member) → (t == s) ≡ false → slice_get (slice_set held.members s n) t ≡ Some x → is_flying x.stage ≡ true → ⊥
+    off t x apart got flies = true≢false (sym flies ∙ alone t x apart (sym (set-beside held.members s t n apart) ∙ got))
+
+    by : (t u : ℕ) (a b : Member) → slice_get (slice_set held.members s n) t ≡ Some a → slice_get (slice_set held.members s n) u ≡ Some b → is_flying a.stage ≡ true → is_flying b.stage ≡ true → (p : Bool) → (t == s) ≡ p → (q : Bool) → (u == s) ≡ q → t ≡ u
+    by t u a b got also fa fb true ts true us = eqb-true t s ts ∙ sym (eqb-true u s us)
+    by t u a b got also fa fb true ts false us = absurd (off u b us also fb)
+    by t u a b got also fa fb false ts q us = absurd (off t a ts got fa)
+
+-- one that comes to another turn
+pub turned-kept : (held : StoreMemory) (s : ℕ) (m n : Member) → IsMember s → slice_get held.members s ≡ Some m → (turn : CommitTurn) → IsAtStage held.members s (stage.Committing turn) → (next : CommitTurn) → n.stage ≡ stage.Committing next → n.written ≡ m.written → n.classes ≡ m.classes → HasSome next (length m.written.keys) → KeepsCommits held → KeepsCommits (with_member s n held)
+turned-kept held s m n is was turn commits next at written classes some kept =
+    member-kept held s m n is was (let d = due in omega (arith, d)) (λ flies. ap is_flying stood)
+    (subst (λ (st : MemberStage). IsReady st held.tables n) (sym at) (subst (λ c. AreOfPages held.tables n.written.lines c.items) (sym classes) (subst (λ w. AreOfPages held.tables w.lines m.classes.items) (sym written) (subst (λ (st : MemberStage). IsReady st held.tables m) stood (kept.ready s m was)).0), subst (λ w. HasSome next (length w.keys)) (sym written) some)) kept
+  where
+    stood : m.stage ≡ stage.Committing turn
+    stood = subst (λ (x : Member). x.stage ≡ stage.Committing turn) (same_Some commits.member m (sym commits.is ∙ was)) commits.at
+
+    due : due_of (Some n) ≡ due_of (Some m)
+    due = (ap (λ (st : MemberStage). due_if (is_bound st) (length n.written.keys)) at ∙ ap (λ w. group_slots (length w.keys)) written) ∙ sym (ap (λ (st : MemberStage). due_if (is_bound st) (length m.written.keys)) stood)
+
 -- ---- a session is prepared
 
 -- what is due is set aside
@@ -255,48 +324,26 @@ prepared-kept held s m n is was keys at written are room kept = record {
 
 -- ---- tables
 
--- a line keeps its class where pages keep owners and classes
-class-same : (old new : Tables) → SamePages old new → (line : _) (class : ℕ) → HasClass old line class → HasClass new line class
-class-same old new same line class has = record {
-  place = has.place;
-  is = has.is;
-  is_line = line-of-same old new same has.place.file line.0 has.is_line;
-  class_is = has.class_is ∙ sym (same.class has.place.file line.0.page has.is_line.within.first);
-  allowed = has.allowed;
-}
+-- a line keeps its class where owned pages keep owners and classes
+class-kept : (old new : Tables) → KeepsPages old new → (line : _) (class : ℕ) → HasClass old line class → HasClass new line class
+class-kept old new keeps line class has =
+    let within = has.is_line.within in
+    let some : 1 ≤ owner_in (pages_of old has.place.file) line.0.page = subst (λ (n : ℕ). 1 ≤ n) (sym has.is_line.owner) (some-owner has.place.file line.0.area has.is.owner) in
+    let same-class = keeps.class has.place.file line.0.page within some in
+    record {
+      place = has.place;
+      is = has.is;
+      is_line = record {
+        within = record { first = within.first; last = let last = within.last in let long = keeps.long has.place.file in omega (arith, last, long) };
+        owner = keeps.owner has.place.file line.0.page within some ∙ has.is_line.owner;
+        line = subst (λ (k : ℕ). line.0.line < lines_of k) (sym same-class) has.is_line.line;
+      };
+      class_is = has.class_is ∙ sym same-class;
+      allowed = has.allowed;
+    }
 
--- and where a page is taken that nobody owned
-class-taken : (file page area class : ℕ) (old new : Tables) → IsNew (pages_of old file) page → TakesIn file page area class old new → (line : _) (c : ℕ) → HasClass old line c → HasClass new line c
-class-taken file page area class old new fresh takes line c has = record {
-  place = has.place;
-  is = has.is;
-  is_line = record {
-    within = record { first = has.is_line.within.first; last = let last = has.is_line.within.last in let l = long in omega (arith, last, l) };
-    owner = ap (λ (u : PageUse). u.owner) same ∙ has.is_line.owner;
-    line = subst (λ (k : ℕ). line.0.line < lines_of k) (sym (ap (λ (u : PageUse). u.class) same)) has.is_line.line;
-  };
-  class_is = has.class_is ∙ sym (ap (λ (u : PageUse). u.class) same);
-  allowed = has.allowed;
-}
-  where
-    in-file : has.place.file ≡ file → line.0.page ≢ page
-    in-file f p =
-        let own : owner_in (pages_of old file) page ≡ line.0.area = (λ i. owner_in (pages_of old (sym f i)) (sym p i)) ∙ has.is_line.owner in
-        let none = fresh.free in
-        let some = some-owner has.place.file line.0.area has.is.owner in
-        omega (arith, own, none, some)
-
-    same : use_of (pages_of new has.place.file) line.0.page ≡ use_of (pages_of old has.place.file) line.0.page
-    same = ⊎_elim
-        (λ (f : has.place.file ≡ file). subst (λ (k : ℕ). use_of (pages_of new k) line.0.page ≡ use_of (pages_of old k) line.0.page) (sym f) (takes.here.others line.0.page has.is_line.within.first (in-file f)))
-        (λ away. ap (λ (ps : Pages). use_of ps line.0.page) (takes.others has.place.file away))
-        (nat_cases has.place.file file)
-
-    long : length (pages_of new has.place.file) ≡ length (pages_of old has.place.file)
-    long = ⊎_elim
-        (λ (f : has.place.file ≡ file). subst (λ (k : ℕ). length (pages_of new k) ≡ length (pages_of old k)) (sym f) takes.here.long)
-        (λ away. ap (λ (ps : Pages). length ps) (takes.others has.place.file away))
-        (nat_cases has.place.file file)
+pub keeps-pages : (old new : Tables) → SamePages old new → KeepsPages old new
+keeps-pages old new same = record { long = same.long; owner = λ file page within some. same.owner file page within.first; class = λ file page within some. same.class file page within.first }
 
 ready-with : (old new : Tables) → ((line : _) (c : ℕ) → HasClass old line c → HasClass new line c) → (st : MemberStage) (m : Member) → IsReady st old m → IsReady st new m
 ready-with old new each stage.Outside m is = tt
@@ -317,23 +364,10 @@ taken-kept held file page area class kept fresh takes was = record {
   alone = was.alone;
   room = was.room;
   number = was.number;
-  ready = λ t x is. ready-with held.tables kept (class-taken file page area class held.tables kept fresh takes) x.stage x (was.ready t x is);
+  ready = λ t x is. ready-with held.tables kept (class-kept held.tables kept (takes-keeps file page area class held.tables kept fresh takes)) x.stage x (was.ready t x is);
 }
 
 -- ---- a commit lands
-
-flying-bound : (st : MemberStage) → is_flying st ≡ true → is_bound st ≡ true
-flying-bound stage.Outside flies = absurd (true≢false (sym flies))
-flying-bound stage.Beginning flies = absurd (true≢false (sym flies))
-flying-bound stage.Writing flies = absurd (true≢false (sym flies))
-flying-bound stage.Changing flies = absurd (true≢false (sym flies))
-flying-bound stage.Broken flies = absurd (true≢false (sym flies))
-flying-bound stage.Prepared flies = refl
-flying-bound (stage.Committing turn) flies = refl
-flying-bound stage.RollingBack flies = absurd (true≢false (sym flies))
-flying-bound stage.Closing flies = absurd (true≢false (sym flies))
-flying-bound stage.Reading flies = absurd (true≢false (sym flies))
-flying-bound (stage.Dead commits left) flies = flies
 
 slots-of-some : (lines : ℕ) → 1 ≤ lines → group_slots lines ≡ lines + 1
 slots-of-some zero some = absurd (omega (arith, some))
@@ -358,13 +392,13 @@ pub landed-kept : (held : StoreMemory) (s : ℕ) (m : Member) (next : MemberStag
 landed-kept held s m next kept is was free flies some puts keeps = record {
   alone = still-alone held.members s m n was (λ f. absurd (free-flies next free f)) keeps.alone;
   room = inr (
-    let room = due-room held s m is was flies some keeps in
-    let after = due-after held.members s m n was is in
-    let none : due_of (Some n) ≡ 0 = free-due (is_bound next) 0 free in
-    omega (arith, room, after, none)
-  );
+      let room = due-room held s m is was flies some keeps in
+      let after = due-after held.members s m n was is in
+      let none : due_of (Some n) ≡ 0 = free-due (is_bound next) 0 free in
+      omega (arith, room, after, none)
+      );
   number = let number = keeps.number in omega (arith, number);
-  ready = still-ready held.members s m n was kept (free-ready next kept n free) (λ t x got. ready-with held.tables kept (class-same held.tables kept (all-same held.tables m.written.lines kept puts)) x.stage x (keeps.ready t x got));
+  ready = still-ready held.members s m n was kept (free-ready next kept n free) (λ t x got. ready-with held.tables kept (class-kept held.tables kept (keeps-pages held.tables kept (all-same held.tables m.written.lines kept puts))) x.stage x (keeps.ready t x got));
 }
   where
     n : Member

@@ -31,3 +31,11 @@ pub mod JournalSteps
 pub mod PushSteps
 mod Tabled
 mod Taking
+pub mod Ordered
+pub mod Planning
+pub mod Turning
+pub mod TurnCases
+pub mod CommitGoes
+pub mod LinesPut
+pub mod CommitLands
+pub mod CommitsKept

@@ -61,14 +61,14 @@ pub found-by : (es : ChangedLines) → is_sorted dbkey_order es ≡ true → (i 
 found-by [] sorted i line got = absurd (none-some line got)
 found-by (e ∷ es) sorted zero line got =
     ap (λ (l : Dbkey × Line). find dbkey_order l.0 (e ∷ es)) (sym (same_Some e line got)) ∙ (ap (λ (b : Bool). cond b (Some e.1) (find dbkey_order e.0 es)) (ap is_eq (tied e.0)) ∙ ap (λ (l : Dbkey × Line). Some l.1) (same_Some e line got))
-found-by (e ∷ es) sorted (suc i) line got = by (is_eq (dbkey_order line.0 e.0)) refl
+found-by (e ∷ es) sorted (suc i) line got = by (found-by es (and_parts (below_all dbkey_order e.0 es) (is_sorted dbkey_order es) sorted).1 i line got) (is_eq (dbkey_order line.0 e.0)) refl
   where
     parts : (below_all dbkey_order e.0 es ≡ true) × (is_sorted dbkey_order es ≡ true)
     parts = and_parts (below_all dbkey_order e.0 es) (is_sorted dbkey_order es) sorted
 
-    by : (b : Bool) → is_eq (dbkey_order line.0 e.0) ≡ b → cond (is_eq (dbkey_order line.0 e.0)) (Some e.1) (find dbkey_order line.0 es) ≡ Some line.1
-    by true same = absurd (not-itself e.0 line.0 (below-at e.0 es parts.0 i line got) (sym (same_key line.0 e.0 same)))
-    by false apart = ap (λ (b : Bool). cond b (Some e.1) (find dbkey_order line.0 es)) apart ∙ found-by es parts.1 i line got
+    by : find dbkey_order line.0 es ≡ Some line.1 → (b : Bool) → is_eq (dbkey_order line.0 e.0) ≡ b → cond (is_eq (dbkey_order line.0 e.0)) (Some e.1) (find dbkey_order line.0 es) ≡ Some line.1
+    by rest true same = absurd (not-itself e.0 line.0 (below-at e.0 es parts.0 i line got) (sym (same_key line.0 e.0 same)))
+    by rest false apart = ap (λ (b : Bool). cond b (Some e.1) (find dbkey_order line.0 es)) apart ∙ rest
 
 -- one of the lines has this key
 pub record HasKey (es : ChangedLines) (key : Dbkey) : Type 0 where
@@ -79,12 +79,12 @@ pub record HasKey (es : ChangedLines) (key : Dbkey) : Type 0 where
 
 pub place-of-key : (es : ChangedLines) (key : Dbkey) → is_some (find dbkey_order key es) ≡ true → HasKey es key
 place-of-key [] key some = absurd (false≢true some)
-place-of-key (e ∷ es) key some = by (is_eq (dbkey_order key e.0)) refl
+place-of-key (e ∷ es) key some = by (λ there. place-of-key es key there) (is_eq (dbkey_order key e.0)) refl
   where
-    by : (b : Bool) → is_eq (dbkey_order key e.0) ≡ b → HasKey (e ∷ es) key
-    by true same = record { index = 0; line = e; is = refl; key_is = sym (same_key key e.0 same) }
-    by false apart =
-        let rest = place-of-key es key (ap (λ (b : Bool). is_some (cond b (Some e.1) (find dbkey_order key es))) (sym apart) ∙ some) in
+    by : (is_some (find dbkey_order key es) ≡ true → HasKey es key) → (b : Bool) → is_eq (dbkey_order key e.0) ≡ b → HasKey (e ∷ es) key
+    by later true same = record { index = 0; line = e; is = refl; key_is = sym (same_key key e.0 same) }
+    by later false apart =
+        let rest = later (ap (λ (b : Bool). is_some (cond b (Some e.1) (find dbkey_order key es))) (sym apart) ∙ some) in
         record { index = suc rest.index; line = rest.line; is = rest.is; key_is = rest.key_is }
 
 -- a key that is listed

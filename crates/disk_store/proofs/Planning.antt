@@ -30,6 +30,7 @@ use Rattle.member_steps.specs.declared.committing.CommitTurn.{CommitTurn}
 use Rattle.member_steps.specs.Turns.{Plan, MayCommit, plan_of, commit_of_plan}
 use Rattle.page_table.specs.Pages.{owner_in, IsWithin}
 use Rattle.ledger_versions.specs.Readers.{HasBefore, HasLines}
+use Rattle.store_shows.specs.Shows.{IsInFlight}
 use Rattle.member_memory.specs.Memory.{AreKeysOf, writes_in, has_key}
 use Rattle.disk_store.specs.declared.member.Member.{Member}
 use Rattle.disk_store.specs.declared.member.MemberStage.{MemberStage}
@@ -120,6 +121,7 @@ module _ (v : View) (held : StoreMemory) (s : ℕ) (m : Member) (was : slice_get
   pub own-commit : (c : Commit) → g.commit ≡ Some c → c.member ≡ s
   own-commit c under = by (slice_get held.members c.member) refl (shown.seats c.member)
     where
+      flight : IsInFlight g c.flight (h.seat c.member)
       flight = shown.lines.flight c under
 
       by : (x : Option Member) → slice_get held.members c.member ≡ x → Sits v g c.member x (h.seat c.member) → c.member ≡ s
@@ -188,7 +190,7 @@ module _ (v : View) (held : StoreMemory) (s : ℕ) (m : Member) (was : slice_get
       changed = λ i undo got.
           let there = place-of-key lines undo.key (sym (keys.same undo.key) ∙ listed m.written.keys i undo.key (has.begun.keys i undo got)) in
           let in-it : InGroup lines m.classes.items there.index there.line = in-group lines m.classes.items are.long there.index there.line there.is in
-          record { index = there.index; line = group_line there.line in-it.class; is = in-it.is; key_is = there.key_is };
+          record { index = there.index; line = group_line there.line in-it.class; is = in-it.is; same_key = there.key_is };
       no_flight = shown.facts.quiet;
       no_former = shown.facts.settled;
     }
@@ -217,10 +219,10 @@ module _ (v : View) (held : StoreMemory) (s : ℕ) (m : Member) (was : slice_get
   -- ---- while they are
 
   module _ (stage-at : CommitStage) (going : IsGoing v g s m stage-at) where
-    p : Plan
+    abbrev p : Plan
     p = going.commit.plan
 
-    c : Commit
+    abbrev c : Commit
     c = commit_of_plan p stage-at
 
     stood : CommitStands v g.base g.standing c

@@ -37,7 +37,7 @@ use Rattle.disk_store.proofs.Turning.{FliesAs, TurnedTo, SameBase, comes-turned,
 same-base : (g : Ledger) → SameBase g g
 same-base g = record { lines = refl; journal = refl; next_tsn = refl; limits = refl }
 
-stage-in : CommitTurn → CommitStage
+abbrev stage-in : CommitTurn → CommitStage
 stage-in (Entering at) = Committed
 stage-in Securing = Committed
 stage-in (Going at) = at
@@ -73,7 +73,7 @@ module _ (v w : View) (held : StoreMemory) (s : ℕ) (m : Member) (was : slice_g
       abbrev its : Plan
       its = plan v held s m was turn at sound commits are h shown has
 
-      entered : (next : CommitTurn) (n : ℕ) → _ → HasEntered w g s (at-turn next m) n
+      entered : (next : CommitTurn) (n : ℕ) → AreOwned w.content m.written.lines n → HasEntered w g s (at-turn next m) n
       entered next n owned = record { journalled = journalled-at g s m (stage.Committing next) has; owned = owned }
 
       readers-held : TurnFacts turn v g its → ReaderFacts w (ledger_held turn its g) held.limits.snaps shown.versions.course shown.versions.waiting
@@ -112,7 +112,6 @@ module _ (v w : View) (held : StoreMemory) (s : ℕ) (m : Member) (was : slice_g
 
       stay-base : (t : ℕ) → (t == s) ≡ false → (k : Ledger) → k.standing t ≡ g.standing t → k.base.going t ≡ g.base.going t → StaysWith t g k
       stay-base t apart k standing goes = record { standing = inl standing; going = goes; commit = λ c own is. other-commit t apart k c own is }
-
 
 -- ---- behind a fault
 

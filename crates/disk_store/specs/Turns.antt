@@ -33,6 +33,7 @@ abbrev pub IsFurtherTurn : ℕ → CommitTurn → CommitTurn → Type 0
 IsFurtherTurn lines (Entering at) (Entering next) = (at < lines) × (at < next)
 IsFurtherTurn lines (Going stage) (Going next) = IsFurther lines stage next
 IsFurtherTurn lines _ _ = Unit {0}
+
 -- DEV end
 
 -- the one slot that it writes, none of a snapshot file or of the root

@@ -12,7 +12,7 @@ ghost use Rattle.disk_store.specs.Seats.{stand_at, IsAtStage};
 ghost use Rattle.disk_store.specs.Shown.{sight_of};
 ghost use Rattle.disk_store.specs.Turns.{MakesTurn};
 
-use crate::{Held, MemberStage};
+use crate::{Held, Member, MemberStage};
 use line_seat::{CommitStage, GroupPlace};
 use line_store::{Fault, Stepped};
 use member_steps::{CommitTurn, commit_next};

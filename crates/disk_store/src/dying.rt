@@ -1,8 +1,9 @@
 // A session dies.
-ghost use Rattle.std.specs.Prelude.{◌≡◌, Some, slice_get};
+ghost use Rattle.std.specs.Prelude.{◌≡◌, false, Some, slice_get};
 ghost use Rattle.line_store.specs.Seats.{IsMember, IsAlive, died};
 ghost use Rattle.line_store.specs.Sights.{Does, Dies};
 ghost use Rattle.disk_store.specs.declared.member.Member.{Member as Sits};
+ghost use Rattle.disk_store.specs.Commits.{is_bound};
 ghost use Rattle.disk_store.specs.Dying.{recovery_at, dead_at, has_none, forgotten};
 ghost use Rattle.disk_store.specs.Memory.{with_member};
 ghost use Rattle.disk_store.specs.Seats.{stand_at};
@@ -72,9 +73,10 @@ impl Held {
         &self.members[s.number as usize]
     }
 
-    // A session comes to another stage, and its lines are forgotten.
+    // A session comes to another stage, at which no room of the journal is set aside for it, and its lines are forgotten.
     pub(crate) fn forget(&mut self, s: Session, next: MemberStage)
-        requires { IsMember s.number }
+        requires member { IsMember s.number }
+        requires free { is_bound next ≡ false }
         ensures { (m : Sits) × (slice_get self.old.members s.number ≡ Some m)
             × (self.new ≡ with_member s.number (forgotten next m) self.old) }
     {

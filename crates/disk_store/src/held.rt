@@ -48,6 +48,7 @@ pub struct Held {
 }
 
 impl Model for Held {
+    ghost use Rattle.std.specs.Prelude.{◌≡◌, length};
     ghost use Rattle.disk_store.specs.Memory.{StoreMemory};
     ghost use Rattle.disk_store.specs.Sound.{IsSound};
     ghost use Rattle.disk_store.specs.Commits.{KeepsCommits};
