@@ -131,36 +131,36 @@ module _ (v w : View) (held : StoreMemory) (s : ℕ) (m : Member) (was : slice_g
     abbrev c : Commit
     c = commit_of_plan p Landing
 
-    under : g.commit ≡ Some c
+    pub under : g.commit ≡ Some c
     under = under-way-now v held s m was (Going Landing) at sound commits are h shown Landing going
 
     abbrev k : Ledger
     k = landed_at w.moment c g
 
-    facts : LedgerFacts w k
+    pub facts : LedgerFacts w k
     facts = (makes.goes_on shown.tells g s p.transaction p.all p.flight shown.facts (λ e. let bad : Going Landing ≡ Going Gathering = e in absurd (cc)) under).0
 
-    held-facts : LedgerFacts w (held_up c g)
+    pub held-facts : LedgerFacts w (held_up c g)
     held-facts = makes.keeps shown.tells g s p.transaction p.all p.flight shown.facts under
 
     -- its group is that of its lines
-    its-group : p.flight.group ≡ group_of (group_for held m) m.written.lines m.classes.items
+    pub its-group : p.flight.group ≡ group_of (group_for held m) m.written.lines m.classes.items
     its-group = (shown.facts.commit c under).is.group
 
-    group-lines : length p.flight.group.lines ≡ length m.written.keys
+    pub group-lines : length p.flight.group.lines ≡ length m.written.keys
     group-lines = ap (λ group. length group.lines) its-group ∙ (group-long m.written.lines m.classes.items are.long ∙ sym (sound.each s m was).keys.long)
 
     pub lines-behind : lines_with g.base p.flight ≡ laid_all ws g.base.lines
     lines-behind = ap (λ group. laid_all (map write_of group.lines) g.base.lines) its-group ∙ ap (λ (x : List Write). laid_all x g.base.lines) (same-writes m.written.lines m.classes.items are.long)
 
-    stays : (t : ℕ) → (t == s) ≡ false → StaysWith t g k
+    pub stays : (t : ℕ) → (t == s) ≡ false → StaysWith t g k
     stays t apart = record {
       standing = inl (ap (λ (b : Bool). cond b resting (g.standing t)) apart);
       going = ap (λ (x : ℕ). cond (t == x) None (g.base.going t)) (shown.facts.commit c under).is.its ∙ ap (λ (b : Bool). cond b None (g.base.going t)) apart;
       commit = λ d own is. absurd (eqb-false t s apart (sym own ∙ own-commit v held s m was (Going Landing) at sound commits are h shown d is));
     }
 
-    tabled : TablesStand w k kept
+    pub tabled : TablesStand w k kept
     tabled = record {
       committed = λ file is. subst (λ (ls : Lines). HasCommitted (pages_of kept file) file ls) (sym lines-behind) (all-committed held.tables m.written.lines kept puts file g.base.lines (shown.tables.committed file is));
       classes = shown.tables.classes;

@@ -403,3 +403,8 @@ landed-kept held s m next kept is was free flies some puts keeps = record {
   where
     n : Member
     n = forgotten next m
+
+-- ---- what is ready
+
+pub ready-now : (held : StoreMemory) (s : ℕ) (m : Member) (turn : CommitTurn) → KeepsCommits held → IsAtStage held.members s (stage.Committing turn) → slice_get held.members s ≡ Some m → AreOfPages held.tables m.written.lines m.classes.items × HasSome turn (length m.written.keys)
+ready-now held s m turn kept at was = subst (λ (st : MemberStage). IsReady st held.tables m) (subst (λ (x : Member). x.stage ≡ stage.Committing turn) (same_Some at.member m (sym at.is ∙ was)) at.at) (kept.ready s m was)

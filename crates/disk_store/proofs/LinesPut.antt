@@ -1,6 +1,8 @@
 -- The tables behind lines that are committed.
-use Rattle.std.proofs.Common.{◌≡◌, ◌≢◌, ◌≤◌, ◌<◌, ◌++◌, ℕ, Bool, true, false, List, [], ◌∷◌, length, is_some, ⊎_elim, refl, sym, ap, subst, ◌∙◌, arith}
-use Rattle.std.proofs.lemmas.List.{map-append}
+use Rattle.std.proofs.Common.{cond, ◌==◌, ◌+◌, zero, suc, Some, get_or, take, replicate, ◌≡◌, ◌≢◌, ◌≤◌, ◌<◌, ◌++◌, ℕ, Bool, true, false, List, [], ◌∷◌, length, is_some, ⊎_elim, refl, sym, ap, subst, ◌∙◌, arith}
+use Rattle.std.proofs.lemmas.List.{map-append, take_more}
+use Rattle.std.proofs.lemmas.Option.{same_Some}
+use Rattle.std.specs.Prelude.{slice_get}
 use Rattle.rdb_types.specs.declared.keys.Dbkey.{Dbkey}
 use Rattle.rdb_types.specs.declared.keys.Line.{Line}
 use Rattle.rdb_page.specs.Page.{IsOwner, lines_of}
@@ -11,7 +13,7 @@ use Rattle.line_versions.specs.Lines.{shown}
 use Rattle.line_moves.specs.Lines.{ChangedLines}
 use Rattle.line_moves.proofs.Putting.{nat_cases}
 use Rattle.page_table.specs.declared.uses.PageUse.{PageUse}
-use Rattle.page_table.specs.Pages.{Pages, use_of, owner_in, class_in, IsLineOf}
+use Rattle.page_table.specs.Pages.{Pages, use_of, owner_in, class_in, nobodys, IsLineOf, PutsLine}
 use Rattle.committed_tables.specs.Tables.{HasCommitted, WereUsed}
 use Rattle.committed_tables.proofs.Following.{laid_behind, other_behind}
 use Rattle.committed_tables.proofs.EverUsed.{used_behind_line}
@@ -19,7 +21,7 @@ use Rattle.member_memory.specs.Memory.{write_at, writes_in}
 use Rattle.disk_store.specs.declared.held.Tables.{Tables}
 use Rattle.disk_store.specs.Shown.{pages_of}
 use Rattle.disk_store.specs.Landing.{PutsIn, PutsAll, none, more}
-use Rattle.disk_store.proofs.Tabled.{one-file}
+use Rattle.disk_store.proofs.Tabled.{apart-test, one-file}
 
 -- pages keep owners and classes
 pub record SamePages (old new : Tables) : Type 0 where
@@ -99,3 +101,49 @@ all-committed old lines new (more before _ between _ line is rest puts) file all
 pub all-used : (old : Tables) (lines : ChangedLines) (new : Tables) → PutsAll old lines new → (file : ℕ) (all : Lines) → WereUsed (pages_of old file) file all → WereUsed (pages_of new file) file all
 all-used old lines new (none _ _ is same) file all was = subst (λ (t : Tables). WereUsed (pages_of t file) file all) (sym same) was
 all-used old lines new (more before _ between _ line is rest puts) file all was = put-used line between new puts file all (all-used old before between rest file all was)
+
+-- ---- one line, by the file
+
+module _ (line : Dbkey × Line) (file : ℕ) (owner : IsOwner file line.0.area) (old : Tables) (is_line : IsLineOf (pages_of old file) line.0) (table : Pages) where
+  pub puts-catalog : file ≡ 1 → PutsLine line.0 (is_some (shown line.1)) old.catalog table → PutsIn line old (record { catalog = table; relations = old.relations; indexes = old.indexes })
+  puts-catalog is puts = record {
+    file = file;
+    owner = owner;
+    is_line = is_line;
+    here = subst (λ (f : ℕ). PutsLine line.0 (is_some (shown line.1)) (pages_of old f) (pages_of (record { catalog = table; relations = old.relations; indexes = old.indexes }) f)) (sym is) puts;
+    others = λ other apart. let no = apart-test other 1 (λ e. apart (e ∙ sym is)) in
+        let rest = cond (other == 2) old.relations (cond (other == 3) old.indexes (replicate (length old.indexes) nobodys)) in
+        ap (λ (b : Bool). cond b table rest) no ∙ sym (ap (λ (b : Bool). cond b old.catalog rest) no);
+  }
+
+  pub puts-relations : file ≡ 2 → PutsLine line.0 (is_some (shown line.1)) old.relations table → PutsIn line old (record { catalog = old.catalog; relations = table; indexes = old.indexes })
+  puts-relations is puts = record {
+    file = file;
+    owner = owner;
+    is_line = is_line;
+    here = subst (λ (f : ℕ). PutsLine line.0 (is_some (shown line.1)) (pages_of old f) (pages_of (record { catalog = old.catalog; relations = table; indexes = old.indexes }) f)) (sym is) puts;
+    others = λ other apart. let no = apart-test other 2 (λ e. apart (e ∙ sym is)) in
+        let rest = cond (other == 3) old.indexes (replicate (length old.indexes) nobodys) in
+        ap (λ (b : Bool). cond (other == 1) old.catalog (cond b table rest)) no ∙ sym (ap (λ (b : Bool). cond (other == 1) old.catalog (cond b old.relations rest)) no);
+  }
+
+  pub puts-indexes : file ≡ 3 → PutsLine line.0 (is_some (shown line.1)) old.indexes table → PutsIn line old (record { catalog = old.catalog; relations = old.relations; indexes = table })
+  puts-indexes is puts = record {
+    file = file;
+    owner = owner;
+    is_line = is_line;
+    here = subst (λ (f : ℕ). PutsLine line.0 (is_some (shown line.1)) (pages_of old f) (pages_of (record { catalog = old.catalog; relations = old.relations; indexes = table }) f)) (sym is) puts;
+    others = λ other apart. let no = apart-test other 3 (λ e. apart (e ∙ sym is)) in
+        ap (λ (b : Bool). cond (other == 1) old.catalog (cond (other == 2) old.relations (cond b table (replicate (length table) nobodys)))) no
+        ∙ (ap (λ (n : ℕ). cond (other == 1) old.catalog (cond (other == 2) old.relations (replicate n nobodys))) puts.long
+        ∙ sym (ap (λ (b : Bool). cond (other == 1) old.catalog (cond (other == 2) old.relations (cond b old.indexes (replicate (length old.indexes) nobodys)))) no));
+  }
+
+-- one line more is put
+pub put-more : (old now new : Tables) (lines : ChangedLines) (i : ℕ) (line : Dbkey × Line) → i < length lines → slice_get lines i ≡ Some line → PutsAll old (take i lines) now → PutsIn line now new → PutsAll old (take (i + 1) lines) new
+put-more old now new lines i line inside got were puts = more (take i lines) (take (i + 1) lines) now new line (take_more lines i line inside ∙ ap (λ (l : Dbkey × Line). take i lines ++ l ∷ []) (got_is lines i line got)) were puts
+  where
+    got_is : (ls : ChangedLines) (k : ℕ) (l : Dbkey × Line) → slice_get ls k ≡ Some l → get_or ls k l ≡ l
+    got_is [] k l is = refl
+    got_is (x ∷ xs) zero l is = same_Some x l is
+    got_is (x ∷ xs) (suc k) l is = got_is xs k l is

@@ -54,7 +54,7 @@ one-file a b area (inr (inr x)) (inr (inr y)) = x.0 ∙ sym y.0
 zeros-owner : (file : ℕ) (x : List ℕ) → x ≡ zeros (area_file file) → owner_at x ≡ 0
 zeros-owner file x is = let n = slot_bytes (area_file file) in ap owner_at is ∙ zeros_owner (replicate n 0) (ap (λ (m : ℕ). replicate m 0) (sym (length-replicate {A = ℕ} n 0)))
 
-apart-test : (a b : ℕ) → (a ≡ b → ⊥) → (a == b) ≡ false
+pub apart-test : (a b : ℕ) → (a ≡ b → ⊥) → (a == b) ≡ false
 apart-test a b apart = by (a == b) refl
   where
     by : (t : Bool) → (a == b) ≡ t → (a == b) ≡ false

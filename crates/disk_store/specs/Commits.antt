@@ -115,7 +115,7 @@ pub record IsPreparedWith (classes : List ℕ) (m n : Member) : Type 0 where
 pub record WritesNone (ms : List Member) (s : ℕ) (turn : CommitTurn) : Type 0 where
   pub member : Member
   pub is : slice_get ms s ≡ Some member
-  pub none : member.written.keys ≡ []
+  pub none : length member.written.keys ≡ 0
   pub at : ℕ
   pub begins : turn ≡ Entering at
 

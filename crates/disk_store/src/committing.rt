@@ -67,7 +67,8 @@ impl Held {
         self.keeps_commits();
         match turn {
             CommitTurn::Entering(_) => self.written(s).keys().is_empty(),
-            _ => false,
+            CommitTurn::Securing => false,
+            CommitTurn::Going(_) => false,
         }
     }
 

@@ -1,8 +1,11 @@
 // A commit that stands is put into memory.
-ghost use Rattle.std.specs.Prelude.{◌≡◌, ◌<◌, ◌≤◌, ◌+◌, ℕ, false, true, List, Some, length, slice_get};
+ghost use Rattle.std.specs.Prelude.{◌≡◌, ◌<◌, ◌≤◌, ◌+◌, ℕ, false, true, List, Some, is_some, length, slice_get};
 ghost use Rattle.rdb_types.specs.declared.keys.Dbkey.{Dbkey as Key};
 ghost use Rattle.rdb_types.specs.declared.keys.Line.{Line as Written};
 ghost use Rattle.line_store.specs.Seats.{IsMember};
+ghost use Rattle.rdb_page.specs.Page.{IsOwner};
+ghost use Rattle.line_versions.specs.Lines.{shown};
+ghost use Rattle.stable_lines.specs.Slots.{IsAreaFile};
 ghost use Rattle.line_moves.specs.declared.places.Place.{Place as Spot};
 ghost use Rattle.line_moves.specs.Changes.{IsPlaceOf};
 ghost use Rattle.page_table.specs.Pages.{IsLineOf};
@@ -13,22 +16,46 @@ ghost use Rattle.disk_store.specs.Landing.{PutsIn, PutsAll, LieThere, landed_wit
 ghost use Rattle.disk_store.specs.Shown.{pages_of};
 
 use crate::{Held, MemberStage, Tables};
-use area_files::storage_area;
+use line_moves::place_of;
 use member_memory::MemberLines;
 use rdb_types::{Dbkey, Line, LineState, Session};
 
+// Whether a line has an image.
+fn is_present(line: &Line) -> bool
+    ensures { result ≡ is_some (shown line.now) }
+{
+    match line.state {
+        LineState::Never => false,
+        LineState::Present => true,
+        LineState::Erased => false,
+    }
+}
+
 // Puts a line into the table of its file.
+fn put_in(tables: &mut Tables, file: u32, line: &(Dbkey, Line))
+    requires file { IsAreaFile file }
+    requires owner { IsOwner file line.now.0.area }
+    requires line { IsLineOf (pages_of tables.old file) line.now.0 }
+    ensures { PutsIn line.now tables.old tables.new }
+{
+    let is_present = is_present(&line.1);
+    match file {
+        1 => tables.catalog.put_line(line.0, is_present),
+        2 => tables.relations.put_line(line.0, is_present),
+        3 => tables.indexes.put_line(line.0, is_present),
+        _ => unreachable!(),
+    }
+}
+
+// Puts a line, which lies on a page of its area, into the table of its file.
 fn put_line(tables: &mut Tables, line: &(Dbkey, Line))
     requires { (place : Spot) × IsPlaceOf line.now.0 place × IsLineOf (pages_of tables.old place.file) line.now.0 }
     ensures { PutsIn line.now tables.old tables.new }
 {
-    let is_present = line.1.state == LineState::Present;
-    match storage_area(line.0.area) {
-        Some(1) => tables.catalog.put_line(line.0, is_present),
-        Some(2) => tables.relations.put_line(line.0, is_present),
-        Some(3) => tables.indexes.put_line(line.0, is_present),
-        _ => unreachable!(),
-    }
+    let Some(place) = place_of(line.0) else {
+        unreachable!()
+    };
+    put_in(tables, place.file, line);
 }
 
 // Puts all lines into the tables of their files.
