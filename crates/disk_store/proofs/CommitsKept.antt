@@ -1,5 +1,5 @@
 -- What memory keeps of commits, behind what its functions change.
-use Rattle.std.proofs.Common.{◌≡◌, ◌≢◌, ◌≤◌, ◌<◌, ◌+◌, ◌-◌, ◌==◌, ◌⊎◌, inl, inr, if◌then◌else◌, cond, ℕ, zero, suc, Bool, true, false, List, [], length, sum_by, Option, Some, None, ⊎_elim, refl, sym, ap, subst, ◌∙◌, arith}
+use Rattle.std.proofs.Common.{◌≡◌, ◌≢◌, ◌≤◌, ◌<◌, ◌+◌, ◌-◌, ◌^◌, ◌==◌, ◌⊎◌, inl, inr, if◌then◌else◌, cond, ℕ, zero, suc, Bool, true, false, List, [], length, sum_by, Option, Some, None, ⊎_elim, refl, sym, ap, subst, ◌∙◌, arith}
 use Rattle.std.specs.Prelude.{slice_get, slice_set}
 use Rattle.std.proofs.lemmas.Bool.{true≢false, eqb-true, eqb-false}
 use Rattle.std.proofs.lemmas.Option.{same_Some, none-some}
@@ -23,7 +23,8 @@ use Rattle.disk_store.specs.Preparing.{aside_of, aside_beside}
 use Rattle.disk_store.specs.Seats.{seat_with, IsAtStage}
 use Rattle.disk_store.specs.Shown.{pages_of}
 use Rattle.disk_store.specs.Taken.{TakesIn}
-use Rattle.disk_store.specs.Landing.{PutsAll, landed_with}
+use Rattle.disk_store.specs.Landing.{PutsAll, group_behind, landed_with}
+use Rattle.disk_store.specs.Sound.{IsSound}
 use Rattle.disk_store.specs.Dying.{forgotten}
 use Rattle.disk_store.specs.Commits.{is_bound, is_flying, group_slots, due_if, due_of, due_in, HasClass, AreOfPages, IsReady, AreAlone, KeepsCommits, HasRoomFor, HasSome}
 use Rattle.disk_store.proofs.Members.{set-here, set-beside, get-within}
@@ -31,7 +32,7 @@ use Rattle.disk_store.proofs.Moving.{itself}
 use Rattle.disk_store.proofs.Aside.{below}
 use Rattle.disk_store.proofs.Written.{lines-counted}
 use Rattle.disk_store.proofs.Tabled.{some-owner}
-use Rattle.disk_store.proofs.Sound.{KeepsPages, takes-keeps}
+use Rattle.disk_store.proofs.Sound.{KeepsPages, takes-keeps, sound-empty, sound-member, sound-tables, loses-lines}
 use Rattle.disk_store.proofs.LinesPut.{SamePages, all-same}
 
 -- ---- sums over sessions
@@ -149,6 +150,7 @@ member-kept held s m n is was less flown ready kept = record {
   alone = still-alone held.members s m n was flown kept.alone;
   room = less-room held.next.slot held.limits.slots (due_in held.members) (due_in (slice_set held.members s n))
       (let a = due-before held.members s m n was is in let b = due-after held.members s m n was is in omega (arith, a, b, less)) kept.room;
+  few = kept.few;
   number = kept.number;
   ready = still-ready held.members s m n was held.tables ready kept.ready;
 }
@@ -189,7 +191,7 @@ free-kept held s m n is was free kept =
     member-kept held s m n is was (let none = free-due (is_bound n.stage) (length n.written.keys) free in omega (arith, none)) (λ flies. absurd (free-flies n.stage free flies)) (free-ready n.stage held.tables n free) kept
 
 pub numbers-kept : (held : StoreMemory) (numbers : Numbers) → KeepsCommits held → KeepsCommits (record held { numbers = numbers })
-numbers-kept held numbers kept = record { alone = kept.alone; room = kept.room; number = kept.number; ready = kept.ready }
+numbers-kept held numbers kept = record { alone = kept.alone; room = kept.room; few = kept.few; number = kept.number; ready = kept.ready }
 
 flying-bound : (st : MemberStage) → is_flying st ≡ true → is_bound st ≡ true
 flying-bound stage.Outside flies = absurd (true≢false (sym flies))
@@ -223,6 +225,7 @@ pub begun-kept : (held : StoreMemory) (s : ℕ) (m n : Member) → IsMember s �
 begun-kept held s m n is was prepared at written classes alone kept = record {
   alone = λ t u a b got also fa fb. by t u a b got also fa fb (t == s) refl (u == s) refl;
   room = less-room held.next.slot held.limits.slots (due_in held.members) (due_in (slice_set held.members s n)) (let a = due-before held.members s m n was is in let b = due-after held.members s m n was is in let d = due in omega (arith, a, b, d)) kept.room;
+  few = kept.few;
   number = kept.number;
   ready = still-ready held.members s m n was held.tables (subst (λ (st : MemberStage). IsReady st held.tables n) (sym at) (subst (λ c. AreOfPages held.tables n.written.lines c.items) (sym classes) (subst (λ w. AreOfPages held.tables w.lines m.classes.items) (sym written) (subst (λ (st : MemberStage). IsReady st held.tables m) stood (kept.ready s m was))), tt)) kept.ready;
 }
@@ -293,6 +296,7 @@ pub prepared-kept : (held : StoreMemory) (s : ℕ) (m n : Member) → IsMember s
 prepared-kept held s m n is was keys at written are room kept = record {
   alone = still-alone held.members s m n was (λ flies. absurd (true≢false (sym flies ∙ ap is_flying at))) kept.alone;
   room = by room;
+  few = kept.few;
   number = kept.number;
   ready = still-ready held.members s m n was held.tables (subst (λ (st : MemberStage). IsReady st held.tables n) (sym at) (subst (λ w. AreOfPages held.tables w.lines n.classes.items) (sym written) are)) kept.ready;
 }
@@ -363,6 +367,7 @@ pub taken-kept : (held : StoreMemory) (file page area class : ℕ) (kept : Table
 taken-kept held file page area class kept fresh takes was = record {
   alone = was.alone;
   room = was.room;
+  few = was.few;
   number = was.number;
   ready = λ t x is. ready-with held.tables kept (class-kept held.tables kept (takes-keeps file page area class held.tables kept fresh takes)) x.stage x (was.ready t x is);
 }
@@ -397,6 +402,7 @@ landed-kept held s m next kept is was free flies some puts keeps = record {
       let none : due_of (Some n) ≡ 0 = free-due (is_bound next) 0 free in
       omega (arith, room, after, none)
       );
+  few = keeps.few;
   number = let number = keeps.number in omega (arith, number);
   ready = still-ready held.members s m n was kept (free-ready next kept n free) (λ t x got. ready-with held.tables kept (class-kept held.tables kept (keeps-pages held.tables kept (all-same held.tables m.written.lines kept puts))) x.stage x (keeps.ready t x got));
 }
@@ -408,3 +414,17 @@ landed-kept held s m next kept is was free flies some puts keeps = record {
 
 pub ready-now : (held : StoreMemory) (s : ℕ) (m : Member) (turn : CommitTurn) → KeepsCommits held → IsAtStage held.members s (stage.Committing turn) → slice_get held.members s ≡ Some m → AreOfPages held.tables m.written.lines m.classes.items × HasSome turn (length m.written.keys)
 ready-now held s m turn kept at was = subst (λ (st : MemberStage). IsReady st held.tables m) (subst (λ (x : Member). x.stage ≡ stage.Committing turn) (same_Some at.member m (sym at.is ∙ was)) at.at) (kept.ready s m was)
+
+-- with what else is written of it
+pub landed-as : (held : StoreMemory) (s : ℕ) (m : Member) (next : MemberStage) (kept : Tables) (n : Member) (count : ℕ) → n ≡ forgotten next m → count ≡ length m.written.keys → KeepsCommits (landed_with next kept s m held) → KeepsCommits (record (with_member s n held) { tables = kept; next = group_behind count held.next })
+landed-as held s m next kept n count is same keeps =
+    let there : KeepsCommits (record (with_member s (forgotten next m) held) { tables = kept; next = group_behind count held.next }) =
+    subst (λ (k : ℕ). KeepsCommits (record (with_member s (forgotten next m) held) { tables = kept; next = group_behind k held.next })) (sym same) keeps in
+    subst (λ (x : Member). KeepsCommits (record (with_member s x held) { tables = kept; next = group_behind count held.next })) (sym is) there
+
+pub sound-landed : (held : StoreMemory) (s : ℕ) (m n : Member) (kept : Tables) (count : ℕ) → slice_get held.members s ≡ Some m → IsSound held → PutsAll held.tables m.written.lines kept → n.tsn ≡ m.tsn → n.aside ≡ m.aside → n.written ≡ record { lines = []; keys = [] } → IsSound (record (with_member s n held) { tables = kept; next = group_behind count held.next })
+sound-landed held s m n kept count was sound puts number slots none =
+    let old = sound.each s m was in
+    let with : IsSound (with_member s n held) = sound-member held s m n was sound (sound-empty held.tables n (subst (λ t. 1 ≤ t.number) (sym number) old.first) (subst (λ t. t.number < 2 ^ 62) (sym number) old.last) none) (loses-lines m n (ap (λ w. w.lines) none) slots) in
+    let all : IsSound (with_tables kept (with_member s n held)) = sound-tables (with_member s n held) kept (keeps-pages held.tables kept (all-same held.tables m.written.lines kept puts)) with in
+    record { first = all.first; last = all.last; each = all.each; apart = all.apart; asides = all.asides }

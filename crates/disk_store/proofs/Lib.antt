@@ -39,3 +39,5 @@ pub mod CommitGoes
 pub mod LinesPut
 pub mod CommitLands
 pub mod CommitsKept
+pub mod CommitNone
+pub mod Ready

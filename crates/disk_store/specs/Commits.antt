@@ -1,5 +1,5 @@
 -- What memory keeps of commits, whatever the disk tells.
-use Rattle.std.specs.Prelude.{ℕ, zero, suc, ◌+◌, ◌≤◌, ◌^◌, ◌≡◌, ◌⊎◌, Bool, true, false, List, [], length, sum_by, slice_get, Option, Some, None}
+use Rattle.std.specs.Prelude.{ℕ, zero, suc, ◌+◌, ◌<◌, ◌≤◌, ◌^◌, ◌≡◌, ◌⊎◌, Bool, true, false, List, [], length, sum_by, slice_get, Option, Some, None}
 use Rattle.rdb_types.specs.declared.keys.Dbkey.{Dbkey}
 use Rattle.rdb_types.specs.declared.keys.Line.{Line}
 use Rattle.aij_journal.specs.Part.{IsAllowedLine}
@@ -95,6 +95,7 @@ AreAlone ms = (s t : ℕ) (m n : Member) → slice_get ms s ≡ Some m → slice
 pub record KeepsCommits (held : StoreMemory) : Type 0 where
   pub alone : AreAlone held.members
   pub room : (due_in held.members ≡ 0) ⊎ (held.next.slot + due_in held.members ≤ held.limits.slots)
+  pub few : held.limits.slots < 2 ^ 32
   pub number : held.next.number + held.limits.slots ≤ 2 ^ 62 + held.next.slot
   pub ready : (s : ℕ) (m : Member) → slice_get held.members s ≡ Some m → IsReady m.stage held.tables m
 

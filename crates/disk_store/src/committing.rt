@@ -122,6 +122,8 @@ pub fn commit_step<D: Disk>(disk: &mut D, held: &mut Held, s: Session) -> Result
         (Steps s.number result) (sight_of (D.view disk.old) held.old) (sight_of (D.view disk.new) held.new) }
     ensures less { result ≡ Ok stepped.More → IsLess s.number (sight_of (D.view disk.old) held.old) (sight_of (D.view disk.new) held.new) }
 {
+    held.sound();
+    held.keeps_commits();
     let turn = held.turn(s);
     if held.writes_none(s, turn) {
         held.set_stage(s, MemberStage::Closing);
