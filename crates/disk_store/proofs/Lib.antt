@@ -41,3 +41,4 @@ pub mod CommitLands
 pub mod CommitsKept
 pub mod CommitNone
 pub mod Ready
+pub mod DeadStages

@@ -43,7 +43,7 @@ may-begin v s m is =
 
 -- ---- a session that is prepared
 
-is-prepared : (st : MemberStage) → IsPrepared (seat_with st [] []) → st ≡ stage.Prepared
+pub is-prepared : (st : MemberStage) → IsPrepared (seat_with st [] []) → st ≡ stage.Prepared
 is-prepared stage.Outside is = absurd is
 is-prepared stage.Beginning is = absurd is
 is-prepared stage.Writing is = absurd is

@@ -73,12 +73,12 @@ pub fn prepare<D: Disk>(_disk: &D, held: &mut Held, s: Session) -> Result<(), Co
     ensures err { OnErr result (Stays s.number (sight_of (D.view _disk.now) held.old) (sight_of (D.view _disk.now) held.new)) }
     ensures cause { IfErr result (λ stop. (h : Shelf) → Shown (D.view _disk.now) held.old h → MayStopCommit h s.number stop) }
 {
-    if !held.has_room(s) {
-        return Err(CommitStop::AijFull(held.limits.slots));
+    if held.has_room(s) {
+        let Ok(classes) = held.classes_of(s) else {
+            return Err(CommitStop::NoMemory);
+        };
+        held.set_prepared(s, classes);
+        return Ok(());
     }
-    let Ok(classes) = held.classes_of(s) else {
-        return Err(CommitStop::NoMemory);
-    };
-    held.set_prepared(s, classes);
-    Ok(())
+    Err(CommitStop::AijFull(held.limits.slots))
 }
