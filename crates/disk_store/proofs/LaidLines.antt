@@ -80,11 +80,14 @@ module _ (h : StoreMemory) (s : ℕ) (m : Member) (more : List Write) (written :
   -- a line is one of those before, or of a write
   laid-from : (q : Dbkey) (line : Line) → find dbkey_order q written.lines ≡ Some line → (before : Line) × (rewritten_by q more before ≡ line) × ((find dbkey_order q m.written.lines ≡ Some before) ⊎ ((before ≡ blank m.tsn) × (is_written q more ≡ true)))
   laid-from q line is =
-      let at = rewritten-some q more (find dbkey_order q mid.lines) line (sym (found-rewritten q more mid.lines) ∙ ap (λ w. find dbkey_order q w.lines) (sym lays.is) ∙ is) in
-      (at.0, at.2, elim (grown-found m.tsn more m.written mid q lays.adding.grows) [
-        | inl same ↦ inl (sym same ∙ at.1)
-        | inr new ↦ inr (same_Some _ _ (sym at.1 ∙ new.1), new.2)
-      ])
+      let at = rewritten-some q more (find dbkey_order q mid.lines) line (sym (found-rewritten q more mid.lines) ∙ ap (λ w. find dbkey_order q w.lines) (sym lays.is) ∙ is) in (
+        at.0,
+        at.2,
+        elim (grown-found m.tsn more m.written mid q lays.adding.grows) [
+          | inl same ↦ inl (sym same ∙ at.1)
+          | inr new ↦ inr (same_Some _ _ (sym at.1 ∙ new.1), new.2)
+        ],
+      )
 
   pub laid-member : (wanted : Wanted) → IsSoundMember h.tables (changing_with written wanted m)
   laid-member wanted =
@@ -156,8 +159,8 @@ module _ (h : StoreMemory) (s : ℕ) (m : Member) (more : List Write) (written :
           ]
         ];
         asides = λ file is.
-          let sum = sum-set (λ (x : Member). wanted_in file x.aside) h.members s m n was in
-          let all = sound.asides file is in
-          let new = aside-more wanted h.slots file in
-          omega (arith, sum, all, new);
+            let sum = sum-set (λ (x : Member). wanted_in file x.aside) h.members s m n was in
+            let all = sound.asides file is in
+            let new = aside-more wanted h.slots file in
+            omega (arith, sum, all, new);
       }

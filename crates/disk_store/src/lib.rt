@@ -20,8 +20,8 @@ mod rolling;
 mod rooms;
 
 pub use beginning::draw;
-pub use committing::{commit_step, is_at_barrier};
 pub use changing::change;
+pub use committing::{commit_step, is_at_barrier};
 pub use dying::die;
 pub use endings::{bury, put_away};
 pub use held::{Held, Numbers, Tables};

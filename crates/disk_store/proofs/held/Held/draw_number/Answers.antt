@@ -34,6 +34,8 @@ returns c =
     let m : Member = c.index_mut-member.result.now in
     let is : slice_get i.members.items s ≡ Some m = lent-there i.members.items s m (omega (arith, c.self.invariant.0, c.requires.member.last)) c.index_mut-member.ensures.value in
     let h : StoreMemory = record { limits = i.limits; numbers = i.numbers; next = i.next; tables = i.tables; slots = i.slots; members = i.members.items } in
-    let sound : IsSound h = c.self.invariant.1 in
-    (m, ap (λ (k : StoreMemory). slice_get k.members s) (sym c.self.view_is) ∙ is,
-      ap (λ (w : Memory). record (with_member s (record (begun_with i.numbers.next m) { written = w }) h) { numbers = drawn i.numbers }) c.new.ensures ∙ ap (λ (k : StoreMemory). with_number s m k) c.self.view_is)
+    let sound : IsSound h = c.self.invariant.1 in (
+      m,
+      ap (λ (k : StoreMemory). slice_get k.members s) (sym c.self.view_is) ∙ is,
+      ap (λ (w : Memory). record (with_member s (record (begun_with i.numbers.next m) { written = w }) h) { numbers = drawn i.numbers }) c.new.ensures ∙ ap (λ (k : StoreMemory). with_number s m k) c.self.view_is,
+    )

@@ -64,8 +64,7 @@ invariant_of-self c =
     let n : Member = record m { stage = c.args.next; written = c.new.result } in
     let puts : PutsAll h.tables m.written.lines kept = subst (λ (ls : ChangedLines). PutsAll h.tables ls kept) c.lines.ensures.value c.put_lines.ensures in
     let count : length c.keys.result.now ≡ length m.written.keys = ap (λ (ks : List Dbkey). length ks) c.keys.ensures.value in
-    let is_n : n ≡ forgotten c.args.next m = ap (λ (w : Memory). record m { stage = c.args.next; written = w }) c.new.ensures in
-    (
+    let is_n : n ≡ forgotten c.args.next m = ap (λ (w : Memory). record m { stage = c.args.next; written = w }) c.new.ensures in (
       set-long i.members.items s n ∙ c.self.invariant.0,
       sound-landed h s m n kept (length c.keys.result.now) is c.self.invariant.1 puts refl refl c.new.ensures,
       landed-as h s m c.args.next kept n (length c.keys.result.now) is_n count (landed-kept h s m c.args.next kept c.requires.member is c.requires.free flies.0 flies.1 puts c.self.invariant.2),
@@ -78,13 +77,12 @@ returns-clause-comes c =
     let m : Member = c.index_mut-member.result.now in
     let is : slice_get i.members.items s ≡ Some m = lent-there i.members.items s m (omega (arith, c.self.invariant.0, c.requires.member.last)) c.index_mut-member.ensures.value in
     let h : StoreMemory = record { limits = i.limits; numbers = i.numbers; next = i.next; tables = i.tables; slots = i.slots; members = i.members.items } in
-    let kept : Tables = c.put_lines.new.tables in
-    (
+    let kept : Tables = c.put_lines.new.tables in (
       m,
       ap (λ (k : StoreMemory). slice_get k.members s) (sym c.self.view_is) ∙ is,
       kept,
       subst (λ (k : StoreMemory). PutsAll k.tables m.written.lines kept) c.self.view_is (subst (λ (ls : ChangedLines). PutsAll h.tables ls kept) c.lines.ensures.value c.put_lines.ensures),
       ap (λ (w : Memory). record (with_member s (record m { stage = c.args.next; written = w }) h) { tables = kept; next = group_behind (length c.keys.result.now) i.next }) c.new.ensures
-      ∙ (ap (λ (ks : List Dbkey). record (with_member s (forgotten c.args.next m) h) { tables = kept; next = group_behind (length ks) i.next }) c.keys.ensures.value
-      ∙ ap (λ (k : StoreMemory). landed_with c.args.next kept s m k) c.self.view_is),
+          ∙ (ap (λ (ks : List Dbkey). record (with_member s (forgotten c.args.next m) h) { tables = kept; next = group_behind (length ks) i.next }) c.keys.ensures.value
+          ∙ ap (λ (k : StoreMemory). landed_with c.args.next kept s m k) c.self.view_is),
     )
