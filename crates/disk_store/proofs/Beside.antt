@@ -1,11 +1,12 @@
 -- The members beside a session that makes a step.
-use Rattle.std.proofs.Common.{Some, ◌≡◌, ◌⊎◌, inl, inr, ℕ, length, sym, ap, subst, ◌∙◌}
+use Rattle.std.proofs.Common.{Some, ◌≡◌, ◌⊎◌, inl, inr, ℕ, ◌-◌, length, sym, ap, subst, ◌∙◌}
 use Rattle.rdb_outside.specs.Disk.{View}
 use Rattle.stable_lines.specs.Slots.{area_file}
 use Rattle.member_steps.specs.declared.committing.CommitTurn.{CommitTurn}
 use Rattle.member_steps.specs.declared.committing.CommitTurn.TheVariants.{Entering, Securing, Going}
 use Rattle.line_moves.specs.Lines.{ChangedLines}
 use Rattle.member_steps.specs.Turns.{commit_of_plan}
+use Rattle.area_files.specs.Areas.{space_page_of}
 use Rattle.space_pages.specs.Space.{owner_of}
 use Rattle.disk_seats.specs.Ledgers.{Standing, resting, changing, broken, committing, undoing, gained, Commit, Ledger}
 use Rattle.disk_seats.specs.Members.{MayEnd, AreOwned}
@@ -28,11 +29,15 @@ pub record StaysWith (t : ℕ) (g h : Ledger) : Type 0 where
   pub going : h.base.going t ≡ g.base.going t
   pub commit : (c : Commit) → c.member ≡ t → g.commit ≡ Some c → h.commit ≡ Some c
 
+-- reads of space pages give what they gave
+abbrev pub SameSpaces : View → View → Type 0
+SameSpaces v w = (file page : ℕ) → w.content (area_file file) (space_page_of page - 1) ≡ v.content (area_file file) (space_page_of page - 1)
+
 -- reads of area files give what they gave
 abbrev pub SameAreas : View → View → Type 0
 SameAreas v w = (file slot : ℕ) → w.content (area_file file) slot ≡ v.content (area_file file) slot
 
-module _ (v w : View) (g h : Ledger) (t : ℕ) (same : SameAreas v w) (stays : StaysWith t g h) where
+module _ (v w : View) (g h : Ledger) (t : ℕ) (same : SameSpaces v w) (stays : StaysWith t g h) where
   pub rests : g.standing t ≡ resting → h.standing t ≡ resting
   rests was = elim stays.standing [ inl is ↦ is ∙ was | inr is ↦ is ∙ ap gained was ]
 
@@ -65,13 +70,13 @@ module _ (v w : View) (g h : Ledger) (t : ℕ) (same : SameAreas v w) (stays : S
   commit-of m at is = record { plan = is.plan; its = is.its; number = is.number; lines = is.lines; count = is.count; keys = is.keys; under_way = stays.commit (commit_of_plan is.plan at) is.its is.under_way }
 
   owned : (lines : ChangedLines) (n : ℕ) → AreOwned v.content lines n → AreOwned w.content lines n
-  owned lines n are i line place below at of = ap (λ bytes. owner_of place.page bytes) (same place.file _) ∙ are i line place below at of
+  owned lines n are i line place below at of = ap (λ bytes. owner_of place.page bytes) (same place.file place.page) ∙ are i line place below at of
 
   entered : (m : Member) (n : ℕ) → HasEntered v g t m n → HasEntered w h t m n
   entered m n has = record { journalled = journalled m has.journalled; owned = owned m.written.lines n has.owned }
 
   undone : (m : Member) (left : ℕ) → IsUndone g t m left → IsUndone h t m left
-  undone m left is = record { transaction = is.transaction; all = is.all; stands = undoing-stays is.all left is.stands; is_open = stays.going ∙ is.is_open; number = is.number; keys = is.keys }
+  undone m left is = record { transaction = is.transaction; all = is.all; stands = undoing-stays is.all left is.stands; is_open = stays.going ∙ is.is_open; number = is.number; count = is.count; keys = is.keys }
 
   turns : (turn : CommitTurn) (m : Member) → TurnStands turn v g t m → TurnStands turn w h t m
   turns (Entering at) m is = entered m at is
@@ -86,7 +91,7 @@ module _ (v w : View) (g h : Ledger) (t : ℕ) (same : SameAreas v w) (stays : S
 
   stage-stays : (st : MemberStage) (m : Member) → StageStands st v g t m → StageStands st w h t m
   stage-stays stage.Outside m is = rests is
-  stage-stays stage.Beginning m is = rests is
+  stage-stays (stage.Beginning ceiling) m is = rests is
   stage-stays stage.Writing m is = journalled m is
   stage-stays stage.Changing m is = begun m is
   stage-stays stage.Broken m is = ends is
@@ -101,4 +106,4 @@ module _ (v w : View) (g h : Ledger) (t : ℕ) (same : SameAreas v w) (stays : S
   stays-with m is = stage-stays m.stage m is
 
 pub stays-there : (v w : View) (g h : Ledger) (t : ℕ) → SameAreas v w → StaysOf t g h → (m : Member) → StageStands m.stage v g t m → StageStands m.stage w h t m
-stays-there v w g h t same stays = stays-with v w g h t same (record { standing = stays.standing; going = stays.going; commit = λ c own is. stays.commit ∙ is })
+stays-there v w g h t same stays = stays-with v w g h t (λ file page. same file (space_page_of page - 1)) (record { standing = stays.standing; going = stays.going; commit = λ c own is. stays.commit ∙ is })

@@ -1,5 +1,5 @@
 -- The header of an ended transaction is closed.
-use Rattle.std.proofs.Common.{◌≡◌, ◌≢◌, ◌≤◌, ◌⊎◌, ℕ, Bool, IsTrue, List, [], Option, Some, None, inl, inr, refl, sym, ap, subst, ◌∙◌}
+use Rattle.std.proofs.Common.{◌≡◌, ◌≢◌, ◌≤◌, ◌⊎◌, ℕ, Bool, IsTrue, List, [], Option, Some, None, inl, inr, refl, sym, ap, subst, ◌∙◌, arith}
 use Rattle.std.specs.Prelude.{slice_get}
 use Rattle.std.proofs.lemmas.Option.{same_Some}
 use Rattle.rdb_outside.specs.Disk.{View}
@@ -14,7 +14,6 @@ use Rattle.line_moves.specs.Calls.{OnlyWrites}
 use Rattle.disk_seats.specs.Ledgers.{resting, Ledger}
 use Rattle.disk_seats.specs.Members.{LedgerFacts}
 use Rattle.disk_seats.proofs.Standings.{not_resting}
-use Rattle.member_steps.proofs.Ceilings.{stays_written}
 use Rattle.member_memory.specs.Memory.{writes_in}
 use Rattle.disk_store.specs.declared.member.Member.{Member}
 use Rattle.disk_store.specs.declared.member.MemberStage.{MemberStage}
@@ -25,7 +24,8 @@ use Rattle.disk_store.specs.Seats.{seat_with, stand_of, stand_at, IsAtStage}
 use Rattle.disk_store.specs.Standing.{StageStands}
 use Rattle.disk_store.specs.Shown.{sight_of}
 use Rattle.disk_store.proofs.Stepping.{does-apart, becomes-member, space-same}
-use Rattle.disk_store.proofs.Passing.{passes-aside, same-ledger}
+use Rattle.disk_store.proofs.Kept.{kept-stays}
+use Rattle.disk_store.proofs.Passing.{passes-aside, aside-ceiling, same-ledger}
 use Rattle.disk_store.proofs.Failing.{KeepsIt}
 
 -- a stage whose transaction has ended, but for its header
@@ -67,7 +67,7 @@ module _ (v w : View) (held : StoreMemory) (s : ℕ) (m : Member) (was : slice_g
     no_fewer = only.no_fewer;
     leaves = only.leaves;
     passes = λ t. passes-aside v w (ruj_file s) 0 t (λ e. cc) (λ e. cc) only;
-    ceiling = λ t was. stays_written v w held.numbers.ceiling (ruj_file s) 0 t (λ e. cc) only was;
+    ceiling = λ t was. aside-ceiling v w t (ruj_file s) 0 (λ e. cc) only held.numbers was;
     facts = λ h shown stands. keeps shown.tells shown.ledger shown.facts (rests shown.ledger stands) (subst (λ (n : ℕ). 1 ≤ n) (sym shown.numbers.number) shown.numbers.first);
   }
 
@@ -76,7 +76,7 @@ module _ (v w : View) (held : StoreMemory) (s : ℕ) (m : Member) (was : slice_g
       Does s outside R (sight_of v held) (sight_of w (with_member s (at_stage stage.Outside m) held))
   does-leave R as-asked =
       does-apart v w held (record (with_member s (at_stage stage.Outside m) held) { numbers = held.numbers }) s m (at_stage stage.Outside m) was (becomes-member held held.numbers s (at_stage stage.Outside m)) (λ e. cc) only.told only.leaves
-      (λ h shown stands. same-ledger v w (keeps-it.passes shown.tells) held s (at_stage stage.Outside m) h shown (keeps-it.ceiling shown.tells shown.numbers.ceiling) (keeps-it.facts h shown stands) (rests shown.ledger stands) tt)
+      (λ h shown stands. same-ledger v w (keeps-it.passes shown.tells) held s (at_stage stage.Outside m) h shown (keeps-it.ceiling shown.tells shown.numbers.ceiling) (kept-stays held.members s held.numbers.next held.numbers.written m (at_stage stage.Outside m) was (omega arith) shown.kept) (keeps-it.facts h shown stands) (rests shown.ledger stands) tt)
       only.later only.no_fewer outside R refl (λ h shown stands c is. not_resting v shown.ledger s shown.facts (rests shown.ledger stands) c is) (λ h shown stands. record { lines = refl; commit = refl }) space-same
       (λ h g start related moves. as-asked h g start related.seat related.time_behind moves)
 

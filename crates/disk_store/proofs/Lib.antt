@@ -16,6 +16,7 @@ pub mod Agreeing
 pub mod Deaths
 pub mod Restored
 pub mod Journalled
+mod Kept
 pub mod Reading
 mod Tabled
 mod Taking

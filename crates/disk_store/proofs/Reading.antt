@@ -38,7 +38,7 @@ module _ (v w : View) (held : StoreMemory) (s : ℕ) (m : Member) (was : slice_g
     no_fewer = reads.no_fewer;
     leaves = λ t. reads-leave v w reads t;
     passes = λ t. passes-reads v w t reads;
-    ceiling = λ t was_below. reads-ceiling v w t reads held.numbers.ceiling was_below;
+    ceiling = λ t was_below. reads-ceiling v w t reads held.numbers was_below;
     facts = λ h shown stands. read_ledger v w shown.ledger shown.tells reads shown.facts;
   }
 

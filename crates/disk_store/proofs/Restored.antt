@@ -25,6 +25,7 @@ use Rattle.disk_store.specs.Seats.{seat_with, stand_of, stand_at, steps_in}
 use Rattle.disk_store.specs.Standing.{IsUndone, StageStands}
 use Rattle.disk_store.specs.Shown.{Shown, sight_of}
 use Rattle.disk_store.proofs.Moving.{itself}
+use Rattle.disk_store.proofs.Kept.{kept-stays}
 use Rattle.disk_store.proofs.Beside.{StaysOf, stays-there}
 use Rattle.disk_store.proofs.Stepping.{ComesTo, does-apart, Related, becomes-member, space-same}
 use Rattle.disk_store.proofs.Passing.{Passes, passes-reads, reads-leave, reads-ceiling, tables-pass, slots-pass}
@@ -39,7 +40,7 @@ keeps-read v w held s m only keeps = record {
   no_fewer = only.no_fewer;
   leaves = reads-leave v w only;
   passes = λ t. passes-reads v w t only;
-  ceiling = λ t was. reads-ceiling v w t only held.numbers.ceiling was;
+  ceiling = λ t was. reads-ceiling v w t only held.numbers was;
   facts = λ h shown stands. keeps shown.tells shown.ledger shown.facts;
 }
 
@@ -85,7 +86,8 @@ module _ (v w : View) (held : StoreMemory) (s : ℕ) (m : Member) (commits : Boo
       none = λ t apart rests. ap (λ b. if b then resting else g.standing t) apart ∙ rests;
       others = λ t x apart stood. stays-there v w g (ended_by s g) t p.areas (stays t apart) x stood;
       mine = ap (λ b. if b then resting else g.standing s) (itself s);
-      numbered = record { number = shown.numbers.number; first = shown.numbers.first; ceiling = reads-ceiling v w shown.tells only held.numbers.ceiling shown.numbers.ceiling; group = record { in_slot = shown.numbers.group.in_slot; numbered = shown.numbers.group.numbered } };
+      numbered = record { number = shown.numbers.number; first = shown.numbers.first; ceiling = reads-ceiling v w shown.tells only held.numbers shown.numbers.ceiling; group = record { in_slot = shown.numbers.group.in_slot; numbered = shown.numbers.group.numbered } };
+      kept = kept-stays held.members s held.numbers.next held.numbers.written m n was (omega arith) shown.kept;
       tabled = tables-pass v w p g (ended_by s g) held.tables refl shown.tables;
       course_behind = course_undone u.transaction.tsn.number (course_given (pushed-by held.slots u.transaction.tsn.number) course);
       waiting_behind = set_waiting s [] shown.versions.waiting;

@@ -27,7 +27,7 @@ dead_at _ n = stage.Dead false recovery.Ending
 -- what is written at a stage is no transaction's
 abbrev pub has_none : MemberStage → Bool
 has_none stage.Outside = true
-has_none stage.Beginning = true
+has_none (stage.Beginning ceiling) = true
 has_none stage.Closing = true
 has_none stage.Reading = true
 has_none _ = false

@@ -1,4 +1,5 @@
 pub mod Memory
+pub mod Numbers
 pub mod Seats
 pub mod Standing
 pub mod Shown

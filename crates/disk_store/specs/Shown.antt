@@ -3,6 +3,9 @@ use Rattle.std.specs.Prelude.{ℕ, ◌+◌, ◌-◌, ◌≤◌, ◌≡◌, ◌�
 use Rattle.rdb_types.specs.declared.keys.Dbkey.{Dbkey}
 use Rattle.rdb_page.specs.Page.{IsOwner}
 use Rattle.rdb_outside.specs.Disk.{View, Pending}
+use Rattle.root_file.specs.declared.Root.{Root}
+use Rattle.root_file.specs.Root.{IsRoot}
+use Rattle.new_database.specs.Maker.{root_file}
 use Rattle.line_view.specs.Knowledge.{Lines, line_in}
 use Rattle.line_store.specs.Seats.{Seat, outside}
 use Rattle.line_store.specs.Shelves.{Space, Shelf}
@@ -32,6 +35,7 @@ use Rattle.disk_store.specs.declared.member.MemberStage.TheVariants as stage
 use Rattle.disk_store.specs.declared.held.Numbers.{Numbers}
 use Rattle.disk_store.specs.declared.held.Tables.{Tables}
 use Rattle.disk_store.specs.Memory.{StoreMemory}
+use Rattle.disk_store.specs.Numbers.{kept_in}
 use Rattle.disk_store.specs.Seats.{seat_with, stand_at, steps_at}
 use Rattle.disk_store.specs.Standing.{StageStands}
 
@@ -49,11 +53,17 @@ Sits v g s (Some m) seat = SitsAs v g s m seat
 
 -- ---- numbers
 
+-- Each root that a crash may leave has the ceiling, and the one that reads give has that which was written last, which isn't lower.
+pub record CeilingStands (v : View) (numbers : Numbers) : Type 0 where
+  pub pending : HasCeiling (Pending v) numbers.ceiling
+  pub written : (root : Root) → IsRoot (v.content root_file 0) root → numbers.written ≤ root.ceiling
+  pub order : numbers.ceiling ≤ numbers.written
+
 -- Numbers below the ceiling may be drawn, and the next group is written where the journal ends.
 pub record NumbersStand (v : View) (g : Ledger) (numbers : Numbers) (next : NextGroup) : Type 0 where
   pub number : g.base.next_tsn ≡ numbers.next
   pub first : 1 ≤ numbers.next
-  pub ceiling : HasCeiling (Pending v) numbers.ceiling
+  pub ceiling : CeilingStands v numbers
   pub group : IsNext g.base.journal next
 
 -- ---- pages
@@ -119,6 +129,8 @@ pub record Shown (v : View) (held : StoreMemory) (h : Shelf) : Type 0 where
   pub seats : (s : ℕ) → Sits v ledger s (slice_get held.members s) (h.seat s)
   pub steps : (s : ℕ) → h.steps s ≡ steps_at held.members s
   pub numbers : NumbersStand v ledger held.numbers held.next
+  -- numbers are free for those for whom they are kept
+  pub kept : held.numbers.next + kept_in held.members ≤ held.numbers.written
   pub tables : TablesStand v ledger held.tables
   pub versions : VersionsStand v ledger held h
   pub space : SpaceStands held h.space

@@ -64,6 +64,7 @@ pub record IsUndone (g : Ledger) (s : ℕ) (m : Member) (left : ℕ) : Type 0 wh
   pub stands : g.standing s ≡ undoing all left
   pub is_open : g.base.going s ≡ Some transaction
   pub number : m.tsn ≡ transaction.tsn
+  pub count : m.journalled ≡ length all
   pub keys : (i : ℕ) (undo : Undo) → slice_get all i ≡ Some undo → slice_get m.written.keys i ≡ Some undo.key
 
 abbrev pub RecoveryStands : Recovery → Ledger → ℕ → Member → Type 0
@@ -74,7 +75,7 @@ RecoveryStands recovery.Restoring g s m = IsUndone g s m 0
 
 abbrev pub StageStands : MemberStage → View → Ledger → ℕ → Member → Type 0
 StageStands stage.Outside v g s m = g.standing s ≡ resting
-StageStands stage.Beginning v g s m = g.standing s ≡ resting
+StageStands (stage.Beginning ceiling) v g s m = g.standing s ≡ resting
 StageStands stage.Writing v g s m = HasJournalled g s m
 StageStands stage.Changing v g s m = HasBegun g s m
 StageStands stage.Broken v g s m = MayEnd (g.standing s)

@@ -56,7 +56,7 @@ fn forgets(stage: MemberStage) -> bool
 {
     match stage {
         MemberStage::Outside => true,
-        MemberStage::Beginning => true,
+        MemberStage::Beginning(_) => true,
         MemberStage::Closing => true,
         MemberStage::Reading => true,
         _ => false,

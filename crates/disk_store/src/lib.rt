@@ -21,7 +21,7 @@ pub use endings::{bury, put_away};
 pub use held::{Held, Numbers, Tables};
 pub use laws::the_sight_is_right;
 pub use learning::learn_written;
-pub use member::{Member, MemberStage, Recovery};
+pub use member::{Ceiling, Member, MemberStage, Recovery};
 pub use moves::{begin, commit, give_back};
 pub use preparing::prepare;
 pub use restoring::restore;

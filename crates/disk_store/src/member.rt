@@ -17,11 +17,20 @@ pub enum Recovery {
     Restoring,
 }
 
+/// How far a beginning is.
+#[derive(Clone, Copy, Debug, PartialEq, Eq)]
+pub enum Ceiling {
+    /// It asks for a number below the ceiling.
+    Asking,
+    /// A root with a higher ceiling was written for it. A barrier makes that stable, and till then a number is kept free.
+    Raised,
+}
+
 /// Where a session's transaction is.
 #[derive(Clone, Copy, Debug, PartialEq, Eq)]
 pub enum MemberStage {
     Outside,
-    Beginning,
+    Beginning(Ceiling),
     Writing,
     /// Before-images of lines of the last statement are to be written, or lines to be pushed aside.
     Changing,
