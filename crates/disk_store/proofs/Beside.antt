@@ -6,7 +6,7 @@ use Rattle.member_steps.specs.declared.committing.CommitTurn.{CommitTurn}
 use Rattle.member_steps.specs.declared.committing.CommitTurn.TheVariants.{Entering, Securing, Going}
 use Rattle.line_moves.specs.Lines.{ChangedLines}
 use Rattle.member_steps.specs.Turns.{commit_of_plan}
-use Rattle.area_files.specs.Areas.{space_page_of}
+use Rattle.area_files.specs.Areas.{IsDataPage, space_page_of}
 use Rattle.space_pages.specs.Space.{owner_of}
 use Rattle.disk_seats.specs.Ledgers.{Standing, resting, changing, broken, committing, undoing, gained, Commit, Ledger}
 use Rattle.disk_seats.specs.Members.{MayEnd, AreOwned}
@@ -31,7 +31,7 @@ pub record StaysWith (t : ℕ) (g h : Ledger) : Type 0 where
 
 -- reads of space pages give what they gave
 abbrev pub SameSpaces : View → View → Type 0
-SameSpaces v w = (file page : ℕ) → w.content (area_file file) (space_page_of page - 1) ≡ v.content (area_file file) (space_page_of page - 1)
+SameSpaces v w = (file page : ℕ) → IsDataPage page → w.content (area_file file) (space_page_of page - 1) ≡ v.content (area_file file) (space_page_of page - 1)
 
 -- reads of area files give what they gave
 abbrev pub SameAreas : View → View → Type 0
@@ -70,7 +70,7 @@ module _ (v w : View) (g h : Ledger) (t : ℕ) (same : SameSpaces v w) (stays : 
   commit-of m at is = record { plan = is.plan; its = is.its; number = is.number; lines = is.lines; count = is.count; keys = is.keys; under_way = stays.commit (commit_of_plan is.plan at) is.its is.under_way }
 
   owned : (lines : ChangedLines) (n : ℕ) → AreOwned v.content lines n → AreOwned w.content lines n
-  owned lines n are i line place below at of = ap (λ bytes. owner_of place.page bytes) (same place.file place.page) ∙ are i line place below at of
+  owned lines n are i line place below at of = ap (λ bytes. owner_of place.page bytes) (same place.file place.page of.is_data) ∙ are i line place below at of
 
   entered : (m : Member) (n : ℕ) → HasEntered v g t m n → HasEntered w h t m n
   entered m n has = record { journalled = journalled m has.journalled; owned = owned m.written.lines n has.owned }
@@ -106,4 +106,4 @@ module _ (v w : View) (g h : Ledger) (t : ℕ) (same : SameSpaces v w) (stays : 
   stays-with m is = stage-stays m.stage m is
 
 pub stays-there : (v w : View) (g h : Ledger) (t : ℕ) → SameAreas v w → StaysOf t g h → (m : Member) → StageStands m.stage v g t m → StageStands m.stage w h t m
-stays-there v w g h t same stays = stays-with v w g h t (λ file page. same file (space_page_of page - 1)) (record { standing = stays.standing; going = stays.going; commit = λ c own is. stays.commit ∙ is })
+stays-there v w g h t same stays = stays-with v w g h t (λ file page is. same file (space_page_of page - 1)) (record { standing = stays.standing; going = stays.going; commit = λ c own is. stays.commit ∙ is })

@@ -136,7 +136,7 @@ module _ (v : View) (held : StoreMemory) (s : ℕ) (m : Member) (was : slice_get
           facts = given_facts v g c shown.facts is.under_way grounded;
           limits = refl;
           none = λ t apart rests. beside-it t apart ∙ rests;
-          others = λ t x apart stood. stays-with v v g after t (λ file slot. refl) (stays t apart) x stood;
+          others = λ t x apart stood. stays-with v v g after t (λ file page is. refl) (stays t apart) x stood;
           mine = record { transaction = c.transaction; all = is.plan.all; stands = own; is_open = ap (λ k. g.base.going k) (sym is.its) ∙ old.is.is_open; number = sym is.number; count = is.count; keys = is.keys };
           numbered = record { number = shown.numbers.number; first = shown.numbers.first; ceiling = shown.numbers.ceiling; group = shown.numbers.group };
           kept = kept-stays held.members s held.numbers.next held.numbers.written m n was (omega arith) shown.kept;
