@@ -67,7 +67,7 @@ module _ (v w : View) (g h : Ledger) (t : ℕ) (same : SameSpaces v w) (stays : 
   journalled m has = record { begun = begun m has.begun; all_written = has.all_written }
 
   commit-of : (m : Member) (at : _) → IsCommitOf g t m at → IsCommitOf h t m at
-  commit-of m at is = record { plan = is.plan; its = is.its; number = is.number; lines = is.lines; count = is.count; keys = is.keys; under_way = stays.commit (commit_of_plan is.plan at) is.its is.under_way }
+  commit-of m at is = record { plan = is.plan; its = is.its; number = is.number; lines = is.lines; long = is.long; count = is.count; keys = is.keys; under_way = stays.commit (commit_of_plan is.plan at) is.its is.under_way }
 
   owned : (lines : ChangedLines) (n : ℕ) → AreOwned v.content lines n → AreOwned w.content lines n
   owned lines n are i line place below at of = ap (λ bytes. owner_of place.page bytes) (same place.file place.page of.is_data) ∙ are i line place below at of

@@ -16,7 +16,11 @@ pub mod Agreeing
 pub mod Deaths
 pub mod Restored
 pub mod Journalled
-mod Kept
+pub mod Kept
 pub mod Reading
 mod Tabled
 mod Taking
+pub mod PutBack
+pub mod Raising
+mod Few
+pub mod Judged

@@ -77,7 +77,8 @@ pub reads-ceiling : (v w : View) → IsTrue v.tells → OnlyReads v w → (numbe
 reads-ceiling v w t only numbers was = record {
   pending = λ content root p is. was.pending content root ((only.keeps t).pending root_file 0 content p) is;
   written = λ root is. was.written root (subst (λ (bytes : List ℕ). IsRoot bytes root) ((only.keeps t).content root_file 0) is);
-  order = was.order;
+  below = was.below;
+  raised = was.raised;
 }
 
 -- another file than the root is written
@@ -85,7 +86,16 @@ pub aside-ceiling : (v w : View) → IsTrue v.tells → (file : FileId) (slot : 
 aside-ceiling v w t file slot other only numbers was = record {
   pending = stays_written v w numbers.ceiling file slot t other only was.pending;
   written = λ root is. was.written root (subst (λ (bytes : List ℕ). IsRoot bytes root) (only.content t root_file 0 (λ same at. other (ap (λ (f : FileId). f.kind) (sym same)))) is);
-  order = was.order;
+  below = was.below;
+  raised = was.raised;
+}
+
+-- the slots of the snapshot files stay
+pub slots-stay : (v w : View) → ((file slot : ℕ) → w.content (snap_file file) slot ≡ v.content (snap_file file) slot) → (followed : Followed) (limit : ℕ) (slots : SnapshotSlots) → HoldsAll v.content followed limit slots → HoldsAll w.content followed limit slots
+slots-stay v w snaps followed limit slots was file is = record {
+  long = (was file is).long;
+  used = (was file is).used;
+  pusher = λ chain entry follows stands. (was file is).pusher chain entry follows (record { number = stands.number; is = subst (λ bytes. IsEntry bytes entry) (snaps file (chain - 1)) stands.is });
 }
 
 module _ (v w : View) (passes : Passes v w) where
@@ -99,11 +109,7 @@ module _ (v w : View) (passes : Passes v w) where
   }
 
   pub slots-pass : (followed : Followed) (limit : ℕ) (slots : SnapshotSlots) → HoldsAll v.content followed limit slots → HoldsAll w.content followed limit slots
-  slots-pass followed limit slots was file is = record {
-    long = (was file is).long;
-    used = (was file is).used;
-    pusher = λ chain entry follows stands. (was file is).pusher chain entry follows (record { number = stands.number; is = subst (λ bytes. IsEntry bytes entry) (passes.snaps file (chain - 1)) stands.is });
-  }
+  slots-pass followed limit slots was = slots-stay v w passes.snaps followed limit slots was
 
   -- the ledger and the course stay, and the session comes to another member
   abbrev pub same-ledger : (held : StoreMemory) (s : ℕ) (n : Member) (h : Shelf) (shown : Shown v held h) → CeilingStands w held.numbers → held.numbers.next + kept_in (slice_set held.members s n) ≤ held.numbers.written → LedgerFacts w shown.ledger

@@ -55,6 +55,11 @@ turns_left n (Going Sealing) = 3
 turns_left n (Going Landing) = 2
 turns_left n (Going Committed) = 1
 
+-- the before-images that are to be put back
+abbrev pub left_in : MemberStage → ℕ
+left_in (stage.Dead commits (recovery.Undoing left)) = left
+left_in _ = 0
+
 -- a commit that is lost is undone: then all its before-images are left
 abbrev pub recovery_left : Recovery → Member → ℕ
 recovery_left recovery.Ending m = 1

@@ -53,11 +53,12 @@ Sits v g s (Some m) seat = SitsAs v g s m seat
 
 -- ---- numbers
 
--- Each root that a crash may leave has the ceiling, and the one that reads give has that which was written last, which isn't lower.
+-- Each root that a crash may leave has the ceiling, and the one that reads give that which was written last: the same, or one that was raised by 64 and isn't stable yet.
 pub record CeilingStands (v : View) (numbers : Numbers) : Type 0 where
   pub pending : HasCeiling (Pending v) numbers.ceiling
   pub written : (root : Root) → IsRoot (v.content root_file 0) root → numbers.written ≤ root.ceiling
-  pub order : numbers.ceiling ≤ numbers.written
+  pub below : numbers.next ≤ numbers.ceiling
+  pub raised : (numbers.written ≡ numbers.ceiling) ⊎ (numbers.ceiling + 64 ≤ numbers.written)
 
 -- Numbers below the ceiling may be drawn, and the next group is written where the journal ends.
 pub record NumbersStand (v : View) (g : Ledger) (numbers : Numbers) (next : NextGroup) : Type 0 where

@@ -37,6 +37,7 @@ pub record IsCommitOf (g : Ledger) (s : ℕ) (m : Member) (at : CommitStage) : T
   pub its : plan.member ≡ s
   pub number : plan.transaction.tsn ≡ m.tsn
   pub lines : plan.lines ≡ m.written.lines
+  pub long : length plan.classes ≡ length plan.lines
   pub count : m.journalled ≡ length plan.all
   pub keys : (i : ℕ) (undo : Undo) → slice_get plan.all i ≡ Some undo → slice_get m.written.keys i ≡ Some undo.key
   pub under_way : g.commit ≡ Some (commit_of_plan plan at)
