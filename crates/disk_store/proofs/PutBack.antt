@@ -2,6 +2,7 @@
 use Rattle.std.proofs.Common.{◌≡◌, ◌≢◌, ◌≤◌, ◌<◌, ◌==◌, ◌+◌, ◌-◌, ◌⊎◌, ⊎_elim, ℕ, zero, suc, Bool, false, IsTrue, List, [], Some, inl, inr, refl, sym, ap, subst, ◌∙◌, arith}
 use Rattle.std.specs.Prelude.{slice_get, if◌then◌else◌}
 use Rattle.rdb_outside.specs.Disk.{View, Pending}
+use Rattle.rdb_outside.specs.Causes.{Rose}
 use Rattle.area_files.specs.Areas.{IsDataPage, space_page_of}
 use Rattle.stable_lines.specs.Slots.{area_file, IsAreaFile}
 use Rattle.line_versions.specs.Course.{Course}
@@ -12,9 +13,10 @@ use Rattle.line_moves.specs.Classes.{HaveTheirClasses, KeepsOwners}
 use Rattle.line_moves.proofs.PageWrite.{space_apart}
 use Rattle.line_moves.proofs.Putting.{nat_cases}
 use Rattle.line_opening.specs.Undoing.{PutsBack}
-use Rattle.line_store.specs.Seats.{dead}
 use Rattle.line_store.specs.Shelves.{Shelf}
-use Rattle.line_store.specs.Calls.{Moves}
+use Rattle.line_store.specs.Calls.{Moves, GoesOn, HasCause}
+use Rattle.line_store.specs.declared.answers.Fault.{Fault}
+use Rattle.line_store.specs.declared.answers.Fault.TheVariants.{Failed, Bad}
 use Rattle.line_store.specs.Sights.{bare, Does}
 use Rattle.disk_seats.specs.Ledgers.{undoing, set_standing, stands_as, Ledger}
 use Rattle.disk_seats.specs.Members.{LedgerFacts}
@@ -36,7 +38,7 @@ use Rattle.disk_store.proofs.Moving.{itself}
 use Rattle.disk_store.proofs.Kept.{kept-stays}
 use Rattle.disk_store.proofs.Beside.{SameSpaces, StaysWith, stays-with}
 use Rattle.disk_store.proofs.Stepping.{ComesTo, does-apart, becomes-member, space-same}
-use Rattle.disk_store.proofs.Passing.{passes-aside, aside-ceiling, slots-stay}
+use Rattle.disk_store.proofs.Passing.{passes-none, none-leaves, same-ledger, aside-ceiling, slots-stay}
 
 -- a recovery with so many before-images left
 pub undone-with : (g : Ledger) (s : ℕ) (m : Member) (rest : ℕ) → IsUndone g s m rest → RecoveryStands (undoing_with rest) g s m
@@ -148,3 +150,41 @@ module _ (v w : View) (held : StoreMemory) (s : ℕ) (m : Member) (commits : Boo
       (λ h g start related moves. as-asked h g
       (subst (λ x. Moves s x h g) (ap (λ x. seat_with x (writes_in m.written.lines) start) (sym at) ∙ sym related.seat) moves)
       (related.steps ∙ ap (λ x. steps_in x m) at) related.steps_behind related.shown.lines.faults related.faults_behind))
+
+-- ---- none is left
+
+module _ (v : View) (held : StoreMemory) (s : ℕ) (m : Member) (commits : Bool) (left : ℕ) (was : slice_get held.members s ≡ Some m) (at : m.stage ≡ stage.Dead commits (recovery.Undoing left)) (none-left : left ≡ 0) where
+  abbrev restoring : Member
+  restoring = at_stage (stage.Dead commits recovery.Restoring) m
+
+  undone-there : (g : Ledger) → StageStands m.stage v g s m → IsUndone g s m 0
+  undone-there g stands = subst (λ (k : ℕ). IsUndone g s m k) none-left (subst (λ x. StageStands x v g s m) at stands)
+
+  restores : (g : Ledger) → IsUndone g s m 0 → IsUndone g s restoring 0
+  restores g u = record { transaction = u.transaction; all = u.all; stands = u.stands; is_open = u.is_open; number = u.number; count = u.count; keys = u.keys }
+
+  fewer : (a b : ℕ) → a ≡ left + 3 → b ≡ 2 → b < a
+  fewer a b three two = omega (arith, three, two)
+
+  pub does-none-left : Does s (stand_at held.members s) (λ h g. GoesOn s h g) (sight_of v held) (sight_of v (with_member s restoring held))
+  does-none-left = subst (λ x. Does s (stand_of x) (λ h g. GoesOn s h g) (sight_of v held) (sight_of v (with_member s restoring held))) (sym was)
+      (does-apart v v held (record (with_member s restoring held) { numbers = held.numbers }) s m restoring was (becomes-member held held.numbers s restoring) (λ e. cc) refl (none-leaves v)
+      (λ h shown stands. same-ledger v v (passes-none v) held s restoring h shown shown.numbers.ceiling (kept-stays held.members s held.numbers.next held.numbers.written m restoring was (omega arith) shown.kept) shown.facts (restores shown.ledger (undone-there shown.ledger stands)) tt)
+      (omega arith) (omega arith) (stand_of (Some m)) (λ h g. GoesOn s h g) (ap (λ x. bare (seat_with x [] [])) (sym at))
+      (λ h shown stands c is. let u = undone-there shown.ledger stands in not_undoing v shown.ledger s shown.facts u.all 0 u.stands c is) (λ h shown stands. record { lines = refl; commit = refl }) space-same
+      (λ h g start related moves. record {
+        moves = subst (λ x. Moves s x h g) (ap (λ x. seat_with x (writes_in m.written.lines) start) (sym at) ∙ sym related.seat) moves;
+        less = fewer (h.steps s) (g.steps s) (related.steps ∙ ap (λ x. steps_in x m) at) related.steps_behind;
+      }))
+
+-- ---- what is left falls
+
+pub fewer-left : (rest left : ℕ) (m : Member) → rest < left → recovery_left (undoing_with rest) m < left + 3
+fewer-left zero left m less = omega (arith, less)
+fewer-left (suc rest) left m less = omega (arith, less)
+
+-- ---- why a call failed
+
+pub cause-of : (v w : View) (fault : Fault) (h g : Shelf) → (fault ≡ Failed → Rose v.faults w.faults) → h.clock.faults ≡ v.faults → g.clock.faults ≡ w.faults → HasCause fault h.clock g.clock
+cause-of v w Failed h g rose before behind = subst (λ (k : ℕ). Rose k g.clock.faults) (sym before) (subst (λ (k : ℕ). Rose v.faults k) (sym behind) (rose refl))
+cause-of v w (Bad file slot) h g rose before behind = tt

@@ -1,0 +1,35 @@
+use Rattle.std.proofs.Common.{◌≡◌, sym, subst, ap, ◌∙◌, refl}
+use Rattle.line_store.specs.Calls.{IsDone, Fails}
+use Rattle.line_store.specs.declared.answers.Fault.TheVariants.{Bad}
+use Rattle.line_store.specs.Seats.{done_at}
+use Rattle.line_store.specs.Sights.{Does, seat_or}
+use Rattle.disk_store.specs.declared.member.Ceiling.TheVariants.{Raised}
+use Rattle.disk_store.specs.declared.member.Member.{Member}
+use Rattle.disk_store.specs.Memory.{StoreMemory, with_number}
+use Rattle.disk_store.specs.Numbers.{with_settled}
+use Rattle.disk_store.specs.Seats.{stand_at}
+use Rattle.disk_store.specs.Shown.{sight_of}
+use Rattle.disk_store.proofs.Closing.{one-member}
+use Rattle.disk_store.proofs.Failing.{does-fail}
+use Rattle.disk_store.proofs.Restored.{keeps-read}
+use Rattle.disk_store.proofs.Drawing.{does-draw}
+use Rattle.disk_store.proofs.Raising.{leads-read, may-draw-kept, number-is-kept, does-none}
+use Rattle.disk_store.proofs.beginning.draw.Goals as goal
+
+pub returns-in_default-clause-comes : goal.returns-in_default-clause-comes
+returns-in_default-clause-comes g c =
+    let v = g.D.Disk.view c.args.disk.now in
+    let w = g.D.Disk.view c.settle.new.disk in
+    let at = c.requires.begins in
+    does-fail v w c.args.held.now c.args.s.number at.member at.is (λ reads. cc) (keeps-read v w c.args.held.now c.args.s.number at.member c.settle.ensures.reads c.settle.ensures.keeps) (c.in_default.ensures.counts.cause refl)
+
+pub returns-clause-comes : goal.returns-clause-comes
+returns-clause-comes g c =
+    let v = g.D.Disk.view c.args.disk.now in
+    let w = g.D.Disk.view c.settle.new.disk in
+    let s = c.args.s.number in
+    let held = c.args.held.now in
+    let at = c.requires.begins in
+    let settled : c.settle_ceiling.new.self ≡ with_settled held = c.settle_ceiling.ensures in
+    let comes = subst (λ (x : StoreMemory). (m : Member) × _) settled c.draw_number.ensures in
+    ?
