@@ -1,4 +1,6 @@
 use Rattle.std.proofs.Common.{◌≡◌, sym, subst, ap, ◌∙◌, refl}
+use Rattle.std.specs.Prelude.{slice_get}
+use Rattle.new_database.specs.Maker.{root_file}
 use Rattle.line_store.specs.Calls.{IsDone, Fails}
 use Rattle.line_store.specs.declared.answers.Fault.TheVariants.{Bad}
 use Rattle.line_store.specs.Seats.{done_at}
@@ -31,5 +33,21 @@ returns-clause-comes g c =
     let held = c.args.held.now in
     let at = c.requires.begins in
     let settled : c.settle_ceiling.new.self ≡ with_settled held = c.settle_ceiling.ensures in
-    let comes = subst (λ (x : StoreMemory). (m : Member) × _) settled c.draw_number.ensures in
-    ?
+    let comes = c.draw_number.ensures in
+    let there = ap (λ (x : StoreMemory). slice_get x.members s) (sym settled) ∙ comes.1 in
+    let same : comes.0 ≡ at.member = one-member held.members s comes.0 at.member there at.is in
+    subst (λ new. Does s (seat_or (stand_at held.members s) (done_at (stand_at held.members s))) (λ h k. IsDone s h k) (sight_of v held) (sight_of w new))
+    (sym (comes.2 ∙ ap (λ (x : StoreMemory). with_number s comes.0 x) settled ∙ ap (λ (x : Member). with_number s x (with_settled held)) same))
+    (does-draw v w held s held.numbers.written at.member Raised at.is c.requires.member at.at (leads-read v w held c.settle.ensures.reads c.settle.ensures.keeps) (may-draw-kept v w held s at.member at.is at.at c.settle.ensures.reads c.in-Ok.ensures.stable))
+
+pub returns-then-next-ceiling-clause-comes : goal.returns-then-next-ceiling-clause-comes
+returns-then-next-ceiling-clause-comes g c =
+    let v = g.D.Disk.view c.args.disk.now in
+    let w = g.D.Disk.view c.settle.new.disk in
+    let s = c.args.s.number in
+    let held = c.args.held.now in
+    let at = c.requires.begins in
+    let settled : c.settle_ceiling.new.self ≡ with_settled held = c.settle_ceiling.ensures in
+    let R = λ h k. Fails s (Bad root_file 0) h k in
+    subst (λ new. Does s (stand_at held.members s) R (sight_of v held) (sight_of w new)) (sym settled)
+    (does-none v w held s at.member at.is at.at (?) R)

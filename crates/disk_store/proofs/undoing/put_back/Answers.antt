@@ -1,7 +1,5 @@
-use Rattle.std.proofs.Common.{◌≡◌, ◌<◌, ◌+◌, ℕ, Some, length, refl, sym, subst, ap, ◌∙◌, arith}
-use Rattle.rdb_types.specs.declared.keys.Tsn.{Tsn}
+use Rattle.std.proofs.Common.{◌≡◌, ◌+◌, ℕ, Err, sym, subst, ap, ◌∙◌, arith}
 use Rattle.rdb_types.specs.declared.keys.Limits.{Limits}
-use Rattle.stable_lines.specs.Progress.{Open}
 use Rattle.line_store.specs.Calls.{GoesOn, Fails}
 use Rattle.line_store.specs.Sights.{Does}
 use Rattle.disk_seats.specs.Ledgers.{undoing, stands_as}
@@ -99,4 +97,4 @@ returns-in-Err-clause-comes g c =
       facts = subst (λ (k : ℕ). LedgerFacts w (stands_as s (undoing u.all k) ledger)) (sym u.count) (c.undo.ensures.keeps t ledger u.transaction u.all facts u.stands u.is_open tsn pages);
     })
     c.undo.ensures.classes c.undo.ensures.owners (λ h k. Fails s c.in-Err.fault h k)
-    (λ h k moves before behind faults faults-behind. record { moves = moves; cause = cause-of v w c.in-Err.fault h k c.in-Err.ensures.failed faults faults-behind }))
+    (λ h k moves before behind faults faults-behind. record { moves = moves; cause = cause-of v w c.in-Err.fault h k (λ is. c.in-Err.ensures.failed (ap Err is)) faults faults-behind }))
