@@ -140,7 +140,7 @@ module _ (v w : View) (held : StoreMemory) (s ceiling : ℕ) (m : Member) (asked
       reads = λ t. refl;
     }
 
-  becomes : Becomes held behind s n
+  abbrev becomes : Becomes held behind s n
   becomes = record {
     limits = refl;
     members = refl;

@@ -44,7 +44,7 @@ module _ (v w : View) (held : StoreMemory) (s : ℕ) (m : Member) (commits : Boo
     abbrev g : Ledger
     g = shown.ledger
 
-    j : IsJudged g s m
+    abbrev j : IsJudged g s m
     j = judged-at g stands
 
     abbrev c : Commit
@@ -60,7 +60,7 @@ module _ (v w : View) (held : StoreMemory) (s : ℕ) (m : Member) (commits : Boo
     p = passes-reads v w shown.tells only
 
     -- where its commit slot is, by memory
-    pub as-held : IsItsCommit (flying c.flight g.base) c.flight held.next.slot held.next.number m.tsn (length m.written.lines)
+    as-held : IsItsCommit (flying c.flight g.base) c.flight held.next.slot held.next.number m.tsn (length m.written.lines)
     as-held =
         let it = commit_of_it g.base c.member c.transaction c.place c.lines c.classes c.flight j.commit.long its.is in
         record {

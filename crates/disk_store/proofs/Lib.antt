@@ -22,5 +22,5 @@ mod Tabled
 mod Taking
 pub mod PutBack
 pub mod Raising
-mod Few
+mod FewSteps
 pub mod Judged

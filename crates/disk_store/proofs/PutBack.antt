@@ -1,11 +1,13 @@
 -- Before-images of a session that died, put back.
 use Rattle.std.proofs.Common.{◌≡◌, ◌≢◌, ◌≤◌, ◌<◌, ◌==◌, ◌+◌, ◌-◌, ◌⊎◌, ⊎_elim, ℕ, zero, suc, Bool, false, IsTrue, List, [], Some, inl, inr, refl, sym, ap, subst, ◌∙◌, arith}
 use Rattle.std.specs.Prelude.{slice_get, if◌then◌else◌}
+use Rattle.rdb_types.specs.declared.file.FileId.{FileId}
+use Rattle.rdb_types.specs.declared.file.FileKind.TheVariants.{Area, Snap}
 use Rattle.rdb_outside.specs.Disk.{View, Pending}
 use Rattle.rdb_outside.specs.Causes.{Rose}
 use Rattle.area_files.specs.Areas.{IsDataPage, space_page_of}
 use Rattle.stable_lines.specs.Slots.{area_file, IsAreaFile}
-use Rattle.line_versions.specs.Course.{Course}
+use Rattle.line_versions.specs.Files.{snap_file}
 use Rattle.line_moves.specs.declared.places.Place.{Place}
 use Rattle.line_moves.specs.Calls.{OnlyWrites}
 use Rattle.line_moves.specs.Changes.{IsForArea}
@@ -61,6 +63,9 @@ module _ (v w : View) (held : StoreMemory) (s : ℕ) (m : Member) (commits : Boo
 
   undone-at : (g : Ledger) → StageStands m.stage v g s m → IsUndone g s m left
   undone-at g stands = subst (λ x. StageStands x v g s m) at stands
+
+  not-area : (f : ℕ) → snap_file f ≡ area_file file → ⊥
+  not-area f same = let bad : Snap ≡ Area = ap (λ (x : FileId). x.kind) same in cc
 
   back : (k : ℕ) → k ≡ k + 1 - 1
   back k = omega arith
@@ -133,7 +138,7 @@ module _ (v w : View) (held : StoreMemory) (s : ℕ) (m : Member) (commits : Boo
       course_behind = shown.versions.course;
       waiting_behind = shown.versions.waiting;
       readers = readers-put;
-      slots = slots-stay v w (λ f i. only.content shown.tells _ i (λ same here. cc)) shown.versions.course.followed held.limits.snaps held.slots shown.versions.slots;
+      slots = slots-stay v w (λ f i. only.content shown.tells (snap_file f) i (λ same here. not-area f same)) shown.versions.course.followed held.limits.snaps held.slots shown.versions.slots;
       waits = tt;
       waits_beside = λ t apart. refl;
       reads = λ t. refl;

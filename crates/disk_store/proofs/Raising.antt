@@ -152,7 +152,7 @@ module _ (v w : View) (held : StoreMemory) (s ceiling : ℕ) (m : Member) (was :
       reads = λ t. refl;
     }
 
-  becomes : Becomes held behind s n
+  abbrev becomes : Becomes held behind s n
   becomes = record {
     limits = refl;
     members = refl;

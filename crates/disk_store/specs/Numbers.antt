@@ -23,7 +23,7 @@ kept_in members = sum_by kept_by members
 
 -- Limits and numbers are such as a root may have, whatever the disk tells.
 pub record AreAllowed (limits : Limits) (numbers : Numbers) : Type 0 where
-  pub limits : AreLimits limits
+  pub limited : AreLimits limits
   pub applied : numbers.applied ≤ 2 ^ 62
   pub written : numbers.written ≤ 2 ^ 62
 

@@ -1,12 +1,12 @@
-use Rattle.std.proofs.Common.{◌≡◌, sym, subst, ap, ◌∙◌, refl}
+use Rattle.std.proofs.Common.{◌≡◌, ◌≤◌, sym, subst, ap, ◌∙◌, refl, arith}
 use Rattle.std.specs.Prelude.{slice_get}
-use Rattle.new_database.specs.Maker.{root_file}
 use Rattle.line_store.specs.Calls.{IsDone, Fails}
 use Rattle.line_store.specs.declared.answers.Fault.TheVariants.{Bad}
 use Rattle.line_store.specs.Seats.{done_at}
 use Rattle.line_store.specs.Sights.{Does, seat_or}
 use Rattle.disk_store.specs.declared.member.Ceiling.TheVariants.{Raised}
 use Rattle.disk_store.specs.declared.member.Member.{Member}
+use Rattle.disk_store.specs.declared.held.Numbers.{Numbers}
 use Rattle.disk_store.specs.Memory.{StoreMemory, with_number}
 use Rattle.disk_store.specs.Numbers.{with_settled}
 use Rattle.disk_store.specs.Seats.{stand_at}
@@ -40,14 +40,22 @@ returns-clause-comes g c =
     (sym (comes.2 ∙ ap (λ (x : StoreMemory). with_number s comes.0 x) settled ∙ ap (λ (x : Member). with_number s x (with_settled held)) same))
     (does-draw v w held s held.numbers.written at.member Raised at.is c.requires.member at.at (leads-read v w held c.settle.ensures.reads c.settle.ensures.keeps) (may-draw-kept v w held s at.member at.is at.at c.settle.ensures.reads c.in-Ok.ensures.stable))
 
-pub returns-then-next-ceiling-clause-comes : goal.returns-then-next-ceiling-clause-comes
-returns-then-next-ceiling-clause-comes g c =
+-- the number that is there, by memory behind the barrier
+none-below : (held behind : StoreMemory) (inside : Numbers) → inside ≡ behind.numbers → behind ≡ with_settled held → inside.ceiling ≤ inside.next → held.numbers.written ≤ held.numbers.next
+none-below held behind inside same settled none = subst (λ (n : Numbers). n.ceiling ≤ n.next) (same ∙ ap (λ (x : StoreMemory). x.numbers) settled) none
+
+pub returns-then-held-clause-comes : goal.returns-then-held-clause-comes
+returns-then-held-clause-comes g c =
     let v = g.D.Disk.view c.args.disk.now in
     let w = g.D.Disk.view c.settle.new.disk in
     let s = c.args.s.number in
     let held = c.args.held.now in
     let at = c.requires.begins in
     let settled : c.settle_ceiling.new.self ≡ with_settled held = c.settle_ceiling.ensures in
-    let R = λ h k. Fails s (Bad root_file 0) h k in
+    let none : held.numbers.written ≤ held.numbers.next = ? in
+    let R = λ h k. Fails s (Bad c.root_file.result 0) h k in
     subst (λ new. Does s (stand_at held.members s) R (sight_of v held) (sight_of w new)) (sym settled)
-    (does-none v w held s at.member at.is at.at (?) R)
+    (does-none v w held s at.member at.is at.at none R)
+
+pub returns-then-held-clause-kept : goal.returns-then-held-clause-kept
+returns-then-held-clause-kept g c file slot is h shown = ?

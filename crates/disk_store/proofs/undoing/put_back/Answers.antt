@@ -59,7 +59,7 @@ returns-in-Ok-clause-comes g c =
     let pages = ap (λ (x : StoreMemory). x.limits.pages) c.held.view_is ∙ ap (λ (l : Limits). l.pages) (sym limits) in
     record { lines = c.undo.ensures.restores t ledger u.transaction u.all facts u.stands u.is_open tsn pages; facts = c.in-Ok.ensures.undone t ledger u.transaction u.all facts u.stands u.is_open tsn pages })
     c.undo.ensures.classes c.undo.ensures.owners (λ h k. GoesOn s h k)
-    (λ h k moves before behind faults faults-behind. record { moves = moves; less = let fewer = fewer-left c.in-Ok.rest c.args.left at.member c.in-Ok.ensures.fewer in omega (arith, before, behind, fewer) }))
+    (λ h k moves before behind faults faults-behind. record { moves = moves; less = let fewer = fewer-left c.in-Ok.rest c.args.left (at_stage (stage.Dead c.args.commits (undoing_with c.in-Ok.rest)) at.member) c.in-Ok.ensures.fewer in omega (arith, before, behind, fewer) }))
 
 pub returns-in-Ok-clause-less : goal.returns-in-Ok-clause-less
 returns-in-Ok-clause-less g c more =
@@ -68,10 +68,10 @@ returns-in-Ok-clause-less g c more =
     let at = c.requires.died in
     let comes = c.set_stage-in-Ok.ensures.comes in
     let next = at_stage (stage.Dead c.args.commits c.undoing-recovery.result) comes.0 in
-    let behind : steps_at c.set_stage-in-Ok.new.self.members s ≡ recovery_left (undoing_with c.in-Ok.rest) comes.0 =
-        ap (λ (x : StoreMemory). steps_at x.members s) comes.2 ∙ ap steps_of (set-here held.members s next c.set_stage-in-Ok.ensures.within) ∙ ap (λ (r : Recovery). recovery_left r comes.0) c.undoing-recovery.ensures in
+    let behind : steps_at c.set_stage-in-Ok.new.self.members s ≡ recovery_left (undoing_with c.in-Ok.rest) next =
+        ap (λ (x : StoreMemory). steps_at x.members s) comes.2 ∙ ap steps_of (set-here held.members s next c.set_stage-in-Ok.ensures.within) ∙ ap (λ (r : Recovery). recovery_left r next) c.undoing-recovery.ensures in
     let before : steps_at held.members s ≡ c.args.left + 3 = ap steps_of at.is ∙ ap (λ x. steps_in x at.member) at.at in
-    let fewer = fewer-left c.in-Ok.rest c.args.left comes.0 c.in-Ok.ensures.fewer in
+    let fewer = fewer-left c.in-Ok.rest c.args.left next c.in-Ok.ensures.fewer in
     omega (arith, behind, before, fewer)
 
 pub returns-in-Err-clause-comes : goal.returns-in-Err-clause-comes
