@@ -1,6 +1,5 @@
 -- The steps that are left at a stage are few.
-use Rattle.std.proofs.Common.{◌<◌, ◌+◌, ◌^◌, ℕ, length, arith}
-use Rattle.line_seat.specs.declared.commit.CommitStage.{CommitStage}
+use Rattle.std.proofs.Common.{◌<◌, ◌^◌, ℕ, length, arith}
 use Rattle.line_seat.specs.declared.commit.CommitStage.TheVariants.{Changing as PagesChanging, Imaging, Gathering, Sealing, Landing, Committed}
 use Rattle.member_steps.specs.declared.committing.CommitTurn.{CommitTurn}
 use Rattle.member_steps.specs.declared.committing.CommitTurn.TheVariants.{Entering, Securing, Going}

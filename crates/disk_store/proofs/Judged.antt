@@ -1,12 +1,10 @@
 -- Behind a barrier the commit of a session that died is judged.
-use Rattle.std.proofs.Common.{◌≡◌, ◌≢◌, ◌≤◌, ◌<◌, ◌==◌, ◌+◌, ℕ, Bool, true, false, IsTrue, List, [], length, Option, Some, None, inl, refl, sym, ap, subst, ◌∙◌, arith}
+use Rattle.std.proofs.Common.{◌≡◌, ◌≢◌, ◌<◌, ◌==◌, ◌+◌, ℕ, Bool, false, IsTrue, [], length, Some, inl, refl, sym, ap, subst, ◌∙◌, arith}
 use Rattle.std.specs.Prelude.{slice_get, if◌then◌else◌}
 use Rattle.std.proofs.lemmas.Bool.{eqb-false}
-use Rattle.rdb_types.specs.declared.keys.Tsn.{Tsn}
 use Rattle.rdb_outside.specs.Disk.{View, OnlyReads, IsStable}
 use Rattle.journal_scan.specs.Standing.{what_stands}
 use Rattle.new_database.specs.Maker.{aij_file}
-use Rattle.line_view.specs.declared.writes.Write.{Write}
 use Rattle.line_store.specs.Shelves.{Shelf}
 use Rattle.line_store.specs.Calls.{Moves, GoesOn}
 use Rattle.line_store.specs.Sights.{bare, Does}
@@ -14,10 +12,9 @@ use Rattle.stable_lines.specs.Journal.{commit_of}
 use Rattle.stable_lines.specs.Progress.{Flight, Progress, flying}
 use Rattle.line_moves.specs.Changes.{IsCommitOf as IsItsCommit}
 use Rattle.line_moves.specs.Lines.{ChangedLines}
-use Rattle.line_seat.specs.declared.commit.CommitStage.{CommitStage}
 use Rattle.line_seat.proofs.CommitSteps.{commit_of_it}
 use Rattle.member_steps.specs.Turns.{commit_of_plan}
-use Rattle.disk_seats.specs.Ledgers.{undoing, Commit, Ledger, flies, given_up}
+use Rattle.disk_seats.specs.Ledgers.{undoing, Commit, Ledger, given_up}
 use Rattle.disk_seats.specs.Members.{CommitStands, LedgerFacts}
 use Rattle.disk_seats.proofs.GivenUp.{lost_facts}
 use Rattle.ledger_versions.proofs.Restanding.{restands, keeps_others, some_commit, no_commit}
@@ -27,7 +24,7 @@ use Rattle.disk_store.specs.declared.member.MemberStage.TheVariants as stage
 use Rattle.disk_store.specs.declared.member.Recovery.TheVariants as recovery
 use Rattle.disk_store.specs.Memory.{StoreMemory, with_member, at_stage}
 use Rattle.disk_store.specs.Seats.{seat_with, stand_of, stand_at, steps_in}
-use Rattle.disk_store.specs.Standing.{IsCommitOf, IsJudged, StageStands}
+use Rattle.disk_store.specs.Standing.{IsJudged, StageStands}
 use Rattle.disk_store.specs.Shown.{Shown, sight_of}
 use Rattle.disk_store.proofs.Moving.{itself}
 use Rattle.disk_store.proofs.Kept.{kept-stays}

@@ -1,5 +1,5 @@
 -- Before-images of a session that died, put back.
-use Rattle.std.proofs.Common.{◌≡◌, ◌≢◌, ◌≤◌, ◌<◌, ◌==◌, ◌+◌, ◌-◌, ◌⊎◌, ⊎_elim, ℕ, zero, suc, Bool, false, IsTrue, List, [], Some, inl, inr, refl, sym, ap, subst, ◌∙◌, arith}
+use Rattle.std.proofs.Common.{◌≡◌, ◌≤◌, ◌<◌, ◌==◌, ◌+◌, ◌-◌, ⊎_elim, ℕ, zero, suc, Bool, false, IsTrue, [], Some, inl, refl, sym, ap, subst, ◌∙◌, arith}
 use Rattle.std.specs.Prelude.{slice_get, if◌then◌else◌}
 use Rattle.rdb_types.specs.declared.file.FileId.{FileId}
 use Rattle.rdb_types.specs.declared.file.FileKind.TheVariants.{Area, Snap}
@@ -10,7 +10,6 @@ use Rattle.stable_lines.specs.Slots.{area_file, IsAreaFile}
 use Rattle.line_versions.specs.Files.{snap_file}
 use Rattle.line_moves.specs.declared.places.Place.{Place}
 use Rattle.line_moves.specs.Calls.{OnlyWrites}
-use Rattle.line_moves.specs.Changes.{IsForArea}
 use Rattle.line_moves.specs.Classes.{HaveTheirClasses, KeepsOwners}
 use Rattle.line_moves.proofs.PageWrite.{space_apart}
 use Rattle.line_moves.proofs.Putting.{nat_cases}
@@ -23,7 +22,7 @@ use Rattle.line_store.specs.Sights.{bare, Does}
 use Rattle.disk_seats.specs.Ledgers.{undoing, set_standing, stands_as, Ledger}
 use Rattle.disk_seats.specs.Members.{LedgerFacts}
 use Rattle.disk_seats.proofs.Standings.{not_undoing}
-use Rattle.ledger_versions.specs.Readers.{ReaderFacts, Waiting}
+use Rattle.ledger_versions.specs.Readers.{ReaderFacts}
 use Rattle.ledger_versions.proofs.Written.{still_back}
 use Rattle.ledger_versions.proofs.Restanding.{restands, keeps_others}
 use Rattle.member_memory.specs.Memory.{writes_in}
@@ -35,7 +34,7 @@ use Rattle.disk_store.specs.Dying.{undoing_with}
 use Rattle.disk_store.specs.Memory.{StoreMemory, with_member, at_stage}
 use Rattle.disk_store.specs.Seats.{seat_with, stand_of, stand_at, recovery_left, steps_in}
 use Rattle.disk_store.specs.Standing.{IsUndone, RecoveryStands, StageStands}
-use Rattle.disk_store.specs.Shown.{TablesStand, Shown, pages_of, sight_of}
+use Rattle.disk_store.specs.Shown.{TablesStand, Shown, sight_of}
 use Rattle.disk_store.proofs.Moving.{itself}
 use Rattle.disk_store.proofs.Kept.{kept-stays}
 use Rattle.disk_store.proofs.Beside.{SameSpaces, StaysWith, stays-with}

@@ -1,18 +1,16 @@
 -- A ceiling is raised: the root is written, and a barrier makes it stable.
-use Rattle.std.proofs.Common.{◌≡◌, ◌≢◌, ◌≤◌, ◌<◌, ◌==◌, ◌+◌, ◌⊎◌, ⊎_elim, ℕ, IsTrue, List, [], Some, None, inl, inr, refl, sym, ap, subst, ◌∙◌, arith}
+use Rattle.std.proofs.Common.{◌≡◌, ◌≤◌, ◌<◌, ◌+◌, ◌⊎◌, ⊎_elim, ℕ, IsTrue, List, [], Some, inl, inr, refl, sym, ap, subst, ◌∙◌, arith}
 use Rattle.std.specs.Prelude.{slice_get, slice_set}
-use Rattle.rdb_types.specs.declared.file.FileKind.TheVariants.{Root as RootKind}
 use Rattle.rdb_outside.specs.Disk.{View, Pending, LeftNow, OnlyReads, IsStable}
 use Rattle.rdb_outside.specs.Moments.{each_slot}
 use Rattle.root_file.specs.declared.Root.{Root}
 use Rattle.root_file.specs.Root.{IsRoot}
 use Rattle.root_file.proofs.Readings.{one_root}
 use Rattle.new_database.specs.Maker.{root_file}
-use Rattle.line_store.specs.Seats.{beginning}
 use Rattle.line_store.specs.Shelves.{Shelf}
 use Rattle.line_store.specs.Calls.{Moves, GoesOn, Fails}
 use Rattle.line_store.specs.declared.answers.Fault.TheVariants.{Bad}
-use Rattle.line_store.specs.Sights.{bare, Sight, Does}
+use Rattle.line_store.specs.Sights.{bare, Does}
 use Rattle.line_store.proofs.InTurn.{does-nothing}
 use Rattle.line_moves.specs.Calls.{OnlyWrites}
 use Rattle.disk_seats.specs.Ledgers.{resting, Ledger}
@@ -25,16 +23,16 @@ use Rattle.disk_store.specs.declared.member.Ceiling.TheVariants.{Asking, Raised}
 use Rattle.disk_store.specs.declared.member.Member.{Member}
 use Rattle.disk_store.specs.declared.member.MemberStage.TheVariants as stage
 use Rattle.disk_store.specs.declared.held.Numbers.{Numbers}
-use Rattle.disk_store.specs.Memory.{StoreMemory, with_member, at_stage, begun_with}
+use Rattle.disk_store.specs.Memory.{StoreMemory, at_stage, begun_with}
 use Rattle.disk_store.specs.Numbers.{kept_at, kept_in, raised_to, with_raised, with_settled}
 use Rattle.disk_store.specs.Seats.{seat_with, stand_of, stand_at, steps_in}
 use Rattle.disk_store.specs.Standing.{StageStands}
 use Rattle.disk_store.specs.Shown.{CeilingStands, Shown, sight_of}
 use Rattle.disk_store.proofs.Kept.{kept-set}
-use Rattle.disk_store.proofs.Stepping.{ComesTo, Related, Becomes, does-apart, space-same}
+use Rattle.disk_store.proofs.Stepping.{ComesTo, Becomes, does-apart, space-same}
 use Rattle.disk_store.proofs.Passing.{Passes, passes-none, passes-aside, passes-reads, none-leaves, reads-leave, tables-pass, slots-pass, reads-ceiling}
 use Rattle.disk_store.proofs.Failing.{KeepsIt}
-use Rattle.disk_store.proofs.Drawing.{MayDraw, Leads, with_ceiling}
+use Rattle.disk_store.proofs.Drawing.{MayDraw, Leads}
 use Rattle.disk_store.proofs.Beside.{stays-there}
 
 -- ---- numbers

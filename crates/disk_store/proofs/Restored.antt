@@ -1,23 +1,21 @@
 -- All before-images of a session that died are put back, and stable.
-use Rattle.std.proofs.Common.{◌≡◌, ◌≢◌, ◌≤◌, ◌<◌, ◌==◌, ℕ, Bool, true, false, IsTrue, List, [], Option, Some, None, inl, refl, sym, ap, subst, ◌∙◌, arith}
+use Rattle.std.proofs.Common.{◌≡◌, ◌<◌, ◌==◌, ℕ, Bool, false, IsTrue, [], Some, None, inl, refl, sym, ap, subst, ◌∙◌, arith}
 use Rattle.std.specs.Prelude.{slice_get, if◌then◌else◌}
 use Rattle.rdb_outside.specs.Disk.{View, LeftNow, OnlyReads, IsStable}
-use Rattle.line_store.specs.Seats.{Seat, dead}
 use Rattle.line_store.specs.Shelves.{Shelf}
 use Rattle.line_store.specs.Calls.{Moves, GoesOn}
 use Rattle.line_store.specs.Sights.{bare, Does}
 use Rattle.line_versions.specs.Course.{Course}
 use Rattle.version_writing.specs.Tables.{HoldsAll}
-use Rattle.disk_seats.specs.Ledgers.{resting, undoing, ended_by, Ledger}
+use Rattle.disk_seats.specs.Ledgers.{resting, ended_by, Ledger}
 use Rattle.disk_seats.specs.Members.{LedgerFacts}
 use Rattle.disk_seats.proofs.Standings.{not_undoing}
 use Rattle.disk_seats.proofs.GivenUp.{undone_facts}
 use Rattle.disk_versions.specs.Courses.{course_given, course_undone}
-use Rattle.ledger_versions.specs.Readers.{MayEndUndone, Waiting, set_waiting}
+use Rattle.ledger_versions.specs.Readers.{MayEndUndone, set_waiting}
 use Rattle.ledger_versions.proofs.MembersEnd.{member_ends}
 use Rattle.member_memory.specs.Memory.{writes_in}
 use Rattle.disk_store.specs.declared.member.Member.{Member}
-use Rattle.disk_store.specs.declared.member.MemberStage.{MemberStage}
 use Rattle.disk_store.specs.declared.member.MemberStage.TheVariants as stage
 use Rattle.disk_store.specs.declared.member.Recovery.TheVariants as recovery
 use Rattle.disk_store.specs.Memory.{StoreMemory, with_member, at_stage}
@@ -27,7 +25,7 @@ use Rattle.disk_store.specs.Shown.{Shown, sight_of}
 use Rattle.disk_store.proofs.Moving.{itself}
 use Rattle.disk_store.proofs.Kept.{kept-stays}
 use Rattle.disk_store.proofs.Beside.{StaysOf, stays-there}
-use Rattle.disk_store.proofs.Stepping.{ComesTo, does-apart, Related, becomes-member, space-same}
+use Rattle.disk_store.proofs.Stepping.{ComesTo, does-apart, becomes-member, space-same}
 use Rattle.disk_store.proofs.Passing.{Passes, passes-reads, reads-leave, reads-ceiling, tables-pass, slots-pass}
 use Rattle.disk_store.proofs.Failing.{KeepsIt}
 use Rattle.disk_store.proofs.EndingOpen.{pushed-by, its, none-left, still-held}

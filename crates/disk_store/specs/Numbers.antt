@@ -2,7 +2,7 @@
 use Rattle.std.specs.Prelude.{ℕ, ◌≤◌, ◌^◌, List, sum_by}
 use Rattle.rdb_types.specs.declared.keys.Limits.{Limits}
 use Rattle.root_file.specs.Root.{AreLimits}
-use Rattle.disk_store.specs.declared.member.Ceiling.TheVariants.{Asking, Raised}
+use Rattle.disk_store.specs.declared.member.Ceiling.TheVariants.{Raised}
 use Rattle.disk_store.specs.declared.member.Member.{Member}
 use Rattle.disk_store.specs.declared.member.MemberStage.{MemberStage}
 use Rattle.disk_store.specs.declared.member.MemberStage.TheVariants as stage

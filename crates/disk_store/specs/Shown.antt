@@ -1,5 +1,5 @@
 -- What a store on a disk shows.
-use Rattle.std.specs.Prelude.{ℕ, ◌+◌, ◌-◌, ◌≤◌, ◌≡◌, ◌⊎◌, ◌==◌, Bool, true, IsTrue, if◌then◌else◌, List, [], length, replicate, Option, Some, None, slice_get}
+use Rattle.std.specs.Prelude.{ℕ, ◌+◌, ◌-◌, ◌≤◌, ◌≡◌, ◌⊎◌, ◌==◌, IsTrue, if◌then◌else◌, [], length, replicate, Option, Some, None, slice_get}
 use Rattle.rdb_types.specs.declared.keys.Dbkey.{Dbkey}
 use Rattle.rdb_page.specs.Page.{IsOwner}
 use Rattle.rdb_outside.specs.Disk.{View, Pending}
@@ -22,7 +22,7 @@ use Rattle.disk_seats.specs.Ledgers.{resting, Ledger}
 use Rattle.disk_seats.specs.Members.{LedgerFacts}
 use Rattle.member_steps.specs.Beginning.{HasCeiling}
 use Rattle.page_table.specs.Pages.{Pages, nobodys, owner_in, class_in, IsWithin}
-use Rattle.committed_tables.specs.Tables.{HasCommitted, WereUsed}
+use Rattle.committed_tables.specs.Tables.{HasCommitted}
 use Rattle.version_writing.specs.Slots.{SlotTable}
 use Rattle.version_writing.specs.Tables.{HoldsAll}
 use Rattle.ledger_versions.specs.Readers.{ReaderFacts, Waiting}

@@ -1,5 +1,6 @@
 use Rattle.std.proofs.Common.{◌≡◌, ◌≤◌, sym, subst, ap, ◌∙◌, refl, arith}
 use Rattle.std.specs.Prelude.{slice_get}
+use Rattle.line_store.specs.Shelves.{Shelf}
 use Rattle.line_store.specs.Calls.{IsDone, Fails}
 use Rattle.line_store.specs.declared.answers.Fault.TheVariants.{Bad}
 use Rattle.line_store.specs.Seats.{done_at}
@@ -52,10 +53,15 @@ returns-then-held-clause-comes g c =
     let held = c.args.held.now in
     let at = c.requires.begins in
     let settled : c.settle_ceiling.new.self ≡ with_settled held = c.settle_ceiling.ensures in
-    let none : held.numbers.written ≤ held.numbers.next = ? in
-    let R = λ h k. Fails s (Bad c.root_file.result 0) h k in
+    let none = none-below held c.settle_ceiling.new.self c.held.inside.numbers (ap (λ (x : StoreMemory). x.numbers) c.held.view_is) settled c.if-held.true in
+    let R = λ (h k : Shelf). Fails s (Bad c.root_file.result 0) h k in
     subst (λ new. Does s (stand_at held.members s) R (sight_of v held) (sight_of w new)) (sym settled)
     (does-none v w held s at.member at.is at.at none R)
 
 pub returns-then-held-clause-kept : goal.returns-then-held-clause-kept
-returns-then-held-clause-kept g c file slot is h shown = ?
+returns-then-held-clause-kept g c file slot is h shown =
+    let held = c.args.held.now in
+    let at = c.requires.begins in
+    let none = none-below held c.settle_ceiling.new.self c.held.inside.numbers (ap (λ (x : StoreMemory). x.numbers) c.held.view_is) c.settle_ceiling.ensures c.if-held.true in
+    let kept = number-is-kept (g.D.Disk.view c.args.disk.now) held c.args.s.number at.member at.is at.at h shown in
+    omega (arith, none, kept)

@@ -69,7 +69,7 @@ returns-in-Ok-clause-less g c more =
     let comes = c.set_stage-in-Ok.ensures.comes in
     let next = at_stage (stage.Dead c.args.commits c.undoing-recovery.result) comes.0 in
     let behind : steps_at c.set_stage-in-Ok.new.self.members s ≡ recovery_left (undoing_with c.in-Ok.rest) next =
-        ap (λ (x : StoreMemory). steps_at x.members s) comes.2 ∙ ap steps_of (set-here held.members s next c.set_stage-in-Ok.ensures.within) ∙ ap (λ (r : Recovery). recovery_left r next) c.undoing-recovery.ensures in
+    ap (λ (x : StoreMemory). steps_at x.members s) comes.2 ∙ ap steps_of (set-here held.members s next c.set_stage-in-Ok.ensures.within) ∙ ap (λ (r : Recovery). recovery_left r next) c.undoing-recovery.ensures in
     let before : steps_at held.members s ≡ c.args.left + 3 = ap steps_of at.is ∙ ap (λ x. steps_in x at.member) at.at in
     let fewer = fewer-left c.in-Ok.rest c.args.left next c.in-Ok.ensures.fewer in
     omega (arith, behind, before, fewer)
