@@ -8,14 +8,16 @@ use Rattle.line_moves.specs.Lines.{ChangedLines}
 use Rattle.member_steps.specs.Turns.{commit_of_plan}
 use Rattle.area_files.specs.Areas.{IsDataPage, space_page_of}
 use Rattle.space_pages.specs.Space.{owner_of}
-use Rattle.disk_seats.specs.Ledgers.{Standing, resting, changing, broken, committing, undoing, gained, Commit, Ledger}
+use Rattle.std.specs.Prelude.{slice_get}
+use Rattle.disk_seats.proofs.Standings.{entries_gained}
+use Rattle.disk_seats.specs.Ledgers.{entries_of, Standing, resting, changing, broken, committing, undoing, gained, Commit, Ledger}
 use Rattle.disk_seats.specs.Members.{MayEnd, AreOwned}
 use Rattle.disk_store.specs.declared.member.Member.{Member}
 use Rattle.disk_store.specs.declared.member.MemberStage.{MemberStage}
 use Rattle.disk_store.specs.declared.member.MemberStage.TheVariants as stage
 use Rattle.disk_store.specs.declared.member.Recovery.{Recovery}
 use Rattle.disk_store.specs.declared.member.Recovery.TheVariants as recovery
-use Rattle.disk_store.specs.Standing.{HasBegun, HasJournalled, IsCommitOf, HasEntered, TurnStands, IsUndone, RecoveryStands, StageStands}
+use Rattle.disk_store.specs.Standing.{HasBegun, IsBroken, HasJournalled, IsCommitOf, HasEntered, TurnStands, IsUndone, RecoveryStands, StageStands}
 
 -- A member stands as before, or its before-images are stable now; the commit that is under way is as before.
 pub record StaysOf (t : ℕ) (g h : Ledger) : Type 0 where
@@ -53,6 +55,18 @@ module _ (v w : View) (g h : Ledger) (t : ℕ) (same : SameSpaces v w) (stays : 
       by broken m = tt
       by (committing all) m = absurd m
       by (undoing all left) m = absurd m
+
+  broken-stays : (m : Member) → IsBroken g t m → IsBroken h t m
+  broken-stays m is = record {
+    transaction = is.transaction;
+    is_open = stays.going ∙ is.is_open;
+    number = is.number;
+    may_end = ends is.may_end;
+    keys = λ i undo got. is.keys i undo (elim stays.standing [
+      | inl same ↦ ap (λ x. slice_get (entries_of x) i) (sym same) ∙ got
+      | inr more ↦ ap (λ l. slice_get l i) (sym (entries_gained (g.standing t)) ∙ ap entries_of (sym more)) ∙ got
+    ]);
+  }
 
   undoing-stays : (all : _) (left : ℕ) → g.standing t ≡ undoing all left → h.standing t ≡ undoing all left
   undoing-stays all left was = elim stays.standing [ inl is ↦ is ∙ was | inr is ↦ is ∙ ap gained was ]
@@ -94,7 +108,7 @@ module _ (v w : View) (g h : Ledger) (t : ℕ) (same : SameSpaces v w) (stays : 
   stage-stays (stage.Beginning ceiling) m is = rests is
   stage-stays stage.Writing m is = journalled m is
   stage-stays stage.Changing m is = begun m is
-  stage-stays stage.Broken m is = ends is
+  stage-stays stage.Broken m is = broken-stays m is
   stage-stays stage.Prepared m is = journalled m is
   stage-stays (stage.Committing turn) m is = turns turn m is
   stage-stays stage.RollingBack m is = rests is

@@ -1,4 +1,5 @@
 pub mod Members
+pub mod Sound
 pub mod Moving
 pub mod Stages
 pub mod Beside
@@ -18,6 +19,17 @@ pub mod Restored
 pub mod Journalled
 pub mod Kept
 pub mod Reading
+pub mod FoundLines
+pub mod LaidLines
+pub mod Changed
+pub mod Stopping
+pub mod LeftTo
+pub mod SnapWritten
+pub mod Breaking
+pub mod SpentSlots
+pub mod WaitMore
+pub mod JournalSteps
+pub mod PushSteps
 mod Tabled
 mod Taking
 pub mod PutBack

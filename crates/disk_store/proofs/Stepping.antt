@@ -28,7 +28,7 @@ use Rattle.disk_store.specs.Memory.{StoreMemory, with_member}
 use Rattle.disk_store.specs.Numbers.{kept_in}
 use Rattle.disk_store.specs.Seats.{seat_with, stand_of, steps_in, steps_of, steps_at}
 use Rattle.disk_store.specs.Standing.{StageStands}
-use Rattle.disk_store.specs.Shown.{Sits, SitsAs, NumbersStand, TablesStand, WaitsAs, IsReading, SpaceStands, Shown, sight_of}
+use Rattle.disk_store.specs.Shown.{Sits, SitsAs, NumbersStand, TablesStand, WaitPushed, WaitsAs, IsReading, SpaceStands, Shown, sight_of}
 use Rattle.disk_store.proofs.Members.{set-here, set-beside, get-within}
 use Rattle.disk_store.proofs.Moving.{itself}
 
@@ -147,7 +147,7 @@ module _ (v w : View) (held behind : StoreMemory) (s : ℕ) (m n : Member) (was 
     waits-alike stage.Outside t x e has = tt
     waits-alike (stage.Beginning ceiling) t x e has = tt
     waits-alike stage.Writing t x e has = e ∙ has
-    waits-alike stage.Changing t x e has = tt
+    waits-alike stage.Changing t x e has = subst (λ ws. WaitPushed ws x.pushed x.written) (sym e) has
     waits-alike stage.Broken t x e has = tt
     waits-alike stage.Prepared t x e has = e ∙ has
     waits-alike (stage.Committing turn) t x e has = e ∙ has

@@ -3,7 +3,10 @@ pub mod Numbers
 pub mod Seats
 pub mod Standing
 pub mod Shown
+pub mod Sound
 pub mod Preparing
 pub mod Dying
 pub mod BeforeImages
 pub mod Taken
+pub mod Changing
+pub mod ChangeSteps

@@ -1,5 +1,5 @@
 -- Where a session stands, as its member's stage says it.
-use Rattle.std.specs.Prelude.{◌≡◌, ℕ, ◌+◌, ◌-◌, List, [], length, Option, Some, None, slice_get}
+use Rattle.std.specs.Prelude.{◌≡◌, ℕ, ◌+◌, ◌-◌, if◌then◌else◌, List, [], length, Option, Some, None, slice_get}
 use Rattle.line_view.specs.declared.writes.Write.{Write}
 use Rattle.line_view.specs.Knowledge.{Lines}
 use Rattle.line_seat.specs.declared.commit.CommitStage.TheVariants.{Changing as PagesChanging, Imaging, Gathering, Sealing, Landing, Committed}
@@ -76,7 +76,7 @@ abbrev pub steps_in : MemberStage → Member → ℕ
 steps_in stage.Outside m = 0
 steps_in (stage.Beginning ceiling) m = beginning_left ceiling
 steps_in stage.Writing m = 0
-steps_in stage.Changing m = 2 + (length m.written.keys - m.journalled) + (length m.written.keys - m.pushed)
+steps_in stage.Changing m = (if m.named then 0 else 1) + (length m.written.keys - m.journalled) + (length m.written.keys - m.pushed)
 steps_in stage.Broken m = 0
 steps_in stage.Prepared m = 0
 steps_in (stage.Committing turn) m = turns_left (length m.written.keys) turn

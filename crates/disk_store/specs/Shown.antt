@@ -1,6 +1,9 @@
 -- What a store on a disk shows.
-use Rattle.std.specs.Prelude.{ℕ, ◌+◌, ◌-◌, ◌≤◌, ◌≡◌, ◌⊎◌, ◌==◌, IsTrue, if◌then◌else◌, [], length, replicate, Option, Some, None, slice_get}
+use Rattle.std.specs.Prelude.{ℕ, ◌+◌, ◌-◌, ◌≤◌, ◌<◌, ◌≡◌, ◌⊎◌, ◌==◌, Bool, true, IsTrue, if◌then◌else◌, List, [], length, replicate, Option, Some, None, slice_get}
+use Rattle.std.specs.FinMap.Entries.{find}
 use Rattle.rdb_types.specs.declared.keys.Dbkey.{Dbkey}
+use Rattle.rdb_types.specs.declared.keys.Line.{Line}
+use Rattle.rdb_types.specs.Order.{dbkey_order}
 use Rattle.rdb_page.specs.Page.{IsOwner}
 use Rattle.rdb_outside.specs.Disk.{View, Pending}
 use Rattle.root_file.specs.declared.Root.{Root}
@@ -18,6 +21,7 @@ use Rattle.line_opening.specs.declared.groups.NextGroup.{NextGroup}
 use Rattle.line_moves.specs.declared.places.Place.{Place}
 use Rattle.line_moves.specs.Changes.{IsForArea}
 use Rattle.line_moves.specs.Classes.{HaveTheirClasses}
+use Rattle.line_moves.specs.Lines.{ChangedLines}
 use Rattle.disk_seats.specs.Ledgers.{resting, Ledger}
 use Rattle.disk_seats.specs.Members.{LedgerFacts}
 use Rattle.member_steps.specs.Beginning.{HasCeiling}
@@ -25,10 +29,10 @@ use Rattle.page_table.specs.Pages.{Pages, nobodys, owner_in, class_in, IsWithin}
 use Rattle.committed_tables.specs.Tables.{HasCommitted}
 use Rattle.version_writing.specs.Slots.{SlotTable}
 use Rattle.version_writing.specs.Tables.{HoldsAll}
-use Rattle.ledger_versions.specs.Readers.{ReaderFacts, Waiting}
+use Rattle.ledger_versions.specs.Readers.{ReaderFacts, Waiting, HasVersionOf}
 use Rattle.store_shows.specs.Shows.{Leaves, ShowsLines}
 use Rattle.store_shows.specs.Rooms.{HasPages}
-use Rattle.member_memory.specs.Memory.{writes_in}
+use Rattle.member_memory.specs.Memory.{Memory, writes_in}
 use Rattle.disk_store.specs.declared.member.Member.{Member}
 use Rattle.disk_store.specs.declared.member.MemberStage.{MemberStage}
 use Rattle.disk_store.specs.declared.member.MemberStage.TheVariants as stage
@@ -91,9 +95,25 @@ pub record IsReading (course : Course) (s : ℕ) (m : Member) (start : Lines) : 
   pub kept : m.reader ≡ Some reading.start
   pub lines : (key : Dbkey) → reading.lines key ≡ line_in key start
 
+-- the line is one of the first so many, and memory has its transaction and the version before it
+pub record IsPushed (pushed : ℕ) (written : Memory) (key : Dbkey) (line : Line) : Type 0 where
+  pub place : ℕ
+  pub early : place < pushed
+  pub is : slice_get written.keys place ≡ Some key
+  pub now : Line
+  pub found : find dbkey_order key written.lines ≡ Some now
+  pub tsn : now.tsn ≡ line.tsn
+  pub chain : now.chain ≡ line.chain
+
+-- Lines of the first so many keys wait, whatever they showed when they were pushed aside.
+pub record WaitPushed (lines : ChangedLines) (pushed : ℕ) (written : Memory) : Type 0 where
+  pub each : (i : ℕ) (line : Dbkey × Line) → slice_get lines i ≡ Some line → IsPushed pushed written line.0 line.1
+  pub all : (place : ℕ) (key : Dbkey) (now : Line) → place < pushed → slice_get written.keys place ≡ Some key → find dbkey_order key written.lines ≡ Some now → HasVersionOf lines key now
+
 -- what of a member's memory waits to be put on pages
 abbrev pub WaitsAs : MemberStage → Waiting → ℕ → Member → Type 0
 WaitsAs stage.Writing waiting s m = waiting s ≡ m.written.lines
+WaitsAs stage.Changing waiting s m = WaitPushed (waiting s) m.pushed m.written
 WaitsAs stage.Prepared waiting s m = waiting s ≡ m.written.lines
 WaitsAs (stage.Committing turn) waiting s m = waiting s ≡ m.written.lines
 WaitsAs _ waiting s m = Unit {0}

@@ -73,7 +73,7 @@ impl Held {
     }
 
     // A session comes to another stage, and its lines are forgotten.
-    fn forget(&mut self, s: Session, next: MemberStage)
+    pub(crate) fn forget(&mut self, s: Session, next: MemberStage)
         requires { IsMember s.number }
         ensures { (m : Sits) × (slice_get self.old.members s.number ≡ Some m)
             × (self.new ≡ with_member s.number (forgotten next m) self.old) }

@@ -3,6 +3,7 @@
 
 mod before_images;
 mod beginning;
+mod changing;
 mod dying;
 mod endings;
 mod few;
@@ -18,6 +19,7 @@ mod rooms;
 mod undoing;
 
 pub use beginning::{ask, draw};
+pub use changing::change;
 pub use dying::die;
 pub use endings::{bury, put_away};
 pub use few::steps_are_few;
