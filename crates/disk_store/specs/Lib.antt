@@ -6,3 +6,4 @@ pub mod Preparing
 pub mod Dying
 pub mod BeforeImages
 pub mod Taken
+pub mod Opening
