@@ -1,5 +1,5 @@
 -- What a store keeps in memory as it begins.
-use Rattle.std.specs.Prelude.{ℕ, List, [], None, replicate}
+use Rattle.std.specs.Prelude.{ℕ, ◌≡◌, List, [], Some, slice_get}
 use Rattle.stable_lines.specs.Slots.{IsAreaFile}
 use Rattle.version_writing.specs.Slots.{AreFree}
 use Rattle.version_writing.specs.Tables.{table_of}
@@ -7,12 +7,13 @@ use Rattle.disk_store.specs.declared.member.Member.{Member}
 use Rattle.disk_store.specs.declared.member.MemberStage.TheVariants as stage
 use Rattle.disk_store.specs.Memory.{StoreMemory}
 
--- a session without a transaction
-abbrev pub fresh_member : Member
-fresh_member = record { stage = stage.Outside; tsn = record { number = 0 }; written = record { lines = []; keys = [] }; journalled = 0; pushed = 0; reader = None }
+-- A session without a transaction.
+pub record IsFresh (m : Member) : Type 0 where
+  pub at : m.stage ≡ stage.Outside
+  pub written : m.written ≡ record { lines = []; keys = [] }
 
-abbrev pub fresh_members : List Member
-fresh_members = replicate 17 fresh_member
+abbrev pub AreFresh : List Member → Type 0
+AreFresh members = (s : ℕ) (m : Member) → slice_get members s ≡ Some m → IsFresh m
 
 -- each slot of the snapshot files is free
 abbrev pub HasAllFree : StoreMemory → Type 0

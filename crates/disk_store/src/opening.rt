@@ -1,6 +1,6 @@
 // What a store keeps in memory as it begins.
-ghost use Rattle.std.specs.Prelude.{◌≡◌, IfOk};
-ghost use Rattle.disk_store.specs.Opening.{fresh_member, fresh_members, HasAllFree};
+ghost use Rattle.std.specs.Prelude.{◌≡◌, length, IfOk};
+ghost use Rattle.disk_store.specs.Opening.{IsFresh, AreFresh, HasAllFree};
 
 use crate::{Held, Member, MemberStage, Numbers, Tables};
 use line_opening::NextGroup;
@@ -14,7 +14,7 @@ const PLACES: usize = 17;
 
 // A session without a transaction.
 fn fresh(alloc: Global) -> Member
-    ensures { result ≡ fresh_member }
+    ensures { IsFresh result }
 {
     Member {
         stage: MemberStage::Outside,
@@ -27,7 +27,8 @@ fn fresh(alloc: Global) -> Member
 }
 
 fn fresh_all(alloc: Global) -> Result<Vec<Member>, NoMemory>
-    ensures { IfOk result (λ made. made.items ≡ fresh_members) }
+    ensures long { IfOk result (λ made. length made.items ≡ 17) }
+    ensures fresh { IfOk result (λ made. AreFresh made.items) }
 {
     let mut members = Vec::new(alloc);
     for _place in 0..PLACES {
@@ -49,7 +50,7 @@ impl Held {
         ensures numbers { IfOk result (λ held. held.numbers ≡ numbers) }
         ensures next { IfOk result (λ held. held.next ≡ next) }
         ensures tables { IfOk result (λ held. held.tables ≡ tables) }
-        ensures members { IfOk result (λ held. held.members ≡ fresh_members) }
+        ensures members { IfOk result (λ held. AreFresh held.members) }
         ensures slots { IfOk result HasAllFree }
     {
         let slots = SnapshotSlots::new(alloc, limits.snaps)?;

@@ -40,7 +40,7 @@ use Rattle.store_shows.proofs.Taken.{not_free}
 use Rattle.committed_lines.proofs.Nowhere.{nowhere}
 use Rattle.disk_store.specs.declared.held.Tables.{Tables}
 use Rattle.disk_store.specs.Memory.{StoreMemory}
-use Rattle.disk_store.specs.Opening.{fresh_members, HasAllFree}
+use Rattle.disk_store.specs.Opening.{AreFresh, HasAllFree}
 use Rattle.disk_store.specs.Shown.{pages_of, Shown}
 use Rattle.disk_store.proofs.Passing.{reads-ceiling}
 use Rattle.opened_store.specs.Tables.{AreTablesOf}
@@ -56,7 +56,7 @@ pub record IsMadeOf (start : StoreStart) (root : Root) (tables : Tables) (held :
   pub ceiling : held.numbers.ceiling ≡ start.next_tsn + 64
   pub group : held.next ≡ start.next
   pub tables_are : held.tables ≡ tables
-  pub members : held.members ≡ fresh_members
+  pub members : AreFresh held.members
   pub free : HasAllFree held
 
 -- what a ceiling that was read is at least

@@ -39,15 +39,13 @@ use Rattle.disk_versions.proofs.Beginnings.{opens}
 use Rattle.ledger_versions.proofs.Restanding.{first_readers}
 use Rattle.store_shows.specs.Rooms.{is_free}
 use Rattle.store_shows.specs.Shows.{ShowsLines}
-use Rattle.disk_store.specs.declared.member.Member.{Member}
-use Rattle.disk_store.specs.declared.member.MemberStage.TheVariants as stage
 use Rattle.disk_store.specs.Memory.{StoreMemory}
-use Rattle.disk_store.specs.Opening.{fresh_member, fresh_members, HasAllFree}
+use Rattle.disk_store.specs.Opening.{AreFresh, HasAllFree}
 use Rattle.disk_store.specs.Seats.{steps_at}
-use Rattle.disk_store.specs.Shown.{pages_of, used_in, WaitsAs, IsReading, NumbersStand, TablesStand, VersionsStand, SpaceStands, Shown}
+use Rattle.disk_store.specs.Shown.{pages_of, used_in, NumbersStand, TablesStand, VersionsStand, SpaceStands, Shown}
 use Rattle.opened_store.specs.Tables.{AreTablesOf}
 use Rattle.opened_store.proofs.Free.{none-held}
-use Rattle.opened_store.proofs.Fresh.{is-fresh, all-sit}
+use Rattle.opened_store.proofs.Fresh.{all-sit, none-waits, none-reads}
 use Rattle.opened_store.proofs.TakenPages.{tables-long}
 
 abbrev pub first_shelf : View → StoreMemory → Lines → Shelf
@@ -71,7 +69,7 @@ pub record IsHeldOf (v : View) (journal : Journal) (start : StoreStart) (held : 
   pub ceiling : HasCeiling (Pending v) held.numbers.ceiling
   pub group : IsNext journal held.next
   pub tables : AreTablesOf v.content start.root.limits.pages held.tables
-  pub members : held.members ≡ fresh_members
+  pub members : AreFresh held.members
   pub free : HasAllFree held
 
 pub few-pages : (v : View) (left : LeftNow v v.content) (classes : ℕ → ℕ) (lines : Lines) (journal : Journal) (start : StoreStart) (moment : ℕ) → LedgerFacts v (new_ledger (beginning_with classes lines journal start) moment) → start.root.limits.pages ≤ 65536
@@ -203,9 +201,6 @@ module _ (v : View) (t : IsTrue v.tells) (left : LeftNow v v.content) (stable : 
     owned = λ place area is within whose x p some. owner-is place area is within whose x p some;
   }
 
-  not-reading : (m : Member) → m ≡ fresh_member → m.stage ≡ stage.Reading → ⊥
-  not-reading m is reads = let bad : stage.Outside ≡ stage.Reading = sym (ap (λ (x : Member). x.stage) is) ∙ reads in absurd (cc)
-
   versions-stand : VersionsStand v ledger held (first_shelf v held lines)
   versions-stand =
       let course : Course = opened base.next_tsn (line_at v.content) (λ key. line_in key base.lines) in
@@ -214,8 +209,8 @@ module _ (v : View) (t : IsTrue v.tells) (left : LeftNow v v.content) (stable : 
         waiting = λ member. [];
         readers = first_readers v base moment held.limits.snaps course (opens v base held.limits.snaps left facts (λ member. refl));
         slots = none-held held has.free v.content course.followed (λ file chain follows. false≢true follows);
-        waits = λ s m at. subst (λ (x : Member). WaitsAs x.stage (λ member. []) s x) (sym (is-fresh held.members has.members s m at)) tt;
-        reading = λ s m lines_then at reads seat. absurd (not-reading m (is-fresh held.members has.members s m at) reads);
+        waits = none-waits held.members has.members (λ member. []);
+        reading = λ s m lines_then at reads seat. absurd (none-reads held.members has.members s m at reads);
       }
 
   space-stands : SpaceStands held (first_shelf v held lines).space
