@@ -1,7 +1,6 @@
 -- What an opening leaves as it is: classes of pages, space pages, and the root.
 use Rattle.std.proofs.Common.{◌≡◌, ℕ, ◌+◌, ◌-◌, ◌%◌, List, IsTrue, sym, ap, ◌∙◌, subst, arith}
 use Rattle.rdb_types.specs.declared.file.FileId.{FileId}
-use Rattle.rdb_types.specs.declared.file.FileKind.{FileKind}
 use Rattle.rdb_types.specs.declared.file.FileKind.TheVariants.{Root, Area, Ruj}
 use Rattle.rdb_outside.specs.Disk.{Image, View, OnlyReads}
 use Rattle.area_files.specs.Areas.{IsDataPage}
