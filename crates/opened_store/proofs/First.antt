@@ -139,8 +139,8 @@ module _ (v : View) (t : IsTrue v.tells) (left : LeftNow v v.content) (stable : 
         ⊎_elim
         (λ free. let none : used.owner ≡ 0 = ap (λ (u : PageUse). u.owner) free.1 in absurd (omega (arith, none, owned)))
         (λ both.
-          let same : used.owner ≡ owner_at (v.content (area_file file) (page - 1)) = both.1.owner in
-          both.1.class ∙ lie file page of-file data_page (omega (arith, same, owned)) ∙ ap by_area (sym same))
+        let same : used.owner ≡ owner_at (v.content (area_file file) (page - 1)) = both.1.owner in
+        both.1.class ∙ lie file page of-file data_page (omega (arith, same, owned)) ∙ ap by_area (sym same))
         (entry file page of-file data_page within)
 
     class-is : class_in (pages_of held.tables file) page ≡ by_area (owner_in (pages_of held.tables file) page)
@@ -167,13 +167,13 @@ module _ (v : View) (t : IsTrue v.tells) (left : LeftNow v v.content) (stable : 
         let at_space : List ℕ = v.content (area_file place.file) (space_page_of place.page - 1) in
         ⊎_elim
         (λ free.
-          let said : owner_of place.page at_space ≡ owner_at x = facts.pages.owner place.file place.page x at_space is data_page p some (pends place.file (space_page_of place.page)) in
-          let none : owner_of place.page at_space ≡ 0 = free.0 in
-          absurd (omega (arith, said, none, some)))
+        let said : owner_of place.page at_space ≡ owner_at x = facts.pages.owner place.file place.page x at_space is data_page p some (pends place.file (space_page_of place.page)) in
+        let none : owner_of place.page at_space ≡ 0 = free.0 in
+        absurd (omega (arith, said, none, some)))
         (λ both. let its : kept_of.owner ≡ owner_at bytes = both.1.owner in ⊎_elim
-          (λ (none : kept_of.owner ≡ 0). absurd (omega (arith, read_is, its, none, some)))
-          (λ (here : kept_of.owner ≡ area). read_is ∙ sym its ∙ here)
-          whose)
+        (λ (none : kept_of.owner ≡ 0). absurd (omega (arith, read_is, its, none, some)))
+        (λ (here : kept_of.owner ≡ area). read_is ∙ sym its ∙ here)
+        whose)
         (entry place.file place.page is data_page within)
 
     owner-is : owner_at x ≡ area

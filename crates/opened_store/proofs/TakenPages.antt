@@ -56,9 +56,9 @@ module _ (image old : Image) (limit : ℕ) (few : limit ≤ 65536) (tables : Tab
   unowned : (file page : ℕ) → IsDataPage page → page ≤ limit → owner_said old file page ≡ 0 → owner_in (pages_of tables file) page ≡ 0
   unowned file page is le none = ⊎_elim
       (λ (area : IsAreaFile file). ⊎_elim
-        (λ free. ap (λ (u : PageUse). u.owner) free.1)
-        (λ owned. let some = owned.0 in let same = said file page is in absurd (omega (arith, some, same, none)))
-        ((are file area).page page is le))
+      (λ free. ap (λ (u : PageUse). u.owner) free.1)
+      (λ owned. let some = owned.0 in let same = said file page is in absurd (omega (arith, some, same, none)))
+      ((are file area).page page is le))
       (λ (other : pages_of tables file ≡ others tables). ap (λ (t : Pages). owner_in t page) other ∙ ap (λ (u : PageUse). u.owner) (none-there (length tables.indexes) (page - 1)))
       (file-cases tables file)
 

@@ -20,7 +20,7 @@ returns-in_err-start-clause-bad g c = λ file slot is t classes lines journal ke
 pub returns-in_err-root-clause-bad : goal.returns-in_err-root-clause-bad
 returns-in_err-root-clause-bad g c = let v = g.D.Disk.view in let old = v c.args.disk.now in let mid = v c.open_database.new.disk in
     λ file slot is t classes lines journal kept.
-    let p = err_from_is_err_and c.from_residual.result c.from_residual.ensures.1 in
+    let p = err_from_is_err_and c.from_residual-in_err-root.result c.from_residual-in_err-root.ensures.1 in
     let told = still_tells old mid c.open_database.ensures.told t in
     let begins = c.in_ok-start.ensures.begins t classes lines journal kept in
     let used_up = c.begin_members.ensures.bad file slot (first_of (cc, search rules)) told (beginning_with classes lines journal c.in_ok-start.start) begins.facts in
