@@ -8,7 +8,7 @@ use Rattle.rdb_outside.specs.Disk.{View, LeftNow, Pending}
 use Rattle.rdb_outside.specs.Moments.{each_slot}
 use Rattle.line_view.specs.Knowledge.{line_in}
 use Rattle.line_versions.specs.Lines.{storage_area}
-use Rattle.stable_lines.specs.Slots.{file_of, slot_of, has_place, line_on}
+use Rattle.stable_lines.specs.Slots.{file_of, slot_of, has_place, line_on, line_at}
 use Rattle.rdb_page.specs.Lines.{never}
 use Rattle.stable_lines.proofs.Never.{zeros_owner, not_committed}
 use Rattle.line_moves.specs.declared.places.Place.{Place}
@@ -43,9 +43,13 @@ module _ (v : View) (left : LeftNow v v.content) (g : Ledger) (was : LedgerFacts
       of_used : IsUsedPage (storage_area key.area) key.page x → IsOwner (storage_area key.area) key.area
       of_used used = subst (λ (n : ℕ). IsOwner (storage_area key.area) n) (sym (owner_is x used.head used.stands.head) ∙ says.owned) used.stands.owner
 
-  pub nowhere : ((place : Place) → IsPlaceOf key place → ⊥) → line_in key g.base.lines ≡ None
-  nowhere none = ap (λ l. line_in key l) (sym (same_lines v g was)) ∙ not_committed (Pending v) (progress_of g) was.facts key x there (by (has_place key x) refl)
+  -- it was never used
+  pub never_there : ((place : Place) → IsPlaceOf key place → ⊥) → line_at v.content key ≡ never
+  never_there none = by (has_place key x) refl
     where
       by : (b : Bool) → has_place key x ≡ b → line_on key x ≡ never
       by true has = absurd (none _ (placed has))
       by false is = line_none key x is
+
+  pub nowhere : ((place : Place) → IsPlaceOf key place → ⊥) → line_in key g.base.lines ≡ None
+  nowhere none = ap (λ l. line_in key l) (sym (same_lines v g was)) ∙ not_committed (Pending v) (progress_of g) was.facts key x there (never_there none)

@@ -14,7 +14,7 @@ use Rattle.disk_store.specs.declared.member.MemberStage.{MemberStage}
 use Rattle.disk_store.specs.declared.member.MemberStage.TheVariants as stage
 use Rattle.disk_store.specs.declared.member.Recovery.{Recovery}
 use Rattle.disk_store.specs.declared.member.Recovery.TheVariants as recovery
-use Rattle.disk_store.specs.Standing.{HasBegun, HasJournalled, IsCommitOf, HasEntered, TurnStands, IsUndone, RecoveryStands, StageStands}
+use Rattle.disk_store.specs.Standing.{HasBegun, IsBroken, HasJournalled, IsCommitOf, HasEntered, TurnStands, IsUndone, RecoveryStands, StageStands}
 
 -- A member stands as before, or its before-images are stable now; the commit that is under way is as before.
 pub record StaysOf (t : ℕ) (g h : Ledger) : Type 0 where
@@ -58,6 +58,9 @@ module _ (v w : View) (g h : Ledger) (t : ℕ) (same : SameAreas v w) (stays : S
     | inr is ↦ record { transaction = has.transaction; all = has.all; stable = length has.all; stands = is ∙ ap gained has.stands; is_open = stays.going ∙ has.is_open; number = has.number; count = has.count; keys = has.keys }
   ]
 
+  broken-stays : (m : Member) → IsBroken g t m → IsBroken h t m
+  broken-stays m is = record { transaction = is.transaction; is_open = stays.going ∙ is.is_open; number = is.number; may_end = ends is.may_end }
+
   journalled : (m : Member) → HasJournalled g t m → HasJournalled h t m
   journalled m has = record { begun = begun m has.begun; all_written = has.all_written }
 
@@ -89,7 +92,7 @@ module _ (v w : View) (g h : Ledger) (t : ℕ) (same : SameAreas v w) (stays : S
   stage-stays stage.Beginning m is = rests is
   stage-stays stage.Writing m is = journalled m is
   stage-stays stage.Changing m is = begun m is
-  stage-stays stage.Broken m is = ends is
+  stage-stays stage.Broken m is = broken-stays m is
   stage-stays stage.Prepared m is = journalled m is
   stage-stays (stage.Committing turn) m is = turns turn m is
   stage-stays stage.RollingBack m is = rests is

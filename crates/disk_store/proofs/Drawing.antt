@@ -92,6 +92,7 @@ module _ (v : View) (held : StoreMemory) (s : ℕ) (m : Member) (was : slice_get
       waiting_behind = set_waiting s [] shown.versions.waiting;
       readers = member_begins v g held.limits.snaps shown.versions.course shown.versions.waiting s shown.facts rests going shown.versions.readers;
       slots = shown.versions.slots;
+      used = shown.versions.used;
       waits = ap (λ b. if b then [] else shown.versions.waiting s) (itself s);
       waits_beside = λ t apart. ap (λ b. if b then [] else shown.versions.waiting t) apart;
       reads = λ t. refl;

@@ -120,6 +120,7 @@ module _ (v : View) (held : StoreMemory) (s : ℕ) (m : Member) (was : slice_get
           (none-left v held.limits.snaps held.slots shown.versions.course has.transaction.tsn.number shown.versions.slots shown.versions.readers.versions.files)
           shown.versions.readers;
       slots = still-held v held.limits.snaps held.slots shown.versions.course has.transaction.tsn.number shown.versions.slots shown.versions.readers.versions.files;
+      used = shown.versions.used;
       waits = waits-next (set_waiting s [] shown.versions.waiting);
       waits_beside = λ t apart. ap (λ b. if b then [] else shown.versions.waiting t) apart;
       reads = λ t. refl;

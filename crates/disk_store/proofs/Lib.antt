@@ -1,4 +1,5 @@
 pub mod Members
+pub mod Readers
 pub mod Moving
 pub mod Stages
 pub mod Beside
@@ -17,5 +18,9 @@ pub mod Deaths
 pub mod Restored
 pub mod Journalled
 pub mod Reading
+mod Going
+mod Begun
+mod Seeing
+mod EndedReading
 mod Tabled
 mod Taking

@@ -12,7 +12,9 @@ use Rattle.line_store.specs.Shelves.{Shelf}
 use Rattle.line_store.specs.Calls.{Moves}
 use Rattle.line_store.specs.Sights.{bare, Does}
 use Rattle.disk_seats.specs.Ledgers.{Ledger, Commit}
+use Rattle.disk_versions.specs.Courses.{course_read}
 use Rattle.ledger_versions.specs.Readers.{Waiting}
+use Rattle.ledger_versions.proofs.Written.{reader_ends}
 use Rattle.store_shows.specs.Shows.{ShowsLines, IsInFlight}
 use Rattle.member_memory.specs.Memory.{writes_in}
 use Rattle.disk_store.specs.declared.member.Member.{Member}
@@ -23,6 +25,7 @@ use Rattle.disk_store.specs.Seats.{seat_with, stand_of, steps_in, steps_of, step
 use Rattle.disk_store.specs.Standing.{StageStands}
 use Rattle.disk_store.specs.Shown.{Sits, SitsAs, WaitsAs, IsReading, Shown, sight_of}
 use Rattle.disk_store.proofs.Members.{set-here, set-beside}
+use Rattle.disk_store.proofs.Readers.{reader-beside, readers-still, starts-still}
 
 true_from_T : (b : Bool) → T b → b ≡ true
 true_from_T true h = refl
@@ -113,13 +116,14 @@ module _ (v : View) (held : StoreMemory) (s : ℕ) (m : Member) (next : MemberSt
   waits-stand h shown t false apart x is = shown.versions.waits t x (sym (beside t apart) ∙ is)
 
   reading-stands : (h : Shelf) (shown : Shown v held h) (t : ℕ) (b : Bool) → (t == s) ≡ b → (x : Member) (start : Lines) → slice_get behind.members t ≡ Some x → x.stage ≡ stage.Reading →
-      (moved (sat h shown).start h).seat t ≡ seat_with stage.Reading [] start → IsReading shown.versions.course t x start
+      (moved (sat h shown).start h).seat t ≡ seat_with stage.Reading [] start → IsReading (course_read s shown.versions.course) t x start
   reading-stands h shown t true same x start is reads seat =
       let e : t ≡ s = eqb-true t s same in
       let x-is : at_stage next m ≡ x = same_Some _ _ (sym here ∙ (ap (λ u. slice_get behind.members u) (sym e) ∙ is)) in
       absurd (may.writes (ap (λ (y : Member). y.stage) x-is ∙ reads))
   reading-stands h shown t false apart x start is reads seat =
-      shown.versions.reading t x start (sym (beside t apart) ∙ is) reads (sym (seat-beside (sat h shown).start h t apart) ∙ seat)
+      let it = shown.versions.reading t x start (sym (beside t apart) ∙ is) reads (sym (seat-beside (sat h shown).start h t apart) ∙ seat) in
+      record { reading = it.reading; goes = reader-beside s shown.versions.course t apart ∙ it.goes; kept = it.kept; lines = it.lines; ordered = it.ordered }
 
   shown-behind : (h : Shelf) (shown : Shown v held h) → Shown v behind (moved (sat h shown).start h)
   shown-behind h shown = record {
@@ -133,12 +137,14 @@ module _ (v : View) (held : StoreMemory) (s : ℕ) (m : Member) (next : MemberSt
     numbers = shown.numbers;
     tables = shown.tables;
     versions = record {
-      course = shown.versions.course;
+      course = course_read s shown.versions.course;
       waiting = shown.versions.waiting;
-      readers = shown.versions.readers;
+      readers = reader_ends v held.limits.snaps shown.versions.course shown.versions.waiting shown.ledger shown.versions.readers s;
       slots = shown.versions.slots;
       waits = λ t x is. waits-stand h shown t (t == s) refl x is;
       reading = λ t x start is reads seat. reading-stands h shown t (t == s) refl x start is reads seat;
+      only = readers-still s shown.versions.course held.members behind.members beside shown.versions.only;
+      used = starts-still s shown.versions.course held.tables shown.versions.used;
     };
     space = record { limits = shown.space.limits; pages = shown.space.pages; snaps = shown.space.snaps; slots = shown.space.slots };
   }

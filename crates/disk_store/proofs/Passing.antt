@@ -105,6 +105,7 @@ module _ (v w : View) (passes : Passes v w) where
     waiting_behind = shown.versions.waiting;
     readers = passes.readers shown.ledger held.limits.snaps shown.versions.course shown.versions.waiting shown.versions.readers;
     slots = slots-pass shown.versions.course.followed held.limits.snaps held.slots shown.versions.slots;
+    used = shown.versions.used;
     waits = waits;
     waits_beside = λ t apart. refl;
     reads = λ t. refl;

@@ -1,68 +1,111 @@
--- A call of a session that only reads the disk.
-use Rattle.std.proofs.Common.{◌≡◌, ◌∙◌, ℕ, List, Option, Some, Ok, Err, slice_get, slice_index_or, refl, sym, ap, subst}
-use Rattle.rdb_types.specs.declared.keys.Dbkey.{Dbkey}
+-- A call that only reads the disk: whoever makes it, nothing changes but time and faults.
+use Rattle.std.proofs.Common.{◌≡◌, ◌≤◌, ◌∙◌, ℕ, Option, Some, None, Ok, Err, inl, refl, sym, ap, subst}
+use Rattle.std.specs.Prelude.{slice_get}
 use Rattle.rdb_outside.specs.Causes.{Rose}
 use Rattle.rdb_outside.specs.Disk.{View, OnlyReads}
-use Rattle.line_view.specs.Knowledge.{Lines, line_in}
-use Rattle.line_view.specs.Writes.{laid_all}
 use Rattle.line_store.specs.declared.answers.Fault.{Fault}
 use Rattle.line_store.specs.declared.answers.Fault.TheVariants.{Failed, Bad}
 use Rattle.line_store.specs.declared.answers.Progress.TheVariants.{Done}
+use Rattle.line_store.specs.declared.answers.ReadStop.{ReadStop}
 use Rattle.line_store.specs.declared.answers.ReadStop.TheVariants as read
-use Rattle.line_store.specs.Shelves.{Shelf, seen_by, seen_from}
+use Rattle.line_store.specs.Seats.{Seat}
+use Rattle.line_store.specs.Shelves.{Shelf}
+use Rattle.line_store.specs.Calls.{Moves}
 use Rattle.line_store.specs.Sights.{Does, Reads}
-use Rattle.member_memory.specs.Memory.{writes_in}
+use Rattle.disk_seats.specs.Ledgers.{Ledger}
+use Rattle.disk_seats.specs.Members.{LedgerFacts}
 use Rattle.member_steps.proofs.Journals.{read_ledger}
-use Rattle.committed_lines.specs.Seen.{AreSeen}
-use Rattle.committed_lines.proofs.Bearing.{at_place}
-use Rattle.seen_lines.specs.Seen as seen
+use Rattle.store_shows.specs.Shows.{ShowsLines}
+use Rattle.store_shows.proofs.Standing.{may_stand, lasts_with}
 use Rattle.disk_store.specs.declared.member.Member.{Member}
-use Rattle.disk_store.specs.declared.member.MemberStage.{MemberStage}
-use Rattle.disk_store.specs.declared.member.MemberStage.TheVariants as stage
-use Rattle.disk_store.specs.BeforeImages.{seen_of}
 use Rattle.disk_store.specs.Memory.{StoreMemory}
-use Rattle.disk_store.specs.Seats.{seat_with, stand_at}
+use Rattle.disk_store.specs.Seats.{stand_at}
 use Rattle.disk_store.specs.Shown.{Sits, Shown, sight_of}
-use Rattle.disk_store.proofs.Passing.{passes-reads, reads-leave, reads-ceiling}
-use Rattle.disk_store.proofs.Journalled.{are_seen}
-use Rattle.disk_store.proofs.Failing.{KeepsIt, does-stay, does-fail, does-refuse}
+use Rattle.disk_store.proofs.Beside.{stays-there}
+use Rattle.disk_store.proofs.Passing.{Passes, passes-reads, reads-leave, reads-ceiling, tables-pass, slots-pass}
+use Rattle.disk_store.proofs.Stepping.{space-same}
 
-module _ (v w : View) (held : StoreMemory) (s : ℕ) (m : Member) (was : slice_get held.members s ≡ Some m) (writes : m.stage ≡ stage.Writing) (reads : OnlyReads v w) where
-  no_reader : m.stage ≡ stage.Reading → ⊥
-  no_reader is = let bad : stage.Writing ≡ stage.Reading = sym writes ∙ is in cc
+module _ (v w : View) (held : StoreMemory) (s : ℕ) (reads : OnlyReads v w) where
+  module _ (h : Shelf) (shown : Shown v held h) where
+    abbrev g : Ledger
+    g = shown.ledger
 
-  keeps : KeepsIt v w held s m
-  keeps = record {
-    told = reads.told;
-    later = reads.later;
-    no_fewer = reads.no_fewer;
-    leaves = λ t. reads-leave v w reads t;
-    passes = λ t. passes-reads v w t reads;
-    ceiling = λ t was_below. reads-ceiling v w t reads held.numbers.ceiling was_below;
-    facts = λ h shown stands. read_ledger v w shown.ledger shown.tells reads shown.facts;
+    p : Passes v w
+    p = passes-reads v w shown.tells reads
+
+    facts : LedgerFacts w g
+    facts = read_ledger v w g shown.tells reads shown.facts
+
+    -- the shelf that is shown behind it
+    abbrev after : Shelf
+    after = record h { clock = record { time = w.moment; faults = w.faults } }
+
+    lines-stand : ShowsLines w g after
+    lines-stand = record { now = shown.lines.now; time = refl; faults = refl; flight = shown.lines.flight }
+
+    sits-still : (t : ℕ) (x : Option Member) (seat : Seat) → Sits v g t x seat → Sits w g t x seat
+    sits-still t None seat sits = sits
+    sits-still t (Some x) seat sits = record { start = sits.start; is = sits.is; stands = stays-there v w g g t p.areas (record { standing = inl refl; going = refl; commit = refl }) x sits.stands }
+
+    shown-after : Shown w held after
+    shown-after = record {
+      tells = reads.told ∙ shown.tells;
+      ledger = g;
+      facts = facts;
+      limits = shown.limits;
+      lines = lines-stand;
+      seats = λ t. sits-still t (slice_get held.members t) (h.seat t) (shown.seats t);
+      steps = shown.steps;
+      numbers = record { number = shown.numbers.number; first = shown.numbers.first; ceiling = reads-ceiling v w shown.tells reads held.numbers.ceiling shown.numbers.ceiling; group = shown.numbers.group };
+      tables = tables-pass v w p g g held.tables refl shown.tables;
+      versions = record {
+        course = shown.versions.course;
+        waiting = shown.versions.waiting;
+        readers = p.readers g held.limits.snaps shown.versions.course shown.versions.waiting shown.versions.readers;
+        slots = slots-pass v w p shown.versions.course.followed held.limits.snaps held.slots shown.versions.slots;
+        waits = shown.versions.waits;
+        reading = shown.versions.reading;
+        only = shown.versions.only;
+        used = shown.versions.used;
+      };
+      space = record { limits = shown.space.limits; pages = shown.space.pages; snaps = shown.space.snaps; slots = shown.space.slots };
+    }
+
+    moves : Moves s (h.seat s) h after
+    moves = record {
+      now = refl;
+      mine = refl;
+      others = record {
+        seat = λ t apart. refl;
+        steps = λ t apart. refl;
+        later = record { later = subst (λ (n : ℕ). n ≤ w.moment) (sym shown.lines.time) reads.later; no_fewer = subst (λ (n : ℕ). n ≤ w.faults) (sym shown.lines.faults) reads.no_fewer };
+      };
+      space = space-same h.space;
+    }
+
+  does-look : (R : Shelf → Shelf → Type 0) → ((h k : Shelf) → Moves s (h.seat s) h k → h.clock.faults ≡ v.faults → k.clock.faults ≡ w.faults → R h k) → Does s (stand_at held.members s) R (sight_of v held) (sight_of w held)
+  does-look R as-asked = record {
+    mine = refl;
+    others = λ t apart. refl;
+    steps = λ t apart. refl;
+    each = λ h shown. record {
+      shelf = after h shown;
+      shown = shown-after h shown;
+      related = as-asked h (after h shown) (moves h shown) shown.lines.faults refl;
+      lasts = lasts_with v w h (after h shown) shown.lines.time (reads-leave v w reads shown.tells) (may_stand v shown.ledger h shown.facts shown.lines) (may_stand w shown.ledger (after h shown) (facts h shown) (lines-stand h shown));
+    };
   }
 
   pub reads-done : Does s (stand_at held.members s) (Reads s (Ok Done)) (sight_of v held) (sight_of w held)
-  reads-done = does-stay v w held s m was no_reader keeps (Reads s (Ok Done)) (λ h g moves faults faults-behind time time-behind. moves)
+  reads-done = does-look (Reads s (Ok Done)) (λ h k moves before behind. moves)
 
   pub reads-no-memory : Does s (stand_at held.members s) (Reads s (Err read.NoMemory)) (sight_of v held) (sight_of w held)
-  reads-no-memory = does-stay v w held s m was no_reader keeps (Reads s (Err read.NoMemory)) (λ h g moves faults faults-behind time time-behind. moves)
+  reads-no-memory = does-look (Reads s (Err read.NoMemory)) (λ h k moves before behind. moves)
 
   pub reads-fault : (fault : Fault) → (fault ≡ Failed → Rose v.faults w.faults) → Does s (stand_at held.members s) (Reads s (Err (read.Fault fault))) (sight_of v held) (sight_of w held)
-  reads-fault Failed rose = does-fail v w held s m was no_reader keeps (rose refl)
-  reads-fault (Bad file slot) rose = does-refuse v w held s m was no_reader keeps file slot
+  reads-fault Failed rose = does-look (Reads s (Err (read.Fault Failed))) (λ h k moves before behind. record { moves = moves; cause = subst (λ n. Rose n k.clock.faults) (sym before) (subst (λ n. Rose v.faults n) (sym behind) (rose refl)) })
+  reads-fault (Bad file slot) rose = does-look (Reads s (Err (read.Fault (Bad file slot)))) (λ h k moves before behind. record { moves = moves; cause = tt })
 
--- what a session that writes sees, by the ledger
-pub sees : (v : View) (held : StoreMemory) (s : ℕ) (m : Member) (h : Shelf) (shown : Shown v held h) → slice_get held.members s ≡ Some m → m.stage ≡ stage.Writing → seen.seen_by m.written shown.ledger.base.lines ≡ seen_by s h
-sees v held s m h shown was writes =
-    let sat = subst (λ (x : Option Member). Sits v shown.ledger s x (h.seat s)) was (shown.seats s) in
-    let seat : h.seat s ≡ seat_with stage.Writing (writes_in m.written.lines) sat.start = sat.is ∙ ap (λ (st : MemberStage). seat_with st (writes_in m.written.lines) sat.start) writes in
-    ap (λ (l : Lines). laid_all (writes_in m.written.lines) l) (sym shown.lines.now) ∙ ap (λ x. seen_from x h.now) (sym seat)
-
--- what is read of a line, with the members that the store has, is what the session sees
-pub seen-is : (v : View) (held : StoreMemory) (s : ℕ) (m : Member) (h : Shelf) (shown : Shown v held h) → slice_get held.members s ≡ Some m → m.stage ≡ stage.Writing → (list : List Member) → list ≡ held.members → (d : Member) → d ≡ slice_index_or list s d → (key : Dbkey) (image : Option (List ℕ))
-    → (AreSeen seen_of shown.ledger list → image ≡ line_in key (seen.seen_by (slice_index_or list s d).written shown.ledger.base.lines)) → image ≡ line_in key (seen_by s h)
-seen-is v held s m h shown was writes list same d at key image read_is =
-    let its : slice_index_or list s d ≡ m = sym at ∙ at_place list s d m (ap (λ (l : List Member). slice_get l s) same ∙ was) at in
-    let are : AreSeen seen_of shown.ledger list = subst (λ (l : List Member). AreSeen seen_of shown.ledger l) (sym same) (are_seen v held h shown) in
-    read_is are ∙ ap (λ (x : Member). line_in key (seen.seen_by x.written shown.ledger.base.lines)) its ∙ ap (λ (l : Lines). line_in key l) (sees v held s m h shown was writes)
+  pub reads-stop : (stop : ReadStop) → (stop ≡ read.Fault Failed → Rose v.faults w.faults) → Does s (stand_at held.members s) (Reads s (Err stop)) (sight_of v held) (sight_of w held)
+  reads-stop read.NoMemory rose = reads-no-memory
+  reads-stop (read.Fault fault) rose = reads-fault fault (λ is. rose (ap (λ (x : Fault). read.Fault x) is))

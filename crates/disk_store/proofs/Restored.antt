@@ -94,6 +94,7 @@ module _ (v w : View) (held : StoreMemory) (s : ℕ) (m : Member) (commits : Boo
           (none-left w held.limits.snaps held.slots course u.transaction.tsn.number held-still shown.versions.readers.versions.files)
           (p.readers g held.limits.snaps course shown.versions.waiting shown.versions.readers);
       slots = still-held w held.limits.snaps held.slots course u.transaction.tsn.number held-still shown.versions.readers.versions.files;
+      used = shown.versions.used;
       waits = tt;
       waits_beside = λ t apart. ap (λ b. if b then [] else shown.versions.waiting t) apart;
       reads = λ t. refl;

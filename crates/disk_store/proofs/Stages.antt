@@ -18,7 +18,7 @@ use Rattle.disk_store.proofs.Moving.{MayCome}
 
 -- ---- a session outside
 
-is-outside : (st : MemberStage) → seat_with st [] [] ≡ outside → st ≡ stage.Outside
+pub is-outside : (st : MemberStage) → seat_with st [] [] ≡ outside → st ≡ stage.Outside
 is-outside stage.Outside is = refl
 is-outside stage.Beginning is = absurd (cc)
 is-outside stage.Writing is = absurd (cc)

@@ -13,10 +13,12 @@ use Rattle.line_store.specs.Calls.{Moves, KeepsOthers, KeepsSpace, Lasts}
 use Rattle.line_store.specs.Sights.{bare, Does}
 use Rattle.line_versions.specs.Course.{Course}
 use Rattle.disk_seats.specs.Ledgers.{resting, Ledger, Commit}
+use Rattle.disk_versions.specs.Courses.{course_read}
 use Rattle.disk_seats.specs.Members.{LedgerFacts}
 use Rattle.stable_lines.specs.Journal.{lines_behind}
 use Rattle.version_writing.specs.Tables.{HoldsAll}
 use Rattle.ledger_versions.specs.Readers.{ReaderFacts, Waiting}
+use Rattle.ledger_versions.proofs.Written.{reader_ends}
 use Rattle.store_shows.specs.Shows.{Leaves, ShowsLines, IsInFlight}
 use Rattle.store_shows.proofs.Standing.{may_stand, lasts_with}
 use Rattle.member_memory.specs.Memory.{writes_in}
@@ -27,8 +29,9 @@ use Rattle.disk_store.specs.declared.held.Numbers.{Numbers}
 use Rattle.disk_store.specs.Memory.{StoreMemory, with_member}
 use Rattle.disk_store.specs.Seats.{seat_with, stand_of, steps_in, steps_of, steps_at}
 use Rattle.disk_store.specs.Standing.{StageStands}
-use Rattle.disk_store.specs.Shown.{Sits, SitsAs, NumbersStand, TablesStand, WaitsAs, IsReading, SpaceStands, Shown, sight_of}
+use Rattle.disk_store.specs.Shown.{Sits, SitsAs, NumbersStand, TablesStand, WaitsAs, IsReading, HaveStarts, SpaceStands, Shown, sight_of}
 use Rattle.disk_store.proofs.Members.{set-here, set-beside, get-within}
+use Rattle.disk_store.proofs.Readers.{reader-beside, readers-still, starts-still}
 use Rattle.disk_store.proofs.Moving.{itself}
 
 -- what a step comes to, beside a course and the lines that wait
@@ -45,6 +48,7 @@ pub record ComesTo (v w : View) (behind : StoreMemory) (s : ℕ) (n : Member) (g
   pub waiting_behind : Waiting
   pub readers : ReaderFacts w ledger behind.limits.snaps course_behind waiting_behind
   pub slots : HoldsAll w.content course_behind.followed behind.limits.snaps behind.slots
+  pub used : HaveStarts behind.tables course_behind
   pub waits : WaitsAs n.stage waiting_behind s n
   pub waits_beside : (t : ℕ) → (t == s) ≡ false → waiting_behind t ≡ waiting t
   pub reads : (t : ℕ) → course_behind.reader t ≡ course.reader t
@@ -160,11 +164,11 @@ module _ (v w : View) (held behind : StoreMemory) (s : ℕ) (m n : Member) (was 
         subst (λ u. WaitsAs x.stage to.waiting_behind u x) (sym e) (subst (λ (y : Member). WaitsAs y.stage to.waiting_behind s y) (is-n t x e is) to.waits)
     waits-stand t false apart x is = waits-alike x.stage t x (to.waits_beside t apart) (shown.versions.waits t x (sym (beside t apart) ∙ is))
 
-    reading-stands : (t : ℕ) (b : Bool) → (t == s) ≡ b → (x : Member) (start : Lines) → slice_get behind.members t ≡ Some x → x.stage ≡ stage.Reading → shelf.seat t ≡ seat_with stage.Reading [] start → IsReading to.course_behind t x start
+    reading-stands : (t : ℕ) (b : Bool) → (t == s) ≡ b → (x : Member) (start : Lines) → slice_get behind.members t ≡ Some x → x.stage ≡ stage.Reading → shelf.seat t ≡ seat_with stage.Reading [] start → IsReading (course_read s to.course_behind) t x start
     reading-stands t true same x start is reads seat = absurd (writes (ap (λ (y : Member). y.stage) (is-n t x (eqb-true t s same) is) ∙ reads))
     reading-stands t false apart x start is reads seat =
         let it = shown.versions.reading t x start (sym (beside t apart) ∙ is) reads (sym (seat-beside-here t apart) ∙ seat) in
-        record { reading = it.reading; goes = to.reads t ∙ it.goes; kept = it.kept; lines = it.lines }
+        record { reading = it.reading; goes = reader-beside s to.course_behind t apart ∙ (to.reads t ∙ it.goes); kept = it.kept; lines = it.lines; ordered = it.ordered }
 
     -- the commits that are under way behind it are those of their seats
     module _ (flight : (c : Commit) → to.ledger.commit ≡ Some c → IsInFlight to.ledger c.flight (shelf.seat c.member)) where
@@ -183,12 +187,14 @@ module _ (v w : View) (held behind : StoreMemory) (s : ℕ) (m n : Member) (was 
         numbers = to.numbered;
         tables = to.tabled;
         versions = record {
-          course = to.course_behind;
+          course = course_read s to.course_behind;
           waiting = to.waiting_behind;
-          readers = to.readers;
+          readers = reader_ends w behind.limits.snaps to.course_behind to.waiting_behind to.ledger to.readers s;
           slots = to.slots;
           waits = λ t x is. waits-stand t (t == s) refl x is;
           reading = λ t x start is reads seat. reading-stands t (t == s) refl x start is reads seat;
+          only = readers-still s to.course_behind held.members behind.members beside (λ t reading goes. shown.versions.only t reading (sym (to.reads t) ∙ goes));
+          used = starts-still s to.course_behind behind.tables to.used;
         };
         space = becomes.spaced h.space shown.space;
       }

@@ -9,12 +9,14 @@ use Rattle.line_store.specs.Rooms.{Takes, IsTaken}
 use Rattle.line_store.specs.Sights.{Does, Stays}
 use Rattle.page_table.specs.Pages.{Pages}
 use Rattle.page_table.specs.Scans.{IsNew}
+use Rattle.committed_tables.specs.Tables.{WereUsed}
+use Rattle.committed_tables.proofs.EverUsed.{used_behind_page}
 use Rattle.store_shows.specs.Rooms.{is_free, HasPages}
 use Rattle.store_shows.proofs.Taken.{is_taken, page_is_taken}
 use Rattle.disk_store.specs.declared.held.Tables.{Tables}
 use Rattle.disk_store.specs.Memory.{StoreMemory, with_tables}
 use Rattle.disk_store.specs.Seats.{stand_at}
-use Rattle.disk_store.specs.Shown.{pages_of, TablesStand, Shown, sight_of}
+use Rattle.disk_store.specs.Shown.{pages_of, TablesStand, HaveStarts, Shown, sight_of}
 use Rattle.disk_store.specs.Taken.{TakesIn}
 
 -- nothing changes
@@ -70,6 +72,19 @@ module _ (v : View) (held : StoreMemory) (s file class : ℕ) (key : Dbkey) (own
     has-pages : (h : Shelf) → Shown v held h → HasPages (pages_of kept) (space-behind h)
     has-pages h shown = record { taken = λ f p. refl; limit = λ f. long f ∙ shown.space.pages.limit f }
 
+    used-kept : (h : Shelf) (shown : Shown v held h) → HaveStarts kept shown.versions.course
+    used-kept h shown t f reading start is goes lines = by (f == file) refl
+      where
+        was : WereUsed (pages_of held.tables f) f start
+        was = shown.versions.used t f reading start is goes lines
+
+        by : (b : Bool) → (f == file) ≡ b → WereUsed (pages_of kept f) f start
+        by true same =
+            let e : f ≡ file = eqb-true f file same in
+            subst (λ (n : ℕ). WereUsed (pages_of kept n) n start) (sym e)
+            (used_behind_page (pages_of held.tables file) (pages_of kept file) file start key.page key.area class (subst (λ (n : ℕ). WereUsed (pages_of held.tables n) n start) e was) new.free takes.here)
+        by false apart = subst (λ (ps : Pages). WereUsed ps f start) (sym (takes.others f (eqb-false f file apart))) was
+
     shown-behind : (h : Shelf) → Shown v held h → Shown v (with_tables kept held) (behind h)
     shown-behind h shown = record {
       tells = shown.tells;
@@ -88,6 +103,8 @@ module _ (v : View) (held : StoreMemory) (s file class : ℕ) (key : Dbkey) (own
         slots = shown.versions.slots;
         waits = shown.versions.waits;
         reading = shown.versions.reading;
+        only = shown.versions.only;
+        used = used-kept h shown;
       };
       space = record { limits = shown.space.limits; pages = has-pages h shown; snaps = shown.space.snaps; slots = shown.space.slots };
     }

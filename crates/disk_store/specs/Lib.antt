@@ -6,3 +6,5 @@ pub mod Preparing
 pub mod Dying
 pub mod BeforeImages
 pub mod Taken
+pub mod Readers
+pub mod Learning

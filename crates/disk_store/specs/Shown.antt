@@ -3,7 +3,7 @@ use Rattle.std.specs.Prelude.{ℕ, ◌+◌, ◌-◌, ◌≤◌, ◌≡◌, ◌�
 use Rattle.rdb_types.specs.declared.keys.Dbkey.{Dbkey}
 use Rattle.rdb_page.specs.Page.{IsOwner}
 use Rattle.rdb_outside.specs.Disk.{View, Pending}
-use Rattle.line_view.specs.Knowledge.{Lines, line_in}
+use Rattle.line_view.specs.Knowledge.{Lines, IsInOrder, line_in}
 use Rattle.line_store.specs.Seats.{Seat, outside}
 use Rattle.line_store.specs.Shelves.{Space, Shelf}
 use Rattle.line_store.specs.Sights.{Sight}
@@ -32,7 +32,7 @@ use Rattle.disk_store.specs.declared.member.MemberStage.TheVariants as stage
 use Rattle.disk_store.specs.declared.held.Numbers.{Numbers}
 use Rattle.disk_store.specs.declared.held.Tables.{Tables}
 use Rattle.disk_store.specs.Memory.{StoreMemory}
-use Rattle.disk_store.specs.Seats.{seat_with, stand_at, steps_at}
+use Rattle.disk_store.specs.Seats.{seat_with, stand_at, steps_at, IsAtStage}
 use Rattle.disk_store.specs.Standing.{StageStands}
 
 -- ---- sessions
@@ -77,8 +77,17 @@ pub record TablesStand (v : View) (g : Ledger) (tables : Tables) : Type 0 where
 pub record IsReading (course : Course) (s : ℕ) (m : Member) (start : Lines) : Type 0 where
   pub reading : Reading
   pub goes : course.reader s ≡ Some reading
-  pub kept : m.reader ≡ Some reading.start
+  pub kept : m.reader ≡ reading.start
   pub lines : (key : Dbkey) → reading.lines key ≡ line_in key start
+  pub ordered : IsInOrder start
+
+-- who goes on as a reader is at the stage of readers
+abbrev pub AreReaders : List Member → Course → Type 0
+AreReaders members course = (s : ℕ) (reading : Reading) → course.reader s ≡ Some reading → IsAtStage members s stage.Reading
+
+-- the lines at each reader's start were used, by the tables
+abbrev pub HaveStarts : Tables → Course → Type 0
+HaveStarts tables course = (s file : ℕ) (reading : Reading) (start : Lines) → IsAreaFile file → course.reader s ≡ Some reading → ((key : Dbkey) → reading.lines key ≡ line_in key start) → WereUsed (pages_of tables file) file start
 
 -- what of a member's memory waits to be put on pages
 abbrev pub WaitsAs : MemberStage → Waiting → ℕ → Member → Type 0
@@ -95,6 +104,8 @@ pub record VersionsStand (v : View) (g : Ledger) (held : StoreMemory) (h : Shelf
   pub slots : HoldsAll v.content course.followed held.limits.snaps held.slots
   pub waits : (s : ℕ) (m : Member) → slice_get held.members s ≡ Some m → WaitsAs m.stage waiting s m
   pub reading : (s : ℕ) (m : Member) (start : Lines) → slice_get held.members s ≡ Some m → m.stage ≡ stage.Reading → h.seat s ≡ seat_with stage.Reading [] start → IsReading course s m start
+  pub only : AreReaders held.members course
+  pub used : HaveStarts held.tables course
 
 -- ---- space
 

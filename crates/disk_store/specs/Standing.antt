@@ -26,6 +26,13 @@ pub record HasBegun (g : Ledger) (s : ℕ) (m : Member) : Type 0 where
   pub count : m.journalled ≡ length all
   pub keys : (i : ℕ) (undo : Undo) → slice_get all i ≡ Some undo → slice_get m.written.keys i ≡ Some undo.key
 
+-- Its transaction can only end: no page was written, and a before-image may stand or not.
+pub record IsBroken (g : Ledger) (s : ℕ) (m : Member) : Type 0 where
+  pub transaction : Open
+  pub is_open : g.base.going s ≡ Some transaction
+  pub number : m.tsn ≡ transaction.tsn
+  pub may_end : MayEnd (g.standing s)
+
 -- each of its lines has a before-image
 pub record HasJournalled (g : Ledger) (s : ℕ) (m : Member) : Type 0 where
   pub begun : HasBegun g s m
@@ -77,7 +84,7 @@ StageStands stage.Outside v g s m = g.standing s ≡ resting
 StageStands stage.Beginning v g s m = g.standing s ≡ resting
 StageStands stage.Writing v g s m = HasJournalled g s m
 StageStands stage.Changing v g s m = HasBegun g s m
-StageStands stage.Broken v g s m = MayEnd (g.standing s)
+StageStands stage.Broken v g s m = IsBroken g s m
 StageStands stage.Prepared v g s m = HasJournalled g s m
 StageStands (stage.Committing turn) v g s m = TurnStands turn v g s m
 StageStands stage.RollingBack v g s m = g.standing s ≡ resting

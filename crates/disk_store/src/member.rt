@@ -37,7 +37,7 @@ pub enum MemberStage {
     Dead { commits: bool, recovery: Recovery },
 }
 
-/// A session as the store has it: where it is, the number of its read-write transaction, the lines that this wrote, how many of them have a before-image, and how many were pushed aside where they had to be; and what a reader keeps from its start.
+/// A session as the store has it: where it is, the number of its read-write transaction, the lines that this wrote, how many of them have a before-image, and how many were pushed aside where they had to be; and what a reader keeps from its start, which says nothing at another stage.
 #[derive(Drop)]
 pub struct Member {
     pub stage: MemberStage,
@@ -45,5 +45,5 @@ pub struct Member {
     pub written: MemberLines,
     pub journalled: u32,
     pub pushed: u32,
-    pub reader: Option<Reader>,
+    pub reader: Reader,
 }

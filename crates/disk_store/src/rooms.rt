@@ -25,7 +25,7 @@ use rdb_types::{Dbkey, NoMemory, Session};
 
 impl Held {
     // The table of an area file.
-    fn table(&self, file: u32) -> &PageTable
+    pub(crate) fn table(&self, file: u32) -> &PageTable
         requires { IsAreaFile file }
         ensures { result.now ≡ pages_of self.now.tables file }
     {

@@ -1,5 +1,5 @@
 // The lines of a logical area as a transaction sees them.
-ghost use Rattle.std.specs.Prelude.{◌≡◌, ◌<◌, ◌^◌, ℕ, List, Option, Some, length, map, IfOk, OnOk, IsErrOf, IsTrue};
+ghost use Rattle.std.specs.Prelude.{◌≡◌, ◌<◌, ◌^◌, ℕ, List, [], Option, Some, length, map, IfOk, OnOk, IsErrOf, IsTrue};
 ghost use Rattle.rdb_types.specs.declared.file.FileId.{FileId as File};
 ghost use Rattle.rdb_outside.specs.Causes.{Rose};
 ghost use Rattle.rdb_outside.specs.Disk.{OnlyReads};
@@ -162,7 +162,22 @@ pub fn seen_area<D: Disk, T: HasBeforeImages>(
     }
 }
 
-/// The same as a list of present lines.
+/// The lines that a transaction sees of a logical area of which none is committed: its own.
+pub fn own_area(
+    alloc: Global,
+    area: u32,
+    own: &MemberLines,
+) -> Result<Entries<Dbkey, Image>, NoMemory>
+    ensures area { IfOk result (IsOfArea area) }
+    ensures seen { IfOk result (λ found. (committed : Lines) → IsInOrder committed
+        → lines_in area committed ≡ [] → found ≡ lines_in area (seen_by own.now committed)) }
+{
+    let mut found = Entries::new(alloc);
+    lay_own(&mut found, area, own)?;
+    Ok(found)
+}
+
+/// Some lines as a list of present lines.
 pub fn present_lines(
     alloc: Global,
     found: &Entries<Dbkey, Image>,

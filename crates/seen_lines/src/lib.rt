@@ -4,5 +4,5 @@
 mod areas;
 mod lines;
 
-pub use areas::{present_lines, seen_area};
+pub use areas::{own_area, present_lines, seen_area};
 pub use lines::seen_line;

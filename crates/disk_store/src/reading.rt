@@ -1,0 +1,98 @@
+// Read-only transactions begin and end.
+ghost use Rattle.std.specs.Prelude.{◌≡◌, [], Some, map, slice_get, IfOk, OnOk, OnErr};
+ghost use Rattle.line_versions.specs.Versions.{Start};
+ghost use Rattle.line_store.specs.Seats.{IsMember, IsReader, outside, reading};
+ghost use Rattle.line_store.specs.Calls.{Moves};
+ghost use Rattle.line_store.specs.Sights.{Does, Stays, BeginsReading};
+ghost use Rattle.disk_store.specs.declared.member.Member.{Member as Sits};
+ghost use Rattle.disk_store.specs.Memory.{with_member};
+ghost use Rattle.disk_store.specs.Readers.{goes_at, keeping, numbers_going};
+ghost use Rattle.disk_store.specs.Seats.{stand_at};
+ghost use Rattle.disk_store.specs.Shown.{sight_of};
+
+use crate::{Held, Member, MemberStage, Recovery};
+use member_steps::CommitTurn;
+use rdb_outside::Disk;
+use rdb_types::{NoMemory, Session, Tsn};
+use std::alloc::Global;
+use version_reading::Reader;
+
+impl Member {
+    // Whether its read-write transaction is open on the disk.
+    fn goes_on(&self) -> bool
+        ensures { result ≡ goes_at self.now.stage }
+    {
+        match self.stage {
+            MemberStage::Outside => false,
+            MemberStage::Beginning => false,
+            MemberStage::Writing => true,
+            MemberStage::Changing => true,
+            MemberStage::Broken => true,
+            MemberStage::Prepared => true,
+            MemberStage::Committing(_) => true,
+            MemberStage::RollingBack => false,
+            MemberStage::Closing => false,
+            MemberStage::Reading => false,
+            MemberStage::Dead {
+                commits: _,
+                recovery,
+            } => match recovery {
+                Recovery::Ending => false,
+                Recovery::Judging => true,
+                Recovery::Undoing { left: _ } => true,
+                Recovery::Restoring => true,
+            },
+        }
+    }
+}
+
+// The numbers of the transactions that go on.
+fn going(alloc: Global, members: &[Member]) -> Result<Vec<Tsn>, NoMemory>
+    ensures { IfOk result (λ going. map (λ t. t.number) going.items ≡ numbers_going members.now) }
+{
+    let mut going = Vec::new(alloc);
+    for member in members {
+        if member.goes_on() {
+            going.push(member.tsn)?;
+        }
+    }
+    Ok(going)
+}
+
+impl Held {
+    // A session comes to another stage, and this is kept for its reader.
+    fn keep_start(&mut self, s: Session, next: MemberStage, reader: Reader)
+        requires { IsMember s.number }
+        ensures { (m : Sits) × (slice_get self.old.members s.number ≡ Some m)
+            × (self.new ≡ with_member s.number (keeping next reader m) self.old) }
+    {
+        let member = &mut self.members[s.number as usize];
+        member.stage = next;
+        member.reader = reader;
+    }
+}
+
+/// A session begins a read-only transaction, which sees the lines that are committed now. The memory that is taken holds a number for each read-write transaction that goes on.
+pub fn begin_reading<D: Disk>(_disk: &D, held: &mut Held, s: Session) -> Result<(), NoMemory>
+    requires member { IsMember s.number }
+    requires outside { stand_at held.old.members s.number ≡ outside }
+    ensures ok { OnOk result (Does s.number (reading []) (BeginsReading s.number) (sight_of (D.view _disk.now) held.old) (sight_of (D.view _disk.now) held.new)) }
+    ensures err { OnErr result (Stays s.number (sight_of (D.view _disk.now) held.old) (sight_of (D.view _disk.now) held.new)) }
+{
+    let active = going(held.alloc, &held.members)?;
+    let next = Tsn {
+        number: held.numbers.next,
+    };
+    held.keep_start(s, MemberStage::Reading, Reader::new(next, active));
+    Ok(())
+}
+
+/// A session ends its read-only transaction.
+pub fn end_reading<D: Disk>(_disk: &D, held: &mut Held, s: Session)
+    requires member { IsMember s.number }
+    requires reader { IsReader (stand_at held.old.members s.number) }
+    ensures { Does s.number outside (Moves s.number outside) (sight_of (D.view _disk.now) held.old) (sight_of (D.view _disk.now) held.new) }
+{
+    let none = Reader::new(Tsn { number: 0 }, Vec::new(held.alloc));
+    held.keep_start(s, MemberStage::Outside, none);
+}

@@ -1,0 +1,30 @@
+use Rattle.std.proofs.Common.{◌≡◌, subst, sym, Some}
+use Rattle.rdb_types.specs.declared.keys.Dbkey.{Dbkey}
+use Rattle.rdb_outside.specs.Runs.{then_reads}
+use Rattle.line_view.specs.Knowledge.{Lines}
+use Rattle.line_moves.proofs.Runs.{still_tells}
+use Rattle.page_table.specs.Pages.{IsLineOf}
+use Rattle.seen_lines.specs.Seen.{IsOfArea}
+use Rattle.seen_lines.proofs.Gathered.{Gathers, area_more, gathers_more, gathered_all}
+use Rattle.reader_lines.proofs.Still.{reads_on}
+use Rattle.reader_lines.proofs.areas.reader_area.Goals as goal
+
+pub returns-in-Err-clause-reads : goal.returns-in-Err-clause-reads
+returns-in-Err-clause-reads g c = let v = g.D.Disk.view in then_reads (v c.args.disk.now) (v c.loop-key.disk) (v c.gather.new.disk) c.loop-key.invariant.reads c.gather.ensures.reads
+
+pub loop-key-preserved : goal.loop-key-preserved
+loop-key-preserved g c = let v = g.D.Disk.view c.args.disk.now in let mid = g.D.Disk.view c.loop-key.disk in let new = g.D.Disk.view c.gather.new.disk in
+    let so_far = c.loop-key.invariant in let first = c.in-Some.ensures.found in let more = c.in_default-gather.ensures.gathers in
+    record {
+      reads = then_reads v mid new so_far.reads c.gather.ensures.reads;
+      of_area = subst (λ (l : Lines). IsOfArea c.args.area l) (sym more.1) (area_more c.args.area c.in-Some.key more.0 c.loop-key.found first.fits.area_is so_far.of_area);
+      line = λ from is. let same : c.in-Some.key ≡ from = cc in subst (λ (k : Dbkey). IsLineOf c.args.table.now k × (k.area ≡ c.args.area)) same (first.fits.is_line, first.fits.area_is);
+      gathers = λ t ledger lines file was owner were.
+          subst (λ (l : Lines). Gathers lines c.args.area (Some c.in-Some.key) l) (sym more.1)
+          (gathers_more c.args.table.now file lines c.args.area c.loop-key.from were owner c.in-Some.key more.0 first
+          (more.2 (still_tells v mid so_far.reads.told t) ledger lines (reads_on v mid ledger c.args.limit c.args.reader.now lines t so_far.reads was)) c.loop-key.found (so_far.gathers t ledger lines file was owner were));
+    }
+
+pub returns-clause-seen : goal.returns-clause-seen
+returns-clause-seen g c = let so_far = c.loop-key.invariant in λ t ledger lines file was ordered owner were.
+    gathered_all c.args.table.now file lines c.args.area c.loop-key.from were owner c.loop-key.found so_far.of_area.ordered ordered (so_far.gathers t ledger lines file was owner were) c.in_default.ensures.none

@@ -1,0 +1,8 @@
+//! The lines of a disk as a read-only transaction sees them: those that were committed when it began.
+#![tactic(auto)]
+
+mod areas;
+mod lines;
+
+pub use areas::reader_area;
+pub use lines::reader_line;
