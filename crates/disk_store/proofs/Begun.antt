@@ -8,7 +8,6 @@ use Rattle.rdb_page.specs.Page.{IsOwner}
 use Rattle.rdb_outside.specs.Disk.{View}
 use Rattle.line_view.specs.declared.writes.Write.{Write}
 use Rattle.line_view.specs.Knowledge.{Lines, IsInOrder, line_in}
-use Rattle.line_versions.specs.Versions.{Start}
 use Rattle.line_versions.specs.Course.{Course, Reading, begun}
 use Rattle.line_store.specs.Seats.{Seat, outside, reading, in_flight}
 use Rattle.line_store.specs.Shelves.{Shelf, seen_from}
@@ -126,13 +125,10 @@ module _ (v : View) (held : StoreMemory) (s : ℕ) (m : Member) (was : slice_get
     began = record {
       reading = its;
       goes = reader-here;
-      kept = sym (ap (λ (k : ℕ). kept-from k) (shown.versions.readers.versions.next ∙ shown.numbers.number));
+      kept = λ i. record { next = sym (shown.versions.readers.versions.next ∙ shown.numbers.number) i; active = active };
       lines = λ key. shown.versions.readers.versions.lines key ∙ ap (λ (l : Lines). line_in key l) (sym shown.lines.now);
       ordered = subst (λ (l : Lines). IsInOrder l) (sym shown.lines.now) (subst (λ (l : Lines). IsInOrder l) (same_lines v g shown.facts) shown.facts.facts.in_order);
     }
-      where
-        kept-from : ℕ → Start
-        kept-from k = record { next = k; active = active }
 
     is-n : (t : ℕ) (x : Member) → t ≡ s → slice_get behind.members t ≡ Some x → n ≡ x
     is-n t x e is = same_Some _ _ (sym here ∙ (ap (λ u. slice_get behind.members u) (sym e) ∙ is))

@@ -24,7 +24,7 @@ use Rattle.disk_store.specs.Shown.{Sits, SitsAs, Shown}
 -- ---- numbers in a list of members
 
 abbrev is : ℕ → ℕ → Bool
-is t a = a == t
+is t = λ a. a == t
 
 or-later : (a b : Bool) → b ≡ true → (a || b) ≡ true
 or-later true b h = refl
@@ -136,24 +136,21 @@ module _ (v : View) (held : StoreMemory) (h : Shelf) (shown : Shown v held h) wh
   sits : (s : ℕ) (m : Member) → slice_get held.members s ≡ Some m → SitsAs v g s m (h.seat s)
   sits s m at = subst (λ (x : Option Member). Sits v g s x (h.seat s)) at (shown.seats s)
 
+  module _ (t : ℕ) (o : IsOpenNumber g.base t) where
+    its-number : (m : Member) → HasNumber o.member m → m.tsn.number ≡ t
+    its-number m n = ap (λ x. x.number) n.number ∙ ap (λ (x : Open). x.tsn.number) (same_Some _ _ (sym n.is_open ∙ o.is_open)) ∙ o.number
+
+    at-stage : (m : Member) → slice_get held.members o.member ≡ Some m → (b : Bool) → goes_at m.stage ≡ b → list_any (is t) (numbers_going held.members) ≡ true
+    at-stage m at true on = has-number held.members o.member m t at on (its-number m (opens o.member m m.stage (sits o.member m at).stands on))
+    at-stage m at false off = absurd (not-resting o.member o.transaction o.is_open (rests o.member m m.stage (sits o.member m at).stands off))
+
+    among : (x : Option Member) → slice_get held.members o.member ≡ x → list_any (is t) (numbers_going held.members) ≡ true
+    among None none = absurd (not-resting o.member o.transaction o.is_open (subst (λ (y : Option Member). Sits v g o.member y (h.seat o.member)) none (shown.seats o.member)).1)
+    among (Some m) at = at-stage m at (goes_at m.stage) refl
+
   -- memory has the number of each transaction that goes on
   all-there : (t : ℕ) → course.going t ≡ true → list_any (is t) (numbers_going held.members) ≡ true
-  all-there t goes = of (shown.versions.readers.versions.going t goes)
-    where
-      module _ (o : IsOpenNumber g.base t) where
-        number : (m : Member) → HasNumber o.member m → m.tsn.number ≡ t
-        number m n = ap (λ x. x.number) n.number ∙ ap (λ (x : Open). x.tsn.number) (same_Some _ _ (sym n.is_open ∙ o.is_open)) ∙ o.number
-
-        at-stage : (m : Member) → slice_get held.members o.member ≡ Some m → (b : Bool) → goes_at m.stage ≡ b → list_any (is t) (numbers_going held.members) ≡ true
-        at-stage m at true on = has-number held.members o.member m t at on (number m (opens o.member m m.stage (sits o.member m at).stands on))
-        at-stage m at false off = absurd (not-resting o.member o.transaction o.is_open (rests o.member m m.stage (sits o.member m at).stands off))
-
-        by : (x : Option Member) → slice_get held.members o.member ≡ x → list_any (is t) (numbers_going held.members) ≡ true
-        by None none = absurd (not-resting o.member o.transaction o.is_open (subst (λ (y : Option Member). Sits v g o.member y (h.seat o.member)) none (shown.seats o.member)).1)
-        by (Some m) at = at-stage m at (goes_at m.stage) refl
-
-      of : IsOpenNumber g.base t → list_any (is t) (numbers_going held.members) ≡ true
-      of o = by o (slice_get held.members o.member) refl
+  all-there t goes = let o = shown.versions.readers.versions.going t goes in among t o (slice_get held.members o.member) refl
 
   -- and no other
   none-else : (t : ℕ) → course.going t ≡ false → list_any (is t) (numbers_going held.members) ≡ false
