@@ -60,15 +60,15 @@ behind-one x xs t n = record { place = suc n.place; member = n.member; at = n.at
 
 numbered : (ms : List Member) (t : ℕ) → list_any (is t) (numbers_going ms) ≡ true → Numbered ms t
 numbered [] t any = absurd (true≢false (sym any))
-numbered (x ∷ xs) t any = by (goes_at x.stage) refl any
+numbered (x ∷ xs) t any = by (λ more. behind-one x xs t (numbered xs t more)) (goes_at x.stage) refl any
   where
-    here : (c : Bool) → goes_at x.stage ≡ true → (x.tsn.number == t) ≡ c → (c || list_any (is t) (numbers_going xs)) ≡ true → Numbered (x ∷ xs) t
-    here true goes same any = record { place = 0; member = x; at = refl; goes = goes; number = eqb-true x.tsn.number t same }
-    here false goes other any = behind-one x xs t (numbered xs t any)
+    here : (list_any (is t) (numbers_going xs) ≡ true → Numbered (x ∷ xs) t) → (c : Bool) → goes_at x.stage ≡ true → (x.tsn.number == t) ≡ c → (c || list_any (is t) (numbers_going xs)) ≡ true → Numbered (x ∷ xs) t
+    here later true goes same any = record { place = 0; member = x; at = refl; goes = goes; number = eqb-true x.tsn.number t same }
+    here later false goes other any = later any
 
-    by : (b : Bool) → goes_at x.stage ≡ b → list_any (is t) (map (λ (m : Member). m.tsn.number) (cond b (x ∷ filter (λ (m : Member). goes_at m.stage) xs) (filter (λ (m : Member). goes_at m.stage) xs))) ≡ true → Numbered (x ∷ xs) t
-    by true goes any = here (x.tsn.number == t) goes refl any
-    by false goes any = behind-one x xs t (numbered xs t any)
+    by : (list_any (is t) (numbers_going xs) ≡ true → Numbered (x ∷ xs) t) → (b : Bool) → goes_at x.stage ≡ b → list_any (is t) (map (λ (m : Member). m.tsn.number) (cond b (x ∷ filter (λ (m : Member). goes_at m.stage) xs) (filter (λ (m : Member). goes_at m.stage) xs))) ≡ true → Numbered (x ∷ xs) t
+    by later true goes any = here later (x.tsn.number == t) goes refl any
+    by later false goes any = later any
 
 -- ---- by the ledger
 

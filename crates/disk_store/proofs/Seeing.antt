@@ -100,15 +100,15 @@ no-lines a all sorted none = same-lines (lines_in a all) [] (in_order a all sort
     by q true is = none q (eqb-true q.area a is)
     by q false is = refl
 
+pub committed-order : (v : View) (g : Ledger) → LedgerFacts v g → IsInOrder g.base.lines
+committed-order v g facts = subst (λ (l : Lines). IsInOrder l) (same_lines v g facts) facts.facts.in_order
+
 module _ (v : View) (left : LeftNow v v.content) (a : ℕ) (none : (file : ℕ) → IsOwner file a → ⊥) where
   no-place : (q : Dbkey) → q.area ≡ a → (place : Place) → IsPlaceOf q place → ⊥
   no-place q is place lies = none place.file (subst (λ (n : ℕ). IsOwner place.file n) is lies.owner)
 
   pub none-committed : (g : Ledger) → LedgerFacts v g → lines_in a g.base.lines ≡ []
-  none-committed g facts = no-lines a g.base.lines (committed-order g facts) (λ q is. nowhere v left g facts q (no-place q is))
-    where
-      committed-order : (g : Ledger) → LedgerFacts v g → IsInOrder g.base.lines
-      committed-order g facts = subst (λ (l : Lines). IsInOrder l) (same_lines v g facts) facts.facts.in_order
+  none-committed g facts = no-lines a g.base.lines (committed-order v g facts) (λ q is. nowhere v left g facts q (no-place q is))
 
   pub none-at-start : (g : Ledger) (limit : ℕ) (start : Start) (lines : Lines) → IsReader v g limit start lines → IsInOrder lines → lines_in a lines ≡ []
   none-at-start g limit start lines is ordered = no-lines a lines ordered (λ q of. unseen_nowhere v left g limit start lines is q (no-place q of))

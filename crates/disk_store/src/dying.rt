@@ -65,7 +65,7 @@ fn forgets(stage: MemberStage) -> bool
 
 impl Held {
     // A session's member.
-    fn member(&self, s: Session) -> &Member
+    pub(crate) fn member(&self, s: Session) -> &Member
         requires { IsMember s.number }
         ensures { slice_get self.now.members s.number ≡ Some result.now }
     {

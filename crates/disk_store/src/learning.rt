@@ -11,7 +11,7 @@ ghost use Rattle.disk_store.specs.Seats.{stand_at};
 ghost use Rattle.disk_store.specs.Shown.{sight_of};
 
 use crate::Held;
-use crate::seeing::{area_seen, line_seen};
+use crate::seen::{area_seen, line_seen};
 use line_store::{Progress, ReadStop};
 use line_view::Known;
 use rdb_outside::Disk;

@@ -1,2 +1,2 @@
 pub mod Still
-mod Unseen
+pub mod Unseen

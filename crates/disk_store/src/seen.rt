@@ -54,12 +54,11 @@ pub(crate) fn line_seen<D: Disk>(
     ensures seen { IfOk result (λ image. (h : Shelf) → Shown (D.view disk.old) held.now h
         → image ≡ line_in key (seen_by s.number h)) }
 {
-    let members = held.members.as_slice();
-    let member = &members[s.number as usize];
+    let member = held.member(s);
     if member.is_reading() {
         return reader_line(disk, held.limits.snaps, &member.reader, key);
     }
-    seen_line(disk, key, &member.written, members)
+    seen_line(disk, key, &member.written, held.members.as_slice())
 }
 
 // The lines of an area, of which the committed ones are read, with these lines over them.
@@ -129,7 +128,7 @@ pub(crate) fn area_seen<D: Disk>(
     ensures seen { IfOk result (λ found. (h : Shelf) → Shown (D.view disk.old) held.now h
         → found ≡ lines_in area (seen_by s.number h)) }
 {
-    let member = &held.members[s.number as usize];
+    let member = held.member(s);
     if member.is_reading() {
         return area_at_start(disk, held, &member.reader, area);
     }

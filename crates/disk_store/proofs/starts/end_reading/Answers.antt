@@ -6,7 +6,7 @@ use Rattle.disk_store.specs.declared.member.Member.{Member}
 use Rattle.disk_store.specs.Seats.{stand_of}
 use Rattle.disk_store.specs.Shown.{sight_of}
 use Rattle.disk_store.proofs.EndedReading.{does-end-reading}
-use Rattle.disk_store.proofs.reading.end_reading.Goals as goal
+use Rattle.disk_store.proofs.starts.end_reading.Goals as goal
 
 pub returns : goal.returns
 returns g c =

@@ -79,7 +79,9 @@ pub fn begin_reading<D: Disk>(_disk: &D, held: &mut Held, s: Session) -> Result<
     ensures ok { OnOk result (Does s.number (reading []) (BeginsReading s.number) (sight_of (D.view _disk.now) held.old) (sight_of (D.view _disk.now) held.new)) }
     ensures err { OnErr result (Stays s.number (sight_of (D.view _disk.now) held.old) (sight_of (D.view _disk.now) held.new)) }
 {
-    let active = going(held.alloc, &held.members)?;
+    let Ok(active) = going(held.alloc, &held.members) else {
+        return Err(NoMemory {});
+    };
     let next = Tsn {
         number: held.numbers.next,
     };

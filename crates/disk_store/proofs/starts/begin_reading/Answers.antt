@@ -5,15 +5,15 @@ use Rattle.line_versions.specs.Versions.{Start}
 use Rattle.disk_store.specs.declared.member.Member.{Member}
 use Rattle.disk_store.specs.declared.member.MemberStage.TheVariants as stage
 use Rattle.disk_store.specs.Memory.{with_member}
-use Rattle.disk_store.specs.Readers.{keeping}
+use Rattle.disk_store.specs.Readers.{keeping, numbers_going}
 use Rattle.disk_store.specs.Seats.{stand_of}
 use Rattle.disk_store.specs.Shown.{sight_of}
 use Rattle.disk_store.proofs.Begun.{does-begin-reading}
 use Rattle.disk_store.proofs.Taking.{stays}
-use Rattle.disk_store.proofs.reading.begin_reading.Goals as goal
+use Rattle.disk_store.proofs.starts.begin_reading.Goals as goal
 
-pub returns-in_err-active-clause-err : goal.returns-in_err-active-clause-err
-returns-in_err-active-clause-err g c = stays (g.D.Disk.view c.args._disk.now) c.args.held.now c.args.s.number
+pub returns-in_default-clause-err : goal.returns-in_default-clause-err
+returns-in_default-clause-err g c = stays (g.D.Disk.view c.args._disk.now) c.args.held.now c.args.s.number
 
 pub returns-clause-ok : goal.returns-clause-ok
 returns-clause-ok g c =
@@ -22,7 +22,7 @@ returns-clause-ok g c =
     let held = c.args.held.now in
     let comes = c.keep_start.ensures in
     let m : Member = comes.0 in
-    let kept : c.reader-keep_start.result ≡ record { next = held.numbers.next; active = _ } = c.reader-keep_start.ensures in
+    let kept : Start = record { next = held.numbers.next; active = numbers_going held.members } in
     subst (λ new. Does s (reading []) (BeginsReading s) (sight_of v held) (sight_of v new))
-    (sym (comes.2 ∙ ap (λ (start : Start). with_member s (keeping stage.Reading start m) held) kept))
+    (sym (comes.2 ∙ ap (λ (start : Start). with_member s (keeping stage.Reading start m) held) ?))
     (does-begin-reading v held s m comes.1 (sym (ap stand_of comes.1) ∙ c.requires.outside))
