@@ -1,5 +1,5 @@
 -- What a session's transaction sees, on each shelf that is shown.
-use Rattle.std.proofs.Common.{◌≡◌, ◌==◌, ◌∙◌, ℕ, Bool, true, false, cond, List, [], Option, Some, None, refl, sym, ap, subst}
+use Rattle.std.proofs.Common.{◌≡◌, ◌==◌, ◌∙◌, ℕ, Bool, true, false, cond, List, [], Option, Some, None, Result, Ok, Err, IfOk, refl, sym, ap, subst}
 use Rattle.std.specs.Prelude.{slice_get}
 use Rattle.std.proofs.lemmas.Bool.{eqb-true}
 use Rattle.rdb_types.specs.declared.keys.Dbkey.{Dbkey}
@@ -31,6 +31,11 @@ use Rattle.disk_store.specs.declared.member.MemberStage.TheVariants as stage
 use Rattle.disk_store.specs.Memory.{StoreMemory}
 use Rattle.disk_store.specs.Seats.{seat_with}
 use Rattle.disk_store.specs.Shown.{Sits, SitsAs, pages_of, Shown}
+
+-- what follows of each value holds of the answer
+pub ok-as : {T E : Type 0} {P Q : T → Type 0} (r : Result T E) → IfOk r P → ((x : T) → P x → Q x) → IfOk r Q
+ok-as (Ok x) holds f = f x holds
+ok-as (Err e) holds f = tt
 
 -- who is at rest and doesn't read, writes
 pub at-rest : (st : MemberStage) → IsAtRest (seat_with st [] []) → (st ≡ stage.Reading → ⊥) → st ≡ stage.Writing

@@ -1,11 +1,10 @@
 use Rattle.std.proofs.Common.{◌≡◌, ◌∙◌, sym, ap, subst, arith}
-use Rattle.std.proofs.lemmas.Result.{IfOk-weaker}
 use Rattle.committed_tables.specs.Tables.{WereUsed}
 use Rattle.page_table.specs.Pages.{Pages}
 use Rattle.reader_lines.specs.Readers.{IsReader}
 use Rattle.disk_store.specs.Memory.{StoreMemory}
 use Rattle.disk_store.proofs.Tabled.{file-of}
-use Rattle.disk_store.proofs.Seeing.{none-at-start}
+use Rattle.disk_store.proofs.Seeing.{ok-as, none-at-start}
 use Rattle.disk_store.proofs.seen.area_at_start.Goals as goal
 
 pub returns-in-Some-clause-seen : goal.returns-in-Some-clause-seen
@@ -14,9 +13,9 @@ returns-in-Some-clause-seen g c =
     let file = c.in-Some.file in
     let owner = c.in-Some.ensures.found in
     let limit = sym (ap (λ (x : StoreMemory). x.limits.snaps) c.held.view_is) in
-    IfOk-weaker _ _ _ (λ found seen t ledger lines is ordered used.
-        seen t ledger lines file (subst (λ n. IsReader v ledger n c.args.reader.now lines) limit is) ordered owner
-        (subst (λ (p : Pages). WereUsed p file lines) (sym c.table.ensures) (used file (file-of file c.args.area owner)))) c.reader_area.ensures.seen
+    ok-as c.reader_area.result c.reader_area.ensures.seen (λ found seen t ledger lines is ordered used.
+    seen t ledger lines file (subst (λ n. IsReader v ledger n c.args.reader.now lines) limit is) ordered owner
+    (subst (λ (p : Pages). WereUsed p file lines) (sym c.table.ensures) (used file (file-of file c.args.area owner))))
 
 pub returns-clause-seen : goal.returns-clause-seen
 returns-clause-seen g c = let v = g.D.Disk.view c.args.disk.now in λ t ledger lines is ordered used.

@@ -1,5 +1,4 @@
 use Rattle.std.proofs.Common.{◌≡◌, ◌∙◌, List, sym, ap, subst, arith}
-use Rattle.std.proofs.lemmas.Result.{IfOk-weaker}
 use Rattle.committed_lines.specs.Seen.{AreSeen}
 use Rattle.committed_tables.specs.Tables.{WereUsed}
 use Rattle.page_table.specs.Pages.{Pages}
@@ -7,7 +6,7 @@ use Rattle.disk_store.specs.declared.member.Member.{Member}
 use Rattle.disk_store.specs.BeforeImages.{seen_of}
 use Rattle.disk_store.specs.Memory.{StoreMemory}
 use Rattle.disk_store.proofs.Tabled.{file-of}
-use Rattle.disk_store.proofs.Seeing.{committed-order, none-committed}
+use Rattle.disk_store.proofs.Seeing.{ok-as, committed-order, none-committed}
 use Rattle.disk_store.proofs.seen.area_written.Goals as goal
 
 pub returns-in-Some-clause-seen : goal.returns-in-Some-clause-seen
@@ -15,9 +14,9 @@ returns-in-Some-clause-seen g c =
     let file = c.in-Some.file in
     let owner = c.in-Some.ensures.found in
     let members = sym (c.as_slice-members.ensures.value ∙ ap (λ (x : StoreMemory). x.members) c.held.view_is) in
-    IfOk-weaker _ _ _ (λ found seen t ledger facts are used.
-        seen t ledger file facts (subst (λ (l : List Member). AreSeen seen_of ledger l) members are) owner
-        (subst (λ (p : Pages). WereUsed p file ledger.base.lines) (sym c.table.ensures) (used file (file-of file c.args.area owner)))) c.seen_area.ensures.seen
+    ok-as c.seen_area.result c.seen_area.ensures.seen (λ found seen t ledger facts are used.
+    seen t ledger file facts (subst (λ (l : List Member). AreSeen seen_of ledger l) members are) owner
+    (subst (λ (p : Pages). WereUsed p file ledger.base.lines) (sym c.table.ensures) (used file (file-of file c.args.area owner))))
 
 pub returns-in-Ok-clause-seen : goal.returns-in-Ok-clause-seen
 returns-in-Ok-clause-seen g c = let v = g.D.Disk.view c.args.disk.now in λ t ledger facts are used.

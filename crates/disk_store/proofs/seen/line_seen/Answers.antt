@@ -1,5 +1,4 @@
 use Rattle.std.proofs.Common.{◌≡◌, ◌∙◌, List, sym, ap, subst}
-use Rattle.std.proofs.lemmas.Result.{IfOk-weaker}
 use Rattle.line_view.specs.Knowledge.{Lines, line_in}
 use Rattle.line_store.specs.Seats.{IsAtRest}
 use Rattle.committed_lines.specs.Seen.{AreSeen}
@@ -8,7 +7,7 @@ use Rattle.disk_store.specs.declared.member.Member.{Member}
 use Rattle.disk_store.specs.BeforeImages.{seen_of}
 use Rattle.disk_store.specs.Memory.{StoreMemory}
 use Rattle.disk_store.specs.Seats.{stand_of}
-use Rattle.disk_store.proofs.Seeing.{at-rest, sees-written, began}
+use Rattle.disk_store.proofs.Seeing.{ok-as, at-rest, sees-written, began}
 use Rattle.disk_store.proofs.Journalled.{are_seen}
 use Rattle.disk_store.proofs.seen.line_seen.Goals as goal
 
@@ -19,9 +18,9 @@ returns-then-is_reading-clause-seen g c =
     let m : Member = c.member-member.result.now in
     let at = c.is_reading.ensures.yes c.if-is_reading.true in
     let limit = sym (ap (λ (x : StoreMemory). x.limits.snaps) c.held.view_is) in
-    IfOk-weaker _ _ _ (λ image seen h shown.
-        let b = began v held c.args.s.number m c.member-member.ensures h shown at in
-        seen shown.tells shown.ledger b.start (subst (λ n. IsReader v shown.ledger n m.reader b.start) limit b.reader) ∙ ap (λ (l : Lines). line_in c.args.key l) b.sees) c.reader_line.ensures.seen
+    ok-as c.reader_line.result c.reader_line.ensures.seen (λ image seen h shown.
+    let b = began v held c.args.s.number m c.member-member.ensures h shown at in
+    seen shown.tells shown.ledger b.start (subst (λ n. IsReader v shown.ledger n m.reader b.start) limit b.reader) ∙ ap (λ (l : Lines). line_in c.args.key l) b.sees)
 
 pub returns-clause-seen : goal.returns-clause-seen
 returns-clause-seen g c =
@@ -32,6 +31,6 @@ returns-clause-seen g c =
     let was = c.member-member.ensures in
     let writes = at-rest m.stage (subst (λ x. IsAtRest (stand_of x)) was c.requires.seat) (c.is_reading.ensures.no c.if-is_reading.false) in
     let members = sym (c.as_slice.ensures.value ∙ ap (λ (x : StoreMemory). x.members) c.held.view_is) in
-    IfOk-weaker _ _ _ (λ image seen h shown.
-        seen shown.tells shown.ledger shown.facts (subst (λ (l : List Member). AreSeen seen_of shown.ledger l) members (are_seen v held h shown))
-        ∙ ap (λ (l : Lines). line_in c.args.key l) (sees-written v held s m was h shown writes)) c.seen_line.ensures.seen
+    ok-as c.seen_line.result c.seen_line.ensures.seen (λ image seen h shown.
+    seen shown.tells shown.ledger shown.facts (subst (λ (l : List Member). AreSeen seen_of shown.ledger l) members (are_seen v held h shown))
+    ∙ ap (λ (l : Lines). line_in c.args.key l) (sees-written v held s m was h shown writes))
