@@ -18,7 +18,7 @@ use Rattle.disk_store.specs.Shown.{Sits, sight_of}
 
 bare-alike : (st : MemberStage) (ws : List Write) (start : Lines) → bare (seat_with st [] []) ≡ bare (seat_with st ws start)
 bare-alike stage.Outside ws start = refl
-bare-alike stage.Beginning ws start = refl
+bare-alike (stage.Beginning ceiling) ws start = refl
 bare-alike stage.Writing ws start = refl
 bare-alike stage.Changing ws start = refl
 bare-alike stage.Broken ws start = refl

@@ -31,6 +31,7 @@ use Rattle.disk_store.specs.Standing.{StageStands}
 use Rattle.disk_store.specs.Shown.{Sits, SitsAs, WaitsAs, IsReading, AreReaders, HaveStarts, pages_of, Shown, sight_of}
 use Rattle.disk_store.proofs.Members.{set-here, set-beside, get-within}
 use Rattle.disk_store.proofs.Moving.{itself}
+use Rattle.disk_store.proofs.Kept.{kept-stays}
 use Rattle.disk_store.proofs.Stages.{is-outside}
 use Rattle.disk_store.proofs.Going.{are-active}
 
@@ -173,6 +174,7 @@ module _ (v : View) (held : StoreMemory) (s : ℕ) (m : Member) (was : slice_get
       seats = λ t. seats-stand t (t == s) refl;
       steps = λ t. steps-stand t (t == s) refl;
       numbers = shown.numbers;
+      kept = kept-stays held.members s held.numbers.next held.numbers.written m n was (omega arith) shown.kept;
       tables = shown.tables;
       versions = record {
         course = course;

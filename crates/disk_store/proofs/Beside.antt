@@ -1,13 +1,16 @@
 -- The members beside a session that makes a step.
-use Rattle.std.proofs.Common.{Some, ◌≡◌, ◌⊎◌, inl, inr, ℕ, length, sym, ap, subst, ◌∙◌}
+use Rattle.std.proofs.Common.{Some, ◌≡◌, ◌⊎◌, inl, inr, ℕ, ◌-◌, length, sym, ap, subst, ◌∙◌}
 use Rattle.rdb_outside.specs.Disk.{View}
 use Rattle.stable_lines.specs.Slots.{area_file}
 use Rattle.member_steps.specs.declared.committing.CommitTurn.{CommitTurn}
 use Rattle.member_steps.specs.declared.committing.CommitTurn.TheVariants.{Entering, Securing, Going}
 use Rattle.line_moves.specs.Lines.{ChangedLines}
 use Rattle.member_steps.specs.Turns.{commit_of_plan}
+use Rattle.area_files.specs.Areas.{IsDataPage, space_page_of}
 use Rattle.space_pages.specs.Space.{owner_of}
-use Rattle.disk_seats.specs.Ledgers.{Standing, resting, changing, broken, committing, undoing, gained, Commit, Ledger}
+use Rattle.std.specs.Prelude.{slice_get}
+use Rattle.disk_seats.proofs.Standings.{entries_gained}
+use Rattle.disk_seats.specs.Ledgers.{entries_of, Standing, resting, changing, broken, committing, undoing, gained, Commit, Ledger}
 use Rattle.disk_seats.specs.Members.{MayEnd, AreOwned}
 use Rattle.disk_store.specs.declared.member.Member.{Member}
 use Rattle.disk_store.specs.declared.member.MemberStage.{MemberStage}
@@ -28,11 +31,15 @@ pub record StaysWith (t : ℕ) (g h : Ledger) : Type 0 where
   pub going : h.base.going t ≡ g.base.going t
   pub commit : (c : Commit) → c.member ≡ t → g.commit ≡ Some c → h.commit ≡ Some c
 
+-- reads of space pages give what they gave
+abbrev pub SameSpaces : View → View → Type 0
+SameSpaces v w = (file page : ℕ) → IsDataPage page → w.content (area_file file) (space_page_of page - 1) ≡ v.content (area_file file) (space_page_of page - 1)
+
 -- reads of area files give what they gave
 abbrev pub SameAreas : View → View → Type 0
 SameAreas v w = (file slot : ℕ) → w.content (area_file file) slot ≡ v.content (area_file file) slot
 
-module _ (v w : View) (g h : Ledger) (t : ℕ) (same : SameAreas v w) (stays : StaysWith t g h) where
+module _ (v w : View) (g h : Ledger) (t : ℕ) (same : SameSpaces v w) (stays : StaysWith t g h) where
   pub rests : g.standing t ≡ resting → h.standing t ≡ resting
   rests was = elim stays.standing [ inl is ↦ is ∙ was | inr is ↦ is ∙ ap gained was ]
 
@@ -48,6 +55,18 @@ module _ (v w : View) (g h : Ledger) (t : ℕ) (same : SameAreas v w) (stays : S
       by broken m = tt
       by (committing all) m = absurd m
       by (undoing all left) m = absurd m
+
+  broken-stays : (m : Member) → IsBroken g t m → IsBroken h t m
+  broken-stays m is = record {
+    transaction = is.transaction;
+    is_open = stays.going ∙ is.is_open;
+    number = is.number;
+    may_end = ends is.may_end;
+    keys = λ i undo got. is.keys i undo (elim stays.standing [
+      | inl same ↦ ap (λ x. slice_get (entries_of x) i) (sym same) ∙ got
+      | inr more ↦ ap (λ l. slice_get l i) (sym (entries_gained (g.standing t)) ∙ ap entries_of (sym more)) ∙ got
+    ]);
+  }
 
   undoing-stays : (all : _) (left : ℕ) → g.standing t ≡ undoing all left → h.standing t ≡ undoing all left
   undoing-stays all left was = elim stays.standing [ inl is ↦ is ∙ was | inr is ↦ is ∙ ap gained was ]
@@ -65,16 +84,16 @@ module _ (v w : View) (g h : Ledger) (t : ℕ) (same : SameAreas v w) (stays : S
   journalled m has = record { begun = begun m has.begun; all_written = has.all_written }
 
   commit-of : (m : Member) (at : _) → IsCommitOf g t m at → IsCommitOf h t m at
-  commit-of m at is = record { plan = is.plan; its = is.its; number = is.number; lines = is.lines; count = is.count; keys = is.keys; under_way = stays.commit (commit_of_plan is.plan at) is.its is.under_way }
+  commit-of m at is = record { plan = is.plan; its = is.its; number = is.number; lines = is.lines; long = is.long; count = is.count; keys = is.keys; under_way = stays.commit (commit_of_plan is.plan at) is.its is.under_way }
 
   owned : (lines : ChangedLines) (n : ℕ) → AreOwned v.content lines n → AreOwned w.content lines n
-  owned lines n are i line place below at of = ap (λ bytes. owner_of place.page bytes) (same place.file _) ∙ are i line place below at of
+  owned lines n are i line place below at of = ap (λ bytes. owner_of place.page bytes) (same place.file place.page of.is_data) ∙ are i line place below at of
 
   entered : (m : Member) (n : ℕ) → HasEntered v g t m n → HasEntered w h t m n
   entered m n has = record { journalled = journalled m has.journalled; owned = owned m.written.lines n has.owned }
 
   undone : (m : Member) (left : ℕ) → IsUndone g t m left → IsUndone h t m left
-  undone m left is = record { transaction = is.transaction; all = is.all; stands = undoing-stays is.all left is.stands; is_open = stays.going ∙ is.is_open; number = is.number; keys = is.keys }
+  undone m left is = record { transaction = is.transaction; all = is.all; stands = undoing-stays is.all left is.stands; is_open = stays.going ∙ is.is_open; number = is.number; count = is.count; keys = is.keys }
 
   turns : (turn : CommitTurn) (m : Member) → TurnStands turn v g t m → TurnStands turn w h t m
   turns (Entering at) m is = entered m at is
@@ -89,7 +108,7 @@ module _ (v w : View) (g h : Ledger) (t : ℕ) (same : SameAreas v w) (stays : S
 
   stage-stays : (st : MemberStage) (m : Member) → StageStands st v g t m → StageStands st w h t m
   stage-stays stage.Outside m is = rests is
-  stage-stays stage.Beginning m is = rests is
+  stage-stays (stage.Beginning ceiling) m is = rests is
   stage-stays stage.Writing m is = journalled m is
   stage-stays stage.Changing m is = begun m is
   stage-stays stage.Broken m is = broken-stays m is
@@ -104,4 +123,4 @@ module _ (v w : View) (g h : Ledger) (t : ℕ) (same : SameAreas v w) (stays : S
   stays-with m is = stage-stays m.stage m is
 
 pub stays-there : (v w : View) (g h : Ledger) (t : ℕ) → SameAreas v w → StaysOf t g h → (m : Member) → StageStands m.stage v g t m → StageStands m.stage w h t m
-stays-there v w g h t same stays = stays-with v w g h t same (record { standing = stays.standing; going = stays.going; commit = λ c own is. stays.commit ∙ is })
+stays-there v w g h t same stays = stays-with v w g h t (λ file page is. same file (space_page_of page - 1)) (record { standing = stays.standing; going = stays.going; commit = λ c own is. stays.commit ∙ is })

@@ -29,6 +29,7 @@ use Rattle.disk_store.specs.Seats.{seat_with, stand_of, stand_at}
 use Rattle.disk_store.specs.Standing.{IsCommitOf, StageStands}
 use Rattle.disk_store.specs.Shown.{Shown, sight_of}
 use Rattle.disk_store.proofs.Moving.{itself}
+use Rattle.disk_store.proofs.Kept.{kept-stays}
 use Rattle.disk_store.proofs.Beside.{StaysWith, stays-with}
 use Rattle.disk_store.proofs.Stepping.{ComesTo, does-apart, does-moves, does-flying, becomes-member, space-same}
 use Rattle.disk_store.proofs.Passing.{passes-none, none-leaves, tables-pass, same-ledger}
@@ -65,7 +66,7 @@ module _ (v : View) (held : StoreMemory) (s : ℕ) (m : Member) (was : slice_get
         let n : Member = record m { stage = stage.Dead false recovery.Ending; written = w } in
         let rests-now : (g : Ledger) → StageStands m.stage v g s m → g.standing s ≡ resting = λ g stands. rests g (subst (λ x. StageStands x v g s m) at stands) in
         stood n (does-apart v v held (record (with_member s n held) { numbers = held.numbers }) s m n was (becomes-member held held.numbers s n) (λ e. cc) refl (none-leaves v)
-        (λ h shown stands. same-ledger v v (passes-none v) held s n h shown shown.numbers.ceiling shown.facts (rests-now shown.ledger stands) tt)
+        (λ h shown stands. same-ledger v v (passes-none v) held s n h shown shown.numbers.ceiling (kept-stays held.members s held.numbers.next held.numbers.written m n was (omega arith) shown.kept) shown.facts (rests-now shown.ledger stands) tt)
         (omega arith) (omega arith) (died (seat_with m.stage [] [])) (Dies s) (arrives-at false arrives)
         (λ h shown stands c is. not_resting v shown.ledger s shown.facts (rests-now shown.ledger stands) c is) (λ h shown stands. record { lines = refl; commit = refl }) space-same
         (λ h g start related moves. dies-from h g start false (writes_in w.lines) related.seat (dies-at false (writes_in w.lines) dies start) moves))
@@ -74,7 +75,7 @@ module _ (v : View) (held : StoreMemory) (s : ℕ) (m : Member) (was : slice_get
 
     end-at : (left : IsTrue v.tells → LeftNow v v.content) (b : Bool) → ((g : Ledger) → StageStands st v g s m → MayEnd (g.standing s)) → bare (dead b []) ≡ bare (died (seat_with st [] [])) → ((start : Lines) → died (seat_with st ws start) ≡ dead b ws) →
         DiesAs (at_stage (stage.Dead b recovery.Ending) m)
-    end-at left b may arrives dies = stood (at_stage (stage.Dead b recovery.Ending) m) (does-end v held s m was (stage.Dead b recovery.Ending) left (λ g rests. rests) (λ waiting. tt) (λ e. cc)
+    end-at left b may arrives dies = stood (at_stage (stage.Dead b recovery.Ending) m) (does-end v held s m was (stage.Dead b recovery.Ending) left (λ g rests. rests) (λ waiting. tt) (λ e. cc) refl
         (λ g stands. may g (subst (λ x. StageStands x v g s m) at stands)) (died (seat_with m.stage [] [])) (Dies s) (arrives-at b arrives)
         (λ h g start seat moves. dies-from h g start b ws seat (dies-at b ws dies start) moves))
 
@@ -89,8 +90,8 @@ module _ (v : View) (held : StoreMemory) (s : ℕ) (m : Member) (was : slice_get
     judged flown =
         let n : Member = at_stage (stage.Dead true recovery.Judging) m in
         stood n (does-flying v v held (record (with_member s n held) { numbers = held.numbers }) s m n was (becomes-member held held.numbers s n) (λ e. cc) refl (none-leaves v)
-        (λ h shown stands. same-ledger v v (passes-none v) held s n h shown shown.numbers.ceiling shown.facts
-        (let is = turned shown.ledger stands in record { at = at-turn; commit = record { plan = is.plan; its = is.its; number = is.number; lines = is.lines; count = is.count; keys = is.keys; under_way = is.under_way }; flying = flown }) tt)
+        (λ h shown stands. same-ledger v v (passes-none v) held s n h shown shown.numbers.ceiling (kept-stays held.members s held.numbers.next held.numbers.written m n was (omega arith) shown.kept) shown.facts
+        (let is = turned shown.ledger stands in record { at = at-turn; commit = record { plan = is.plan; its = is.its; number = is.number; lines = is.lines; long = is.long; count = is.count; keys = is.keys; under_way = is.under_way }; flying = flown }) tt)
         (omega arith) (omega arith) (died (seat_with m.stage [] [])) (Dies s) (arrives-at (stage.Committing (Going at-turn)) at true refl)
         (λ start. sym (ap (λ x. in_flight (seat_with x ws start)) at)) (λ h shown stands. record { lines = refl; commit = refl }) space-same
         (λ h g start related moves. dies-from h g start true ws related.seat (dies-at (stage.Committing (Going at-turn)) at true ws (λ start. refl) start) moves))
@@ -135,9 +136,10 @@ module _ (v : View) (held : StoreMemory) (s : ℕ) (m : Member) (was : slice_get
           facts = given_facts v g c shown.facts is.under_way grounded;
           limits = refl;
           none = λ t apart rests. beside-it t apart ∙ rests;
-          others = λ t x apart stood. stays-with v v g after t (λ file slot. refl) (stays t apart) x stood;
-          mine = record { transaction = c.transaction; all = is.plan.all; stands = own; is_open = ap (λ k. g.base.going k) (sym is.its) ∙ old.is.is_open; number = sym is.number; keys = is.keys };
+          others = λ t x apart stood. stays-with v v g after t (λ file page is. refl) (stays t apart) x stood;
+          mine = record { transaction = c.transaction; all = is.plan.all; stands = own; is_open = ap (λ k. g.base.going k) (sym is.its) ∙ old.is.is_open; number = sym is.number; count = is.count; keys = is.keys };
           numbered = record { number = shown.numbers.number; first = shown.numbers.first; ceiling = shown.numbers.ceiling; group = shown.numbers.group };
+          kept = kept-stays held.members s held.numbers.next held.numbers.written m n was (omega arith) shown.kept;
           tabled = tables-pass v v (passes-none v) g after held.tables refl shown.tables;
           course_behind = shown.versions.course;
           waiting_behind = shown.versions.waiting;
@@ -167,7 +169,7 @@ module _ (v : View) (held : StoreMemory) (s : ℕ) (m : Member) (was : slice_get
 
   forgets-by : (st : MemberStage) → m.stage ≡ st → has_none st ≡ true → DiesAs (forgotten (dead_at st m.journalled) m)
   forgets-by stage.Outside at has = rest-at stage.Outside at none (λ g rests. rests) refl (λ start. refl)
-  forgets-by stage.Beginning at has = rest-at stage.Beginning at none (λ g rests. rests) refl (λ start. refl)
+  forgets-by (stage.Beginning ceiling) at has = rest-at (stage.Beginning ceiling) at none (λ g rests. rests) refl (λ start. refl)
   forgets-by stage.Writing at has = absurd (cc)
   forgets-by stage.Changing at has = absurd (cc)
   forgets-by stage.Broken at has = absurd (cc)
@@ -190,10 +192,10 @@ module _ (v : View) (held : StoreMemory) (s : ℕ) (m : Member) (was : slice_get
 
     stays-by : (st : MemberStage) → m.stage ≡ st → has_none st ≡ false → IsAlive (seat_with st [] []) → DiesAs (at_stage (dead_at st m.journalled) m)
     stays-by stage.Outside at has alive = absurd (cc)
-    stays-by stage.Beginning at has alive = absurd (cc)
+    stays-by (stage.Beginning ceiling) at has alive = absurd (cc)
     stays-by stage.Writing at has alive = end-at stage.Writing at left false (λ g has. may-end-begun g s m has.begun) refl (λ start. refl)
     stays-by stage.Changing at has alive = end-at stage.Changing at left false (λ g has. may-end-begun g s m has) refl (λ start. refl)
-    stays-by stage.Broken at has alive = end-at stage.Broken at left false (λ g has. has.may_end) refl (λ start. refl)
+    stays-by stage.Broken at has alive = end-at stage.Broken at left false (λ g is. is.may_end) refl (λ start. refl)
     stays-by stage.Prepared at has alive = end-at stage.Prepared at left false (λ g has. may-end-begun g s m has.begun) refl (λ start. refl)
     stays-by (stage.Committing turn) at has alive = commits-by turn at
     stays-by stage.RollingBack at has alive = rest-at stage.RollingBack at m.written (λ g rests. rests) refl (λ start. refl)

@@ -16,12 +16,13 @@ use Rattle.disk_store.specs.Readers.{keeping}
 use Rattle.disk_store.specs.Seats.{seat_with}
 use Rattle.disk_store.specs.Standing.{StageStands}
 use Rattle.disk_store.specs.Shown.{sight_of}
+use Rattle.disk_store.proofs.Kept.{kept-stays}
 use Rattle.disk_store.proofs.Stepping.{does-step, becomes-member, space-same}
 use Rattle.disk_store.proofs.Passing.{passes-none, none-leaves, same-ledger}
 
 pub is-reader : (st : MemberStage) → IsReader (seat_with st [] []) → st ≡ stage.Reading
 is-reader stage.Outside is = absurd is
-is-reader stage.Beginning is = absurd is
+is-reader (stage.Beginning ceiling) is = absurd is
 is-reader stage.Writing is = absurd is
 is-reader stage.Changing is = absurd is
 is-reader stage.Broken is = absurd is
@@ -45,5 +46,5 @@ module _ (v : View) (held : StoreMemory) (s : ℕ) (m : Member) (was : slice_get
   pub does-end-reading : Does s outside (Moves s outside) (sight_of v held) (sight_of v (with_member s n held))
   does-end-reading =
       does-step v v held (record (with_member s n held) { numbers = held.numbers }) s m n was (becomes-member held held.numbers s n) (λ e. cc) refl (none-leaves v)
-      (λ h shown stands. same-ledger v v (passes-none v) held s n h shown shown.numbers.ceiling shown.facts (subst (λ x. StageStands x v shown.ledger s m) at stands) tt)
+      (λ h shown stands. same-ledger v v (passes-none v) held s n h shown shown.numbers.ceiling (kept-stays held.members s held.numbers.next held.numbers.written m n was (omega arith) shown.kept) shown.facts (subst (λ x. StageStands x v shown.ledger s m) at stands) tt)
       (omega arith) (omega arith) outside (Moves s outside) refl still (λ h shown stands. record { lines = refl; commit = refl }) space-same (λ h g from related moves. moves)

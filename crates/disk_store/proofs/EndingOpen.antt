@@ -28,10 +28,12 @@ use Rattle.disk_store.specs.declared.member.Member.{Member}
 use Rattle.disk_store.specs.declared.member.MemberStage.{MemberStage}
 use Rattle.disk_store.specs.declared.member.MemberStage.TheVariants as stage
 use Rattle.disk_store.specs.Memory.{StoreMemory, with_member, at_stage}
+use Rattle.disk_store.specs.Numbers.{kept_at}
 use Rattle.disk_store.specs.Seats.{seat_with}
 use Rattle.disk_store.specs.Standing.{StageStands}
 use Rattle.disk_store.specs.Shown.{WaitsAs, Shown, sight_of}
 use Rattle.disk_store.proofs.Moving.{itself}
+use Rattle.disk_store.proofs.Kept.{kept-stays}
 use Rattle.disk_store.proofs.Beside.{StaysOf, stays-there}
 use Rattle.disk_store.proofs.Stepping.{ComesTo, does-apart, becomes-member, space-same}
 use Rattle.disk_store.proofs.Passing.{passes-none, none-leaves, tables-pass}
@@ -78,7 +80,7 @@ module _ (v : View) (limit : ℕ) (slots : SnapshotSlots) (course : Course) (tsn
   }
 
 module _ (v : View) (held : StoreMemory) (s : ℕ) (m : Member) (was : slice_get held.members s ≡ Some m) (next : MemberStage) (left : IsTrue v.tells → LeftNow v v.content)
-    (rests-next : (g : Ledger) → g.standing s ≡ resting → StageStands next v g s (at_stage next m)) (waits-next : (waiting : Waiting) → WaitsAs next waiting s (at_stage next m)) (plain : next ≢ stage.Reading)
+    (rests-next : (g : Ledger) → g.standing s ≡ resting → StageStands next v g s (at_stage next m)) (waits-next : (waiting : Waiting) → WaitsAs next waiting s (at_stage next m)) (plain : next ≢ stage.Reading) (free : kept_at next ≡ 0)
     (may : (g : Ledger) → StageStands m.stage v g s m → MayEnd (g.standing s)) where
   abbrev n : Member
   n = at_stage next m
@@ -112,6 +114,7 @@ module _ (v : View) (held : StoreMemory) (s : ℕ) (m : Member) (was : slice_get
       others = λ t x apart stands. stays-there v v g (ended_by s g) t (λ file slot. refl) (stays t apart) x stands;
       mine = rests-next (ended_by s g) rests;
       numbered = record { number = shown.numbers.number; first = shown.numbers.first; ceiling = shown.numbers.ceiling; group = record { in_slot = shown.numbers.group.in_slot; numbered = shown.numbers.group.numbered } };
+      kept = kept-stays held.members s held.numbers.next held.numbers.written m n was (omega (arith, free)) shown.kept;
       tabled = tables-pass v v (passes-none v) g (ended_by s g) held.tables refl shown.tables;
       course_behind = course_undone has.transaction.tsn.number (course_given given shown.versions.course);
       waiting_behind = set_waiting s [] shown.versions.waiting;

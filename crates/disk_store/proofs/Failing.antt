@@ -1,21 +1,21 @@
 -- A step that fails, or that comes to no other stage: the session stands as it did.
-use Rattle.std.proofs.Common.{◌≡◌, ◌≢◌, ◌≤◌, ◌⊎◌, ℕ, IsTrue, Some, inl, refl, sym, subst}
+use Rattle.std.proofs.Common.{◌≡◌, ◌≢◌, ◌≤◌, ◌⊎◌, ℕ, IsTrue, Some, inl, refl, sym, subst, arith}
 use Rattle.std.specs.Prelude.{slice_get}
-use Rattle.rdb_outside.specs.Disk.{View, Pending, LeavesOnly, IsPending}
+use Rattle.rdb_outside.specs.Disk.{View, LeavesOnly, IsPending}
 use Rattle.rdb_outside.specs.Causes.{Rose}
 use Rattle.line_store.specs.Shelves.{Shelf}
 use Rattle.line_store.specs.Calls.{Moves, Fails}
 use Rattle.line_store.specs.declared.answers.Fault.TheVariants.{Failed, Bad}
 use Rattle.line_store.specs.Sights.{Does}
 use Rattle.disk_seats.specs.Members.{LedgerFacts}
-use Rattle.member_steps.specs.Beginning.{HasCeiling}
 use Rattle.disk_store.specs.declared.member.Member.{Member}
 use Rattle.disk_store.specs.declared.member.MemberStage.TheVariants as stage
 use Rattle.disk_store.specs.Memory.{StoreMemory, with_member}
 use Rattle.disk_store.specs.Seats.{stand_of, stand_at}
 use Rattle.disk_store.specs.Standing.{StageStands}
-use Rattle.disk_store.specs.Shown.{Shown, sight_of}
+use Rattle.disk_store.specs.Shown.{CeilingStands, Shown, sight_of}
 use Rattle.disk_store.proofs.Members.{set-same}
+use Rattle.disk_store.proofs.Kept.{kept-stays}
 use Rattle.disk_store.proofs.Beside.{stays-there}
 use Rattle.disk_store.proofs.Stepping.{does-seated, becomes-member, space-same}
 use Rattle.disk_store.proofs.Passing.{Passes, same-ledger}
@@ -27,7 +27,7 @@ pub record KeepsIt (v w : View) (held : StoreMemory) (s : ℕ) (m : Member) : Ty
   pub no_fewer : v.faults ≤ w.faults
   pub leaves : IsTrue v.tells → LeavesOnly v w (λ image. IsPending v image ⊎ IsPending w image)
   pub passes : IsTrue v.tells → Passes v w
-  pub ceiling : IsTrue v.tells → HasCeiling (Pending v) held.numbers.ceiling → HasCeiling (Pending w) held.numbers.ceiling
+  pub ceiling : IsTrue v.tells → CeilingStands v held.numbers → CeilingStands w held.numbers
   pub facts : (h : Shelf) (shown : Shown v held h) → StageStands m.stage v shown.ledger s m → LedgerFacts w shown.ledger
 
 module _ (v w : View) (held : StoreMemory) (s : ℕ) (m : Member) (was : slice_get held.members s ≡ Some m) (writes : m.stage ≢ stage.Reading) (keeps : KeepsIt v w held s m) where
@@ -36,7 +36,7 @@ module _ (v w : View) (held : StoreMemory) (s : ℕ) (m : Member) (was : slice_g
   does-stay R as-asked =
       let does : Does s (stand_of (Some m)) R (sight_of v held) (sight_of w (record (with_member s m held) { numbers = held.numbers })) =
       does-seated v w held (record (with_member s m held) { numbers = held.numbers }) s m m was (becomes-member held held.numbers s m) writes keeps.told keeps.leaves
-      (λ h shown stands. let p = keeps.passes shown.tells in same-ledger v w p held s m h shown (keeps.ceiling shown.tells shown.numbers.ceiling) (keeps.facts h shown stands)
+      (λ h shown stands. let p = keeps.passes shown.tells in same-ledger v w p held s m h shown (keeps.ceiling shown.tells shown.numbers.ceiling) (kept-stays held.members s held.numbers.next held.numbers.written m m was (omega arith) shown.kept) (keeps.facts h shown stands)
       (stays-there v w shown.ledger shown.ledger s p.areas (record { standing = inl refl; going = refl; commit = refl }) m stands) (shown.versions.waits s m was))
       keeps.later keeps.no_fewer (stand_of (Some m)) R refl
       (λ start. refl) (λ h shown stands. record { lines = refl; commit = refl }) space-same

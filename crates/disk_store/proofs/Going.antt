@@ -98,7 +98,7 @@ module _ (v : View) (held : StoreMemory) (h : Shelf) (shown : Shown v held h) wh
 
   opens : (s : ℕ) (m : Member) (st : MemberStage) → StageStands st v g s m → goes_at st ≡ true → HasNumber s m
   opens s m stage.Outside x goes = absurd (true≢false (sym goes))
-  opens s m stage.Beginning x goes = absurd (true≢false (sym goes))
+  opens s m (stage.Beginning ceiling) x goes = absurd (true≢false (sym goes))
   opens s m stage.Writing x goes = begun s m x.begun
   opens s m stage.Changing x goes = begun s m x
   opens s m stage.Broken x goes = record { transaction = x.transaction; is_open = x.is_open; number = x.number }
@@ -116,7 +116,7 @@ module _ (v : View) (held : StoreMemory) (h : Shelf) (shown : Shown v held h) wh
 
   rests : (s : ℕ) (m : Member) (st : MemberStage) → StageStands st v g s m → goes_at st ≡ false → g.standing s ≡ resting
   rests s m stage.Outside x goes = x
-  rests s m stage.Beginning x goes = x
+  rests s m (stage.Beginning ceiling) x goes = x
   rests s m stage.Writing x goes = absurd (true≢false goes)
   rests s m stage.Changing x goes = absurd (true≢false goes)
   rests s m stage.Broken x goes = absurd (true≢false goes)

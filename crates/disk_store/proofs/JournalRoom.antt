@@ -21,7 +21,7 @@ use Rattle.disk_store.proofs.Stages.{written-now}
 -- where a reader began says nothing of what is set aside
 whatever-start : (st : MemberStage) (ws : List Write) (start : Lines) → set_aside (seat_with st ws start) ≡ set_aside (seat_with st ws [])
 whatever-start stage.Outside ws start = refl
-whatever-start stage.Beginning ws start = refl
+whatever-start (stage.Beginning ceiling) ws start = refl
 whatever-start stage.Writing ws start = refl
 whatever-start stage.Changing ws start = refl
 whatever-start stage.Broken ws start = refl

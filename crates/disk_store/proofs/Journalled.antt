@@ -24,7 +24,7 @@ own_keys m seen is = by m.stage is
   where
     by : (st : MemberStage) → seen_in st m ≡ Some seen → seen ≡ its_own m
     by stage.Outside at = absurd (none-some _ at)
-    by stage.Beginning at = absurd (none-some _ at)
+    by (stage.Beginning ceiling) at = absurd (none-some _ at)
     by stage.Writing at = absurd (none-some _ at)
     by stage.Changing at = absurd (none-some _ at)
     by stage.Broken at = absurd (none-some _ at)
@@ -66,7 +66,7 @@ module _ (v : View) (held : StoreMemory) (h : Shelf) (shown : Shown v held h) wh
     where
       by : (st : MemberStage) → StageStands st v g s m → seen_in st m ≡ Some seen → Opens s (its_own m)
       by stage.Outside x at = absurd (none-some _ at)
-      by stage.Beginning x at = absurd (none-some _ at)
+      by (stage.Beginning ceiling) x at = absurd (none-some _ at)
       by stage.Writing x at = absurd (none-some _ at)
       by stage.Changing x at = absurd (none-some _ at)
       by stage.Broken x at = absurd (none-some _ at)
@@ -106,7 +106,7 @@ module _ (v : View) (held : StoreMemory) (h : Shelf) (shown : Shown v held h) wh
       where
         by : (st : MemberStage) → StageStands st v g s m → (seen : Seen) × (seen_in st m ≡ Some seen)
         by stage.Outside x = absurd (not_resting x)
-        by stage.Beginning x = absurd (not_resting x)
+        by (stage.Beginning ceiling) x = absurd (not_resting x)
         by stage.Writing x = absurd (not_changing x.begun.all x.begun.stable x.begun.stands)
         by stage.Changing x = absurd (not_changing x.all x.stable x.stands)
         by stage.Broken x = absurd (not_ending (g.standing s) refl x.may_end)

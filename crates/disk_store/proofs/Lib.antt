@@ -1,5 +1,6 @@
 pub mod Members
 pub mod Readers
+pub mod Sound
 pub mod Moving
 pub mod Stages
 pub mod Beside
@@ -17,10 +18,26 @@ pub mod Agreeing
 pub mod Deaths
 pub mod Restored
 pub mod Journalled
+pub mod Kept
 pub mod Reading
 mod Going
 mod Begun
 mod Seeing
 mod EndedReading
+pub mod FoundLines
+pub mod LaidLines
+pub mod Changed
+pub mod Stopping
+pub mod LeftTo
+pub mod SnapWritten
+pub mod Breaking
+pub mod SpentSlots
+pub mod WaitMore
+pub mod JournalSteps
+pub mod PushSteps
 mod Tabled
 mod Taking
+pub mod PutBack
+pub mod Raising
+mod FewSteps
+pub mod Judged

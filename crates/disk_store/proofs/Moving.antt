@@ -21,11 +21,13 @@ use Rattle.disk_store.specs.declared.member.Member.{Member}
 use Rattle.disk_store.specs.declared.member.MemberStage.{MemberStage}
 use Rattle.disk_store.specs.declared.member.MemberStage.TheVariants as stage
 use Rattle.disk_store.specs.Memory.{StoreMemory, with_member, at_stage}
+use Rattle.disk_store.specs.Numbers.{kept_at}
 use Rattle.disk_store.specs.Seats.{seat_with, stand_of, steps_in, steps_of, steps_at}
 use Rattle.disk_store.specs.Standing.{StageStands}
 use Rattle.disk_store.specs.Shown.{Sits, SitsAs, WaitsAs, IsReading, Shown, sight_of}
 use Rattle.disk_store.proofs.Members.{set-here, set-beside}
 use Rattle.disk_store.proofs.Readers.{reader-beside, readers-still, starts-still}
+use Rattle.disk_store.proofs.Kept.{kept-stays}
 
 true_from_T : (b : Bool) → T b → b ≡ true
 true_from_T true h = refl
@@ -40,6 +42,8 @@ pub record MayCome (v : View) (s : ℕ) (m : Member) (next : MemberStage) : Type
   pub stands : (g : Ledger) → StageStands m.stage v g s m → StageStands next v g s (at_stage next m)
   pub waits : (waiting : Waiting) → WaitsAs m.stage waiting s m → WaitsAs next waiting s (at_stage next m)
   pub writes : next ≢ stage.Reading
+  -- no number is kept free for it
+  pub free : kept_at next ≡ 0
 
 module _ (v : View) (held : StoreMemory) (s : ℕ) (m : Member) (next : MemberStage) (within : s < length held.members) (was : slice_get held.members s ≡ Some m) (may : MayCome v s m next) where
   abbrev behind : StoreMemory
@@ -135,6 +139,7 @@ module _ (v : View) (held : StoreMemory) (s : ℕ) (m : Member) (next : MemberSt
     seats = λ t. seats-stand h shown t (t == s) refl;
     steps = λ t. steps-stand h shown t (t == s) refl;
     numbers = shown.numbers;
+    kept = kept-stays held.members s held.numbers.next held.numbers.written m (at_stage next m) was (omega (arith, may.free)) shown.kept;
     tables = shown.tables;
     versions = record {
       course = course_read s shown.versions.course;

@@ -1,9 +1,11 @@
 -- A device call that writes no area file and no snapshot file, and what stays shown behind it.
-use Rattle.std.proofs.Common.{◌≡◌, ◌≢◌, ◌≤◌, ◌-◌, ℕ, IsTrue, List, ◌⊎◌, inl, refl, sym, ap, subst, arith}
+use Rattle.std.proofs.Common.{◌≡◌, ◌≢◌, ◌≤◌, ◌-◌, ◌+◌, ℕ, IsTrue, List, ◌⊎◌, inl, refl, sym, ap, subst, arith}
+use Rattle.std.specs.Prelude.{slice_set}
 use Rattle.rdb_types.specs.declared.file.FileId.{FileId}
-use Rattle.rdb_types.specs.declared.file.FileKind.TheVariants.{Area, Snap}
+use Rattle.rdb_types.specs.declared.file.FileKind.TheVariants.{Area, Snap, Root as RootKind}
 use Rattle.rdb_outside.specs.Disk.{View, Pending, LeavesOnly, IsPending, OnlyReads}
 use Rattle.rdb_outside.specs.Moments.{weaker, started, each_slot}
+use Rattle.root_file.specs.Root.{IsRoot}
 use Rattle.new_database.specs.Maker.{root_file}
 use Rattle.snapshot_file.specs.Entry.{IsEntry}
 use Rattle.line_versions.specs.Files.{snap_file}
@@ -15,17 +17,19 @@ use Rattle.line_moves.specs.Classes.{HasItsClass}
 use Rattle.line_store.specs.Shelves.{Shelf}
 use Rattle.disk_seats.specs.Ledgers.{Ledger}
 use Rattle.disk_seats.specs.Members.{LedgerFacts}
-use Rattle.member_steps.specs.Beginning.{HasCeiling}
+use Rattle.member_steps.proofs.Ceilings.{stays_written}
 use Rattle.committed_tables.specs.Tables.{HasCommitted}
 use Rattle.version_writing.specs.Tables.{HoldsAll}
 use Rattle.version_writing.specs.declared.snapshot_slots.SnapshotSlots.{SnapshotSlots}
 use Rattle.ledger_versions.specs.Readers.{ReaderFacts, Waiting}
 use Rattle.ledger_versions.proofs.Written.{still_reads, still_aside}
 use Rattle.disk_store.specs.declared.member.Member.{Member}
+use Rattle.disk_store.specs.declared.held.Numbers.{Numbers}
 use Rattle.disk_store.specs.declared.held.Tables.{Tables}
 use Rattle.disk_store.specs.Memory.{StoreMemory, with_member}
+use Rattle.disk_store.specs.Numbers.{kept_in}
 use Rattle.disk_store.specs.Standing.{StageStands}
-use Rattle.disk_store.specs.Shown.{TablesStand, WaitsAs, Shown, pages_of}
+use Rattle.disk_store.specs.Shown.{CeilingStands, TablesStand, WaitsAs, Shown, pages_of}
 use Rattle.disk_store.proofs.Beside.{SameAreas, stays-there}
 use Rattle.disk_store.proofs.Stepping.{ComesTo}
 
@@ -69,8 +73,30 @@ reads-leave v w only t = weaker v w (IsPending v) (λ image. IsPending v image �
 pub none-leaves : (v : View) → IsTrue v.tells → LeavesOnly v v (λ image. IsPending v image ⊎ IsPending v image)
 none-leaves v t = started v (λ image. IsPending v image ⊎ IsPending v image) (λ image left. inl (each_slot v image left))
 
-pub reads-ceiling : (v w : View) → IsTrue v.tells → OnlyReads v w → (ceiling : ℕ) → HasCeiling (Pending v) ceiling → HasCeiling (Pending w) ceiling
-reads-ceiling v w t only ceiling was content root p is = was content root ((only.keeps t).pending root_file 0 content p) is
+pub reads-ceiling : (v w : View) → IsTrue v.tells → OnlyReads v w → (numbers : Numbers) → CeilingStands v numbers → CeilingStands w numbers
+reads-ceiling v w t only numbers was = record {
+  pending = λ content root p is. was.pending content root ((only.keeps t).pending root_file 0 content p) is;
+  written = λ root is. was.written root (subst (λ (bytes : List ℕ). IsRoot bytes root) ((only.keeps t).content root_file 0) is);
+  below = was.below;
+  raised = was.raised;
+}
+
+-- another file than the root is written
+pub aside-ceiling : (v w : View) → IsTrue v.tells → (file : FileId) (slot : ℕ) → file.kind ≢ RootKind → OnlyWrites file slot v w → (numbers : Numbers) → CeilingStands v numbers → CeilingStands w numbers
+aside-ceiling v w t file slot other only numbers was = record {
+  pending = stays_written v w numbers.ceiling file slot t other only was.pending;
+  written = λ root is. was.written root (subst (λ (bytes : List ℕ). IsRoot bytes root) (only.content t root_file 0 (λ same at. other (ap (λ (f : FileId). f.kind) (sym same)))) is);
+  below = was.below;
+  raised = was.raised;
+}
+
+-- the slots of the snapshot files stay
+pub slots-stay : (v w : View) → ((file slot : ℕ) → w.content (snap_file file) slot ≡ v.content (snap_file file) slot) → (followed : Followed) (limit : ℕ) (slots : SnapshotSlots) → HoldsAll v.content followed limit slots → HoldsAll w.content followed limit slots
+slots-stay v w snaps followed limit slots was file is = record {
+  long = (was file is).long;
+  used = (was file is).used;
+  pusher = λ chain entry follows stands. (was file is).pusher chain entry follows (record { number = stands.number; is = subst (λ bytes. IsEntry bytes entry) (snaps file (chain - 1)) stands.is });
+}
 
 module _ (v w : View) (passes : Passes v w) where
   pub tables-pass : (g h : Ledger) (tables : Tables) → h.base.lines ≡ g.base.lines → TablesStand v g tables → TablesStand w h tables
@@ -83,16 +109,12 @@ module _ (v w : View) (passes : Passes v w) where
   }
 
   pub slots-pass : (followed : Followed) (limit : ℕ) (slots : SnapshotSlots) → HoldsAll v.content followed limit slots → HoldsAll w.content followed limit slots
-  slots-pass followed limit slots was file is = record {
-    long = (was file is).long;
-    used = (was file is).used;
-    pusher = λ chain entry follows stands. (was file is).pusher chain entry follows (record { number = stands.number; is = subst (λ bytes. IsEntry bytes entry) (passes.snaps file (chain - 1)) stands.is });
-  }
+  slots-pass followed limit slots was = slots-stay v w passes.snaps followed limit slots was
 
   -- the ledger and the course stay, and the session comes to another member
-  abbrev pub same-ledger : (held : StoreMemory) (s : ℕ) (n : Member) (h : Shelf) (shown : Shown v held h) → HasCeiling (Pending w) held.numbers.ceiling → LedgerFacts w shown.ledger
+  abbrev pub same-ledger : (held : StoreMemory) (s : ℕ) (n : Member) (h : Shelf) (shown : Shown v held h) → CeilingStands w held.numbers → held.numbers.next + kept_in (slice_set held.members s n) ≤ held.numbers.written → LedgerFacts w shown.ledger
       → StageStands n.stage w shown.ledger s n → WaitsAs n.stage shown.versions.waiting s n → ComesTo v w (record (with_member s n held) { numbers = held.numbers }) s n shown.ledger shown.versions.course shown.versions.waiting
-  same-ledger held s n h shown ceiling facts mine waits = record {
+  same-ledger held s n h shown ceiling kept facts mine waits = record {
     ledger = shown.ledger;
     facts = facts;
     limits = refl;
@@ -100,6 +122,7 @@ module _ (v w : View) (passes : Passes v w) where
     others = λ t x apart stands. stays-there v w shown.ledger shown.ledger t passes.areas (record { standing = inl refl; going = refl; commit = refl }) x stands;
     mine = mine;
     numbered = record { number = shown.numbers.number; first = shown.numbers.first; ceiling = ceiling; group = shown.numbers.group };
+    kept = kept;
     tabled = tables-pass shown.ledger shown.ledger held.tables refl shown.tables;
     course_behind = shown.versions.course;
     waiting_behind = shown.versions.waiting;

@@ -1,23 +1,21 @@
 -- All before-images of a session that died are put back, and stable.
-use Rattle.std.proofs.Common.{◌≡◌, ◌≢◌, ◌≤◌, ◌<◌, ◌==◌, ℕ, Bool, true, false, IsTrue, List, [], Option, Some, None, inl, refl, sym, ap, subst, ◌∙◌, arith}
+use Rattle.std.proofs.Common.{◌≡◌, ◌<◌, ◌==◌, ℕ, Bool, false, IsTrue, [], Some, None, inl, refl, sym, ap, subst, ◌∙◌, arith}
 use Rattle.std.specs.Prelude.{slice_get, if◌then◌else◌}
 use Rattle.rdb_outside.specs.Disk.{View, LeftNow, OnlyReads, IsStable}
-use Rattle.line_store.specs.Seats.{Seat, dead}
 use Rattle.line_store.specs.Shelves.{Shelf}
 use Rattle.line_store.specs.Calls.{Moves, GoesOn}
 use Rattle.line_store.specs.Sights.{bare, Does}
 use Rattle.line_versions.specs.Course.{Course}
 use Rattle.version_writing.specs.Tables.{HoldsAll}
-use Rattle.disk_seats.specs.Ledgers.{resting, undoing, ended_by, Ledger}
+use Rattle.disk_seats.specs.Ledgers.{resting, ended_by, Ledger}
 use Rattle.disk_seats.specs.Members.{LedgerFacts}
 use Rattle.disk_seats.proofs.Standings.{not_undoing}
 use Rattle.disk_seats.proofs.GivenUp.{undone_facts}
 use Rattle.disk_versions.specs.Courses.{course_given, course_undone}
-use Rattle.ledger_versions.specs.Readers.{MayEndUndone, Waiting, set_waiting}
+use Rattle.ledger_versions.specs.Readers.{MayEndUndone, set_waiting}
 use Rattle.ledger_versions.proofs.MembersEnd.{member_ends}
 use Rattle.member_memory.specs.Memory.{writes_in}
 use Rattle.disk_store.specs.declared.member.Member.{Member}
-use Rattle.disk_store.specs.declared.member.MemberStage.{MemberStage}
 use Rattle.disk_store.specs.declared.member.MemberStage.TheVariants as stage
 use Rattle.disk_store.specs.declared.member.Recovery.TheVariants as recovery
 use Rattle.disk_store.specs.Memory.{StoreMemory, with_member, at_stage}
@@ -25,8 +23,9 @@ use Rattle.disk_store.specs.Seats.{seat_with, stand_of, stand_at, steps_in}
 use Rattle.disk_store.specs.Standing.{IsUndone, StageStands}
 use Rattle.disk_store.specs.Shown.{Shown, sight_of}
 use Rattle.disk_store.proofs.Moving.{itself}
+use Rattle.disk_store.proofs.Kept.{kept-stays}
 use Rattle.disk_store.proofs.Beside.{StaysOf, stays-there}
-use Rattle.disk_store.proofs.Stepping.{ComesTo, does-apart, Related, becomes-member, space-same}
+use Rattle.disk_store.proofs.Stepping.{ComesTo, does-apart, becomes-member, space-same}
 use Rattle.disk_store.proofs.Passing.{Passes, passes-reads, reads-leave, reads-ceiling, tables-pass, slots-pass}
 use Rattle.disk_store.proofs.Failing.{KeepsIt}
 use Rattle.disk_store.proofs.EndingOpen.{pushed-by, its, none-left, still-held}
@@ -39,7 +38,7 @@ keeps-read v w held s m only keeps = record {
   no_fewer = only.no_fewer;
   leaves = reads-leave v w only;
   passes = λ t. passes-reads v w t only;
-  ceiling = λ t was. reads-ceiling v w t only held.numbers.ceiling was;
+  ceiling = λ t was. reads-ceiling v w t only held.numbers was;
   facts = λ h shown stands. keeps shown.tells shown.ledger shown.facts;
 }
 
@@ -85,7 +84,8 @@ module _ (v w : View) (held : StoreMemory) (s : ℕ) (m : Member) (commits : Boo
       none = λ t apart rests. ap (λ b. if b then resting else g.standing t) apart ∙ rests;
       others = λ t x apart stood. stays-there v w g (ended_by s g) t p.areas (stays t apart) x stood;
       mine = ap (λ b. if b then resting else g.standing s) (itself s);
-      numbered = record { number = shown.numbers.number; first = shown.numbers.first; ceiling = reads-ceiling v w shown.tells only held.numbers.ceiling shown.numbers.ceiling; group = record { in_slot = shown.numbers.group.in_slot; numbered = shown.numbers.group.numbered } };
+      numbered = record { number = shown.numbers.number; first = shown.numbers.first; ceiling = reads-ceiling v w shown.tells only held.numbers shown.numbers.ceiling; group = record { in_slot = shown.numbers.group.in_slot; numbered = shown.numbers.group.numbered } };
+      kept = kept-stays held.members s held.numbers.next held.numbers.written m n was (omega arith) shown.kept;
       tabled = tables-pass v w p g (ended_by s g) held.tables refl shown.tables;
       course_behind = course_undone u.transaction.tsn.number (course_given (pushed-by held.slots u.transaction.tsn.number) course);
       waiting_behind = set_waiting s [] shown.versions.waiting;

@@ -40,7 +40,7 @@ ok-as (Err e) holds f = tt
 -- who is at rest and doesn't read, writes
 pub at-rest : (st : MemberStage) → IsAtRest (seat_with st [] []) → (st ≡ stage.Reading → ⊥) → st ≡ stage.Writing
 at-rest stage.Outside is other = absurd is
-at-rest stage.Beginning is other = absurd is
+at-rest (stage.Beginning ceiling) is other = absurd is
 at-rest stage.Writing is other = refl
 at-rest stage.Changing is other = absurd is
 at-rest stage.Broken is other = absurd is

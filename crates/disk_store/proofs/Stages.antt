@@ -8,6 +8,7 @@ use Rattle.member_steps.specs.declared.committing.CommitTurn.TheVariants.{Enteri
 use Rattle.disk_seats.specs.Ledgers.{Ledger}
 use Rattle.disk_seats.specs.Members.{MayEnd}
 use Rattle.disk_store.specs.declared.member.Member.{Member}
+use Rattle.disk_store.specs.declared.member.Ceiling.TheVariants.{Asking}
 use Rattle.disk_store.specs.declared.member.MemberStage.{MemberStage}
 use Rattle.disk_store.specs.declared.member.MemberStage.TheVariants as stage
 use Rattle.disk_store.specs.Memory.{at_stage}
@@ -20,7 +21,7 @@ use Rattle.disk_store.proofs.Moving.{MayCome}
 
 pub is-outside : (st : MemberStage) → seat_with st [] [] ≡ outside → st ≡ stage.Outside
 is-outside stage.Outside is = refl
-is-outside stage.Beginning is = absurd (cc)
+is-outside (stage.Beginning ceiling) is = absurd (cc)
 is-outside stage.Writing is = absurd (cc)
 is-outside stage.Changing is = absurd (cc)
 is-outside stage.Broken is = absurd (cc)
@@ -31,7 +32,7 @@ is-outside stage.Closing is = absurd (cc)
 is-outside stage.Reading is = absurd (cc)
 is-outside (stage.Dead commits left) is = absurd (cc)
 
-pub may-begin : (v : View) (s : ℕ) (m : Member) → seat_with m.stage [] [] ≡ outside → MayCome v s m stage.Beginning
+pub may-begin : (v : View) (s : ℕ) (m : Member) → seat_with m.stage [] [] ≡ outside → MayCome v s m (stage.Beginning Asking)
 may-begin v s m is =
     let at : m.stage ≡ stage.Outside = is-outside m.stage is in
     record {
@@ -39,13 +40,14 @@ may-begin v s m is =
       stands = λ g stands. subst (λ st. StageStands st v g s m) at stands;
       waits = λ waiting has. tt;
       writes = λ e. cc;
+      free = refl;
     }
 
 -- ---- a session that is prepared
 
 is-prepared : (st : MemberStage) → IsPrepared (seat_with st [] []) → st ≡ stage.Prepared
 is-prepared stage.Outside is = absurd is
-is-prepared stage.Beginning is = absurd is
+is-prepared (stage.Beginning ceiling) is = absurd is
 is-prepared stage.Writing is = absurd is
 is-prepared stage.Changing is = absurd is
 is-prepared stage.Broken is = absurd is
@@ -71,6 +73,7 @@ may-give_back v s m is =
       stands = λ g stands. journalled-at g s m stage.Writing (subst (λ st. StageStands st v g s m) at stands);
       waits = λ waiting has. subst (λ st. WaitsAs st waiting s m) at has;
       writes = λ e. cc;
+      free = refl;
     }
 
 pub may-commit : (v : View) (s : ℕ) (m : Member) → IsPrepared (seat_with m.stage [] []) → MayCome v s m (stage.Committing (Entering 0))
@@ -81,6 +84,7 @@ may-commit v s m is =
       stands = λ g stands. record { journalled = journalled-at g s m (stage.Committing (Entering 0)) (subst (λ st. StageStands st v g s m) at stands); owned = λ i line place below at-line of. absurd (omega arith) };
       waits = λ waiting has. subst (λ st. WaitsAs st waiting s m) at has;
       writes = λ e. cc;
+      free = refl;
     }
 
 pub given-back : (m : Member) (ws : List Write) (start : Lines) → IsPrepared (seat_with m.stage [] []) → given_back (seat_with m.stage ws start) ≡ writing ws
@@ -93,7 +97,7 @@ committing-now m ws start is = ap (λ st. committing_by (seat_with st ws start))
 
 pub is-writing : (st : MemberStage) → IsWriting (seat_with st [] []) → st ≡ stage.Writing
 is-writing stage.Outside is = absurd is
-is-writing stage.Beginning is = absurd is
+is-writing (stage.Beginning ceiling) is = absurd is
 is-writing stage.Writing is = refl
 is-writing stage.Changing is = absurd is
 is-writing stage.Broken is = absurd is
@@ -112,6 +116,7 @@ may-prepare v s m is =
       stands = λ g stands. journalled-at g s m stage.Prepared (subst (λ st. StageStands st v g s m) at stands);
       waits = λ waiting has. subst (λ st. WaitsAs st waiting s m) at has;
       writes = λ e. cc;
+      free = refl;
     }
 
 pub prepared-now : (m : Member) (ws : List Write) (start : Lines) → IsWriting (seat_with m.stage [] []) → prepared_by (seat_with m.stage ws start) ≡ prepared ws

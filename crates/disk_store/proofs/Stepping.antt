@@ -1,5 +1,5 @@
 -- A step of a session: what is shown behind it.
-use Rattle.std.proofs.Common.{◌≡◌, ◌≢◌, ◌≤◌, ◌==◌, ◌⊎◌, ℕ, Bool, true, false, IsTrue, List, [], Option, Some, None, refl, sym, ap, subst, ◌∙◌, arith}
+use Rattle.std.proofs.Common.{◌≡◌, ◌≢◌, ◌≤◌, ◌+◌, ◌==◌, ◌⊎◌, ℕ, Bool, true, false, IsTrue, List, [], Option, Some, None, refl, sym, ap, subst, ◌∙◌, arith}
 use Rattle.std.specs.Prelude.{slice_get, slice_set, if◌then◌else◌}
 use Rattle.std.proofs.lemmas.Bool.{eqb-true}
 use Rattle.std.proofs.lemmas.Option.{same_Some, none-some}
@@ -27,9 +27,10 @@ use Rattle.disk_store.specs.declared.member.MemberStage.{MemberStage}
 use Rattle.disk_store.specs.declared.member.MemberStage.TheVariants as stage
 use Rattle.disk_store.specs.declared.held.Numbers.{Numbers}
 use Rattle.disk_store.specs.Memory.{StoreMemory, with_member}
+use Rattle.disk_store.specs.Numbers.{kept_in}
 use Rattle.disk_store.specs.Seats.{seat_with, stand_of, steps_in, steps_of, steps_at}
 use Rattle.disk_store.specs.Standing.{StageStands}
-use Rattle.disk_store.specs.Shown.{Sits, SitsAs, NumbersStand, TablesStand, WaitsAs, IsReading, HaveStarts, SpaceStands, Shown, sight_of}
+use Rattle.disk_store.specs.Shown.{Sits, SitsAs, NumbersStand, TablesStand, WaitPushed, WaitsAs, IsReading, HaveStarts, SpaceStands, Shown, sight_of}
 use Rattle.disk_store.proofs.Members.{set-here, set-beside, get-within}
 use Rattle.disk_store.proofs.Readers.{reader-beside, readers-still, starts-still}
 use Rattle.disk_store.proofs.Moving.{itself}
@@ -43,6 +44,7 @@ pub record ComesTo (v w : View) (behind : StoreMemory) (s : ℕ) (n : Member) (g
   pub others : (t : ℕ) (x : Member) → (t == s) ≡ false → StageStands x.stage v g t x → StageStands x.stage w ledger t x
   pub mine : StageStands n.stage w ledger s n
   pub numbered : NumbersStand w ledger behind.numbers behind.next
+  pub kept : behind.numbers.next + kept_in behind.members ≤ behind.numbers.written
   pub tabled : TablesStand w ledger behind.tables
   pub course_behind : Course
   pub waiting_behind : Waiting
@@ -147,9 +149,9 @@ module _ (v w : View) (held behind : StoreMemory) (s : ℕ) (m n : Member) (was 
 
     waits-alike : (st : MemberStage) (t : ℕ) (x : Member) → to.waiting_behind t ≡ shown.versions.waiting t → WaitsAs st shown.versions.waiting t x → WaitsAs st to.waiting_behind t x
     waits-alike stage.Outside t x e has = tt
-    waits-alike stage.Beginning t x e has = tt
+    waits-alike (stage.Beginning ceiling) t x e has = tt
     waits-alike stage.Writing t x e has = e ∙ has
-    waits-alike stage.Changing t x e has = tt
+    waits-alike stage.Changing t x e has = subst (λ ws. WaitPushed ws x.pushed x.written) (sym e) has
     waits-alike stage.Broken t x e has = tt
     waits-alike stage.Prepared t x e has = e ∙ has
     waits-alike (stage.Committing turn) t x e has = e ∙ has
@@ -185,6 +187,7 @@ module _ (v w : View) (held behind : StoreMemory) (s : ℕ) (m n : Member) (was 
         seats = λ t. seats-stand t (t == s) refl;
         steps = λ t. steps-stand t (t == s) refl;
         numbers = to.numbered;
+        kept = to.kept;
         tables = to.tabled;
         versions = record {
           course = course_read s to.course_behind;

@@ -95,6 +95,7 @@ module _ (v : View) (held : StoreMemory) (s file class : ℕ) (key : Dbkey) (own
       seats = shown.seats;
       steps = shown.steps;
       numbers = shown.numbers;
+      kept = shown.kept;
       tables = stand h shown;
       versions = record {
         course = shown.versions.course;

@@ -13,7 +13,7 @@ its_own m = record { tsn = m.tsn; keys = m.written.keys }
 
 abbrev pub seen_in : MemberStage → Member → Option Seen
 seen_in stage.Outside m = None
-seen_in stage.Beginning m = None
+seen_in (stage.Beginning ceiling) m = None
 seen_in stage.Writing m = None
 seen_in stage.Changing m = None
 seen_in stage.Broken m = None

@@ -1,5 +1,5 @@
 -- What becomes of a session that dies.
-use Rattle.std.specs.Prelude.{ℕ, Bool, true, false, []}
+use Rattle.std.specs.Prelude.{ℕ, zero, suc, Bool, true, false, []}
 use Rattle.member_steps.specs.declared.committing.CommitTurn.{CommitTurn}
 use Rattle.member_steps.specs.declared.committing.CommitTurn.TheVariants.{Entering, Securing, Going}
 use Rattle.disk_seats.specs.Ledgers.{flies}
@@ -14,6 +14,11 @@ abbrev pub going_to : Bool → ℕ → Recovery
 going_to true n = recovery.Judging
 going_to false n = recovery.Undoing n
 
+-- with so many before-images that are to be put back; where there is none, they are to be made stable
+abbrev pub undoing_with : ℕ → Recovery
+undoing_with zero = recovery.Restoring
+undoing_with (suc n) = recovery.Undoing (suc n)
+
 abbrev pub recovery_at : CommitTurn → ℕ → Recovery
 recovery_at (Entering at) n = recovery.Ending
 recovery_at Securing n = recovery.Ending
@@ -27,7 +32,7 @@ dead_at _ n = stage.Dead false recovery.Ending
 -- what is written at a stage is no transaction's
 abbrev pub has_none : MemberStage → Bool
 has_none stage.Outside = true
-has_none stage.Beginning = true
+has_none (stage.Beginning ceiling) = true
 has_none stage.Closing = true
 has_none stage.Reading = true
 has_none _ = false

@@ -1,10 +1,14 @@
 pub mod Memory
+pub mod Numbers
 pub mod Seats
 pub mod Standing
 pub mod Shown
+pub mod Sound
 pub mod Preparing
 pub mod Dying
 pub mod BeforeImages
 pub mod Taken
 pub mod Readers
 pub mod Learning
+pub mod Changing
+pub mod ChangeSteps

@@ -1,5 +1,5 @@
 -- Where a session stands, as its member's stage says it.
-use Rattle.std.specs.Prelude.{◌≡◌, ℕ, ◌+◌, ◌-◌, List, [], length, Option, Some, None, slice_get}
+use Rattle.std.specs.Prelude.{◌≡◌, ℕ, ◌+◌, ◌-◌, if◌then◌else◌, List, [], length, Option, Some, None, slice_get}
 use Rattle.line_view.specs.declared.writes.Write.{Write}
 use Rattle.line_view.specs.Knowledge.{Lines}
 use Rattle.line_seat.specs.declared.commit.CommitStage.TheVariants.{Changing as PagesChanging, Imaging, Gathering, Sealing, Landing, Committed}
@@ -7,6 +7,8 @@ use Rattle.member_steps.specs.declared.committing.CommitTurn.{CommitTurn}
 use Rattle.member_steps.specs.declared.committing.CommitTurn.TheVariants.{Entering, Securing, Going}
 use Rattle.line_store.specs.Seats.{Seat, outside, beginning, writing, changing, prepared, committing, rolling_back, closing, reading, dead}
 use Rattle.disk_store.specs.declared.member.Member.{Member}
+use Rattle.disk_store.specs.declared.member.Ceiling.{Ceiling}
+use Rattle.disk_store.specs.declared.member.Ceiling.TheVariants.{Asking, Raised}
 use Rattle.disk_store.specs.declared.member.MemberStage.{MemberStage}
 use Rattle.disk_store.specs.declared.member.MemberStage.TheVariants as stage
 use Rattle.disk_store.specs.declared.member.Recovery.{Recovery}
@@ -15,7 +17,7 @@ use Rattle.disk_store.specs.declared.member.Recovery.TheVariants as recovery
 -- the seat of a stage, with what was written, and the lines at a reader's start
 abbrev pub seat_with : MemberStage → List Write → Lines → Seat
 seat_with stage.Outside ws start = outside
-seat_with stage.Beginning ws start = beginning
+seat_with (stage.Beginning ceiling) ws start = beginning
 seat_with stage.Writing ws start = writing ws
 seat_with stage.Changing ws start = changing ws
 seat_with stage.Broken ws start = changing ws
@@ -53,25 +55,35 @@ turns_left n (Going Sealing) = 3
 turns_left n (Going Landing) = 2
 turns_left n (Going Committed) = 1
 
-abbrev pub recovery_left : Recovery → ℕ
-recovery_left recovery.Ending = 1
-recovery_left recovery.Judging = 1
-recovery_left (recovery.Undoing left) = left + 3
-recovery_left recovery.Restoring = 2
+-- the before-images that are to be put back
+abbrev pub left_in : MemberStage → ℕ
+left_in (stage.Dead commits (recovery.Undoing left)) = left
+left_in _ = 0
+
+-- a commit that is lost is undone: then all its before-images are left
+abbrev pub recovery_left : Recovery → Member → ℕ
+recovery_left recovery.Ending m = 1
+recovery_left recovery.Judging m = m.journalled + 4
+recovery_left (recovery.Undoing left) m = left + 3
+recovery_left recovery.Restoring m = 2
+
+abbrev pub beginning_left : Ceiling → ℕ
+beginning_left Asking = 1
+beginning_left Raised = 0
 
 -- how often at most a session's calls may still answer that there is more to do
 abbrev pub steps_in : MemberStage → Member → ℕ
 steps_in stage.Outside m = 0
-steps_in stage.Beginning m = 3
+steps_in (stage.Beginning ceiling) m = beginning_left ceiling
 steps_in stage.Writing m = 0
-steps_in stage.Changing m = 2 + (length m.written.keys - m.journalled) + (length m.written.keys - m.pushed)
+steps_in stage.Changing m = (if m.named then 0 else 1) + (length m.written.keys - m.journalled) + (length m.written.keys - m.pushed)
 steps_in stage.Broken m = 0
 steps_in stage.Prepared m = 0
 steps_in (stage.Committing turn) m = turns_left (length m.written.keys) turn
 steps_in stage.RollingBack m = 1
 steps_in stage.Closing m = 1
 steps_in stage.Reading m = 0
-steps_in (stage.Dead commits left) m = recovery_left left
+steps_in (stage.Dead commits left) m = recovery_left left m
 
 abbrev pub steps_of : Option Member → ℕ
 steps_of None = 0

@@ -1,8 +1,14 @@
 -- What a store on a disk shows.
-use Rattle.std.specs.Prelude.{ℕ, ◌+◌, ◌-◌, ◌≤◌, ◌≡◌, ◌⊎◌, ◌==◌, Bool, true, IsTrue, if◌then◌else◌, List, [], length, replicate, Option, Some, None, slice_get}
+use Rattle.std.specs.Prelude.{ℕ, ◌+◌, ◌-◌, ◌≤◌, ◌<◌, ◌≡◌, ◌⊎◌, ◌==◌, Bool, true, IsTrue, if◌then◌else◌, List, [], length, replicate, Option, Some, None, slice_get}
+use Rattle.std.specs.FinMap.Entries.{find}
 use Rattle.rdb_types.specs.declared.keys.Dbkey.{Dbkey}
+use Rattle.rdb_types.specs.declared.keys.Line.{Line}
+use Rattle.rdb_types.specs.Order.{dbkey_order}
 use Rattle.rdb_page.specs.Page.{IsOwner}
 use Rattle.rdb_outside.specs.Disk.{View, Pending}
+use Rattle.root_file.specs.declared.Root.{Root}
+use Rattle.root_file.specs.Root.{IsRoot}
+use Rattle.new_database.specs.Maker.{root_file}
 use Rattle.line_view.specs.Knowledge.{Lines, IsInOrder, line_in}
 use Rattle.line_store.specs.Seats.{Seat, outside}
 use Rattle.line_store.specs.Shelves.{Space, Shelf}
@@ -15,23 +21,25 @@ use Rattle.line_opening.specs.declared.groups.NextGroup.{NextGroup}
 use Rattle.line_moves.specs.declared.places.Place.{Place}
 use Rattle.line_moves.specs.Changes.{IsForArea}
 use Rattle.line_moves.specs.Classes.{HaveTheirClasses}
+use Rattle.line_moves.specs.Lines.{ChangedLines}
 use Rattle.disk_seats.specs.Ledgers.{resting, Ledger}
 use Rattle.disk_seats.specs.Members.{LedgerFacts}
 use Rattle.member_steps.specs.Beginning.{HasCeiling}
 use Rattle.page_table.specs.Pages.{Pages, nobodys, owner_in, class_in, IsWithin}
-use Rattle.committed_tables.specs.Tables.{HasCommitted, WereUsed}
+use Rattle.committed_tables.specs.Tables.{HasCommitted}
 use Rattle.version_writing.specs.Slots.{SlotTable}
 use Rattle.version_writing.specs.Tables.{HoldsAll}
-use Rattle.ledger_versions.specs.Readers.{ReaderFacts, Waiting}
+use Rattle.ledger_versions.specs.Readers.{ReaderFacts, Waiting, HasVersionOf}
 use Rattle.store_shows.specs.Shows.{Leaves, ShowsLines}
 use Rattle.store_shows.specs.Rooms.{HasPages}
-use Rattle.member_memory.specs.Memory.{writes_in}
+use Rattle.member_memory.specs.Memory.{Memory, writes_in}
 use Rattle.disk_store.specs.declared.member.Member.{Member}
 use Rattle.disk_store.specs.declared.member.MemberStage.{MemberStage}
 use Rattle.disk_store.specs.declared.member.MemberStage.TheVariants as stage
 use Rattle.disk_store.specs.declared.held.Numbers.{Numbers}
 use Rattle.disk_store.specs.declared.held.Tables.{Tables}
 use Rattle.disk_store.specs.Memory.{StoreMemory}
+use Rattle.disk_store.specs.Numbers.{kept_in}
 use Rattle.disk_store.specs.Seats.{seat_with, stand_at, steps_at, IsAtStage}
 use Rattle.disk_store.specs.Standing.{StageStands}
 
@@ -49,11 +57,18 @@ Sits v g s (Some m) seat = SitsAs v g s m seat
 
 -- ---- numbers
 
+-- Each root that a crash may leave has the ceiling, and the one that reads give that which was written last: the same, or one that was raised by 64 and isn't stable yet.
+pub record CeilingStands (v : View) (numbers : Numbers) : Type 0 where
+  pub pending : HasCeiling (Pending v) numbers.ceiling
+  pub written : (root : Root) → IsRoot (v.content root_file 0) root → numbers.written ≤ root.ceiling
+  pub below : numbers.next ≤ numbers.ceiling
+  pub raised : (numbers.written ≡ numbers.ceiling) ⊎ (numbers.ceiling + 64 ≤ numbers.written)
+
 -- Numbers below the ceiling may be drawn, and the next group is written where the journal ends.
 pub record NumbersStand (v : View) (g : Ledger) (numbers : Numbers) (next : NextGroup) : Type 0 where
   pub number : g.base.next_tsn ≡ numbers.next
   pub first : 1 ≤ numbers.next
-  pub ceiling : HasCeiling (Pending v) numbers.ceiling
+  pub ceiling : CeilingStands v numbers
   pub group : IsNext g.base.journal next
 
 -- ---- pages
@@ -89,9 +104,25 @@ AreReaders members course = (s : ℕ) (reading : Reading) → course.reader s �
 abbrev pub HaveStarts : Tables → Course → Type 0
 HaveStarts tables course = (s file : ℕ) (reading : Reading) (start : Lines) → IsAreaFile file → course.reader s ≡ Some reading → ((key : Dbkey) → reading.lines key ≡ line_in key start) → WereUsed (pages_of tables file) file start
 
+-- the line is one of the first so many, and memory has its transaction and the version before it
+pub record IsPushed (pushed : ℕ) (written : Memory) (key : Dbkey) (line : Line) : Type 0 where
+  pub place : ℕ
+  pub early : place < pushed
+  pub is : slice_get written.keys place ≡ Some key
+  pub now : Line
+  pub found : find dbkey_order key written.lines ≡ Some now
+  pub tsn : now.tsn ≡ line.tsn
+  pub chain : now.chain ≡ line.chain
+
+-- Lines of the first so many keys wait, whatever they showed when they were pushed aside.
+pub record WaitPushed (lines : ChangedLines) (pushed : ℕ) (written : Memory) : Type 0 where
+  pub each : (i : ℕ) (line : Dbkey × Line) → slice_get lines i ≡ Some line → IsPushed pushed written line.0 line.1
+  pub all : (place : ℕ) (key : Dbkey) (now : Line) → place < pushed → slice_get written.keys place ≡ Some key → find dbkey_order key written.lines ≡ Some now → HasVersionOf lines key now
+
 -- what of a member's memory waits to be put on pages
 abbrev pub WaitsAs : MemberStage → Waiting → ℕ → Member → Type 0
 WaitsAs stage.Writing waiting s m = waiting s ≡ m.written.lines
+WaitsAs stage.Changing waiting s m = WaitPushed (waiting s) m.pushed m.written
 WaitsAs stage.Prepared waiting s m = waiting s ≡ m.written.lines
 WaitsAs (stage.Committing turn) waiting s m = waiting s ≡ m.written.lines
 WaitsAs _ waiting s m = Unit {0}
@@ -130,6 +161,8 @@ pub record Shown (v : View) (held : StoreMemory) (h : Shelf) : Type 0 where
   pub seats : (s : ℕ) → Sits v ledger s (slice_get held.members s) (h.seat s)
   pub steps : (s : ℕ) → h.steps s ≡ steps_at held.members s
   pub numbers : NumbersStand v ledger held.numbers held.next
+  -- numbers are free for those for whom they are kept
+  pub kept : held.numbers.next + kept_in held.members ≤ held.numbers.written
   pub tables : TablesStand v ledger held.tables
   pub versions : VersionsStand v ledger held h
   pub space : SpaceStands held h.space

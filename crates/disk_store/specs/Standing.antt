@@ -6,7 +6,7 @@ use Rattle.stable_lines.specs.Progress.{Open}
 use Rattle.line_seat.specs.declared.commit.CommitStage.{CommitStage}
 use Rattle.member_steps.specs.declared.committing.CommitTurn.{CommitTurn}
 use Rattle.member_steps.specs.declared.committing.CommitTurn.TheVariants.{Entering, Securing, Going}
-use Rattle.disk_seats.specs.Ledgers.{resting, changing, undoing, Ledger, flies}
+use Rattle.disk_seats.specs.Ledgers.{resting, changing, undoing, entries_of, Ledger, flies}
 use Rattle.disk_seats.specs.Members.{MayEnd, AreOwned}
 use Rattle.member_steps.specs.Turns.{Plan, commit_of_plan}
 use Rattle.disk_store.specs.declared.member.Member.{Member}
@@ -32,6 +32,7 @@ pub record IsBroken (g : Ledger) (s : ℕ) (m : Member) : Type 0 where
   pub is_open : g.base.going s ≡ Some transaction
   pub number : m.tsn ≡ transaction.tsn
   pub may_end : MayEnd (g.standing s)
+  pub keys : (i : ℕ) (undo : Undo) → slice_get (entries_of (g.standing s)) i ≡ Some undo → slice_get m.written.keys i ≡ Some undo.key
 
 -- each of its lines has a before-image
 pub record HasJournalled (g : Ledger) (s : ℕ) (m : Member) : Type 0 where
@@ -44,6 +45,7 @@ pub record IsCommitOf (g : Ledger) (s : ℕ) (m : Member) (at : CommitStage) : T
   pub its : plan.member ≡ s
   pub number : plan.transaction.tsn ≡ m.tsn
   pub lines : plan.lines ≡ m.written.lines
+  pub long : length plan.classes ≡ length plan.lines
   pub count : m.journalled ≡ length plan.all
   pub keys : (i : ℕ) (undo : Undo) → slice_get plan.all i ≡ Some undo → slice_get m.written.keys i ≡ Some undo.key
   pub under_way : g.commit ≡ Some (commit_of_plan plan at)
@@ -71,6 +73,7 @@ pub record IsUndone (g : Ledger) (s : ℕ) (m : Member) (left : ℕ) : Type 0 wh
   pub stands : g.standing s ≡ undoing all left
   pub is_open : g.base.going s ≡ Some transaction
   pub number : m.tsn ≡ transaction.tsn
+  pub count : m.journalled ≡ length all
   pub keys : (i : ℕ) (undo : Undo) → slice_get all i ≡ Some undo → slice_get m.written.keys i ≡ Some undo.key
 
 abbrev pub RecoveryStands : Recovery → Ledger → ℕ → Member → Type 0
@@ -81,7 +84,7 @@ RecoveryStands recovery.Restoring g s m = IsUndone g s m 0
 
 abbrev pub StageStands : MemberStage → View → Ledger → ℕ → Member → Type 0
 StageStands stage.Outside v g s m = g.standing s ≡ resting
-StageStands stage.Beginning v g s m = g.standing s ≡ resting
+StageStands (stage.Beginning ceiling) v g s m = g.standing s ≡ resting
 StageStands stage.Writing v g s m = HasJournalled g s m
 StageStands stage.Changing v g s m = HasBegun g s m
 StageStands stage.Broken v g s m = IsBroken g s m

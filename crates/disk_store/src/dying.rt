@@ -56,7 +56,7 @@ fn forgets(stage: MemberStage) -> bool
 {
     match stage {
         MemberStage::Outside => true,
-        MemberStage::Beginning => true,
+        MemberStage::Beginning(_) => true,
         MemberStage::Closing => true,
         MemberStage::Reading => true,
         _ => false,
@@ -73,7 +73,7 @@ impl Held {
     }
 
     // A session comes to another stage, and its lines are forgotten.
-    fn forget(&mut self, s: Session, next: MemberStage)
+    pub(crate) fn forget(&mut self, s: Session, next: MemberStage)
         requires { IsMember s.number }
         ensures { (m : Sits) × (slice_get self.old.members s.number ≡ Some m)
             × (self.new ≡ with_member s.number (forgotten next m) self.old) }

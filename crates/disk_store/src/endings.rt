@@ -24,7 +24,7 @@ pub fn put_away<D: Disk>(disk: &mut D, held: &mut Held, s: Session) -> Result<St
     let Ok(()) = close(disk, s.number) else {
         return Err(Fault::Failed);
     };
-    held.set_stage(s, MemberStage::Outside);
+    held.forget(s, MemberStage::Outside);
     Ok(Stepped::Done)
 }
 
@@ -39,7 +39,7 @@ pub fn bury<D: Disk>(disk: &mut D, held: &mut Held, s: Session) -> Result<Steppe
     let Ok(()) = close(disk, s.number) else {
         return Err(Fault::Failed);
     };
-    held.set_stage(s, MemberStage::Outside);
+    held.forget(s, MemberStage::Outside);
     Ok(Stepped::Recovered {
         is_committed: false,
         moment: disk.moment(),

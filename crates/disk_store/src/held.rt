@@ -3,6 +3,7 @@ ghost use Rattle.std.specs.Prelude.{◌≡◌, ◌<◌, Some, length, slice_get}
 ghost use Rattle.line_store.specs.Seats.{IsMember};
 ghost use Rattle.disk_store.specs.declared.member.Member.{Member as Sits};
 ghost use Rattle.disk_store.specs.Memory.{at_stage, with_member, with_number};
+ghost use Rattle.disk_store.specs.Sound.{IsSound};
 
 use crate::{Member, MemberStage};
 use line_opening::NextGroup;
@@ -13,11 +14,13 @@ use std::alloc::Global;
 use std::marker::Model;
 use version_writing::SnapshotSlots;
 
-/// The number of the next transaction, and the ceiling that each root has which a crash may leave: numbers below it may be drawn.
+/// The number of the next transaction; the ceiling that each root has which a crash may leave: numbers below it may be drawn; the ceiling of the root that was written last, which isn't lower; and what each root says of the groups that a backup had applied.
 #[derive(Clone, Copy, Debug, PartialEq, Eq)]
 pub struct Numbers {
     pub next: u64,
     pub ceiling: u64,
+    pub written: u64,
+    pub applied: u64,
 }
 
 /// The pages of the three area files.
@@ -43,15 +46,23 @@ pub struct Held {
 impl Model for Held {
     ghost use Rattle.std.specs.Prelude.{◌≡◌, length};
     ghost use Rattle.disk_store.specs.Memory.{StoreMemory};
+    ghost use Rattle.disk_store.specs.Sound.{IsSound};
 
     ghost Value = { StoreMemory };
 
     ghost view = { λ h. record { limits = h.limits; numbers = h.numbers; next = h.next; tables = h.tables; slots = h.slots; members = h.members.items } };
 
-    ghost invariant = { λ h. length h.members.items ≡ 17 };
+    ghost invariant = { λ h. (length h.members.items ≡ 17) × IsSound (record { limits = h.limits; numbers = h.numbers; next = h.next; tables = h.tables; slots = h.slots; members = h.members.items }) };
 }
 
 impl Held {
+    // What is true of the memory, whatever the disk tells.
+    pub(crate) fn sound(&self)
+        ensures { IsSound self.now }
+    {
+        let _ = &self.limits;
+    }
+
     // A session comes to another stage.
     pub(crate) fn set_stage(&mut self, s: Session, next: MemberStage)
         requires { IsMember s.number }

@@ -3,8 +3,10 @@
 
 mod before_images;
 mod beginning;
+mod changing;
 mod dying;
 mod endings;
+mod few;
 mod held;
 mod laws;
 mod learning;
@@ -16,17 +18,21 @@ mod rolling;
 mod rooms;
 mod seen;
 mod starts;
+mod undoing;
 
-pub use beginning::draw;
+pub use beginning::{ask, draw};
+pub use changing::change;
 pub use dying::die;
 pub use endings::{bury, put_away};
+pub use few::steps_are_few;
 pub use held::{Held, Numbers, Tables};
 pub use laws::the_sight_is_right;
 pub use learning::{learn_area, learn_line};
-pub use member::{Member, MemberStage, Recovery};
+pub use member::{Ceiling, Member, MemberStage, Recovery};
 pub use moves::{begin, commit, give_back};
 pub use preparing::prepare;
 pub use restoring::restore;
 pub use rolling::roll_back;
 pub use rooms::{room, take_room};
 pub use starts::{begin_reading, end_reading};
+pub use undoing::put_back;

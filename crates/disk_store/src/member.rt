@@ -3,6 +3,7 @@ use member_memory::MemberLines;
 use member_steps::CommitTurn;
 use rdb_types::Tsn;
 use version_reading::Reader;
+use version_writing::Wanted;
 
 /// What is left of the recovery of a session that died.
 #[derive(Clone, Copy, Debug, PartialEq, Eq)]
@@ -17,15 +18,24 @@ pub enum Recovery {
     Restoring,
 }
 
+/// How far a beginning is.
+#[derive(Clone, Copy, Debug, PartialEq, Eq)]
+pub enum Ceiling {
+    /// It asks for a number below the ceiling.
+    Asking,
+    /// A root with a higher ceiling was written for it. A barrier makes that stable, and till then a number is kept free.
+    Raised,
+}
+
 /// Where a session's transaction is.
 #[derive(Clone, Copy, Debug, PartialEq, Eq)]
 pub enum MemberStage {
     Outside,
-    Beginning,
+    Beginning(Ceiling),
     Writing,
     /// Before-images of lines of the last statement are to be written, or lines to be pushed aside.
     Changing,
-    /// A before-image may stand or not: the transaction can only die.
+    /// A step of a change failed, and a before-image may stand or not: the transaction can only die.
     Broken,
     Prepared,
     Committing(CommitTurn),
@@ -37,13 +47,15 @@ pub enum MemberStage {
     Dead { commits: bool, recovery: Recovery },
 }
 
-/// A session as the store has it: where it is, the number of its read-write transaction, the lines that this wrote, how many of them have a before-image, and how many were pushed aside where they had to be; and what a reader keeps from its start, which says nothing at another stage.
+/// A session as the store has it: where it is, the number of its read-write transaction, whether its header was found or made to name that since the last statement, the lines that this wrote, how many of them have a before-image, how many were pushed aside where they had to be, and the slots that are set aside for the others; and what a reader keeps from its start, which says nothing at another stage.
 #[derive(Drop)]
 pub struct Member {
     pub stage: MemberStage,
     pub tsn: Tsn,
+    pub named: bool,
     pub written: MemberLines,
     pub journalled: u32,
     pub pushed: u32,
+    pub aside: Wanted,
     pub reader: Reader,
 }

@@ -6,7 +6,7 @@ ghost use Rattle.line_store.specs.Sights.{Does, GivesBack, BeginsCommit, StandsA
 ghost use Rattle.disk_store.specs.Seats.{stand_at};
 ghost use Rattle.disk_store.specs.Shown.{sight_of};
 
-use crate::{Held, MemberStage};
+use crate::{Ceiling, Held, MemberStage};
 use member_steps::CommitTurn;
 use rdb_outside::Disk;
 use rdb_types::Session;
@@ -17,7 +17,7 @@ pub fn begin<D: Disk>(_disk: &D, held: &mut Held, s: Session)
     requires outside { stand_at held.old.members s.number ≡ outside }
     ensures { Does s.number beginning (Moves s.number beginning) (sight_of (D.view _disk.now) held.old) (sight_of (D.view _disk.now) held.new) }
 {
-    held.set_stage(s, MemberStage::Beginning);
+    held.set_stage(s, MemberStage::Beginning(Ceiling::Asking));
 }
 
 /// What was set aside for a session's commit is given back.

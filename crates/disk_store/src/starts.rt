@@ -24,7 +24,7 @@ impl Member {
     {
         match self.stage {
             MemberStage::Outside => false,
-            MemberStage::Beginning => false,
+            MemberStage::Beginning(_) => false,
             MemberStage::Writing => true,
             MemberStage::Changing => true,
             MemberStage::Broken => true,

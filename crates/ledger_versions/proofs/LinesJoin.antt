@@ -1,13 +1,13 @@
 -- Lines are journalled, pushed aside, and join those that wait.
-use Rattle.std.proofs.Common.{◌≡◌, ℕ, ◌-◌, ◌≤◌, true, false, List, [], ◌∷◌, ◌++◌, length, Some, slice_get, inl, ⊎_elim, ap, sym, subst, ◌∙◌, IsTrue}
+use Rattle.std.proofs.Common.{◌≡◌, ℕ, ◌-◌, ◌≤◌, true, false, List, [], ◌∷◌, ◌++◌, length, Some, slice_get, inl, inr, ⊎_elim, ap, sym, subst, ◌∙◌, IsTrue}
 use Rattle.rdb_types.specs.declared.file.FileKind.TheVariants.{Snap, Area, Ruj}
 use Rattle.rdb_types.specs.declared.keys.Dbkey.{Dbkey}
 use Rattle.rdb_types.specs.declared.keys.Tsn.{Tsn}
 use Rattle.rdb_types.specs.declared.keys.Line.{Line}
 use Rattle.rdb_outside.specs.Disk.{View}
-use Rattle.line_versions.specs.Versions.{snap_of}
+use Rattle.line_versions.specs.Versions.{Entries, snap_of}
 use Rattle.line_versions.specs.Files.{entries_in, snap_file}
-use Rattle.line_versions.specs.Course.{Course, IsFirst, pushed}
+use Rattle.line_versions.specs.Course.{Course, IsAbove, IsChanged, IsFirst, pushed}
 use Rattle.stable_lines.specs.Slots.{Undo, ruj_file, line_at}
 use Rattle.stable_lines.specs.Progress.{Open}
 use Rattle.stable_lines.proofs.Lists.{got_left}
@@ -22,7 +22,7 @@ use Rattle.disk_versions.specs.Versions.{SeatVersions, PutsIn, IsNoneOfThem}
 use Rattle.disk_versions.proofs.Moves.{KeepsEntries, kept_aside, kept_in_slot, lines_in_slot, seat_moves, versions_move}
 use Rattle.disk_versions.proofs.Pushes.{unfollowed, seat_beside_push}
 use Rattle.disk_versions.proofs.SeatLines.{line_pushed, seat_pushes, seat_first, seat_further, seat_journalled}
-use Rattle.ledger_versions.specs.Readers.{Waiting, set_waiting, HasLines, HasBefore, ReaderFacts}
+use Rattle.ledger_versions.specs.Readers.{Waiting, set_waiting, HasLines, HasBefore, HasVersionOf, AreAlike, ReaderFacts}
 use Rattle.ledger_versions.proofs.Standings.{one_number}
 use Rattle.ledger_versions.proofs.Restanding.{with_member, lines_there, put_keeps}
 use Rattle.ledger_versions.proofs.MembersEnd.{commits_as}
@@ -32,6 +32,35 @@ not_committing all es stable bad = cc
 
 has_lines : (s : Standing) (all : List Undo) (stable : ℕ) → s ≡ changing all stable → HasLines s
 has_lines s all stable same = subst (λ (x : Standing). HasLines x) (sym same) tt
+
+-- what stands above the committed line is told by transaction and chain alone
+alike_changed : (E : Entries) (course : Course) (key : Dbkey) (line before : Line) → line.tsn ≡ before.tsn → line.chain ≡ before.chain → IsChanged E course key before → IsChanged E course key line
+alike_changed E course key line before tsn chain was = record { going = ap (λ (t : Tsn). course.going t.number) tsn ∙ was.going; above = above was.above }
+  where
+    above : IsAbove E course.followed key before (course.base key) → IsAbove E course.followed key line (course.base key)
+    above (inl f) = inl (record { never = f.never; none = f.none; chain = chain ∙ f.chain })
+    above (inr p) = inr (record {
+      number = subst (λ (n : ℕ). 1 ≤ n) (sym chain) p.number;
+      entry = p.entry;
+      stands = subst (λ (n : ℕ). E (snap_of key) n p.entry) (sym chain) p.stands;
+      held = ap (λ (n : ℕ). course.followed (snap_of key) n) chain ∙ p.held;
+      key_is = p.key_is;
+      pusher = p.pusher ∙ sym tsn;
+      version = p.version;
+    })
+
+seat_alike : (v : View) (course : Course) (tsn : Tsn) (all : List Undo) (lines more : ChangedLines) → AreAlike lines more → SeatVersions v course tsn all lines → SeatVersions v course tsn all more
+seat_alike v course tsn all lines more alike was = record {
+  bases = was.bases;
+  bears = λ i l got. let h = alike.each i l got in sym h.tsn_is ∙ was.bears h.index h.line h.is;
+  above = λ i l got.
+      let h = alike.each i l got in
+      alike_changed (entries_in v.content) course l.0 l.1 h.line.1 (sym h.tsn_is) (sym h.chain_is) (subst (λ (k : Dbkey). IsChanged (entries_in v.content) course k h.line.1) h.key_is (was.above h.index h.line h.is));
+  pushed = λ file chain e held s its.
+      let p = was.pushed file chain e held s its in
+      let h = alike.kept p.index p.line p.is in
+      record { index = h.index; line = h.line; is = h.is; key_is = h.key_is ∙ p.key_is; chain_is = h.chain_is ∙ p.chain_is; file_is = p.file_is };
+}
 
 module _ (v : View) (g : Ledger) (limit : ℕ) (course : Course) (waiting : Waiting) (member : ℕ) (all : List Undo) (stable : ℕ) (o : Open) (facts : LedgerFacts v g) (stands : g.standing member ≡ changing all stable) (is : g.base.going member ≡ Some o) (was : ReaderFacts v g limit course waiting) where
   -- its seat
@@ -119,3 +148,9 @@ module _ (v : View) (g : Ledger) (limit : ℕ) (course : Course) (waiting : Wait
   line_again key line before more bears has one chain puts = same_others more
       (seat_further v course o.tsn all (waiting member) more key line puts bears seat before has chain one)
       (λ i l got. ⊎_elim (λ h. subst (λ (k : Dbkey). HasBefore all k) h.key_is (befores h.index h.line h.is)) (λ here. subst (λ (k : Dbkey). HasBefore all k) (has.key_is ∙ sym here.0) (befores has.index has.line has.is)) (puts.each i l got))
+
+  -- the lines that wait show something else
+  pub lines_alike : (more : ChangedLines) → AreAlike (waiting member) more → ReaderFacts v (stands_as member (changing all stable) g) limit course (set_waiting member more waiting)
+  lines_alike more alike = same_others more
+      (seat_alike v course o.tsn all (waiting member) more alike seat)
+      (λ i l got. let h = alike.each i l got in subst (λ (k : Dbkey). HasBefore all k) h.key_is (befores h.index h.line h.is))

@@ -40,6 +40,20 @@ pub record HasBefore (all : List Undo) (key : Dbkey) : Type 0 where
   pub is : slice_get all index ≡ Some undo
   pub key_is : undo.key ≡ key
 
+-- among them is a line of the key with the transaction and the version before of this one
+pub record HasVersionOf (lines : ChangedLines) (key : Dbkey) (of : Line) : Type 0 where
+  pub index : ℕ
+  pub line : Dbkey × Line
+  pub is : slice_get lines index ≡ Some line
+  pub key_is : line.0 ≡ key
+  pub tsn_is : line.1.tsn ≡ of.tsn
+  pub chain_is : line.1.chain ≡ of.chain
+
+-- They are of the same keys, and differ in no more than what the lines show.
+pub record AreAlike (lines more : ChangedLines) : Type 0 where
+  pub each : (i : ℕ) (line : Dbkey × Line) → slice_get more i ≡ Some line → HasVersionOf lines line.0 line.1
+  pub kept : (i : ℕ) (line : Dbkey × Line) → slice_get lines i ≡ Some line → HasVersionOf more line.0 line.1
+
 -- Each reader comes to its lines, and each line that waits stands one version above the committed one, with its before-image journalled. Once the group of a commit flies, its lines stand on their pages.
 pub record ReaderFacts (v : View) (g : Ledger) (limit : ℕ) (course : Course) (waiting : Waiting) : Type 0 where
   pub versions : VersionFacts v g.base limit course

@@ -13,7 +13,7 @@ ghost use Rattle.disk_seats.specs.Ledgers.{Ledger, changing, stands_as};
 ghost use Rattle.disk_seats.specs.Members.{LedgerFacts};
 ghost use Rattle.disk_versions.specs.Courses.{course_pushed};
 ghost use Rattle.disk_versions.specs.Versions.{IsNoneOfThem, PutsIn};
-ghost use Rattle.ledger_versions.specs.Readers.{HasBefore, ReaderFacts, Waiting, set_waiting};
+ghost use Rattle.ledger_versions.specs.Readers.{AreAlike, HasBefore, ReaderFacts, Waiting, set_waiting};
 
 use rdb_outside::Disk;
 
@@ -79,6 +79,16 @@ pub fn lines_join_without_a_push<D: Disk>(disk: &D)
         → ((i : ℕ) (other : Dbkey × Line) → slice_get (waiting member) i ≡ Some other
         → other.0 ≡ key → other.1 ≡ before)
         → line.chain ≡ before.chain → PutsIn (waiting member) key line more
+        → ReaderFacts (D.view disk.now) ledger limit course waiting
+        → ReaderFacts (D.view disk.now) (stands_as member (changing all stable) ledger) limit course
+        (set_waiting member more waiting) }
+
+    // They show something else.
+    ensures alike { (ledger : Ledger) (limit : ℕ) (course : Course) (waiting : Waiting)
+        → (member stable : ℕ) (all : List Undo) (transaction : Open)
+        → LedgerFacts (D.view disk.now) ledger → ledger.standing member ≡ changing all stable
+        → ledger.base.going member ≡ Some transaction
+        → (more : ChangedLines) → AreAlike (waiting member) more
         → ReaderFacts (D.view disk.now) ledger limit course waiting
         → ReaderFacts (D.view disk.now) (stands_as member (changing all stable) ledger) limit course
         (set_waiting member more waiting) }

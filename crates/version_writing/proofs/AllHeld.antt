@@ -15,7 +15,7 @@ use Rattle.line_moves.proofs.KeyPlaces.{area_is, is_on}
 use Rattle.line_moves.proofs.Putting.{nat_cases}
 use Rattle.disk_versions.proofs.Choices.{passed_by}
 use Rattle.disk_versions.proofs.Moves.{kept_in_slot}
-use Rattle.version_writing.specs.Slots.{SlotTable, HoldsFile}
+use Rattle.version_writing.specs.Slots.{SlotTable, HoldsFile, Spends}
 use Rattle.version_writing.specs.Tables.{table_of, HoldsAll}
 use Rattle.version_writing.specs.declared.snapshot_slots.SnapshotSlots.{SnapshotSlots}
 use Rattle.version_writing.proofs.Held.{holds_moved}
@@ -46,6 +46,17 @@ all_held v w followed limit old new number chain t some free writes others own w
   where
     no_other : (c : ℕ) → 1 ≤ c → chain - 1 ≡ c - 1 → followed number c ≡ true → ⊥
     no_other c low at held = let same : chain ≡ c = omega (arith, some, low, at) in false≢true (sym free ∙ ap (λ (n : ℕ). followed number n) same ∙ held)
+
+-- what was spent of its file's slots
+pub spends_there : (old new : SnapshotSlots) (key : Dbkey) (place : Place) (number : ℕ) → IsPlaceOf key place → place.file ≡ number → Spends (table_of old number) (table_of new number) → Spends (table_of old (snap_of key)) (table_of new (snap_of key))
+spends_there old new key place number names at spends = subst (λ (n : ℕ). Spends (table_of old n) (table_of new n)) (sym (its_file key place names ∙ at)) spends
+
+-- of all files, where one alone is another
+pub all_hold : (image : Image) (followed : Followed) (limit : ℕ) (old new : SnapshotSlots) (number : ℕ) → ((f : ℕ) → IsAreaFile f → f ≢ number → table_of new f ≡ table_of old f) → HoldsFile image followed number limit (table_of new number) → HoldsAll image followed limit old → HoldsAll image followed limit new
+all_hold image followed limit old new number others own was file is = ⊎_elim
+    (λ same. subst (λ (n : ℕ). HoldsFile image followed n limit (table_of new n)) (sym same) own)
+    (λ apart. subst (λ (x : SlotTable). HoldsFile image followed file limit x) (sym (others file is apart)) (was file is))
+    (nat_cases file number)
 
 -- ---- what stays of the other files
 

@@ -85,6 +85,12 @@ MayPush table chain tsn = ((chain ≡ 0) × (1 ≤ table.aside)) ⊎ IsMine tabl
 abbrev pub HasSlot : SlotTable → SlotTable → (before chain : ℕ) → Tsn → Type 0
 HasSlot old new before chain tsn = ((new ≡ old) × (chain ≡ before) × IsMine old chain tsn) ⊎ ((before ≡ 0) × TakesFor old new chain tsn)
 
+-- No fewer slots are free beside those that are set aside, of which one may be taken.
+pub record Spends (old new : SlotTable) : Type 0 where
+  pub long : length new.slots ≡ length old.slots
+  pub left : left_in old.slots + new.aside ≤ left_in new.slots + old.aside
+  pub aside : old.aside ≤ new.aside + 1
+
 -- the line that was pushed aside stands in its slot
 abbrev pub IsAside : Image → Image → Dbkey → Tsn → ℕ → Type 0
 IsAside old new key tsn chain = entries_in new (snap_of key) chain (pushed key tsn (line_at old key))

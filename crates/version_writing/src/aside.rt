@@ -4,8 +4,8 @@ ghost use Rattle.rdb_types.specs.declared.file.FileId.{FileId as File};
 ghost use Rattle.rdb_types.specs.declared.keys.LineState.TheVariants.{Never};
 ghost use Rattle.rdb_page.specs.Whole.{IsPageOf};
 ghost use Rattle.rdb_outside.specs.Causes.{Rose};
-ghost use Rattle.rdb_outside.specs.Disk.{OnlyReads};
-ghost use Rattle.line_versions.specs.Versions.{snap_of};
+ghost use Rattle.rdb_outside.specs.Disk.{Image, OnlyReads};
+ghost use Rattle.line_versions.specs.Versions.{Followed, snap_of};
 ghost use Rattle.line_versions.specs.Files.{snap_file};
 ghost use Rattle.line_versions.specs.Course.{Course};
 ghost use Rattle.stable_lines.specs.Slots.{IsAreaFile, area_file, line_at as line_named};
@@ -14,7 +14,7 @@ ghost use Rattle.line_moves.specs.Calls.{OnlyWrites};
 ghost use Rattle.line_moves.specs.Changes.{IsPlaceOf};
 ghost use Rattle.disk_versions.specs.Courses.{course_pushed};
 ghost use Rattle.disk_versions.specs.Versions.{VersionFacts};
-ghost use Rattle.version_writing.specs.Slots.{IsAside, MayPush};
+ghost use Rattle.version_writing.specs.Slots.{IsAside, MayPush, Spends};
 ghost use Rattle.version_writing.specs.Tables.{HoldsAll, table_of};
 
 use crate::{SnapshotSlots, push_line};
@@ -39,6 +39,8 @@ pub fn push_aside<D: Disk>(
     ensures again { MayPush (table_of slots.new (snap_of key)) chain.new tsn ⊎ (chain.new ≡ 0) }
     ensures others { (file : ℕ) → IsAreaFile file → file ≢ snap_of key
         → table_of slots.new file ≡ table_of slots.old file }
+    ensures spends { Spends (table_of slots.old (snap_of key)) (table_of slots.new (snap_of key)) }
+    ensures keeps { chain.new ≡ 0 → slots.new ≡ slots.old }
     ensures writes { OnlyWrites (snap_file (snap_of key)) (chain.new - 1)
         (D.view disk.old) (D.view disk.new) }
     ensures failed { IsErrOf result Fault.Failed
@@ -49,7 +51,7 @@ pub fn push_aside<D: Disk>(
         ((D.view disk.old).content (area_file place.file) (place.page - 1)) → ⊥ }
 
     // A line that was never used has nothing to push, and any other stands in its slot.
-    ensures unused { OnOk result (chain.new ≡ 0 → OnlyReads (D.view disk.old) (D.view disk.new)) }
+    ensures unused { chain.new ≡ 0 → OnlyReads (D.view disk.old) (D.view disk.new) }
     ensures never { OnOk result (chain.new ≡ 0 → IsTrue (D.view disk.old).tells
         → let line = line_named (D.view disk.old).content key in
         (line.state ≡ Never) × (line.chain ≡ 0)) }
@@ -75,6 +77,15 @@ pub fn push_aside<D: Disk>(
         → let after = course_pushed (snap_of key) chain.new course in
         VersionFacts (D.view disk.new) now limit after
         × HoldsAll (D.view disk.new).content after.followed limit slots.new) }
+
+    // The slot was free, and what is followed is in use as before.
+    ensures unfollowed { (image : Image) (followed : Followed) (limit : ℕ)
+        → HoldsAll image followed limit slots.old
+        → (1 ≤ chain.old → followed (snap_of key) chain.old ≡ false)
+        → 1 ≤ chain.new → (followed (snap_of key) chain.new ≡ false) × (chain.new ≤ limit) }
+    ensures holds { (image : Image) (followed : Followed) (limit : ℕ)
+        → HoldsAll image followed limit slots.old
+        → HoldsAll image followed limit slots.new }
 {
     match place.file {
         1 => push_line(disk, &mut slots.catalog, chain, key, place, tsn),

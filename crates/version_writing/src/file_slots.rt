@@ -76,6 +76,7 @@ impl FileSlots {
         requires number { 1 ≤ tsn.number }
         ensures taken { TakesFor self.old self.new result tsn }
         ensures fewer { self.new.aside + 1 ≡ self.old.aside }
+        ensures left { left_in self.new.slots + 1 ≡ left_in self.old.slots }
     {
         let slot = self.stock.take();
         self.pushers[slot as usize - 1] = tsn;

@@ -14,7 +14,7 @@ ghost use Rattle.line_moves.specs.Calls.{OnlyWrites};
 ghost use Rattle.line_moves.specs.Changes.{IsPlaceOf};
 ghost use Rattle.disk_versions.specs.Courses.{course_pushed};
 ghost use Rattle.disk_versions.specs.Versions.{VersionFacts};
-ghost use Rattle.version_writing.specs.Slots.{HasSlot, HoldsFile, IsAside, MayPush};
+ghost use Rattle.version_writing.specs.Slots.{HasSlot, HoldsFile, IsAside, MayPush, Spends};
 
 use crate::FileSlots;
 use line_moves::{Place, line_at};
@@ -27,7 +27,8 @@ use version_reading::push_version;
 fn chain_or_new(slots: &mut FileSlots, chain: u32, tsn: Tsn) -> u32
     requires number { 1 ≤ tsn.number }
     requires may { MayPush slots.old chain tsn }
-    ensures { HasSlot slots.old slots.new chain result tsn }
+    ensures has { HasSlot slots.old slots.new chain result tsn }
+    ensures spends { Spends slots.old slots.new }
 {
     if chain == 0 { slots.take(tsn) } else { chain }
 }
@@ -48,6 +49,8 @@ pub fn push_line<D: Disk>(
     requires last { tsn.number < 2 ^ 62 }
     requires may { MayPush slots.old chain.old tsn }
     ensures slots { (slots.new ≡ slots.old) ⊎ HasSlot slots.old slots.new chain.old chain.new tsn }
+    ensures spends { Spends slots.old slots.new }
+    ensures keeps { chain.new ≡ 0 → slots.new ≡ slots.old }
     ensures again { MayPush slots.new chain.new tsn ⊎ (chain.new ≡ 0) }
     ensures writes { OnlyWrites (snap_file (snap_of key)) (chain.new - 1)
         (D.view disk.old) (D.view disk.new) }
@@ -59,7 +62,7 @@ pub fn push_line<D: Disk>(
         ((D.view disk.old).content (area_file place.file) (place.page - 1)) → ⊥ }
 
     // A line that was never used has nothing to push.
-    ensures unused { OnOk result (chain.new ≡ 0 → OnlyReads (D.view disk.old) (D.view disk.new)) }
+    ensures unused { chain.new ≡ 0 → OnlyReads (D.view disk.old) (D.view disk.new) }
     ensures never { OnOk result (chain.new ≡ 0 → IsTrue (D.view disk.old).tells
         → let line = line_named (D.view disk.old).content key in
         (line.state ≡ Never) × (line.chain ≡ 0)) }

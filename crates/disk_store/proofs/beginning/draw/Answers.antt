@@ -1,21 +1,67 @@
-use Rattle.std.proofs.Common.{◌≡◌, [], sym, subst, ap, ◌∙◌}
-use Rattle.line_store.specs.Seats.{writing}
-use Rattle.line_store.specs.Calls.{IsDone}
-use Rattle.line_store.specs.Sights.{Does}
+use Rattle.std.proofs.Common.{◌≡◌, ◌≤◌, sym, subst, ap, ◌∙◌, refl, arith}
+use Rattle.std.specs.Prelude.{slice_get}
+use Rattle.line_store.specs.Shelves.{Shelf}
+use Rattle.line_store.specs.Calls.{IsDone, Fails}
+use Rattle.line_store.specs.declared.answers.Fault.TheVariants.{Bad}
+use Rattle.line_store.specs.Seats.{done_at}
+use Rattle.line_store.specs.Sights.{Does, seat_or}
+use Rattle.disk_store.specs.declared.member.Ceiling.TheVariants.{Raised}
 use Rattle.disk_store.specs.declared.member.Member.{Member}
-use Rattle.disk_store.specs.Memory.{with_number}
+use Rattle.disk_store.specs.declared.held.Numbers.{Numbers}
+use Rattle.disk_store.specs.Memory.{StoreMemory, with_number}
+use Rattle.disk_store.specs.Numbers.{with_settled}
+use Rattle.disk_store.specs.Seats.{stand_at}
 use Rattle.disk_store.specs.Shown.{sight_of}
 use Rattle.disk_store.proofs.Closing.{one-member}
+use Rattle.disk_store.proofs.Failing.{does-fail}
+use Rattle.disk_store.proofs.Restored.{keeps-read}
 use Rattle.disk_store.proofs.Drawing.{does-draw}
+use Rattle.disk_store.proofs.Raising.{leads-read, may-draw-kept, number-is-kept, does-none}
 use Rattle.disk_store.proofs.beginning.draw.Goals as goal
 
-pub returns : goal.returns
-returns g c =
-    let v = g.D.Disk.view c.args._disk.now in
+pub returns-in_default-clause-comes : goal.returns-in_default-clause-comes
+returns-in_default-clause-comes g c =
+    let v = g.D.Disk.view c.args.disk.now in
+    let w = g.D.Disk.view c.settle.new.disk in
+    let at = c.requires.begins in
+    does-fail v w c.args.held.now c.args.s.number at.member at.is (λ reads. cc) (keeps-read v w c.args.held.now c.args.s.number at.member c.settle.ensures.reads c.settle.ensures.keeps) (c.in_default.ensures.counts.cause refl)
+
+pub returns-clause-comes : goal.returns-clause-comes
+returns-clause-comes g c =
+    let v = g.D.Disk.view c.args.disk.now in
+    let w = g.D.Disk.view c.settle.new.disk in
     let s = c.args.s.number in
     let held = c.args.held.now in
     let at = c.requires.begins in
+    let settled : c.settle_ceiling.new.self ≡ with_settled held = c.settle_ceiling.ensures in
     let comes = c.draw_number.ensures in
-    let same : comes.0 ≡ at.member = one-member held.members s comes.0 at.member comes.1 at.is in
-    subst (λ new. Does s (writing []) (IsDone s) (sight_of v held) (sight_of v new)) (sym (comes.2 ∙ ap (λ (x : Member). with_number s x held) same))
-    (does-draw v held s at.member at.is c.requires.member at.at c.requires.below)
+    let there = ap (λ (x : StoreMemory). slice_get x.members s) (sym settled) ∙ comes.1 in
+    let same : comes.0 ≡ at.member = one-member held.members s comes.0 at.member there at.is in
+    subst (λ new. Does s (seat_or (stand_at held.members s) (done_at (stand_at held.members s))) (λ h k. IsDone s h k) (sight_of v held) (sight_of w new))
+    (sym (comes.2 ∙ ap (λ (x : StoreMemory). with_number s comes.0 x) settled ∙ ap (λ (x : Member). with_number s x (with_settled held)) same))
+    (does-draw v w held s held.numbers.written at.member Raised at.is c.requires.member at.at (leads-read v w held c.settle.ensures.reads c.settle.ensures.keeps) (may-draw-kept v w held s at.member at.is at.at c.settle.ensures.reads c.in-Ok.ensures.stable))
+
+-- the number that is there, by memory behind the barrier
+none-below : (held behind : StoreMemory) (inside : Numbers) → inside ≡ behind.numbers → behind ≡ with_settled held → inside.ceiling ≤ inside.next → held.numbers.written ≤ held.numbers.next
+none-below held behind inside same settled none = subst (λ (n : Numbers). n.ceiling ≤ n.next) (same ∙ ap (λ (x : StoreMemory). x.numbers) settled) none
+
+pub returns-then-held-clause-comes : goal.returns-then-held-clause-comes
+returns-then-held-clause-comes g c =
+    let v = g.D.Disk.view c.args.disk.now in
+    let w = g.D.Disk.view c.settle.new.disk in
+    let s = c.args.s.number in
+    let held = c.args.held.now in
+    let at = c.requires.begins in
+    let settled : c.settle_ceiling.new.self ≡ with_settled held = c.settle_ceiling.ensures in
+    let none = none-below held c.settle_ceiling.new.self c.held.inside.numbers (ap (λ (x : StoreMemory). x.numbers) c.held.view_is) settled c.if-held.true in
+    let R = λ (h k : Shelf). Fails s (Bad c.root_file.result 0) h k in
+    subst (λ new. Does s (stand_at held.members s) R (sight_of v held) (sight_of w new)) (sym settled)
+    (does-none v w held s at.member at.is at.at none R)
+
+pub returns-then-held-clause-kept : goal.returns-then-held-clause-kept
+returns-then-held-clause-kept g c file slot is h shown =
+    let held = c.args.held.now in
+    let at = c.requires.begins in
+    let none = none-below held c.settle_ceiling.new.self c.held.inside.numbers (ap (λ (x : StoreMemory). x.numbers) c.held.view_is) c.settle_ceiling.ensures c.if-held.true in
+    let kept = number-is-kept (g.D.Disk.view c.args.disk.now) held c.args.s.number at.member at.is at.at h shown in
+    omega (arith, none, kept)

@@ -5,7 +5,8 @@ use Rattle.line_store.specs.Sights.{Does}
 use Rattle.disk_store.specs.declared.member.Member.{Member}
 use Rattle.disk_store.specs.declared.member.MemberStage.TheVariants as stage
 use Rattle.disk_store.specs.declared.member.Recovery.TheVariants as recovery
-use Rattle.disk_store.specs.Memory.{with_member, at_stage}
+use Rattle.disk_store.specs.Dying.{forgotten}
+use Rattle.disk_store.specs.Memory.{with_member}
 use Rattle.disk_store.specs.Seats.{stand_of, seat_with}
 use Rattle.disk_store.specs.Shown.{sight_of}
 use Rattle.disk_store.proofs.Failing.{does-fail}
@@ -34,8 +35,8 @@ returns-clause-comes g c =
     let s = c.args.s.number in
     let held = c.args.held.now in
     let at = c.requires.died.1 in
-    let comes = c.set_stage.ensures.comes in
+    let comes = c.forget.ensures in
     let same : comes.0 ≡ at.member = one-member held.members s comes.0 at.member comes.1 at.is in
     subst (λ new. Does s outside (λ h k. IsUndone s c.moment.result.number h k) (sight_of v held) (sight_of w new))
-    (sym (comes.2 ∙ ap (λ (x : Member). with_member s (at_stage stage.Outside x) held) same))
+    (sym (comes.2 ∙ ap (λ (x : Member). with_member s (forgotten stage.Outside x) held) same))
     (does-bury v w held s c.moment.result.number at.member c.requires.died.0 at.is at.at c.close.ensures.writes c.close.ensures.keeps c.moment.ensures)

@@ -4,7 +4,8 @@ use Rattle.line_store.specs.Seats.{done_at}
 use Rattle.line_store.specs.Sights.{Does, seat_or}
 use Rattle.disk_store.specs.declared.member.Member.{Member}
 use Rattle.disk_store.specs.declared.member.MemberStage.TheVariants as stage
-use Rattle.disk_store.specs.Memory.{with_member, at_stage}
+use Rattle.disk_store.specs.Dying.{forgotten}
+use Rattle.disk_store.specs.Memory.{with_member}
 use Rattle.disk_store.specs.Seats.{stand_at}
 use Rattle.disk_store.specs.Shown.{sight_of}
 use Rattle.disk_store.proofs.Failing.{does-fail}
@@ -25,8 +26,8 @@ returns-clause-comes g c =
     let w = g.D.Disk.view c.close.new.disk in
     let s = c.args.s.number in
     let at = ended-at c.args.held.now.members s c.requires.ended in
-    let comes = c.set_stage.ensures.comes in
+    let comes = c.forget.ensures in
     let same : comes.0 ≡ at.member = one-member c.args.held.now.members s comes.0 at.member comes.1 at.is in
     subst (λ held. Does s (seat_or (stand_at c.args.held.now.members s) (done_at (stand_at c.args.held.now.members s))) (λ h g. IsDone s h g) (sight_of v c.args.held.now) (sight_of w held))
-    (sym (comes.2 ∙ ap (λ (x : Member). with_member s (at_stage stage.Outside x) c.args.held.now) same))
+    (sym (comes.2 ∙ ap (λ (x : Member). with_member s (forgotten stage.Outside x) c.args.held.now) same))
     (does-close v w c.args.held.now s at.member at.is at.ended c.close.ensures.writes c.close.ensures.keeps)

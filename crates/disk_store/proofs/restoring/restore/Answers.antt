@@ -1,4 +1,4 @@
-use Rattle.std.proofs.Common.{◌≡◌, ◌<◌, Some, refl, sym, subst, ap, ◌∙◌, arith}
+use Rattle.std.proofs.Common.{◌≡◌, refl, sym, subst, ap, ◌∙◌, arith}
 use Rattle.line_store.specs.Calls.{GoesOn}
 use Rattle.line_store.specs.Sights.{Does}
 use Rattle.disk_store.specs.declared.member.Member.{Member}

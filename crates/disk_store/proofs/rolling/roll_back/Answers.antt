@@ -23,6 +23,6 @@ returns g c =
     let at : m.stage ≡ stage.Writing = is-writing m.stage is in
     subst (λ new. Does s (rolling_back []) (RollsBack s) (sight_of v held) (sight_of v new)) (sym comes.2)
     (does-end v held s m comes.1 stage.RollingBack (λ tells. g.met.D.Disk.content_left c.args._disk.now v.moment tells (omega arith))
-    (λ ledger rests. rests) (λ waiting. tt) (λ e. cc) (λ ledger stands. let has = subst (λ st. StageStands st v ledger s m) at stands in may-end-begun ledger s m has.begun)
+    (λ ledger rests. rests) (λ waiting. tt) (λ e. cc) refl (λ ledger stands. let has = subst (λ st. StageStands st v ledger s m) at stands in may-end-begun ledger s m has.begun)
     (rolling_back []) (RollsBack s) refl
     (λ h k start seat moves. subst (λ x. Moves s x h k) (sym (ap rolled_back seat ∙ rolled-now m (writes_in m.written.lines) start is)) moves))

@@ -3,7 +3,7 @@ use Rattle.line_versions.specs.Versions.{snap_of}
 use Rattle.line_versions.specs.Course.{with_entry}
 use Rattle.line_moves.proofs.Runs.{on_ok}
 use Rattle.version_writing.specs.Slots.{SlotTable, HoldsFile}
-use Rattle.version_writing.proofs.AllHeld.{its_file, held_there, all_held, table_there, third, others_first, others_second, others_third}
+use Rattle.version_writing.proofs.AllHeld.{its_file, held_there, all_held, table_there, third, others_first, others_second, others_third, spends_there, all_hold}
 use Rattle.version_writing.proofs.aside.push_aside.Goals as goal
 
 pub returns-in-1-clause-versions : goal.returns-in-1-clause-versions
@@ -73,3 +73,72 @@ returns-in_default-clause-followed g c = let v = g.D.Disk.view in let old = v c.
           (λ f there apart. others_third c.args.slots.now c.push_line-in_default.new.slots f there (λ same. apart (same ∙ sym (its_file c.args.key c.args.place c.requires.place ∙ at))))
           (subst (λ (x : SlotTable). HoldsFile new.content (with_entry number chain course.followed) number limit x) (sym (table_there slots number 3 (its_file c.args.key c.args.place c.requires.place ∙ at))) both.1) held,
     )) c.push_line-in_default.ensures.followed
+
+pub returns-in-1-clause-spends : goal.returns-in-1-clause-spends
+returns-in-1-clause-spends g c =
+    let at : c.args.place.file ≡ 1 = search rules in
+    spends_there c.args.slots.now (record c.args.slots.now { catalog = c.push_line.new.slots }) c.args.key c.args.place 1 c.requires.place at c.push_line.ensures.spends
+
+pub returns-in-1-clause-unfollowed : goal.returns-in-1-clause-unfollowed
+returns-in-1-clause-unfollowed g c = λ image followed limit held free some.
+    let at : c.args.place.file ≡ 1 = search rules in
+    c.push_line.ensures.unfollowed image followed (snap_of c.args.key) limit (held_there image followed limit c.args.slots.now c.args.key c.args.place 1 c.requires.place at held) free some
+
+pub returns-in-1-clause-holds : goal.returns-in-1-clause-holds
+returns-in-1-clause-holds g c = λ image followed limit held.
+    let at : c.args.place.file ≡ 1 = search rules in
+    let number = snap_of c.args.key in
+    let slots = record c.args.slots.now { catalog = c.push_line.new.slots } in
+    let names = its_file c.args.key c.args.place c.requires.place in
+    all_hold image followed limit c.args.slots.now slots number
+    (λ f there apart. others_first c.args.slots.now c.push_line.new.slots f (λ same. apart (same ∙ sym (names ∙ at))))
+    (subst (λ (x : SlotTable). HoldsFile image followed number limit x) (sym (table_there slots number 1 (names ∙ at)))
+    (c.push_line.ensures.holds image followed number limit (held_there image followed limit c.args.slots.now c.args.key c.args.place 1 c.requires.place at held))) held
+
+pub returns-in-2-clause-spends : goal.returns-in-2-clause-spends
+returns-in-2-clause-spends g c =
+    let at : c.args.place.file ≡ 2 = search rules in
+    spends_there c.args.slots.now (record c.args.slots.now { relations = c.push_line-in-2.new.slots }) c.args.key c.args.place 2 c.requires.place at c.push_line-in-2.ensures.spends
+
+pub returns-in-2-clause-unfollowed : goal.returns-in-2-clause-unfollowed
+returns-in-2-clause-unfollowed g c = λ image followed limit held free some.
+    let at : c.args.place.file ≡ 2 = search rules in
+    c.push_line-in-2.ensures.unfollowed image followed (snap_of c.args.key) limit (held_there image followed limit c.args.slots.now c.args.key c.args.place 2 c.requires.place at held) free some
+
+pub returns-in-2-clause-holds : goal.returns-in-2-clause-holds
+returns-in-2-clause-holds g c = λ image followed limit held.
+    let at : c.args.place.file ≡ 2 = search rules in
+    let number = snap_of c.args.key in
+    let slots = record c.args.slots.now { relations = c.push_line-in-2.new.slots } in
+    let names = its_file c.args.key c.args.place c.requires.place in
+    all_hold image followed limit c.args.slots.now slots number
+    (λ f there apart. others_second c.args.slots.now c.push_line-in-2.new.slots f (λ same. apart (same ∙ sym (names ∙ at))))
+    (subst (λ (x : SlotTable). HoldsFile image followed number limit x) (sym (table_there slots number 2 (names ∙ at)))
+    (c.push_line-in-2.ensures.holds image followed number limit (held_there image followed limit c.args.slots.now c.args.key c.args.place 2 c.requires.place at held))) held
+
+pub returns-in_default-clause-spends : goal.returns-in_default-clause-spends
+returns-in_default-clause-spends g c =
+    let one : c.args.place.file ≢ 1 = search rules in
+    let two : c.args.place.file ≢ 2 = search rules in
+    let at = third c.args.key c.args.place c.requires.place one two in
+    spends_there c.args.slots.now (record c.args.slots.now { indexes = c.push_line-in_default.new.slots }) c.args.key c.args.place 3 c.requires.place at c.push_line-in_default.ensures.spends
+
+pub returns-in_default-clause-unfollowed : goal.returns-in_default-clause-unfollowed
+returns-in_default-clause-unfollowed g c = λ image followed limit held free some.
+    let one : c.args.place.file ≢ 1 = search rules in
+    let two : c.args.place.file ≢ 2 = search rules in
+    let at = third c.args.key c.args.place c.requires.place one two in
+    c.push_line-in_default.ensures.unfollowed image followed (snap_of c.args.key) limit (held_there image followed limit c.args.slots.now c.args.key c.args.place 3 c.requires.place at held) free some
+
+pub returns-in_default-clause-holds : goal.returns-in_default-clause-holds
+returns-in_default-clause-holds g c = λ image followed limit held.
+    let one : c.args.place.file ≢ 1 = search rules in
+    let two : c.args.place.file ≢ 2 = search rules in
+    let at = third c.args.key c.args.place c.requires.place one two in
+    let number = snap_of c.args.key in
+    let slots = record c.args.slots.now { indexes = c.push_line-in_default.new.slots } in
+    let names = its_file c.args.key c.args.place c.requires.place in
+    all_hold image followed limit c.args.slots.now slots number
+    (λ f there apart. others_third c.args.slots.now c.push_line-in_default.new.slots f there (λ same. apart (same ∙ sym (names ∙ at))))
+    (subst (λ (x : SlotTable). HoldsFile image followed number limit x) (sym (table_there slots number 3 (names ∙ at)))
+    (c.push_line-in_default.ensures.holds image followed number limit (held_there image followed limit c.args.slots.now c.args.key c.args.place 3 c.requires.place at held))) held

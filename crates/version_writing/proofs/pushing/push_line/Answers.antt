@@ -28,19 +28,19 @@ pub returns-in_err-push_version-clause-versions : goal.returns-in_err-push_versi
 returns-in_err-push_version-clause-versions g c = let v = g.D.Disk.view in λ t now course limit held free was.
     let old = v c.args.disk.now in let mid = v c.line_at.new.disk in let new = v c.push_version.new.disk in
     let writes = writes_told old mid new (snap_file (snap_of c.args.key)) (c.chain_or_new.result - 1) c.push_version.result c.line_at.ensures.reads c.push_version.ensures.counts c.push_version.ensures.puts in
-    versions_stay old new now limit course c.args.key c.args.tsn c.args.slots.now c.chain_or_new.new.slots c.args.chain.now c.chain_or_new.result t c.chain_or_new.ensures writes held free was
+    versions_stay old new now limit course c.args.key c.args.tsn c.args.slots.now c.chain_or_new.new.slots c.args.chain.now c.chain_or_new.result t c.chain_or_new.ensures.has writes held free was
 
 pub returns-clause-versions : goal.returns-clause-versions
 returns-clause-versions g c = let v = g.D.Disk.view in λ t now course limit held free was.
     let old = v c.args.disk.now in let mid = v c.line_at.new.disk in let new = v c.push_version.new.disk in
     let writes = writes_told old mid new (snap_file (snap_of c.args.key)) (c.chain_or_new.result - 1) c.push_version.result c.line_at.ensures.reads c.push_version.ensures.counts c.push_version.ensures.puts in
-    versions_stay old new now limit course c.args.key c.args.tsn c.args.slots.now c.chain_or_new.new.slots c.args.chain.now c.chain_or_new.result t c.chain_or_new.ensures writes held free was
+    versions_stay old new now limit course c.args.key c.args.tsn c.args.slots.now c.chain_or_new.new.slots c.args.chain.now c.chain_or_new.result t c.chain_or_new.ensures.has writes held free was
 
 pub returns-clause-followed : goal.returns-clause-followed
 returns-clause-followed g c = let v = g.D.Disk.view in λ some t now course limit held free ended goes was.
     let old = v c.args.disk.now in let mid = v c.line_at.new.disk in let new = v c.push_version.new.disk in
     let writes = writes_told old mid new (snap_file (snap_of c.args.key)) (c.chain_or_new.result - 1) c.push_version.result c.line_at.ensures.reads c.push_version.ensures.counts c.push_version.ensures.puts in
     let stands = subst (λ (l : Line). entries_in new.content (snap_of c.args.key) c.chain_or_new.result (pushed c.args.key c.args.tsn l)) (c.in_ok-line.ensures.line t) (c.in_ok-push_version.ensures.stands (still_tells old mid c.line_at.ensures.reads.told t)) in (
-      versions_pushed old new now limit course c.args.key c.args.tsn c.args.slots.now c.chain_or_new.new.slots c.args.chain.now c.chain_or_new.result t c.chain_or_new.ensures writes held free was stands ended goes,
-      table_pushed old new now limit course c.args.key c.args.tsn c.args.slots.now c.chain_or_new.new.slots c.args.chain.now c.chain_or_new.result t c.chain_or_new.ensures writes held free was stands,
+      versions_pushed old new now limit course c.args.key c.args.tsn c.args.slots.now c.chain_or_new.new.slots c.args.chain.now c.chain_or_new.result t c.chain_or_new.ensures.has writes held free was stands ended goes,
+      table_pushed old new now limit course c.args.key c.args.tsn c.args.slots.now c.chain_or_new.new.slots c.args.chain.now c.chain_or_new.result t c.chain_or_new.ensures.has writes held free was stands,
     )

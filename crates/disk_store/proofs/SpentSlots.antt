@@ -1,0 +1,59 @@
+-- What a push takes of the slots: no more are in use or set aside than before.
+use Rattle.std.proofs.Common.{◌≡◌, ◌≢◌, ◌≤◌, ◌+◌, ◌-◌, ◌==◌, ℕ, suc, Bool, true, false, cond, List, [], ◌∷◌, length, ⊎_elim, refl, sym, ap, subst, ◌∙◌, arith}
+use Rattle.std.specs.Prelude.{if◌then◌else◌}
+use Rattle.snapshot_file.specs.Slots.{left_in}
+use Rattle.line_store.specs.Shelves.{Space}
+use Rattle.line_store.specs.Calls.{KeepsSpace}
+use Rattle.line_moves.proofs.Putting.{nat_cases}
+use Rattle.stable_lines.specs.Slots.{IsAreaFile}
+use Rattle.version_writing.specs.Slots.{SlotTable, Spends}
+use Rattle.version_writing.specs.Tables.{table_of}
+use Rattle.version_writing.specs.declared.snapshot_slots.SnapshotSlots.{SnapshotSlots}
+use Rattle.disk_store.specs.Memory.{StoreMemory}
+use Rattle.store_shows.specs.Rooms.{HasPages}
+use Rattle.disk_store.specs.Shown.{SpaceStands, used_in, pages_of}
+use Rattle.disk_store.proofs.Changed.{used-all}
+
+no-more-left : (xs : List Bool) → left_in xs ≤ length xs
+no-more-left [] = omega arith
+no-more-left (true ∷ xs) = let rest = no-more-left xs in omega (arith, rest)
+no-more-left (false ∷ xs) = let rest = no-more-left xs in omega (arith, rest)
+
+spends-one : (old new : SlotTable) → Spends old new → used_in new ≤ used_in old
+spends-one old new spends =
+    let a = no-more-left old.slots in
+    let b = no-more-left new.slots in
+    omega (arith, a, b, spends.long, spends.left)
+
+same-used : (old new : SlotTable) → new ≡ old → used_in new ≤ used_in old
+same-used old new same = let e = ap used_in same in omega (arith, e)
+
+-- of all files, where one has spent
+pub spends-all : (old new : SnapshotSlots) (file : ℕ) → ((f : ℕ) → IsAreaFile f → f ≢ file → table_of new f ≡ table_of old f) → Spends (table_of old file) (table_of new file) → used-all new ≤ used-all old
+spends-all old new file others spends =
+    let a = at 1 (record { first = omega arith; last = omega arith }) in
+    let b = at 2 (record { first = omega arith; last = omega arith }) in
+    let c = at 3 (record { first = omega arith; last = omega arith }) in
+    omega (arith, a, b, c)
+  where
+    at : (f : ℕ) → IsAreaFile f → used_in (table_of new f) ≤ used_in (table_of old f)
+    at f is = ⊎_elim
+        (λ (same : f ≡ file). subst (λ (n : ℕ). used_in (table_of new n) ≤ used_in (table_of old n)) (sym same) (spends-one (table_of old file) (table_of new file) spends))
+        (λ apart. same-used (table_of old f) (table_of new f) (others f is apart))
+        (nat_cases f file)
+
+-- ---- the space, where the slots are others
+
+abbrev pub space-less : (old new : SnapshotSlots) → Space → Space
+space-less old new space = record { limits = space.limits; taken = space.taken; snaps = space.snaps - (used-all old - used-all new); slots = space.slots }
+
+pub keeps-less : (old new : SnapshotSlots) (space : Space) → KeepsSpace space (space-less old new space)
+keeps-less old new space = record { limits = refl; taken = λ file page. refl; snaps = omega arith; slots = omega arith }
+
+pub stands-less : (held behind : StoreMemory) (space : Space) → behind.limits ≡ held.limits → behind.tables ≡ held.tables → behind.next ≡ held.next → used-all behind.slots ≤ used-all held.slots → SpaceStands held space → SpaceStands behind (space-less held.slots behind.slots space)
+stands-less held behind space limits tables next fewer has = record {
+  limits = has.limits ∙ sym limits;
+  pages = subst (λ t. HasPages (pages_of t) (space-less held.slots behind.slots space)) (sym tables) (record { taken = has.pages.taken; limit = has.pages.limit });
+  snaps = let old = has.snaps in omega (arith, old, fewer);
+  slots = has.slots ∙ ap (λ n. n.slot - 1) (sym next);
+}

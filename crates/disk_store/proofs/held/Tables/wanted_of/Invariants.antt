@@ -1,0 +1,6 @@
+use Rattle.std.proofs.Common.{◌≤◌}
+use Rattle.disk_store.specs.Changing.{all_of}
+use Rattle.disk_store.proofs.held.Tables.wanted_of.Given as goal
+
+abbrev pub invariant-loop-key : goal.invariant-loop-key
+invariant-loop-key l = all_of l.wanted ≤ l.key-index
