@@ -25,7 +25,7 @@ use Rattle.disk_store.specs.Memory.{StoreMemory}
 use Rattle.disk_store.specs.Numbers.{kept_in}
 use Rattle.disk_store.specs.Seats.{seat_with, stand_of, stand_at}
 use Rattle.disk_store.specs.Standing.{HasBegun, IsBroken, StageStands}
-use Rattle.disk_store.specs.Shown.{HaveStarts, NumbersStand, TablesStand, WaitsAs, Shown, sight_of}
+use Rattle.disk_store.specs.Shown.{NumbersStand, TablesStand, WaitsAs, HaveStarts, Shown, sight_of}
 use Rattle.disk_store.proofs.Moving.{itself}
 use Rattle.disk_store.proofs.Beside.{SameAreas, StaysOf, stays-there}
 use Rattle.disk_store.proofs.Stepping.{ComesTo, Becomes, does-step}
@@ -37,9 +37,9 @@ pub record StaysShown (v w : View) (held behind : StoreMemory) (h : Shelf) (show
   pub numbered : NumbersStand w shown.ledger behind.numbers behind.next
   pub kept : behind.numbers.next + kept_in behind.members ≤ behind.numbers.written
   pub tabled : TablesStand w shown.ledger behind.tables
+  pub used : HaveStarts behind.tables shown.versions.course
   pub readers : ReaderFacts w shown.ledger behind.limits.snaps shown.versions.course shown.versions.waiting
   pub slots : HoldsAll w.content shown.versions.course.followed behind.limits.snaps behind.slots
-  pub used : HaveStarts behind.tables shown.versions.course
 
 -- nothing is written
 only-none : (w : View) (s : ℕ) → OnlyWrites (ruj_file s) 1 w w
@@ -93,7 +93,6 @@ module _ (v w : View) (held behind : StoreMemory) (s : ℕ) (m n : Member) (was 
       numbered = record { number = kept.numbered.number; first = kept.numbered.first; ceiling = kept.numbered.ceiling; group = kept.numbered.group };
       kept = kept.kept;
       tabled = record { committed = kept.tabled.committed; classes = kept.tabled.classes; lie = kept.tabled.lie; class = kept.tabled.class; owned = kept.tabled.owned };
-      used = kept.used;
       course_behind = shown.versions.course;
       waiting_behind = shown.versions.waiting;
       readers = restands w behind.limits.snaps shown.versions.course shown.versions.waiting g after.standing g.commit g.history g.moments (keeps_others s broken g.standing (λ bad. bad)) kept.readers.its kept.readers.put kept.readers;
@@ -101,6 +100,7 @@ module _ (v w : View) (held behind : StoreMemory) (s : ℕ) (m n : Member) (was 
       waits = subst (λ x. WaitsAs x shown.versions.waiting s n) (sym breaks) tt;
       waits_beside = λ t apart. refl;
       reads = λ t. refl;
+      used = kept.used;
     }
 
   still : (ws : List Write) (start : Lines) → in_flight (seat_with m.stage ws start) ≡ None

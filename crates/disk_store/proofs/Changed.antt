@@ -154,7 +154,6 @@ module _ (v : View) (held : StoreMemory) (s : ℕ) (m : Member) (more : List Wri
       numbered = record { number = shown.numbers.number; first = shown.numbers.first; ceiling = shown.numbers.ceiling; group = shown.numbers.group };
       kept = kept-stays held.members s held.numbers.next held.numbers.written m next was (omega arith) shown.kept;
       tabled = tables-pass v v (passes-none v) g g held.tables refl shown.tables;
-      used = shown.versions.used;
       course_behind = shown.versions.course;
       waiting_behind = shown.versions.waiting;
       readers = shown.versions.readers;
@@ -162,6 +161,7 @@ module _ (v : View) (held : StoreMemory) (s : ℕ) (m : Member) (more : List Wri
       waits = wait-laid m more written its over (shown.versions.waiting s) (subst (λ x. WaitsAs x shown.versions.waiting s m) at (shown.versions.waits s m was));
       waits_beside = λ t apart. refl;
       reads = λ t. refl;
+      used = shown.versions.used;
     }
 
   still : (ws : List Write) (start : Lines) → in_flight (seat_with m.stage ws start) ≡ None

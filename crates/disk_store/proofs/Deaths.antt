@@ -195,7 +195,7 @@ module _ (v : View) (held : StoreMemory) (s : ℕ) (m : Member) (was : slice_get
     stays-by (stage.Beginning ceiling) at has alive = absurd (cc)
     stays-by stage.Writing at has alive = end-at stage.Writing at left false (λ g has. may-end-begun g s m has.begun) refl (λ start. refl)
     stays-by stage.Changing at has alive = end-at stage.Changing at left false (λ g has. may-end-begun g s m has) refl (λ start. refl)
-    stays-by stage.Broken at has alive = end-at stage.Broken at left false (λ g is. is.may_end) refl (λ start. refl)
+    stays-by stage.Broken at has alive = end-at stage.Broken at left false (λ g has. has.may_end) refl (λ start. refl)
     stays-by stage.Prepared at has alive = end-at stage.Prepared at left false (λ g has. may-end-begun g s m has.begun) refl (λ start. refl)
     stays-by (stage.Committing turn) at has alive = commits-by turn at
     stays-by stage.RollingBack at has alive = rest-at stage.RollingBack at m.written (λ g rests. rests) refl (λ start. refl)

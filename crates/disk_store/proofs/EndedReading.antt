@@ -16,8 +16,8 @@ use Rattle.disk_store.specs.Readers.{keeping}
 use Rattle.disk_store.specs.Seats.{seat_with}
 use Rattle.disk_store.specs.Standing.{StageStands}
 use Rattle.disk_store.specs.Shown.{sight_of}
-use Rattle.disk_store.proofs.Kept.{kept-stays}
 use Rattle.disk_store.proofs.Stepping.{does-step, becomes-member, space-same}
+use Rattle.disk_store.proofs.Kept.{kept-stays}
 use Rattle.disk_store.proofs.Passing.{passes-none, none-leaves, same-ledger}
 
 pub is-reader : (st : MemberStage) → IsReader (seat_with st [] []) → st ≡ stage.Reading

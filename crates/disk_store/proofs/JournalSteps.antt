@@ -179,7 +179,6 @@ module _ (v w : View) (held : StoreMemory) (s : ℕ) (m : Member) (was : slice_g
         numbered = record { number = shown.numbers.number; first = shown.numbers.first; ceiling = aside-ceiling v w shown.tells (ruj_file s) slot (λ e. cc) only held.numbers shown.numbers.ceiling; group = shown.numbers.group };
         kept = kept-stays held.members s held.numbers.next held.numbers.written m more was (omega arith) shown.kept;
         tabled = tables-pass v w p g after held.tables refl shown.tables;
-        used = shown.versions.used;
         course_behind = shown.versions.course;
         waiting_behind = set_waiting s (shown.versions.waiting s) shown.versions.waiting;
         readers = line_journalled v g held.limits.snaps shown.versions.course shown.versions.waiting s has.all has.stable has.transaction shown.facts has.stands has.is_open shown.versions.readers w key slot shown.tells only
@@ -188,6 +187,7 @@ module _ (v w : View) (held : StoreMemory) (s : ℕ) (m : Member) (was : slice_g
         waits = subst (λ x. WaitsAs x (set_waiting s (shown.versions.waiting s) shown.versions.waiting) s more) (sym at) (subst (λ ls. WaitPushed ls m.pushed m.written) (sym waits-still) (subst (λ x. WaitsAs x shown.versions.waiting s m) at (shown.versions.waits s m was)));
         waits_beside = λ t apart. ap (λ b. if b then shown.versions.waiting s else shown.versions.waiting t) apart;
         reads = λ t. refl;
+        used = shown.versions.used;
       }
 
     pub does-journal : Does s (stand_at held.members s) (λ h g. GoesOn s h g) (sight_of v held) (sight_of w (with_member s more held))

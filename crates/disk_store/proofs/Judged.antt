@@ -122,7 +122,6 @@ module _ (v w : View) (held : StoreMemory) (s : ℕ) (m : Member) (commits : Boo
             numbered = record { number = shown.numbers.number; first = shown.numbers.first; ceiling = reads-ceiling v w shown.tells only held.numbers shown.numbers.ceiling; group = shown.numbers.group };
             kept = kept-stays held.members s held.numbers.next held.numbers.written m n was (omega arith) shown.kept;
             tabled = tables-pass v w it shown.ledger after held.tables refl shown.tables;
-            used = shown.versions.used;
             course_behind = shown.versions.course;
             waiting_behind = shown.versions.waiting;
             readers = restands w held.limits.snaps shown.versions.course shown.versions.waiting shown.ledger after.standing after.commit shown.ledger.history shown.ledger.moments
@@ -132,6 +131,7 @@ module _ (v w : View) (held : StoreMemory) (s : ℕ) (m : Member) (commits : Boo
             waits = tt;
             waits_beside = λ t apart. refl;
             reads = λ t. refl;
+            used = shown.versions.used;
           }
 
     fewer : (a b : ℕ) → a ≡ m.journalled + 4 → b ≡ m.journalled + 3 → b < a

@@ -56,7 +56,7 @@ module _ (v : View) (g : Ledger) (facts : LedgerFacts v g) (t : ℕ) (x : Member
 
   pub in-memory : (st : MemberStage) → StageStands st v g t x → KeyAt x.written.keys undo.key
   in-memory stage.Outside rests = of-resting rests
-  in-memory stage.Beginning rests = of-resting rests
+  in-memory (stage.Beginning ceiling) rests = of-resting rests
   in-memory stage.Writing has = of-begun has.begun
   in-memory stage.Changing has = of-begun has
   in-memory stage.Broken is = record { place = i; is = is.keys i undo got }

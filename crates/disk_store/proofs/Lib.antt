@@ -1,6 +1,6 @@
 pub mod Members
-pub mod Readers
 pub mod Sound
+pub mod Readers
 pub mod Moving
 pub mod Stages
 pub mod Beside
@@ -20,10 +20,6 @@ pub mod Restored
 pub mod Journalled
 pub mod Kept
 pub mod Reading
-mod Going
-mod Begun
-mod Seeing
-mod EndedReading
 pub mod FoundLines
 pub mod LaidLines
 pub mod Changed
@@ -35,6 +31,10 @@ pub mod SpentSlots
 pub mod WaitMore
 pub mod JournalSteps
 pub mod PushSteps
+mod Going
+mod Begun
+mod Seeing
+mod EndedReading
 mod Tabled
 mod Taking
 pub mod PutBack

@@ -26,8 +26,8 @@ use Rattle.disk_store.specs.Seats.{seat_with, stand_of, steps_in, steps_of, step
 use Rattle.disk_store.specs.Standing.{StageStands}
 use Rattle.disk_store.specs.Shown.{Sits, SitsAs, WaitsAs, IsReading, Shown, sight_of}
 use Rattle.disk_store.proofs.Members.{set-here, set-beside}
-use Rattle.disk_store.proofs.Readers.{reader-beside, readers-still, starts-still}
 use Rattle.disk_store.proofs.Kept.{kept-stays}
+use Rattle.disk_store.proofs.Readers.{reader-beside, readers-still, starts-still}
 
 true_from_T : (b : Bool) → T b → b ≡ true
 true_from_T true h = refl

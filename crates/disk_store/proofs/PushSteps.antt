@@ -34,12 +34,14 @@ use Rattle.member_memory.specs.Memory.{Memory, writes_in}
 use Rattle.member_steps.proofs.Journals.{read_ledger}
 use Rattle.disk_store.specs.declared.member.Member.{Member}
 use Rattle.disk_store.specs.declared.member.MemberStage.TheVariants as stage
+use Rattle.committed_tables.specs.Tables.{WereUsed}
 use Rattle.disk_store.specs.declared.held.Numbers.{Numbers}
+use Rattle.disk_store.specs.declared.held.Tables.{Tables}
 use Rattle.disk_store.specs.Memory.{StoreMemory}
 use Rattle.disk_store.specs.Numbers.{kept_at, kept_in}
 use Rattle.disk_store.specs.Seats.{seat_with, stand_of, stand_at, steps_in}
 use Rattle.disk_store.specs.Standing.{HasBegun, StageStands}
-use Rattle.disk_store.specs.Shown.{HaveStarts, NumbersStand, TablesStand, WaitPushed, WaitsAs, Shown, sight_of}
+use Rattle.disk_store.specs.Shown.{NumbersStand, TablesStand, WaitPushed, WaitsAs, Shown, pages_of, sight_of}
 use Rattle.disk_store.specs.Sound.{IsSound}
 use Rattle.disk_store.proofs.Moving.{itself}
 use Rattle.disk_store.proofs.Members.{get-within}
@@ -167,7 +169,6 @@ module _ (v w : View) (held behind : StoreMemory) (s : ℕ) (m n : Member) (was 
       numbered = numbered;
       kept = kept-now;
       tabled = tabled;
-      used = subst (λ x. HaveStarts x course) (sym tables-is) (λ r file reading start is goes lines. shown.versions.used r file reading start is (sym (reads r) ∙ goes) lines);
       course_behind = course;
       waiting_behind = set_waiting s more shown.versions.waiting;
       readers = readers;
@@ -175,6 +176,7 @@ module _ (v w : View) (held behind : StoreMemory) (s : ℕ) (m n : Member) (was 
       waits = wait-new;
       waits_beside = λ t apart. ap (λ b. if b then more else shown.versions.waiting t) apart;
       reads = reads;
+      used = λ r file reading start is goes lines. subst (λ (x : Tables). WereUsed (pages_of x file) file start) (sym tables-is) (shown.versions.used r file reading start is (sym (reads r) ∙ goes) lines);
     }
 
   -- it goes on, and what is left is less

@@ -134,7 +134,6 @@ module _ (v w : View) (held : StoreMemory) (s : ℕ) (m : Member) (commits : Boo
       numbered = record { number = shown.numbers.number; first = shown.numbers.first; ceiling = aside-ceiling v w shown.tells (area_file file) slot (λ e. cc) only held.numbers shown.numbers.ceiling; group = shown.numbers.group };
       kept = kept-stays held.members s held.numbers.next held.numbers.written m n was (omega arith) shown.kept;
       tabled = tables-put;
-      used = shown.versions.used;
       course_behind = shown.versions.course;
       waiting_behind = shown.versions.waiting;
       readers = readers-put;
@@ -142,6 +141,7 @@ module _ (v w : View) (held : StoreMemory) (s : ℕ) (m : Member) (commits : Boo
       waits = tt;
       waits_beside = λ t apart. refl;
       reads = λ t. refl;
+      used = shown.versions.used;
     }
 
   -- its seat stays

@@ -141,7 +141,6 @@ module _ (v w : View) (held : StoreMemory) (s ceiling : ℕ) (m : Member) (was :
       numbered = record { number = shown.numbers.number; first = shown.numbers.first; ceiling = it.stands; group = shown.numbers.group };
       kept = kept-now;
       tabled = tables-pass v w p g g held.tables refl shown.tables;
-      used = shown.versions.used;
       course_behind = shown.versions.course;
       waiting_behind = shown.versions.waiting;
       readers = p.readers g held.limits.snaps shown.versions.course shown.versions.waiting shown.versions.readers;
@@ -149,6 +148,7 @@ module _ (v w : View) (held : StoreMemory) (s ceiling : ℕ) (m : Member) (was :
       waits = tt;
       waits_beside = λ t apart. refl;
       reads = λ t. refl;
+      used = shown.versions.used;
     }
 
   abbrev becomes : Becomes held behind s n

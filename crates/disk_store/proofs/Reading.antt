@@ -56,8 +56,8 @@ module _ (v w : View) (held : StoreMemory) (s : ℕ) (reads : OnlyReads v w) whe
       lines = lines-stand;
       seats = λ t. sits-still t (slice_get held.members t) (h.seat t) (shown.seats t);
       steps = shown.steps;
-      numbers = record { number = shown.numbers.number; first = shown.numbers.first; ceiling = reads-ceiling v w shown.tells reads held.numbers shown.numbers.ceiling; group = shown.numbers.group };
       kept = shown.kept;
+      numbers = record { number = shown.numbers.number; first = shown.numbers.first; ceiling = reads-ceiling v w shown.tells reads held.numbers shown.numbers.ceiling; group = shown.numbers.group };
       tables = tables-pass v w p g g held.tables refl shown.tables;
       versions = record {
         course = shown.versions.course;

@@ -8,7 +8,7 @@ pub mod Preparing
 pub mod Dying
 pub mod BeforeImages
 pub mod Taken
-pub mod Readers
-pub mod Learning
 pub mod Changing
 pub mod ChangeSteps
+pub mod Readers
+pub mod Learning

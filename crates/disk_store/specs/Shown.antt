@@ -26,7 +26,7 @@ use Rattle.disk_seats.specs.Ledgers.{resting, Ledger}
 use Rattle.disk_seats.specs.Members.{LedgerFacts}
 use Rattle.member_steps.specs.Beginning.{HasCeiling}
 use Rattle.page_table.specs.Pages.{Pages, nobodys, owner_in, class_in, IsWithin}
-use Rattle.committed_tables.specs.Tables.{HasCommitted}
+use Rattle.committed_tables.specs.Tables.{HasCommitted, WereUsed}
 use Rattle.version_writing.specs.Slots.{SlotTable}
 use Rattle.version_writing.specs.Tables.{HoldsAll}
 use Rattle.ledger_versions.specs.Readers.{ReaderFacts, Waiting, HasVersionOf}
