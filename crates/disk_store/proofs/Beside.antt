@@ -77,9 +77,6 @@ module _ (v w : View) (g h : Ledger) (t : ℕ) (same : SameSpaces v w) (stays : 
     | inr is ↦ record { transaction = has.transaction; all = has.all; stable = length has.all; stands = is ∙ ap gained has.stands; is_open = stays.going ∙ has.is_open; number = has.number; count = has.count; keys = has.keys }
   ]
 
-  broken-stays : (m : Member) → IsBroken g t m → IsBroken h t m
-  broken-stays m is = record { transaction = is.transaction; is_open = stays.going ∙ is.is_open; number = is.number; may_end = ends is.may_end }
-
   journalled : (m : Member) → HasJournalled g t m → HasJournalled h t m
   journalled m has = record { begun = begun m has.begun; all_written = has.all_written }
 
