@@ -1,5 +1,6 @@
 -- The steps that are left at a stage are few.
-use Rattle.std.proofs.Common.{◌<◌, ◌^◌, ℕ, length, arith}
+use Rattle.std.proofs.Common.{◌≤◌, ◌<◌, ◌^◌, ℕ, Bool, true, false, length, arith}
+use Rattle.std.specs.Prelude.{if◌then◌else◌}
 use Rattle.line_seat.specs.declared.commit.CommitStage.TheVariants.{Changing as PagesChanging, Imaging, Gathering, Sealing, Landing, Committed}
 use Rattle.member_steps.specs.declared.committing.CommitTurn.{CommitTurn}
 use Rattle.member_steps.specs.declared.committing.CommitTurn.TheVariants.{Entering, Securing, Going}
@@ -32,11 +33,15 @@ few-recovery m commits recovery.Judging all few = omega (arith, all)
 few-recovery m commits (recovery.Undoing left) all few = omega (arith, few)
 few-recovery m commits recovery.Restoring all few = omega arith
 
+at-most-one : (b : Bool) → (if b then 0 else 1) ≤ 1
+at-most-one true = omega arith
+at-most-one false = omega arith
+
 pub few-at : (st : MemberStage) (m : Member) → length m.written.keys < 2 ^ 32 → m.journalled < 2 ^ 32 → left_in st < 2 ^ 32 → steps_in st m < 2 ^ 64
 few-at stage.Outside m keys all left = omega arith
 few-at (stage.Beginning ceiling) m keys all left = few-beginning ceiling
 few-at stage.Writing m keys all left = omega arith
-few-at stage.Changing m keys all left = omega (arith, keys)
+few-at stage.Changing m keys all left = let one = at-most-one m.named in omega (arith, keys, one)
 few-at stage.Broken m keys all left = omega arith
 few-at stage.Prepared m keys all left = omega arith
 few-at (stage.Committing turn) m keys all left = few-turns (length m.written.keys) turn keys
