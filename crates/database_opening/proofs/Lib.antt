@@ -7,3 +7,4 @@ pub mod Closed
 pub mod PageOwners
 pub mod Nearer
 pub mod EachMoment
+pub mod Pages

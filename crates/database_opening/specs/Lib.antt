@@ -2,3 +2,4 @@ pub mod Owners
 pub mod Reading
 pub mod Stages
 pub mod Start
+pub mod Untouched

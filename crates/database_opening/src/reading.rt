@@ -3,6 +3,7 @@ ghost use Rattle.std.specs.Prelude.{◌≡◌, ◌≤◌, ◌⊎◌, true, false
 ghost use Rattle.rdb_types.specs.declared.file.FileId.{FileId as File};
 ghost use Rattle.rdb_outside.specs.Causes.{Rose};
 ghost use Rattle.rdb_outside.specs.Disk.{OnlyReads};
+ghost use Rattle.root_file.specs.Root.{IsAllowed};
 ghost use Rattle.new_database.specs.Maker.{root_file as root_named};
 ghost use Rattle.line_opening.specs.Counting.{HasCount};
 ghost use Rattle.database_opening.specs.Reading.{IsOpenedRoot, AreCounted};
@@ -40,6 +41,7 @@ pub fn opened_root<D: Disk>(disk: &mut D) -> Result<Root, Fault>
     ensures reads { OnlyReads (D.view disk.old) (D.view disk.new) }
     ensures failed { IsErrOf result Fault.Failed
         → Rose (D.view disk.old).faults (D.view disk.new).faults }
+    ensures allowed { IfOk result IsAllowed }
     ensures found { IfOk result (λ root. IsTrue (D.view disk.old).tells
         → IsOpenedRoot ((D.view disk.old).content root_named 0) root) }
     ensures bad { (file : File) (slot : ℕ) → IsErrOf result (Fault.Bad file slot)

@@ -1,5 +1,5 @@
 // Where a store begins.
-ghost use Rattle.std.specs.Prelude.{ℕ};
+ghost use Rattle.std.specs.Prelude.{◌≡◌, ℕ};
 ghost use Rattle.line_view.specs.Knowledge.{Lines};
 ghost use Rattle.stable_lines.specs.Journal.{Journal};
 ghost use Rattle.database_opening.specs.declared.stages.OpeningStage.TheVariants.{Opened};
@@ -21,8 +21,11 @@ pub struct StoreStart {
 
 /// The state in which a store begins over an opened database.
 pub fn start_of<D: Disk>(disk: &D, found: &Found) -> StoreStart
+    ensures root { result.root ≡ found.now.root }
+    ensures number { result.next_tsn ≡ result.root.ceiling }
+
     // Nothing is open, and the lines are those that the image stood for.
-    ensures { (classes : ℕ → ℕ) (lines : Lines) (journal : Journal)
+    ensures begins { (classes : ℕ → ℕ) (lines : Lines) (journal : Journal)
         → OpeningFacts classes lines journal Opened (D.view disk.now) found.now
         → IsStart classes lines journal (D.view disk.now) result }
 {

@@ -7,8 +7,10 @@ ghost use Rattle.line_view.specs.Knowledge.{Lines};
 ghost use Rattle.stable_lines.specs.Slots.{IsMember};
 ghost use Rattle.stable_lines.specs.Journal.{Journal};
 ghost use Rattle.stable_lines.specs.Kept.{Kept};
+ghost use Rattle.line_moves.specs.Classes.{HaveTheirClasses};
 ghost use Rattle.database_opening.specs.declared.stages.OpeningStage.TheVariants.{Undoing, Restoring, Closing, Opened};
 ghost use Rattle.database_opening.specs.Stages.{OpeningFacts, IsStage, steps_left};
+ghost use Rattle.database_opening.specs.Untouched.{KeepsRootAndSpaces};
 
 use crate::stages::{Found, OpeningStage};
 use line_moves::make_stable;
@@ -62,6 +64,13 @@ fn undo_entries<D: Disk>(
         → (classes : ℕ → ℕ) (lines : Lines) (journal : Journal)
         → OpeningFacts classes lines journal (Undoing member entries) (D.view disk.old) found.now
         → LeavesOnly (D.view disk.old) (D.view disk.new) (Kept classes lines journal) }
+    ensures classes { IsTrue (D.view disk.old).tells
+        → (classes : ℕ → ℕ) (lines : Lines) (journal : Journal)
+        → OpeningFacts classes lines journal (Undoing member entries) (D.view disk.old) found.now
+        → (by_area : ℕ → ℕ) → HaveTheirClasses by_area (D.view disk.old).content
+        → HaveTheirClasses by_area (D.view disk.new).content }
+    ensures untouched { IsTrue (D.view disk.old).tells
+        → KeepsRootAndSpaces (D.view disk.old).content (D.view disk.new).content }
 {
     if entries == 0 {
         return Ok(behind(&found.counts, member));
@@ -100,6 +109,11 @@ fn close_header<D: Disk>(disk: &mut D, member: u32) -> Result<OpeningStage, Faul
         → (classes : ℕ → ℕ) (lines : Lines) (journal : Journal) (found : _)
         → OpeningFacts classes lines journal (Closing member) (D.view disk.old) found
         → LeavesOnly (D.view disk.old) (D.view disk.new) (Kept classes lines journal) }
+    ensures classes { IsTrue (D.view disk.old).tells
+        → (by_area : ℕ → ℕ) → HaveTheirClasses by_area (D.view disk.old).content
+        → HaveTheirClasses by_area (D.view disk.new).content }
+    ensures untouched { IsTrue (D.view disk.old).tells
+        → KeepsRootAndSpaces (D.view disk.old).content (D.view disk.new).content }
 {
     let next = close_next(disk, member)?;
     if next > 16 {
@@ -155,6 +169,15 @@ pub fn step<D: Disk>(
         → (classes : ℕ → ℕ) (lines : Lines) (journal : Journal)
         → OpeningFacts classes lines journal stage (D.view disk.old) found.now
         → LeavesOnly (D.view disk.old) (D.view disk.new) (Kept classes lines journal) }
+
+    // Whatever it answers, pages have the classes of their areas where they had, and are whose they were.
+    ensures classes { IsTrue (D.view disk.old).tells
+        → (classes : ℕ → ℕ) (lines : Lines) (journal : Journal)
+        → OpeningFacts classes lines journal stage (D.view disk.old) found.now
+        → (by_area : ℕ → ℕ) → HaveTheirClasses by_area (D.view disk.old).content
+        → HaveTheirClasses by_area (D.view disk.new).content }
+    ensures untouched { IsTrue (D.view disk.old).tells
+        → KeepsRootAndSpaces (D.view disk.old).content (D.view disk.new).content }
 {
     match stage {
         OpeningStage::Undoing { member, entries } => undo_entries(disk, found, member, entries),

@@ -3,11 +3,14 @@ ghost use Rattle.std.specs.Prelude.{◌≡◌, ◌≤◌, ◌⊎◌, true, false
 ghost use Rattle.rdb_types.specs.declared.file.FileId.{FileId as File};
 ghost use Rattle.rdb_outside.specs.Causes.{Rose};
 ghost use Rattle.rdb_outside.specs.Disk.{LeavesOnly, IsPending};
+ghost use Rattle.root_file.specs.Root.{IsAllowed};
 ghost use Rattle.line_view.specs.Knowledge.{Lines};
 ghost use Rattle.stable_lines.specs.Journal.{Journal};
 ghost use Rattle.stable_lines.specs.Kept.{Kept};
+ghost use Rattle.line_moves.specs.Classes.{HaveTheirClasses};
 ghost use Rattle.database_opening.specs.declared.stages.OpeningStage.TheVariants.{Opened};
 ghost use Rattle.database_opening.specs.Start.{IsStart};
+ghost use Rattle.database_opening.specs.Untouched.{KeepsRootAndSpaces};
 
 use crate::beginning::begin;
 use crate::stages::OpeningStage;
@@ -31,6 +34,9 @@ pub fn open_database<D: Disk>(disk: &mut D) -> Result<StoreStart, Fault>
     ensures failed { IsErrOf result Fault.Failed
         → Rose (D.view disk.old).faults (D.view disk.new).faults }
 
+    ensures root { IfOk result (λ start. IsAllowed start.root) }
+    ensures number { IfOk result (λ start. start.next_tsn ≡ start.root.ceiling) }
+
     // A kept image is never refused.
     ensures bad { (file : File) (slot : ℕ) → IsErrOf result (Fault.Bad file slot)
         → IsTrue (D.view disk.old).tells
@@ -49,6 +55,15 @@ pub fn open_database<D: Disk>(disk: &mut D) -> Result<StoreStart, Fault>
         → Kept classes lines journal (D.view disk.old).content
         → LeavesOnly (D.view disk.old) (D.view disk.new)
         (λ image. IsPending (D.view disk.old) image ⊎ Kept classes lines journal image) }
+
+    // Whatever it answers, pages have the classes of their areas where they had, and are whose they were.
+    ensures classes { IsTrue (D.view disk.old).tells
+        → (classes : ℕ → ℕ) (lines : Lines) (journal : Journal)
+        → Kept classes lines journal (D.view disk.old).content
+        → (by_area : ℕ → ℕ) → HaveTheirClasses by_area (D.view disk.old).content
+        → HaveTheirClasses by_area (D.view disk.new).content }
+    ensures untouched { IsTrue (D.view disk.old).tells
+        → KeepsRootAndSpaces (D.view disk.old).content (D.view disk.new).content }
 {
     let opening = begin(disk)?;
     let mut stage = opening.stage;

@@ -6,3 +6,4 @@ pub mod Standings
 pub mod Ceilings
 pub mod Left
 pub mod ClassesHad
+pub mod Raised

@@ -5,6 +5,7 @@ use Rattle.line_moves.proofs.Runs.{pends}
 use Rattle.line_opening.proofs.Standing.{written_stands}
 use Rattle.database_opening.proofs.Undone.{leaves_kept}
 use Rattle.database_opening.proofs.Closed.{some_number, closed_on, all_closed}
+use Rattle.database_opening.proofs.Pages.{classes_beside, untouched_beside}
 use Rattle.database_opening.proofs.steps.close_header.Goals as goal
 
 pub returns-in_err-next-clause-bad : goal.returns-in_err-next-clause-bad
@@ -94,3 +95,27 @@ returns-clause-told g c = c.close_next.ensures.writes.1.told
 
 pub returns-clause-no_fewer : goal.returns-clause-no_fewer
 returns-clause-no_fewer g c = c.close_next.ensures.writes.1.no_fewer
+
+pub returns-in_err-next-clause-classes : goal.returns-in_err-next-clause-classes
+returns-in_err-next-clause-classes g c = let v = g.D.Disk.view in let old = v c.args.disk.now in let new = v c.close_next.new.disk in
+    λ t by_area lie. classes_beside old new c.close_next.ensures.writes.0 c.close_next.ensures.writes.1 t by_area lie
+
+pub returns-in_err-next-clause-untouched : goal.returns-in_err-next-clause-untouched
+returns-in_err-next-clause-untouched g c = let v = g.D.Disk.view in let old = v c.args.disk.now in let new = v c.close_next.new.disk in
+    λ t. untouched_beside old new c.close_next.ensures.writes.0 c.close_next.ensures.writes.1 t
+
+pub returns-then-next-gt16-clause-classes : goal.returns-then-next-gt16-clause-classes
+returns-then-next-gt16-clause-classes g c = let v = g.D.Disk.view in let old = v c.args.disk.now in let new = v c.close_next.new.disk in
+    λ t by_area lie. classes_beside old new c.close_next.ensures.writes.0 c.close_next.ensures.writes.1 t by_area lie
+
+pub returns-then-next-gt16-clause-untouched : goal.returns-then-next-gt16-clause-untouched
+returns-then-next-gt16-clause-untouched g c = let v = g.D.Disk.view in let old = v c.args.disk.now in let new = v c.close_next.new.disk in
+    λ t. untouched_beside old new c.close_next.ensures.writes.0 c.close_next.ensures.writes.1 t
+
+pub returns-clause-classes : goal.returns-clause-classes
+returns-clause-classes g c = let v = g.D.Disk.view in let old = v c.args.disk.now in let new = v c.close_next.new.disk in
+    λ t by_area lie. classes_beside old new c.close_next.ensures.writes.0 c.close_next.ensures.writes.1 t by_area lie
+
+pub returns-clause-untouched : goal.returns-clause-untouched
+returns-clause-untouched g c = let v = g.D.Disk.view in let old = v c.args.disk.now in let new = v c.close_next.new.disk in
+    λ t. untouched_beside old new c.close_next.ensures.writes.0 c.close_next.ensures.writes.1 t

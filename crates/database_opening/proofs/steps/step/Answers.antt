@@ -1,4 +1,4 @@
-use Rattle.std.proofs.Common.{◌<◌, IsTrue, sym, subst, arith}
+use Rattle.std.proofs.Common.{◌<◌, IsTrue, refl, sym, subst, arith}
 use Rattle.rdb_outside.specs.Disk.{IsStable}
 use Rattle.stable_lines.specs.Opening.{found}
 use Rattle.line_opening.proofs.Counted.{if_ok}
@@ -8,6 +8,7 @@ use Rattle.database_opening.specs.declared.stages.OpeningStage.{OpeningStage}
 use Rattle.database_opening.proofs.Counts.{both_ok}
 use Rattle.database_opening.proofs.Undone.{leaves_kept}
 use Rattle.database_opening.proofs.Closed.{restored, ended}
+use Rattle.database_opening.proofs.Pages.{classes_read, untouched_read}
 use Rattle.database_opening.proofs.steps.step.Goals as goal
 
 pub undo_entries-requires : goal.undo_entries-requires
@@ -99,3 +100,29 @@ returns-in-Ending-clause-nearer g c = let counts = c.args.found.now.counts in
 
 pub returns-in-Opened-clause-nearer : goal.returns-in-Opened-clause-nearer
 returns-in-Opened-clause-nearer g c = λ off. absurd (off c.in-Opened.is)
+
+pub returns-in-Undoing-clause-classes : goal.returns-in-Undoing-clause-classes
+returns-in-Undoing-clause-classes g c = let old = g.D.Disk.view c.args.disk.now in λ t classes lines journal F by_area lie.
+    c.undo_entries.ensures.classes t classes lines journal (subst (λ (s : OpeningStage). OpeningFacts classes lines journal s old c.args.found.now) c.in-Undoing.is F) by_area lie
+
+pub returns-in-Closing-clause-classes : goal.returns-in-Closing-clause-classes
+returns-in-Closing-clause-classes g c = λ t classes lines journal F by_area lie. c.close_header.ensures.classes t by_area lie
+
+pub returns-in-Restoring-clause-classes : goal.returns-in-Restoring-clause-classes
+returns-in-Restoring-clause-classes g c = let v = g.D.Disk.view in λ t classes lines journal F by_area lie.
+    classes_read (v c.args.disk.now) (v c.go_on_stable.new.disk) c.go_on_stable.ensures.reads t by_area lie
+
+pub returns-in-Restoring-clause-untouched : goal.returns-in-Restoring-clause-untouched
+returns-in-Restoring-clause-untouched g c = let v = g.D.Disk.view in λ t.
+    untouched_read (v c.args.disk.now) (v c.go_on_stable.new.disk) c.go_on_stable.ensures.reads t
+
+pub returns-in-Ending-clause-classes : goal.returns-in-Ending-clause-classes
+returns-in-Ending-clause-classes g c = let v = g.D.Disk.view in λ t classes lines journal F by_area lie.
+    classes_read (v c.args.disk.now) (v c.go_on_stable-in-Ending.new.disk) c.go_on_stable-in-Ending.ensures.reads t by_area lie
+
+pub returns-in-Ending-clause-untouched : goal.returns-in-Ending-clause-untouched
+returns-in-Ending-clause-untouched g c = let v = g.D.Disk.view in λ t.
+    untouched_read (v c.args.disk.now) (v c.go_on_stable-in-Ending.new.disk) c.go_on_stable-in-Ending.ensures.reads t
+
+pub returns-in-Opened-clause-untouched : goal.returns-in-Opened-clause-untouched
+returns-in-Opened-clause-untouched g c = λ t. record { root = refl; spaces = λ file page is space. refl }

@@ -5,6 +5,7 @@ use Rattle.database_opening.specs.Stages.{OpeningFacts}
 use Rattle.database_opening.specs.declared.stages.OpeningStage.{OpeningStage}
 use Rattle.database_opening.specs.declared.stages.OpeningStage.TheVariants.{Undoing}
 use Rattle.database_opening.proofs.Undone.{there, may, its_tsn, fewer_left, next_member, all_undone, leaves_kept}
+use Rattle.database_opening.proofs.Pages.{page_untouched}
 use Rattle.database_opening.proofs.steps.undo_entries.Goals as goal
 
 cases : (a b : ℕ) → (a ≤ b) ⊎ (b < a)
@@ -65,3 +66,25 @@ returns-clause-goes_on g c = let v = g.D.Disk.view in let old = v c.args.disk.no
 
 pub returns-then-entries-eq0-clause-nearer : goal.returns-then-entries-eq0-clause-nearer
 returns-then-entries-eq0-clause-nearer g c = c.behind.ensures.nearer c.args.entries
+
+pub returns-then-entries-eq0-clause-classes : goal.returns-then-entries-eq0-clause-classes
+returns-then-entries-eq0-clause-classes g c = λ t classes lines journal F by_area lie. lie
+
+pub returns-then-entries-eq0-clause-untouched : goal.returns-then-entries-eq0-clause-untouched
+returns-then-entries-eq0-clause-untouched g c = λ t. record { root = refl; spaces = λ file page is space. refl }
+
+pub returns-in_err-rest-clause-classes : goal.returns-in_err-rest-clause-classes
+returns-in_err-rest-clause-classes g c = let read = c.args.found.now in λ t classes lines journal F by_area lie.
+    c.undo_next.ensures.classes t (found classes lines journal read.root F.going) F.facts by_area lie
+
+pub returns-in_err-rest-clause-untouched : goal.returns-in_err-rest-clause-untouched
+returns-in_err-rest-clause-untouched g c = let v = g.D.Disk.view in let old = v c.args.disk.now in let new = v c.undo_next.new.disk in let writes = c.undo_next.ensures.writes in
+    λ t. page_untouched old new writes.0 writes.1 writes.2 writes.3 t
+
+pub returns-clause-classes : goal.returns-clause-classes
+returns-clause-classes g c = let read = c.args.found.now in λ t classes lines journal F by_area lie.
+    c.undo_next.ensures.classes t (found classes lines journal read.root F.going) F.facts by_area lie
+
+pub returns-clause-untouched : goal.returns-clause-untouched
+returns-clause-untouched g c = let v = g.D.Disk.view in let old = v c.args.disk.now in let new = v c.undo_next.new.disk in let writes = c.undo_next.ensures.writes in
+    λ t. page_untouched old new writes.0 writes.1 writes.2 writes.3 t

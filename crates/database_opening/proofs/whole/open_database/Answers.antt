@@ -4,6 +4,7 @@ use Rattle.database_opening.specs.Stages.{OpeningFacts}
 use Rattle.database_opening.specs.declared.stages.OpeningStage.{OpeningStage}
 use Rattle.database_opening.specs.declared.stages.OpeningStage.TheVariants.{Opened}
 use Rattle.database_opening.proofs.EachMoment.{left_by_reads, left_by_step}
+use Rattle.database_opening.proofs.Pages.{classes_read, untouched_read, untouched_on}
 use Rattle.database_opening.proofs.whole.open_database.Goals as goal
 
 pub returns-in_err-opening-clause-stands : goal.returns-in_err-opening-clause-stands
@@ -20,6 +21,8 @@ steps-init g c = let v = g.D.Disk.view in let old = v c.args.disk.now in let new
       no_fewer = c.begin.ensures.reads.no_fewer;
       stage = c.in_ok-opening.ensures.stage;
       facts = λ t classes lines journal kept. c.in_ok-opening.ensures.found t classes lines journal kept;
+      classes = λ t classes lines journal kept by_area lie. classes_read old new c.begin.ensures.reads t by_area lie;
+      untouched = λ t. untouched_read old new c.begin.ensures.reads t;
       leaves = λ t classes lines journal kept. left_by_reads classes lines journal old new c.begin.ensures.reads t;
     }
 
@@ -34,11 +37,34 @@ returns-in_err-stage-clause-stands g c = let v = g.D.Disk.view in let old = v c.
     left_by_step classes lines journal old mid new (so_far.leaves t classes lines journal kept)
     (c.step.ensures.stands (still_tells old mid so_far.told t) classes lines journal (so_far.facts t classes lines journal kept))
 
+pub returns-in_err-opening-clause-classes : goal.returns-in_err-opening-clause-classes
+returns-in_err-opening-clause-classes g c = let v = g.D.Disk.view in λ t classes lines journal kept by_area lie.
+    classes_read (v c.args.disk.now) (v c.begin.new.disk) c.begin.ensures.reads t by_area lie
+
+pub returns-in_err-opening-clause-untouched : goal.returns-in_err-opening-clause-untouched
+returns-in_err-opening-clause-untouched g c = let v = g.D.Disk.view in λ t.
+    untouched_read (v c.args.disk.now) (v c.begin.new.disk) c.begin.ensures.reads t
+
+pub returns-in_err-stage-clause-classes : goal.returns-in_err-stage-clause-classes
+returns-in_err-stage-clause-classes g c = let v = g.D.Disk.view in let old = v c.args.disk.now in let mid = v c.steps.disk in let so_far = c.steps.invariant in
+    λ t classes lines journal kept by_area lie.
+    c.step.ensures.classes (still_tells old mid so_far.told t) classes lines journal (so_far.facts t classes lines journal kept) by_area (so_far.classes t classes lines journal kept by_area lie)
+
+pub returns-in_err-stage-clause-untouched : goal.returns-in_err-stage-clause-untouched
+returns-in_err-stage-clause-untouched g c = let v = g.D.Disk.view in let old = v c.args.disk.now in let mid = v c.steps.disk in let new = v c.step.new.disk in let so_far = c.steps.invariant in
+    λ t. untouched_on old.content mid.content new.content (so_far.untouched t) (c.step.ensures.untouched (still_tells old mid so_far.told t))
+
+pub returns-clause-classes : goal.returns-clause-classes
+returns-clause-classes g c = λ t classes lines journal kept by_area lie. c.steps.invariant.classes t classes lines journal kept by_area lie
+
+pub returns-clause-untouched : goal.returns-clause-untouched
+returns-clause-untouched g c = λ t. c.steps.invariant.untouched t
+
 pub returns-clause-begins : goal.returns-clause-begins
 returns-clause-begins g c = let v = g.D.Disk.view in let old = v c.args.disk.now in let mid = v c.steps.disk in let so_far = c.steps.invariant in
     λ t classes lines journal kept.
     let over : c.steps.stage ≡ Opened = c.is_over.ensures.yes (search rules) in
-    c.start_of.ensures classes lines journal (subst (λ (s : OpeningStage). OpeningFacts classes lines journal s mid c.in_ok-opening.opening.found) over (so_far.facts t classes lines journal kept))
+    c.start_of.ensures.begins classes lines journal (subst (λ (s : OpeningStage). OpeningFacts classes lines journal s mid c.in_ok-opening.opening.found) over (so_far.facts t classes lines journal kept))
 
 pub returns-clause-stands : goal.returns-clause-stands
 returns-clause-stands g c = λ t classes lines journal kept. c.steps.invariant.leaves t classes lines journal kept
@@ -50,6 +76,8 @@ steps-preserved g c = let v = g.D.Disk.view in let old = v c.args.disk.now in le
       no_fewer = let first = so_far.no_fewer in let then_no_fewer = c.step.ensures.no_fewer in omega (arith, first, then_no_fewer);
       stage = c.in_ok-stage.ensures.stage;
       facts = λ t classes lines journal kept. c.in_ok-stage.ensures.goes_on (still_tells old mid so_far.told t) classes lines journal (so_far.facts t classes lines journal kept);
+      classes = λ t classes lines journal kept by_area lie. c.step.ensures.classes (still_tells old mid so_far.told t) classes lines journal (so_far.facts t classes lines journal kept) by_area (so_far.classes t classes lines journal kept by_area lie);
+      untouched = λ t. untouched_on old.content mid.content new.content (so_far.untouched t) (c.step.ensures.untouched (still_tells old mid so_far.told t));
       leaves = λ t classes lines journal kept. left_by_step classes lines journal old mid new (so_far.leaves t classes lines journal kept)
           (c.step.ensures.stands (still_tells old mid so_far.told t) classes lines journal (so_far.facts t classes lines journal kept));
     }

@@ -3,6 +3,8 @@ use Rattle.rdb_outside.specs.Disk.{LeavesOnly}
 use Rattle.line_view.specs.Knowledge.{Lines}
 use Rattle.stable_lines.specs.Journal.{Journal}
 use Rattle.stable_lines.specs.Kept.{Kept}
+use Rattle.line_moves.specs.Classes.{HaveTheirClasses}
+use Rattle.database_opening.specs.Untouched.{KeepsRootAndSpaces}
 use Rattle.database_opening.specs.Stages.{OpeningFacts, IsStage, steps_left}
 use Rattle.database_opening.proofs.EachMoment.{IsLeft}
 use Rattle.database_opening.proofs.whole.open_database.Given as goal
@@ -15,6 +17,8 @@ invariant-steps g l =
       no_fewer : before.faults ≤ now.faults;
       stage : IsStage l.stage;
       facts : IsTrue before.tells → (classes : ℕ → ℕ) (lines : Lines) (journal : Journal) → Kept classes lines journal before.content → OpeningFacts classes lines journal l.stage now l.opening.found;
+      classes : IsTrue before.tells → (classes : ℕ → ℕ) (lines : Lines) (journal : Journal) → Kept classes lines journal before.content → (by_area : ℕ → ℕ) → HaveTheirClasses by_area before.content → HaveTheirClasses by_area now.content;
+      untouched : IsTrue before.tells → KeepsRootAndSpaces before.content now.content;
       leaves : IsTrue before.tells → (classes : ℕ → ℕ) (lines : Lines) (journal : Journal) → Kept classes lines journal before.content → LeavesOnly before now (IsLeft classes lines journal before);
     }
 

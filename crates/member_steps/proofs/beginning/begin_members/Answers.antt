@@ -3,6 +3,8 @@ use Rattle.root_file.specs.Root.{IsRoot}
 use Rattle.new_database.specs.Maker.{root_file}
 use Rattle.line_moves.proofs.Runs.{facts_read, still_tells}
 use Rattle.member_steps.proofs.Begun.{begun}
+use Rattle.member_steps.proofs.Raised.{others_written, left_written, others_settled, left_settled}
+use Rattle.line_opening.proofs.Standing.{read_stands}
 use Rattle.member_steps.proofs.beginning.begin_members.Goals as goal
 
 pub returns-in_err-root-clause-keeps : goal.returns-in_err-root-clause-keeps
@@ -36,3 +38,50 @@ returns-clause-begins g c = let v = g.D.Disk.view in λ t base was same rest.
     base c.args.next_tsn
     (c.make_stable.ensures.keeps told_behind base (c.write_root.ensures.keeps told base (facts_read old mid reads t base was) (c.in_ok-root.ensures.limits t base was) (omega (arith, top, same))))
     rest c.in_ok-root.ensures.raised.1 top
+
+pub returns-in_err-root-clause-others : goal.returns-in_err-root-clause-others
+returns-in_err-root-clause-others g c = λ t file slot other. (c.next_root.ensures.reads.keeps t).content file slot
+
+pub returns-in_err-root-clause-leaves : goal.returns-in_err-root-clause-leaves
+returns-in_err-root-clause-leaves g c = let v = g.D.Disk.view in λ t base was same. read_stands (v c.args.disk.now) (v c.next_root.new.disk) base c.next_root.ensures.reads t was
+
+pub returns-in_err-write_root-clause-others : goal.returns-in_err-write_root-clause-others
+returns-in_err-write_root-clause-others g c = let v = g.D.Disk.view in λ t file slot other.
+    others_written (v c.args.disk.now) (v c.next_root.new.disk) (v c.write_root.new.disk) c.next_root.ensures.reads c.write_root.ensures.writes t file slot other
+
+pub returns-in_err-write_root-clause-leaves : goal.returns-in_err-write_root-clause-leaves
+returns-in_err-write_root-clause-leaves g c = let v = g.D.Disk.view in λ t base was same.
+    let old = v c.args.disk.now in let mid = v c.next_root.new.disk in let reads = c.next_root.ensures.reads in let top = c.in_ok-root.ensures.raised.2 in
+    left_written old mid (v c.write_root.new.disk) reads c.write_root.ensures.writes t base was
+    (c.write_root.ensures.keeps (still_tells old mid reads.told t) base (facts_read old mid reads t base was) (c.in_ok-root.ensures.limits t base was) (omega (arith, top, same)))
+
+pub returns-in_err-make_stable-clause-others : goal.returns-in_err-make_stable-clause-others
+returns-in_err-make_stable-clause-others g c = let v = g.D.Disk.view in λ t file slot other.
+    others_settled (v c.args.disk.now) (v c.next_root.new.disk) (v c.write_root.new.disk) c.next_root.ensures.reads c.write_root.ensures.writes t (v c.make_stable.new.disk) c.make_stable.ensures.reads file slot other
+
+pub returns-in_err-make_stable-clause-leaves : goal.returns-in_err-make_stable-clause-leaves
+returns-in_err-make_stable-clause-leaves g c = let v = g.D.Disk.view in λ t base was same.
+    let old = v c.args.disk.now in let mid = v c.next_root.new.disk in let reads = c.next_root.ensures.reads in let top = c.in_ok-root.ensures.raised.2 in
+    left_settled old mid (v c.write_root.new.disk) reads c.write_root.ensures.writes t (v c.make_stable.new.disk) c.make_stable.ensures.reads base was
+    (c.write_root.ensures.keeps (still_tells old mid reads.told t) base (facts_read old mid reads t base was) (c.in_ok-root.ensures.limits t base was) (omega (arith, top, same)))
+
+pub returns-clause-others : goal.returns-clause-others
+returns-clause-others g c = let v = g.D.Disk.view in λ t file slot other.
+    others_settled (v c.args.disk.now) (v c.next_root.new.disk) (v c.write_root.new.disk) c.next_root.ensures.reads c.write_root.ensures.writes t (v c.make_stable.new.disk) c.make_stable.ensures.reads file slot other
+
+pub returns-clause-leaves : goal.returns-clause-leaves
+returns-clause-leaves g c = let v = g.D.Disk.view in λ t base was same.
+    let old = v c.args.disk.now in let mid = v c.next_root.new.disk in let reads = c.next_root.ensures.reads in let top = c.in_ok-root.ensures.raised.2 in
+    left_settled old mid (v c.write_root.new.disk) reads c.write_root.ensures.writes t (v c.make_stable.new.disk) c.make_stable.ensures.reads base was
+    (c.write_root.ensures.keeps (still_tells old mid reads.told t) base (facts_read old mid reads t base was) (c.in_ok-root.ensures.limits t base was) (omega (arith, top, same)))
+
+pub returns-clause-stands : goal.returns-clause-stands
+returns-clause-stands g c = let v = g.D.Disk.view in λ t.
+    let old = v c.args.disk.now in let mid = v c.next_root.new.disk in let put = v c.write_root.new.disk in
+    let told = still_tells old mid c.next_root.ensures.reads.told t in
+    subst (λ (b : List ℕ). IsRoot b c.in_ok-root.root) (sym ((c.make_stable.ensures.reads.keeps (still_tells mid put c.write_root.ensures.writes.told told)).content root_file 0)) (c.in_ok-write_root.ensures.stands told)
+
+pub returns-clause-stable : goal.returns-clause-stable
+returns-clause-stable g c = let v = g.D.Disk.view in λ t.
+    let old = v c.args.disk.now in let mid = v c.next_root.new.disk in let put = v c.write_root.new.disk in
+    c.in_ok-make_stable.ensures.stable (still_tells mid put c.write_root.ensures.writes.told (still_tells old mid c.next_root.ensures.reads.told t))
