@@ -11,6 +11,8 @@ use Rattle.disk_store.specs.Memory.{StoreMemory}
 pub record IsFresh (m : Member) : Type 0 where
   pub at : m.stage ≡ stage.Outside
   pub written : m.written ≡ record { lines = []; keys = [] }
+  pub number : m.tsn.number ≡ 1
+  pub aside : m.aside ≡ record { catalog = 0; relations = 0; indexes = 0 }
 
 abbrev pub AreFresh : List Member → Type 0
 AreFresh members = (s : ℕ) (m : Member) → slice_get members s ≡ Some m → IsFresh m

@@ -1,5 +1,6 @@
 // What a store keeps in memory as it begins.
-ghost use Rattle.std.specs.Prelude.{◌≡◌, length, IfOk};
+ghost use Rattle.std.specs.Prelude.{◌≡◌, ◌≤◌, ◌^◌, length, IfOk};
+ghost use Rattle.disk_store.specs.Numbers.{AreAllowed};
 ghost use Rattle.disk_store.specs.Opening.{IsFresh, AreFresh, HasAllFree};
 
 use crate::{Held, Member, MemberStage, Numbers, Tables};
@@ -7,7 +8,8 @@ use line_opening::NextGroup;
 use member_memory::MemberLines;
 use rdb_types::{Limits, NoMemory, Tsn};
 use std::alloc::Global;
-use version_writing::SnapshotSlots;
+use version_reading::Reader;
+use version_writing::{SnapshotSlots, Wanted};
 
 /// Each of the sessions from 1 to 16 has the place of its number.
 const PLACES: usize = 17;
@@ -18,11 +20,17 @@ fn fresh(alloc: Global) -> Member
 {
     Member {
         stage: MemberStage::Outside,
-        tsn: Tsn { number: 0 },
+        tsn: Tsn { number: 1 },
+        named: false,
         written: MemberLines::new(alloc),
         journalled: 0,
         pushed: 0,
-        reader: None,
+        aside: Wanted {
+            catalog: 0,
+            relations: 0,
+            indexes: 0,
+        },
+        reader: Reader::new(Tsn { number: 0 }, Vec::new(alloc)),
     }
 }
 
@@ -46,6 +54,9 @@ impl Held {
         next: NextGroup,
         tables: Tables,
     ) -> Result<Held, NoMemory>
+        requires first { 1 ≤ numbers.next }
+        requires last { numbers.ceiling ≤ 2 ^ 62 }
+        requires allowed { AreAllowed limits numbers }
         ensures limits { IfOk result (λ held. held.limits ≡ limits) }
         ensures numbers { IfOk result (λ held. held.numbers ≡ numbers) }
         ensures next { IfOk result (λ held. held.next ≡ next) }

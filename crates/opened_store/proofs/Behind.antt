@@ -42,7 +42,6 @@ use Rattle.disk_store.specs.declared.held.Tables.{Tables}
 use Rattle.disk_store.specs.Memory.{StoreMemory}
 use Rattle.disk_store.specs.Opening.{AreFresh, HasAllFree}
 use Rattle.disk_store.specs.Shown.{pages_of, Shown}
-use Rattle.disk_store.proofs.Passing.{reads-ceiling}
 use Rattle.opened_store.specs.Tables.{AreTablesOf}
 use Rattle.opened_store.specs.Opened.{is_taken_in, BeginsFrom}
 use Rattle.opened_store.proofs.Free.{none-in-use}
@@ -54,6 +53,7 @@ pub record IsMadeOf (start : StoreStart) (root : Root) (tables : Tables) (held :
   pub limits : held.limits ≡ root.limits
   pub next : held.numbers.next ≡ start.next_tsn
   pub ceiling : held.numbers.ceiling ≡ start.next_tsn + 64
+  pub written : held.numbers.written ≡ start.next_tsn + 64
   pub group : held.next ≡ start.next
   pub tables_are : held.tables ≡ tables
   pub members : AreFresh held.members
@@ -108,7 +108,9 @@ module _ (old mid raised v : View) (t : IsTrue old.tells) (told : mid.tells ≡ 
   has = record {
     limits = made.limits ∙ limits;
     next = made.next;
-    ceiling = subst (λ (n : ℕ). HasCeiling (Pending v) n) (sym made.ceiling) (reads-ceiling raised v t_raised reads (start.next_tsn + 64) ceiling);
+    ceiling = subst (λ (n : ℕ). HasCeiling (Pending v) n) (sym made.ceiling) (λ content other q is. ceiling content other ((reads.keeps t_raised).pending root_file 0 content q) is);
+    written = made.written ∙ sym made.ceiling;
+    below = let next = made.next in let at = made.ceiling in omega (arith, next, at);
     group = record { in_slot = ap (λ (n : NextGroup). n.slot) made.group ∙ begins.next.in_slot; numbered = ap (λ (n : NextGroup). n.number) made.group ∙ begins.next.numbered };
     tables = tables-there;
     members = made.members;

@@ -1,6 +1,7 @@
 -- The first shelf that is shown.
 use Rattle.std.proofs.Common.{◌≡◌, ◌≢◌, ◌⊎◌, inl, inr, ⊎_elim, ℕ, ◌+◌, ◌-◌, ◌%◌, not, ◌≤◌, Bool, true, false, List, [], length, Option, Some, None, is_some, IsTrue, refl, sym, ap, subst, ◌∙◌, arith}
 use Rattle.std.proofs.lemmas.Bool.{false≢true, true≢false}
+use Rattle.std.proofs.lemmas.Option.{none-some}
 use Rattle.rdb_types.specs.declared.keys.Dbkey.{Dbkey}
 use Rattle.rdb_types.specs.declared.keys.Limits.{Limits}
 use Rattle.rdb_outside.specs.Disk.{Image, View, LeftNow, Pending, IsStable}
@@ -45,7 +46,7 @@ use Rattle.disk_store.specs.Seats.{steps_at}
 use Rattle.disk_store.specs.Shown.{pages_of, used_in, NumbersStand, TablesStand, VersionsStand, SpaceStands, Shown}
 use Rattle.opened_store.specs.Tables.{AreTablesOf}
 use Rattle.opened_store.proofs.Free.{none-held}
-use Rattle.opened_store.proofs.Fresh.{all-sit, none-waits, none-reads}
+use Rattle.opened_store.proofs.Fresh.{all-sit, none-waits, none-reads, none-kept}
 use Rattle.opened_store.proofs.TakenPages.{tables-long}
 
 abbrev pub first_shelf : View → StoreMemory → Lines → Shelf
@@ -67,6 +68,8 @@ pub record IsHeldOf (v : View) (journal : Journal) (start : StoreStart) (held : 
   pub limits : held.limits ≡ start.root.limits
   pub next : held.numbers.next ≡ start.next_tsn
   pub ceiling : HasCeiling (Pending v) held.numbers.ceiling
+  pub written : held.numbers.written ≡ held.numbers.ceiling
+  pub below : held.numbers.next ≤ held.numbers.ceiling
   pub group : IsNext journal held.next
   pub tables : AreTablesOf v.content start.root.limits.pages held.tables
   pub members : AreFresh held.members
@@ -188,7 +191,12 @@ module _ (v : View) (t : IsTrue v.tells) (left : LeftNow v v.content) (stable : 
   numbers-stand = record {
     number = sym has.next;
     first = let below = facts.below.header 1 (v.content (ruj_file 1) 0) (record { first = omega arith; last = omega arith }) (each_slot v v.content left (ruj_file 1) 0) in let next = has.next in omega (arith, below, next);
-    ceiling = has.ceiling;
+    ceiling = record {
+      pending = has.ceiling;
+      written = λ root is. let low = has.ceiling (v.content root_file 0) root (each_slot v v.content left root_file 0) is in let same = has.written in omega (arith, low, same);
+      below = has.below;
+      raised = inl has.written;
+    };
     group = has.group;
   }
 
@@ -211,6 +219,8 @@ module _ (v : View) (t : IsTrue v.tells) (left : LeftNow v v.content) (stable : 
         slots = none-held held has.free v.content course.followed (λ file chain follows. false≢true follows);
         waits = none-waits held.members has.members (λ member. []);
         reading = λ s m lines_then at reads seat. absurd (none-reads held.members has.members s m at reads);
+        only = λ s reading goes. absurd (none-some reading goes);
+        used = λ s file reading start is goes seen. absurd (none-some reading goes);
       }
 
   space-stands : SpaceStands held (first_shelf v held lines).space
@@ -234,6 +244,7 @@ module _ (v : View) (t : IsTrue v.tells) (left : LeftNow v v.content) (stable : 
     seats = all-sit held.members has.members v ledger (λ s. refl);
     steps = λ s. refl;
     numbers = numbers-stand;
+    kept = let none = none-kept held.members has.members in let low = has.below in let same = has.written in omega (arith, none, low, same);
     tables = tables-stand;
     versions = versions-stand;
     space = space-stands;

@@ -1,5 +1,6 @@
 -- Sessions of which none has a transaction.
-use Rattle.std.proofs.Common.{◌≡◌, ℕ, List, [], Option, Some, None, slice_get, refl, sym, ap, subst, ◌∙◌}
+use Rattle.std.proofs.Common.{◌≡◌, ℕ, suc, List, [], ◌∷◌, Option, Some, None, slice_get, refl, sym, ap, subst, ◌∙◌, arith}
+use Rattle.std.proofs.lemmas.List.Sums.{sum_by-cons}
 use Rattle.rdb_outside.specs.Disk.{View}
 use Rattle.line_store.specs.Seats.{outside}
 use Rattle.member_memory.specs.Memory.{writes_in}
@@ -7,6 +8,7 @@ use Rattle.disk_seats.specs.Ledgers.{Ledger, resting}
 use Rattle.disk_store.specs.declared.member.Member.{Member}
 use Rattle.disk_store.specs.declared.member.MemberStage.{MemberStage}
 use Rattle.disk_store.specs.declared.member.MemberStage.TheVariants as stage
+use Rattle.disk_store.specs.Numbers.{kept_at, kept_by, kept_in}
 use Rattle.disk_store.specs.Opening.{IsFresh, AreFresh}
 use Rattle.disk_store.specs.Seats.{seat_with, stand_at, stand_of}
 use Rattle.disk_store.specs.Standing.{StageStands}
@@ -42,3 +44,12 @@ module _ (members : List Member) (fresh : AreFresh members) where
 
   pub none-reads : (s : ℕ) (m : Member) → slice_get members s ≡ Some m → m.stage ≡ stage.Reading → ⊥
   none-reads s m is reads = let bad : stage.Outside ≡ stage.Reading = sym (fresh s m is).at ∙ reads in absurd (cc)
+
+-- no number is kept free
+pub none-kept : (members : List Member) → AreFresh members → kept_in members ≡ 0
+none-kept [] fresh = refl
+none-kept (m ∷ ms) fresh =
+    let sum = sum_by-cons kept_by m ms in
+    let here : kept_by m ≡ 0 = ap kept_at (fresh 0 m refl).at in
+    let rest = none-kept ms (λ s x is. fresh (suc s) x is) in
+    omega (arith, sum, here, rest)

@@ -55,6 +55,8 @@ pub fn open<D: Disk>(alloc: Global, disk: &mut D) -> Result<Held, OpeningFault>
     let numbers = Numbers {
         next: start.next_tsn,
         ceiling: root.ceiling,
+        written: root.ceiling,
+        applied: root.applied,
     };
     match Held::new(alloc, root.limits, numbers, start.next, tables) {
         Ok(held) => Ok(held),

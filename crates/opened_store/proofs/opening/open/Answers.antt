@@ -108,6 +108,7 @@ returns-in-Ok-clause-begins g c = let v = g.D.Disk.view in let old = v c.args.di
       limits = made.limits;
       next = ap (λ (n : Numbers). n.next) made.numbers;
       ceiling = ap (λ (n : Numbers). n.ceiling) made.numbers ∙ c.in_ok-root.ensures.ceiling;
+      written = ap (λ (n : Numbers). n.written) made.numbers ∙ c.in_ok-root.ensures.ceiling;
       group = made.next;
       tables_are = made.tables;
       members = made.members;
