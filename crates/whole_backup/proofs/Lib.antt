@@ -1,0 +1,5 @@
+pub mod Unused
+pub mod Early
+pub mod Started
+pub mod Whole
+pub mod Moments
