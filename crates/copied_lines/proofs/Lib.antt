@@ -4,3 +4,4 @@ pub mod Pages
 pub mod Runs
 pub mod Growing
 pub mod Lines
+pub mod Popped

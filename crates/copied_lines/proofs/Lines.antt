@@ -27,7 +27,7 @@ lines_last [] line = refl
 lines_last (l ∷ ls) line = ap (λ (es : List (Dbkey × List ℕ)). (l.key, l.image) ∷ es) (lines_last ls line)
 
 one_on_page : (image : Image) (lines : List BackupLine) (line : BackupLine) → AreOnPages image lines → IsOnPage image line → AreOnPages image (lines ++ line ∷ [])
-one_on_page image lines line are is i l got = ⊎_elim (λ before. are i l before) (λ it. subst (IsOnPage image) (got_one line l it.0 it.1.1).1 is) (got_either lines (line ∷ []) i l got)
+one_on_page image lines line are is i l got = ⊎_elim (λ before. are i l before) (λ it. subst (IsOnPage image) (got_one line l it.0 it.2).1 is) (got_either lines (line ∷ []) i l got)
 
 module _ (former : Former) (image : Image) (now : Progress) (left : AreaPage → Bool) (file : ℕ) (head : Head) (line : ℕ) (stood : Line) (at : IsLineAt image file head line stood) (behind : AreBehind (page_named head) left) where
   abbrev key : Dbkey

@@ -37,12 +37,12 @@ later_line area page a b lt =
 not_behind_itself : (page : AreaPage) → page_order page page ≡ Less → ⊥
 not_behind_itself page less = let bad : Equal ≡ Less = sym (tied_itself page_total page) ∙ less in cc
 
-either : (a b : Bool) → (a || b) ≡ true → (a ≡ true) ⊎ (b ≡ true)
+pub either : (a b : Bool) → (a || b) ≡ true → (a ≡ true) ⊎ (b ≡ true)
 either true b is = inl refl
 either false b is = inr is
 
-neither : (a b : Bool) → (a || b) ≡ false → (a ≡ false) × (b ≡ false)
-neither true b is = cc
+pub neither : (a b : Bool) → (a || b) ≡ false → (a ≡ false) × (b ≡ false)
+neither true b is = let no : ⊥ = cc in absurd no
 neither false b is = (refl, is)
 
 or_left : (a b : Bool) → a ≡ true → (a || b) ≡ true

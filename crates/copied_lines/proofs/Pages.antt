@@ -66,7 +66,7 @@ module _ (image : Image) (file : ℕ) (left : AreaPage → Bool) (page : AreaPag
   -- what is left of it isn't there
   pub page_ends : (line : ℕ) (found : List (Dbkey × List ℕ)) → ((key : Dbkey) → key.area ≡ page.area → key.page ≡ page.page → line ≤ key.line → shown (line_at image key) ≡ None) → Holds image (from_line left page line) found → Holds image (on_pages left) found
   page_ends line found none was = passed image (from_line left page line) (on_pages left) found was (λ q yes. pages_left left page line q yes)
-      (λ q yes no. let rest = rest_of_page left page line q yes no in none q rest.0 rest.1.0 rest.1.1)
+      (λ q yes no. let rest = rest_of_page left page line q yes no in none q rest.0 rest.1 rest.2)
 
   -- the bytes of the page at a key of it
   at_key : (P : List ℕ → Type 0) (key : Dbkey) → key.page ≡ page.page → P (bytes_at image file page.page) → P (bytes_at image file key.page)

@@ -135,11 +135,7 @@ fn pages_within(length: u32) -> u32
 }
 
 // Adds the used pages of a file.
-fn read_file<D: Disk>(
-    disk: &mut D,
-    file: u32,
-    pages: &mut UsedPages,
-) -> Result<(), OpeningFault>
+fn read_file<D: Disk>(disk: &mut D, file: u32, pages: &mut UsedPages) -> Result<(), OpeningFault>
     ensures used { OnOk result (IsTrue (D.view disk.old).tells
         → HasUsedTo (D.view disk.old).content file 65536 pages.new) }
     ensures kept { OnOk result ((other : AreaPage) → has pages.old other → has pages.new other) }

@@ -45,9 +45,9 @@ module _ (former : Former) (number : ℕ) (v : View) (image : Image) (left : Lef
   early_at head lines Begun is at = old_or_none at.0
   early_at head lines Blanked is at = old_or_none at.0.slots
   early_at head lines Open is at = inr (no_head number (image (file_of number) 0) (at.blank (image (file_of number) 0) (each_slot v image left (file_of number) 0)))
-  early_at head lines Closed is at = cc
-  early_at head lines Headed is at = cc
-  early_at head lines Ended is at = cc
+  early_at head lines Closed is at = let no : ⊥ = cc in absurd no
+  early_at head lines Headed is at = let no : ⊥ = cc in absurd no
+  early_at head lines Ended is at = let no : ⊥ = cc in absurd no
 
 pub beginning_now : (now : Progress) (former : Former) (v : View) (b : Backup) (lines : List BackupLine) → is_early b.stage ≡ true → IsAt former v b lines → Facts (Pending v) now → (image : Image) → LeftNow v image → IsBeginning now former b.number image
 beginning_now now former v b lines early at facts image left = record {
@@ -62,7 +62,7 @@ abbrev nothing_before : Former
 nothing_before slot bytes = false
 
 no_former : (slots : ℕ → List ℕ) → WasFormer nothing_before slots → ⊥
-no_former slots was = let first : IsTrue false = was 0 in absurd first
+no_former slots was = let first : IsTrue false = was 0 in let no : ⊥ = cc in no
 
 -- what stands at a later stage doesn't speak of what stood before
 late_at : (former : Former) (v : View) (number : ℕ) (head : BackupHead) (lines : List BackupLine) (stage : Stage) → (stage ≡ Open) ⊎ (is_early stage ≡ false) → StandsAt former v (file_of number) head lines stage → StandsAt nothing_before v (file_of number) head lines stage

@@ -1,0 +1,27 @@
+use Rattle.std.proofs.Common.{◌≡◌, ◌≤◌, ◌+◌, ◌*◌, ℕ, IsTrue}
+use Rattle.std.specs.BTreeSet.{btree_set_len, contains}
+use Rattle.rdb_outside.specs.Disk.{Image, LeavesOnly}
+use Rattle.backup_making.specs.Making.{Former}
+use Rattle.stable_lines.specs.Progress.{Progress}
+use Rattle.used_pages.specs.Pages.{page_order, ArePlaced}
+use Rattle.copied_lines.specs.Holding.{on_pages}
+use Rattle.copied_lines.specs.Copying.{Copying, IsStopped}
+use Rattle.copied_lines.proofs.pages.copy_all.Given as goal
+
+abbrev pub invariant-loop-left : goal.invariant-loop-left
+invariant-loop-left g l =
+    let before = g.D.Disk.view l.fn.disk in let here = g.D.Disk.view l.disk in
+    record {
+      told : here.tells ≡ before.tells;
+      no_fewer : before.faults ≤ here.faults;
+      placed : ArePlaced l.left;
+      same : l.backup ≡ record l.fn.backup { lines = l.backup.lines };
+      few : l.backup.lines + 4 * btree_set_len l.left ≤ l.fn.backup.lines + 4 * btree_set_len l.fn.pages;
+      copied : IsTrue before.tells → (former : Former) (image : Image) (now : Progress) → Copying former image now (on_pages (contains page_order l.fn.pages)) before l.fn.backup
+          → Copying former image now (on_pages (contains page_order l.left)) here l.backup;
+      stopped : IsTrue before.tells → (former : Former) (image : Image) (now : Progress) → Copying former image now (on_pages (contains page_order l.fn.pages)) before l.fn.backup
+          → LeavesOnly before here (IsStopped now l.fn.backup.number);
+    }
+
+abbrev pub decreases-loop-left : goal.decreases-loop-left
+decreases-loop-left g l = btree_set_len l.left
