@@ -83,7 +83,7 @@ module _ (image : Image) where
 
   -- the first of those that are left
   module _ (left after : Dbkey → Bool) (here : Dbkey) (what : Option (List ℕ)) (old new : Lines) (was : Holds image left old) (made : new ≡ with_last here what old) (shows : what ≡ shown (line_at image here)) (on : left here ≡ true)
-    (behind : (q : Dbkey) → after q ≡ true → (left q ≡ true) × (dbkey_order here q ≡ Less)) (passes : (q : Dbkey) → after q ≡ false → (left q ≡ false) ⊎ (q ≡ here)) where
+      (behind : (q : Dbkey) → after q ≡ true → (left q ≡ true) × (dbkey_order here q ≡ Less)) (passes : (q : Dbkey) → after q ≡ false → (left q ≡ false) ⊎ (q ≡ here)) where
     found_now : (q : Dbkey) (b : Bool) → is_eq (dbkey_order q here) ≡ b → find dbkey_order q new ≡ cond b what (find dbkey_order q old)
     found_now q b is = ap (λ (l : Lines). find dbkey_order q l) made ∙ find_last old here what (was.others here on) q b is
 

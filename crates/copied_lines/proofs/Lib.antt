@@ -1,6 +1,6 @@
 pub mod Holding
 pub mod Orders
-pub mod Pages
+pub mod OnPages
 pub mod Runs
 pub mod Growing
 pub mod Lines

@@ -19,7 +19,7 @@ use Rattle.copied_lines.specs.Holding.{Holds, from_line, AreBehind}
 use Rattle.copied_lines.specs.Copying.{page_named, IsLineAt, IsOnPage, AreOnPages, Copying}
 use Rattle.copied_lines.proofs.Holding.{with_last, one_more}
 use Rattle.copied_lines.proofs.Orders.{here, here_left, behind_here, passed_here}
-use Rattle.copied_lines.proofs.Pages.{line_here}
+use Rattle.copied_lines.proofs.OnPages.{line_here}
 use Rattle.copied_lines.proofs.Runs.{facts_step, same_step}
 
 lines_last : (lines : List BackupLine) (line : BackupLine) → lines_in (lines ++ line ∷ []) ≡ lines_in lines ++ (line.key, line.image) ∷ []

@@ -77,9 +77,10 @@ module _ (left : AreaPage → Bool) (page : AreaPage) (line : ℕ) where
       same : (is_on page q && nat_le (line + 1) q.line) ≡ true → (from_line left page line q ≡ true) × (dbkey_order here q ≡ Less)
       same is =
           let parts = and_parts (is_on page q) (nat_le (line + 1) q.line) is in
-          let more : line + 1 ≤ q.line = leb-true (line + 1) q.line parts.1 in
-          (or_right (left (page_of q)) (is_on page q && nat_le line q.line) (and_from (is_on page q) (nat_le line q.line) parts.0 (le-leb line q.line (omega (arith, more)))),
-            subst (λ (k : Dbkey). dbkey_order here k ≡ Less) (sym (on_here q parts.0)) (later_line page.area page.page line q.line (omega (arith, more))))
+          let more : line + 1 ≤ q.line = leb-true (line + 1) q.line parts.1 in (
+            or_right (left (page_of q)) (is_on page q && nat_le line q.line) (and_from (is_on page q) (nat_le line q.line) parts.0 (le-leb line q.line (omega (arith, more)))),
+            subst (λ (k : Dbkey). dbkey_order here k ≡ Less) (sym (on_here q parts.0)) (later_line page.area page.page line q.line (omega (arith, more))),
+          )
 
   pub passed_here : (q : Dbkey) → from_line left page (line + 1) q ≡ false → (from_line left page line q ≡ false) ⊎ (q ≡ here)
   passed_here q no = by (from_line left page line q) refl

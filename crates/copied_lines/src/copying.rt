@@ -79,16 +79,20 @@ fn copy_line<D: Disk>(
         → LeavesOnly (D.view disk.old) (D.view disk.new) (IsStopped now backup.old.number) }
 {
     match stood.state {
-        LineState::Present => put_line(disk, BackupLine {
-            key: Dbkey {
-                area: head.owner,
-                page: head.page,
-                line,
+        LineState::Present => put_line(
+            disk,
+            BackupLine {
+                key: Dbkey {
+                    area: head.owner,
+                    page: head.page,
+                    line,
+                },
+                class: head.class,
+                tsn: stood.tsn,
+                image: stood.image,
             },
-            class: head.class,
-            tsn: stood.tsn,
-            image: stood.image,
-        }, backup),
+            backup,
+        ),
         LineState::Never | LineState::Erased => Ok(()),
     }
 }

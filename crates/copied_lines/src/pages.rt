@@ -105,11 +105,7 @@ fn copy_page<D: Disk>(disk: &mut D, page: AreaPage, backup: &mut Backup) -> Resu
 }
 
 /// Copies the present lines of these pages to an open backup, in the order of their Dbkeys. It makes a read for each page, and a write for each line.
-pub fn copy_all<D: Disk>(
-    disk: &mut D,
-    pages: UsedPages,
-    backup: &mut Backup,
-) -> Result<(), Fault>
+pub fn copy_all<D: Disk>(disk: &mut D, pages: UsedPages, backup: &mut Backup) -> Result<(), Fault>
     requires placed { ArePlaced pages }
     requires open { backup.old.stage ≡ Open }
     requires last_group { backup.old.last_group ≤ 2 ^ 62 }

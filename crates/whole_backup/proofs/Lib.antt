@@ -1,5 +1,6 @@
 pub mod Unused
 pub mod Early
 pub mod Started
-pub mod Whole
+pub mod Copies
 pub mod Moments
+pub mod Run

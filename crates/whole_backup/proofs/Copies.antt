@@ -27,7 +27,7 @@ use Rattle.line_moves.proofs.Spots.{not_unused}
 use Rattle.used_pages.specs.Pages.{bytes_at}
 use Rattle.copied_lines.specs.Copying.{IsOnPage, AreOnPages, Copying}
 use Rattle.copied_lines.specs.Holding.{Holds}
-use Rattle.copied_lines.proofs.Pages.{file_of_area}
+use Rattle.copied_lines.proofs.OnPages.{file_of_area}
 use Rattle.whole_backup.proofs.Unused.{zeros_unused}
 
 file_of_owner : (file area : ℕ) → IsOwner file area → IsAreaFile file
