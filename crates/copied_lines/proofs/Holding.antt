@@ -66,7 +66,7 @@ still_ordered found k (Some w) sorted below = ordered_last found k w sorted belo
 module _ (image : Image) where
   -- at the beginning all is left
   pub nothing_found : Holds image (λ key. true) []
-  nothing_found = record { in_order = refl; each = λ key no. cc; others = λ key yes. refl; before = λ key other bytes found yes. cc }
+  nothing_found = record { in_order = refl; each = λ key nay. cc; others = λ key so. refl; before = λ key other bytes found so. cc }
 
   -- lines that are passed over, none of which is present
   pub passed : (left after : Dbkey → Bool) (found : Lines) → Holds image left found → ((q : Dbkey) → after q ≡ true → left q ≡ true) → ((q : Dbkey) → left q ≡ true → after q ≡ false → shown (line_at image q) ≡ None) → Holds image after found
@@ -90,20 +90,20 @@ module _ (image : Image) where
     each_now : (q : Dbkey) → after q ≡ false → (b : Bool) → is_eq (dbkey_order q here) ≡ b → find dbkey_order q new ≡ shown (line_at image q)
     each_now q off true is = found_now q true is ∙ shows ∙ ap (λ (k : Dbkey). shown (line_at image k)) (sym (same_key q here is))
     each_now q off false is = found_now q false is ∙ ⊎_elim (λ not_left. was.each q not_left)
-        (λ same. let bad : true ≡ false = sym (ap (λ (k : Dbkey). is_eq (dbkey_order k here)) same ∙ tied here) ∙ is in let no : ⊥ = cc in absurd no) (passes q off)
+        (λ same. let bad : true ≡ false = sym (ap (λ (k : Dbkey). is_eq (dbkey_order k here)) same ∙ tied here) ∙ is in let nay : ⊥ = cc in absurd nay) (passes q off)
 
     others_now : (q : Dbkey) → after q ≡ true → (b : Bool) → is_eq (dbkey_order q here) ≡ b → find dbkey_order q new ≡ None
-    others_now q yes true is = absurd (not_less here (ap (λ (k : Dbkey). dbkey_order here k) (sym (same_key q here is)) ∙ (behind q yes).1))
-    others_now q yes false is = found_now q false is ∙ was.others q (behind q yes).0
+    others_now q so true is = absurd (not_less here (ap (λ (k : Dbkey). dbkey_order here k) (sym (same_key q here is)) ∙ (behind q so).1))
+    others_now q so false is = found_now q false is ∙ was.others q (behind q so).0
 
     before_now : (q other : Dbkey) (bytes : List ℕ) → find dbkey_order q new ≡ Some bytes → after other ≡ true → (b : Bool) → is_eq (dbkey_order q here) ≡ b → dbkey_order q other ≡ Less
-    before_now q other bytes found yes true is = ap (λ (k : Dbkey). dbkey_order k other) (same_key q here is) ∙ (behind other yes).1
-    before_now q other bytes found yes false is = was.before q other bytes (sym (found_now q false is) ∙ found) (behind other yes).0
+    before_now q other bytes found so true is = ap (λ (k : Dbkey). dbkey_order k other) (same_key q here is) ∙ (behind other so).1
+    before_now q other bytes found so false is = was.before q other bytes (sym (found_now q false is) ∙ found) (behind other so).0
 
     pub one_more : Holds image after new
     one_more = record {
       in_order = subst (λ (l : Lines). IsInOrder l) (sym made) (still_ordered old here what was.in_order (λ q bytes found. was.before q here bytes found on));
       each = λ q off. each_now q off (is_eq (dbkey_order q here)) refl;
-      others = λ q yes. others_now q yes (is_eq (dbkey_order q here)) refl;
-      before = λ q other bytes found yes. before_now q other bytes found yes (is_eq (dbkey_order q here)) refl;
+      others = λ q so. others_now q so (is_eq (dbkey_order q here)) refl;
+      before = λ q other bytes found so. before_now q other bytes found so (is_eq (dbkey_order q here)) refl;
     }

@@ -1,7 +1,9 @@
 pub mod Holding
 pub mod Orders
 pub mod OnPages
+pub mod Oks
 pub mod Runs
 pub mod Growing
 pub mod Lines
 pub mod Popped
+pub mod Passing

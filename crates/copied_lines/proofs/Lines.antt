@@ -3,7 +3,7 @@ use Rattle.std.proofs.Common.{◌≡◌, ℕ, ◌+◌, Bool, IsTrue, List, [], �
 use Rattle.rdb_types.specs.declared.keys.Dbkey.{Dbkey}
 use Rattle.rdb_types.specs.declared.keys.Line.{Line}
 use Rattle.rdb_types.specs.declared.keys.LineState.{LineState}
-use Rattle.rdb_types.specs.declared.keys.LineState.TheVariants.{Present}
+use Rattle.rdb_types.specs.declared.keys.LineState.TheVariants.{Never, Present, Erased}
 use Rattle.rdb_outside.specs.Disk.{Image, View}
 use Rattle.rdb_page.specs.declared.head.Head.{Head}
 use Rattle.line_versions.specs.Lines.{shown, shown_as}
@@ -21,6 +21,18 @@ use Rattle.copied_lines.proofs.Holding.{with_last, one_more}
 use Rattle.copied_lines.proofs.Orders.{here, here_left, behind_here, passed_here}
 use Rattle.copied_lines.proofs.OnPages.{line_here}
 use Rattle.copied_lines.proofs.Runs.{facts_step, same_step}
+
+-- a line that isn't present
+shows_none : (s : LineState) (image : List ℕ) → (s ≡ Present → ⊥) → shown_as s image ≡ None
+shows_none Never image isnt = refl
+shows_none Present image isnt = absurd (isnt refl)
+shows_none Erased image isnt = refl
+
+pub not_shown : (l : Line) → (l.state ≡ Present → ⊥) → shown l ≡ None
+not_shown l isnt = shows_none l.state l.image isnt
+
+pub is_shown : (l : Line) → l.state ≡ Present → shown l ≡ Some l.image
+is_shown l is = ap (λ (s : LineState). shown_as s l.image) is
 
 lines_last : (lines : List BackupLine) (line : BackupLine) → lines_in (lines ++ line ∷ []) ≡ lines_in lines ++ (line.key, line.image) ∷ []
 lines_last [] line = refl

@@ -8,7 +8,7 @@ use Rattle.rdb_page.specs.Page.{IsOwner, IsHead, IsUnused, StandsAs, lines_of, c
 use Rattle.rdb_page.specs.Lines.{IsLine, never}
 use Rattle.area_files.specs.Areas.{IsDataPage}
 use Rattle.line_versions.specs.Lines.{shown, storage_area}
-use Rattle.stable_lines.specs.Slots.{area_file, line_on, line_at}
+use Rattle.stable_lines.specs.Slots.{area_file, IsAreaFile, line_on, line_at}
 use Rattle.stable_lines.proofs.Never.{nothing_on, zeros_owner}
 use Rattle.line_moves.specs.declared.places.Place.{Place}
 use Rattle.line_moves.specs.Changes.{IsPlaceOf}
@@ -21,6 +21,11 @@ use Rattle.copied_lines.specs.Holding.{Holds, on_pages, from_line, AreBehind}
 use Rattle.copied_lines.specs.Copying.{IsLineAt, page_named}
 use Rattle.copied_lines.proofs.Holding.{passed}
 use Rattle.copied_lines.proofs.Orders.{here, pages_left, rest_of_page}
+
+pub file_of_owner : (file area : ℕ) → IsOwner file area → IsAreaFile file
+file_of_owner file area (inl is) = let at = is.0 in record { first = omega (arith, at); last = omega (arith, at) }
+file_of_owner file area (inr (inl is)) = let at = is.0 in record { first = omega (arith, at); last = omega (arith, at) }
+file_of_owner file area (inr (inr is)) = let at = is.0 in record { first = omega (arith, at); last = omega (arith, at) }
 
 -- the file of an area
 pub file_of_area : (file area : ℕ) → IsOwner file area → file ≡ storage_area area
@@ -65,8 +70,8 @@ module _ (image : Image) (file : ℕ) (key : Dbkey) (owner : IsOwner file key.ar
 module _ (image : Image) (file : ℕ) (left : AreaPage → Bool) (page : AreaPage) (owner : IsOwner file page.area) where
   -- what is left of it isn't there
   pub page_ends : (line : ℕ) (found : List (Dbkey × List ℕ)) → ((key : Dbkey) → key.area ≡ page.area → key.page ≡ page.page → line ≤ key.line → shown (line_at image key) ≡ None) → Holds image (from_line left page line) found → Holds image (on_pages left) found
-  page_ends line found none was = passed image (from_line left page line) (on_pages left) found was (λ q yes. pages_left left page line q yes)
-      (λ q yes no. let rest = rest_of_page left page line q yes no in none q rest.0 rest.1 rest.2)
+  page_ends line found none was = passed image (from_line left page line) (on_pages left) found was (λ q so. pages_left left page line q so)
+      (λ q so nay. let rest = rest_of_page left page line q so nay in none q rest.0 rest.1 rest.2)
 
   -- the bytes of the page at a key of it
   at_key : (P : List ℕ → Type 0) (key : Dbkey) → key.page ≡ page.page → P (bytes_at image file page.page) → P (bytes_at image file key.page)

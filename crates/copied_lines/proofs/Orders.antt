@@ -42,7 +42,7 @@ either true b is = inl refl
 either false b is = inr is
 
 pub neither : (a b : Bool) → (a || b) ≡ false → (a ≡ false) × (b ≡ false)
-neither true b is = let no : ⊥ = cc in absurd no
+neither true b is = let nay : ⊥ = cc in absurd nay
 neither false b is = (refl, is)
 
 or_left : (a b : Bool) → a ≡ true → (a || b) ≡ true
@@ -69,7 +69,7 @@ module _ (left : AreaPage → Bool) (page : AreaPage) (line : ℕ) where
 
   -- what is left behind the line
   pub behind_here : AreBehind page left → (q : Dbkey) → from_line left page (line + 1) q ≡ true → (from_line left page line q ≡ true) × (dbkey_order here q ≡ Less)
-  behind_here behind q yes = ⊎_elim another same (either (left (page_of q)) (is_on page q && nat_le (line + 1) q.line) yes)
+  behind_here behind q so = ⊎_elim another same (either (left (page_of q)) (is_on page q && nat_le (line + 1) q.line) so)
     where
       another : left (page_of q) ≡ true → (from_line left page line q ≡ true) × (dbkey_order here q ≡ Less)
       another is = (or_left (left (page_of q)) (is_on page q && nat_le line q.line) is, lines_behind here q (behind (page_of q) is))
@@ -83,14 +83,14 @@ module _ (left : AreaPage → Bool) (page : AreaPage) (line : ℕ) where
           )
 
   pub passed_here : (q : Dbkey) → from_line left page (line + 1) q ≡ false → (from_line left page line q ≡ false) ⊎ (q ≡ here)
-  passed_here q no = by (from_line left page line q) refl
+  passed_here q nay = by (from_line left page line q) refl
     where
       parts : (left (page_of q) ≡ false) × ((is_on page q && nat_le (line + 1) q.line) ≡ false)
-      parts = neither (left (page_of q)) (is_on page q && nat_le (line + 1) q.line) no
+      parts = neither (left (page_of q)) (is_on page q && nat_le (line + 1) q.line) nay
 
       not_both : (b c : Bool) → (b && c) ≡ false → b ≡ true → c ≡ false
-      not_both true c is yes = is
-      not_both false c is yes = cc
+      not_both true c is so = is
+      not_both false c is so = cc
 
       at_most : (a b : ℕ) → nat_le (a + 1) b ≡ false → a ≤ b → b ≡ a
       at_most a b is le = grind arith
@@ -111,7 +111,7 @@ pages_left left page line q is = or_left (left (page_of q)) (is_on page q && nat
 
 -- a line of the page that is passed over
 pub rest_of_page : (left : AreaPage → Bool) (page : AreaPage) (line : ℕ) (q : Dbkey) → from_line left page line q ≡ true → on_pages left q ≡ false → (q.area ≡ page.area) × (q.page ≡ page.page) × (line ≤ q.line)
-rest_of_page left page line q yes no = ⊎_elim (λ other. let bad : true ≡ false = sym other ∙ no in let no_way : ⊥ = cc in absurd no_way)
+rest_of_page left page line q so nay = ⊎_elim (λ other. let bad : true ≡ false = sym other ∙ nay in let no_way : ⊥ = cc in absurd no_way)
     (λ is. let parts = and_parts (is_on page q) (nat_le line q.line) is in let both = and_parts (q.area == page.area) (q.page == page.page) parts.0 in
     (eqb-true q.area page.area both.0, eqb-true q.page page.page both.1, leb-true line q.line parts.1))
-    (either (left (page_of q)) (is_on page q && nat_le line q.line) yes)
+    (either (left (page_of q)) (is_on page q && nat_le line q.line) so)

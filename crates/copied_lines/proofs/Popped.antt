@@ -24,13 +24,13 @@ module _ (old new : BTreeSet AreaPage) (page : AreaPage) (updates : Updates page
   gone = updates.1
 
   not_greater : (o : Ordering) → is_gt o ≡ false → (is_eq o ≡ true → ⊥) → o ≡ Less
-  not_greater Less is no = refl
-  not_greater Equal is no = absurd (no refl)
-  not_greater Greater is no = cc
+  not_greater Less is nay = refl
+  not_greater Equal is nay = absurd (nay refl)
+  not_greater Greater is nay = cc
 
   pub all_behind : AreBehind page (contains page_order new)
   all_behind other is = not_greater (page_order page other) (least other (was_there old new page updates other is))
-      (λ same. let there : has new page = subst (has new) (same_page page other same) is in let bad : true ≡ false = sym there ∙ gone in let no : ⊥ = cc in no)
+      (λ same. let there : has new page = subst (has new) (same_page page other same) is in let bad : true ≡ false = sym there ∙ gone in let nay : ⊥ = cc in nay)
 
   on_it : (q : Dbkey) → page_of q ≡ page → is_on page q ≡ true
   on_it q same = and_from (q.area == page.area) (q.page == page.page) (eq-eqb q.area page.area (ap (λ (p : AreaPage). p.area) same)) (eq-eqb q.page page.page (ap (λ (p : AreaPage). p.page) same))
@@ -43,14 +43,14 @@ module _ (old new : BTreeSet AreaPage) (page : AreaPage) (updates : Updates page
 
   module _ (member : has old page) where
     still_left : (q : Dbkey) → from_line (contains page_order new) page 0 q ≡ true → on_pages (contains page_order old) q ≡ true
-    still_left q yes = ⊎_elim (λ is. was_there old new page updates (page_of q) is)
+    still_left q so = ⊎_elim (λ is. was_there old new page updates (page_of q) is)
         (λ is. subst (has old) (sym (its_page q (and_parts (is_on page q) (nat_le 0 q.line) is).0)) member)
-        (either (contains page_order new (page_of q)) (is_on page q && nat_le 0 q.line) yes)
+        (either (contains page_order new (page_of q)) (is_on page q && nat_le 0 q.line) so)
 
     none_passed : (q : Dbkey) → on_pages (contains page_order old) q ≡ true → from_line (contains page_order new) page 0 q ≡ false → ⊥
-    none_passed q yes no =
-        let parts = neither (contains page_order new (page_of q)) (is_on page q && nat_le 0 q.line) no in
-        let same : page_of q ≡ page = was_it old new page updates (page_of q) parts.0 yes in
+    none_passed q so nay =
+        let parts = neither (contains page_order new (page_of q)) (is_on page q && nat_le 0 q.line) nay in
+        let same : page_of q ≡ page = was_it old new page updates (page_of q) parts.0 so in
         let bad : true ≡ false = sym (and_from (is_on page q) (nat_le 0 q.line) (on_it q same) refl) ∙ parts.1 in let never : ⊥ = cc in never
 
     -- all of it is left
@@ -58,7 +58,7 @@ module _ (old new : BTreeSet AreaPage) (page : AreaPage) (updates : Updates page
     popped former image now v b was = record {
       lines = was.lines;
       at = was.at;
-      holds = passed image (on_pages (contains page_order old)) (from_line (contains page_order new) page 0) (lines_in was.lines) was.holds still_left (λ q yes no. absurd (none_passed q yes no));
+      holds = passed image (on_pages (contains page_order old)) (from_line (contains page_order new) page 0) (lines_in was.lines) was.holds still_left (λ q so nay. absurd (none_passed q so nay));
       on_pages = was.on_pages;
       facts = was.facts;
       same = was.same;

@@ -1,5 +1,6 @@
 -- How a backup goes on, and what a crash leaves meanwhile.
-use Rattle.std.proofs.Common.{◌≡◌, ℕ, ◌+◌, ◌≤◌, Bool, IsTrue, List, [], ◌∷◌, ◌++◌, length, ◌⊎◌, inl, inr, ⊎_elim, refl, sym, ap, subst, ◌∙◌, arith}
+use Rattle.std.specs.Prelude.{OnOk, OnErr, Ok, Err, is_ok}
+use Rattle.std.proofs.Common.{◌≡◌, ℕ, ◌+◌, ◌≤◌, Bool, true, false, IsTrue, Result, List, [], ◌∷◌, ◌++◌, length, ◌⊎◌, inl, inr, ⊎_elim, refl, sym, ap, subst, ◌∙◌, arith}
 use Rattle.rdb_types.specs.declared.file.FileId.{FileId}
 use Rattle.rdb_types.specs.declared.file.FileKind.{FileKind}
 use Rattle.rdb_types.specs.declared.file.FileKind.TheVariants.{Root, Area, Ruj, Aij, Backup as BackupFile}
@@ -59,20 +60,20 @@ module _ (number : ℕ) (old new : View) (done : Bool) (steps : Steps (file_of n
     before = λ moment image le left. ⊎_elim (λ was. inl was) (λ here. inr (behind image here)) ((steps.time t).nothing_else moment image le left);
   }
 
--- ---- an open backup
+-- ---- an opens backup
 
 pub is_open : (former : Former) (v : View) (b : Backup) (lines : List BackupLine) → b.stage ≡ Open → IsAt former v b lines → IsOpen v (file_of b.number) lines
-is_open former v b lines open at = subst (λ (s : Stage). StandsAt former v (file_of b.number) (head_of b lines) lines s) open at.stands
+is_open former v b lines opens at = subst (λ (s : Stage). StandsAt former v (file_of b.number) (head_of b lines) lines s) opens at.stands
 
 pub at_open : (former : Former) (v : View) (b : Backup) (lines : List BackupLine) → b.stage ≡ Open → b.lines ≡ length lines → IsOpen v (file_of b.number) lines → IsAt former v b lines
-at_open former v b lines open count is = record { count = count; stands = subst (λ (s : Stage). StandsAt former v (file_of b.number) (head_of b lines) lines s) (sym open) is }
+at_open former v b lines opens count is = record { count = count; stands = subst (λ (s : Stage). StandsAt former v (file_of b.number) (head_of b lines) lines s) (sym opens) is }
 
--- what a crash leaves of an open backup
-module _ (former : Former) (now : Progress) (v : View) (b : Backup) (lines : List BackupLine) (open : b.stage ≡ Open) (at : IsAt former v b lines) (facts : Facts (Pending v) now) where
+-- what a crash leaves of an opens backup
+module _ (former : Former) (now : Progress) (v : View) (b : Backup) (lines : List BackupLine) (opens : b.stage ≡ Open) (at : IsAt former v b lines) (facts : Facts (Pending v) now) where
   stopped_at : (other : Image) → IsPending v other → IsStopped now b.number other
   stopped_at other each = record {
     stands = stands (Pending v) now facts other each;
-    none = λ head is. no_head b.number (other (file_of b.number) 0) ((is_open former v b lines open at).blank (other (file_of b.number) 0) (each (file_of b.number) 0)) head is;
+    none = λ head is. no_head b.number (other (file_of b.number) 0) ((is_open former v b lines opens at).blank (other (file_of b.number) 0) (each (file_of b.number) 0)) head is;
   }
 
   stopped_left : (other : Image) → LeftNow v other → IsStopped now b.number other
@@ -81,20 +82,26 @@ module _ (former : Former) (now : Progress) (v : View) (b : Backup) (lines : Lis
 -- one step from one to another
 pub stopped_step : (former : Former) (now : Progress) (old new : View) (b c : Backup) (done : Bool) (steps : Steps (file_of b.number) old new done) (t : IsTrue old.tells) (lines more : List BackupLine) → b.stage ≡ Open → c.stage ≡ Open → c.number ≡ b.number
     → IsAt former old b lines → IsAt former new c more → Facts (Pending old) now → LeavesOnly old new (IsStopped now b.number)
-stopped_step former now old new b c done steps t lines more open still same at is facts =
-    leaves_step b.number old new done steps t (IsStopped now b.number) (stopped_left former now old b lines open at facts)
+stopped_step former now old new b c done steps t lines more opens still same at is facts =
+    leaves_step b.number old new done steps t (IsStopped now b.number) (stopped_left former now old b lines opens at facts)
     (λ other left. subst (λ (n : ℕ). IsStopped now n other) same (stopped_left former now new c more still is (facts_step b.number old new done steps t now facts) other left))
 
-module _ (former : Former) (image : Image) (now : Progress) (left : Dbkey → Bool) (v : View) (b : Backup) (open : b.stage ≡ Open) (was : Copying former image now left v b) where
+-- a line was put, or the call failed
+pub stopped_put : {T E : Type 0} (former : Former) (now : Progress) (old new : View) (b c : Backup) (line : BackupLine) (result : Result T E) → Steps (file_of b.number) old new (is_ok result) → IsTrue old.tells → (lines : List BackupLine) → b.stage ≡ Open
+    → OnOk result (c ≡ record b { lines = b.lines + 1 }) → IsAt former old b lines → OnOk result (IsAt former new c (lines ++ line ∷ [])) → OnErr result (IsAt former new b lines) → Facts (Pending old) now → LeavesOnly old new (IsStopped now b.number)
+stopped_put former now old new b c line (Ok x) steps t lines opens same at done failed facts = stopped_step former now old new b c true steps t lines (lines ++ line ∷ []) opens (ap (λ (y : Backup). y.stage) same ∙ opens) (ap (λ (y : Backup). y.number) same) at done facts
+stopped_put former now old new b c line (Err e) steps t lines opens same at done failed facts = stopped_step former now old new b b false steps t lines lines opens opens refl at failed facts
+
+module _ (former : Former) (image : Image) (now : Progress) (left : Dbkey → Bool) (v : View) (b : Backup) (opens : b.stage ≡ Open) (was : Copying former image now left v b) where
   pub stopped_still : LeavesOnly v v (IsStopped now b.number)
-  stopped_still = started v (IsStopped now b.number) (stopped_left former now v b was.lines open was.at was.facts)
+  stopped_still = started v (IsStopped now b.number) (stopped_left former now v b was.lines opens was.at was.facts)
 
   -- a run that only reads
   module _ (new : View) (reads : OnlyReads v new) (t : IsTrue v.tells) where
     pub read_on : Copying former image now left new b
     read_on = record {
       lines = was.lines;
-      at = at_open former new b was.lines open was.at.count (keeps_open (file_of b.number) was.lines v new (reads.keeps t) (is_open former v b was.lines open was.at));
+      at = at_open former new b was.lines opens was.at.count (keeps_open (file_of b.number) was.lines v new (reads.keeps t) (is_open former v b was.lines opens was.at));
       holds = was.holds;
       on_pages = was.on_pages;
       facts = facts_read v new reads t now was.facts;
@@ -103,4 +110,4 @@ module _ (former : Former) (image : Image) (now : Progress) (left : Dbkey → Bo
     }
 
     pub stopped_read : LeavesOnly v new (IsStopped now b.number)
-    stopped_read = weaker v new (IsPending v) (IsStopped now b.number) (stopped_at former now v b was.lines open was.at was.facts) (reads.leaves t)
+    stopped_read = weaker v new (IsPending v) (IsStopped now b.number) (stopped_at former now v b was.lines opens was.at was.facts) (reads.leaves t)

@@ -29,7 +29,7 @@ use rdb_types::{Dbkey, Line, LineState};
 
 // Writes a line into the backup.
 fn put_line<D: Disk>(disk: &mut D, line: BackupLine, backup: &mut Backup) -> Result<(), Fault>
-    requires open { backup.old.stage ≡ Open }
+    requires is_open { backup.old.stage ≡ Open }
     requires last_group { backup.old.last_group ≤ 2 ^ 62 }
     requires room { backup.old.lines + 1 < 2 ^ 32 }
     requires allowed { IsAllowed line }
@@ -45,7 +45,7 @@ fn put_line<D: Disk>(disk: &mut D, line: BackupLine, backup: &mut Backup) -> Res
 {
     match backup.step(disk, Some(line)) {
         BackupTurn::Failed => Err(Fault::Failed),
-        BackupTurn::More | BackupTurn::Ended => Ok(()),
+        _ => Ok(()),
     }
 }
 
@@ -57,7 +57,7 @@ fn copy_line<D: Disk>(
     stood: Line,
     backup: &mut Backup,
 ) -> Result<(), Fault>
-    requires open { backup.old.stage ≡ Open }
+    requires is_open { backup.old.stage ≡ Open }
     requires last_group { backup.old.last_group ≤ 2 ^ 62 }
     requires room { backup.old.lines + 1 < 2 ^ 32 }
     requires class { IsClass head.class }
@@ -93,7 +93,7 @@ fn copy_line<D: Disk>(
             },
             backup,
         ),
-        LineState::Never | LineState::Erased => Ok(()),
+        _ => Ok(()),
     }
 }
 
@@ -108,7 +108,7 @@ pub(crate) fn copy_lines<D: Disk>(
     requires size { length page.now ≡ 1024 }
     requires stands { StandsAs page.now file head.page head }
     requires data { IsDataPage head.page }
-    requires open { backup.old.stage ≡ Open }
+    requires is_open { backup.old.stage ≡ Open }
     requires last_group { backup.old.last_group ≤ 2 ^ 62 }
     requires room { backup.old.lines + 4 < 2 ^ 32 }
     ensures grown { OnOk result (IsGrown backup.old backup.new 4) }

@@ -37,7 +37,7 @@ fn copy_owned<D: Disk>(
     requires size { length bytes.now ≡ 1024 }
     requires stands { StandsAs bytes.now file head.page head }
     requires data { IsDataPage head.page }
-    requires open { backup.old.stage ≡ Open }
+    requires is_open { backup.old.stage ≡ Open }
     requires last_group { backup.old.last_group ≤ 2 ^ 62 }
     requires room { backup.old.lines + 4 < 2 ^ 32 }
     ensures grown { OnOk result (IsGrown backup.old backup.new 4) }
@@ -69,7 +69,7 @@ fn copy_owned<D: Disk>(
 // Copies the present lines of a page.
 fn copy_page<D: Disk>(disk: &mut D, page: AreaPage, backup: &mut Backup) -> Result<(), Fault>
     requires placed { IsPlaced page }
-    requires open { backup.old.stage ≡ Open }
+    requires is_open { backup.old.stage ≡ Open }
     requires last_group { backup.old.last_group ≤ 2 ^ 62 }
     requires room { backup.old.lines + 4 < 2 ^ 32 }
     ensures grown { OnOk result (IsGrown backup.old backup.new 4) }
@@ -107,7 +107,7 @@ fn copy_page<D: Disk>(disk: &mut D, page: AreaPage, backup: &mut Backup) -> Resu
 /// Copies the present lines of these pages to an open backup, in the order of their Dbkeys. It makes a read for each page, and a write for each line.
 pub fn copy_all<D: Disk>(disk: &mut D, pages: UsedPages, backup: &mut Backup) -> Result<(), Fault>
     requires placed { ArePlaced pages }
-    requires open { backup.old.stage ≡ Open }
+    requires is_open { backup.old.stage ≡ Open }
     requires last_group { backup.old.last_group ≤ 2 ^ 62 }
     requires room { backup.old.lines + 4 * btree_set_len pages < 2 ^ 32 }
     ensures grown { OnOk result (IsGrown backup.old backup.new (4 * btree_set_len pages)) }

@@ -45,9 +45,9 @@ module _ (former : Former) (number : ℕ) (v : View) (image : Image) (left : Lef
   early_at head lines Begun is at = old_or_none at.0
   early_at head lines Blanked is at = old_or_none at.0.slots
   early_at head lines Open is at = inr (no_head number (image (file_of number) 0) (at.blank (image (file_of number) 0) (each_slot v image left (file_of number) 0)))
-  early_at head lines Closed is at = let no : ⊥ = cc in absurd no
-  early_at head lines Headed is at = let no : ⊥ = cc in absurd no
-  early_at head lines Ended is at = let no : ⊥ = cc in absurd no
+  early_at head lines Closed is at = let nay : ⊥ = cc in absurd nay
+  early_at head lines Headed is at = let nay : ⊥ = cc in absurd nay
+  early_at head lines Ended is at = let nay : ⊥ = cc in absurd nay
 
 pub beginning_now : (now : Progress) (former : Former) (v : View) (b : Backup) (lines : List BackupLine) → is_early b.stage ≡ true → IsAt former v b lines → Facts (Pending v) now → (image : Image) → LeftNow v image → IsBeginning now former b.number image
 beginning_now now former v b lines early at facts image left = record {
@@ -62,7 +62,7 @@ abbrev nothing_before : Former
 nothing_before slot bytes = false
 
 no_former : (slots : ℕ → List ℕ) → WasFormer nothing_before slots → ⊥
-no_former slots was = let first : IsTrue false = was 0 in let no : ⊥ = cc in no
+no_former slots was = let first : IsTrue false = was 0 in let nay : ⊥ = cc in nay
 
 -- what stands at a later stage doesn't speak of what stood before
 late_at : (former : Former) (v : View) (number : ℕ) (head : BackupHead) (lines : List BackupLine) (stage : Stage) → (stage ≡ Open) ⊎ (is_early stage ≡ false) → StandsAt former v (file_of number) head lines stage → StandsAt nothing_before v (file_of number) head lines stage
@@ -70,8 +70,8 @@ late_at former v number head lines Open either at = at
 late_at former v number head lines Closed either at = at
 late_at former v number head lines Headed either at = at
 late_at former v number head lines Ended either at = at
-late_at former v number head lines Begun either at = absurd (⊎_elim (λ bad. let no : ⊥ = cc in no) (λ bad. let no : ⊥ = cc in no) either)
-late_at former v number head lines Blanked either at = absurd (⊎_elim (λ bad. let no : ⊥ = cc in no) (λ bad. let no : ⊥ = cc in no) either)
+late_at former v number head lines Begun either at = absurd (⊎_elim (λ bad. let nay : ⊥ = cc in nay) (λ bad. let nay : ⊥ = cc in nay) either)
+late_at former v number head lines Blanked either at = absurd (⊎_elim (λ bad. let nay : ⊥ = cc in nay) (λ bad. let nay : ⊥ = cc in nay) either)
 
 pub ending_now : (now : Progress) (former : Former) (v : View) (b : Backup) (lines : List BackupLine) → (b.stage ≡ Open) ⊎ (is_early b.stage ≡ false) → IsAt former v b lines → Facts (Pending v) now → (image : Image) → LeftNow v image → IsEnding now (head_of b lines) lines b.number image
 ending_now now former v b lines late at facts image left = record {

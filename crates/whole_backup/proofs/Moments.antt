@@ -28,8 +28,8 @@ module _ (classes : ℕ → ℕ) (lines : Lines) (journal : Journal) (start : St
 
   pub kept_image : (image : Image) → StandsAs now image → Kept classes lines journal image
   kept_image image (as_committed kept) = kept
-  kept_image image (with_former former is kept) = let no : ⊥ = cc in absurd no
-  kept_image image (with_flight flight is kept) = let no : ⊥ = cc in absurd no
+  kept_image image (with_former former is kept) = let nay : ⊥ = cc in absurd nay
+  kept_image image (with_flight flight is kept) = let nay : ⊥ = cc in absurd nay
 
   has_state : (image : Image) → StandsAs now image → HasState (record { lines = lines; classes = classes }) image
   has_state image is = record { journal = journal; kept = kept_image image is }

@@ -47,11 +47,11 @@ module _ (v : View) (now : Progress) (left : LeftNow v v.content) (facts : Facts
         let there : has pages (record { area = page.head.owner; page = key.page }) = used (storage_area key.area) key.page page.head (is_area_file key.area) data_page page.stands in
         let area : page.head.owner ≡ key.area = sym (owner_is its_bytes page.head page.stands.head) ∙ says.owned in
         let same : has pages (page_of key) = subst (λ (a : ℕ). has pages (record { area = a; page = key.page })) area there in
-        let bad : true ≡ false = sym same ∙ off in let no : ⊥ = cc in no
+        let bad : true ≡ false = sym same ∙ off in let nay : ⊥ = cc in nay
 
     no_place : has_place key its_bytes ≡ true → ⊥
-    no_place yes =
-        let says = place_says key its_bytes yes in
+    no_place so =
+        let says = place_says key its_bytes so in
         let is_page : IsPage key.page = record { first = says.first; last = says.last } in
         ⊎_elim
         (λ space. no_owner says (space_owner its_bytes key.page (facts.pages.space (storage_area key.area) key.page its_bytes (is_area_file key.area) is_page space (pends v left (file_of key) (slot_of key)))))
@@ -60,8 +60,8 @@ module _ (v : View) (now : Progress) (left : LeftNow v v.content) (facts : Facts
         (nat_cases ((key.page - 1) % 200) 0)
 
     isnt : (b : Bool) → (b ≡ true → ⊥) → b ≡ false
-    isnt true no = absurd (no refl)
-    isnt false no = refl
+    isnt true nay = absurd (nay refl)
+    isnt false nay = refl
 
     pub none_there : shown (line_at v.content key) ≡ None
     none_there = ap shown (line_none key its_bytes (isnt (has_place key its_bytes) no_place))
@@ -71,8 +71,8 @@ module _ (v : View) (now : Progress) (left : LeftNow v v.content) (facts : Facts
   copying_begins former b pages w used at kept same = record {
     lines = [];
     at = at;
-    holds = passed v.content (λ key. true) (on_pages (contains page_order pages)) [] (nothing_found v.content) (λ q yes. refl) (λ q yes off. none_there pages used q off);
-    on_pages = λ i line got. let no : ⊥ = cc in absurd no;
+    holds = passed v.content (λ key. true) (on_pages (contains page_order pages)) [] (nothing_found v.content) (λ q so. refl) (λ q so off. none_there pages used q off);
+    on_pages = λ i line got. let nay : ⊥ = cc in absurd nay;
     facts = kept;
     same = same;
     whole = pages_whole;

@@ -35,7 +35,7 @@ fn advance<D: Disk>(disk: &mut D, backup: &mut Backup) -> Result<(), Fault>
 {
     match backup.step(disk, None) {
         BackupTurn::Failed => Err(Fault::Failed),
-        BackupTurn::More | BackupTurn::Ended => Ok(()),
+        _ => Ok(()),
     }
 }
 
@@ -47,7 +47,7 @@ pub(crate) fn begin_backup<D: Disk>(
     last_group: u64,
 ) -> Result<Backup, Fault>
     requires { last_group ≤ 2 ^ 62 }
-    ensures open { IfOk result (λ backup. backup
+    ensures opened { IfOk result (λ backup. backup
         ≡ record { number = number; limits = limits; last_group = last_group; lines = 0; stage = Open }) }
     ensures told { (D.view disk.new).tells ≡ (D.view disk.old).tells }
     ensures no_fewer { (D.view disk.old).faults ≤ (D.view disk.new).faults }
@@ -74,7 +74,7 @@ pub(crate) fn begin_backup<D: Disk>(
 
 /// Ends an open backup: behind it its header stands.
 pub(crate) fn end_backup<D: Disk>(disk: &mut D, backup: &mut Backup) -> Result<(), Fault>
-    requires open { backup.old.stage ≡ Open }
+    requires is_open { backup.old.stage ≡ Open }
     requires last_group { backup.old.last_group ≤ 2 ^ 62 }
     requires room { backup.old.lines + 1 < 2 ^ 32 }
     ensures told { (D.view disk.new).tells ≡ (D.view disk.old).tells }

@@ -8,8 +8,8 @@ use Rattle.copied_lines.specs.Holding.{on_pages}
 use Rattle.copied_lines.specs.Copying.{Copying, IsStopped}
 use Rattle.copied_lines.proofs.pages.copy_all.Given as goal
 
-abbrev pub invariant-loop-left : goal.invariant-loop-left
-invariant-loop-left g l =
+abbrev pub invariant-loop-page : goal.invariant-loop-page
+invariant-loop-page g l =
     let before = g.D.Disk.view l.fn.disk in let here = g.D.Disk.view l.disk in
     record {
       told : here.tells ≡ before.tells;
@@ -23,5 +23,5 @@ invariant-loop-left g l =
           → LeavesOnly before here (IsStopped now l.fn.backup.number);
     }
 
-abbrev pub decreases-loop-left : goal.decreases-loop-left
-decreases-loop-left g l = btree_set_len l.left
+abbrev pub decreases-loop-page : goal.decreases-loop-page
+decreases-loop-page g l = btree_set_len l.left
