@@ -1,6 +1,6 @@
 -- The least page is taken out of those that are left.
-use Rattle.std.proofs.Common.{◌≡◌, ℕ, ◌==◌, ◌&&◌, ◌||◌, nat_le, Bool, true, false, IsTrue, ◌⊎◌, inl, inr, ⊎_elim, refl, sym, ap, subst, ◌∙◌}
-use Rattle.std.proofs.lemmas.Bool.{and_parts, and_from, eqb-true, eq-eqb}
+use Rattle.std.proofs.Common.{◌≡◌, ℕ, ◌==◌, ◌&&◌, ◌||◌, nat_le, Bool, true, false, IsTrue, ◌⊎◌, inl, inr, ⊎_elim, refl, sym, ap, subst, ◌∙◌, arith}
+use Rattle.std.proofs.lemmas.Bool.{and_parts, and_from, eqb-true, eq-eqb, le-leb}
 use Rattle.std.specs.declared.cmp.Ordering.{Ordering}
 use Rattle.std.specs.declared.cmp.Ordering.TheVariants.{Less, Equal, Greater}
 use Rattle.std.specs.Ordering.{is_eq, is_gt}
@@ -51,7 +51,7 @@ module _ (old new : BTreeSet AreaPage) (page : AreaPage) (updates : Updates page
     none_passed q so nay =
         let parts = neither (contains page_order new (page_of q)) (is_on page q && nat_le 0 q.line) nay in
         let same : page_of q ≡ page = was_it old new page updates (page_of q) parts.0 so in
-        let bad : true ≡ false = sym (and_from (is_on page q) (nat_le 0 q.line) (on_it q same) refl) ∙ parts.1 in let never : ⊥ = cc in never
+        let bad : true ≡ false = sym (and_from (is_on page q) (nat_le 0 q.line) (on_it q same) (le-leb 0 q.line (omega arith))) ∙ parts.1 in let never : ⊥ = cc in never
 
     -- all of it is left
     pub popped : (former : Former) (image : Image) (now : Progress) (v : View) (b : Backup) → Copying former image now (on_pages (contains page_order old)) v b → Copying former image now (from_line (contains page_order new) page 0) v b

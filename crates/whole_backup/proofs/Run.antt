@@ -3,6 +3,7 @@ use Rattle.std.proofs.Common.{◌≡◌, ℕ, ◌+◌, false, IsTrue, List, [], 
 use Rattle.std.specs.BTreeSet.{BTreeSet, contains}
 use Rattle.rdb_outside.specs.Disk.{Image, View, LeftNow, Pending, LeavesOnly, OnlyReads}
 use Rattle.rdb_outside.specs.Moments.{weaker}
+use Rattle.backup_file.specs.declared.header.BackupHead.{BackupHead}
 use Rattle.backup_file.specs.declared.line.BackupLine.{BackupLine}
 use Rattle.backup_file.specs.Whole.{IsWhole, lines_in}
 use Rattle.backup_making.specs.declared.making.Backup.{Backup}
@@ -80,3 +81,35 @@ module _ (classes : ℕ → ℕ) (lines : Lines) (journal : Journal) (start : St
 
   pub is_whole : b.limits ≡ start.root.limits → IsWhole (head_of b copying.lines) copying.lines
   is_whole same = copies_whole old (beginning_with classes lines journal start) content begins.facts former w b copying same
+
+-- the end
+module _ (classes : ℕ → ℕ) (lines : Lines) (journal : Journal) (start : StoreStart) (old : View) (t : IsTrue old.tells) (content : LeftNow old old.content) (begins : IsStart classes lines journal old start) (former : Former) (number last : ℕ) (next : last + 1 ≡ start.next.number) (w : View) (b : Backup) (is : b ≡ record (fresh number start last) { lines = b.lines })
+  (copying : Copying former old.content (beginning_with classes lines journal start) (λ key. false) w b) where
+  abbrev its_head : BackupHead
+  its_head = head_of b copying.lines
+
+  its_number : b.number ≡ number
+  its_number = ap (λ (x : Backup). x.number) is
+
+  its_group : b.last_group ≡ last
+  its_group = ap (λ (x : Backup). x.last_group) is
+
+  its_limits : b.limits ≡ start.root.limits
+  its_limits = ap (λ (x : Backup). x.limits) is
+
+  comes_next : last + 1 ≡ next_number journal
+  comes_next = next ∙ begins.next.numbered
+
+  whole : IsWhole its_head copying.lines
+  whole = is_whole classes lines journal start old t content begins former w b copying its_limits
+
+  same : lines_in copying.lines ≡ lines
+  same = its_lines classes lines journal start old t content begins former w b copying
+
+  pub ending_leaves : (new : View) → LeavesOnly w new (IsEnding (beginning_with classes lines journal start) its_head copying.lines b.number) → LeavesOnly w new (WithinBackup classes lines former number)
+  ending_leaves new ending = weaker w new (IsEnding (beginning_with classes lines journal start) its_head copying.lines b.number) (WithinBackup classes lines former number)
+      (λ image at. subst (λ (n : ℕ). WithinBackup classes lines former n image) its_number (ending_within classes lines journal start old begins.facts last comes_next b.number its_head copying.lines its_group whole same former image at)) ending
+
+  pub ended_run : (new : View) → Facts (Pending new) (beginning_with classes lines journal start) → IsEnded new (file_of b.number) its_head copying.lines → (image : Image) → LeftNow new image → HasBackup classes lines number image
+  ended_run new facts ended image left = subst (λ (n : ℕ). HasBackup classes lines n image) its_number
+      (ended_backup classes lines journal start old begins.facts last comes_next b.number its_head copying.lines its_group whole same new facts refl ended image left)
