@@ -1,5 +1,6 @@
 pub mod Unused
 pub mod Early
+pub mod Advances
 pub mod Started
 pub mod Copies
 pub mod Moments

@@ -84,7 +84,7 @@ module _ (classes : ℕ → ℕ) (lines : Lines) (journal : Journal) (start : St
 
 -- the end
 module _ (classes : ℕ → ℕ) (lines : Lines) (journal : Journal) (start : StoreStart) (old : View) (t : IsTrue old.tells) (content : LeftNow old old.content) (begins : IsStart classes lines journal old start) (former : Former) (number last : ℕ) (next : last + 1 ≡ start.next.number) (w : View) (b : Backup) (is : b ≡ record (fresh number start last) { lines = b.lines })
-  (copying : Copying former old.content (beginning_with classes lines journal start) (λ key. false) w b) where
+    (copying : Copying former old.content (beginning_with classes lines journal start) (λ key. false) w b) where
   abbrev its_head : BackupHead
   its_head = head_of b copying.lines
 
