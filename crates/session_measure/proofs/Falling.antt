@@ -21,9 +21,24 @@ use Rattle.session_states.specs.declared.stage.Member.{Member}
 use Rattle.session_states.specs.Locks.{lock_of, lock_of_write}
 use Rattle.session_states.specs.Turns.{got}
 use Rattle.session_states.specs.States.{session, writer}
-use Rattle.session_measure.specs.Weights.{Beside, life_left, items_left, unopened, Falls, sum_of}
+use Rattle.session_measure.specs.Weights.{Beside, life_left, items_left, rank, round_left, places_left, unopened, Falls, sum_of}
 
 -- ---- where the first number stands that falls
+
+pub by-life : (k l s : ℕ) (c d : Beside) (m n : Member) → life_left n.life < life_left m.life → Falls k l c d s m n
+by-life k l s c d m n h = inl (h, refl)
+
+pub by-rank : (k l s : ℕ) (c d : Beside) (m n : Member) → life_left n.life ≡ life_left m.life → items_left n ≡ items_left m → rank n.phase < rank m.phase → Falls k l c d s m n
+by-rank k l s c d m n e f h = inr (e, inr (f, inl (h, refl)))
+
+pub by-rounds : (k l s : ℕ) (c d : Beside) (m n : Member) → life_left n.life ≡ life_left m.life → items_left n ≡ items_left m → rank n.phase ≡ rank m.phase → l < k → Falls k l c d s m n
+by-rounds k l s c d m n e f g h = inr (e, inr (f, inr (g, inl (h, refl))))
+
+pub by-round : (k l s : ℕ) (c d : Beside) (m n : Member) → life_left n.life ≡ life_left m.life → items_left n ≡ items_left m → rank n.phase ≡ rank m.phase → l ≡ k → round_left n.phase < round_left m.phase → Falls k l c d s m n
+by-round k l s c d m n e f g r h = inr (e, inr (f, inr (g, inr (r, inl (h, refl)))))
+
+pub by-place : (k l s : ℕ) (c d : Beside) (m n : Member) → life_left n.life ≡ life_left m.life → items_left n ≡ items_left m → rank n.phase ≡ rank m.phase → l ≡ k → round_left n.phase ≡ round_left m.phase → places_left n.phase < places_left m.phase → Falls k l c d s m n
+by-place k l s c d m n e f g r j h = inr (e, inr (f, inr (g, inr (r, inr (j, inl (h, refl))))))
 
 pub by-items : (k l s : ℕ) (c d : Beside) (m n : Member) → life_left n.life ≡ life_left m.life → items_left n < items_left m → Falls k l c d s m n
 by-items k l s c d m n e h = inr (e, inl (h, refl))

@@ -1,1 +1,5 @@
 pub mod Falling
+pub mod Nearer
+pub mod Wanted
+pub mod Queued
+pub mod Sums

@@ -8,5 +8,5 @@ mod work;
 
 pub use ends::transactions_go_on;
 pub use readers::readers_go_on;
-pub use sums::all_fall_with_one;
+pub use sums::{all_come_nearer, all_fall_with_one};
 pub use work::{locks_come_nearer, statements_go_on};

@@ -10,13 +10,13 @@ pub returns-clause-steps : goal.returns-clause-steps
 returns-clause-steps c = λ k s c d m same fewer. by-steps k s c d m same fewer
 
 pub returns-clause-begins : goal.returns-clause-begins
-returns-clause-begins c = λ k s c d item left total waits. inr (refl, inr (taken-up item left, inl (omega arith, refl)))
+returns-clause-begins c = λ k l s c d item left total waits. inr (refl, inr (taken-up item left, inl (omega arith, refl)))
 
 pub returns-clause-opens : goal.returns-clause-opens
 returns-clause-opens c = λ k s c d item left total standing known spoken waits. inr (refl, inr (refl, inl (omega arith, refl)))
 
 pub returns-clause-takes_commit : goal.returns-clause-takes_commit
-returns-clause-takes_commit c = λ k s c item left total standing known spoken waits. inr (refl, inr (taken-up item left, inl (omega arith, refl)))
+returns-clause-takes_commit c = λ k l s c item left total standing known spoken waits. inr (refl, inr (taken-up item left, inl (omega arith, refl)))
 
 pub returns-clause-prepares : goal.returns-clause-prepares
 returns-clause-prepares c = λ k s c d left total standing known spoken waits. inr (refl, inr (refl, inl (omega arith, refl)))
@@ -28,10 +28,10 @@ pub returns-clause-commits : goal.returns-clause-commits
 returns-clause-commits c = λ k s c d left total standing known spoken waits. inr (refl, inr (refl, inl (omega arith, refl)))
 
 pub returns-clause-undoes : goal.returns-clause-undoes
-returns-clause-undoes c = λ k s c d item left total standing known spoken waits. inr (refl, inr (taken-up item left, inl (omega arith, refl)))
+returns-clause-undoes c = λ k l s c d item left total standing known spoken waits. inr (refl, inr (taken-up item left, inl (omega arith, refl)))
 
 pub returns-clause-leaves : goal.returns-clause-leaves
-returns-clause-leaves c = λ k s c d total standing known spoken waits. inr (refl, inr (refl, inl (omega arith, refl)))
+returns-clause-leaves c = λ k l s c d total standing known spoken waits. inr (refl, inr (refl, inl (omega arith, refl)))
 
 pub returns-clause-over : goal.returns-clause-over
 returns-clause-over c = λ k s c d left total standing known spoken waits. inr (refl, inr (refl, inl (omega arith, refl)))

@@ -4,10 +4,10 @@ use Rattle.session_measure.proofs.Falling.{taken-up}
 use Rattle.session_measure.proofs.readers.readers_go_on.Goals as goal
 
 pub returns-clause-begins : goal.returns-clause-begins
-returns-clause-begins c = λ k s c d item left total. inr (refl, inr (taken-up item left, inl (omega arith, refl)))
+returns-clause-begins c = λ k l s c d item left total. inr (refl, inr (taken-up item left, inl (omega arith, refl)))
 
 pub returns-clause-takes : goal.returns-clause-takes
-returns-clause-takes c = λ k s c item left total standing known spoken. inr (refl, inr (taken-up item left, inl (omega arith, refl)))
+returns-clause-takes c = λ k l s c item left total standing known spoken. inr (refl, inr (taken-up item left, inl (omega arith, refl)))
 
 pub returns-clause-hands_out : goal.returns-clause-hands_out
 returns-clause-hands_out c = λ k l s c item left total standing known spoken less. inr (refl, inr (refl, inr (refl, inl (less, refl))))
@@ -19,7 +19,7 @@ pub returns-clause-read : goal.returns-clause-read
 returns-clause-read c = λ k s c d item left total standing known new spoken n. inr (refl, inr (refl, inr (refl, inr (refl, inl (omega arith, refl)))))
 
 pub returns-clause-leaves : goal.returns-clause-leaves
-returns-clause-leaves c = λ k s c d total standing known spoken. inr (refl, inr (refl, inl (omega arith, refl)))
+returns-clause-leaves c = λ k l s c d total standing known spoken. inr (refl, inr (refl, inl (omega arith, refl)))
 
 pub returns-clause-more : goal.returns-clause-more
 returns-clause-more c = λ k s c d left total standing known new spoken stage same fewer. inr (refl, inr (refl, inr (refl, inr (refl, inr (refl, inr (refl, inr (ap unopened same, inl (fewer, refl))))))))

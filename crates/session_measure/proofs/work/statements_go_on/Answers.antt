@@ -4,7 +4,7 @@ use Rattle.session_measure.proofs.Falling.{taken-up, next-need, housed}
 use Rattle.session_measure.proofs.work.statements_go_on.Goals as goal
 
 pub returns-clause-takes : goal.returns-clause-takes
-returns-clause-takes c = λ k s c item left total standing known spoken waits. inr (refl, inr (taken-up item left, inl (omega arith, refl)))
+returns-clause-takes c = λ k l s c item left total standing known spoken waits. inr (refl, inr (taken-up item left, inl (omega arith, refl)))
 
 pub returns-clause-hands_out : goal.returns-clause-hands_out
 returns-clause-hands_out c = λ k l s c item left total standing known spoken waits less. inr (refl, inr (refl, inr (refl, inl (less, refl))))

@@ -1,0 +1,71 @@
+-- When a step brings a session nearer to its end.
+use Rattle.std.specs.Prelude.{◌≡◌, ◌<◌, ◌⊎◌, ℕ, Bool, true, false, List}
+use Rattle.lock_tree_laws.specs.Progress.{Falls as LocksFall, NeverRises}
+use Rattle.session_states.specs.declared.stage.Work.TheVariants.{Out}
+use Rattle.session_states.specs.declared.stage.Stage.{Stage}
+use Rattle.session_states.specs.declared.stage.Stage.TheVariants.{Between, Working}
+use Rattle.session_states.specs.declared.stage.ReaderWork.TheVariants as work
+use Rattle.session_states.specs.declared.stage.ReaderStage.{ReaderStage}
+use Rattle.session_states.specs.declared.stage.ReaderStage.TheVariants as look
+use Rattle.session_states.specs.declared.stage.Phase.{Phase}
+use Rattle.session_states.specs.declared.stage.Phase.TheVariants.{Outside, Writing, Reading}
+use Rattle.session_states.specs.declared.stage.Member.{Member}
+use Rattle.session_measure.specs.Weights.{Beside, weight, Falls}
+
+-- ---- rounds
+
+-- no item is under way, and the next one may be taken up
+abbrev pub is_between : Stage → Bool
+is_between Between = true
+is_between stage = false
+
+abbrev pub is_reader_between : ReaderStage → Bool
+is_reader_between look.Between = true
+is_reader_between (look.Working item work) = false
+
+abbrev pub takes_next : Phase → Bool
+takes_next Outside = true
+takes_next (Writing w) = is_between w.stage
+takes_next (Reading r) = is_reader_between r.stage
+takes_next x = false
+
+-- the job of the statement is handed out
+abbrev pub is_out : Stage → Bool
+is_out (Working item Out) = true
+is_out stage = false
+
+abbrev pub is_reader_out : ReaderStage → Bool
+is_reader_out (look.Working item work.Out) = true
+is_reader_out stage = false
+
+abbrev pub has_out : Phase → Bool
+has_out (Writing w) = is_out w.stage
+has_out (Reading r) = is_reader_out r.stage
+has_out x = false
+
+abbrev pub RoundsBy : (takes out : Bool) → ℕ → ℕ → Type 0
+RoundsBy true out k l = Unit {0}
+RoundsBy false true k l = l < k
+RoundsBy false false k l = l ≡ k
+
+-- Of so many rounds before a step from x to y, so many are left behind it: one fewer at least where the job is handed out, else as many. Where the next item is taken up it is given any number.
+abbrev pub AreRounds : Phase → Phase → ℕ → ℕ → Type 0
+AreRounds x y = RoundsBy (takes_next x) (has_out y)
+
+-- ---- nearer
+
+-- The numbers of session s fall, or they stay and the measure of the tree of locks falls.
+abbrev pub Nears : (k l : ℕ) → Beside → Beside → ℕ → (m n : Member) → Type 0
+Nears k l c d s m n = Falls k l c d s m n ⊎ ((weight l d s n ≡ weight k c s m) × LocksFall s c.locks d.locks)
+
+-- The numbers of session s fall, or they stay and the measure of the tree of locks doesn't rise.
+abbrev pub Keeps : (k l : ℕ) → Beside → Beside → ℕ → (m n : Member) → Type 0
+Keeps k l c d s m n = Falls k l c d s m n ⊎ ((weight l d s n ≡ weight k c s m) × NeverRises s c.locks d.locks)
+
+-- It comes nearer, whatever rounds it has.
+pub record ComesNearer (c d : Beside) (s : ℕ) (m n : Member) : Type 0 where
+  pub nears : (k l : ℕ) → AreRounds m.phase n.phase k l → Nears k l c d s m n
+
+-- It comes no farther away.
+pub record StaysNear (c d : Beside) (s : ℕ) (m n : Member) : Type 0 where
+  pub keeps : (k l : ℕ) → AreRounds m.phase n.phase k l → Keeps k l c d s m n
