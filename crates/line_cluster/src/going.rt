@@ -2,7 +2,7 @@
 ghost use Rattle.std.specs.Prelude.{◌≡◌, [], false};
 ghost use Rattle.line_store.specs.Seats.{IsMember};
 ghost use Rattle.session_stands.specs.Seated.{IsSeated};
-ghost use Rattle.stage_steps.specs.Happenings.{events_of, handed_back};
+ghost use Rattle.stage_steps.specs.Happenings.{handed_back};
 ghost use Rattle.stage_steps.specs.Scenes.{scene};
 ghost use Rattle.line_cluster.specs.Going.{GoesOn, IsAmong, is_done};
 
@@ -26,7 +26,7 @@ pub(crate) fn go_on<S: Statements, L: LineStore>(
     requires among { IsAmong (L.sight common.old.store).stand common.old.tree s.number }
     requires going { is_done left.old phase ≡ false }
     ensures { handed_back result.happened ≡ [] → GoesOn S.stands s.number (scene common.old.word (L.sight common.old.store) common.old.tree) left.old phase
-        (scene common.new.word (L.sight common.new.store) common.new.tree) left.new result.phase (events_of s.number result.happened) }
+        (scene common.new.word (L.sight common.new.store) common.new.tree) left.new result.phase result.happened }
 {
     match phase {
         Phase::Outside => start_next::<S, L>(common, s, left),
@@ -47,7 +47,7 @@ fn start_next<S: Statements, L: LineStore>(
     requires seated { IsSeated (L.sight common.old.store).stand common.old.tree s.number Phase.Outside }
     requires going { is_done left.old Phase.Outside ≡ false }
     ensures { handed_back result.happened ≡ [] → GoesOn S.stands s.number (scene common.old.word (L.sight common.old.store) common.old.tree) left.old Phase.Outside
-        (scene common.new.word (L.sight common.new.store) common.new.tree) left.new result.phase (events_of s.number result.happened) }
+        (scene common.new.word (L.sight common.new.store) common.new.tree) left.new result.phase result.happened }
 {
     let Some(item) = left.pop() else {
         unreachable!();

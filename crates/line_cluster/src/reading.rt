@@ -3,7 +3,6 @@ ghost use Rattle.std.specs.Prelude.{◌≡◌};
 ghost use Rattle.line_store.specs.Seats.{IsMember};
 ghost use Rattle.session_states.specs.declared.stage.Phase.TheVariants.{Reading};
 ghost use Rattle.session_stands.specs.Seated.{IsSeated};
-ghost use Rattle.stage_steps.specs.Happenings.{events_of};
 ghost use Rattle.stage_steps.specs.Scenes.{ComesIn, scene};
 ghost use Rattle.stage_steps.specs.Turns.{reads_at};
 ghost use Rattle.line_cluster.specs.Going.{GoesOn};
@@ -28,7 +27,7 @@ pub(crate) fn go_on_reading<S: Statements, L: LineStore>(
     requires member { IsMember s.number }
     requires seated { IsSeated (L.sight common.old.store).stand common.old.tree s.number (Reading reader) }
     ensures { GoesOn S.stands s.number (scene common.old.word (L.sight common.old.store) common.old.tree) left.old (Reading reader)
-        (scene common.new.word (L.sight common.new.store) common.new.tree) left.new result.phase (events_of s.number result.happened) }
+        (scene common.new.word (L.sight common.new.store) common.new.tree) left.new result.phase result.happened }
 {
     let Reader {
         standing,
@@ -57,7 +56,7 @@ fn read_next<S: Statements, L: LineStore>(
     requires member { IsMember s.number }
     requires seated { IsSeated (L.sight common.old.store).stand common.old.tree s.number (reads_at terms ReaderStage.Between) }
     ensures { GoesOn S.stands s.number (scene common.old.word (L.sight common.old.store) common.old.tree) left.old (reads_at terms ReaderStage.Between)
-        (scene common.new.word (L.sight common.new.store) common.new.tree) left.new result.phase (events_of s.number result.happened) }
+        (scene common.new.word (L.sight common.new.store) common.new.tree) left.new result.phase result.happened }
 {
     match left.pop() {
         Some(item) => take_up_reading::<S, L>(&mut common.store, s, terms, item),
@@ -76,7 +75,7 @@ fn look<S: Statements, L: LineStore>(
     requires member { IsMember s.number }
     requires seated { IsSeated (L.sight common.old.store).stand common.old.tree s.number (reads_at terms (ReaderStage.Working item work)) }
     ensures { ComesIn S.stands s.number (scene common.old.word (L.sight common.old.store) common.old.tree) (reads_at terms (ReaderStage.Working item work))
-        (scene common.new.word (L.sight common.new.store) common.new.tree) result.phase (events_of s.number result.happened) }
+        (scene common.new.word (L.sight common.new.store) common.new.tree) result.phase result.happened }
 {
     match work {
         ReaderWork::Due => quiet(hand_out_reading::<S>(terms, item)),

@@ -4,7 +4,6 @@ ghost use Rattle.line_store.specs.Seats.{IsMember};
 ghost use Rattle.session_states.specs.Locks.{lock_of};
 ghost use Rattle.session_stands.specs.Seated.{IsSeated};
 ghost use Rattle.stage_steps.specs.Asking.{IsOfStatement};
-ghost use Rattle.stage_steps.specs.Happenings.{events_of};
 ghost use Rattle.stage_steps.specs.Scenes.{ComesIn, scene};
 ghost use Rattle.stage_steps.specs.Turns.{at_stage};
 ghost use Rattle.line_cluster.specs.Going.{MayBeAsked};
@@ -30,7 +29,7 @@ pub(crate) fn go_on_working<S: Statements, L: LineStore>(
     requires member { IsMember s.number }
     requires seated { IsSeated (L.sight common.old.store).stand common.old.tree s.number (at_stage terms (Stage.Working item work)) }
     ensures { ComesIn S.stands s.number (scene common.old.word (L.sight common.old.store) common.old.tree) (at_stage terms (Stage.Working item work))
-        (scene common.new.word (L.sight common.new.store) common.new.tree) result.phase (events_of s.number result.happened) }
+        (scene common.new.word (L.sight common.new.store) common.new.tree) result.phase result.happened }
 {
     match work {
         Work::Opening => open::<S, L>(&mut common.store, s, terms, item),
@@ -62,7 +61,7 @@ pub(crate) fn want_lock<S: Statements, L: LineStore>(
     requires wants { lock_of stage ≡ None → ⊥ }
     requires asked { MayBeAsked (lock_of stage) }
     ensures { ComesIn S.stands s.number (scene common.old.word (L.sight common.old.store) common.old.tree) (at_stage terms stage)
-        (scene common.new.word (L.sight common.new.store) common.new.tree) result.phase (events_of s.number result.happened) }
+        (scene common.new.word (L.sight common.new.store) common.new.tree) result.phase result.happened }
 {
     let Some(need) = lock_of(&stage) else {
         unreachable!();

@@ -3,7 +3,6 @@ ghost use Rattle.std.specs.Prelude.{◌≡◌};
 ghost use Rattle.line_store.specs.Seats.{IsMember};
 ghost use Rattle.session_states.specs.declared.stage.Phase.TheVariants.{Writing};
 ghost use Rattle.session_stands.specs.Seated.{IsSeated};
-ghost use Rattle.stage_steps.specs.Happenings.{events_of};
 ghost use Rattle.stage_steps.specs.Scenes.{ComesIn, scene};
 ghost use Rattle.stage_steps.specs.Turns.{at_stage};
 ghost use Rattle.line_cluster.specs.Going.{GoesOn, IsAmong};
@@ -28,7 +27,7 @@ pub(crate) fn go_on_writing<S: Statements, L: LineStore>(
     requires seated { IsSeated (L.sight common.old.store).stand common.old.tree s.number (Writing writer) }
     requires among { IsAmong (L.sight common.old.store).stand common.old.tree s.number }
     ensures { GoesOn S.stands s.number (scene common.old.word (L.sight common.old.store) common.old.tree) left.old (Writing writer)
-        (scene common.new.word (L.sight common.new.store) common.new.tree) left.new result.phase (events_of s.number result.happened) }
+        (scene common.new.word (L.sight common.new.store) common.new.tree) left.new result.phase result.happened }
 {
     let Writer {
         standing,
@@ -61,7 +60,7 @@ fn go_on_stage<S: Statements, L: LineStore>(
     requires among { IsAmong (L.sight common.old.store).stand common.old.tree s.number }
     requires under { stage ≡ Stage.Between → ⊥ }
     ensures { ComesIn S.stands s.number (scene common.old.word (L.sight common.old.store) common.old.tree) (at_stage terms stage)
-        (scene common.new.word (L.sight common.new.store) common.new.tree) result.phase (events_of s.number result.happened) }
+        (scene common.new.word (L.sight common.new.store) common.new.tree) result.phase result.happened }
 {
     match stage {
         Stage::Between => unreachable!(),
@@ -89,7 +88,7 @@ fn take_next<S: Statements, L: LineStore>(
     requires member { IsMember s.number }
     requires seated { IsSeated (L.sight common.old.store).stand common.old.tree s.number (at_stage terms Stage.Between) }
     ensures { GoesOn S.stands s.number (scene common.old.word (L.sight common.old.store) common.old.tree) left.old (at_stage terms Stage.Between)
-        (scene common.new.word (L.sight common.new.store) common.new.tree) left.new result.phase (events_of s.number result.happened) }
+        (scene common.new.word (L.sight common.new.store) common.new.tree) left.new result.phase result.happened }
 {
     match left.pop() {
         Some(item) => quiet(take_up::<S, L>(&mut common.store, s, terms, item)),
@@ -109,7 +108,7 @@ fn go_on_saying<S: Statements, L: LineStore>(
     requires member { IsMember s.number }
     requires seated { IsSeated (L.sight common.old.store).stand common.old.tree s.number (at_stage terms (Stage.Saying item worked laying)) }
     ensures { ComesIn S.stands s.number (scene common.old.word (L.sight common.old.store) common.old.tree) (at_stage terms (Stage.Saying item worked laying))
-        (scene common.new.word (L.sight common.new.store) common.new.tree) result.phase (events_of s.number result.happened) }
+        (scene common.new.word (L.sight common.new.store) common.new.tree) result.phase result.happened }
 {
     match laying {
         Laying::Changing => change::<S, L>(&mut common.store, s, terms, item, worked),

@@ -1,13 +1,14 @@
 -- A session comes nearer, by the first of its numbers that changes.
-use Rattle.std.proofs.Common.{◌≡◌, ◌<◌, ◌+◌, ◌⊎◌, ℕ, ◌∷◌, [], List, Bool, true, false, length, refl, sym, ap, ◌∙◌, inl, inr, arith}
+use Rattle.std.proofs.Common.{◌≡◌, ◌<◌, ◌+◌, ◌⊎◌, ℕ, ◌∷◌, [], List, Bool, true, false, length, refl, sym, ap, subst, ◌∙◌, inl, inr, arith}
 use Rattle.std.proofs.lemmas.Bool.{false≢true}
 use Rattle.rdo_ast.specs.declared.syntax.Item.{Item}
 use Rattle.lock_tree_laws.specs.Forest.{opened_of}
+use Rattle.rdb_drive.specs.Boards.{Less}
 use Rattle.session_states.specs.declared.stage.Phase.{Phase}
 use Rattle.session_states.specs.declared.stage.Member.{Member}
 use Rattle.session_states.specs.States.{session, dead_session, gone_session}
 use Rattle.session_measure.specs.Weights.{Beside, Falls, weight, life_left, items_in, items_left, rank, round_left, places_left, unopened}
-use Rattle.session_measure.specs.Nearer.{takes_next, has_out, RoundsBy, AreRounds, Keeps, ComesNearer, StaysNear}
+use Rattle.session_measure.specs.Nearer.{takes_next, has_out, RoundsBy, AreRounds, ComesNearer, StaysNear}
 use Rattle.session_measure.proofs.Falling.{by-life, by-items, by-rank, by-rounds, by-round, by-place}
 
 -- ---- rounds
@@ -94,3 +95,25 @@ same-weight k l s c d m e o f =
   where
     numbers : ℕ → ℕ → List ℕ
     numbers u n = life_left m.life ∷ items_left m ∷ rank m.phase ∷ k ∷ round_left m.phase ∷ places_left m.phase ∷ u ∷ n ∷ []
+
+-- ---- one fall behind another
+
+less-long : (xs ys : List ℕ) → Less xs ys → length xs ≡ length ys
+less-long [] ys h = absurd h
+less-long (x ∷ xs) [] h = absurd h
+less-long (x ∷ xs) (y ∷ ys) (inl h) = let e = h.1 in omega (arith, e)
+less-long (x ∷ xs) (y ∷ ys) (inr h) = let e = less-long xs ys h.1 in omega (arith, e)
+
+less-trans : (xs ys zs : List ℕ) → Less xs ys → Less ys zs → Less xs zs
+less-trans [] ys zs h k = absurd h
+less-trans (x ∷ xs) [] zs h k = absurd h
+less-trans (x ∷ xs) (y ∷ ys) [] h k = absurd k
+less-trans (x ∷ xs) (y ∷ ys) (z ∷ zs) (inl h) (inl k) = let a = h.0 in let b = k.0 in inl (omega (arith, a, b), h.1 ∙ k.1)
+less-trans (x ∷ xs) (y ∷ ys) (z ∷ zs) (inl h) (inr k) = let a = h.0 in let b = k.0 in inl (omega (arith, a, b), h.1 ∙ less-long ys zs k.1)
+less-trans (x ∷ xs) (y ∷ ys) (z ∷ zs) (inr h) (inl k) = let a = h.0 in let b = k.0 in inl (omega (arith, a, b), less-long xs ys h.1 ∙ k.1)
+less-trans (x ∷ xs) (y ∷ ys) (z ∷ zs) (inr h) (inr k) = inr (h.0 ∙ k.0, less-trans xs ys zs h.1 k.1)
+
+-- where it falls first, it falls in the end
+pub falls-behind : {P : Type 0} (k l s : ℕ) (c d : Beside) (m n o : Member) → Falls k k c c s m n → Falls k l c d s n o ⊎ ((weight l d s o ≡ weight k c s n) × P) → Falls k l c d s m o
+falls-behind k l s c d m n o first (inl then) = less-trans (weight l d s o) (weight k c s n) (weight k c s m) then first
+falls-behind k l s c d m n o first (inr stays) = subst (λ (ws : List ℕ). Less ws (weight k c s m)) (sym stays.0) first

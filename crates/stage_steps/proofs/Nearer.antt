@@ -1,5 +1,5 @@
 -- What a call on the tree of locks is for the measure.
-use Rattle.std.proofs.Common.{◌≡◌, ◌<◌, ◌+◌, ℕ, List, Bool, true, false, length, refl, sym, ap, subst}
+use Rattle.std.proofs.Common.{◌≡◌, ◌<◌, ◌+◌, ℕ, List, Bool, true, false, length, refl, sym, ap, subst, inl}
 use Rattle.std.specs.Prelude.{is_some}
 use Rattle.vms_queues.specs.declared.lock_mode.Mode.{Mode}
 use Rattle.rdb_types.specs.declared.node.Node.{Node}
@@ -12,16 +12,19 @@ use Rattle.lock_tree_laws.specs.Progress.{is_spare, MovesOn, LeavesOthers}
 use Rattle.lock_tree_laws.specs.declared.answer.Want.{Want}
 use Rattle.lock_tree_laws.specs.declared.answer.Want.TheVariants.{NoticeTo, Asleep}
 use Rattle.session_states.specs.declared.stage.Phase.{Phase}
+use Rattle.session_states.specs.declared.stage.Member.{Member}
 use Rattle.session_states.specs.States.{session}
-use Rattle.session_measure.specs.Weights.{Beside, items_in, rank}
-use Rattle.session_measure.specs.Nearer.{takes_next, has_out, ComesNearer, StaysNear}
+use Rattle.session_measure.specs.Weights.{Beside, Falls, items_in, rank}
+use Rattle.session_measure.specs.Nearer.{takes_next, has_out, AreRounds, ComesNearer, StaysNear}
 use Rattle.session_measure.proofs.Falling.{by-rank}
-use Rattle.session_measure.proofs.Nearer.{near, nearer-by-rank}
+use Rattle.session_measure.proofs.Nearer.{near, nearer-by-rank, falls-behind}
 use Rattle.session_measure.proofs.Queued.{queued-falls}
 use Rattle.session_measure.proofs.Wanted.{stays-asked, nearer-asked}
 use Rattle.stage_steps.specs.declared.calling.Called.{Called}
+use Rattle.stage_steps.specs.declared.happening.Happening.{Happening}
+use Rattle.stage_steps.specs.declared.happening.Happening.TheVariants as happens
 use Rattle.stage_steps.specs.Asking.{IsCalled}
-use Rattle.stage_steps.specs.Nearer.{IsUnqueued}
+use Rattle.stage_steps.specs.Nearer.{IsUnqueued, Nearer}
 use Rattle.stage_steps.proofs.Called.{answered-as}
 
 module _ (s : ℕ) (n : Need) (wait : Bool) (old new : State) (x : Called) (k : IsCalled s n wait old new x) (steps : ℕ → ℕ) (phase : Phase) (none : takes_next phase ≡ false) (kept : has_out phase ≡ false) (left : List Item) (total : ℕ) where
@@ -50,3 +53,33 @@ pub asleep-by-rank : (s : ℕ) (c d : Beside) (x y : Phase) → items_in y ≡ i
 asleep-by-rank s c d x y e h left total =
     (near s c d (session left total x) (session left total y) (λ k l r. by-rank k l s c d (session left total x) (session left total y) refl (ap (λ (i : ℕ). length left + i) e) h),
      λ awake. nearer-by-rank s c d x y e h left total)
+
+-- ---- a step of the phase alone before another one, in one step
+
+-- from the phase before it to the one between the session has come nearer, and has as many rounds
+pub nearer-first : (s : ℕ) (h : Happening) (c d : Beside) (m n o : Member) → ((k l : ℕ) → AreRounds m.phase o.phase k l → AreRounds n.phase o.phase k l × Falls k k c c s m n) → Nearer s h c d n o → Nearer s h c d m o
+nearer-first s h c d m n o first = by h
+  where
+    comes : ComesNearer c d s n o → ComesNearer c d s m o
+    comes then = record { nears = λ k l r. let f = first k l r in inl (falls-behind k l s c d m n o f.1 (then.nears k l f.0)) }
+
+    stays : StaysNear c d s n o → StaysNear c d s m o
+    stays then = record { keeps = λ k l r. let f = first k l r in inl (falls-behind k l s c d m n o f.1 (then.keeps k l f.0)) }
+
+    by : (h : Happening) → Nearer s h c d n o → Nearer s h c d m o
+    by happens.Quiet then = comes then
+    by (happens.Began kind) then = comes then
+    by (happens.Answered a) then = comes then
+    by (happens.Unstarted a) then = comes then
+    by (happens.Asleep t x) then = (stays then.0, λ awake. comes (then.1 awake))
+    by (happens.Noticed t node mode x) then = (stays then.0, then.1)
+    by (happens.Got x) then = comes then
+    by (happens.Refused x a) then = comes then
+    by (happens.RefusedStart x a) then = comes then
+    by (happens.Committed moment) then = comes then
+    by happens.RolledBack then = comes then
+    by happens.Left then = comes then
+    by (happens.Failed fault) then = tt
+    by (happens.Unlaid key) then = tt
+    by happens.Unworked then = tt
+    by (happens.Unanswered item) then = tt
