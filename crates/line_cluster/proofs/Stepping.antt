@@ -62,14 +62,14 @@ among c members s k = record { rest = λ t other. keep-to c.sight.stand c.locks 
 module _ (M : Model) (orderly : IsOrderly M) (told : Type 0) (o : Opening) (c d : Scene) (members : List Member) (events : List Event) (i : ℕ) (left rest : List Item) (total : ℕ) (x y : Phase)
     (lives : dead_in members ≡ 0) (found : slice_get members i ≡ Some (session left total x)) (was : IsSound M told o c members events None) where
   -- it goes on with these events
-  abbrev Takes : List Event → Type 0 → Type 0
-  Takes es N = Goes (suc i) x Alive y Alive (λ h g. (dead n : ℕ) → Step M (suc i) (on_shelf c h dead) (session left n x) (on_shelf d g dead) (session rest n y) es) N c d
+  abbrev GoesWith : List Event → Type 0 → Type 0
+  GoesWith es N = Goes (suc i) x Alive y Alive (λ h g. (dead n : ℕ) → Step M (suc i) (on_shelf c h dead) (session left n x) (on_shelf d g dead) (session rest n y) es) N c d
 
-  sits : (N : Type 0) (es : List Event) → Takes es N → AreSeated d.sight.stand d.locks (slice_set members i (session rest total y))
+  sits : (N : Type 0) (es : List Event) → GoesWith es N → AreSeated d.sight.stand d.locks (slice_set members i (session rest total y))
   sits N es g = seated c.sight.stand d.sight.stand c.locks d.locks members i (session left total x) (session rest total y) (was.seated refl) found g.does.others g.parties
       (g.lives ((was.seated refl).each (suc i) (session left total x) found))
 
-  tells : (N : Type 0) (es : List Event) → Takes es N → told → IsTold M o d.word d.sight d.locks (slice_set members i (session rest total y)) (events ++ es)
+  tells : (N : Type 0) (es : List Event) → GoesWith es N → told → IsTold M o d.word d.sight d.locks (slice_set members i (session rest total y)) (events ++ es)
   tells N es g t = steps M orderly o c.word d.word c.sight d.sight c.locks d.locks members events es i (session left total x) (session rest total y) (d.sight.stand (suc i)) found lives refl refl
       (does-as (suc i) (d.sight.stand (suc i)) (λ h k. (dead n : ℕ) → Step M (suc i) (on_shelf c h dead) (session left n x) (on_shelf d k dead) (session rest n y) es)
       (λ h k. (dead : ℕ) → Step M (suc i) (sharing c.word h c.locks dead) (session left total x) (sharing d.word k d.locks dead) (session rest total y) es)
@@ -77,7 +77,7 @@ module _ (M : Model) (orderly : IsOrderly M) (told : Type 0) (o : Opening) (c d 
       (was.kept refl t)
 
   -- the session went on
-  pub moved : (N : Type 0) (es : List Event) (halt : Option Halt) → Takes es N → IsSound M told o d (slice_set members i (session rest total y)) (events ++ es) halt
+  pub moved : (N : Type 0) (es : List Event) (halt : Option Halt) → GoesWith es N → IsSound M told o d (slice_set members i (session rest total y)) (events ++ es) halt
   moved N es halt g = record {
     legal = λ t. (tells N es g t).kept.right.legal;
     seated = λ none. sits N es g;
