@@ -1,7 +1,7 @@
 use Rattle.std.proofs.Common.{◌+◌, ◌≤◌, ℕ, refl, sym, ◌∙◌, ap, subst, map, drop, length, Result}
 use Rattle.std.specs.Prelude.{IfOk}
 use Rattle.std.specs.Result.{result_from_control_flow}
-use Rattle.rdb_types.specs.declared.errors.NoMemory.{NoMemory}
+use Rattle.rdb_types.specs.declared.memory.NoMemory.{NoMemory}
 use Rattle.lock_tree_laws.specs.declared.answer.Want.{Want}
 use Rattle.lock_tree_laws.specs.Progress.{MovesOn}
 use Rattle.lock_tree_laws.specs.Forest.{asks_of}
