@@ -28,7 +28,7 @@ module _ (s : ℕ) (c d : Beside) (t u : Terms) (item : Item) (later : List Need
       ComesNearer c d s (session left total (at_stage t (Gathering item (Reading n) later place))) (session left total (at_stage u stage))
   nearer-behind n stage is = by (slice_get later place) refl is
     where
-      abbrev At : Stage → Type 0
+      At : Stage → Type 0
       At y = ComesNearer c d s (session left total (at_stage t (Gathering item (Reading n) later place))) (session left total (at_stage u y))
 
       by : (x : Option Need) → slice_get later place ≡ x → MatchOption x (stage ≡ Working item Due) (λ m. stage ≡ Gathering item (Locking m) later (place + 1)) → At stage

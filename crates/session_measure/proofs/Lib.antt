@@ -2,4 +2,4 @@ pub mod Falling
 pub mod Nearer
 pub mod Wanted
 pub mod Queued
-pub mod Sums
+pub mod AllNearer

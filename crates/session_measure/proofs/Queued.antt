@@ -28,7 +28,7 @@ awake-steps true true false e h = absurd (false≢true (sym h))
 
 -- the first numbers of lists of which the one is at most the other
 first-most : (x y : ℕ) (xs ys : List ℕ) → IsAtMost (x ∷ xs) (y ∷ ys) → x ≤ y
-first-most x y xs ys (inl e) = let f = ap (λ (zs : List ℕ). first zs) e in omega (arith, f)
+first-most x y xs ys (inl e) = let f : x ≡ y = ap (λ (zs : List ℕ). first zs) e in omega (arith, f)
   where
     first : List ℕ → ℕ
     first [] = 0
@@ -38,7 +38,7 @@ first-most x y xs ys (inr (inr h)) = let f = h.0 in omega (arith, f)
 
 module _ (s r : State) (owner : ℕ) (leaves : LeavesOthers owner s r) (never : NeverRises owner s r) where
   no-more : steps_of r owner ≤ steps_of s owner
-  no-more = let h = first-most _ _ _ _ (never (owner ∷ []) (grind arith)) in omega (arith, h)
+  no-more = let h : 0 + steps_of r owner ≤ 0 + steps_of s owner = first-most (0 + steps_of r owner) (0 + steps_of s owner) _ _ (never (owner ∷ []) (grind arith)) in omega (arith, h)
 
   -- one that wasn't queued is queued
   pub queued-falls : (w v : OpenWant) → opened_of s owner ≡ Some w → opened_of r owner ≡ Some v → sleeps_at (granted_at s.table owner) (Some w) w.here ≡ false → sleeps_at (granted_at r.table owner) (Some v) v.here ≡ true → Falls owner s r

@@ -1,7 +1,7 @@
 use Rattle.std.proofs.Common.{refl, ap}
 use Rattle.session_measure.specs.Weights.{unopened}
 use Rattle.session_measure.proofs.Nearer.{same-weight}
-use Rattle.session_measure.proofs.Sums.{all-nearer, all-served}
+use Rattle.session_measure.proofs.AllNearer.{all-nearer, all-served}
 use Rattle.session_measure.proofs.sums.all_come_nearer.Goals as goal
 
 pub returns-clause-nearer : goal.returns-clause-nearer
