@@ -1,6 +1,6 @@
 -- A want that comes to be queued has fewer steps to go.
 use Rattle.std.proofs.Common.{◌≡◌, ◌<◌, ◌≤◌, ◌+◌, ◌*◌, ◌-◌, ◌⊎◌, ◌==◌, ℕ, ◌∷◌, [], List, Bool, true, false, refl, sym, ap, subst, ◌∙◌, inl, inr, arith, Option, Some, None}
-use Rattle.std.specs.Prelude.{not, ◌&&◌, if◌then◌else◌}
+use Rattle.std.specs.Prelude.{not, ◌&&◌}
 use Rattle.std.proofs.lemmas.Bool.{false≢true}
 use Rattle.lock_needs.specs.declared.party.OpenWant.{OpenWant}
 use Rattle.lock_needs.specs.Needs.{Holding}
@@ -11,20 +11,25 @@ use Rattle.lock_tree_laws.specs.Forest.{State, opened_of}
 use Rattle.lock_tree_laws.specs.LockTable.{granted_at}
 use Rattle.lock_tree_laws.specs.Room.{depth}
 use Rattle.lock_tree_laws.specs.Progress.{has_mode, steps_here, steps_left, steps_for, steps_of, measure, IsAtMost, Falls, NeverRises, LeavesOthers}
+use Rattle.lock_tree_laws.proofs.Measured.{steps_by}
 use Rattle.lock_tree_laws.proofs.MeasureFalls.{fewer-falls}
 
 -- a want at its node: asked there or not, with its mode or without, and whether it is queued
-queued-steps : (same asked has : Bool) → same ≡ true → (same && (asked && not has)) ≡ true → (if asked then (if has then 1 else 2) else 3) ≡ 2
+queued-steps : (same asked has : Bool) → same ≡ true → (same && (asked && not has)) ≡ true → steps_by asked has ≡ 2
 queued-steps false asked has e h = absurd (false≢true e)
 queued-steps true false has e h = absurd (false≢true h)
 queued-steps true true true e h = absurd (false≢true h)
 queued-steps true true false e h = refl
 
-awake-steps : (same asked has : Bool) → same ≡ true → (same && (asked && not has)) ≡ false → ((if asked then (if has then 1 else 2) else 3) ≡ 1) ⊎ ((if asked then (if has then 1 else 2) else 3) ≡ 3)
+awake-steps : (same asked has : Bool) → same ≡ true → (same && (asked && not has)) ≡ false → (steps_by asked has ≡ 1) ⊎ (steps_by asked has ≡ 3)
 awake-steps false asked has e h = absurd (false≢true e)
 awake-steps true false has e h = inr refl
 awake-steps true true true e h = inl refl
 awake-steps true true false e h = absurd (false≢true (sym h))
+
+less : (a b x y h : ℕ) → b ≡ 3 * x + h → a ≡ 3 * y + 2 → a ≤ b → (h ≡ 1) ⊎ (h ≡ 3) → a < b
+less a b x y h e f g (inl o) = omega (arith, e, f, g, o)
+less a b x y h e f g (inr o) = omega (arith, e, f, g, o)
 
 -- the first numbers of lists of which the one is at most the other
 first-most : (x y : ℕ) (xs ys : List ℕ) → IsAtMost (x ∷ xs) (y ∷ ys) → x ≤ y
@@ -42,18 +47,12 @@ module _ (s r : State) (owner : ℕ) (leaves : LeavesOthers owner s r) (never : 
 
   -- one that wasn't queued is queued
   pub queued-falls : (w v : OpenWant) → opened_of s owner ≡ Some w → opened_of r owner ≡ Some v → sleeps_at (granted_at s.table owner) (Some w) w.here ≡ false → sleeps_at (granted_at r.table owner) (Some v) v.here ≡ true → Falls owner s r
-  queued-falls w v was is awake queued = fewer-falls s r owner leaves (by (awake-steps (same_node w.here w.here) w.is_asked (has_mode (granted_at s.table owner) w) (same_node-refl w.here) awake))
+  queued-falls w v was is awake queued = fewer-falls s r owner leaves
+      (less (steps_of r owner) (steps_of s owner) (depth w.need.node.level - depth w.here.level) (depth v.need.node.level - depth v.here.level) (steps_here (granted_at s.table owner) w) old new no-more
+      (awake-steps (same_node w.here w.here) w.is_asked (has_mode (granted_at s.table owner) w) (same_node-refl w.here) awake))
     where
       old : steps_of s owner ≡ 3 * (depth w.need.node.level - depth w.here.level) + steps_here (granted_at s.table owner) w
       old = ap (λ (o : Option OpenWant). steps_for (granted_at s.table owner) o) was
 
       new : steps_of r owner ≡ 3 * (depth v.need.node.level - depth v.here.level) + 2
       new = ap (λ (o : Option OpenWant). steps_for (granted_at r.table owner) o) is ∙ ap (λ (n : ℕ). 3 * (depth v.need.node.level - depth v.here.level) + n) (queued-steps (same_node v.here v.here) v.is_asked (has_mode (granted_at r.table owner) v) (same_node-refl v.here) queued)
-
-      by : (steps_here (granted_at s.table owner) w ≡ 1) ⊎ (steps_here (granted_at s.table owner) w ≡ 3) → steps_of r owner < steps_of s owner
-      by (inl one) = less (steps_of r owner) (steps_of s owner) (depth w.need.node.level - depth w.here.level) (depth v.need.node.level - depth v.here.level) (steps_here (granted_at s.table owner) w) old new no-more (inl one)
-      by (inr three) = less (steps_of r owner) (steps_of s owner) (depth w.need.node.level - depth w.here.level) (depth v.need.node.level - depth v.here.level) (steps_here (granted_at s.table owner) w) old new no-more (inr three)
-
-      less : (a b x y h : ℕ) → b ≡ 3 * x + h → a ≡ 3 * y + 2 → a ≤ b → (h ≡ 1) ⊎ (h ≡ 3) → a < b
-      less a b x y h e f g (inl o) = omega (arith, e, f, g, o)
-      less a b x y h e f g (inr o) = omega (arith, e, f, g, o)
