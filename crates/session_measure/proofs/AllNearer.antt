@@ -1,7 +1,6 @@
 -- The numbers of all sessions, with the measure of the tree of locks behind them.
-use Rattle.std.proofs.Common.{◌≡◌, ◌<◌, ◌⊎◌, ℕ, suc, ◌∷◌, ◌++◌, [], List, true, length, length-append, refl, sym, ap, subst, ◌∙◌, inl, inr, arith}
-use Rattle.lock_tree_laws.specs.Forest.{State}
-use Rattle.lock_tree_laws.specs.Progress.{measure, is_among, IsLess, IsAtMost, Falls as LocksFall}
+use Rattle.std.proofs.Common.{◌≡◌, ℕ, ◌∷◌, ◌++◌, [], List, true, length, length-append, refl, sym, subst, ◌∙◌, inl, inr, arith}
+use Rattle.lock_tree_laws.specs.Progress.{measure, is_among, IsLess, Falls as LocksFall}
 use Rattle.lock_tree_laws.proofs.Falling.{less-most}
 use Rattle.rdb_drive.specs.Boards.{Less}
 use Rattle.session_states.specs.declared.stage.Member.{Member}

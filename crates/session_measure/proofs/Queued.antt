@@ -1,16 +1,15 @@
 -- A want that comes to be queued has fewer steps to go.
-use Rattle.std.proofs.Common.{◌≡◌, ◌<◌, ◌≤◌, ◌+◌, ◌*◌, ◌-◌, ◌⊎◌, ◌==◌, ℕ, ◌∷◌, [], List, Bool, true, false, refl, sym, ap, subst, ◌∙◌, inl, inr, arith, Option, Some, None}
+use Rattle.std.proofs.Common.{◌≡◌, ◌<◌, ◌≤◌, ◌+◌, ◌*◌, ◌-◌, ◌⊎◌, ℕ, ◌∷◌, [], List, Bool, true, false, refl, sym, ap, ◌∙◌, inl, inr, arith, Option, Some}
 use Rattle.std.specs.Prelude.{not, ◌&&◌}
 use Rattle.std.proofs.lemmas.Bool.{false≢true}
 use Rattle.lock_needs.specs.declared.party.OpenWant.{OpenWant}
-use Rattle.lock_needs.specs.Needs.{Holding}
 use Rattle.lock_needs.specs.Nodes.{same_node}
 use Rattle.lock_needs.specs.Wants.{sleeps_at}
 use Rattle.lock_needs.proofs.NodeLaws.{same_node-refl}
 use Rattle.lock_tree_laws.specs.Forest.{State, opened_of}
 use Rattle.lock_tree_laws.specs.LockTable.{granted_at}
 use Rattle.lock_tree_laws.specs.Room.{depth}
-use Rattle.lock_tree_laws.specs.Progress.{has_mode, steps_here, steps_left, steps_for, steps_of, measure, IsAtMost, Falls, NeverRises, LeavesOthers}
+use Rattle.lock_tree_laws.specs.Progress.{has_mode, steps_here, steps_for, steps_of, IsAtMost, Falls, NeverRises, LeavesOthers}
 use Rattle.lock_tree_laws.proofs.Measured.{steps_by}
 use Rattle.lock_tree_laws.proofs.MeasureFalls.{fewer-falls}
 

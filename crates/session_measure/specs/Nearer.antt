@@ -1,5 +1,5 @@
 -- When a step brings a session nearer to its end.
-use Rattle.std.specs.Prelude.{◌≡◌, ◌<◌, ◌⊎◌, ℕ, Bool, true, false, List}
+use Rattle.std.specs.Prelude.{◌≡◌, ◌<◌, ◌⊎◌, ℕ, Bool, true, false}
 use Rattle.lock_tree_laws.specs.Progress.{Falls as LocksFall, NeverRises}
 use Rattle.session_states.specs.declared.stage.Work.TheVariants.{Out}
 use Rattle.session_states.specs.declared.stage.Stage.{Stage}
