@@ -1,14 +1,15 @@
 use Rattle.session_states.specs.declared.stage.Stage.{Stage}
 use Rattle.session_states.specs.declared.stage.Life.TheVariants.{Alive}
-use Rattle.std.proofs.Common.{refl, ap, ◌∙◌, ◌+◌, [], Ok}
+use Rattle.std.proofs.Common.{refl, ap, ◌∙◌, ◌+◌, [], Ok, arith}
 use Rattle.session_states.specs.declared.stage.Gather.TheVariants.{Reading}
 use Rattle.session_states.specs.declared.stage.Work.TheVariants.{Due}
 use Rattle.session_states.specs.declared.stage.Stage.TheVariants.{Working, Gathering}
 use Rattle.session_states.specs.States.{session}
 use Rattle.session_states.proofs.InTurn.{steps-on}
-use Rattle.session_measure.proofs.Nearer.{nearer-by-steps}
+use Rattle.session_states.proofs.Resting.{rests-by}
+use Rattle.session_measure.proofs.Nearer.{nearer-in-round, nearer-by-steps}
 use Rattle.stage_steps.specs.Turns.{at_stage, shared}
-use Rattle.stage_steps.proofs.Goes.{goes, goes-behind, comes-as}
+use Rattle.stage_steps.proofs.Goes.{goes, goes-still, goes-behind, comes-as}
 use Rattle.stage_steps.proofs.Resting.{as-before}
 use Rattle.stage_steps.proofs.Seated.{rests-at}
 use Rattle.stage_steps.proofs.Read.{was-read, was-more, was-forgone, was-fault}
@@ -48,3 +49,10 @@ returns-in-Err-Fault g c =
     (goes c.args.s.number _ Alive _ Alive _ _ _ _ _ (λ e f. rests-at _ _ c.args.s.number _ (e ∙ f.seat) f.wants f.needs f.statement) (λ u other. refl) (λ left total. tt)
     (λ h k shown told r dead left total. gathered-more g.S.Statements.stands g.met.S.Statements.orderly c.args.s.number (shared c.args.common.now.word h c.args.common.now.tree dead) left total c.args.terms.standing c.args.terms.known c.fetch.new.known c.args.terms.spoken c.args.terms.waits c.args.round.item k c.args.need c.args.round.later c.args.round.place (was-fault c.args.s.number h k _ c.in-Err-Fault.fault c.in-Err-Fault.field-0-is r) (record { agrees = c.fetch.ensures.agrees h shown; guarded = c.fetch.ensures.guarded }) c.fetch.ensures.more)
     c.in-Err-Fault.ensures.read)
+
+pub returns-in-Room : goal.returns-in-Room
+returns-in-Room g c =
+    comes-as g.S.Statements.stands c.args.s.number _ _ _ _ _ _ _ (c.quiet.ensures.phase ∙ c.at.ensures) c.quiet.ensures.happened
+    (goes-still c.args.s.number _ Alive _ Alive _ _ _ refl (λ f. rests-at _ _ c.args.s.number _ f.seat f.wants f.needs f.statement) (λ u other. refl) (nearer-in-round c.args.s.number _ _ _ _ refl refl refl refl (omega arith))
+    (λ h shown dead left total. rests-by g.S.Statements.stands g.met.S.Statements.orderly c.args.s.number (shared c.args.common.now.word h c.args.common.now.tree dead) left total _ _ refl
+    (λ o p g1 f. record { desk = f.fits.phase.desk; spoken = f.fits.phase.spoken; waits = f.fits.phase.waits; stage = (f.fits.phase.stage.0, tt); wants = f.fits.phase.wants; journal = f.fits.phase.journal; ends = tt; claims = tt })))

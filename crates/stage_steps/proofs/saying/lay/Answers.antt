@@ -3,11 +3,12 @@ use Rattle.std.proofs.Common.{refl, ◌∙◌, sym, subst, List, arith}
 use Rattle.line_view.specs.declared.writes.Write.{Write}
 use Rattle.line_store.specs.Calls.{Changes}
 use Rattle.session_states.specs.declared.stage.Laying.TheVariants.{Claiming}
-use Rattle.session_states.specs.declared.stage.Stage.TheVariants.{Saying}
+use Rattle.session_states.specs.declared.stage.Stage.TheVariants.{Between, Saying}
 use Rattle.session_states.specs.Fits.{Follows}
 use Rattle.session_states.proofs.Storing.{changes-on}
 use Rattle.session_measure.proofs.Nearer.{nearer-by-rank, nearer-answered}
-use Rattle.stage_steps.specs.Turns.{shared}
+use Rattle.stage_steps.specs.declared.happening.Happening.TheVariants.{Unlaid}
+use Rattle.stage_steps.specs.Turns.{at_stage, shared}
 use Rattle.stage_steps.proofs.Firsts.{at-once-said, ruj-step, snap-step, stopped}
 use Rattle.stage_steps.proofs.Goes.{goes, goes-still, goes-staying, goes-behind-none, comes-as}
 use Rattle.stage_steps.proofs.Resting.{as-before}
@@ -42,7 +43,7 @@ returns-in-Err-RujFull g c =
     let may = c.has_to_lay.ensures.lays c.if-not-has_to_lay.false in
     comes-as g.S.Statements.stands c.args.s.number _ _ _ _ _ _ _ c.refuse_at_limit.ensures.phase c.refuse_at_limit.ensures.happened
     (knows-as g.S.Statements.stands c.args.s.number _ _ _ _ c.args.terms.standing c.args.terms.known c.apply.new.known c.args.terms.spoken c.args.terms.waits (Saying c.args.item c.args.worked (Claiming c.args.place)) c.in-Err-RujFull.ensures.kept
-    (goes c.args.s.number _ Alive _ Alive _ _ _ _ _ (λ e f. rests-at _ _ c.args.s.number _ (e ∙ f.seat) (unwanted _ _ c.requires.locked f.wants) f.needs tt) (λ u other. refl) (nearer-answered c.args.s.number _ _ _ _ (omega arith))
+    (goes c.args.s.number _ Alive _ Alive _ _ _ _ _ (λ e f. rests-at _ _ c.args.s.number _ (e ∙ f.seat) (unwanted _ _ c.requires.locked f.wants) f.needs tt) (λ u other. refl) (nearer-answered c.args.s.number _ _ (at_stage (record { standing = c.args.terms.standing; known = c.apply.new.known; spoken = c.args.terms.spoken; waits = c.args.terms.waits }) (Saying c.args.item c.args.worked (Claiming c.args.place))) (at_stage (record { standing = c.args.terms.standing; known = c.apply.new.known; spoken = c.args.terms.spoken; waits = c.args.terms.waits }) Between) (omega arith))
     (λ h k shown told same dead left total. rw same (ruj-step g.S.Statements.stands g.met.S.Statements.orderly c.args.s.number (shared c.args.common.now.word h c.args.common.now.tree dead) left total c.args.terms.standing c.apply.new.known c.args.terms.spoken c.args.terms.waits c.args.item c.args.worked c.args.place c.in-Err-RujFull.limit c.requires.locked may.1 may.0 (stopped h c.args.s.number _ _ _ _ c.as_slice-writes.ensures c.in-Err-RujFull.field-0-is (c.in-Err-RujFull.ensures.cause h shown))))
     c.in-Err-RujFull.ensures.err))
 
@@ -51,11 +52,11 @@ returns-in-Err-SnapFull g c =
     let may = c.has_to_lay.ensures.lays c.if-not-has_to_lay.false in
     comes-as g.S.Statements.stands c.args.s.number _ _ _ _ _ _ _ c.refuse_at_limit-in-Err-SnapFull.ensures.phase c.refuse_at_limit-in-Err-SnapFull.ensures.happened
     (knows-as g.S.Statements.stands c.args.s.number _ _ _ _ c.args.terms.standing c.args.terms.known c.apply.new.known c.args.terms.spoken c.args.terms.waits (Saying c.args.item c.args.worked (Claiming c.args.place)) c.in-Err-SnapFull.ensures.kept
-    (goes c.args.s.number _ Alive _ Alive _ _ _ _ _ (λ e f. rests-at _ _ c.args.s.number _ (e ∙ f.seat) (unwanted _ _ c.requires.locked f.wants) f.needs tt) (λ u other. refl) (nearer-answered c.args.s.number _ _ _ _ (omega arith))
+    (goes c.args.s.number _ Alive _ Alive _ _ _ _ _ (λ e f. rests-at _ _ c.args.s.number _ (e ∙ f.seat) (unwanted _ _ c.requires.locked f.wants) f.needs tt) (λ u other. refl) (nearer-answered c.args.s.number _ _ (at_stage (record { standing = c.args.terms.standing; known = c.apply.new.known; spoken = c.args.terms.spoken; waits = c.args.terms.waits }) (Saying c.args.item c.args.worked (Claiming c.args.place))) (at_stage (record { standing = c.args.terms.standing; known = c.apply.new.known; spoken = c.args.terms.spoken; waits = c.args.terms.waits }) Between) (omega arith))
     (λ h k shown told same dead left total. rw same (snap-step g.S.Statements.stands g.met.S.Statements.orderly c.args.s.number (shared c.args.common.now.word h c.args.common.now.tree dead) left total c.args.terms.standing c.apply.new.known c.args.terms.spoken c.args.terms.waits c.args.item c.args.worked c.args.place c.in-Err-SnapFull.limit c.requires.member c.requires.locked may.1 may.0 (stopped h c.args.s.number _ _ _ _ c.as_slice-writes.ensures c.in-Err-SnapFull.field-0-is (c.in-Err-SnapFull.ensures.cause h shown))))
     c.in-Err-SnapFull.ensures.err))
 
 pub returns-in-Err-Unfit : goal.returns-in-Err-Unfit
 returns-in-Err-Unfit g c =
-    rw c.at-in-Err-Unfit.ensures (knows-as g.S.Statements.stands c.args.s.number _ _ _ _ c.args.terms.standing c.args.terms.known c.apply.new.known c.args.terms.spoken c.args.terms.waits (Saying c.args.item c.args.worked (Claiming c.args.place)) c.in-Err-Unfit.ensures.kept
+    rw c.at-in-Err-Unfit.ensures (knows-as g.S.Statements.stands c.args.s.number _ _ _ (Unlaid c.in-Err-Unfit.key) c.args.terms.standing c.args.terms.known c.apply.new.known c.args.terms.spoken c.args.terms.waits (Saying c.args.item c.args.worked (Claiming c.args.place)) c.in-Err-Unfit.ensures.kept
     (goes-staying c.args.s.number _ c.args.common.now.word c.args.common.now.tree _ _ _ c.in-Err-Unfit.ensures.err (λ left total. tt) (λ h dead. stays-on g.S.Statements.stands g.met.S.Statements.orderly c.args.s.number (shared c.args.common.now.word h c.args.common.now.tree dead) _)))
