@@ -32,7 +32,8 @@ use Rattle.stage_steps.specs.Happenings.{events_of, handed_back}
 use Rattle.stage_steps.specs.Scenes.{Scene, scene, on_shelf}
 use Rattle.stage_steps.specs.Turns.{Comes}
 use Rattle.line_cluster.specs.declared.sessions.Halt.{Halt}
-use Rattle.line_cluster.specs.Going.{GoesOn, IsAmong, IsWriterAt, writes_at, is_over, is_done, is_alive, is_alive_life, is_dead, is_dead_life}
+use Rattle.line_arms.specs.Going.{GoesOn, IsAmong, is_done}
+use Rattle.line_cluster.specs.Going.{IsWriterAt, writes_at, is_over, is_alive, is_alive_life, is_dead, is_dead_life}
 use Rattle.line_cluster.proofs.Places.{suc-less, set-same}
 use Rattle.line_cluster.specs.Sound.{IsSound}
 

@@ -1,10 +1,11 @@
 //! The sessions of a run, of one origin.
-ghost use Rattle.std.specs.Prelude.{◌≡◌, ◌≤◌, ◌&&◌, ℕ, [], length, map, not, true, IfOk};
+ghost use Rattle.std.specs.Prelude.{◌≡◌, ◌≤◌, ◌<◌, ◌^◌, ◌&&◌, ℕ, All, [], length, map, not, true, IfOk};
 ghost use Rattle.rdb_account.specs.Events.{event_of};
 ghost use Rattle.rdb_account.specs.Legal.{IsLegal, is_stop};
 ghost use Rattle.line_store.specs.Seats.{outside};
 ghost use Rattle.line_cluster.specs.Sound.{FollowsScripts, IsOpenedBy, IsSession, fresh_member};
 
+use crate::lent::SessionRooms;
 use crate::notes::Notes;
 use crate::origin::Origin;
 use crate::sessions::{Core, Turn};
@@ -12,6 +13,8 @@ use line_store::LineStore;
 use lock_tree::Tree;
 use rdb_account::{Event, Events};
 use rdb_types::{Cause, Items, NoMemory, Session, Word};
+use reached_changes::Reaches;
+use reserved_locks::Reserves;
 use session_jobs::Statements;
 use session_states::{ItemQueue, Life, Member, Phase};
 use stage_steps::Common;
@@ -43,13 +46,12 @@ impl<O: Origin, S: Statements, L: LineStore + Drop> Model for LineCluster<O, S, 
 
 // A session of each script, which has said nothing.
 fn members_of(alloc: Global, scripts: Vec<ItemQueue>) -> Result<Vec<Member>, NoMemory>
+    requires short { All (λ items. length items < 2 ^ 32) scripts.items }
     ensures { IfOk result (λ members. members.items ≡ map fresh_member scripts.items) }
 {
     let mut members = Vec::new(alloc);
     for left in scripts {
-        let Ok(total) = u32::try_from(left.len()) else {
-            return Err(NoMemory {});
-        };
+        let total = left.len() as u32;
         members.push(Member {
             left,
             total,
@@ -60,7 +62,7 @@ fn members_of(alloc: Global, scripts: Vec<ItemQueue>) -> Result<Vec<Member>, NoM
     Ok(members)
 }
 
-impl<O: Origin, S: Statements, L: LineStore + Drop> LineCluster<O, S, L> {
+impl<O: Origin, S: Reserves + Reaches, L: LineStore + Drop> LineCluster<O, S, L> {
     /// Sessions that have said nothing, over a store in which nobody has a transaction open.
     pub fn start(
         alloc: Global,
@@ -71,12 +73,14 @@ impl<O: Origin, S: Statements, L: LineStore + Drop> LineCluster<O, S, L> {
         requires sessions { length scripts.items ≡ O.sessions }
         requires few { O.sessions ≤ 16 }
         requires scripts { FollowsScripts O.opening scripts.items }
+        requires short { All (λ items. length items < 2 ^ 32) scripts.items }
         requires outside { (s : ℕ) → (L.sight store).stand s ≡ outside }
         requires opened { O.told → IsOpenedBy S.stands O.opening word (L.sight store) }
         ensures events { IfOk result (λ c. c.events ≡ []) }
         ensures members { IfOk result (λ c. c.members ≡ map fresh_member scripts.items) }
     {
         let members = members_of(alloc, scripts)?;
+        let rooms = SessionRooms::new(alloc)?;
         Ok(LineCluster {
             core: Core {
                 common: Common {
@@ -87,6 +91,7 @@ impl<O: Origin, S: Statements, L: LineStore + Drop> LineCluster<O, S, L> {
                 },
                 members,
                 notes: Notes::new(),
+                rooms,
                 events: Vec::new(alloc),
                 halt: None,
                 of: PhantomData,

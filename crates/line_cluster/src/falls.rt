@@ -17,7 +17,8 @@ use crate::sessions::{Core, Halt, Turn};
 use line_account::{record_death, record_recovery, reserve_step};
 use line_store::{Fault, LineStore};
 use rdb_types::{Cause, Session};
-use session_jobs::Statements;
+use reached_changes::Reaches;
+use reserved_locks::Reserves;
 use session_states::{Life, Member};
 use stage_steps::{Recovery, die, recover};
 
@@ -56,7 +57,7 @@ fn life_behind(step: &Result<Recovery, Fault>) -> Life
     }
 }
 
-impl<O: Origin, S: Statements, L: LineStore> Core<O, S, L> {
+impl<O: Origin, S: Reserves + Reaches, L: LineStore> Core<O, S, L> {
     /// A session dies where it stands. Nothing changes where it has died before, nor behind a halt.
     pub fn die(&mut self, s: Session, cause: Cause)
         requires one { IsOneOf self.old.members.items s.number }

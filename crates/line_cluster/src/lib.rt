@@ -3,17 +3,13 @@
 #![tactic(auto)]
 
 mod cluster;
-mod ending;
 mod falls;
-mod going;
+mod lent;
 mod members;
 mod notes;
 mod origin;
-mod reading;
 mod sessions;
 mod turning;
-mod working;
-mod writing;
 
 pub use cluster::LineCluster;
 pub use origin::Origin;

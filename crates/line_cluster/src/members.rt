@@ -4,7 +4,8 @@ ghost use Rattle.std.specs.Vec.{vec_len};
 ghost use Rattle.session_states.specs.declared.stage.Life.TheVariants as life;
 ghost use Rattle.session_states.specs.declared.stage.Phase.TheVariants as phase;
 ghost use Rattle.session_states.specs.declared.stage.Member.{Member as MemberValue};
-ghost use Rattle.line_cluster.specs.Going.{is_done as is_done_at, is_over as is_over_at, writes_at};
+ghost use Rattle.line_arms.specs.Going.{is_done as is_done_at};
+ghost use Rattle.line_cluster.specs.Going.{is_over as is_over_at, writes_at};
 
 use rdb_types::Session;
 use session_states::{ItemQueue, Life, Member, Phase};

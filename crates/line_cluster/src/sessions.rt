@@ -1,4 +1,5 @@
 //! What all sessions share, and the sessions.
+use crate::lent::SessionRooms;
 use crate::notes::Notes;
 use crate::origin::Origin;
 use line_store::{Fault, LineStore};
@@ -42,6 +43,7 @@ pub struct Core<O: Origin, S: Statements, L: LineStore> {
     pub common: Common<L>,
     pub members: Vec<Member>,
     pub notes: Notes,
+    pub rooms: SessionRooms,
     pub events: Vec<Event>,
     /// Why no session goes on, once that is so.
     pub halt: Option<Halt>,

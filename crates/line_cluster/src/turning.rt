@@ -11,16 +11,17 @@ ghost use Rattle.line_cluster.specs.Going.{IsWriterAt, is_over as is_over_at};
 ghost use Rattle.std.specs.Vec.{vec_len, vec_capacity};
 
 use crate::falls::first_dead;
-use crate::going::go_on;
 use crate::members::{is_over, is_writing, put_member, take_member};
 use crate::notes::{Notes, Notice};
 use crate::origin::Origin;
 use crate::sessions::{Core, Halt, Turn};
 use line_account::{record, record_demotion, reserve_step};
+use line_arms::go_on;
 use line_store::LineStore;
 use rdb_account::Event;
 use rdb_types::Session;
-use session_jobs::Statements;
+use reached_changes::Reaches;
+use reserved_locks::Reserves;
 use session_states::Member;
 use stage_steps::{Happening, serve};
 use std::alloc::Global;
@@ -69,7 +70,7 @@ fn settle(
     turn
 }
 
-impl<O: Origin, S: Statements, L: LineStore> Core<O, S, L> {
+impl<O: Origin, S: Reserves + Reaches, L: LineStore> Core<O, S, L> {
     // No session goes on.
     pub(crate) fn stop(&mut self, halt: Halt) -> Turn
         requires sound { IsSound S.stands O.told O.opening (scene self.old.common.word (L.sight self.old.common.store) self.old.common.tree) self.old.members.items (map event_of self.old.events.items) self.old.halt }
@@ -162,7 +163,9 @@ impl<O: Origin, S: Statements, L: LineStore> Core<O, S, L> {
             life,
         } = take_member(&mut self.members, at, self.common.alloc);
         let mut left = left;
-        let turned = go_on::<S, L>(&mut self.common, s, &mut left, phase);
+        let mut rooms = self.rooms.take(s, self.common.alloc);
+        let turned = go_on::<S, L>(&mut self.common, s, &mut left, &mut rooms, phase);
+        self.rooms.put(s, rooms);
         let behind = Member {
             left,
             total,

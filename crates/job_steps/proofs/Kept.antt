@@ -1,0 +1,53 @@
+-- What a START_TRANSACTION reserves, and the step that keeps its record.
+use Rattle.std.proofs.Common.{◌≡◌, ℕ, Bool, true, false, [], List, refl, sym, ap, subst, Option, Some, None, slice_get}
+use Rattle.rdo_ast.specs.declared.reply.Standing.{Standing}
+use Rattle.rdo_ast.specs.declared.reply.Standing.TheVariants.{Closed}
+use Rattle.rdo_ast.specs.declared.syntax.Item.{Item}
+use Rattle.rdo_ast.specs.declared.syntax.Reservation.{Reservation}
+use Rattle.rdo_ast.specs.Tree.{said, start_read_write}
+use Rattle.rdo_ast.specs.Views.{uttered_of}
+use Rattle.rdb_types.specs.declared.node.Node.{Node}
+use Rattle.rdb_types.specs.declared.node.Level.{Level}
+use Rattle.rdb_types.specs.declared.node.Level.TheVariants.{Area}
+use Rattle.vms_queues.specs.declared.lock_mode.Mode.{Mode}
+use Rattle.lock_needs.specs.declared.need.Need.{Need}
+use Rattle.lock_needs.specs.Needs.{is_plain, is_plain_at}
+use Rattle.lock_needs.specs.Nodes.{is_on}
+use Rattle.line_steps.specs.Images.{journal_node}
+use Rattle.line_view.specs.Held.{Held, knows}
+use Rattle.session_jobs.specs.Records.{Model, IsOrderly}
+use Rattle.session_jobs.specs.Jobs.{IsFound, WhereItAgrees}
+use Rattle.session_jobs.specs.declared.jobs.Found.TheVariants.{Done}
+use Rattle.session_jobs.specs.declared.jobs.TxRecord.{TxRecord}
+use Rattle.reserved_locks.specs.Reserved.{AreLocksOf}
+use Rattle.reserved_locks.proofs.Asked.{locks-asked}
+use Rattle.session_states.specs.declared.stage.Work.TheVariants.{Out}
+use Rattle.session_states.specs.declared.stage.Stage.TheVariants.{Working, Reserving}
+use Rattle.session_states.specs.Shared.{Shared}
+use Rattle.session_states.proofs.Reserving.{reserves-on}
+use Rattle.stage_steps.specs.declared.terms.Terms.{Terms}
+use Rattle.stage_steps.specs.Turns.{Comes, at_stage}
+use Rattle.job_steps.specs.Reserved.{IsReserved}
+
+module _ (M : Model) (orderly : IsOrderly M) where
+  pub reserved-of : (t : Terms) (item : Item) (wait : Bool) (rs : List Reservation) (locks : List Need) → uttered_of item ≡ said (start_read_write wait rs) → t.standing ≡ Closed →
+      WhereItAgrees M (knows t.known) (λ u. AreLocksOf rs u locks) → IsReserved M t item locks
+  reserved-of t item wait rs locks is closed named = record { wait = wait; reserved = rs; begins = is; closed = closed; asked = locks-asked M orderly (knows t.known) rs locks named }
+
+  -- its locks are wanted
+  pub reserves-kept : (s : ℕ) (c : Shared) (t : Terms) (item : Item) (r : TxRecord) (locks : List Need) → IsReserved M t item locks → IsFound M c.word t.standing (uttered_of item) (knows t.known) (Done r) →
+      Comes M s c (at_stage t (Working item Out)) c (at_stage t (Reserving item r locks 0)) []
+  reserves-kept s c t item r locks is found = by t.standing is.closed found
+    where
+      by : (standing : Standing) → standing ≡ Closed → IsFound M c.word standing (uttered_of item) (knows t.known) (Done r) →
+          Comes M s c (at_stage (record t { standing = standing }) (Working item Out)) c (at_stage (record t { standing = standing }) (Reserving item r locks 0)) []
+      by standing e f = subst (λ (x : Standing). IsFound M c.word x (uttered_of item) (knows t.known) (Done r) → Comes M s c (at_stage (record t { standing = x }) (Working item Out)) c (at_stage (record t { standing = x }) (Reserving item r locks 0)) []) (sym e)
+          (λ h left total. reserves-on M orderly s c left total t.known t.spoken t.waits item r is.wait is.reserved locks is.begins h is.asked) f
+
+-- ---- a lock on an area
+
+pub plain-on-area : (n : Need) → n.node.level ≡ Area → is_plain n ≡ true
+plain-on-area n e = ap (λ (l : Level). is_plain_at l n.mode) e
+
+pub off-journal : (n : Node) → n.level ≡ Area → is_on journal_node n ≡ false
+off-journal n e = ap (λ (l : Level). is_on journal_node (record { level = l; area = n.area; at = n.at; line = n.line })) e

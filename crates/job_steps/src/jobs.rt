@@ -1,0 +1,71 @@
+//! The job of a statement is worked, and what it came to is taken.
+ghost use Rattle.std.specs.Prelude.{◌≡◌};
+ghost use Rattle.rdo_ast.specs.Views.{uttered_of};
+ghost use Rattle.line_store.specs.Seats.{IsMember, IsWriting};
+ghost use Rattle.line_view.specs.Held.{knows};
+ghost use Rattle.session_jobs.specs.Jobs.{IsFound};
+ghost use Rattle.stage_steps.specs.Happenings.{events_of};
+ghost use Rattle.stage_steps.specs.Scenes.{ComesIn, scene};
+ghost use Rattle.stage_steps.specs.Turns.{at_stage};
+
+use crate::reserving::keep;
+use gathering_steps::gather;
+use line_store::LineStore;
+use rdb_types::{Copied, Session};
+use rdo_ast::syntax::Item;
+use reserved_locks::Reserves;
+use session_jobs::{Found, Job, Outcome};
+use stage_steps::{Common, Terms, Turned, forgo, quiet, take_back};
+
+/// Takes what a job came to: a record is kept till it is said, what the job lacked is wanted in turn.
+pub fn take_found<S: Reserves, L: LineStore>(
+    common: &mut Common<L>,
+    s: Session,
+    terms: Terms,
+    item: Item,
+    found: Found,
+) -> Turned
+    requires member { IsMember s.number }
+    requires seat { IsWriting ((L.sight common.old.store).stand s.number) }
+    requires found { IsFound S.stands common.old.word terms.standing (uttered_of item) (knows terms.known) found }
+    ensures { ComesIn S.stands s.number (scene common.old.word (L.sight common.old.store) common.old.tree) (at_stage terms (Stage.Working item Work.Out))
+        (scene common.new.word (L.sight common.new.store) common.new.tree) result.phase (events_of s.number result.happened) }
+{
+    match found {
+        Found::Done(worked) => keep::<S, L>(common, s, terms, item, worked),
+        Found::Missing { next, later } => quiet(gather::<S>(terms, item, next, later)),
+        found => take_back::<S, L>(common, s, terms, item, found),
+    }
+}
+
+/// Works the job of a statement at once, and takes what it came to.
+pub fn compute<S: Reserves, L: LineStore>(
+    common: &mut Common<L>,
+    s: Session,
+    terms: Terms,
+    item: Item,
+) -> Turned
+    requires member { IsMember s.number }
+    requires seat { IsWriting ((L.sight common.old.store).stand s.number) }
+    ensures { ComesIn S.stands s.number (scene common.old.word (L.sight common.old.store) common.old.tree) (at_stage terms (Stage.Working item Work.Out))
+        (scene common.new.word (L.sight common.new.store) common.new.tree) result.phase (events_of s.number result.happened) }
+{
+    let Ok(word) = common.word.copied(common.alloc) else {
+        return forgo::<S, L>(common, s, terms, item);
+    };
+    let job = Job {
+        alloc: common.alloc,
+        word,
+        standing: terms.standing,
+        item,
+        known: terms.known,
+    };
+    let (job, _, found) = Outcome::<S>::of(job, S::nothing()).into_parts();
+    let back = Terms {
+        standing: job.standing,
+        known: job.known,
+        spoken: terms.spoken,
+        waits: terms.waits,
+    };
+    take_found::<S, L>(common, s, back, job.item, found)
+}

@@ -1,0 +1,14 @@
+use Rattle.rdo_ast.specs.Views.{uttered_of}
+use Rattle.stage_steps.specs.Scenes.{scene}
+use Rattle.line_arms.proofs.Arms.{quiet-comes, passes}
+use Rattle.line_arms.proofs.Asked.{work-asked}
+use Rattle.line_arms.proofs.working.go_on_working.Goals as goal
+
+pub returns-in-Opening : goal.returns-in-Opening
+returns-in-Opening g c = rw c.in-Opening.is (c.open.ensures c.args.common.now.word c.args.common.now.tree)
+
+pub returns-in-Due : goal.returns-in-Due
+returns-in-Due g c = rw c.in-Due.is (quiet-comes _ _ _ _ _ _ _ _ c.quiet.ensures.phase c.quiet.ensures.happened (passes _ c.args.s.number (scene c.args.common.now.word (g.L.LineStore.sight c.args.common.now.store) c.args.common.now.tree) _ _ c.hand_out.ensures))
+
+pub want_lock-requires-clause-asked : goal.want_lock-requires-clause-asked
+want_lock-requires-clause-asked g c = work-asked (uttered_of c.args.item) c.args.work

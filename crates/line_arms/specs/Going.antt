@@ -1,0 +1,40 @@
+-- What a step of one session is, with what is left of its script.
+use Rattle.std.specs.Prelude.{◌≡◌, ◌==◌, ℕ, Bool, true, false, List, length, Option, Some, None}
+use Rattle.rdo_ast.specs.declared.syntax.Item.{Item}
+use Rattle.rdb_account.specs.Events.{Event}
+use Rattle.lock_needs.specs.declared.need.Need.{Need}
+use Rattle.lock_needs.specs.Needs.{is_plain}
+use Rattle.lock_needs.specs.Nodes.{is_on}
+use Rattle.lock_tree_laws.specs.Forest.{State}
+use Rattle.journal_waits.specs.Holders.{OthersKeepTo}
+use Rattle.line_steps.specs.Images.{journal_node}
+use Rattle.line_store.specs.Seats.{Seat}
+use Rattle.session_jobs.specs.Records.{Model}
+use Rattle.session_states.specs.declared.stage.Phase.{Phase}
+use Rattle.session_states.specs.declared.stage.Phase.TheVariants.{Outside, Over}
+use Rattle.session_states.specs.declared.stage.Life.TheVariants.{Alive}
+use Rattle.session_states.specs.States.{session}
+use Rattle.session_states.specs.Steps.{Step}
+use Rattle.session_stands.specs.Sessions.{FlyWithJournal}
+use Rattle.stage_steps.specs.Scenes.{Scene, Goes, on_shelf}
+
+-- session s goes from phase x to y, and what is left of its script from `left` to `rest`
+abbrev pub GoesOn : Model → ℕ → Scene → List Item → Phase → Scene → List Item → Phase → List Event → Type 0
+GoesOn M s old left x new rest y es =
+    Goes s x Alive y Alive (λ h g. (dead total : ℕ) → Step M s (on_shelf old h dead) (session left total x) (on_shelf new g dead) (session rest total y) es) old new
+
+-- what the steps of s rest on of others: they have and want the journal for themselves, and who commits has it
+pub record IsAmong (stand : ℕ → Seat) (locks : State) (s : ℕ) : Type 0 where
+  pub rest : OthersKeepTo locks s journal_node
+  pub flies : FlyWithJournal stand locks
+
+-- whether a session of this phase, of whose script this is left, has nothing to do
+abbrev pub is_done : List Item → Phase → Bool
+is_done left Outside = length left == 0
+is_done left Over = true
+is_done left x = false
+
+-- a lock that a statement may ask for: it is plain, and isn't the journal
+abbrev pub MayBeAsked : Option Need → Type 0
+MayBeAsked (Some n) = (is_plain n ≡ true) × (is_on journal_node n.node ≡ false)
+MayBeAsked None = Unit {0}

@@ -1,0 +1,79 @@
+//! A statement of a read-write transaction that is worked.
+ghost use Rattle.std.specs.Prelude.{◌≡◌, None};
+ghost use Rattle.line_store.specs.Seats.{IsMember};
+ghost use Rattle.rdb_types.specs.declared.keys.Dbkey.{Dbkey as Key};
+ghost use Rattle.line_view.specs.declared.need.Need.TheVariants.{Room as OfRoom};
+ghost use Rattle.line_view.specs.declared.need.Room.{Room as RoomValue};
+ghost use Rattle.session_states.specs.declared.stage.Work.TheVariants.{Lacking, Lodging};
+ghost use Rattle.session_states.specs.Locks.{lock_of};
+ghost use Rattle.session_stands.specs.Seated.{IsSeated};
+ghost use Rattle.stage_steps.specs.Asking.{IsOfStatement};
+ghost use Rattle.stage_steps.specs.Happenings.{events_of};
+ghost use Rattle.stage_steps.specs.Scenes.{ComesIn, PassesOn, scene};
+ghost use Rattle.stage_steps.specs.Turns.{at_stage};
+ghost use Rattle.line_arms.specs.Going.{MayBeAsked};
+
+use job_steps::compute;
+use line_store::LineStore;
+use line_view::Need;
+use rdb_types::Session;
+use rdo_ast::syntax::Item;
+use reserved_locks::Reserves;
+use session_jobs::Statements;
+use session_states::{Phase, Stage, Work, lock_of};
+use stage_steps::{Common, Terms, Turned, fetch_locked, hand_out, open, quiet, want};
+
+/// One step of a statement's work.
+pub(crate) fn go_on_working<S: Reserves, L: LineStore>(
+    common: &mut Common<L>,
+    s: Session,
+    terms: Terms,
+    item: Item,
+    work: Work,
+) -> Turned
+    requires member { IsMember s.number }
+    requires seated { IsSeated (L.sight common.old.store).stand common.old.tree s.number (at_stage terms (Stage.Working item work)) }
+    ensures { ComesIn S.stands s.number (scene common.old.word (L.sight common.old.store) common.old.tree) (at_stage terms (Stage.Working item work))
+        (scene common.new.word (L.sight common.new.store) common.new.tree) result.phase (events_of s.number result.happened) }
+{
+    match work {
+        Work::Opening => open::<S, L>(&mut common.store, s, terms, item),
+        Work::Due => quiet(hand_out::<S>(terms, item)),
+        Work::Out => compute::<S, L>(common, s, terms, item),
+        Work::Fetching(need) => fetch_locked::<S, L>(common, s, terms, item, need),
+        Work::Lacking(Need::Room(_)) => quiet(hand_in::<S>(terms, item)),
+        Work::Lodging(..) => quiet(hand_in::<S>(terms, item)),
+        Work::Lacking(_) | Work::Housing(..) => {
+            want_lock::<S, L>(common, s, terms, Stage::Working(item, work))
+        }
+    }
+}
+
+/// Asks for the lock that the stage of a statement wants.
+pub(crate) fn want_lock<S: Statements, L: LineStore>(
+    common: &mut Common<L>,
+    s: Session,
+    terms: Terms,
+    stage: Stage,
+) -> Turned
+    requires member { IsMember s.number }
+    requires seated { IsSeated (L.sight common.old.store).stand common.old.tree s.number (at_stage terms stage) }
+    requires statement { IsOfStatement stage }
+    requires wants { lock_of stage ≡ None → ⊥ }
+    requires asked { MayBeAsked (lock_of stage) }
+    ensures { ComesIn S.stands s.number (scene common.old.word (L.sight common.old.store) common.old.tree) (at_stage terms stage)
+        (scene common.new.word (L.sight common.new.store) common.new.tree) result.phase (events_of s.number result.happened) }
+{
+    let Some(need) = lock_of(&stage) else {
+        unreachable!();
+    };
+    want::<S, L>(common, s, terms, stage, need)
+}
+
+// The job of a statement that lacks a room names it anew, in a round of needs.
+fn hand_in<S: Statements>(terms: Terms, item: Item) -> Phase
+    ensures lacks { (room : RoomValue) → PassesOn S.stands (at_stage terms (Stage.Working item (Lacking (OfRoom room)))) result }
+    ensures lodges { (room : RoomValue) (key : Key) → PassesOn S.stands (at_stage terms (Stage.Working item (Lodging room key))) result }
+{
+    terms.at(Stage::Working(item, Work::Due))
+}

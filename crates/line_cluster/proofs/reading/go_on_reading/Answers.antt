@@ -1,5 +1,0 @@
-use Rattle.line_cluster.proofs.Arms.{reads-on}
-use Rattle.line_cluster.proofs.reading.go_on_reading.Goals as goal
-
-pub returns-in-Working : goal.returns-in-Working
-returns-in-Working g c = reads-on _ _ _ _ c.args.reader _ _ _ _ c.in-Working.is c.look.ensures

@@ -1,5 +1,0 @@
-use Rattle.line_cluster.proofs.Arms.{goes-on}
-use Rattle.line_cluster.proofs.writing.go_on_writing.Goals as goal
-
-pub returns-in_default : goal.returns-in_default
-returns-in_default g c = goes-on _ _ _ _ _ _ _ _ c.go_on_stage.ensures
