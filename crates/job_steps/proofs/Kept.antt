@@ -1,5 +1,6 @@
 -- What a START_TRANSACTION reserves, and the step that keeps its record.
 use Rattle.std.proofs.Common.{◌≡◌, ℕ, Bool, true, false, [], List, refl, sym, ap, subst, Option, Some, None, slice_get}
+use Rattle.std.specs.Prelude.{MatchOption}
 use Rattle.rdo_ast.specs.declared.reply.Standing.{Standing}
 use Rattle.rdo_ast.specs.declared.reply.Standing.TheVariants.{Closed}
 use Rattle.rdo_ast.specs.declared.syntax.Item.{Item}
@@ -33,6 +34,9 @@ module _ (M : Model) (orderly : IsOrderly M) where
   pub reserved-of : (t : Terms) (item : Item) (wait : Bool) (rs : List Reservation) (locks : List Need) → uttered_of item ≡ said (start_read_write wait rs) → t.standing ≡ Closed →
       WhereItAgrees M (knows t.known) (λ u. AreLocksOf rs u locks) → IsReserved M t item locks
   reserved-of t item wait rs locks is closed named = record { wait = wait; reserved = rs; begins = is; closed = closed; asked = locks-asked M orderly (knows t.known) rs locks named }
+
+  pub reserved-in : (t : Terms) (item : Item) (found : Option (List Need)) (locks : List Need) → found ≡ Some locks → MatchOption found (Unit {0}) (λ ls. IsReserved M t item ls) → IsReserved M t item locks
+  reserved-in t item found locks is h = subst (λ (f : Option (List Need)). MatchOption f (Unit {0}) (λ ls. IsReserved M t item ls)) is h
 
   -- its locks are wanted
   pub reserves-kept : (s : ℕ) (c : Shared) (t : Terms) (item : Item) (r : TxRecord) (locks : List Need) → IsReserved M t item locks → IsFound M c.word t.standing (uttered_of item) (knows t.known) (Done r) →

@@ -4,6 +4,8 @@ ghost use Rattle.rdo_ast.specs.Views.{uttered_of};
 ghost use Rattle.line_store.specs.Seats.{IsMember, IsWriting};
 ghost use Rattle.line_view.specs.Held.{knows};
 ghost use Rattle.session_jobs.specs.Jobs.{IsFound};
+ghost use Rattle.session_states.specs.declared.stage.Stage.TheVariants.{Working};
+ghost use Rattle.session_states.specs.declared.stage.Work.TheVariants.{Out};
 ghost use Rattle.stage_steps.specs.Happenings.{events_of};
 ghost use Rattle.stage_steps.specs.Scenes.{ComesIn, scene};
 ghost use Rattle.stage_steps.specs.Turns.{at_stage};
@@ -28,7 +30,7 @@ pub fn take_found<S: Reserves, L: LineStore>(
     requires member { IsMember s.number }
     requires seat { IsWriting ((L.sight common.old.store).stand s.number) }
     requires found { IsFound S.stands common.old.word terms.standing (uttered_of item) (knows terms.known) found }
-    ensures { ComesIn S.stands s.number (scene common.old.word (L.sight common.old.store) common.old.tree) (at_stage terms (Stage.Working item Work.Out))
+    ensures { ComesIn S.stands s.number (scene common.old.word (L.sight common.old.store) common.old.tree) (at_stage terms (Working item Out))
         (scene common.new.word (L.sight common.new.store) common.new.tree) result.phase (events_of s.number result.happened) }
 {
     match found {
@@ -47,7 +49,7 @@ pub fn compute<S: Reserves, L: LineStore>(
 ) -> Turned
     requires member { IsMember s.number }
     requires seat { IsWriting ((L.sight common.old.store).stand s.number) }
-    ensures { ComesIn S.stands s.number (scene common.old.word (L.sight common.old.store) common.old.tree) (at_stage terms (Stage.Working item Work.Out))
+    ensures { ComesIn S.stands s.number (scene common.old.word (L.sight common.old.store) common.old.tree) (at_stage terms (Working item Out))
         (scene common.new.word (L.sight common.new.store) common.new.tree) result.phase (events_of s.number result.happened) }
 {
     let Ok(word) = common.word.copied(common.alloc) else {
