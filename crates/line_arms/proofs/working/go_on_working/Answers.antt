@@ -1,3 +1,6 @@
+use Rattle.std.proofs.Common.{rules, ◌≡◌}
+use Rattle.line_view.specs.declared.need.Need.TheVariants.{Room}
+use Rattle.session_states.specs.declared.stage.Work.TheVariants.{Lacking}
 use Rattle.rdo_ast.specs.Views.{uttered_of}
 use Rattle.stage_steps.specs.Scenes.{scene}
 use Rattle.line_arms.proofs.Arms.{quiet-comes, passes}
@@ -12,3 +15,11 @@ returns-in-Due g c = rw c.in-Due.is (quiet-comes _ _ _ _ _ _ _ _ c.quiet.ensures
 
 pub want_lock-requires-clause-asked : goal.want_lock-requires-clause-asked
 want_lock-requires-clause-asked g c = work-asked (uttered_of c.args.item) c.args.work
+
+pub returns-in-Lacking-Room : goal.returns-in-Lacking-Room
+returns-in-Lacking-Room g c =
+    let is : c.args.work ≡ Lacking (Room c.in-Lacking-Room.field-0-0) = search rules in
+    rw is (quiet-comes _ _ _ _ _ _ _ _ c.quiet-in-Lacking-Room.ensures.phase c.quiet-in-Lacking-Room.ensures.happened (passes _ c.args.s.number (scene c.args.common.now.word (g.L.LineStore.sight c.args.common.now.store) c.args.common.now.tree) _ _ (c.hand_in.ensures.lacks c.in-Lacking-Room.field-0-0)))
+
+pub returns-in-Lodging : goal.returns-in-Lodging
+returns-in-Lodging g c = rw c.in-Lodging.is (quiet-comes _ _ _ _ _ _ _ _ c.quiet-in-Lodging.ensures.phase c.quiet-in-Lodging.ensures.happened (passes _ c.args.s.number (scene c.args.common.now.word (g.L.LineStore.sight c.args.common.now.store) c.args.common.now.tree) _ _ (c.hand_in-in-Lodging.ensures.lodges c.in-Lodging.field-0 c.in-Lodging.field-1)))
