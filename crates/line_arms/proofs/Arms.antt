@@ -1,16 +1,8 @@
 -- From what a stage's function says to what an arm says.
-use Rattle.std.proofs.Common.{◌≡◌, ℕ, List, [], ◌∷◌, ◌++◌, Bool, true, false, refl, ◌∙◌, sym, ap, subst, Option, Some, None}
-use Rattle.std.proofs.lemmas.Option.{none-some}
+use Rattle.std.proofs.Common.{◌≡◌, ℕ, List, [], ◌∷◌, ◌++◌, refl, sym, subst}
 use Rattle.rdo_ast.specs.declared.syntax.Item.{Item}
-use Rattle.rdo_ast.specs.Views.{uttered_of}
 use Rattle.rdb_account.specs.Events.{Event}
-use Rattle.rdb_account.specs.Legal.{ends_by}
-use Rattle.lock_needs.specs.declared.need.Need.{Need}
-use Rattle.lock_needs.specs.Needs.{is_plain}
-use Rattle.lock_needs.specs.Nodes.{is_on}
-use Rattle.line_steps.specs.Images.{journal_node}
 use Rattle.line_store.specs.Shelves.{Shelf}
-use Rattle.line_store.specs.Sights.{Sight}
 use Rattle.line_store.proofs.InTurn.{does-as, does-nothing}
 use Rattle.session_jobs.specs.Records.{Model}
 use Rattle.session_states.specs.declared.stage.Phase.{Phase}

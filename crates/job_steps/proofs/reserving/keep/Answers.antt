@@ -1,10 +1,8 @@
-use Rattle.std.proofs.Common.{rules, ◌≡◌, refl, ◌∙◌, subst}
-use Rattle.session_jobs.specs.declared.jobs.Found.{Found}
+use Rattle.std.proofs.Common.{rules, ◌≡◌, refl, ◌∙◌}
 use Rattle.session_states.specs.declared.stage.Life.TheVariants.{Alive}
 use Rattle.session_states.specs.declared.stage.Work.TheVariants.{Out}
 use Rattle.session_states.specs.declared.stage.Stage.TheVariants.{Working, Reserving}
 use Rattle.session_states.proofs.Working.{returns-done}
-use Rattle.session_states.proofs.Resting.{rests-by}
 use Rattle.stage_steps.specs.Scenes.{scene}
 use Rattle.stage_steps.specs.Turns.{at_stage, shared}
 use Rattle.stage_steps.proofs.Goes.{goes-still, comes-as}
