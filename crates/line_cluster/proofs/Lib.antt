@@ -4,3 +4,6 @@ pub mod Asked
 pub mod Falling
 pub mod Beginning
 pub mod Places
+pub mod Marks
+pub mod Coming
+pub mod Resting

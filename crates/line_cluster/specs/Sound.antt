@@ -3,7 +3,6 @@ use Rattle.std.specs.Prelude.{◌≡◌, ◌≤◌, ◌-◌, ◌==◌, ◌&&◌,
 use Rattle.rdo_ast.specs.declared.syntax.Item.{Item}
 use Rattle.rdo_ast.specs.Views.{uttered_of}
 use Rattle.rdb_account.specs.Events.{Event, event_of}
-use Rattle.rdb_account.specs.declared.event.Event.{Event as Declared}
 use Rattle.rdb_account.specs.Places.{Opening}
 use Rattle.rdb_account.specs.Legal.{IsLegal}
 use Rattle.lock_tree_laws.specs.Forest.{State}
@@ -43,11 +42,6 @@ pub record IsOpenedBy (M : Model) (o : Opening) (word : List ℕ) (sight : Sight
 
 abbrev pub fresh_member : List Item → Member
 fresh_member script = session script (length script) Outside
-
--- as contracts see them
-pub record Sessions : Type 0 where
-  pub members : List Member
-  pub events : List Declared
 
 -- they are sound, and so many: no more than the tree of locks has owners
 pub record AreSound (M : Model) (told : Type 0) (o : Opening) (sessions : ℕ) (c : Scene) (members : List Member) (events : List Event) (halt : Option Halt) : Type 0 where

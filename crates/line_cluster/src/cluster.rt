@@ -30,13 +30,14 @@ impl<O: Origin, S: Statements, L: LineStore + Drop> Model for LineCluster<O, S, 
     ghost use Rattle.rdo_ast.specs.contracts.syntax.Action as action_type;
     ghost use Rattle.rdb_account.specs.Events.{event_of};
     ghost use Rattle.stage_steps.specs.Scenes.{scene};
-    ghost use Rattle.line_cluster.specs.Sound.{Sessions, AreSound};
+    ghost use Rattle.line_cluster.specs.Sound.{AreSound};
+    ghost use Rattle.line_cluster.specs.Turned.{Sessions, sessions};
 
     ghost Value = { Sessions };
 
     ghost coded = { Prim.hlevel (codes, action_type.the_row.coded) };
 
-    ghost view = { λ c. record { members = c.core.members.items; events = c.core.events.items } };
+    ghost view = { λ c. sessions c.core.members.items c.core.events.items c.core.common.tree c.core.halt };
 
     ghost invariant = { λ c. AreSound S.stands O.told O.opening O.sessions (scene c.core.common.word (L.sight c.core.common.store) c.core.common.tree) c.core.members.items (map event_of c.core.events.items) c.core.halt };
 }
@@ -75,6 +76,7 @@ impl<O: Origin, S: Statements, L: LineStore + Drop> LineCluster<O, S, L> {
         requires opened { O.told → IsOpenedBy S.stands O.opening word (L.sight store) }
         ensures events { IfOk result (λ c. c.events ≡ []) }
         ensures members { IfOk result (λ c. c.members ≡ map fresh_member scripts.items) }
+        ensures going { IfOk result (λ c. c.halted ≡ false) }
     {
         let members = members_of(alloc, scripts)?;
         Ok(LineCluster {
@@ -97,6 +99,8 @@ impl<O: Origin, S: Statements, L: LineStore + Drop> LineCluster<O, S, L> {
     /// A turn of a session: its next step, or whom it waits for.
     pub fn turn(&mut self, s: Session) -> Turn
         requires session { IsSession O.sessions s.number }
+        ensures came { Came s.number self.old self.new result }
+        ensures rests { O.told → Rests O.opening s.number self.old result }
     {
         self.core.turn(s)
     }
@@ -124,8 +128,13 @@ impl<O: Origin, S: Statements, L: LineStore + Drop> LineCluster<O, S, L> {
     /// What is true of the sessions at every moment.
     pub fn facts(&self)
         ensures legal { O.told → IsLegal O.opening (map event_of self.now.events) }
+        ensures count { length self.now.members ≡ O.sessions }
+        ensures seated { self.now.halted ≡ false → (stand : ℕ → Seat) × AreSeated stand self.now.locks self.now.members }
+        ensures locks { IsWhole self.now.locks }
+        ensures whole { O.told → self.now.halted ≡ false → HaveEnded self.now.members → AreWhole (is_session O.sessions) O.opening (map event_of self.now.events) }
     {
-        let _ = &self.core;
+        // (so the tree is whole)
+        let _mode = self.core.common.tree.wanted(1);
     }
 
     /// The events of the run.

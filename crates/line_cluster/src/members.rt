@@ -5,6 +5,7 @@ ghost use Rattle.session_states.specs.declared.stage.Life.TheVariants as life;
 ghost use Rattle.session_states.specs.declared.stage.Phase.TheVariants as phase;
 ghost use Rattle.session_states.specs.declared.stage.Member.{Member as MemberValue};
 ghost use Rattle.line_cluster.specs.Going.{is_done as is_done_at, is_over as is_over_at, writes_at};
+ghost use Rattle.line_cluster.specs.Turned.{is_patient_at};
 
 use rdb_types::Session;
 use session_states::{ItemQueue, Life, Member, Phase};
@@ -37,6 +38,16 @@ pub(crate) fn is_writing(member: &Member) -> bool
 {
     match (&member.life, &member.phase) {
         (Life::Alive, Phase::Writing(_)) => true,
+        _ => false,
+    }
+}
+
+/// Whether a want of a session sleeps where it isn't got at once.
+pub(crate) fn is_patient(member: &Member) -> bool
+    ensures { result ≡ is_patient_at member.now.phase }
+{
+    match &member.phase {
+        Phase::Writing(writer) => writer.waits,
         _ => false,
     }
 }

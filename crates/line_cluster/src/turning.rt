@@ -1,5 +1,5 @@
 //! A turn of a session.
-ghost use Rattle.std.specs.Prelude.{◌≡◌, ◌≤◌, ◌+◌, ◌-◌, ◌++◌, [], length, map, None, Some, true, false, slice_get, OnOk};
+ghost use Rattle.std.specs.Prelude.{◌≡◌, ℕ, ◌≤◌, ◌+◌, ◌-◌, ◌++◌, [], length, map, None, Some, true, false, slice_get, IfSome};
 ghost use Rattle.rdb_account.specs.Events.{event_of};
 ghost use Rattle.line_store.specs.Seats.{IsMember};
 ghost use Rattle.session_states.specs.declared.stage.Member.{Member as MemberValue};
@@ -8,11 +8,12 @@ ghost use Rattle.stage_steps.specs.Happenings.{events_of, handed_back};
 ghost use Rattle.stage_steps.specs.Scenes.{scene};
 ghost use Rattle.line_cluster.specs.Sound.{IsSound, IsOneOf};
 ghost use Rattle.line_cluster.specs.Going.{IsWriterAt, is_over as is_over_at};
+ghost use Rattle.line_cluster.specs.Turned.{Came, Rests, Waits, is_patient_at, sessions};
 ghost use Rattle.std.specs.Vec.{vec_len, vec_capacity};
 
 use crate::falls::first_dead;
 use crate::going::go_on;
-use crate::members::{is_over, is_writing, put_member, take_member};
+use crate::members::{is_over, is_patient, is_writing, put_member, take_member};
 use crate::notes::{Notes, Notice};
 use crate::origin::Origin;
 use crate::sessions::{Core, Halt, Turn};
@@ -25,16 +26,15 @@ use session_states::Member;
 use stage_steps::{Happening, serve};
 use std::alloc::Global;
 
-// What a turn is where this happened, or why no session goes on behind it.
-fn turn_of(happened: &Happening) -> Result<Turn, Halt>
-    ensures { OnOk result (handed_back happened.now ≡ []) }
+// Why no session goes on once this happened.
+fn halt_of(happened: &Happening) -> Option<Halt>
+    ensures { result ≡ None → handed_back happened.now ≡ [] }
 {
     match happened {
-        Happening::Asleep(other, _) => Ok(Turn::Asleep(Session { number: *other })),
-        Happening::Failed(fault) => Err(Halt::Device(*fault)),
-        Happening::Unlaid(key) => Err(Halt::Unlaid(*key)),
-        Happening::Unworked | Happening::Unanswered(_) => Err(Halt::Unworked),
-        _ => Ok(Turn::Moved),
+        Happening::Failed(fault) => Some(Halt::Device(*fault)),
+        Happening::Unlaid(key) => Some(Halt::Unlaid(*key)),
+        Happening::Unworked | Happening::Unanswered(_) => Some(Halt::Unworked),
+        _ => None,
     }
 }
 
@@ -50,23 +50,23 @@ fn notice_of(happened: &Happening) -> Option<Notice> {
     }
 }
 
-// Notes what happened in a step.
+// Notes what happened in a step, or why no session goes on behind it.
 fn settle(
     events: &mut Vec<Event>,
     notes: &mut Notes,
     alloc: Global,
     s: Session,
     happened: Happening,
-) -> Result<Turn, Halt>
+) -> Option<Halt>
     requires member { IsMember s.number }
     requires room { vec_len events.old + 6 ≤ vec_capacity events.old }
     ensures events { map event_of events.new.items ≡ map event_of events.old.items ++ events_of s.number happened }
-    ensures going { OnOk result (handed_back happened ≡ []) }
+    ensures going { result ≡ None → handed_back happened ≡ [] }
 {
-    let turn = turn_of(&happened);
+    let halt = halt_of(&happened);
     notes.put(s, notice_of(&happened));
     record(events, alloc, s, happened);
-    turn
+    halt
 }
 
 impl<O: Origin, S: Statements, L: LineStore> Core<O, S, L> {
@@ -75,6 +75,7 @@ impl<O: Origin, S: Statements, L: LineStore> Core<O, S, L> {
         requires sound { IsSound S.stands O.told O.opening (scene self.old.common.word (L.sight self.old.common.store) self.old.common.tree) self.old.members.items (map event_of self.old.events.items) self.old.halt }
         ensures sound { IsSound S.stands O.told O.opening (scene self.new.common.word (L.sight self.new.common.store) self.new.common.tree) self.new.members.items (map event_of self.new.events.items) self.new.halt }
         ensures members { self.new.members.items ≡ self.old.members.items }
+        ensures came { (s : ℕ) → Came s (sessions self.old.members.items self.old.events.items self.old.common.tree self.old.halt) (sessions self.new.members.items self.new.events.items self.new.common.tree self.new.halt) result }
     {
         self.halt = Some(halt);
         Turn::Stopped
@@ -86,6 +87,8 @@ impl<O: Origin, S: Statements, L: LineStore> Core<O, S, L> {
         requires sound { IsSound S.stands O.told O.opening (scene self.old.common.word (L.sight self.old.common.store) self.old.common.tree) self.old.members.items (map event_of self.old.events.items) self.old.halt }
         ensures sound { IsSound S.stands O.told O.opening (scene self.new.common.word (L.sight self.new.common.store) self.new.common.tree) self.new.members.items (map event_of self.new.events.items) self.new.halt }
         ensures count { length self.new.members.items ≡ length self.old.members.items }
+        ensures came { Came s.number (sessions self.old.members.items self.old.events.items self.old.common.tree self.old.halt) (sessions self.new.members.items self.new.events.items self.new.common.tree self.new.halt) result }
+        ensures rests { O.told → Rests O.opening s.number (sessions self.old.members.items self.old.events.items self.old.common.tree self.old.halt) result }
     {
         if self.halt.is_some() {
             return Turn::Stopped;
@@ -97,6 +100,9 @@ impl<O: Origin, S: Statements, L: LineStore> Core<O, S, L> {
         if is_over(&self.members[at]) {
             return Turn::Ended;
         }
+        if let Some(other) = self.blocker(s, at) {
+            return Turn::Asleep(other);
+        }
         if reserve_step(&mut self.events).is_err() {
             return self.stop(Halt::NoMemory);
         }
@@ -104,6 +110,20 @@ impl<O: Origin, S: Statements, L: LineStore> Core<O, S, L> {
             Some(notice) => self.serve_notice(s, notice),
             None => self.step(s, at),
         }
+    }
+
+    // For whom a session waits that has something left to do, unless its transaction never waits.
+    fn blocker(&self, s: Session, at: usize) -> Option<Session>
+        requires one { IsOneOf self.now.members.items s.number }
+        requires at { at ≡ s.number - 1 }
+        requires lives { (m : MemberValue) → slice_get self.now.members.items at ≡ Some m → is_over_at m m.life ≡ false }
+        ensures { IfSome result (λ t. Waits s.number t.number (sessions self.now.members.items self.now.events.items self.now.common.tree self.now.halt)) }
+    {
+        if !is_patient(&self.members[at]) {
+            return None;
+        }
+        let number = self.common.tree.blocker(s.number)?;
+        Some(Session { number })
     }
 
     // Whether this is one of the sessions, and has a read-write transaction.
@@ -128,6 +148,7 @@ impl<O: Origin, S: Statements, L: LineStore> Core<O, S, L> {
         requires room { vec_len self.old.events + 6 ≤ vec_capacity self.old.events }
         ensures sound { IsSound S.stands O.told O.opening (scene self.new.common.word (L.sight self.new.common.store) self.new.common.tree) self.new.members.items (map event_of self.new.events.items) self.new.halt }
         ensures count { length self.new.members.items ≡ length self.old.members.items }
+        ensures came { Came s.number (sessions self.old.members.items self.old.events.items self.old.common.tree self.old.halt) (sessions self.new.members.items self.new.events.items self.new.common.tree self.new.halt) result }
     {
         let Notice { to, node, mode } = notice;
         self.notes.put(s, None);
@@ -154,6 +175,7 @@ impl<O: Origin, S: Statements, L: LineStore> Core<O, S, L> {
         requires work { (m : MemberValue) → slice_get self.old.members.items at ≡ Some m → is_over_at m m.life ≡ false }
         ensures sound { IsSound S.stands O.told O.opening (scene self.new.common.word (L.sight self.new.common.store) self.new.common.tree) self.new.members.items (map event_of self.new.events.items) self.new.halt }
         ensures count { length self.new.members.items ≡ length self.old.members.items }
+        ensures came { Came s.number (sessions self.old.members.items self.old.events.items self.old.common.tree self.old.halt) (sessions self.new.members.items self.new.events.items self.new.common.tree self.new.halt) result }
     {
         let Member {
             left,
@@ -172,8 +194,8 @@ impl<O: Origin, S: Statements, L: LineStore> Core<O, S, L> {
         put_member(&mut self.members, at, behind);
         let alloc = self.common.alloc;
         match settle(&mut self.events, &mut self.notes, alloc, s, turned.happened) {
-            Ok(turn) => turn,
-            Err(halt) => {
+            None => Turn::Moved,
+            Some(halt) => {
                 self.halt = Some(halt);
                 Turn::Stopped
             }

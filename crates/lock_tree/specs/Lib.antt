@@ -1,3 +1,4 @@
 pub mod Notices
 pub mod States
+pub mod Sleeping
 pub mod Inner

@@ -1,11 +1,15 @@
-ghost use Rattle.std.specs.Prelude.{◌≡◌, ℕ, true, nat_eq, IfSome, IfNone};
+ghost use Rattle.std.specs.Prelude.{◌≡◌, ℕ, true, false, None, nat_eq, IfSome, IfNone};
 ghost use Rattle.indexmap.specs.IndexMap.{IsUnique};
 ghost use Rattle.vms_locks.specs.Table.{queues_at, IsLive, WaitsIn};
 ghost use Rattle.lock_needs.specs.Wants.{sleeps_at};
+ghost use Rattle.lock_tree_laws.specs.Forest.{IsWhole};
 ghost use Rattle.lock_tree_laws.specs.LockTable.{granted_at};
 ghost use Rattle.lock_tree_laws.specs.Wanted.{is_known, someone_sleeps};
+ghost use Rattle.lock_tree.specs.Sleeping.{IsBlockedBy, is_sleeping};
+ghost use Rattle.lock_tree.specs.States.{state_of};
 
 use crate::holding::granted_of;
+use crate::parts::Parts;
 use indexmap::IndexMap;
 use lock_needs::{Node, OpenWant, Party, mode_for};
 use vms_locks::Locks;
@@ -43,4 +47,24 @@ pub(crate) fn find_blocker(locks: &Locks, parties: &IndexMap<u32, Party>, owner:
         }
     }
     None
+}
+
+impl Parts {
+    // For whom the owner waits, where its open want is queued.
+    pub(crate) fn blocker(&self, owner: u32) -> Option<u32>
+        requires whole { IsWhole (state_of self.now) }
+        ensures waits { IfSome result (λ t. IsBlockedBy (state_of self.now) owner t) }
+        ensures none { result ≡ None → is_sleeping (state_of self.now) owner ≡ false }
+    {
+        let Some(want) = self.opened_of(owner) else {
+            return None;
+        };
+        if !is_asleep(&self.locks, owner, Some(want), want.here) {
+            return None;
+        }
+        let Some(other) = find_blocker(&self.locks, &self.parties, owner) else {
+            unreachable!();
+        };
+        Some(other)
+    }
 }

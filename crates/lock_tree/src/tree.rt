@@ -1,4 +1,4 @@
-ghost use Rattle.std.specs.Prelude.{◌≡◌, ◌≤◌, ◌+◌, [], length, true, false, None, Some, is_some, option_map, slice_get, IfOk, OnOk, OnErr};
+ghost use Rattle.std.specs.Prelude.{◌≡◌, ◌≤◌, ◌+◌, [], length, true, false, None, Some, is_some, option_map, slice_get, IfOk, IfSome, OnOk, OnErr};
 ghost use Rattle.rdb_types.specs.declared.node.Node.{Node};
 ghost use Rattle.vms_queues.specs.declared.lock_mode.Mode.TheVariants.{NL};
 ghost use Rattle.vms_queues.specs.Modes.{at_most};
@@ -10,6 +10,7 @@ ghost use Rattle.lock_needs.specs.Wants.{kept_at};
 ghost use Rattle.lock_tree_laws.specs.LockTable.{granted_at, AllShare, KeepsLocks};
 ghost use Rattle.lock_tree_laws.specs.Forest.{IsWhole, KeepsParties, NeedsAreApart, idle, party_of, has_need, asks_of};
 ghost use Rattle.lock_tree.specs.Notices.{notice_answer};
+ghost use Rattle.lock_tree.specs.Sleeping.{IsBlockedBy, is_sleeping};
 ghost use Rattle.lock_tree_laws.specs.Progress.{is_spare, Falls, LeavesLocks, MovesOn};
 ghost use Rattle.lock_tree_laws.specs.Rule.{Finishes, GoesDown, entered};
 ghost use Rattle.lock_tree_laws.specs.Wanted.{MayTakeWhole, needs_of, wanted_of, IsOf, IsLooking, Answered, GotAtOnce, GotWhole, want_of, AddsAsks, trail_of_want};
@@ -186,6 +187,15 @@ impl Tree {
             Some(party) => party.needs().iter().any(|held| *held == need),
             None => false,
         }
+    }
+
+    /// For whom the owner waits: its open want is queued at the node that it has come to, and this owner is the first in its way there.
+    /// None exactly where no want of the owner is queued.
+    pub fn blocker(&self, owner: u32) -> Option<u32>
+        ensures waits { IfSome result (λ t. IsBlockedBy self.now owner t) }
+        ensures none { result ≡ None → is_sleeping self.now owner ≡ false }
+    {
+        self.parts.blocker(owner)
     }
 
     /// The modes of the needs that the owner has got on the node, joined; NL where it has got none there. Needs on nodes above or below

@@ -1,0 +1,65 @@
+-- What a step adds to the account is of its session, with one answer at most.
+use Rattle.std.proofs.Common.{◌≡◌, ◌≤◌, ℕ, ◌+◌, ◌++◌, ◌∷◌, [], List, refl, ◌∙◌, ap, subst, arith, map, Option, Some, None}
+use Rattle.std.proofs.lemmas.List.{map-append}
+use Rattle.rdb_types.specs.declared.node.Node.{Node}
+use Rattle.lock_needs.specs.declared.need.Need.{Need}
+use Rattle.lock_ties.specs.Ties.{wanted_at}
+use Rattle.lock_tree.specs.declared.notice.Demotion.{Demotion}
+use Rattle.rdb_account.specs.Events.{Event}
+use Rattle.rdb_drive.specs.Boards.{Mark, Says, Does, Other, AllOf, answers, answers_of}
+use Rattle.stage_steps.specs.declared.happening.Asking.{Asking}
+use Rattle.stage_steps.specs.declared.happening.Happening.{Happening}
+use Rattle.stage_steps.specs.declared.happening.Happening.TheVariants.{Quiet, Began, Answered, Unstarted, Asleep, Noticed, Got, Refused, RefusedStart, Committed, RolledBack, Left, Failed, Unlaid, Unworked, Unanswered}
+use Rattle.stage_steps.specs.Happenings.{events_of, asked_by}
+use Rattle.stage_steps.specs.Notices.{demoted_by}
+use Rattle.line_cluster.specs.Turned.{mark_of}
+
+abbrev pub IsOf : ℕ → List Event → Type 0
+IsOf s es = AllOf s (map mark_of es) × (answers (map mark_of es) ≤ 1)
+
+all-append : (s : ℕ) (xs ys : List Mark) → AllOf s xs → AllOf s ys → AllOf s (xs ++ ys)
+all-append s [] ys a b = b
+all-append s (x ∷ xs) ys a b = (a.0, all-append s xs ys a.1 b)
+
+answers-append : (xs ys : List Mark) → answers (xs ++ ys) ≡ answers xs + answers ys
+answers-append [] ys = refl
+answers-append (x ∷ xs) ys = let more = answers-append xs ys in omega (arith, more)
+
+wanted-marks : (s : ℕ) (n : Need) (nodes : List Node) → AllOf s (map mark_of (wanted_at s n nodes)) × (answers (map mark_of (wanted_at s n nodes)) ≡ 0)
+wanted-marks s n [] = (tt, refl)
+wanted-marks s n (node ∷ nodes) = let more = wanted-marks s n nodes in ((refl, more.0), more.1)
+
+asked-with : (s : ℕ) (x : Asking) (es : List Event) → IsOf s es → IsOf s (asked_by s x ++ es)
+asked-with s x es of =
+    let w = wanted-marks s x.need x.nodes in
+    let e = map-append mark_of (asked_by s x) es in
+    let sum = answers-append (map mark_of (asked_by s x)) (map mark_of es) in
+    let none = w.1 in
+    let few = of.1 in
+    rw e (all-append s (map mark_of (asked_by s x)) (map mark_of es) w.0 of.0, omega (arith, sum, none, few))
+
+asked-alone : (s : ℕ) (x : Asking) → IsOf s (asked_by s x)
+asked-alone s x = let w = wanted-marks s x.need x.nodes in let none = w.1 in (w.0, omega (arith, none))
+
+pub step-marks : (s : ℕ) (h : Happening) → IsOf s (events_of s h)
+step-marks s Quiet = (tt, omega arith)
+step-marks s (Began kind) = ((refl, tt), omega arith)
+step-marks s (Answered a) = ((refl, tt), omega arith)
+step-marks s (Unstarted a) = ((refl, (refl, tt)), omega arith)
+step-marks s (Asleep t x) = asked-alone s x
+step-marks s (Noticed t n mode x) = asked-alone s x
+step-marks s (Got x) = asked-with s x _ ((refl, tt), omega arith)
+step-marks s (Refused x a) = asked-with s x _ ((refl, tt), omega arith)
+step-marks s (RefusedStart x a) = asked-with s x _ ((refl, (refl, tt)), omega arith)
+step-marks s (Committed moment) = ((refl, (refl, tt)), omega arith)
+step-marks s RolledBack = ((refl, (refl, tt)), omega arith)
+step-marks s Left = ((refl, tt), omega arith)
+step-marks s (Failed fault) = (tt, omega arith)
+step-marks s (Unlaid key) = (tt, omega arith)
+step-marks s Unworked = (tt, omega arith)
+step-marks s (Unanswered item) = (tt, omega arith)
+
+-- a lock that comes down is nobody's event
+pub notice-marks : (s t : ℕ) (node : Node) (d : Option Demotion) → IsOf s (demoted_by t node d)
+notice-marks s t node None = (tt, omega arith)
+notice-marks s t node (Some d) = ((tt, tt), omega arith)

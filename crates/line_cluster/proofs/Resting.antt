@@ -1,0 +1,127 @@
+-- Who rests does so in the account.
+use Rattle.std.proofs.Common.{◌≡◌, ◌≤◌, ◌-◌, ℕ, zero, suc, ◌++◌, ◌∷◌, [], List, length, Bool, true, false, not, nat_le, ◌&&◌, refl, ◌∙◌, sym, ap, subst, arith, map, Option, Some, None, slice_get, option_map, ◌==◌, ◌⊎◌}
+use Rattle.std.proofs.lemmas.Bool.{false≢true}
+use Rattle.rdo_ast.specs.declared.syntax.Item.{Item}
+use Rattle.rdo_ast.specs.Tree.{Uttered}
+use Rattle.rdo_ast.specs.Views.{uttered_of}
+use Rattle.rdb_account.specs.Events.{Event}
+use Rattle.rdb_account.specs.Places.{Opening, Place, place, next_item}
+use Rattle.rdb_account.specs.Legal.{AreWhole, has_not_died}
+use Rattle.rdb_account.specs.Lawful.{is_nowait}
+use Rattle.lock_tree.specs.Sleeping.{IsBlockedBy}
+use Rattle.lock_tree_laws.specs.Forest.{State, party_of, open_asks}
+use Rattle.lock_ties.proofs.Causes.{tree-waits}
+use Rattle.line_steps.specs.Members.{Member as Seen, left_of}
+use Rattle.line_steps.specs.Right.{Ground, Stands}
+use Rattle.line_store.specs.Shelves.{Shelf}
+use Rattle.line_store.specs.Sights.{Sight}
+use Rattle.session_jobs.specs.Records.{Model}
+use Rattle.session_states.specs.declared.stage.Phase.{Phase}
+use Rattle.session_states.specs.declared.stage.Phase.TheVariants.{Outside, Closing, Writing, Reading, Over}
+use Rattle.session_states.specs.declared.stage.Life.{Life}
+use Rattle.session_states.specs.declared.stage.Life.TheVariants.{Alive, Dead, Gone}
+use Rattle.session_states.specs.declared.stage.Member.{Member}
+use Rattle.session_states.specs.States.{seen}
+use Rattle.session_states.specs.Fits.{LifeFits, PhaseFits, WriterFits}
+use Rattle.session_states.specs.Kept.{AreKept}
+use Rattle.session_states.specs.Shared.{Shared}
+use Rattle.session_stands.specs.Sessions.{IsTold, sharing, dead_in}
+use Rattle.line_cluster.specs.Going.{is_over, is_done}
+use Rattle.line_cluster.specs.Turned.{SleepsFor, is_patient_at, HaveEnded, is_session}
+
+-- ---- who waits
+
+patient-waits : (M : Model) (p : Place) (g : Ground) (c : Shared) (s : ℕ) (left : List Item) (x : Phase) (l : Life) → l ≡ Alive → is_patient_at x ≡ true → LifeFits M p g c s left x l → is_nowait (p.transaction s) ≡ false
+patient-waits M p g c s left (Writing w) Alive alive patient f = f.waits ∙ ap not patient
+patient-waits M p g c s left Outside l alive patient f = absurd (false≢true patient)
+patient-waits M p g c s left Closing l alive patient f = absurd (false≢true patient)
+patient-waits M p g c s left (Reading r) l alive patient f = absurd (false≢true patient)
+patient-waits M p g c s left Over l alive patient f = absurd (false≢true patient)
+patient-waits M p g c s left (Writing w) Dead alive patient f = cc alive
+patient-waits M p g c s left (Writing w) Gone alive patient f = cc alive
+
+pub asleep-rests : (M : Model) (o : Opening) (word : List ℕ) (sight : Sight) (locks : State) (members : List Member) (events : List Event) (i t : ℕ) (m : Member) →
+    IsTold M o word sight locks members events → slice_get members i ≡ Some m → m.life ≡ Alive → is_patient_at m.phase ≡ true → IsBlockedBy locks (suc i) t → SleepsFor (place o events) (suc i) t
+asleep-rests M o word sight locks members events i t m told found alive patient b =
+    let k = told.kept in
+    (tree-waits (place o events) (party_of locks.parties) (open_asks locks.parties locks.trail) (suc i) t k.tied b.sleeps.by_needs,
+    patient-waits M (place o events) k.ground (sharing word told.shelf locks (dead_in members)) (suc i) m.left m.phase m.life alive patient (k.phases i m found))
+
+-- ---- who has ended
+
+-- a session by its number
+member-within : (ms : List Member) (s : ℕ) → 1 ≤ s → s ≤ length ms → (i : ℕ) × ((m : Member) × ((s ≡ suc i) × (slice_get ms i ≡ Some m)))
+member-within ms zero first last = absurd (omega arith)
+member-within [] (suc i) first last = absurd (omega arith)
+member-within (m ∷ ms) (suc zero) first last = (0, m, refl, refl)
+member-within (m ∷ ms) (suc (suc i)) first last = let more = member-within ms (suc i) (omega arith) (omega arith) in (suc more.0, more.1, ap suc more.2, more.3)
+
+none-behind : {A : Type 0} (xs ys : List A) → ys ≡ [] → slice_get (xs ++ ys) (length xs) ≡ None
+none-behind [] ys e = rw e refl
+none-behind (x ∷ xs) ys e = none-behind xs ys e
+
+length-all : {A : Type 0} (xs ys : List A) → ys ≡ [] → length (xs ++ ys) ≡ length xs
+length-all [] ys e = rw e refl
+length-all (x ∷ xs) ys e = ap suc (length-all xs ys e)
+
+empty-left : (left : List Item) → (length left == 0) ≡ true → left ≡ []
+empty-left [] h = refl
+empty-left (x ∷ xs) h = absurd (false≢true h)
+
+-- It has said all, has no transaction open, and hasn't died.
+record HasSaidAll (p : Place) (s : ℕ) (m : Seen) : Type 0 where
+  pub left : left_of m ≡ []
+  pub closed : p.transaction s ≡ None
+  pub lives : has_not_died (p.life s) ≡ true
+
+module _ (M : Model) (o : Opening) (p : Place) (g : Ground) (s : ℕ) where
+  at-end : (left : List Item) (total : ℕ) (x : Phase) (l : Life) → l ≡ Alive → is_over (record { left = left; total = total; phase = x; life = l }) l ≡ true →
+      Stands M o p g s (seen (record { left = left; total = total; phase = x; life = l })) → HasSaidAll p s (seen (record { left = left; total = total; phase = x; life = l }))
+  at-end left total Outside Alive alive over st = record { left = ap (λ items. map uttered_of items) (empty-left left over); closed = st.state; lives = ap has_not_died st.lives }
+  at-end left total Over Alive alive over st = record { left = st.state.1; closed = st.state.0; lives = ap has_not_died st.lives }
+  at-end left total Closing Alive alive over st = absurd (false≢true over)
+  at-end left total (Writing w) Alive alive over st = absurd (false≢true over)
+  at-end left total (Reading r) Alive alive over st = absurd (false≢true over)
+  at-end left total x Dead alive over st = cc alive
+  at-end left total x Gone alive over st = cc alive
+
+  said-all : (m : Member) → m.life ≡ Alive → is_over m m.life ≡ true → Stands M o p g s (seen m) → HasSaidAll p s (seen m)
+  said-all m alive over st = at-end m.left m.total m.phase m.life alive over st
+
+  none-next : (m : Seen) → Stands M o p g s m → left_of m ≡ [] → next_item o p s ≡ None
+  none-next m st none = rw st.script (rw st.count (none-behind st.answered (left_of m) none))
+
+  all-said : (m : Seen) → Stands M o p g s m → left_of m ≡ [] → p.said s ≡ length (o.script s)
+  all-said m st none = st.count ∙ sym (ap length st.script ∙ length-all st.answered (left_of m) none)
+
+map-get : {A B : Type 0} (f : A → B) (xs : List A) (i : ℕ) (x : A) → slice_get xs i ≡ Some x → slice_get (map f xs) i ≡ Some (f x)
+map-get f [] i x h = cc h
+map-get f (y ∷ ys) zero x h = ap (λ (z : Option _). option_map f z) h
+map-get f (y ∷ ys) (suc i) x h = map-get f ys i x h
+
+module _ (M : Model) (o : Opening) (word : List ℕ) (sight : Sight) (locks : State) (members : List Member) (events : List Event) (told : IsTold M o word sight locks members events) where
+  stands : (i : ℕ) (m : Member) → slice_get members i ≡ Some m → Stands M o (place o events) told.kept.ground (suc i) (seen m)
+  stands i m found = told.kept.right.each i (seen m) (map-get seen members i m found)
+
+  pub over-rests : (i : ℕ) (m : Member) → slice_get members i ≡ Some m → m.life ≡ Alive → is_over m m.life ≡ true → next_item o (place o events) (suc i) ≡ None
+  over-rests i m found alive over =
+      let st = stands i m found in
+      none-next M o (place o events) told.kept.ground (suc i) (seen m) st (said-all M o (place o events) told.kept.ground (suc i) m alive over st).left
+
+  -- they have said their scripts to the ends
+  pub all-whole : (sessions : ℕ) → length members ≡ sessions → HaveEnded members → AreWhole (is_session sessions) o events
+  all-whole sessions count ended s is =
+      let at = member-within members s (first-of sessions s is) (within sessions s is) in
+      let e = ended at.0 at.1 at.3 in
+      let st = subst (λ (t : ℕ). Stands M o (place o events) told.kept.ground t (seen at.1)) (sym at.2) (stands at.0 at.1 at.3) in
+      let all = said-all M o (place o events) told.kept.ground s at.1 e.0 e.1 st in
+      (all.lives, all-said M o (place o events) told.kept.ground s (seen at.1) st all.left, all.closed)
+    where
+      first-of : (n s : ℕ) → is_session n s ≡ true → 1 ≤ s
+      first-of n s h = grind arith
+
+      last-of : (n s : ℕ) → is_session n s ≡ true → s ≤ n
+      last-of n s h = grind arith
+
+      within : (n s : ℕ) → is_session n s ≡ true → s ≤ length members
+      within n s h = subst (λ (k : ℕ). s ≤ k) (sym count) (last-of sessions s is)

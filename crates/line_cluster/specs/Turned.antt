@@ -1,0 +1,109 @@
+-- What a turn of a session comes to, as who drives sessions sees it.
+use Rattle.std.specs.Prelude.{◌≡◌, ◌≤◌, ◌<◌, ◌-◌, ◌⊎◌, ◌&&◌, nat_le, ℕ, Bool, true, false, List, ◌++◌, map, Option, Some, None, is_some, slice_get, slice_set}
+use Rattle.rdb_drive.specs.Boards.{Mark, Says, Does, Other, AllOf, answers}
+use Rattle.rdb_account.specs.declared.event.Event.{Event as Declared}
+use Rattle.rdb_account.specs.Events.{Event, Began, Wanted, Got, Demoted, Said, Committed, RolledBack, Died, Recovered, event_of}
+use Rattle.rdb_account.specs.Places.{Opening, Place, place, next_item}
+use Rattle.rdb_account.specs.Lawful.{waits, is_nowait}
+use Rattle.lock_tree.specs.Sleeping.{IsBlockedBy}
+use Rattle.lock_tree_laws.specs.Forest.{State}
+use Rattle.session_states.specs.declared.stage.Phase.{Phase}
+use Rattle.session_states.specs.declared.stage.Phase.TheVariants.{Writing}
+use Rattle.session_states.specs.declared.stage.Life.TheVariants.{Alive}
+use Rattle.session_states.specs.declared.stage.Member.{Member}
+use Rattle.session_stands.specs.Sessions.{dead_in}
+use Rattle.line_cluster.specs.declared.sessions.Halt.{Halt}
+use Rattle.line_cluster.specs.declared.sessions.Turn.{Turn}
+use Rattle.line_cluster.specs.declared.sessions.Turn.TheVariants as turn
+use Rattle.line_cluster.specs.Going.{is_over}
+
+-- the sessions as contracts see them: each with what it has left, what happened, the locks, and whether no session goes on
+pub record Sessions : Type 0 where
+  pub members : List Member
+  pub events : List Declared
+  pub locks : State
+  pub halted : Bool
+
+abbrev pub sessions : List Member → List Declared → State → Option Halt → Sessions
+sessions members events locks halt = record { members = members; events = events; locks = locks; halted = is_some halt }
+
+-- ---- the account as drivers read it
+
+-- a demotion and a recovery hold no session
+abbrev pub mark_of : Event → Mark
+mark_of (Began s kind) = Does s
+mark_of (Wanted s n asked) = Does s
+mark_of (Got s n) = Does s
+mark_of (Demoted s n from to) = Other
+mark_of (Said s item choices reply) = Says s
+mark_of (Committed s moment) = Does s
+mark_of (RolledBack s) = Does s
+mark_of (Died s cause) = Does s
+mark_of (Recovered s committed moment) = Other
+
+-- s waits for t, and its transaction isn't one under NOWAIT
+abbrev pub SleepsFor : Place → ℕ → ℕ → Type 0
+SleepsFor p s t = (waits p s t ≡ true) × (is_nowait (p.transaction s) ≡ false)
+
+-- ---- a turn
+
+-- whether a want of this phase sleeps where it isn't got at once
+abbrev pub is_patient_at : Phase → Bool
+is_patient_at (Writing w) = w.waits
+is_patient_at _ = false
+
+-- session s, which had something left to do, is another, and lives as before
+pub record IsAnother (s : ℕ) (old new : List Member) : Type 0 where
+  pub before : Member
+  pub found : slice_get old (s - 1) ≡ Some before
+  pub going : is_over before before.life ≡ false
+  pub behind : Member
+  pub lives : behind.life ≡ before.life
+  pub is : new ≡ slice_set old (s - 1) behind
+
+-- what happened is of s or of nobody, with one answer at most
+pub record Grows (s : ℕ) (old new : List Declared) : Type 0 where
+  pub more : List Event
+  pub grown : map event_of new ≡ map event_of old ++ more
+  pub of_s : AllOf s (map mark_of more)
+  pub one : answers (map mark_of more) ≤ 1
+
+pub record GoesFurther (s : ℕ) (old new : Sessions) : Type 0 where
+  pub members : (new.members ≡ old.members) ⊎ IsAnother s old.members new.members
+  pub events : Grows s old.events new.events
+
+-- session s waits, and for whom
+pub record Waits (s t : ℕ) (c : Sessions) : Type 0 where
+  pub member : Member
+  pub found : slice_get c.members (s - 1) ≡ Some member
+  pub lives : member.life ≡ Alive
+  pub patient : is_patient_at member.phase ≡ true
+  pub blocked : IsBlockedBy c.locks s t
+
+-- session s has nothing left to do
+pub record IsAtEnd (s : ℕ) (c : Sessions) : Type 0 where
+  pub member : Member
+  pub found : slice_get c.members (s - 1) ≡ Some member
+  pub over : is_over member member.life ≡ true
+
+abbrev pub Came : ℕ → Sessions → Sessions → Turn → Type 0
+Came s old new turn.Moved = GoesFurther s old new
+Came s old new (turn.Asleep t) = (new ≡ old) × Waits s t.number old
+Came s old new turn.Frozen = (new ≡ old) × (0 < dead_in old.members)
+Came s old new turn.Ended = (new ≡ old) × IsAtEnd s old
+Came s old new turn.Stopped = (new.halted ≡ true) × GoesFurther s old new
+
+-- each lives and has nothing left to do
+abbrev pub HaveEnded : List Member → Type 0
+HaveEnded members = (i : ℕ) (m : Member) → slice_get members i ≡ Some m → (m.life ≡ Alive) × (is_over m m.life ≡ true)
+
+abbrev pub is_session : ℕ → ℕ → Bool
+is_session sessions s = nat_le 1 s && nat_le s sessions
+
+-- Who sleeps waits in the account for the session that is named; who lives and has ended has said its whole script.
+abbrev pub Rests : Opening → ℕ → Sessions → Turn → Type 0
+Rests o s c turn.Moved = Unit {0}
+Rests o s c (turn.Asleep t) = SleepsFor (place o (map event_of c.events)) s t.number
+Rests o s c turn.Frozen = Unit {0}
+Rests o s c turn.Ended = (m : Member) → slice_get c.members (s - 1) ≡ Some m → m.life ≡ Alive → next_item o (place o (map event_of c.events)) s ≡ None
+Rests o s c turn.Stopped = Unit {0}
