@@ -74,6 +74,7 @@ pub record GoesFurther (s : ℕ) (old new : Sessions) : Type 0 where
 
 -- session s waits, and for whom
 pub record Waits (s t : ℕ) (c : Sessions) : Type 0 where
+  pub going : c.halted ≡ false
   pub member : Member
   pub found : slice_get c.members (s - 1) ≡ Some member
   pub lives : member.life ≡ Alive

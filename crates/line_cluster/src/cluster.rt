@@ -1,10 +1,14 @@
 //! The sessions of a run, of one origin.
-ghost use Rattle.std.specs.Prelude.{◌≡◌, ◌≤◌, ◌&&◌, ℕ, [], length, map, not, true, IfOk};
+ghost use Rattle.std.specs.Prelude.{◌≡◌, ◌≤◌, ◌&&◌, ℕ, [], length, map, not, false, true, IfOk};
 ghost use Rattle.rdb_account.specs.Events.{event_of};
-ghost use Rattle.rdb_account.specs.Legal.{IsLegal, is_stop};
-ghost use Rattle.line_store.specs.Seats.{outside};
+ghost use Rattle.rdb_account.specs.Legal.{AreWhole, IsLegal, is_stop};
+ghost use Rattle.line_store.specs.Seats.{Seat, outside};
+ghost use Rattle.lock_tree_laws.specs.Forest.{IsWhole};
+ghost use Rattle.session_stands.specs.Sessions.{AreSeated};
 ghost use Rattle.line_cluster.specs.Sound.{FollowsScripts, IsOpenedBy, IsSession, fresh_member};
+ghost use Rattle.line_cluster.specs.Turned.{Came, HaveEnded, Rests, is_session};
 
+use crate::members::takes_item;
 use crate::notes::Notes;
 use crate::origin::Origin;
 use crate::sessions::{Core, Turn};
@@ -118,6 +122,20 @@ impl<O: Origin, S: Statements, L: LineStore + Drop> LineCluster<O, S, L> {
         self.core.recover()
     }
 
+    /// Whether a session's next turn takes up an item of its script.
+    pub fn begins_item(&self, s: Session) -> bool
+        requires session { IsSession O.sessions s.number }
+    {
+        takes_item(&self.core.members[s.number as usize - 1])
+    }
+
+    /// Whether no session goes on.
+    pub fn is_halted(&self) -> bool
+        ensures { result ≡ self.now.halted }
+    {
+        self.core.halt.is_some()
+    }
+
     /// What happened so far.
     pub fn events(&self) -> &[Event]
         ensures { result.now ≡ self.now.events }
@@ -134,7 +152,7 @@ impl<O: Origin, S: Statements, L: LineStore + Drop> LineCluster<O, S, L> {
         ensures whole { O.told → self.now.halted ≡ false → HaveEnded self.now.members → AreWhole (is_session O.sessions) O.opening (map event_of self.now.events) }
     {
         // (so the tree is whole)
-        let _mode = self.core.common.tree.wanted(1);
+        let _blocker = self.core.common.tree.blocker(1);
     }
 
     /// The events of the run.

@@ -8,7 +8,7 @@ ghost use Rattle.line_cluster.specs.Going.{is_done as is_done_at, is_over as is_
 ghost use Rattle.line_cluster.specs.Turned.{is_patient_at};
 
 use rdb_types::Session;
-use session_states::{ItemQueue, Life, Member, Phase};
+use session_states::{ItemQueue, Life, Member, Phase, ReaderStage, Stage};
 use std::alloc::Global;
 use std::mem::{forget, replace};
 
@@ -49,6 +49,18 @@ pub(crate) fn is_patient(member: &Member) -> bool
     match &member.phase {
         Phase::Writing(writer) => writer.waits,
         _ => false,
+    }
+}
+
+/// Whether the next step of a session takes up an item of its script.
+pub(crate) fn takes_item(member: &Member) -> bool {
+    match &member.phase {
+        Phase::Outside => member.left.len() > 0,
+        Phase::Writing(writer) => matches!(writer.stage, Stage::Between) && member.left.len() > 0,
+        Phase::Reading(reader) => {
+            matches!(reader.stage, ReaderStage::Between) && member.left.len() > 0
+        }
+        Phase::Closing | Phase::Over => false,
     }
 }
 

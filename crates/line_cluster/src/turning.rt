@@ -116,6 +116,7 @@ impl<O: Origin, S: Statements, L: LineStore> Core<O, S, L> {
     fn blocker(&self, s: Session, at: usize) -> Option<Session>
         requires one { IsOneOf self.now.members.items s.number }
         requires at { at ≡ s.number - 1 }
+        requires going { self.now.halt ≡ None }
         requires lives { (m : MemberValue) → slice_get self.now.members.items at ≡ Some m → is_over_at m m.life ≡ false }
         ensures { IfSome result (λ t. Waits s.number t.number (sessions self.now.members.items self.now.events.items self.now.common.tree self.now.halt)) }
     {

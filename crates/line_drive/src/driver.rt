@@ -59,6 +59,7 @@ impl<O: Origin, S: Statements, L: LineStore + Drop> LineDriver<O, S, L> {
         requires alive { AreAlive cluster.members }
         ensures { result.sessions ≡ cluster }
     {
+        cluster.facts();
         LineDriver {
             cluster,
             answers: [0; NUMBERS],
@@ -66,7 +67,7 @@ impl<O: Origin, S: Statements, L: LineStore + Drop> LineDriver<O, S, L> {
         }
     }
 
-    // A turn that moved: its answers are counted.
+    // A turn of a session. Its answers are counted, and where it moved, one turn fewer is left.
     fn turn(&mut self, s: Session) -> Step<()>
         requires session { IsSession O.sessions s.number }
         ensures step { StepOf O.sessions s.number (board_of O.told O.opening self.old) (board_of O.told O.opening self.new) result }
@@ -76,19 +77,92 @@ impl<O: Origin, S: Statements, L: LineStore + Drop> LineDriver<O, S, L> {
             return Step::Stopped;
         }
         let before = self.cluster.events().len();
-        match self.cluster.turn(s) {
+        let turn = self.cluster.turn(s);
+        self.cluster.facts();
+        self.answers[s.number as usize] += answers_in(&self.cluster.events()[before..]);
+        match turn {
             Turn::Moved => {
                 self.turns -= 1;
-                self.count(s, before);
                 Step::Moved
             }
             Turn::Asleep(_) => Step::Asleep,
             Turn::Frozen => unreachable!(),
             Turn::Ended => Step::Ended,
-            Turn::Stopped => {
-                self.count(s, before);
-                Step::Stopped
-            }
+            Turn::Stopped => Step::Stopped,
         }
+    }
+
+    /// Whether no session goes on though some may have something left to do.
+    pub fn is_halted(&self) -> bool
+        ensures { result ≡ self.now.sessions.halted }
+    {
+        self.cluster.is_halted()
+    }
+
+    /// What is true of the sessions at every moment.
+    pub fn facts(&self)
+        ensures legal { O.told → IsLegal O.opening (map event_of self.now.sessions.events) }
+        ensures whole { O.told → self.now.sessions.halted ≡ false → AllEnded O.sessions (board_of O.told O.opening self.now) →
+            AreWhole (is_session O.sessions) O.opening (map event_of self.now.sessions.events) }
+    {
+        self.cluster.facts();
+    }
+
+    /// The events of the run.
+    pub fn into_events(self) -> Events
+        ensures { result ≡ self.sessions.events }
+    {
+        let LineDriver {
+            cluster,
+            answers: _,
+            turns: _,
+        } = self;
+        cluster.into_events()
+    }
+}
+
+impl<O: Origin, S: Statements, L: LineStore + Drop> Driven for LineDriver<O, S, L> {
+    ghost use Rattle.std.specs.Prelude.{[]};
+    ghost use Rattle.line_drive.specs.Boards.{board_of};
+
+    type Piece = ();
+
+    type Done = ();
+
+    ghost board = { λ d. board_of O.told O.opening d };
+
+    ghost sessions = { O.sessions };
+
+    ghost mortals = { [] };
+
+    fn point(&self, s: Session) -> Point {
+        if self.cluster.begins_item(s) {
+            let number = self.answers[s.number as usize].wrapping_add(1);
+            return Point::Statement(number.min(u32::MAX as u64) as u32);
+        }
+        Point::Other
+    }
+
+    fn next(&mut self, s: Session) -> Step<()> {
+        self.turn(s)
+    }
+
+    fn work(_piece: ()) {}
+
+    fn give(&mut self, s: Session, _done: ()) -> Step<()> {
+        self.turn(s)
+    }
+
+    fn die(&mut self, _s: Session) {
+        let _ = &self.cluster;
+    }
+
+    fn recover_step(&mut self) -> Step<()> {
+        self.cluster.facts();
+        Step::Ended
+    }
+
+    fn answered(&self, s: Session) -> u64 {
+        self.answers[s.number as usize]
     }
 }

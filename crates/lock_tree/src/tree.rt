@@ -194,6 +194,7 @@ impl Tree {
     pub fn blocker(&self, owner: u32) -> Option<u32>
         ensures waits { IfSome result (λ t. IsBlockedBy self.now owner t) }
         ensures none { result ≡ None → is_sleeping self.now owner ≡ false }
+        ensures whole { IsWhole self.now }
     {
         self.parts.blocker(owner)
     }

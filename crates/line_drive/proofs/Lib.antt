@@ -1,0 +1,4 @@
+pub mod Chains
+pub mod Awake
+pub mod Marks
+pub mod Turning
