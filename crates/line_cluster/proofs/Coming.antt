@@ -1,5 +1,5 @@
 -- What a turn comes to.
-use Rattle.std.proofs.Common.{◌≡◌, ◌≤◌, ◌<◌, ◌-◌, ℕ, zero, suc, ◌+◌, ◌++◌, ◌∷◌, [], List, true, false, refl, ◌∙◌, sym, ap, subst, arith, map, Option, Some, None, slice_get, slice_set, append-nil, inl, inr}
+use Rattle.std.proofs.Common.{◌≡◌, ◌≤◌, ◌<◌, ◌-◌, ℕ, zero, suc, ◌+◌, ◌++◌, ◌∷◌, [], List, true, false, refl, ◌∙◌, sym, ap, subst, arith, map, Option, Some, None, slice_get, slice_set, append-nil, inl, inr, ◌⊎◌, Bool, is_some, IfSome}
 use Rattle.std.proofs.lemmas.Bool.{false≢true}
 use Rattle.std.proofs.lemmas.Option.{none-some, same_Some}
 use Rattle.rdb_account.specs.declared.event.Event.{Event as Declared}
@@ -10,8 +10,14 @@ use Rattle.session_states.specs.declared.stage.Life.TheVariants.{Alive, Dead, Go
 use Rattle.session_states.specs.declared.stage.Member.{Member}
 use Rattle.session_stands.specs.Sessions.{dead_in, one_dead}
 use Rattle.line_cluster.specs.Going.{IsDeadAt, is_dead_life, is_over}
-use Rattle.line_cluster.specs.Turned.{Sessions, GoesFurther, Grows, IsAnother}
-use Rattle.line_cluster.proofs.Marks.{IsOf}
+use Rattle.rdb_account.specs.Places.{Opening}
+use Rattle.stage_steps.specs.declared.happening.Happening.{Happening}
+use Rattle.stage_steps.specs.Happenings.{events_of}
+use Rattle.line_cluster.specs.declared.sessions.Halt.{Halt}
+use Rattle.line_cluster.specs.declared.sessions.Turn.{Turn}
+use Rattle.line_cluster.specs.declared.sessions.Turn.TheVariants as turn
+use Rattle.line_cluster.specs.Turned.{Sessions, Came, GoesFurther, GoesOn, Grows, IsAnother, Rests}
+use Rattle.line_cluster.proofs.Marks.{IsOf, step-marks}
 
 -- nothing happened
 pub still : (s : ℕ) (c d : Sessions) → d.members ≡ c.members → d.events ≡ c.events → GoesFurther s c d
@@ -38,3 +44,54 @@ dead-at (x ∷ ms) (suc i) m found h = let more = dead-at ms i m found h in omeg
 
 pub some-dead : (ms : List Member) (i : ℕ) → IsDeadAt ms i → 0 < dead_in ms
 some-dead ms i d = dead-at ms i d.member d.found d.dead
+
+pub some-found : (ms slice : List Member) (r : Option ℕ) → slice ≡ ms → IfSome r (λ at. IsDeadAt slice at) → is_some r ≡ true → 0 < dead_in ms
+some-found ms slice None e f h = absurd (false≢true h)
+some-found ms slice (Some at) e f h = subst (λ (xs : List Member). 0 < dead_in xs) e (some-dead slice at f)
+
+-- where the session doesn't rest, nothing is said of the locks before
+pub came-from : (s : ℕ) (old then new : Sessions) (t : Turn) → then.members ≡ old.members → then.events ≡ old.events → GoesOn t → Came s then new t → Came s old new t
+came-from s old then new t e f on came = by t on came
+  where
+    further : GoesFurther s then new → GoesFurther s old new
+    further g = record {
+      members = subst (λ (ms : List Member). (new.members ≡ ms) ⊎ IsAnother s ms new.members) e g.members;
+      events = subst (λ (es : List Declared). Grows s es new.events) f g.events;
+    }
+
+    by : (t : Turn) → GoesOn t → Came s then new t → Came s old new t
+    by turn.Moved on g = further g
+    by turn.Stopped on g = (g.0, further g.1)
+    by (turn.Asleep u) on g = absurd on
+    by turn.Frozen on g = absurd on
+    by turn.Ended on g = absurd on
+
+pub on-rests : (o : Opening) (s : ℕ) (c : Sessions) (t : Turn) → GoesOn t → Rests o s c t
+on-rests o s c turn.Moved on = tt
+on-rests o s c turn.Stopped on = tt
+on-rests o s c (turn.Asleep u) on = absurd on
+on-rests o s c turn.Frozen on = absurd on
+on-rests o s c turn.Ended on = absurd on
+
+-- a session took a step
+pub went : (s at : ℕ) (old new : Sessions) (m n : Member) (h : Happening) → at ≡ s - 1 → slice_get old.members at ≡ Some m → is_over m m.life ≡ false → n.life ≡ m.life →
+    new.members ≡ slice_set old.members at n → map event_of new.events ≡ map event_of old.events ++ events_of s h → GoesFurther s old new
+went s at old new m n h is found going lives put grown = record {
+  members = inr (record {
+    before = m;
+    found = subst (λ (i : ℕ). slice_get old.members i ≡ Some m) is found;
+    going = going;
+    behind = n;
+    lives = lives;
+    is = subst (λ (i : ℕ). new.members ≡ slice_set old.members i n) is put;
+  });
+  events = grows s old.events new.events (events_of s h) grown (step-marks s h);
+}
+
+pub none-from : (h : Option Halt) → is_some h ≡ false → h ≡ None
+none-from None e = refl
+none-from (Some x) e = absurd (false≢true (sym e))
+
+-- who is found is the one that was looked at
+pub looked : (ms : List Member) (i : ℕ) (m n : Member) (b : Bool) → slice_get ms i ≡ Some m → is_over m m.life ≡ b → slice_get ms i ≡ Some n → is_over n n.life ≡ b
+looked ms i m n b found is there = subst (λ (x : Member). is_over x x.life ≡ b) (same_Some m n (sym found ∙ there)) is

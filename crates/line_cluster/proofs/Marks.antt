@@ -22,12 +22,12 @@ all-append s [] ys a b = b
 all-append s (x ∷ xs) ys a b = (a.0, all-append s xs ys a.1 b)
 
 answers-append : (xs ys : List Mark) → answers (xs ++ ys) ≡ answers xs + answers ys
-answers-append [] ys = refl
+answers-append [] ys = omega arith
 answers-append (x ∷ xs) ys = let more = answers-append xs ys in omega (arith, more)
 
 wanted-marks : (s : ℕ) (n : Need) (nodes : List Node) → AllOf s (map mark_of (wanted_at s n nodes)) × (answers (map mark_of (wanted_at s n nodes)) ≡ 0)
 wanted-marks s n [] = (tt, refl)
-wanted-marks s n (node ∷ nodes) = let more = wanted-marks s n nodes in ((refl, more.0), more.1)
+wanted-marks s n (node ∷ nodes) = let more = wanted-marks s n nodes in let none = more.1 in ((refl, more.0), omega (arith, none))
 
 asked-with : (s : ℕ) (x : Asking) (es : List Event) → IsOf s es → IsOf s (asked_by s x ++ es)
 asked-with s x es of =

@@ -1,6 +1,6 @@
 -- Who rests does so in the account.
 use Rattle.std.proofs.Common.{◌≡◌, ◌≤◌, ◌-◌, ℕ, zero, suc, ◌++◌, ◌∷◌, [], List, length, Bool, true, false, not, nat_le, ◌&&◌, refl, ◌∙◌, sym, ap, subst, arith, map, Option, Some, None, slice_get, option_map, ◌==◌, ◌⊎◌}
-use Rattle.std.proofs.lemmas.Bool.{false≢true}
+use Rattle.std.proofs.lemmas.Bool.{false≢true, and_parts, leb-true}
 use Rattle.rdo_ast.specs.declared.syntax.Item.{Item}
 use Rattle.rdo_ast.specs.Tree.{Uttered}
 use Rattle.rdo_ast.specs.Views.{uttered_of}
@@ -27,7 +27,7 @@ use Rattle.session_states.specs.Kept.{AreKept}
 use Rattle.session_states.specs.Shared.{Shared}
 use Rattle.session_stands.specs.Sessions.{IsTold, sharing, dead_in}
 use Rattle.line_cluster.specs.Going.{is_over, is_done}
-use Rattle.line_cluster.specs.Turned.{SleepsFor, is_patient_at, HaveEnded, is_session}
+use Rattle.line_cluster.specs.Turned.{Sessions, SleepsFor, Waits, is_patient_at, HaveEnded, is_session}
 
 -- ---- who waits
 
@@ -43,14 +43,15 @@ patient-waits M p g c s left (Writing w) Gone alive patient f = cc alive
 pub asleep-rests : (M : Model) (o : Opening) (word : List ℕ) (sight : Sight) (locks : State) (members : List Member) (events : List Event) (i t : ℕ) (m : Member) →
     IsTold M o word sight locks members events → slice_get members i ≡ Some m → m.life ≡ Alive → is_patient_at m.phase ≡ true → IsBlockedBy locks (suc i) t → SleepsFor (place o events) (suc i) t
 asleep-rests M o word sight locks members events i t m told found alive patient b =
-    let k = told.kept in
-    (tree-waits (place o events) (party_of locks.parties) (open_asks locks.parties locks.trail) (suc i) t k.tied b.sleeps.by_needs,
-    patient-waits M (place o events) k.ground (sharing word told.shelf locks (dead_in members)) (suc i) m.left m.phase m.life alive patient (k.phases i m found))
+    let k = told.kept in (
+      tree-waits (place o events) (party_of locks.parties) (open_asks locks.parties locks.trail) (suc i) t k.tied b.sleeps.by_needs,
+      patient-waits M (place o events) k.ground (sharing word told.shelf locks (dead_in members)) (suc i) m.left m.phase m.life alive patient (k.phases i m found),
+    )
 
 -- ---- who has ended
 
 -- a session by its number
-member-within : (ms : List Member) (s : ℕ) → 1 ≤ s → s ≤ length ms → (i : ℕ) × ((m : Member) × ((s ≡ suc i) × (slice_get ms i ≡ Some m)))
+member-within : (ms : List Member) (s : ℕ) → 1 ≤ s → s ≤ length ms → (i : ℕ) × (m : Member) × (s ≡ suc i) × (slice_get ms i ≡ Some m)
 member-within ms zero first last = absurd (omega arith)
 member-within [] (suc i) first last = absurd (omega arith)
 member-within (m ∷ ms) (suc zero) first last = (0, m, refl, refl)
@@ -66,7 +67,10 @@ length-all (x ∷ xs) ys e = ap suc (length-all xs ys e)
 
 empty-left : (left : List Item) → (length left == 0) ≡ true → left ≡ []
 empty-left [] h = refl
-empty-left (x ∷ xs) h = absurd (false≢true h)
+empty-left (x ∷ xs) h = absurd (none (length xs) h)
+  where
+    none : (n : ℕ) → (suc n == 0) ≡ true → ⊥
+    none n h = grind arith
 
 -- It has said all, has no transaction open, and hasn't died.
 record HasSaidAll (p : Place) (s : ℕ) (m : Seen) : Type 0 where
@@ -111,17 +115,35 @@ module _ (M : Model) (o : Opening) (word : List ℕ) (sight : Sight) (locks : St
   -- they have said their scripts to the ends
   pub all-whole : (sessions : ℕ) → length members ≡ sessions → HaveEnded members → AreWhole (is_session sessions) o events
   all-whole sessions count ended s is =
-      let at = member-within members s (first-of sessions s is) (within sessions s is) in
+      let at = member-within members s (first-of sessions s is) (within s is) in
       let e = ended at.0 at.1 at.3 in
       let st = subst (λ (t : ℕ). Stands M o (place o events) told.kept.ground t (seen at.1)) (sym at.2) (stands at.0 at.1 at.3) in
       let all = said-all M o (place o events) told.kept.ground s at.1 e.0 e.1 st in
       (all.lives, all-said M o (place o events) told.kept.ground s (seen at.1) st all.left, all.closed)
     where
+      below : (a b : ℕ) → nat_le a b ≡ true → a ≤ b
+      below a b h = leb-true a b h
+
       first-of : (n s : ℕ) → is_session n s ≡ true → 1 ≤ s
-      first-of n s h = grind arith
+      first-of n s h = below 1 s (and_parts (nat_le 1 s) (nat_le s n) h).0
 
       last-of : (n s : ℕ) → is_session n s ≡ true → s ≤ n
-      last-of n s h = grind arith
+      last-of n s h = below s n (and_parts (nat_le 1 s) (nat_le s n) h).1
 
-      within : (n s : ℕ) → is_session n s ≡ true → s ≤ length members
-      within n s h = subst (λ (k : ℕ). s ≤ k) (sym count) (last-of sessions s is)
+      within : (t : ℕ) → is_session sessions t ≡ true → t ≤ length members
+      within t h = subst (λ (k : ℕ). t ≤ k) (sym count) (last-of sessions t h)
+
+-- by the session's number
+numbered : (s : ℕ) → 1 ≤ s → suc (s - 1) ≡ s
+numbered s h = omega arith
+
+pub over-rests-at : (M : Model) (o : Opening) (word : List ℕ) (sight : Sight) (locks : State) (members : List Member) (events : List Event) (s : ℕ) (m : Member) → IsTold M o word sight locks members events → 1 ≤ s →
+    slice_get members (s - 1) ≡ Some m → m.life ≡ Alive → is_over m m.life ≡ true → next_item o (place o events) s ≡ None
+over-rests-at M o word sight locks members events s m told first found alive over =
+    subst (λ (t : ℕ). next_item o (place o events) t ≡ None) (numbered s first) (over-rests M o word sight locks members events told (s - 1) m found alive over)
+
+pub asleep-rests-at : (M : Model) (o : Opening) (word : List ℕ) (sight : Sight) (locks : State) (members : List Member) (events : List Event) (s t : ℕ) (c : Sessions) → IsTold M o word sight locks members events → 1 ≤ s →
+    Waits s t (record { members = members; events = c.events; locks = locks; halted = c.halted }) → SleepsFor (place o events) s t
+asleep-rests-at M o word sight locks members events s t c told first w =
+    subst (λ (u : ℕ). SleepsFor (place o events) u t) (numbered s first)
+    (asleep-rests M o word sight locks members events (s - 1) t w.member told w.found w.lives w.patient (subst (λ (u : ℕ). IsBlockedBy locks u t) (sym (numbered s first)) w.blocked))

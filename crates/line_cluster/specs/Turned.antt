@@ -94,6 +94,14 @@ Came s old new turn.Frozen = (new ≡ old) × (0 < dead_in old.members)
 Came s old new turn.Ended = (new ≡ old) × IsAtEnd s old
 Came s old new turn.Stopped = (new.halted ≡ true) × GoesFurther s old new
 
+-- the session doesn't rest
+abbrev pub GoesOn : Turn → Type 0
+GoesOn turn.Moved = Unit {0}
+GoesOn (turn.Asleep t) = ⊥
+GoesOn turn.Frozen = ⊥
+GoesOn turn.Ended = ⊥
+GoesOn turn.Stopped = Unit {0}
+
 -- each lives and has nothing left to do
 abbrev pub HaveEnded : List Member → Type 0
 HaveEnded members = (i : ℕ) (m : Member) → slice_get members i ≡ Some m → (m.life ≡ Alive) × (is_over m m.life ≡ true)

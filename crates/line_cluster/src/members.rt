@@ -1,5 +1,5 @@
 // Sessions by their numbers.
-ghost use Rattle.std.specs.Prelude.{◌≡◌, ◌<◌, ◌-◌, false, true, Some, None, slice_get, slice_set, IfOk};
+ghost use Rattle.std.specs.Prelude.{◌≡◌, ◌<◌, ◌-◌, false, true, length, Some, None, slice_get, slice_set, IfOk};
 ghost use Rattle.std.specs.Vec.{vec_len};
 ghost use Rattle.session_states.specs.declared.stage.Life.TheVariants as life;
 ghost use Rattle.session_states.specs.declared.stage.Phase.TheVariants as phase;
@@ -11,6 +11,14 @@ use rdb_types::Session;
 use session_states::{ItemQueue, Life, Member, Phase, ReaderStage, Stage};
 use std::alloc::Global;
 use std::mem::{forget, replace};
+
+/// The session at a place.
+pub(crate) fn member_at(members: &[Member], at: usize) -> &Member
+    requires { at < length members.now }
+    ensures { slice_get members.now at ≡ Some result.now }
+{
+    &members[at]
+}
 
 /// Whether a session has nothing left to do.
 pub(crate) fn is_over(member: &Member) -> bool

@@ -8,12 +8,12 @@ ghost use Rattle.stage_steps.specs.Happenings.{events_of, handed_back};
 ghost use Rattle.stage_steps.specs.Scenes.{scene};
 ghost use Rattle.line_cluster.specs.Sound.{IsSound, IsOneOf};
 ghost use Rattle.line_cluster.specs.Going.{IsWriterAt, is_over as is_over_at};
-ghost use Rattle.line_cluster.specs.Turned.{Came, Rests, Waits, is_patient_at, sessions};
+ghost use Rattle.line_cluster.specs.Turned.{Came, GoesOn, Rests, Waits, sessions};
 ghost use Rattle.std.specs.Vec.{vec_len, vec_capacity};
 
 use crate::falls::first_dead;
 use crate::going::go_on;
-use crate::members::{is_over, is_patient, is_writing, put_member, take_member};
+use crate::members::{is_over, is_patient, is_writing, member_at, put_member, take_member};
 use crate::notes::{Notes, Notice};
 use crate::origin::Origin;
 use crate::sessions::{Core, Halt, Turn};
@@ -76,6 +76,7 @@ impl<O: Origin, S: Statements, L: LineStore> Core<O, S, L> {
         ensures sound { IsSound S.stands O.told O.opening (scene self.new.common.word (L.sight self.new.common.store) self.new.common.tree) self.new.members.items (map event_of self.new.events.items) self.new.halt }
         ensures members { self.new.members.items ≡ self.old.members.items }
         ensures came { (s : ℕ) → Came s (sessions self.old.members.items self.old.events.items self.old.common.tree self.old.halt) (sessions self.new.members.items self.new.events.items self.new.common.tree self.new.halt) result }
+        ensures on { GoesOn result }
     {
         self.halt = Some(halt);
         Turn::Stopped
@@ -97,7 +98,7 @@ impl<O: Origin, S: Statements, L: LineStore> Core<O, S, L> {
             return Turn::Frozen;
         }
         let at = s.number as usize - 1;
-        if is_over(&self.members[at]) {
+        if is_over(member_at(&self.members, at)) {
             return Turn::Ended;
         }
         if let Some(other) = self.blocker(s, at) {
@@ -120,7 +121,7 @@ impl<O: Origin, S: Statements, L: LineStore> Core<O, S, L> {
         requires lives { (m : MemberValue) → slice_get self.now.members.items at ≡ Some m → is_over_at m m.life ≡ false }
         ensures { IfSome result (λ t. Waits s.number t.number (sessions self.now.members.items self.now.events.items self.now.common.tree self.now.halt)) }
     {
-        if !is_patient(&self.members[at]) {
+        if !is_patient(member_at(&self.members, at)) {
             return None;
         }
         let number = self.common.tree.blocker(s.number)?;
@@ -150,6 +151,7 @@ impl<O: Origin, S: Statements, L: LineStore> Core<O, S, L> {
         ensures sound { IsSound S.stands O.told O.opening (scene self.new.common.word (L.sight self.new.common.store) self.new.common.tree) self.new.members.items (map event_of self.new.events.items) self.new.halt }
         ensures count { length self.new.members.items ≡ length self.old.members.items }
         ensures came { Came s.number (sessions self.old.members.items self.old.events.items self.old.common.tree self.old.halt) (sessions self.new.members.items self.new.events.items self.new.common.tree self.new.halt) result }
+        ensures on { GoesOn result }
     {
         let Notice { to, node, mode } = notice;
         self.notes.put(s, None);
@@ -177,6 +179,7 @@ impl<O: Origin, S: Statements, L: LineStore> Core<O, S, L> {
         ensures sound { IsSound S.stands O.told O.opening (scene self.new.common.word (L.sight self.new.common.store) self.new.common.tree) self.new.members.items (map event_of self.new.events.items) self.new.halt }
         ensures count { length self.new.members.items ≡ length self.old.members.items }
         ensures came { Came s.number (sessions self.old.members.items self.old.events.items self.old.common.tree self.old.halt) (sessions self.new.members.items self.new.events.items self.new.common.tree self.new.halt) result }
+        ensures on { GoesOn result }
     {
         let Member {
             left,

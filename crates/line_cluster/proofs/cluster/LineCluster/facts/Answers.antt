@@ -1,0 +1,19 @@
+use Rattle.std.proofs.Common.{◌≡◌, ℕ, false, map, subst}
+use Rattle.rdb_account.specs.Events.{event_of}
+use Rattle.rdb_account.specs.Legal.{AreWhole}
+use Rattle.line_store.specs.Seats.{Seat}
+use Rattle.session_stands.specs.Sessions.{AreSeated}
+use Rattle.line_cluster.specs.Turned.{Sessions, HaveEnded, is_session}
+use Rattle.line_cluster.proofs.Coming.{none-from}
+use Rattle.line_cluster.proofs.Resting.{all-whole}
+use Rattle.line_cluster.proofs.cluster.LineCluster.facts.Goals as goal
+
+pub returns-clause-seated : goal.returns-clause-seated
+returns-clause-seated g c =
+    subst (λ (v : Sessions). v.halted ≡ false → (x : ℕ → Seat) × AreSeated x v.locks v.members) c.self.view_is
+    (λ going. ((g.L.LineStore.sight c.self.inside.core.common.store).stand, c.self.invariant.sound.seated (none-from c.self.inside.core.halt going)))
+
+pub returns-clause-whole : goal.returns-clause-whole
+returns-clause-whole g c =
+    subst (λ (v : Sessions). g.O.Origin.told → v.halted ≡ false → HaveEnded v.members → AreWhole (is_session g.O.Origin.sessions) g.O.Origin.opening (map event_of v.events)) c.self.view_is
+    (λ told going ended. all-whole g.S.Statements.stands g.O.Origin.opening _ _ _ _ _ (c.self.invariant.sound.kept (none-from c.self.inside.core.halt going) told) g.O.Origin.sessions c.self.invariant.count ended)
