@@ -18,6 +18,7 @@ use Rattle.lock_tree_laws.specs.Order.{waits_by_needs, waits_with}
 use Rattle.lock_tree_laws.specs.Wanted.{needs_of}
 use Rattle.lock_tree_laws.proofs.AskedByNeeds.{waiter-needed}
 use Rattle.lock_tree_laws.proofs.Sleepers.{queued-blocker, sleeping-queued}
+use Rattle.lock_tree_laws.proofs.Whole.{live-of}
 use Rattle.vms_locks.specs.Table.{queues_at, WaitsIn}
 use Rattle.vms_locks.specs.Walks.{IsAcyclic}
 use Rattle.line_store.specs.Seats.{Seat}
@@ -108,28 +109,28 @@ module _ (stand : ℕ → Seat) (c : Sessions) (seated : AreSeated stand c.locks
       let sleeps = (and_parts (is_patient (member_at c.members s)) (is_sleeping c.locks s) asleep).1 in
       let want = queued-want c.locks s (opened_of c.locks s) refl sleeps in
       let queued = sleeping-queued c.locks.table s (party_of c.locks.parties s) want.0 (whole.kept s) want.1.0 want.1.1 in
-      let b = queued-blocker c.locks.table c.locks.parties whole.in_order.0 whole.kept s want.0.here queued in
+      let b = queued-blocker c.locks.table c.locks.parties (live-of c.locks whole) whole.kept s want.0.here queued in
       (b.0, (b.2, busy-lives b.0 (member_at c.members b.0) refl (waited-busy c.locks s b.0 (waiter-needed c.locks whole s b.0 b.2))))
 
   awake-going : (s : ℕ) → IsSession sessions s → has_ended (member_at c.members s) ≡ false → (t : ℕ) × (Lives t × (is_asleep c t ≡ false))
-  awake-going s session going = somebody-awake (WaitsIn (queues_at c.locks.table)) whole.in_order.0.acyclic Lives (is_asleep c) next sessions s (session, going) (λ t l. l.0)
+  awake-going s session going = somebody-awake (WaitsIn (queues_at c.locks.table)) (live-of c.locks whole).acyclic Lives (is_asleep c) next sessions s (session, going) (λ t l. l.0)
 
 -- whether or not the sessions are stopped
 pub awake : (told : Type 0) (o : Opening) (d : Driven) (sessions : ℕ) → (d.sessions.halted ≡ false → (stand : ℕ → Seat) × AreSeated stand d.sessions.locks d.sessions.members) → IsWhole d.sessions.locks →
     AreAlive d.sessions.members → length d.sessions.members ≡ sessions → IsAwake sessions (board_of told o d)
 awake told o d sessions seated whole alive count s session going = by d.sessions.halted refl (d.turns == 0) refl
   where
-    stopped : is_stopped d ≡ true → (t : ℕ) × (IsSession sessions t × ((has_ended (member_at d.sessions.members t) ≡ false) × ((not (is_stopped d) && is_asleep d.sessions t) ≡ false)))
-    stopped h = (s, (session, (going, ap (λ (b : Bool). not b && is_asleep d.sessions s) h)))
+    stopped : is_stopped d ≡ true → (t : ℕ) × IsSession sessions t × (has_ended (member_at d.sessions.members t) ≡ false) × ((not (is_stopped d) && is_asleep d.sessions t) ≡ false)
+    stopped h = (s, session, going, ap (λ (b : Bool). not b && is_asleep d.sessions s) h)
 
     either : (a b : Bool) → b ≡ false → (a && b) ≡ false
     either true b e = e
     either false b e = refl
 
-    by : (h : Bool) → d.sessions.halted ≡ h → (n : Bool) → (d.turns == 0) ≡ n → (t : ℕ) × (IsSession sessions t × ((has_ended (member_at d.sessions.members t) ≡ false) × ((not (is_stopped d) && is_asleep d.sessions t) ≡ false)))
+    by : (h : Bool) → d.sessions.halted ≡ h → (n : Bool) → (d.turns == 0) ≡ n → (t : ℕ) × IsSession sessions t × (has_ended (member_at d.sessions.members t) ≡ false) × ((not (is_stopped d) && is_asleep d.sessions t) ≡ false)
     by true e n f = stopped (ap (λ (b : Bool). b || (d.turns == 0)) e)
     by false e true f = stopped (ap (λ (b : Bool). b || (d.turns == 0)) e ∙ f)
     by false e false f =
         let k = seated e in
         let a = awake-going k.0 d.sessions k.1 whole alive sessions count s session going in
-        (a.0, (a.1.0.0, (a.1.0.1, either (not (is_stopped d)) (is_asleep d.sessions a.0) a.1.1)))
+        (a.0, a.1.0.0, a.1.0.1, either (not (is_stopped d)) (is_asleep d.sessions a.0) a.1.1)

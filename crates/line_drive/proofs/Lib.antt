@@ -2,3 +2,4 @@ pub mod Chains
 pub mod Awake
 pub mod Marks
 pub mod Turning
+pub mod Driving

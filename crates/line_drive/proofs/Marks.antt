@@ -54,7 +54,7 @@ marks-since old new es grown =
 -- ---- counts
 
 append-counts : (t : ℕ) (xs ys : List Mark) → answers_by t (xs ++ ys) ≡ answers_by t xs + answers_by t ys
-append-counts t [] ys = refl
+append-counts t [] ys = omega arith
 append-counts t (x ∷ xs) ys = let more = append-counts t xs ys in omega (arith, more)
 
 same-number : (s : ℕ) → (s == s) ≡ true

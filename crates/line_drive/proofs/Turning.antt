@@ -6,7 +6,7 @@ use Rattle.rdb_account.specs.declared.event.Event.{Event as Declared}
 use Rattle.rdb_account.specs.Events.{Event, event_of}
 use Rattle.rdb_account.specs.Places.{Opening, place}
 use Rattle.rdb_drive.specs.Boards.{Board, Mark, IsSession, AllOf, answers}
-use Rattle.rdb_drive.specs.Steps.{StepOf, Goes, IsQuiet}
+use Rattle.rdb_drive.specs.Steps.{StepOf, Goes, IsAwake, IsQuiet}
 use Rattle.rdb_drive.specs.declared.driven.Step.TheVariants as step
 use Rattle.rdb_types.specs.declared.session.Session.{Session}
 use Rattle.lock_tree_laws.specs.Forest.{IsWhole}
@@ -39,7 +39,7 @@ set-got [] i j x y h = inr h
 set-got (z ∷ zs) zero zero x y h = inl (refl, sym (same_Some x y h))
 set-got (z ∷ zs) zero (suc j) x y h = inr h
 set-got (z ∷ zs) (suc i) zero x y h = inr h
-set-got (z ∷ zs) (suc i) (suc j) x y h = elim (set-got zs i j x y h) [ | inl e ↦ inl (ap suc e.0, e.1) | inr g ↦ inr g ]
+set-got (z ∷ zs) (suc i) (suc j) x y h = elim (set-got zs i j x y h) [ inl e ↦ inl (ap suc e.0, e.1) | inr g ↦ inr g ]
 
 pub lives-on : (s : ℕ) (old new : Sessions) → AreAlive old.members → GoesFurther s old new → AreAlive new.members
 lives-on s old new alive g = elim g.members [
@@ -99,7 +99,7 @@ zero-stops c = by c.halted
 
 module _ (told : Type 0) (o : Opening) (sessions s : ℕ) (old new : Sessions) (session : IsSession sessions s)
     (alive : AreAlive old.members) (count : length new.members ≡ sessions) (seated : new.halted ≡ false → (stand : ℕ → Seat) × AreSeated stand new.locks new.members) (whole : IsWhole new.locks) where
-  awake-then : (l : ℕ) → AreAlive new.members → _
+  awake-then : (l : ℕ) → AreAlive new.members → IsAwake sessions (board_of told o (driven new l))
   awake-then l all = awake told o (driven new l) sessions seated whole all count
 
   pub moved : (k l : ℕ) → l < k → Came s old new turn.Moved → StepOf {P = Unit {0}} sessions s (board_of told o (driven old k)) (board_of told o (driven new l)) step.Moved
@@ -179,4 +179,4 @@ spent told o sessions s c k none alive count seated whole = rw none (record {
 -- nobody is dead
 pub none-dead : (ms : List Member) → AreAlive ms → dead_in ms ≡ 0
 none-dead [] alive = refl
-none-dead (m ∷ ms) alive = rw (alive 0 m refl) (none-dead ms (λ i x found. alive (suc i) x found))
+none-dead (m ∷ ms) alive = let more = none-dead ms (λ i x found. alive (suc i) x found) in rw (alive 0 m refl) (omega (arith, more))

@@ -1,5 +1,5 @@
 //! The sessions as drivers see them.
-ghost use Rattle.std.specs.Prelude.{◌≡◌, [], length, map, false, true, IfOk};
+ghost use Rattle.std.specs.Prelude.{◌≡◌, ◌≤◌, [], length, map, false, true, IfOk};
 ghost use Rattle.rdb_account.specs.Events.{event_of};
 ghost use Rattle.rdb_account.specs.Legal.{IsLegal, AreWhole};
 ghost use Rattle.rdb_drive.specs.Boards.{IsSession, AllEnded, answers, answers_by};
@@ -28,15 +28,18 @@ pub struct LineDriver<O: Origin, S: Statements, L: LineStore + Drop> {
 }
 
 impl<O: Origin, S: Statements, L: LineStore + Drop> Model for LineDriver<O, S, L> {
-    ghost use Rattle.std.specs.Prelude.{◌×◌};
+    ghost use Rattle.std.specs.Coded.{codes};
+    ghost use Rattle.rdo_ast.specs.contracts.syntax.Action as action_type;
     ghost use Rattle.line_drive.specs.Boards.{Driven};
-    ghost use Rattle.line_drive.specs.Turns.{AreAlive, AreCounted};
+    ghost use Rattle.line_drive.specs.Turns.{IsDriven};
 
     ghost Value = { Driven };
 
+    ghost coded = { Prim.hlevel (codes, action_type.the_row.coded) };
+
     ghost view = { λ d. record { sessions = d.cluster; turns = d.turns } };
 
-    ghost invariant = { λ d. AreAlive d.cluster.members × AreCounted O.sessions d.answers d.cluster.events };
+    ghost invariant = { λ d. IsDriven O.sessions d.answers d.cluster };
 }
 
 // How many of these events are answers.
@@ -57,6 +60,7 @@ impl<O: Origin, S: Statements, L: LineStore + Drop> LineDriver<O, S, L> {
     pub fn new(cluster: LineCluster<O, S, L>) -> Self
         requires fresh { cluster.events ≡ [] }
         requires alive { AreAlive cluster.members }
+        requires few { O.sessions ≤ 16 }
         ensures { result.sessions ≡ cluster }
     {
         cluster.facts();
