@@ -11,11 +11,14 @@ use Rattle.rdb_drive.specs.declared.driven.Step.TheVariants as step
 use Rattle.rdb_types.specs.declared.session.Session.{Session}
 use Rattle.lock_tree_laws.specs.Forest.{IsWhole}
 use Rattle.line_store.specs.Seats.{Seat}
+use Rattle.session_states.specs.declared.stage.Phase.{Phase}
+use Rattle.session_states.specs.declared.stage.Phase.TheVariants.{Outside, Closing, Writing, Reading, Over}
+use Rattle.session_states.specs.declared.stage.Life.{Life}
 use Rattle.session_states.specs.declared.stage.Life.TheVariants.{Alive}
 use Rattle.session_states.specs.declared.stage.Member.{Member}
 use Rattle.session_stands.specs.Sessions.{AreSeated, dead_in, member_at}
 use Rattle.line_cluster.specs.declared.sessions.Turn.TheVariants as turn
-use Rattle.line_cluster.specs.Going.{is_over}
+use Rattle.line_cluster.specs.Going.{is_done, is_over}
 use Rattle.line_cluster.specs.Turned.{Sessions, GoesFurther, IsAnother, Grows, Came, Rests, Waits, IsAtEnd, mark_of, is_patient_at}
 use Rattle.line_drive.specs.Boards.{Driven, board_of, has_ended, is_asleep, is_patient, is_stopped, marks_of, RestsAt, RestsBehind}
 use Rattle.line_drive.specs.Turns.{AreAlive}
@@ -63,6 +66,17 @@ ended-on s old new g (suc j) h = elim g.members [
   | inl same ↦ subst (λ (ms : List Member). has_ended (slice_get ms j) ≡ true) (sym same) h
   | inr a ↦ subst (λ (ms : List Member). has_ended (slice_get ms j) ≡ true) (sym a.is) (ended-stays old.members (s - 1) a.before a.behind a.found a.going j h)
 ]
+
+-- who waits has something left to do
+patient-at : (m : Member) (x : Phase) → is_patient_at x ≡ true → is_done m.left x ≡ false
+patient-at m (Writing w) h = refl
+patient-at m Outside h = absurd (false≢true h)
+patient-at m Closing h = absurd (false≢true h)
+patient-at m (Reading r) h = absurd (false≢true h)
+patient-at m Over h = absurd (false≢true h)
+
+patient-going : (m : Member) → m.life ≡ Alive → is_patient_at m.phase ≡ true → is_over m m.life ≡ false
+patient-going m lives h = subst (λ (l : Life). is_over m l ≡ false) (sym lives) (patient-at m m.phase h)
 
 -- ---- steps
 
@@ -131,16 +145,16 @@ module _ (told : Type 0) (o : Opening) (sessions s : ℕ) (old new : Sessions) (
   same-quiet : (k : ℕ) → new ≡ old → IsQuiet s (board_of told o (driven old k)) (board_of told o (driven new k))
   same-quiet k same = subst (λ (c : Sessions). IsQuiet s (board_of told o (driven old k)) (board_of told o (driven c k))) (sym same) (quiet s (board_of told o (driven old k)))
 
-  pub slept : (k : ℕ) (t : Session) → 0 < k → (h : Came s old new (turn.Asleep t)) → (told → Rests o s old (turn.Asleep t)) → (is_over_not : (m : Member) → slice_get old.members (s - 1) ≡ Some m → is_over m m.life ≡ false) →
+  pub slept : (k : ℕ) (t : Session) → 0 < k → (h : Came s old new (turn.Asleep t)) → (told → Rests o s old (turn.Asleep t)) →
       StepOf {P = Unit {0}} sessions s (board_of told o (driven old k)) (board_of told o (driven new k)) step.Asleep
-  slept k t some h rests going = record {
+  slept k t some h rests = record {
     more = [];
     goes = same-goes k h.0;
     of_s = tt;
     tells = (
       (λ given. subst (λ (c : Sessions). RestsBehind o c.events (length (marks_of c.events)) s) (sym h.0) (rests-now o old.events s (inl (t.number, rests given)))),
       subst (λ (c : Sessions). (not (is_stopped (driven c k)) && is_asleep c s) ≡ true) (sym h.0) asleep-now,
-      subst (λ (c : Sessions). has_ended (member_at c.members s) ≡ false) (sym h.0) (ap has_ended (at-number old.members s session.0 ∙ h.1.found) ∙ going h.1.member h.1.found),
+      subst (λ (c : Sessions). has_ended (member_at c.members s) ≡ false) (sym h.0) (ap has_ended (at-number old.members s session.0 ∙ h.1.found) ∙ patient-going h.1.member h.1.lives h.1.patient),
       same-quiet k h.0,
       refl,
     );

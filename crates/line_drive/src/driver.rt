@@ -1,5 +1,5 @@
 //! The sessions as drivers see them.
-ghost use Rattle.std.specs.Prelude.{◌≡◌, ◌≤◌, [], length, map, false, true, IfOk};
+ghost use Rattle.std.specs.Prelude.{◌≡◌, ◌≤◌, [], drop, length, map, false, true, IfOk};
 ghost use Rattle.rdb_account.specs.Events.{event_of};
 ghost use Rattle.rdb_account.specs.Legal.{IsLegal, AreWhole};
 ghost use Rattle.rdb_drive.specs.Boards.{IsSession, AllEnded, answers, answers_by};
@@ -42,13 +42,14 @@ impl<O: Origin, S: Statements, L: LineStore + Drop> Model for LineDriver<O, S, L
     ghost invariant = { λ d. IsDriven O.sessions d.answers d.cluster };
 }
 
-// How many of these events are answers.
-fn answers_in(events: &[Event]) -> u64
-    ensures { result ≡ answers (marks_of events.now) }
+// How many of the events behind the first so many are answers.
+fn answers_behind(events: &[Event], from: usize) -> u64
+    requires { from ≤ length events.now }
+    ensures { result ≡ answers (marks_of (drop from events.now)) }
 {
     let mut count = 0;
-    for event in events {
-        if let Event::Said(..) = event {
+    for at in from..events.len() {
+        if let Event::Said(..) = &events[at] {
             count += 1;
         }
     }
@@ -83,7 +84,9 @@ impl<O: Origin, S: Statements, L: LineStore + Drop> LineDriver<O, S, L> {
         let before = self.cluster.events().len();
         let turn = self.cluster.turn(s);
         self.cluster.facts();
-        self.answers[s.number as usize] += answers_in(&self.cluster.events()[before..]);
+        // (their number is one that a counter has)
+        let _count = self.cluster.events().len();
+        self.answers[s.number as usize] += answers_behind(self.cluster.events(), before);
         match turn {
             Turn::Moved => {
                 self.turns -= 1;
