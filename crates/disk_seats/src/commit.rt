@@ -13,7 +13,7 @@ ghost use Rattle.line_moves.specs.Classes.{HaveTheirClasses, KeepsOwners, LieFor
 ghost use Rattle.line_moves.specs.Lines.{AreDistinct, PutsOnly};
 ghost use Rattle.line_seat.specs.Groups.{AreAllowed, AreOfClasses, ArePlaced, HaveClasses};
 ghost use Rattle.line_seat.specs.declared.commit.CommitStage.TheVariants.{Gathering};
-ghost use Rattle.line_seat.specs.Stages.{IsNextStage};
+ghost use Rattle.line_seat.specs.Stages.{IsFurther, IsNextStage};
 ghost use Rattle.disk_seats.specs.Ledgers.{Ledger, this_commit, held_up, behind_step};
 ghost use Rattle.disk_seats.specs.Members.{LedgerFacts};
 
@@ -72,8 +72,9 @@ pub fn go_on<D: Disk>(
         → let its = this_commit member transaction stage group lines.now classes.now flight in
         ledger.commit ≡ Some its → LedgerFacts (D.view disk.new) (held_up its ledger) }
 
-    // The stages come one behind another.
+    // The stages come one behind another, and each goes on while lines are left for it.
     ensures order { IfOk result (IsNextStage stage) }
+    ensures further { IfOk result (IsFurther (length lines.now) stage) }
 
     // It is further, and at the last stage committed.
     ensures goes_on { IfOk result (λ next. IsTrue (D.view disk.old).tells

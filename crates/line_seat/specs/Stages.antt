@@ -1,5 +1,5 @@
 -- What a commit rests on at each of its stages.
-use Rattle.std.specs.Prelude.{◌+◌, ◌≡◌, length}
+use Rattle.std.specs.Prelude.{ℕ, ◌+◌, ◌<◌, ◌≡◌, length}
 use Rattle.rdb_outside.specs.Disk.{View, Pending}
 use Rattle.new_database.specs.Maker.{aij_file}
 use Rattle.journal_scan.specs.Standing.{what_stands}
@@ -32,6 +32,12 @@ IsNextStage Sealing Landing = Unit {0}
 IsNextStage Landing Committed = Unit {0}
 IsNextStage Committed Committed = Unit {0}
 IsNextStage _ _ = ⊥
+
+-- Where the stage goes on, fewer of so many lines are left for it.
+abbrev pub IsFurther : ℕ → CommitStage → CommitStage → Type 0
+IsFurther lines (Changing at) (Changing next) = (at < lines) × (at < next)
+IsFurther lines (Imaging at) (Imaging next) = (at < lines) × (at < next)
+IsFurther lines _ _ = Unit {0}
 
 -- what was done before the stage
 abbrev pub IsDone : CommitStage → View → Progress → GroupPlace → ChangedLines → Flight → Type 0

@@ -14,7 +14,7 @@ ghost use Rattle.line_moves.specs.declared.places.Place.{Place as Spot};
 ghost use Rattle.line_moves.specs.Classes.{HaveTheirClasses, KeepsOwners, LieForArea};
 ghost use Rattle.line_moves.specs.Lines.{AreDistinct, PutsOnly};
 ghost use Rattle.line_seat.specs.Groups.{AreAllowed, AreOfClasses, ArePlaced, HaveClasses, IsCommitting, group_line};
-ghost use Rattle.line_seat.specs.Stages.{CommitFacts, IsNextStage, progress_at};
+ghost use Rattle.line_seat.specs.Stages.{CommitFacts, IsFurther, IsNextStage, progress_at};
 ghost use Rattle.line_seat.specs.declared.commit.CommitStage.TheVariants.{Changing, Imaging, Gathering};
 
 use aij_journal::{AijPart, GroupLine};
@@ -109,6 +109,7 @@ fn change_page<D: Disk>(
         → IsAreaFile there.file → IsDataPage there.page → LieForArea lines.now there area
         → KeepsOwners (Pending (D.view disk.old)) (Pending (D.view disk.new)) there area }
     ensures order { IfOk result (IsNextStage (Changing at)) }
+    ensures further { IfOk result (IsFurther (length lines.now) (Changing at)) }
     ensures goes_on { IfOk result (λ next. IsTrue (D.view disk.old).tells
         → (now : Progress) (group : _) (flight : Flight)
         → CommitFacts (Changing at) (D.view disk.old) now group lines.now flight
@@ -145,6 +146,7 @@ fn journal_image<D: Disk>(
     ensures failed { IsErrOf result Fault.Failed
         → Rose (D.view disk.old).faults (D.view disk.new).faults }
     ensures order { IfOk result (IsNextStage (Imaging at)) }
+    ensures further { IfOk result (IsFurther (length lines.now) (Imaging at)) }
     ensures goes_on { IfOk result (λ next. IsTrue (D.view disk.old).tells
         → (now : Progress) (member : ℕ) (transaction : Open) (flight : Flight)
         → IsCommitting now member transaction group lines.now classes.now flight
@@ -209,8 +211,9 @@ pub fn commit_step<D: Disk>(
         → IsAreaFile there.file → IsDataPage there.page → LieForArea lines.now there area
         → KeepsOwners (Pending (D.view disk.old)) (Pending (D.view disk.new)) there area }
 
-    // The stages come one behind another.
+    // The stages come one behind another, and each goes on while lines are left for it.
     ensures order { IfOk result (IsNextStage stage) }
+    ensures further { IfOk result (IsFurther (length lines.now) stage) }
 
     // What the commit rests on at a stage, it rests on at the next. At the last one the group is committed.
     ensures goes_on { IfOk result (λ next. IsTrue (D.view disk.old).tells

@@ -1,5 +1,5 @@
 -- A member's commit, from its pages' owners on.
-use Rattle.std.specs.Prelude.{ℕ, ◌≤◌, ◌≡◌, List, length, slice_get, Some, None}
+use Rattle.std.specs.Prelude.{ℕ, ◌≤◌, ◌<◌, ◌≡◌, List, length, slice_get, Some, None}
 use Rattle.rdb_types.specs.declared.keys.Dbkey.{Dbkey}
 use Rattle.rdb_types.specs.declared.keys.Line.{Line}
 use Rattle.rdb_outside.specs.Disk.{View, Pending}
@@ -12,7 +12,7 @@ use Rattle.line_seat.specs.declared.commit.GroupPlace.{GroupPlace}
 use Rattle.line_seat.specs.declared.commit.CommitStage.{CommitStage}
 use Rattle.line_seat.specs.declared.commit.CommitStage.TheVariants.{Changing, Imaging, Gathering, Sealing, Landing, Committed}
 use Rattle.line_seat.specs.Seats.{secured}
-use Rattle.line_seat.specs.Stages.{IsNextStage}
+use Rattle.line_seat.specs.Stages.{IsFurther, IsNextStage}
 use Rattle.line_seat.specs.Groups.{AreOfEntries, IsCommitting}
 use Rattle.disk_seats.specs.Ledgers.{changing, Commit, Ledger, all_stable, this_commit, new_commit, taken_up, held_up, behind_step}
 use Rattle.disk_seats.specs.Members.{AreOwned, IsOneArea}
@@ -55,6 +55,12 @@ IsNextTurn (Entering at) Securing = Unit {0}
 IsNextTurn Securing (Going (Changing at)) = Unit {0}
 IsNextTurn (Going stage) (Going next) = IsNextStage stage next
 IsNextTurn _ _ = ⊥
+
+-- Where the turn goes on, fewer of so many lines are left for it.
+abbrev pub IsFurtherTurn : ℕ → CommitTurn → CommitTurn → Type 0
+IsFurtherTurn lines (Entering at) (Entering next) = (at < lines) × (at < next)
+IsFurtherTurn lines (Going stage) (Going next) = IsFurther lines stage next
+IsFurtherTurn lines _ _ = Unit {0}
 
 -- what a turn of the commit rests on, beside what the ledger says
 abbrev pub TurnFacts : CommitTurn → View → Ledger → Plan → Type 0

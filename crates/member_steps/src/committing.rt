@@ -1,7 +1,7 @@
 // A member's commit, from its pages' owners to its answer.
 ghost use Rattle.std.specs.Prelude.{◌≡◌, ◌≢◌, ◌+◌, ◌≤◌, ◌<◌, ◌^◌, ℕ, List, length, IfOk, IsErrOf, IsTrue};
 ghost use Rattle.rdb_types.specs.declared.file.FileId.{FileId as File};
-ghost use Rattle.rdb_types.specs.declared.file.FileKind.TheVariants.{Snap};
+ghost use Rattle.rdb_types.specs.declared.file.FileKind.TheVariants.{Root as RootKind, Snap};
 ghost use Rattle.rdb_outside.specs.Causes.{Rose};
 ghost use Rattle.rdb_outside.specs.Disk.{OnlyReads, Pending};
 ghost use Rattle.area_files.specs.Areas.{IsDataPage};
@@ -17,7 +17,7 @@ ghost use Rattle.line_seat.specs.declared.commit.CommitStage.TheVariants.{Gather
 ghost use Rattle.disk_seats.specs.Ledgers.{Ledger};
 ghost use Rattle.disk_seats.specs.Members.{LedgerFacts};
 ghost use Rattle.member_steps.specs.declared.committing.CommitTurn.TheVariants.{Entering, Securing, Going};
-ghost use Rattle.member_steps.specs.Turns.{IsNextTurn, Plan, plan_of, TurnFacts, NextFacts, ledger_behind, ledger_held};
+ghost use Rattle.member_steps.specs.Turns.{IsFurtherTurn, IsNextTurn, Plan, plan_of, TurnFacts, NextFacts, ledger_behind, ledger_held};
 
 use disk_seats::{enter, go_on, settle};
 use line_moves::place_of;
@@ -57,6 +57,7 @@ fn enter_next<D: Disk>(
     ensures owners { IsTrue (D.view disk.old).tells → (there : Spot) (area : ℕ) → IsDataPage there.page
         → KeepsOwners (Pending (D.view disk.old)) (Pending (D.view disk.new)) there area }
     ensures order { IfOk result (IsNextTurn (Entering at)) }
+    ensures further { IfOk result (IsFurtherTurn (length lines.now) (Entering at)) }
     ensures keeps { IsTrue (D.view disk.old).tells → (ledger : Ledger) (plan : Plan)
         → LedgerFacts (D.view disk.old) ledger → plan.lines ≡ lines.now
         → TurnFacts (Entering at) (D.view disk.old) ledger plan
@@ -82,6 +83,7 @@ fn enter_next<D: Disk>(
 fn secure<D: Disk>(disk: &mut D) -> Result<CommitTurn, Fault>
     ensures reads { OnlyReads (D.view disk.old) (D.view disk.new) }
     ensures order { IfOk result (IsNextTurn Securing) }
+    ensures further { (lines : ℕ) → IfOk result (IsFurtherTurn lines Securing) }
     ensures failed { IsErrOf result Fault.Failed
         → Rose (D.view disk.old).faults (D.view disk.new).faults }
     ensures keeps { IsTrue (D.view disk.old).tells → (ledger : Ledger)
@@ -113,7 +115,7 @@ fn go_further<D: Disk>(
     requires room { group.slot + (length lines.now + 1) < 2 ^ 32 }
     requires number { group.number ≤ 2 ^ 62 }
     requires tsn { group.tsn.number < 2 ^ 62 }
-    ensures writes { (file : File) × (slot : ℕ) × (file.kind ≢ Snap)
+    ensures writes { (file : File) × (slot : ℕ) × (file.kind ≢ Snap) × (file.kind ≢ RootKind)
         × OnlyWrites file slot (D.view disk.old) (D.view disk.new) }
     ensures failed { IsErrOf result Fault.Failed
         → Rose (D.view disk.old).faults (D.view disk.new).faults }
@@ -136,6 +138,7 @@ fn go_further<D: Disk>(
         TurnFacts (Going stage) (D.view disk.old) ledger plan
         → LedgerFacts (D.view disk.new) (ledger_held (Going stage) plan ledger) }
     ensures order { IfOk result (IsNextTurn (Going stage)) }
+    ensures further { IfOk result (IsFurtherTurn (length lines.now) (Going stage)) }
     ensures goes_on { IfOk result (λ next. IsTrue (D.view disk.old).tells
         → (ledger : Ledger) (member : ℕ) (transaction : Open) (all : List Undo) (flight : Flight)
         → LedgerFacts (D.view disk.old) ledger
@@ -167,8 +170,8 @@ pub fn commit_next<D: Disk>(
     requires number { group.number ≤ 2 ^ 62 }
     requires tsn { group.tsn.number < 2 ^ 62 }
 
-    // It writes one slot at most, and none of a snapshot file.
-    ensures writes { (file : File) × (slot : ℕ) × (file.kind ≢ Snap)
+    // It writes one slot at most, and neither of a snapshot file nor of the root.
+    ensures writes { (file : File) × (slot : ℕ) × (file.kind ≢ Snap) × (file.kind ≢ RootKind)
         × OnlyWrites file slot (D.view disk.old) (D.view disk.new) }
     ensures failed { IsErrOf result Fault.Failed
         → Rose (D.view disk.old).faults (D.view disk.new).faults }
@@ -199,8 +202,9 @@ pub fn commit_next<D: Disk>(
         TurnFacts turn (D.view disk.old) ledger plan
         → LedgerFacts (D.view disk.new) (ledger_held turn plan ledger) }
 
-    // The turns come one behind another.
+    // The turns come one behind another, and each goes on while lines are left for it.
     ensures order { IfOk result (IsNextTurn turn) }
+    ensures further { IfOk result (IsFurtherTurn (length lines.now) turn) }
 
     // It is further. At the last turn the lines are committed, since this moment.
     ensures goes_on { IfOk result (λ next. IsTrue (D.view disk.old).tells

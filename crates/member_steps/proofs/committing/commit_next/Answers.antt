@@ -1,5 +1,5 @@
 use Rattle.std.proofs.Common.{◌≡◌, ◌∙◌, ap, refl, sym, subst}
-use Rattle.rdb_types.specs.declared.file.FileKind.TheVariants.{Area, Snap}
+use Rattle.rdb_types.specs.declared.file.FileKind.TheVariants.{Area, Root as RootKind, Snap}
 use Rattle.stable_lines.specs.Slots.{area_file}
 use Rattle.line_moves.proofs.Runs.{writes_none}
 use Rattle.line_moves.proofs.PageClasses.{owners_stay, classes_read}
@@ -56,7 +56,7 @@ returns-in-Going-clause-goes_on g c = let v = g.D.Disk.view in
 
 pub returns-in-Securing-clause-writes : goal.returns-in-Securing-clause-writes
 returns-in-Securing-clause-writes g c = let v = g.D.Disk.view in
-    (area_file 1, 1, (λ k. let bad : Area ≡ Snap = k in cc), writes_none (area_file 1) 1 (v c.args.disk.now) (v c.secure.new.disk) c.secure.ensures.reads)
+    (area_file 1, 1, (λ k. let bad : Area ≡ Snap = k in cc), (λ k. let bad : Area ≡ RootKind = k in cc), writes_none (area_file 1) 1 (v c.args.disk.now) (v c.secure.new.disk) c.secure.ensures.reads)
 
 pub returns-in-Entering-clause-classes : goal.returns-in-Entering-clause-classes
 returns-in-Entering-clause-classes g c = λ t ledger was by_area its had. c.enter_next.ensures.classes t by_area had
