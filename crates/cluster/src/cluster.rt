@@ -197,7 +197,7 @@ impl<O: Origin> Driven for Cluster<O> {
         Step::Ended
     }
 
-    fn answered(&self, s: Session) -> u32 {
-        self.answers(s)
+    fn answered(&self, s: Session) -> u64 {
+        u64::from(self.answers(s))
     }
 }

@@ -102,7 +102,7 @@ impl Driven for Talk {
         Step::Ended
     }
 
-    fn answered(&self, s: Session) -> u32 {
+    fn answered(&self, s: Session) -> u64 {
         let mut count = 0;
         for number in &self.said {
             if *number == s.number {

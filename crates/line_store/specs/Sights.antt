@@ -1,5 +1,5 @@
 -- What a store shows of what it holds. A store on a disk holds its lines there, so that its memory alone doesn't say which they are: it shows a shelf, and which one is a relation.
-use Rattle.std.specs.Prelude.{◌≡◌, ◌<◌, ◌==◌, ◌^◌, ℕ, true, false, List, [], Option, Some, None, Result, Ok, Err, is_some}
+use Rattle.std.specs.Prelude.{take, ◌≡◌, ◌<◌, ◌==◌, ◌^◌, ℕ, true, false, List, [], Option, Some, None, Result, Ok, Err, is_some}
 use Rattle.rdb_types.specs.declared.keys.Dbkey.{Dbkey}
 use Rattle.line_view.specs.Knowledge.{Lines, line_in, lines_in}
 use Rattle.line_view.specs.Held.{Held, with_line, with_area}
@@ -111,11 +111,11 @@ pub record LearnsArea (sight : Sight) (s area : ℕ) (old new : Held) : Type 0 w
   pub learnt : new ≡ with_area area (lines_in area lines) old
   pub seen : (h : Shelf) → sight.shows h → lines_in area lines ≡ lines_in area (seen_by s h)
 
--- Some of these lines are known in addition.
+-- The first so many of these lines are known in addition, with what the session sees there.
 pub record LearnsSome (sight : Sight) (s area : ℕ) (old new : Held) : Type 0 where
   pub lines : Lines
   pub learnt : Learns (lines_in area lines) old new
-  pub seen : (h : Shelf) → sight.shows h → lines_in area lines ≡ lines_in area (seen_by s h)
+  pub seen : (h : Shelf) → sight.shows h → take learnt.0 (lines_in area lines) ≡ take learnt.0 (lines_in area (seen_by s h))
 
 -- ---- steps, as memory knows them
 

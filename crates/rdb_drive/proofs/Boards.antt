@@ -37,7 +37,7 @@ pub fits_weight : (xs : List ℕ) → Fits xs → weight xs < room xs
 fits_weight [] f = omega arith
 fits_weight (x ∷ xs) f =
     let w = fits_weight xs f.1 in
-    let m = mul-le-mul_right {m = suc x} {n = 2 ^ 64} (room xs) (omega (arith, f.0)) in
+    let m = mul-le-mul_right {m = suc x} {n = 2 ^ 80} (room xs) (omega (arith, f.0)) in
     let e = suc-mul x (room xs) in
     omega (arith, w, m, e)
 
@@ -45,7 +45,7 @@ pub same_room : (xs ys : List ℕ) → length xs ≡ length ys → room xs ≡ r
 same_room [] [] e = refl
 same_room [] (y ∷ ys) e = absurd (omega arith)
 same_room (x ∷ xs) [] e = absurd (omega arith)
-same_room (x ∷ xs) (y ∷ ys) e = ap (λ n. 2 ^ 64 * n) (same_room xs ys (omega arith))
+same_room (x ∷ xs) (y ∷ ys) e = ap (λ n. 2 ^ 80 * n) (same_room xs ys (omega arith))
 
 pub first_less : (x y : ℕ) (xs ys : List ℕ) → Fits xs → x < y → length xs ≡ length ys → x * room xs + weight xs < y * room ys + weight ys
 first_less x y xs ys f l e =

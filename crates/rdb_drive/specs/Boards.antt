@@ -58,9 +58,9 @@ Less (x ∷ xs) (y ∷ ys) = ((x < y) × (length xs ≡ length ys)) ⊎ ((x ≡ 
 
 abbrev pub Fits : List ℕ → Type 0
 Fits [] = Unit {0}
-Fits (x ∷ xs) = (x < 2 ^ 64) × Fits xs
+Fits (x ∷ xs) = (x < 2 ^ 80) × Fits xs
 
--- every number but the first fits 64 bits
+-- every number but the first fits 80 bits, as sums over sessions of numbers of 64 bits do
 abbrev pub HasBounds : List ℕ → Type 0
 HasBounds [] = Unit {0}
 HasBounds (x ∷ xs) = Fits xs

@@ -9,7 +9,7 @@ use Rattle.rdb_drive.specs.declared.order.Came.TheVariants.{Said, Went, Sleeps, 
 -- a measure as one number
 abbrev pub room : List ℕ → ℕ
 room [] = 1
-room (x ∷ xs) = 2 ^ 64 * room xs
+room (x ∷ xs) = 2 ^ 80 * room xs
 
 abbrev pub weight : List ℕ → ℕ
 weight [] = 0

@@ -92,7 +92,7 @@ pub trait Driven {
         ensures { RecoveryOf sessions (board self.old) (board self.new) result };
 
     /// How many answers the session was given.
-    fn answered(&self, s: Session) -> u32
+    fn answered(&self, s: Session) -> u64
         requires { IsSession sessions s.number }
         ensures { result ≡ answers_by s.number (board self.now).marks };
 }

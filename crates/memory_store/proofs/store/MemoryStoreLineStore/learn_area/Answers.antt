@@ -1,4 +1,4 @@
-use Rattle.std.proofs.Common.{ℕ, refl, sym, ap}
+use Rattle.std.proofs.Common.{ℕ, refl, sym, ap, take}
 use Rattle.line_view.specs.Knowledge.{lines_in}
 use Rattle.line_view.specs.Held.{Held}
 use Rattle.line_store.specs.Shelves.{Shelf, seen_by}
@@ -11,7 +11,7 @@ none-more : (k : Kept) (s area : ℕ) (known : Held) → LearnsSome (sight_of k)
 none-more k s area known = record {
   lines = seen_by s (shelf_of k);
   learnt = (0, refl);
-  seen = λ h shown. ap (λ (x : Shelf). lines_in area (seen_by s x)) (sym shown);
+  seen = λ h shown. ap (λ (x : Shelf). take 0 (lines_in area (seen_by s x))) (sym shown);
 }
 
 pub returns-in_default-clause-not_yet : goal.returns-in_default-clause-not_yet
