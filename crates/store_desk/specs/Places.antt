@@ -2,8 +2,8 @@
 use Rattle.std.specs.Prelude.{◌≡◌, ℕ, true, false, List, [], None, slice_index_or}
 use Rattle.line_store.specs.Seats.{Seat, outside, beginning, writing, changing, prepared, committing, rolling_back, closing, reading, dead, IsMember, in_flight}
 use Rattle.line_store.specs.Sights.{Sight, bare}
-use Rattle.store_cases.specs.declared.place.Place.{Place}
-use Rattle.store_cases.specs.declared.place.Place.TheVariants as at
+use Rattle.store_desk.specs.declared.place.Place.{Place}
+use Rattle.store_desk.specs.declared.place.Place.TheVariants as at
 
 -- the seat without lines
 abbrev pub seat_in : Place → Seat

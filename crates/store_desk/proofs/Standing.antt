@@ -5,8 +5,8 @@ use Rattle.std.proofs.lemmas.Option.{none-some}
 use Rattle.line_store.specs.Seats.{Seat, committing, dead, IsMember, in_flight}
 use Rattle.line_store.specs.Shelves.{Shelf}
 use Rattle.line_store.specs.Sights.{Sight, Does, bare}
-use Rattle.store_cases.specs.declared.place.Place.{Place}
-use Rattle.store_cases.specs.Places.{Fits, seat_in, place_of}
+use Rattle.store_desk.specs.declared.place.Place.{Place}
+use Rattle.store_desk.specs.Places.{Fits, seat_in, place_of}
 
 -- ---- whose commit is under way, tells the seat without lines
 

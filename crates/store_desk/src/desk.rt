@@ -1,38 +1,36 @@
 // A store, and where its sessions stand.
-ghost use Rattle.std.specs.Prelude.{◌≡◌, true};
-ghost use Rattle.line_store.specs.Seats.{IsMember};
-ghost use Rattle.memory_store.specs.Kept.{sight_of};
-ghost use Rattle.store_cases.specs.Places.{Fits};
+ghost use Rattle.std.specs.Prelude.{◌≡◌, ℕ, true};
+ghost use Rattle.line_store.specs.Seats.{IsMember, outside};
+ghost use Rattle.store_desk.specs.Places.{Fits};
 
 use crate::answer::{Answer, is_class, read};
 use crate::place::Place;
 use area_files::storage_area;
 use line_store::{ChangeStop, CommitStop, LineStore, Stepped};
 use line_view::{Known, Write};
-use memory_store::MemoryStore;
-use rdb_types::{Dbkey, Limits, NoMemory, Session};
-use std::alloc::Global;
+use rdb_types::{Dbkey, Session};
 
 /// A store, of whose sessions it is known where they stand: so no call is made that isn't allowed there.
 #[derive(Drop)]
-pub(crate) struct Desk {
-    store: MemoryStore,
+pub struct Desk<L: LineStore + Drop> {
+    store: L,
     /// Places are numbered as the sessions are, from 1 to 16.
     places: [Place; 17],
-    ghost fits: { Fits (sight_of store) places },
+    ghost fits: { Fits (L.sight store) places },
 }
 
-impl Desk {
+impl<L: LineStore + Drop> Desk<L> {
     ghost use Rattle.line_store.specs.Sights.{StandsAlone};
-    ghost use Rattle.store_cases.specs.Places.{place_of};
-    ghost use Rattle.memory_store.specs.Kept.{sight_of};
+    ghost use Rattle.store_desk.specs.Places.{place_of};
 
-    pub(crate) fn new(alloc: Global, limits: Limits) -> Result<Desk, NoMemory> {
-        let store = MemoryStore::new(alloc, limits)?;
-        Ok(Desk {
+    /// A desk before a store in which nobody has a transaction open.
+    pub fn new(store: L) -> Self
+        requires outside { (s : ℕ) → (L.sight store).stand s ≡ outside }
+    {
+        Desk {
             store,
             places: [Place::Outside; 17],
-        })
+        }
     }
 
     fn place(&self, s: Session) -> Place
@@ -45,7 +43,7 @@ impl Desk {
     // Whether no other session's commit is under way.
     fn is_alone(&self, s: Session) -> bool
         requires { IsMember s.number }
-        ensures { result ≡ true → StandsAlone s.number (sight_of self.now.store) }
+        ensures { result ≡ true → StandsAlone s.number (L.sight self.now.store) }
     {
         for t in 1..17 {
             if t == s.number {
@@ -58,7 +56,7 @@ impl Desk {
         true
     }
 
-    pub(crate) fn begin(&mut self, s: Session) -> Answer
+    pub fn begin(&mut self, s: Session) -> Answer
         requires { IsMember s.number }
     {
         if self.place(s) != Place::Outside {
@@ -69,7 +67,7 @@ impl Desk {
         Answer::Done
     }
 
-    pub(crate) fn begin_reading(&mut self, s: Session) -> Answer
+    pub fn begin_reading(&mut self, s: Session) -> Answer
         requires { IsMember s.number }
     {
         if self.place(s) != Place::Outside {
@@ -82,7 +80,7 @@ impl Desk {
         Answer::Done
     }
 
-    pub(crate) fn end_reading(&mut self, s: Session) -> Answer
+    pub fn end_reading(&mut self, s: Session) -> Answer
         requires { IsMember s.number }
     {
         if self.place(s) != Place::Reading {
@@ -94,7 +92,7 @@ impl Desk {
     }
 
     /// Learns a line as the session sees it.
-    pub(crate) fn learn_line(&mut self, s: Session, key: Dbkey, known: &mut Known) -> Answer
+    pub fn learn_line(&mut self, s: Session, key: Dbkey, known: &mut Known) -> Answer
         requires { IsMember s.number }
     {
         if !self.place(s).is_at_rest() {
@@ -104,7 +102,7 @@ impl Desk {
     }
 
     /// Learns the lines of an area as the session sees them.
-    pub(crate) fn learn_area(&mut self, s: Session, area: u32, known: &mut Known) -> Answer
+    pub fn learn_area(&mut self, s: Session, area: u32, known: &mut Known) -> Answer
         requires { IsMember s.number }
     {
         if !self.place(s).is_at_rest() {
@@ -113,7 +111,7 @@ impl Desk {
         read(self.store.learn_area(s, area, known))
     }
 
-    pub(crate) fn room(&self, s: Session, area: u32, class: u16, from: Option<Dbkey>) -> Answer
+    pub fn room(&self, s: Session, area: u32, class: u16, from: Option<Dbkey>) -> Answer
         requires { IsMember s.number }
     {
         if self.place(s) != Place::Writing || storage_area(area).is_none() || !is_class(class) {
@@ -125,7 +123,7 @@ impl Desk {
         }
     }
 
-    pub(crate) fn take_room(&mut self, s: Session, key: Dbkey, class: u16) -> Answer
+    pub fn take_room(&mut self, s: Session, key: Dbkey, class: u16) -> Answer
         requires { IsMember s.number }
     {
         if storage_area(key.area).is_none() || !is_class(class) {
@@ -138,7 +136,7 @@ impl Desk {
         }
     }
 
-    pub(crate) fn change(&mut self, s: Session, writes: &[Write]) -> Answer
+    pub fn change(&mut self, s: Session, writes: &[Write]) -> Answer
         requires { IsMember s.number }
     {
         if self.place(s) != Place::Writing {
@@ -157,7 +155,7 @@ impl Desk {
         }
     }
 
-    pub(crate) fn prepare(&mut self, s: Session) -> Answer
+    pub fn prepare(&mut self, s: Session) -> Answer
         requires { IsMember s.number }
     {
         if self.place(s) != Place::Writing {
@@ -173,7 +171,7 @@ impl Desk {
         }
     }
 
-    pub(crate) fn give_back(&mut self, s: Session) -> Answer
+    pub fn give_back(&mut self, s: Session) -> Answer
         requires { IsMember s.number }
     {
         if self.place(s) != Place::Prepared {
@@ -184,7 +182,7 @@ impl Desk {
         Answer::Done
     }
 
-    pub(crate) fn commit(&mut self, s: Session) -> Answer
+    pub fn commit(&mut self, s: Session) -> Answer
         requires { IsMember s.number }
     {
         if self.place(s) != Place::Prepared || !self.is_alone(s) {
@@ -195,7 +193,7 @@ impl Desk {
         Answer::Done
     }
 
-    pub(crate) fn roll_back(&mut self, s: Session) -> Answer
+    pub fn roll_back(&mut self, s: Session) -> Answer
         requires { IsMember s.number }
     {
         if self.place(s) != Place::Writing {
@@ -206,7 +204,7 @@ impl Desk {
         Answer::Done
     }
 
-    pub(crate) fn die(&mut self, s: Session) -> Answer
+    pub fn die(&mut self, s: Session) -> Answer
         requires { IsMember s.number }
     {
         let place = self.place(s);
@@ -219,7 +217,7 @@ impl Desk {
     }
 
     /// One step of what is under way.
-    pub(crate) fn step(&mut self, s: Session) -> Answer
+    pub fn step(&mut self, s: Session) -> Answer
         requires { IsMember s.number }
     {
         let place = self.place(s);

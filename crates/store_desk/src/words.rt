@@ -5,6 +5,7 @@ ghost use Rattle.line_store.specs.Seats.{IsMember};
 use crate::answer::Answer;
 use crate::desk::Desk;
 use case_words::{image_of, key_of, number_of, put_bytes, put_key};
+use line_store::LineStore;
 use line_view::{Known, Seen, View, Write};
 use rdb_types::{Dbkey, Session};
 
@@ -58,7 +59,7 @@ fn put_line(rt: &HostRuntime, known: &Known, key: Dbkey) {
 }
 
 /// Reads a line.
-fn say_line(rt: &HostRuntime, desk: &mut Desk, s: Session, word: &str)
+fn say_line<L: LineStore + Drop>(rt: &HostRuntime, desk: &mut Desk<L>, s: Session, word: &str)
     requires { IsMember s.number }
 {
     let Some(key) = key_of(word) else {
@@ -72,7 +73,7 @@ fn say_line(rt: &HostRuntime, desk: &mut Desk, s: Session, word: &str)
 }
 
 /// Reads the lines of an area.
-fn say_area(rt: &HostRuntime, desk: &mut Desk, s: Session, word: &str)
+fn say_area<L: LineStore + Drop>(rt: &HostRuntime, desk: &mut Desk<L>, s: Session, word: &str)
     requires { IsMember s.number }
 {
     let area = number_of(Some(word)).unwrap_or(0);
@@ -91,7 +92,7 @@ fn say_area(rt: &HostRuntime, desk: &mut Desk, s: Session, word: &str)
 }
 
 /// Stores a line, or erases it where no image is said.
-fn say_write(rt: &HostRuntime, desk: &mut Desk, s: Session, words: &str)
+fn say_write<L: LineStore + Drop>(rt: &HostRuntime, desk: &mut Desk<L>, s: Session, words: &str)
     requires { IsMember s.number }
 {
     let (word, rest) = words.split_once(' ').unwrap_or((words, ""));
@@ -107,7 +108,7 @@ fn say_write(rt: &HostRuntime, desk: &mut Desk, s: Session, words: &str)
 }
 
 /// Names a room in an area of a class, behind a line or from the first.
-fn say_room(rt: &HostRuntime, desk: &mut Desk, s: Session, words: &str)
+fn say_room<L: LineStore + Drop>(rt: &HostRuntime, desk: &mut Desk<L>, s: Session, words: &str)
     requires { IsMember s.number }
 {
     let mut parts = words.split(' ');
@@ -121,7 +122,7 @@ fn say_room(rt: &HostRuntime, desk: &mut Desk, s: Session, words: &str)
 }
 
 /// Takes the page of a room for a class.
-fn say_take(rt: &HostRuntime, desk: &mut Desk, s: Session, words: &str)
+fn say_take<L: LineStore + Drop>(rt: &HostRuntime, desk: &mut Desk<L>, s: Session, words: &str)
     requires { IsMember s.number }
 {
     let (word, rest) = words.split_once(' ').unwrap_or((words, ""));
@@ -134,7 +135,7 @@ fn say_take(rt: &HostRuntime, desk: &mut Desk, s: Session, words: &str)
 }
 
 /// Makes the call that a line names, as `write 1 16:2:0 0a`.
-pub(crate) fn say(rt: &HostRuntime, desk: &mut Desk, text: &str) {
+pub fn say<L: LineStore + Drop>(rt: &HostRuntime, desk: &mut Desk<L>, text: &str) {
     let (word, rest) = text.split_once(' ').unwrap_or((text, ""));
     let (number, rest) = rest.split_once(' ').unwrap_or((rest, ""));
     let Some(s) = session_of(number) else {
@@ -150,7 +151,7 @@ pub(crate) fn say(rt: &HostRuntime, desk: &mut Desk, text: &str) {
     }
 }
 
-fn say_call(rt: &HostRuntime, desk: &mut Desk, s: Session, word: &str)
+fn say_call<L: LineStore + Drop>(rt: &HostRuntime, desk: &mut Desk<L>, s: Session, word: &str)
     requires { IsMember s.number }
 {
     let answer = match word {

@@ -2,7 +2,7 @@
 ghost use Rattle.std.specs.Prelude.{◌≡◌, true, false, None, is_some};
 ghost use Rattle.line_store.specs.Seats.{IsAtRest, IsUnderWay, IsAlive, in_flight, done_at, died};
 ghost use Rattle.line_store.specs.Sights.{bare, seat_or};
-ghost use Rattle.store_cases.specs.Places.{seat_in};
+ghost use Rattle.store_desk.specs.Places.{seat_in};
 
 /// Where a session stands with its store.
 #[derive(Clone, Copy, Debug, PartialEq, Eq)]
