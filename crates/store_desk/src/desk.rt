@@ -33,6 +33,13 @@ impl<L: LineStore + Drop> Desk<L> {
         }
     }
 
+    /// The store.
+    pub fn store(&self) -> &L
+        ensures { result.now ≡ self.now.store }
+    {
+        &self.store
+    }
+
     fn place(&self, s: Session) -> Place
         requires { IsMember s.number }
         ensures { result ≡ place_of self.now.places s.number }
