@@ -248,4 +248,18 @@ impl<L: LineStore + Drop> Desk<L> {
             Err(_) => Answer::Fails,
         }
     }
+
+    /// Steps a session until nothing is under way, or a step fails; a million times at most.
+    pub fn finish(&mut self, s: Session) -> Answer
+        requires { IsMember s.number }
+    {
+        let mut answer = Answer::More;
+        for _ in 0..1_000_000 {
+            answer = self.step(s);
+            if answer != Answer::More && answer != Answer::Committed {
+                return answer;
+            }
+        }
+        answer
+    }
 }

@@ -134,20 +134,6 @@ fn say_take<L: LineStore + Drop>(rt: &HostRuntime, desk: &mut Desk<L>, s: Sessio
     put_answer(rt, answer);
 }
 
-/// Steps a session until nothing is under way, or its step fails.
-fn say_steps<L: LineStore + Drop>(rt: &HostRuntime, desk: &mut Desk<L>, s: Session)
-    requires { IsMember s.number }
-{
-    for _ in 0..10000 {
-        let answer = desk.step(s);
-        match answer {
-            Answer::More | Answer::Committed => continue,
-            _ => return put_answer(rt, answer),
-        }
-    }
-    tell(rt, "too many steps");
-}
-
 /// Makes the call that a line names, as `write 1 16:2:0 0a`.
 pub fn say<L: LineStore + Drop>(rt: &HostRuntime, desk: &mut Desk<L>, text: &str) {
     let (word, rest) = text.split_once(' ').unwrap_or((text, ""));
@@ -161,7 +147,6 @@ pub fn say<L: LineStore + Drop>(rt: &HostRuntime, desk: &mut Desk<L>, text: &str
         "write" => say_write(rt, desk, s, rest),
         "room" => say_room(rt, desk, s, rest),
         "take" => say_take(rt, desk, s, rest),
-        "go" => say_steps(rt, desk, s),
         _ => say_call(rt, desk, s, word),
     }
 }
@@ -179,6 +164,7 @@ fn say_call<L: LineStore + Drop>(rt: &HostRuntime, desk: &mut Desk<L>, s: Sessio
         "rollback" => desk.roll_back(s),
         "die" => desk.die(s),
         "step" => desk.step(s),
+        "finish" => desk.finish(s),
         _ => return tell(rt, "NO SUCH CASE"),
     };
     put_answer(rt, answer);

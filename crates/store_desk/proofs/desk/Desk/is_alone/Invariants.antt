@@ -4,4 +4,4 @@ use Rattle.store_desk.specs.Places.{seat_in, place_of}
 use Rattle.store_desk.proofs.desk.Desk.is_alone.Given as goal
 
 abbrev pub invariant-loop-t : goal.invariant-loop-t
-invariant-loop-t l = (u : ℕ) → 1 ≤ u → u < l.t → (u == l.s.number) ≡ false → in_flight (seat_in (place_of l.self.places u)) ≡ None
+invariant-loop-t g l = (u : ℕ) → 1 ≤ u → u < l.t → (u == l.s.number) ≡ false → in_flight (seat_in (place_of l.self.places u)) ≡ None
