@@ -2,6 +2,7 @@
 use case_words::number_of;
 use disk_line_store::DiskStore;
 use new_database::make_new;
+use opened_store::open;
 use rdb_outside::MemoryDisk;
 use rdb_types::Limits;
 use std::alloc::Global;
@@ -12,8 +13,9 @@ pub type Opened = Desk<DiskStore<MemoryDisk>>;
 
 /// Opens the database on a disk.
 pub fn opened(alloc: Global, disk: MemoryDisk) -> Option<Opened> {
-    let store = DiskStore::open(alloc, disk).ok()?;
-    Some(Desk::new(store))
+    let mut disk = disk;
+    let held = open(alloc, &mut disk).ok()?;
+    Some(Desk::new(DiskStore::new(disk, held)))
 }
 
 /// Opens a new database, of whose disk the call with this number fails, if the word is one.

@@ -6,6 +6,7 @@ mod jobs;
 use disk_line_store::DiskStore;
 use jobs::{Came, do_job};
 use new_database::make_new;
+use opened_store::open;
 use rdb_hostdisk::HostDisk;
 use rdb_types::{Limits, NoMemory, Word};
 use std::alloc::Global;
@@ -57,9 +58,9 @@ fn main(rt: HostRuntime) -> ExitCode {
         let made = make_new(&mut disk, LIMITS);
         return ExitCode::from(if made.is_ok() { 0 } else { 3 });
     }
-    let Ok(store) = DiskStore::open(rt.alloc(), disk) else {
+    let Ok(held) = open(rt.alloc(), &mut disk) else {
         return ExitCode::from(4);
     };
-    let mut desk = Desk::new(store);
+    let mut desk = Desk::new(DiskStore::new(disk, held));
     ExitCode::from(status_of(do_job(&rt, &mut desk, name.as_str(), count)))
 }
