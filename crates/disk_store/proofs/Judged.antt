@@ -28,7 +28,7 @@ use Rattle.disk_store.specs.Standing.{IsJudged, StageStands}
 use Rattle.disk_store.specs.Shown.{Shown, sight_of}
 use Rattle.disk_store.proofs.Moving.{itself}
 use Rattle.disk_store.proofs.Kept.{kept-stays}
-use Rattle.disk_store.proofs.Beside.{StaysWith, stays-with}
+use Rattle.disk_store.proofs.Beside.{StaysWith, same-classes, stays-with}
 use Rattle.disk_store.proofs.Stepping.{ComesTo, does-moves, becomes-member, space-same}
 use Rattle.disk_store.proofs.Passing.{Passes, passes-reads, reads-leave, reads-ceiling, tables-pass, slots-pass}
 
@@ -117,7 +117,7 @@ module _ (v w : View) (held : StoreMemory) (s : ℕ) (m : Member) (commits : Boo
             facts = lost-now;
             limits = refl;
             none = λ t apart rests. beside-it t apart ∙ rests;
-            others = λ t x apart stood. stays-with v w shown.ledger after t (λ file page is. it.areas file _) (stays t apart) x stood;
+            others = λ t x apart got stood. stays-with v w shown.ledger after t (λ file page is. it.areas file _) (same-classes v w it.areas) (stays t apart) x stood;
             mine = record { transaction = (c h shown stands).transaction; all = is.plan.all; stands = own; is_open = ap (λ k. shown.ledger.base.going k) (sym is.its) ∙ old.is.is_open; number = sym is.number; count = is.count; keys = is.keys };
             numbered = record { number = shown.numbers.number; first = shown.numbers.first; ceiling = reads-ceiling v w shown.tells only held.numbers shown.numbers.ceiling; group = shown.numbers.group };
             kept = kept-stays held.members s held.numbers.next held.numbers.written m n was (omega arith) shown.kept;

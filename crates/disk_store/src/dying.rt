@@ -1,8 +1,9 @@
 // A session dies.
-ghost use Rattle.std.specs.Prelude.{◌≡◌, Some, slice_get};
+ghost use Rattle.std.specs.Prelude.{◌≡◌, false, Some, slice_get};
 ghost use Rattle.line_store.specs.Seats.{IsMember, IsAlive, died};
 ghost use Rattle.line_store.specs.Sights.{Does, Dies};
 ghost use Rattle.disk_store.specs.declared.member.Member.{Member as Sits};
+ghost use Rattle.disk_store.specs.Commits.{is_bound};
 ghost use Rattle.disk_store.specs.Dying.{recovery_at, dead_at, has_none, forgotten};
 ghost use Rattle.disk_store.specs.Memory.{with_member};
 ghost use Rattle.disk_store.specs.Seats.{stand_at};
@@ -64,17 +65,18 @@ fn forgets(stage: MemberStage) -> bool
 }
 
 impl Held {
-    // A session's member.
-    pub(crate) fn member(&self, s: Session) -> &Member
+    /// A session's member.
+    pub fn member(&self, s: Session) -> &Member
         requires { IsMember s.number }
         ensures { slice_get self.now.members s.number ≡ Some result.now }
     {
         &self.members[s.number as usize]
     }
 
-    // A session comes to another stage, and its lines are forgotten.
+    // A session comes to another stage, at which no room of the journal is set aside for it, and its lines are forgotten.
     pub(crate) fn forget(&mut self, s: Session, next: MemberStage)
-        requires { IsMember s.number }
+        requires member { IsMember s.number }
+        requires free { is_bound next ≡ false }
         ensures { (m : Sits) × (slice_get self.old.members s.number ≡ Some m)
             × (self.new ≡ with_member s.number (forgotten next m) self.old) }
     {
@@ -96,6 +98,6 @@ pub fn die<D: Disk>(_disk: &D, held: &mut Held, s: Session)
     if forgets(stage) {
         held.forget(s, next);
     } else {
-        held.set_stage(s, next);
+        held.set_dead(s, next);
     }
 }

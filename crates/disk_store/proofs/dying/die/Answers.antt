@@ -8,7 +8,25 @@ use Rattle.disk_store.specs.Seats.{stand_of, stand_at}
 use Rattle.disk_store.specs.Shown.{sight_of}
 use Rattle.disk_store.proofs.Closing.{one-member}
 use Rattle.disk_store.proofs.Deaths.{dies-forgotten, dies-kept}
+use Rattle.disk_store.specs.Commits.{is_bound, is_flying}
+use Rattle.disk_store.proofs.DeadStages.{dead-is, dead-flies, dead-free}
 use Rattle.disk_store.proofs.dying.die.Goals as goal
+
+pub forget-requires-clause-free : goal.forget-requires-clause-free
+forget-requires-clause-free g c =
+    let m : Member = c.member-member.result.now in
+    ap is_bound c.dead-next.ensures ∙ dead-free m.stage m.journalled (sym c.forgets.ensures ∙ c.if-forgets.true)
+
+pub set_dead-requires-clause-dead : goal.set_dead-requires-clause-dead
+set_dead-requires-clause-dead g c =
+    let m : Member = c.member-member.result.now in
+    let dead = dead-is m.stage m.journalled in
+    (dead.0, dead.1, c.dead-next.ensures ∙ dead.2)
+
+pub set_dead-requires-clause-flies : goal.set_dead-requires-clause-flies
+set_dead-requires-clause-flies g c flies x is =
+    let m : Member = c.member-member.result.now in
+    ap (λ (y : Member). is_flying y.stage) (one-member c.args.held.now.members c.args.s.number x m is c.member-member.ensures) ∙ dead-flies m.stage m.journalled (ap is_flying (sym c.dead-next.ensures) ∙ flies)
 
 pub returns-then-forgets : goal.returns-then-forgets
 returns-then-forgets g c =
@@ -30,7 +48,7 @@ returns-else-forgets g c =
     let held = c.args.held.now in
     let m : Member = c.member-member.result.now in
     let was = c.member-member.ensures in
-    let comes = c.set_stage.ensures.comes in
+    let comes = c.set_dead.ensures.comes in
     let same : comes.0 ≡ m = one-member held.members s comes.0 m comes.1 was in
     subst (λ new. Does s (died (stand_at held.members s)) (Dies s) (sight_of v held) (sight_of v new))
     (sym (comes.2 ∙ ap (λ (x : Member). with_member s (at_stage c.dead-next.result x) held) same ∙ ap (λ st. with_member s (at_stage st m) held) c.dead-next.ensures))

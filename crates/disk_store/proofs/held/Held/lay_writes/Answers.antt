@@ -9,10 +9,15 @@ use Rattle.disk_store.specs.Sound.{IsSound}
 use Rattle.disk_store.specs.Changing.{AreFit, with_asides, changing_with}
 use Rattle.disk_store.proofs.Members.{lent-there, set-long}
 use Rattle.disk_store.proofs.LaidLines.{laid-sound}
+use Rattle.disk_store.proofs.CommitsKept.{free-kept, slots-kept}
 use Rattle.disk_store.proofs.held.Held.lay_writes.Goals as goal
 
 abbrev before : goal.After-self-2-1 → StoreMemory
 before c = let i = c.self.inside in record { limits = i.limits; numbers = i.numbers; next = i.next; tables = i.tables; slots = i.slots; members = i.members.items }
+
+-- the session's member behind it
+abbrev laid-now : goal.After-self-2-1 → Member
+laid-now c = record c.index_mut-member.result.now { stage = stage.Changing; named = false; written = c.lay_lines.new.lines; pushed = length c.keys-count.result.now; aside = c.in_ok-wanted.wanted }
 
 -- the memory behind it, by the keys that it had and the slots that it has
 abbrev after : goal.After-self-2-1 → List Dbkey → SnapshotSlots → StoreMemory
@@ -29,6 +34,7 @@ invariant_of-self-2 c =
       subst (λ (ks : List Dbkey). IsSound (after c ks c.lay_lines.new.slots)) (sym c.keys-count.ensures.value)
           (subst (λ (sl : SnapshotSlots). IsSound (after c m.written.keys sl)) (sym c.in_ok-wanted.ensures.aside)
           (laid-sound (before c) c.args.s.number m c.args.writes.now c.lay_lines.new.lines (was c) c.self.invariant.1 fit c.in_ok-wanted.ensures.laid c.in_ok-wanted.wanted)),
+      slots-kept (with_member c.args.s.number (laid-now c) (before c)) c.lay_lines.new.slots (free-kept (before c) c.args.s.number m (laid-now c) c.requires.member (was c) refl c.self.invariant.2),
     )
 
 pub returns-clause-laid : goal.returns-clause-laid
