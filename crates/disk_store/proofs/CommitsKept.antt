@@ -447,4 +447,4 @@ sound-landed held s m n kept count was sound puts number slots none =
     let old = sound.each s m was in
     let with : IsSound (with_member s n held) = sound-member held s m n was sound (sound-empty held.tables n (subst (λ t. 1 ≤ t.number) (sym number) old.first) (subst (λ t. t.number < 2 ^ 62) (sym number) old.last) none) (loses-lines m n (ap (λ w. w.lines) none) slots) in
     let all : IsSound (with_tables kept (with_member s n held)) = sound-tables (with_member s n held) kept (keeps-pages held.tables kept (all-same held.tables m.written.lines kept puts)) with in
-    record { first = all.first; last = all.last; each = all.each; apart = all.apart; asides = all.asides }
+    record { first = all.first; last = all.last; allowed = all.allowed; each = all.each; apart = all.apart; asides = all.asides }

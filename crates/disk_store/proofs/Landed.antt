@@ -52,7 +52,7 @@ number-behind j g = let both = length-append j.groups (g ∷ []) in omega (arith
 
 -- ---- pages
 
-free-same : (old new : Tables) → SamePages old new → (file page : ℕ) → is_free (pages_of new file) page ≡ is_free (pages_of old file) page
+pub free-same : (old new : Tables) → SamePages old new → (file page : ℕ) → is_free (pages_of new file) page ≡ is_free (pages_of old file) page
 free-same old new same file page = by (nat_le 1 page) refl
   where
     by : (b : Bool) → nat_le 1 page ≡ b → is_free (pages_of new file) page ≡ is_free (pages_of old file) page
