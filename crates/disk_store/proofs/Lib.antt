@@ -35,9 +35,16 @@ mod Going
 mod Begun
 mod Seeing
 mod EndedReading
-mod Tabled
+pub mod Tabled
 mod Taking
 pub mod PutBack
 pub mod Raising
 mod FewSteps
+mod Classed
 pub mod Judged
+pub mod Ordered
+pub mod LinesPut
+pub mod Landed
+pub mod CommitsKept
+pub mod Ready
+pub mod DeadStages
