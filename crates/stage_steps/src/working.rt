@@ -7,9 +7,12 @@ ghost use Rattle.session_states.specs.declared.stage.Stage.{Stage as StageValue}
 ghost use Rattle.lock_tree_laws.specs.Forest.{State};
 ghost use Rattle.lock_tree_laws.specs.Room.{IsAsBefore};
 ghost use Rattle.session_jobs.specs.Jobs.{IsFound};
-ghost use Rattle.session_states.specs.States.{item_of, is_at_rest};
-ghost use Rattle.stage_steps.specs.Happenings.{events_of};
+ghost use Rattle.session_states.specs.declared.stage.Phase.{Phase as PhaseValue};
+ghost use Rattle.rdo_ast.specs.declared.syntax.Item.{Item as ItemValue};
+ghost use Rattle.session_states.specs.States.{item_of, is_at_rest, session};
+ghost use Rattle.session_measure.specs.Weights.{Beside, items_in};
 ghost use Rattle.stage_steps.specs.Leaving.{OnUnworked};
+ghost use Rattle.stage_steps.specs.Nearer.{Nearer};
 ghost use Rattle.stage_steps.specs.Scenes.{ComesIn, PassesOn, TakesUpIn, scene};
 ghost use Rattle.stage_steps.specs.Turns.{at_stage};
 
@@ -34,7 +37,7 @@ pub fn take_up<S: Statements, L: LineStore>(
 ) -> Phase
     requires member { IsMember s.number }
     requires seat { IsWriting ((L.sight store.old).stand s.number) }
-    ensures { (word : List ℕ) (locks : State) → TakesUpIn S.stands s.number item (scene word (L.sight store.old) locks) (at_stage terms Stage.Between) (scene word (L.sight store.new) locks) result [] [] }
+    ensures { (word : List ℕ) (locks : State) → TakesUpIn S.stands s.number item (scene word (L.sight store.old) locks) (at_stage terms Stage.Between) (scene word (L.sight store.new) locks) result Happening.Quiet }
 {
     match end_of(&item) {
         End::Nothing => terms.at(Stage::Working(item, Work::Due)),
@@ -55,7 +58,7 @@ pub fn open<S: Statements, L: LineStore>(
 ) -> Turned
     requires member { IsMember s.number }
     requires opening { (L.sight store.old).stand s.number ≡ beginning }
-    ensures { (word : List ℕ) (locks : State) → ComesIn S.stands s.number (scene word (L.sight store.old) locks) (at_stage terms (Stage.Working item Work.Opening)) (scene word (L.sight store.new) locks) result.phase (events_of s.number result.happened) }
+    ensures { (word : List ℕ) (locks : State) → ComesIn S.stands s.number (scene word (L.sight store.old) locks) (at_stage terms (Stage.Working item Work.Opening)) (scene word (L.sight store.new) locks) result.phase result.happened }
 {
     match work_on(store, s) {
         Ok(Progress::Done) => quiet(terms.at(Stage::Working(item, Work::Due))),
@@ -83,8 +86,9 @@ pub fn forgo<S: Statements, L: LineStore>(
     requires seat { IsWriting ((L.sight common.old.store).stand s.number) }
     ensures forgoes { (locks : State) (stage : StageValue) → IsAsBefore locks common.old.tree → is_at_rest stage ≡ true → item_of stage ≡ Some (uttered_of item) →
         ComesIn S.stands s.number (scene common.old.word (L.sight common.old.store) locks) (at_stage terms stage)
-        (scene common.new.word (L.sight common.new.store) common.new.tree) result.phase (events_of s.number result.happened) }
+        (scene common.new.word (L.sight common.new.store) common.new.tree) result.phase result.happened }
     ensures worked { OnUnworked result.happened ⊥ }
+    ensures nearer { (c d : Beside) (x : PhaseValue) (left : List ItemValue) (total : ℕ) → items_in x ≡ 1 → Nearer s.number result.happened c d (session left total x) (session left total result.phase) }
 {
     let answer = refused(common.alloc, item, Reply::NoMemory);
     if terms.spoken {
@@ -115,7 +119,7 @@ pub fn take_back<S: Statements, L: LineStore>(
     requires seat { IsWriting ((L.sight common.old.store).stand s.number) }
     requires found { IsFound S.stands common.old.word terms.standing (uttered_of item) (knows terms.known) found }
     ensures comes { ComesIn S.stands s.number (scene common.old.word (L.sight common.old.store) common.old.tree) (at_stage terms (Stage.Working item Work.Out))
-        (scene common.new.word (L.sight common.new.store) common.new.tree) result.phase (events_of s.number result.happened) }
+        (scene common.new.word (L.sight common.new.store) common.new.tree) result.phase result.happened }
     ensures unworked { OnUnworked result.happened (found ≡ Found.Unworked) }
 {
     match found {
@@ -143,7 +147,7 @@ pub fn compute<S: Statements, L: LineStore>(
     requires member { IsMember s.number }
     requires seat { IsWriting ((L.sight common.old.store).stand s.number) }
     ensures comes { ComesIn S.stands s.number (scene common.old.word (L.sight common.old.store) common.old.tree) (at_stage terms (Stage.Working item Work.Out))
-        (scene common.new.word (L.sight common.new.store) common.new.tree) result.phase (events_of s.number result.happened) }
+        (scene common.new.word (L.sight common.new.store) common.new.tree) result.phase result.happened }
     ensures cause { OnUnworked result.happened (S.leaves common.old.word terms.standing (uttered_of item) (knows terms.known)) }
 {
     let Ok(word) = common.word.copied(common.alloc) else {

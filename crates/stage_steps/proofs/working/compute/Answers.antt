@@ -4,7 +4,6 @@ use Rattle.session_states.specs.declared.stage.Stage.TheVariants.{Working}
 use Rattle.session_jobs.specs.declared.jobs.Job.{Job}
 use Rattle.stage_steps.specs.Turns.{at_stage}
 use Rattle.stage_steps.specs.Scenes.{ComesIn, scene}
-use Rattle.stage_steps.specs.Happenings.{events_of}
 use Rattle.stage_steps.proofs.Resting.{as-before}
 use Rattle.stage_steps.proofs.working.compute.Goals as goal
 
@@ -14,4 +13,4 @@ returns-in_default-clause-comes g c =
 
 pub returns-clause-comes : goal.returns-clause-comes
 returns-clause-comes g c =
-    subst (λ (j : Job). ComesIn g.S.Statements.stands c.args.s.number (scene c.args.common.now.word (g.L.LineStore.sight c.args.common.now.store) c.args.common.now.tree) (at_stage (record { standing = j.standing; known = j.known; spoken = c.args.terms.spoken; waits = c.args.terms.waits }) (Working j.item Out)) (scene c.take_back.new.common.word (g.L.LineStore.sight c.take_back.new.common.store) c.take_back.new.common.tree) c.take_back.result.phase (events_of c.args.s.number c.take_back.result.happened)) (c.into_parts-job.ensures.job ∙ c.of.ensures) c.take_back.ensures.comes
+    subst (λ (j : Job). ComesIn g.S.Statements.stands c.args.s.number (scene c.args.common.now.word (g.L.LineStore.sight c.args.common.now.store) c.args.common.now.tree) (at_stage (record { standing = j.standing; known = j.known; spoken = c.args.terms.spoken; waits = c.args.terms.waits }) (Working j.item Out)) (scene c.take_back.new.common.word (g.L.LineStore.sight c.take_back.new.common.store) c.take_back.new.common.tree) c.take_back.result.phase c.take_back.result.happened) (c.into_parts-job.ensures.job ∙ c.of.ensures) c.take_back.ensures.comes
