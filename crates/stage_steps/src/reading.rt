@@ -10,6 +10,7 @@ ghost use Rattle.session_states.specs.Shared.{Shared};
 ghost use Rattle.session_states.specs.States.{session};
 ghost use Rattle.session_states.specs.declared.stage.Phase.{Phase as PhaseValue};
 ghost use Rattle.session_measure.specs.Weights.{Beside, items_in};
+ghost use Rattle.session_measure.specs.Nearer.{has_out};
 ghost use Rattle.session_states.specs.declared.stage.ReaderWork.{ReaderWork as ReaderWorkValue};
 ghost use Rattle.stage_steps.specs.Happenings.{events_of};
 ghost use Rattle.stage_steps.specs.Leaving.{OnUnworked};
@@ -109,6 +110,7 @@ pub fn forgo_reading<S: Statements, L: LineStore>(
     requires seat { IsReader ((L.sight store.old).stand s.number) }
     ensures forgoes { (word : List ℕ) (locks : State) (work : ReaderWorkValue) → ComesIn S.stands s.number (scene word (L.sight store.old) locks) (reads_at terms (ReaderStage.Working item work)) (scene word (L.sight store.new) locks) result.phase result.happened }
     ensures worked { OnUnworked result.happened ⊥ }
+    ensures rests { has_out result.phase ≡ false }
     ensures nearer { (c d : Beside) (x : PhaseValue) (left : List ItemValue) (total : ℕ) → items_in x ≡ 1 → Nearer s.number result.happened c d (session left total x) (session left total result.phase) }
 {
     if goes_on(terms.spoken, &item) {

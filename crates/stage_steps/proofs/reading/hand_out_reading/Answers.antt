@@ -10,5 +10,5 @@ returns g c =
     rw c.at.ensures (record {
       comes = λ s d left total. goes-to-read g.S.Statements.stands g.met.S.Statements.orderly s d left total c.args.terms.standing c.args.terms.known c.args.terms.spoken c.args.item Due Out;
       seated = λ stand locks s f. reads-on stand stand locks s _ _ refl f;
-      nearer = λ s b left total. nearer-handed-out s b b _ _ refl refl refl refl left total;
+      nearer = λ s b left total. nearer-handed-out s b b _ _ refl refl refl refl refl left total;
     })

@@ -9,5 +9,5 @@ returns g c =
     rw c.at.ensures (record {
       comes = λ s d left total. hands-out g.S.Statements.stands g.met.S.Statements.orderly s d left total c.args.terms.standing c.args.terms.known c.args.terms.spoken c.args.terms.waits c.args.item;
       seated = λ stand locks s f. rests-at stand locks s _ f.seat f.wants f.needs f.statement;
-      nearer = λ s b left total. nearer-handed-out s b b _ _ refl refl refl refl left total;
+      nearer = λ s b left total. nearer-handed-out s b b _ _ refl refl refl refl refl left total;
     })
