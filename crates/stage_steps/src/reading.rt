@@ -81,7 +81,8 @@ pub fn leave_reading<S: Statements, L: LineStore>(
 
 /// The job of a statement is handed out.
 pub fn hand_out_reading<S: Statements>(terms: ReaderTerms, item: Item) -> Phase
-    ensures { PassesOn S.stands (reads_at terms (ReaderStage.Working item ReaderWork.Due)) result }
+    ensures passes { PassesOn S.stands (reads_at terms (ReaderStage.Working item ReaderWork.Due)) result }
+    ensures out { result ≡ reads_at terms (ReaderStage.Working item ReaderWork.Out) }
 {
     terms.at(ReaderStage::Working(item, ReaderWork::Out))
 }

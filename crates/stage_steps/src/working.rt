@@ -68,7 +68,8 @@ pub fn open<S: Statements, L: LineStore>(
 
 /// The job of a statement is handed out.
 pub fn hand_out<S: Statements>(terms: Terms, item: Item) -> Phase
-    ensures { PassesOn S.stands (at_stage terms (Stage.Working item Work.Due)) result }
+    ensures passes { PassesOn S.stands (at_stage terms (Stage.Working item Work.Due)) result }
+    ensures out { result ≡ at_stage terms (Stage.Working item Work.Out) }
 {
     terms.at(Stage::Working(item, Work::Out))
 }
