@@ -1,7 +1,6 @@
 -- What a step of one session is, with what is left of its script.
 use Rattle.std.specs.Prelude.{◌≡◌, ◌==◌, ℕ, Bool, true, false, List, length, Option, Some, None}
 use Rattle.rdo_ast.specs.declared.syntax.Item.{Item}
-use Rattle.rdb_account.specs.Events.{Event}
 use Rattle.lock_needs.specs.declared.need.Need.{Need}
 use Rattle.lock_needs.specs.Needs.{is_plain}
 use Rattle.lock_needs.specs.Nodes.{is_on}

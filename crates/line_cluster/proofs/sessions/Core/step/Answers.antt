@@ -13,26 +13,3 @@ go_on-turned-requires-clause-among g c = among (scene c.args.self.now.common.wor
 pub go_on-turned-requires-clause-going : goal.go_on-turned-requires-clause-going
 go_on-turned-requires-clause-going g c = going-on c.take_member-left.result (work-alive c.take_member-left.result (c.requires.work c.take_member-left.result c.take_member-left.ensures.taken)) (c.requires.work c.take_member-left.result c.take_member-left.ensures.taken)
 
-pub returns-in-None-clause-sound : goal.returns-in-None-clause-sound
-returns-in-None-clause-sound g c =
-    turned g.S.Statements.stands g.met.S.Statements.orderly g.O.Origin.told g.O.Origin.opening _ _ _ _ _ _ c.args.s.number c.args.at c.take_member-left.result _ _ _ _ _ c.requires.one.first c.requires.at c.requires.going c.requires.lives c.take_member-left.ensures.taken
-    (work-alive c.take_member-left.result (c.requires.work c.take_member-left.result c.take_member-left.ensures.taken)) c.requires.sound c.go_on-turned.ensures (λ none. c.settle.ensures.going c.in-None.is)
-    (c.put_member.ensures ∙ c.take_member-left.ensures.rest _) c.settle.ensures.events
-
-pub returns-in-Some-clause-sound : goal.returns-in-Some-clause-sound
-returns-in-Some-clause-sound g c =
-    turned g.S.Statements.stands g.met.S.Statements.orderly g.O.Origin.told g.O.Origin.opening _ _ _ _ _ _ c.args.s.number c.args.at c.take_member-left.result _ _ _ _ _ c.requires.one.first c.requires.at c.requires.going c.requires.lives c.take_member-left.ensures.taken
-    (work-alive c.take_member-left.result (c.requires.work c.take_member-left.result c.take_member-left.ensures.taken)) c.requires.sound c.go_on-turned.ensures (λ none. cc none)
-    (c.put_member.ensures ∙ c.take_member-left.ensures.rest _) c.settle.ensures.events
-
-pub returns-in-None-clause-came : goal.returns-in-None-clause-came
-returns-in-None-clause-came g c =
-    went c.args.s.number c.args.at _ _ c.take_member-left.result _ c.go_on-turned.result.happened c.requires.at c.take_member-left.ensures.taken (c.requires.work c.take_member-left.result c.take_member-left.ensures.taken) refl
-    (c.put_member.ensures ∙ c.take_member-left.ensures.rest _) c.settle.ensures.events
-
-pub returns-in-Some-clause-came : goal.returns-in-Some-clause-came
-returns-in-Some-clause-came g c = (
-  refl,
-  went c.args.s.number c.args.at _ _ c.take_member-left.result _ c.go_on-turned.result.happened c.requires.at c.take_member-left.ensures.taken (c.requires.work c.take_member-left.result c.take_member-left.ensures.taken) refl
-      (c.put_member.ensures ∙ c.take_member-left.ensures.rest _) c.settle.ensures.events,
-)
