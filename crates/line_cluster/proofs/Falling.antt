@@ -40,7 +40,7 @@ use Rattle.line_cluster.proofs.Stepping.{session-of, seated-at, is-dead}
 use Rattle.line_cluster.specs.Going.{IsDeadAt, is_dead}
 
 -- how many are dead where one has another life
-dead-moved : (ms : List Member) (i : ℕ) (m n : Member) → slice_get ms i ≡ Some m → dead_in (slice_set ms i n) + one_dead m.life ≡ dead_in ms + one_dead n.life
+pub dead-moved : (ms : List Member) (i : ℕ) (m n : Member) → slice_get ms i ≡ Some m → dead_in (slice_set ms i n) + one_dead m.life ≡ dead_in ms + one_dead n.life
 dead-moved [] i m n found = absurd (none-some m found)
 dead-moved (x ∷ xs) zero m n found = let e : one_dead x.life ≡ one_dead m.life = ap (λ (y : Member). one_dead y.life) (same_Some x m found) in omega (arith, e)
 dead-moved (x ∷ xs) (suc i) m n found = let rest = dead-moved xs i m n found in omega (arith, rest)

@@ -1,5 +1,5 @@
 -- A turn that moves brings its session nearer to its end, and so all sessions.
-use Rattle.std.proofs.Common.{◌≡◌, ◌≤◌, ◌<◌, ◌-◌, ◌+◌, ◌==◌, ◌⊎◌, ℕ, zero, suc, ◌∷◌, [], Bool, List, true, false, refl, sym, ap, subst, ◌∙◌, arith, Option, Some, None, slice_get, slice_set, inl, inr}
+use Rattle.std.proofs.Common.{◌≡◌, ◌≤◌, ◌<◌, ◌-◌, ◌+◌, ◌==◌, ◌⊎◌, ℕ, zero, suc, ◌∷◌, [], Bool, List, true, false, refl, sym, ap, subst, ◌∙◌, arith, Option, Some, None, slice_get, slice_set, is_some, inl, inr}
 use Rattle.std.proofs.lemmas.Bool.{false≢true}
 use Rattle.std.proofs.lemmas.Option.{none-some, same_Some}
 use Rattle.rdb_types.specs.declared.node.Node.{Node}
@@ -36,9 +36,13 @@ use Rattle.stage_steps.specs.Scenes.{Scene, beside}
 use Rattle.line_arms.specs.declared.allotment.Allotment.{Allotment}
 use Rattle.line_arms.specs.Going.{GoesOn}
 use Rattle.line_cluster.specs.Going.{IsWriterAt, writes_at}
-use Rattle.line_cluster.specs.Behind.{is_moving}
+use Rattle.line_cluster.specs.declared.behind.Notice.{Notice}
+use Rattle.line_cluster.specs.declared.sessions.Halt.{Halt}
+use Rattle.line_cluster.specs.Behind.{IsNoticed, is_moving}
 use Rattle.line_cluster.specs.Measured.{measure_by}
 use Rattle.line_cluster.specs.Turned.{rounds_of, rounds_at}
+use Rattle.line_cluster.proofs.Places.{suc-less}
+use Rattle.line_cluster.proofs.Falling.{dead-moved}
 use Rattle.line_cluster.proofs.Measured.{StayApart, all-fall, all-fall-served, among-from}
 
 -- ---- the session
@@ -158,3 +162,45 @@ module _ (stand : ℕ → Seat) (locks : State) (members : List Member) (seated 
       by (suc i) is (Some m) found =
           let there : slice_get members i ≡ Some m = ap (member_at members) is ∙ found in
           record { at = i; member = m; number = sym is; found = there; writes = writer-by m m.phase m.life (inr (seated.each u m found)) (none-dead members i m lives there) }
+
+-- ---- as the code has it
+
+-- nobody dies of a step
+pub lives-on : (ms put : List Member) (at : ℕ) (m : Member) (rest : List Item) (y : Phase) → slice_get ms at ≡ Some m → put ≡ slice_set ms at (record { left = rest; total = m.total; phase = y; life = m.life }) → dead_in ms ≡ 0 → dead_in put ≡ 0
+lives-on ms put at m rest y found is none =
+    let moved = dead-moved ms at m (record { left = rest; total = m.total; phase = y; life = m.life }) found in
+    subst (λ (xs : List Member). dead_in xs ≡ 0) (sym is) (omega (arith, moved, none))
+
+module _ (M : Model) (s at : ℕ) (c d : Scene) (members put : List Member) (each behind : List Allotment) (m : Member) (rest : List Item) (y : Phase) (h : Happening) (a b : Allotment) (old : Option Halt)
+    (first : 1 ≤ s) (is : at ≡ s - 1) (none : old ≡ None) (alive : m.life ≡ Alive) (found : slice_get members at ≡ Some m) (given : slice_get each (s - 1) ≡ Some a) (rounds : AreRounds m.phase y a.rounds b.rounds)
+    (goes : GoesOn M s c m.left m.phase d rest y h) (put-is : put ≡ slice_set members at (record { left = rest; total = m.total; phase = y; life = m.life })) (behind-is : behind ≡ slice_set each (s - 1) b) where
+  abbrev named : s ≡ suc at
+  named = sym (ap suc is ∙ suc-less s first)
+
+  as-put : (halted : Option Halt) (locks : State) → halted ≡ None → Less (measure_by false (slice_set members at (record { left = rest; total = m.total; phase = y; life = m.life })) (rounds_at (slice_set each at b)) (record { locks = locks; steps = d.sight.steps })) (measure_by false members (rounds_at each) (beside c)) →
+      Less (measure_by (is_some halted) put (rounds_at behind) (record { locks = locks; steps = d.sight.steps })) (measure_by (is_some old) members (rounds_at each) (beside c))
+  as-put halted locks on less =
+      subst (λ (x : Option Halt). Less (measure_by (is_some x) put (rounds_at behind) (record { locks = locks; steps = d.sight.steps })) (measure_by (is_some old) members (rounds_at each) (beside c))) (sym on)
+      (subst (λ (x : Option Halt). Less (measure_by false put (rounds_at behind) (record { locks = locks; steps = d.sight.steps })) (measure_by (is_some x) members (rounds_at each) (beside c))) (sym none)
+      (subst (λ (xs : List Member). Less (measure_by false xs (rounds_at behind) (record { locks = locks; steps = d.sight.steps })) (measure_by false members (rounds_at each) (beside c))) (sym put-is)
+      (subst (λ (as : List Allotment). Less (measure_by false (slice_set members at (record { left = rest; total = m.total; phase = y; life = m.life })) (rounds_at as) (record { locks = locks; steps = d.sight.steps })) (measure_by false members (rounds_at each) (beside c)))
+      (ap (λ (i : ℕ). slice_set each i b) is ∙ sym behind-is) less)))
+
+  given-at : slice_get each at ≡ Some a
+  given-at = ap (slice_get each) is ∙ given
+
+  goes-at : GoesOn M (suc at) c m.left m.phase d rest y h
+  goes-at = subst (λ (t : ℕ). GoesOn M t c m.left m.phase d rest y h) named goes
+
+  pub turned-nearer : (halted : Option Halt) → halted ≡ None → is_moving h ≡ true → is_sleeping c.locks s ≡ false → Less (measure_by (is_some halted) put (rounds_at behind) (beside d)) (measure_by (is_some old) members (rounds_at each) (beside c))
+  turned-nearer halted on moving awake = as-put halted d.locks on (falls-moved M c d members each at m rest y h a b alive found given-at rounds goes-at moving (subst (λ (t : ℕ). is_sleeping c.locks t ≡ false) named awake))
+
+  -- with a notice that was served behind it
+  pub served-nearer : (halted : Option Halt) (locks : State) (n : Notice) → halted ≡ None → IsNoticed n h → locks.parties ≡ d.locks.parties → IsWriterAt put n.to.number → LocksFall n.to.number d.locks locks →
+      Less (measure_by (is_some halted) put (rounds_at behind) (record { locks = locks; steps = d.sight.steps })) (measure_by (is_some old) members (rounds_at each) (beside c))
+  served-nearer halted locks n on noticed same writer falls = as-put halted locks on
+      (falls-served M c d members each at m rest y h a b alive found given-at rounds goes-at n.to.number n.node n.mode noticed.asking noticed.is locks same (subst (λ (xs : List Member). IsWriterAt xs n.to.number) put-is writer) falls)
+
+  -- that notice was due
+  pub is-due : (n : Notice) → IsNoticed n h → is_spare (granted_at d.locks.table n.to.number) (party_of d.locks.parties n.to.number) n.node ≡ true
+  is-due n noticed = (subst (λ (g : Happening). Nearer s g (beside c) (beside d) (session m.left m.total m.phase) (session rest m.total y)) noticed.is (goes.nearer m.total)).1

@@ -34,7 +34,8 @@ use Rattle.stage_steps.specs.Turns.{Comes}
 use Rattle.line_cluster.specs.declared.sessions.Halt.{Halt}
 use Rattle.line_arms.specs.Going.{GoesOn, IsAmong, is_done}
 use Rattle.line_cluster.specs.Going.{IsWriterAt, writes_at, is_over, is_alive, is_alive_life, is_dead, is_dead_life}
-use Rattle.line_cluster.specs.Behind.{is_moving}
+use Rattle.line_cluster.specs.declared.behind.Notice.{Notice}
+use Rattle.line_cluster.specs.Behind.{IsNoticed, is_moving}
 use Rattle.line_cluster.proofs.Places.{suc-less, set-same}
 use Rattle.line_cluster.specs.Sound.{IsSound}
 
@@ -166,6 +167,9 @@ moving-keeps (Failed fault) is = absurd (false≢true is)
 moving-keeps (Unlaid stop) is = absurd (false≢true is)
 moving-keeps Unworked is = absurd (false≢true is)
 moving-keeps (Unanswered i) is = absurd (false≢true is)
+
+pub noticed-keeps : (n : Notice) (h : Happening) → IsNoticed n h → handed_back h ≡ []
+noticed-keeps n h is = ap handed_back is.is
 
 over-alive : (m : Member) (l : Life) → is_over m l ≡ false → l ≡ Alive
 over-alive m Alive h = refl

@@ -8,7 +8,7 @@ ghost use Rattle.lock_tree_laws.specs.LockTable.{granted_at};
 ghost use Rattle.lock_tree_laws.specs.Progress.{is_spare, Falls as LocksFall};
 ghost use Rattle.stage_steps.specs.Scenes.{scene};
 ghost use Rattle.line_cluster.specs.Sound.{IsSound, IsOneOf};
-ghost use Rattle.line_cluster.specs.Going.{is_over as is_over_at};
+ghost use Rattle.line_cluster.specs.Going.{IsWriterAt, is_over as is_over_at};
 ghost use Rattle.line_cluster.specs.Turned.{Came, GoesOn, GrowsQuietly, IsNearer, Rests, Waits, sessions};
 ghost use Rattle.std.specs.Vec.{vec_len, vec_capacity};
 
@@ -32,6 +32,11 @@ impl<O: Origin, S: Reserves + Reaches, L: LineStore> Core<O, S, L> {
         requires sound { IsSound S.stands O.told O.opening (scene self.old.common.word (L.sight self.old.common.store) self.old.common.tree) self.old.members.items (map event_of self.old.events.items) self.old.halt }
         ensures sound { IsSound S.stands O.told O.opening (scene self.new.common.word (L.sight self.new.common.store) self.new.common.tree) self.new.members.items (map event_of self.new.events.items) self.new.halt }
         ensures members { self.new.members.items ≡ self.old.members.items }
+        ensures events { self.new.events.items ≡ self.old.events.items }
+        ensures allotments { self.new.allotments ≡ self.old.allotments }
+        ensures common { self.new.common ≡ self.old.common }
+        ensures halted { is_some self.new.halt ≡ true }
+        ensures stopped { result ≡ Turn.Stopped }
         ensures came { (s : ℕ) → Came s (sessions self.old.members.items self.old.events.items self.old.allotments (L.sight self.old.common.store) self.old.common.tree self.old.halt) (sessions self.new.members.items self.new.events.items self.new.allotments (L.sight self.new.common.store) self.new.common.tree self.new.halt) result }
         ensures on { GoesOn result }
     {
@@ -95,15 +100,16 @@ impl<O: Origin, S: Reserves + Reaches, L: LineStore> Core<O, S, L> {
         ensures store { self.new.common.store ≡ self.old.common.store }
         ensures parties { self.new.common.tree.parties ≡ self.old.common.tree.parties }
         ensures events { GrowsQuietly self.old.events.items self.new.events.items }
+        ensures writer { IsWriterAt self.old.members.items notice.to.number }
         ensures falls { result ≡ Turn.Moved → (self.new.halt ≡ None) × LocksFall notice.to.number self.old.common.tree self.new.common.tree }
         ensures halted { result ≡ Turn.Stopped → is_some self.new.halt ≡ true }
         ensures on { GoesOn result }
     {
+        // (so the tree is whole)
+        let _ = self.common.tree.blocker(s.number);
         if reserve_step(&mut self.events).is_err() {
             return self.stop(Halt::NoMemory);
         }
-        // (so the tree is whole)
-        let _ = self.common.tree.blocker(s.number);
         let Notice { to, node, mode } = notice;
         match serve::<S>(&mut self.common.tree, to, node, mode) {
             Ok(demotion) => {
