@@ -19,7 +19,7 @@ use Rattle.line_steps.specs.Images.{journal_node}
 use Rattle.line_view.specs.Held.{Held, knows}
 use Rattle.session_jobs.specs.Records.{Model, IsOrderly}
 use Rattle.session_jobs.specs.Jobs.{IsFound, IsLacking, WhereItAgrees}
-use Rattle.session_jobs.specs.declared.jobs.Found.TheVariants.{Done}
+use Rattle.session_jobs.specs.declared.jobs.Found.TheVariants.{Done, Missing}
 use Rattle.session_jobs.specs.declared.jobs.TxRecord.{TxRecord}
 use Rattle.line_view.specs.declared.need.Need.{Need as LineNeed}
 use Rattle.reserved_locks.specs.declared.locks.Unnamed.TheVariants.{Lacking}
@@ -42,6 +42,10 @@ module _ (M : Model) (orderly : IsOrderly M) where
   pub lacks-one : (t : Terms) (item : Item) (wait : Bool) (rs : List Reservation) (need : LineNeed) → uttered_of item ≡ said (start_read_write wait rs) → t.standing ≡ Closed → IsUnnamed M (knows t.known) rs (Lacking need) →
       WhereItAgrees M (knows t.known) (λ u. IsLacking t.standing (uttered_of item) (knows t.known) u need)
   lacks-one t item wait rs need is closed h = λ all u stands agrees. rw (is, closed) (h wait all u stands agrees)
+
+  pub lacking-found : (word : List ℕ) (t : Terms) (item : Item) (need : LineNeed) (later : List LineNeed) → later ≡ [] → WhereItAgrees M (knows t.known) (λ u. IsLacking t.standing (uttered_of item) (knows t.known) u need) →
+      IsFound M word t.standing (uttered_of item) (knows t.known) (Missing need later)
+  lacking-found word t item need later none h = subst (λ (ns : List LineNeed). IsFound M word t.standing (uttered_of item) (knows t.known) (Missing need ns)) (sym none) (λ all u stands agrees. (h all u stands agrees, tt))
 
   pub reserved-in : (t : Terms) (item : Item) (found : Option (List Need)) (locks : List Need) → found ≡ Some locks → MatchOption found (Unit {0}) (λ ls. IsReserved M t item ls) → IsReserved M t item locks
   reserved-in t item found locks is h = subst (λ (f : Option (List Need)). MatchOption f (Unit {0}) (λ ls. IsReserved M t item ls)) is h

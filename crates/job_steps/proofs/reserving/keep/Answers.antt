@@ -1,4 +1,4 @@
-use Rattle.std.proofs.Common.{rules, ◌≡◌, refl, ◌∙◌, subst, arith}
+use Rattle.std.proofs.Common.{rules, ◌≡◌, refl, ◌∙◌, ap, Err, subst, arith}
 use Rattle.rdo_ast.specs.Views.{uttered_of}
 use Rattle.line_view.specs.Held.{knows}
 use Rattle.session_jobs.specs.Jobs.{IsFound}
@@ -14,7 +14,7 @@ use Rattle.stage_steps.specs.Turns.{at_stage, shared}
 use Rattle.stage_steps.proofs.Goes.{goes-still, comes-as}
 use Rattle.stage_steps.proofs.Resting.{as-before}
 use Rattle.stage_steps.proofs.Seated.{rests-at}
-use Rattle.job_steps.proofs.Kept.{reserved-in, reserves-kept}
+use Rattle.job_steps.proofs.Kept.{reserved-in, reserves-kept, lacking-found}
 use Rattle.job_steps.proofs.reserving.keep.Goals as goal
 
 pub returns-in-Ok-Some-clause-comes : goal.returns-in-Ok-Some-clause-comes
@@ -36,7 +36,7 @@ pub returns-in-Err-Lacking-clause-comes : goal.returns-in-Err-Lacking-clause-com
 returns-in-Err-Lacking-clause-comes g c =
     comes-as g.S.Statements.stands c.args.s.number _ _ _ _ _ _ _ c.quiet-in-Err-Lacking.ensures.phase c.quiet-in-Err-Lacking.ensures.happened
     (goes-still c.args.s.number _ Alive _ Alive _ _ _ refl (λ f. c.gather.ensures.seated _ _ c.args.s.number f) (λ u other. refl) (λ left total. c.gather.ensures.nearer c.args.s.number _ left total)
-    (λ h shown dead left total. c.gather.ensures.comes c.args.s.number (shared c.args.common.now.word h c.args.common.now.tree dead) ? left total))
+    (λ h shown dead left total. c.gather.ensures.comes c.args.s.number (shared c.args.common.now.word h c.args.common.now.tree dead) (lacking-found g.S.Statements.stands g.met.S.Statements.orderly c.args.common.now.word c.args.terms c.args.item c.in-Err-Lacking.need c.new-later.result c.new-later.ensures (c.locks_of.ensures.lacking c.in-Err-Lacking.need (c.in-Err-Lacking.is ∙ ap Err c.in-Err-Lacking.field-0-is))) left total))
 
 pub returns-in-Err-Unknown-clause-comes : goal.returns-in-Err-Unknown-clause-comes
 returns-in-Err-Unknown-clause-comes g c =
