@@ -8,7 +8,7 @@ use Rattle.lock_needs.specs.declared.need.Need.{Need}
 use Rattle.lock_needs.specs.Party.{Party}
 use Rattle.lock_tree_laws.specs.Forest.{State, opened_of, party_of}
 use Rattle.lock_tree_laws.specs.LockTable.{granted_at}
-use Rattle.lock_tree_laws.specs.Progress.{is_spare, MovesOn, LeavesOthers}
+use Rattle.lock_tree_laws.specs.Progress.{is_spare, MovesOn}
 use Rattle.lock_tree_laws.specs.declared.answer.Want.{Want}
 use Rattle.lock_tree_laws.specs.declared.answer.Want.TheVariants.{NoticeTo, Asleep}
 use Rattle.session_states.specs.declared.stage.Phase.{Phase}

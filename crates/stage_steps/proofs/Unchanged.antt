@@ -1,5 +1,5 @@
 -- What a session knows stayed as it was.
-use Rattle.std.proofs.Common.{◌≡◌, ℕ, Bool, [], List, refl, subst}
+use Rattle.std.proofs.Common.{◌≡◌, ℕ, Bool, [], refl, subst}
 use Rattle.rdo_ast.specs.declared.reply.Standing.{Standing}
 use Rattle.line_view.specs.Held.{Held}
 use Rattle.session_jobs.specs.Records.{Model, IsOrderly}

@@ -1,5 +1,5 @@
 use Rattle.session_states.specs.declared.stage.Life.TheVariants.{Alive}
-use Rattle.std.proofs.Common.{ap, subst, refl, ◌≡◌, ◌∙◌, ℕ, List, [], arith}
+use Rattle.std.proofs.Common.{ap, subst, refl, ◌≡◌, ◌∙◌, ℕ, List, arith}
 use Rattle.rdo_ast.specs.Views.{uttered_of}
 use Rattle.line_view.specs.Held.{knows}
 use Rattle.session_jobs.specs.declared.jobs.Job.{Job}

@@ -1,5 +1,5 @@
 use Rattle.session_states.specs.declared.stage.Life.TheVariants.{Alive}
-use Rattle.std.proofs.Common.{refl, ◌∙◌, sym, subst, List, arith}
+use Rattle.std.proofs.Common.{refl, ◌∙◌, [], sym, subst, List, arith}
 use Rattle.line_view.specs.declared.writes.Write.{Write}
 use Rattle.line_store.specs.Calls.{Changes}
 use Rattle.session_states.specs.declared.stage.Laying.TheVariants.{Claiming}
@@ -7,7 +7,9 @@ use Rattle.session_states.specs.declared.stage.Stage.TheVariants.{Between, Sayin
 use Rattle.session_states.specs.Fits.{Follows}
 use Rattle.session_states.proofs.Storing.{changes-on}
 use Rattle.session_measure.proofs.Nearer.{nearer-by-rank, nearer-answered}
-use Rattle.stage_steps.specs.declared.happening.Happening.TheVariants.{Unlaid}
+use Rattle.rdo_ast.specs.declared.reply.Reply.TheVariants.{RujFull, SnapFull}
+use Rattle.stage_steps.specs.declared.happening.Happening.TheVariants.{Answered, Unlaid}
+use Rattle.stage_steps.specs.Scenes.{Scene, scene}
 use Rattle.stage_steps.specs.Turns.{at_stage, shared}
 use Rattle.stage_steps.proofs.Firsts.{at-once-said, ruj-step, snap-step, stopped}
 use Rattle.stage_steps.proofs.Goes.{goes, goes-still, goes-staying, goes-behind-none, comes-as}
@@ -41,18 +43,28 @@ returns-in-Err-NoMemory g c =
 pub returns-in-Err-RujFull : goal.returns-in-Err-RujFull
 returns-in-Err-RujFull g c =
     let may = c.has_to_lay.ensures.lays c.if-not-has_to_lay.false in
-    comes-as g.S.Statements.stands c.args.s.number _ _ _ _ _ _ _ c.refuse_at_limit.ensures.phase c.refuse_at_limit.ensures.happened
-    (knows-as g.S.Statements.stands c.args.s.number _ _ _ _ c.args.terms.standing c.args.terms.known c.apply.new.known c.args.terms.spoken c.args.terms.waits (Saying c.args.item c.args.worked (Claiming c.args.place)) c.in-Err-RujFull.ensures.kept
-    (goes c.args.s.number _ Alive _ Alive _ _ _ _ _ (λ e f. rests-at _ _ c.args.s.number _ (e ∙ f.seat) (unwanted _ _ c.requires.locked f.wants) f.needs tt) (λ u other. refl) (nearer-answered c.args.s.number _ _ (at_stage (record { standing = c.args.terms.standing; known = c.apply.new.known; spoken = c.args.terms.spoken; waits = c.args.terms.waits }) (Saying c.args.item c.args.worked (Claiming c.args.place))) (at_stage (record { standing = c.args.terms.standing; known = c.apply.new.known; spoken = c.args.terms.spoken; waits = c.args.terms.waits }) Between) (omega arith))
+    let here : Scene = scene c.args.common.now.word (g.L.LineStore.sight c.args.common.now.store) c.args.common.now.tree in
+    let there : Scene = scene c.args.common.now.word (g.L.LineStore.sight c.apply.new.store) c.args.common.now.tree in
+    let was = at_stage (record { standing = c.args.terms.standing; known = c.apply.new.known; spoken = c.args.terms.spoken; waits = c.args.terms.waits }) (Saying c.args.item c.args.worked (Claiming c.args.place)) in
+    let is = at_stage (record { standing = c.args.terms.standing; known = c.apply.new.known; spoken = c.args.terms.spoken; waits = c.args.terms.waits }) Between in
+    let told = Answered (record { item = c.args.item; keys = []; reply = RujFull c.in-Err-RujFull.limit }) in
+    comes-as g.S.Statements.stands c.args.s.number here there (at_stage c.args.terms (Saying c.args.item c.args.worked (Claiming c.args.place))) is _ told _ c.refuse_at_limit.ensures.phase c.refuse_at_limit.ensures.happened
+    (knows-as g.S.Statements.stands c.args.s.number here there is told c.args.terms.standing c.args.terms.known c.apply.new.known c.args.terms.spoken c.args.terms.waits (Saying c.args.item c.args.worked (Claiming c.args.place)) c.in-Err-RujFull.ensures.kept
+    (goes c.args.s.number was Alive is Alive _ _ _ here there (λ e f. rests-at _ _ c.args.s.number _ (e ∙ f.seat) (unwanted _ _ c.requires.locked f.wants) f.needs tt) (λ u other. refl) (nearer-answered c.args.s.number _ _ (at_stage (record { standing = c.args.terms.standing; known = c.apply.new.known; spoken = c.args.terms.spoken; waits = c.args.terms.waits }) (Saying c.args.item c.args.worked (Claiming c.args.place))) (at_stage (record { standing = c.args.terms.standing; known = c.apply.new.known; spoken = c.args.terms.spoken; waits = c.args.terms.waits }) Between) (omega arith))
     (λ h k shown told same dead left total. rw same (ruj-step g.S.Statements.stands g.met.S.Statements.orderly c.args.s.number (shared c.args.common.now.word h c.args.common.now.tree dead) left total c.args.terms.standing c.apply.new.known c.args.terms.spoken c.args.terms.waits c.args.item c.args.worked c.args.place c.in-Err-RujFull.limit c.requires.locked may.1 may.0 (stopped h c.args.s.number _ _ _ _ c.as_slice-writes.ensures c.in-Err-RujFull.field-0-is (c.in-Err-RujFull.ensures.cause h shown))))
     c.in-Err-RujFull.ensures.err))
 
 pub returns-in-Err-SnapFull : goal.returns-in-Err-SnapFull
 returns-in-Err-SnapFull g c =
     let may = c.has_to_lay.ensures.lays c.if-not-has_to_lay.false in
-    comes-as g.S.Statements.stands c.args.s.number _ _ _ _ _ _ _ c.refuse_at_limit-in-Err-SnapFull.ensures.phase c.refuse_at_limit-in-Err-SnapFull.ensures.happened
-    (knows-as g.S.Statements.stands c.args.s.number _ _ _ _ c.args.terms.standing c.args.terms.known c.apply.new.known c.args.terms.spoken c.args.terms.waits (Saying c.args.item c.args.worked (Claiming c.args.place)) c.in-Err-SnapFull.ensures.kept
-    (goes c.args.s.number _ Alive _ Alive _ _ _ _ _ (λ e f. rests-at _ _ c.args.s.number _ (e ∙ f.seat) (unwanted _ _ c.requires.locked f.wants) f.needs tt) (λ u other. refl) (nearer-answered c.args.s.number _ _ (at_stage (record { standing = c.args.terms.standing; known = c.apply.new.known; spoken = c.args.terms.spoken; waits = c.args.terms.waits }) (Saying c.args.item c.args.worked (Claiming c.args.place))) (at_stage (record { standing = c.args.terms.standing; known = c.apply.new.known; spoken = c.args.terms.spoken; waits = c.args.terms.waits }) Between) (omega arith))
+    let here : Scene = scene c.args.common.now.word (g.L.LineStore.sight c.args.common.now.store) c.args.common.now.tree in
+    let there : Scene = scene c.args.common.now.word (g.L.LineStore.sight c.apply.new.store) c.args.common.now.tree in
+    let was = at_stage (record { standing = c.args.terms.standing; known = c.apply.new.known; spoken = c.args.terms.spoken; waits = c.args.terms.waits }) (Saying c.args.item c.args.worked (Claiming c.args.place)) in
+    let is = at_stage (record { standing = c.args.terms.standing; known = c.apply.new.known; spoken = c.args.terms.spoken; waits = c.args.terms.waits }) Between in
+    let told = Answered (record { item = c.args.item; keys = []; reply = SnapFull c.in-Err-SnapFull.limit }) in
+    comes-as g.S.Statements.stands c.args.s.number here there (at_stage c.args.terms (Saying c.args.item c.args.worked (Claiming c.args.place))) is _ told _ c.refuse_at_limit-in-Err-SnapFull.ensures.phase c.refuse_at_limit-in-Err-SnapFull.ensures.happened
+    (knows-as g.S.Statements.stands c.args.s.number here there is told c.args.terms.standing c.args.terms.known c.apply.new.known c.args.terms.spoken c.args.terms.waits (Saying c.args.item c.args.worked (Claiming c.args.place)) c.in-Err-SnapFull.ensures.kept
+    (goes c.args.s.number was Alive is Alive _ _ _ here there (λ e f. rests-at _ _ c.args.s.number _ (e ∙ f.seat) (unwanted _ _ c.requires.locked f.wants) f.needs tt) (λ u other. refl) (nearer-answered c.args.s.number _ _ (at_stage (record { standing = c.args.terms.standing; known = c.apply.new.known; spoken = c.args.terms.spoken; waits = c.args.terms.waits }) (Saying c.args.item c.args.worked (Claiming c.args.place))) (at_stage (record { standing = c.args.terms.standing; known = c.apply.new.known; spoken = c.args.terms.spoken; waits = c.args.terms.waits }) Between) (omega arith))
     (λ h k shown told same dead left total. rw same (snap-step g.S.Statements.stands g.met.S.Statements.orderly c.args.s.number (shared c.args.common.now.word h c.args.common.now.tree dead) left total c.args.terms.standing c.apply.new.known c.args.terms.spoken c.args.terms.waits c.args.item c.args.worked c.args.place c.in-Err-SnapFull.limit c.requires.member c.requires.locked may.1 may.0 (stopped h c.args.s.number _ _ _ _ c.as_slice-writes.ensures c.in-Err-SnapFull.field-0-is (c.in-Err-SnapFull.ensures.cause h shown))))
     c.in-Err-SnapFull.ensures.err))
 
