@@ -22,6 +22,7 @@ pub mod Kept
 pub mod Reading
 pub mod FoundLines
 pub mod LaidLines
+pub mod SlotsSound
 pub mod Changed
 pub mod Stopping
 pub mod LeftTo
@@ -31,6 +32,9 @@ pub mod SpentSlots
 pub mod WaitMore
 pub mod JournalSteps
 pub mod PushSteps
+pub mod ChangeEnds
+pub mod ReadFaults
+pub mod PushFaults
 mod Going
 mod Begun
 mod Seeing

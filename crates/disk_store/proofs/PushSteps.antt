@@ -37,6 +37,7 @@ use Rattle.disk_store.specs.declared.member.MemberStage.TheVariants as stage
 use Rattle.committed_tables.specs.Tables.{WereUsed}
 use Rattle.disk_store.specs.declared.held.Numbers.{Numbers}
 use Rattle.disk_store.specs.declared.held.Tables.{Tables}
+use Rattle.disk_store.specs.ChangeSteps.{rechained}
 use Rattle.disk_store.specs.Memory.{StoreMemory}
 use Rattle.disk_store.specs.Numbers.{kept_at, kept_in}
 use Rattle.disk_store.specs.Seats.{seat_with, stand_of, stand_at, steps_in}
@@ -53,7 +54,7 @@ use Rattle.disk_store.proofs.Changed.{got-within, used-all}
 use Rattle.disk_store.proofs.LeftTo.{not-borne}
 use Rattle.disk_store.proofs.SnapWritten.{areas, snap-keeps, snap-tables}
 use Rattle.disk_store.proofs.SpentSlots.{space-less, keeps-less, stands-less}
-use Rattle.disk_store.proofs.WaitMore.{rechained, none-waits, puts-in, wait-more}
+use Rattle.disk_store.proofs.WaitMore.{none-waits, puts-in, wait-more}
 use Rattle.disk_store.proofs.JournalSteps.{found-key}
 
 -- ---- what the ledger has of the line

@@ -3,6 +3,8 @@
 
 mod before_images;
 mod beginning;
+mod change_moves;
+mod change_steps;
 mod changing;
 mod classes;
 mod dying;
@@ -23,6 +25,7 @@ mod starts;
 mod undoing;
 
 pub use beginning::{ask, draw};
+pub use change_steps::{broken_step, change_step};
 pub use changing::change;
 pub use dying::die;
 pub use endings::{bury, put_away};

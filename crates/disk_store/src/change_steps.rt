@@ -1,0 +1,209 @@
+// The steps of a change: before-images are written, and then lines pushed aside.
+ghost use Rattle.std.specs.Prelude.{◌≡◌, true, Ok, Err, OnOk, IsErrOf, IsTrue};
+ghost use Rattle.rdb_types.specs.declared.keys.LineState.TheVariants.{Never};
+ghost use Rattle.rdb_outside.specs.Causes.{Rose};
+ghost use Rattle.rdb_outside.specs.Disk.{OnlyReads};
+ghost use Rattle.line_store.specs.Seats.{IsMember};
+ghost use Rattle.line_store.specs.Sights.{Does, IsLess, MayAnswer, Steps, stepped_to};
+ghost use Rattle.line_store.specs.declared.answers.Stepped.TheVariants as stepped;
+ghost use Rattle.line_versions.specs.Versions.{snap_of};
+ghost use Rattle.stable_lines.specs.Slots.{line_at as line_named, ruj_file as journal_named};
+ghost use Rattle.line_moves.specs.Changes.{IsPlaceOf};
+ghost use Rattle.disk_store.specs.declared.member.MemberStage.TheVariants as stage;
+ghost use Rattle.disk_store.specs.ChangeSteps.{HasAside, IsNext, ThroughAt, Unjournalled, Unpushed};
+ghost use Rattle.disk_store.specs.Seats.{IsAtStage, stand_at};
+ghost use Rattle.disk_store.specs.Shown.{sight_of};
+
+use crate::{Held, MemberStage};
+use line_moves::{Place, area_file, line_at, place_of, ruj_file};
+use line_store::{Fault, Stepped};
+use member_steps::{Journalled, journal_next};
+use rdb_outside::Disk;
+use rdb_types::{Dbkey, LineState, Session};
+
+// The next before-image of the session, or the header before the first. Behind a fault the transaction can only die.
+pub fn journal_key<D: Disk>(disk: &mut D, held: &mut Held, s: Session) -> Result<Stepped, Fault>
+    requires member { IsMember s.number }
+    requires changes { Unjournalled held.old.members s.number }
+    ensures answers { MayAnswer (stand_at held.old.members s.number) result }
+    ensures comes { Does s.number (stepped_to (stand_at held.old.members s.number) result)
+        (Steps s.number result) (sight_of (D.view disk.old) held.old) (sight_of (D.view disk.new) held.new) }
+    ensures less { result ≡ Ok stepped.More → IsLess s.number (sight_of (D.view disk.old) held.old) (sight_of (D.view disk.new) held.new) }
+{
+    held.sound();
+    let member = held.member(s);
+    let tsn = member.tsn;
+    let written = member.journalled;
+    let named = member.named;
+    let key = member.written.keys()[written as usize];
+    let Some(place) = place_of(key) else {
+        unreachable!()
+    };
+    match journal_next(disk, s.number, tsn, written, key, place) {
+        Ok(Journalled::BeforeImage) => {
+            held.count_journalled(s);
+            Ok(Stepped::More)
+        }
+        Ok(Journalled::Header) => {
+            // it was written before, and doesn't stand
+            if named {
+                held.set_stage(s, MemberStage::Broken);
+                return Err(Fault::Bad(ruj_file(s.number), 0));
+            }
+            held.note_named(s);
+            Ok(Stepped::More)
+        }
+        Err(fault) => {
+            held.set_stage(s, MemberStage::Broken);
+            Err(fault)
+        }
+    }
+}
+
+// The next line of the session is pushed aside, into a slot that is set aside for it.
+fn push_key<D: Disk>(
+    disk: &mut D,
+    held: &mut Held,
+    s: Session,
+    key: Dbkey,
+    place: Place,
+) -> Result<Stepped, Fault>
+    requires member { IsMember s.number }
+    requires changes { Unpushed held.old.members s.number }
+    requires next { IsNext held.old.members s.number key }
+    requires place { IsPlaceOf key place }
+    requires aside { HasAside held.old.members s.number (snap_of key) }
+    ensures answers { MayAnswer (stand_at held.old.members s.number) result }
+    ensures comes { Does s.number (stepped_to (stand_at held.old.members s.number) result)
+        (Steps s.number result) (sight_of (D.view disk.old) held.old) (sight_of (D.view disk.new) held.new) }
+    ensures less { result ≡ Ok stepped.More → IsLess s.number (sight_of (D.view disk.old) held.old) (sight_of (D.view disk.new) held.new) }
+{
+    held.sound();
+    if let Err(fault) = held.push_next(disk, s, key, place) {
+        return Err(fault);
+    }
+    Ok(Stepped::More)
+}
+
+// Reads a line that was never used. Where it was, its page is bad: no slot is set aside for it.
+fn read_unused<D: Disk>(disk: &mut D, key: Dbkey, place: Place) -> Result<(), Fault>
+    requires { IsPlaceOf key place }
+    ensures reads { OnlyReads (D.view disk.old) (D.view disk.new) }
+    ensures failed { IsErrOf result Fault.Failed
+        → Rose (D.view disk.old).faults (D.view disk.new).faults }
+    ensures never { OnOk result (IsTrue (D.view disk.old).tells
+        → let line = line_named (D.view disk.old).content key in
+        (line.state ≡ Never) × (line.chain ≡ 0)) }
+{
+    let line = line_at(disk, key, place)?;
+    if line.state != LineState::Never {
+        return Err(Fault::Bad(area_file(place.file), place.page - 1));
+    }
+    Ok(())
+}
+
+// The next line of the session has nothing to push: it is only read.
+fn pass_key<D: Disk>(
+    disk: &mut D,
+    held: &mut Held,
+    s: Session,
+    key: Dbkey,
+    place: Place,
+) -> Result<Stepped, Fault>
+    requires member { IsMember s.number }
+    requires changes { Unpushed held.old.members s.number }
+    requires next { IsNext held.old.members s.number key }
+    requires place { IsPlaceOf key place }
+    ensures answers { MayAnswer (stand_at held.old.members s.number) result }
+    ensures comes { Does s.number (stepped_to (stand_at held.old.members s.number) result)
+        (Steps s.number result) (sight_of (D.view disk.old) held.old) (sight_of (D.view disk.new) held.new) }
+    ensures less { result ≡ Ok stepped.More → IsLess s.number (sight_of (D.view disk.old) held.old) (sight_of (D.view disk.new) held.new) }
+{
+    held.sound();
+    if let Err(fault) = read_unused(disk, key, place) {
+        held.set_stage(s, MemberStage::Broken);
+        return Err(fault);
+    }
+    held.pass_next(s, key);
+    Ok(Stepped::More)
+}
+
+// Whether a slot of the file is set aside for the session.
+fn has_aside(held: &Held, s: Session, file: u32) -> bool
+    requires { IsMember s.number }
+    ensures { result ≡ true → HasAside held.now.members s.number file }
+{
+    let aside = held.member(s).aside;
+    match file {
+        1 => aside.catalog > 0,
+        2 => aside.relations > 0,
+        _ => aside.indexes > 0,
+    }
+}
+
+// The next line of the session is pushed aside, or passed where no slot is set aside for one of its file.
+fn push_or_pass<D: Disk>(disk: &mut D, held: &mut Held, s: Session) -> Result<Stepped, Fault>
+    requires member { IsMember s.number }
+    requires changes { Unpushed held.old.members s.number }
+    ensures answers { MayAnswer (stand_at held.old.members s.number) result }
+    ensures comes { Does s.number (stepped_to (stand_at held.old.members s.number) result)
+        (Steps s.number result) (sight_of (D.view disk.old) held.old) (sight_of (D.view disk.new) held.new) }
+    ensures less { result ≡ Ok stepped.More → IsLess s.number (sight_of (D.view disk.old) held.old) (sight_of (D.view disk.new) held.new) }
+{
+    held.sound();
+    let member = held.member(s);
+    let key = member.written.keys()[member.pushed as usize];
+    let Some(place) = place_of(key) else {
+        unreachable!()
+    };
+    if has_aside(held, s, place.file) {
+        push_key(disk, held, s, key, place)
+    } else {
+        pass_key(disk, held, s, key, place)
+    }
+}
+
+// Nothing is left of the change, and the slots that it didn't take are given back.
+fn end_change<D: Disk>(_disk: &D, held: &mut Held, s: Session)
+    requires member { IsMember s.number }
+    requires through { ThroughAt held.old.members s.number }
+    ensures { Does s.number (stepped_to (stand_at held.old.members s.number) (Ok stepped.Done))
+        (Steps s.number (Ok stepped.Done)) (sight_of (D.view _disk.now) held.old) (sight_of (D.view _disk.now) held.new) }
+{
+    held.sound();
+    held.end_change(s);
+}
+
+/// A step of a change: the header of the session's journal, the before-image of a line that its transaction wrote for the first time, or that line as it stood, for readers. One write at most, without a barrier, and behind the last line none. Behind a fault the transaction can only die.
+pub fn change_step<D: Disk>(disk: &mut D, held: &mut Held, s: Session) -> Result<Stepped, Fault>
+    requires member { IsMember s.number }
+    requires changes { IsAtStage held.old.members s.number stage.Changing }
+    ensures answers { MayAnswer (stand_at held.old.members s.number) result }
+    ensures comes { Does s.number (stepped_to (stand_at held.old.members s.number) result)
+        (Steps s.number result) (sight_of (D.view disk.old) held.old) (sight_of (D.view disk.new) held.new) }
+    ensures less { result ≡ Ok stepped.More → IsLess s.number (sight_of (D.view disk.old) held.old) (sight_of (D.view disk.new) held.new) }
+{
+    let member = held.member(s);
+    let count = member.written.keys().len() as u32;
+    let journalled = member.journalled;
+    let pushed = member.pushed;
+    if journalled < count {
+        return journal_key(disk, held, s);
+    }
+    if pushed < count {
+        return push_or_pass(disk, held, s);
+    }
+    end_change(disk, held, s);
+    Ok(Stepped::Done)
+}
+
+/// A session whose change failed doesn't go on.
+pub fn broken_step<D: Disk>(_disk: &D, _held: &Held, s: Session) -> Result<Stepped, Fault>
+    requires broken { IsAtStage _held.now.members s.number stage.Broken }
+    ensures answers { MayAnswer (stand_at _held.now.members s.number) result }
+    ensures comes { Does s.number (stepped_to (stand_at _held.now.members s.number) result)
+        (Steps s.number result) (sight_of (D.view _disk.now) _held.now) (sight_of (D.view _disk.now) _held.now) }
+    ensures answer { result ≡ Err (Fault.Bad (journal_named s.number) 0) }
+{
+    Err(Fault::Bad(ruj_file(s.number), 0))
+}
