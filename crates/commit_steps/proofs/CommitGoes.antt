@@ -28,7 +28,7 @@ use Rattle.disk_store.specs.Seats.{seat_with, stand_of, stand_at, steps_in, turn
 use Rattle.disk_store.specs.Standing.{StageStands}
 use Rattle.disk_store.specs.Shown.{Shown, sight_of}
 use Rattle.disk_store.specs.Sound.{IsSound}
-use Rattle.disk_store.specs.Commits.{AreOfPages, KeepsCommits}
+use Rattle.disk_store.specs.Commits.{AreOfPages, HasSome, KeepsCommits}
 use Rattle.commit_steps.specs.Turns.{group_for, turn_again, MakesTurn}
 use Rattle.disk_store.proofs.Moving.{itself}
 use Rattle.disk_store.proofs.Stepping.{does-moves, becomes-member, space-same}
@@ -90,6 +90,25 @@ turn-falls n Securing (Going Committed) is further off = absurd is
 turn-falls n (Going st) (Entering b) is further off = absurd is
 turn-falls n (Going st) Securing is further off = absurd is
 turn-falls n (Going st) (Going nx) is further off = stage-falls n st nx is further (λ e. off (ap Going e))
+
+-- ---- which turns there are
+
+-- a commit of a line may come to any turn
+pub has-some : (turn : CommitTurn) (n : ℕ) → 1 ≤ n → HasSome turn n
+has-some (Entering at) n some = tt
+has-some Securing n some = some
+has-some (Going at) n some = some
+
+-- only the last turn commits
+pub lands-from : (turn : CommitTurn) → IsNextTurn turn (Going Committed) → turn ≡ Going Landing
+lands-from (Entering at) is = absurd is
+lands-from Securing is = absurd is
+lands-from (Going (Changing at)) is = absurd is
+lands-from (Going (Imaging at)) is = absurd is
+lands-from (Going Gathering) is = absurd is
+lands-from (Going Sealing) is = absurd is
+lands-from (Going Landing) is = refl
+lands-from (Going Committed) is = absurd is
 
 -- ---- what the step does
 

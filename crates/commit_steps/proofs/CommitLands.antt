@@ -1,15 +1,9 @@
 -- The last turn of a commit: its lines are committed.
 use Rattle.std.proofs.Common.{◌≡◌, ◌≢◌, ◌≤◌, ◌<◌, ◌+◌, ◌-◌, ◌==◌, ◌&&◌, ◌%◌, inl, inr, ◌⊎◌, ℕ, zero, suc, Bool, true, false, cond, not, nat_le, IsTrue, List, [], ◌∷◌, ◌++◌, length, map, Ok, Option, Some, None, refl, sym, ap, subst, ◌∙◌, arith}
 use Rattle.std.specs.Prelude.{slice_get, if◌then◌else◌}
-use Rattle.std.specs.List.{flat_map}
-use Rattle.std.proofs.lemmas.List.{length-append}
-use Rattle.std.proofs.lemmas.List.Concat.{flat_map-append}
-use Rattle.std.proofs.lemmas.Bool.{leb-true, eqb-false}
+use Rattle.std.proofs.lemmas.Bool.{eqb-false}
 use Rattle.std.proofs.lemmas.Option.{none-some}
-use Rattle.rdb_page.specs.Page.{IsOwner}
 use Rattle.rdb_outside.specs.Disk.{View, LeftNow}
-use Rattle.journal_scan.specs.declared.group.Group.{Group}
-use Rattle.journal_scan.specs.Whole.{slots_from, slots_of}
 use Rattle.line_view.specs.declared.writes.Write.{Write}
 use Rattle.line_view.specs.Knowledge.{Lines}
 use Rattle.line_view.specs.Writes.{laid_all}
@@ -18,7 +12,7 @@ use Rattle.line_store.specs.Shelves.{Shelf, Space}
 use Rattle.line_store.specs.Calls.{IsCommitted, TakesGroup}
 use Rattle.line_store.specs.Sights.{bare, Does}
 use Rattle.stable_lines.specs.Slots.{line_at}
-use Rattle.stable_lines.specs.Journal.{Journal, next_number, next_slot, slots_in, with_group, write_of}
+use Rattle.stable_lines.specs.Journal.{next_slot, write_of}
 use Rattle.stable_lines.specs.Progress.{lines_with}
 use Rattle.line_seat.specs.declared.commit.CommitStage.TheVariants.{Gathering, Landing, Committed}
 use Rattle.line_seat.specs.Groups.{group_of}
@@ -28,11 +22,8 @@ use Rattle.disk_versions.specs.Courses.{course_landed}
 use Rattle.member_steps.specs.declared.committing.CommitTurn.{CommitTurn}
 use Rattle.member_steps.specs.declared.committing.CommitTurn.TheVariants.{Entering, Securing, Going}
 use Rattle.member_steps.specs.Turns.{Plan, commit_of_plan}
-use Rattle.committed_tables.specs.Tables.{HasCommitted}
-use Rattle.page_table.specs.Pages.{Pages, owner_in, class_in, IsWithin}
 use Rattle.ledger_versions.specs.Readers.{set_waiting}
 use Rattle.reader_turns.proofs.TurnSteps.{turn_lands}
-use Rattle.store_shows.specs.Rooms.{is_free, HasPages}
 use Rattle.member_memory.specs.Memory.{writes_in}
 use Rattle.disk_store.specs.declared.member.Member.{Member}
 use Rattle.disk_store.specs.declared.member.MemberStage.{MemberStage}
@@ -42,53 +33,22 @@ use Rattle.disk_store.specs.Dying.{forgotten}
 use Rattle.disk_store.specs.Memory.{StoreMemory, with_member}
 use Rattle.disk_store.specs.Seats.{seat_with, stand_of, stand_at}
 use Rattle.disk_store.specs.Standing.{IsGoing, StageStands}
-use Rattle.disk_store.specs.Shown.{SpaceStands, TablesStand, Shown, pages_of, sight_of}
+use Rattle.disk_store.specs.Shown.{TablesStand, Shown, sight_of}
 use Rattle.disk_store.specs.Sound.{IsSound}
 use Rattle.disk_store.specs.Commits.{is_flying, AreOfPages, KeepsCommits}
 use Rattle.disk_store.specs.Landing.{PutsAll, landed_with}
 use Rattle.commit_steps.specs.Turns.{group_for, MakesTurn}
 use Rattle.disk_store.proofs.Members.{set-beside}
 use Rattle.disk_store.proofs.Moving.{itself}
-use Rattle.disk_store.proofs.Written.{lines-counted}
 use Rattle.disk_store.proofs.Ordered.{group-long, same-writes}
 use Rattle.commit_steps.proofs.Planning.{own-commit, plan-going, under-way-now, of-areas, lie-for, waits-now}
 use Rattle.disk_store.proofs.Kept.{kept-stays}
-use Rattle.disk_store.proofs.Stepping.{ComesTo, Becomes, does-any}
+use Rattle.disk_store.proofs.Stepping.{ComesTo, does-any}
 use Rattle.disk_store.proofs.Passing.{aside-ceiling}
 use Rattle.disk_store.proofs.Beside.{StaysWith, rests}
-use Rattle.commit_steps.proofs.Turning.{beside-stands, slots-aside, flies-as}
-use Rattle.disk_store.proofs.LinesPut.{SamePages, all-same, all-committed, all-used}
-
--- ---- the journal behind a group
-
-slots-long : (g : Group) (at : ℕ) (ls : _) → length (slots_from g at ls) ≡ length ls + 1
-slots-long g at [] = refl
-slots-long g at (l ∷ ls) = let rest = slots-long g (at + 1) ls in omega (arith, rest)
-
-pub slot-behind : (j : Journal) (g : Group) → next_slot (with_group j g) ≡ next_slot j + (length g.lines + 1)
-slot-behind j g =
-    let joined = ap length (flat_map-append slots_of j.groups (g ∷ [])) in
-    let both = length-append (flat_map slots_of j.groups) (flat_map slots_of (g ∷ [])) in
-    let one = length-append (slots_of g) [] in
-    let its = slots-long g 0 g.lines in
-    omega (arith, joined, both, one, its)
-
-pub number-behind : (j : Journal) (g : Group) → next_number (with_group j g) ≡ next_number j + 1
-number-behind j g = let both = length-append j.groups (g ∷ []) in omega (arith, both)
-
--- ---- pages
-
-free-same : (old new : Tables) → SamePages old new → (file page : ℕ) → is_free (pages_of new file) page ≡ is_free (pages_of old file) page
-free-same old new same file page = by (nat_le 1 page) refl
-  where
-    by : (b : Bool) → nat_le 1 page ≡ b → is_free (pages_of new file) page ≡ is_free (pages_of old file) page
-    by true first =
-        let owner = same.owner file page (leb-true 1 page first) in
-        let long = same.long file in
-        λ i. nat_le 1 page && nat_le page (long i) && not ((page - 1) % 200 == 0) && (owner i == 0)
-    by false none =
-        ap (λ (b : Bool). b && nat_le page (length (pages_of new file)) && not ((page - 1) % 200 == 0) && (owner_in (pages_of new file) page == 0)) none
-        ∙ sym (ap (λ (b : Bool). b && nat_le page (length (pages_of old file)) && not ((page - 1) % 200 == 0) && (owner_in (pages_of old file) page == 0)) none)
+use Rattle.commit_steps.proofs.Turning.{beside-stands, slots-aside, tables-turned}
+use Rattle.disk_store.proofs.LinesPut.{all-used}
+use Rattle.disk_store.proofs.Landed.{slot-behind, number-behind, tables-landed, becomes-landed, takes-landed}
 
 -- ---- what is shown
 
@@ -102,25 +62,6 @@ module _ (v w : View) (held : StoreMemory) (s : ℕ) (m : Member) (was : slice_g
 
   abbrev ws : List Write
   ws = writes_in m.written.lines
-
-  same : SamePages held.tables kept
-  same = all-same held.tables m.written.lines kept puts
-
-  abbrev space-behind : Space → Space
-  space-behind space = record { limits = space.limits; taken = space.taken; snaps = space.snaps; slots = behind.next.slot - 1 }
-
-  abbrev becomes : Becomes held behind s n
-  becomes = record {
-    limits = refl;
-    members = refl;
-    space_of = space-behind;
-    spaced = λ space has. record {
-      limits = has.limits;
-      pages = record { taken = λ file page. has.pages.taken file page ∙ ap not (sym (free-same held.tables kept same file page)); limit = λ file. same.long file ∙ has.pages.limit file };
-      snaps = has.snaps;
-      slots = refl;
-    };
-  }
 
   module _ (h : Shelf) (shown : Shown v held h) (going : IsGoing v shown.ledger s m Landing) (left : IsTrue w.tells → LeftNow w w.content) where
     abbrev g : Ledger
@@ -162,21 +103,7 @@ module _ (v w : View) (held : StoreMemory) (s : ℕ) (m : Member) (was : slice_g
     }
 
     pub tabled : TablesStand w k kept
-    tabled = record {
-      committed = λ file is. subst (λ (ls : Lines). HasCommitted (pages_of kept file) file ls) (sym lines-behind) (all-committed held.tables m.written.lines kept puts file g.base.lines (shown.tables.committed file is));
-      classes = shown.tables.classes;
-      lie = makes.classed shown.tells g shown.facts shown.tables.classes (of-areas v held s m was (Going Landing) at sound commits are h shown) shown.tables.lie;
-      class = λ file page within owner.
-          let owner-same = same.owner file page within.first in
-          same.class file page within.first ∙ (shown.tables.class file page (back file page within) (subst (λ (x : ℕ). IsOwner file x) owner-same owner) ∙ ap shown.tables.classes (sym owner-same));
-      owned = λ there area is within plain whose.
-          let owner-same = same.owner there.file there.page within.first in
-          let whose-was : (owner_in (pages_of held.tables there.file) there.page ≡ 0) ⊎ (owner_in (pages_of held.tables there.file) there.page ≡ area) = elim whose [ inl none ↦ inl (sym owner-same ∙ none) | inr its ↦ inr (sym owner-same ∙ its) ] in
-          makes.owners shown.tells g shown.facts there area is plain (lie-for held.tables m.written.lines m.classes.items are there area whose-was) (shown.tables.owned there area is (back there.file there.page within) plain whose-was);
-    }
-      where
-        back : (file page : ℕ) → IsWithin (pages_of kept file) page → IsWithin (pages_of held.tables file) page
-        back file page within = record { first = within.first; last = let last = within.last in let long = same.long file in omega (arith, last, long) }
+    tabled = tables-landed w g k held.tables kept m.written.lines puts lines-behind (tables-turned v w held s m was (Going Landing) at sound commits are (Ok (Going Committed)) makes h shown g (record { lines = refl; journal = refl; next_tsn = refl; limits = refl }))
 
     abbrev pub lands-now : ComesTo v w behind s n g shown.versions.course shown.versions.waiting
     lands-now = record {
@@ -214,7 +141,7 @@ module _ (v w : View) (held : StoreMemory) (s : ℕ) (m : Member) (was : slice_g
   -- it is committed since this moment
   pub does-land : (left : IsTrue w.tells → LeftNow w w.content) (moment : ℕ) → moment ≡ w.moment → Does s closing (λ h g. IsCommitted s moment h g) (sight_of v held) (sight_of w behind)
   does-land left moment now =
-      does-any v w held behind s m n was becomes (λ e. cc) makes.writes.only.told makes.writes.only.leaves
+      does-any v w held behind s m n was (becomes-landed held s m stage.Closing kept puts) (λ e. cc) makes.writes.only.told makes.writes.only.leaves
       (λ h shown stands. lands-now h shown (subst (λ st. StageStands st v shown.ledger s m) at stands) left)
       makes.writes.only.later makes.writes.only.no_fewer closing (λ h g. IsCommitted s moment h g) refl
       (λ h shown d is. absurd (none-some d is))
@@ -225,19 +152,7 @@ module _ (v w : View) (held : StoreMemory) (s : ℕ) (m : Member) (was : slice_g
           now = related.now_behind ∙ (lines-behind h related.shown (subst (λ st. StageStands st v related.shown.ledger s m) at related.stands) left ∙ ap (λ (ls : Lines). laid_all ws ls) (sym related.shown.lines.now));
           mine = related.seat_behind;
           others = related.others;
-          space = subst (λ (space : Space). TakesGroup ws h.space space) (sym related.space_behind) (takes h related.shown);
+          space = subst (λ (space : Space). TakesGroup ws h.space space) (sym related.space_behind) (takes-landed held s m stage.Closing kept puts v h related.shown was sound);
           at = now ∙ sym related.time_behind;
         };
       })
-    where
-      takes : (h : Shelf) → Shown v held h → TakesGroup ws h.space (space-behind h.space)
-      takes h shown = record {
-        limits = refl;
-        taken = λ file page. refl;
-        snaps = omega arith;
-        slots =
-            let slot = shown.space.slots in
-            let first = shown.numbers.group.in_slot in
-            let count = lines-counted m.written.lines m.written.keys (sound.each s m was).keys in
-            omega (arith, slot, first, count);
-      }

@@ -17,6 +17,7 @@ use Rattle.member_memory.specs.Memory.{AreKeysOf, writes_in}
 use Rattle.disk_store.specs.declared.member.Member.{Member}
 use Rattle.disk_store.specs.declared.member.MemberStage.{MemberStage}
 use Rattle.disk_store.specs.declared.member.MemberStage.TheVariants as stage
+use Rattle.disk_store.specs.declared.member.Recovery.TheVariants as recovery
 use Rattle.disk_store.specs.declared.held.Numbers.{Numbers}
 use Rattle.disk_store.specs.declared.held.Tables.{Tables}
 use Rattle.disk_store.specs.Memory.{StoreMemory, with_member, with_tables}
@@ -27,7 +28,7 @@ use Rattle.disk_store.specs.Taken.{TakesIn}
 use Rattle.disk_store.specs.Landing.{PutsAll, group_behind, landed_with}
 use Rattle.disk_store.specs.Sound.{IsSound}
 use Rattle.disk_store.specs.Dying.{forgotten}
-use Rattle.disk_store.specs.Commits.{is_bound, is_flying, group_slots, due_if, due_of, due_in, HasClass, AreOfPages, IsReady, AreAlone, KeepsCommits, HasRoomFor, HasSome}
+use Rattle.disk_store.specs.Commits.{is_bound, is_free, is_flying, group_slots, due_if, due_of, due_in, HasClass, AreOfPages, IsReady, AreAlone, KeepsCommits, HasRoomFor, HasSome}
 use Rattle.disk_store.proofs.Members.{set-here, set-beside, get-within}
 use Rattle.disk_store.proofs.Moving.{itself}
 use Rattle.disk_store.proofs.Aside.{below}
@@ -161,42 +162,19 @@ member-kept held s m n is was less flown ready kept = record {
 free-due : (b : Bool) (keys : ℕ) → b ≡ false → due_if b keys ≡ 0
 free-due b keys is = rw is refl
 
-free-flies : (st : MemberStage) → is_bound st ≡ false → is_flying st ≡ true → ⊥
-free-flies stage.Outside free flies = true≢false (sym flies)
-free-flies (stage.Beginning ceiling) free flies = true≢false (sym flies)
-free-flies stage.Writing free flies = true≢false (sym flies)
-free-flies stage.Changing free flies = true≢false (sym flies)
-free-flies stage.Broken free flies = true≢false (sym flies)
-free-flies stage.Prepared free flies = true≢false (sym flies)
-free-flies (stage.Committing turn) free flies = true≢false free
-free-flies stage.RollingBack free flies = true≢false (sym flies)
-free-flies stage.Closing free flies = true≢false (sym flies)
-free-flies stage.Reading free flies = true≢false (sym flies)
-free-flies (stage.Dead commits left) free flies = true≢false (sym flies ∙ free)
-
-free-ready : (st : MemberStage) (tables : Tables) (m : Member) → is_bound st ≡ false → IsReady st tables m
-free-ready stage.Outside tables m free = tt
-free-ready (stage.Beginning ceiling) tables m free = tt
-free-ready stage.Writing tables m free = tt
-free-ready stage.Changing tables m free = tt
-free-ready stage.Broken tables m free = tt
-free-ready stage.Prepared tables m free = absurd (true≢false free)
-free-ready (stage.Committing turn) tables m free = absurd (true≢false free)
-free-ready stage.RollingBack tables m free = tt
-free-ready stage.Closing tables m free = tt
-free-ready stage.Reading tables m free = tt
-free-ready (stage.Dead commits left) tables m free = tt
-
-pub free-kept : (held : StoreMemory) (s : ℕ) (m n : Member) → IsMember s → slice_get held.members s ≡ Some m → is_bound n.stage ≡ false → KeepsCommits held → KeepsCommits (with_member s n held)
-free-kept held s m n is was free kept =
-    member-kept held s m n is was (let none = free-due (is_bound n.stage) (length n.written.keys) free in omega (arith, none)) (λ flies. absurd (free-flies n.stage free flies)) (free-ready n.stage held.tables n free) kept
-
-pub numbers-kept : (held : StoreMemory) (numbers : Numbers) → KeepsCommits held → KeepsCommits (record held { numbers = numbers })
-numbers-kept held numbers kept = record { alone = kept.alone; room = kept.room; few = kept.few; number = kept.number; ready = kept.ready }
-
--- the slots of the snapshot files are others
-pub slots-kept : (held : StoreMemory) (slots : SnapshotSlots) → KeepsCommits held → KeepsCommits (record held { slots = slots })
-slots-kept held slots kept = record { alone = kept.alone; room = kept.room; few = kept.few; number = kept.number; ready = kept.ready }
+pub free-bound : (st : MemberStage) → is_free st ≡ true → is_bound st ≡ false
+free-bound stage.Outside free = refl
+free-bound (stage.Beginning ceiling) free = refl
+free-bound stage.Writing free = refl
+free-bound stage.Changing free = refl
+free-bound stage.Broken free = refl
+free-bound stage.Prepared free = absurd (true≢false (sym free))
+free-bound (stage.Committing turn) free = absurd (true≢false (sym free))
+free-bound stage.RollingBack free = refl
+free-bound stage.Closing free = refl
+free-bound stage.Reading free = refl
+free-bound (stage.Dead true left) free = absurd (true≢false (sym free))
+free-bound (stage.Dead false left) free = refl
 
 flying-bound : (st : MemberStage) → is_flying st ≡ true → is_bound st ≡ true
 flying-bound stage.Outside flies = absurd (true≢false (sym flies))
@@ -211,10 +189,41 @@ flying-bound stage.Closing flies = absurd (true≢false (sym flies))
 flying-bound stage.Reading flies = absurd (true≢false (sym flies))
 flying-bound (stage.Dead commits left) flies = flies
 
+free-flies : (st : MemberStage) → is_free st ≡ true → is_flying st ≡ true → ⊥
+free-flies st free flies = true≢false (sym (flying-bound st flies) ∙ free-bound st free)
+
+free-ready : (st : MemberStage) (tables : Tables) (m : Member) → is_free st ≡ true → IsReady st tables m
+free-ready stage.Outside tables m free = tt
+free-ready (stage.Beginning ceiling) tables m free = tt
+free-ready stage.Writing tables m free = tt
+free-ready stage.Changing tables m free = tt
+free-ready stage.Broken tables m free = tt
+free-ready stage.Prepared tables m free = absurd (true≢false (sym free))
+free-ready (stage.Committing turn) tables m free = absurd (true≢false (sym free))
+free-ready stage.RollingBack tables m free = tt
+free-ready stage.Closing tables m free = tt
+free-ready stage.Reading tables m free = tt
+free-ready (stage.Dead true left) tables m free = absurd (true≢false (sym free))
+free-ready (stage.Dead false recovery.Judging) tables m free = absurd (true≢false (sym free))
+free-ready (stage.Dead false recovery.Ending) tables m free = tt
+free-ready (stage.Dead false (recovery.Undoing left)) tables m free = tt
+free-ready (stage.Dead false recovery.Restoring) tables m free = tt
+
+pub free-kept : (held : StoreMemory) (s : ℕ) (m n : Member) → IsMember s → slice_get held.members s ≡ Some m → is_free n.stage ≡ true → KeepsCommits held → KeepsCommits (with_member s n held)
+free-kept held s m n is was free kept =
+    member-kept held s m n is was (let none = free-due (is_bound n.stage) (length n.written.keys) (free-bound n.stage free) in omega (arith, none)) (λ flies. absurd (free-flies n.stage free flies)) (free-ready n.stage held.tables n free) kept
+
+pub numbers-kept : (held : StoreMemory) (numbers : Numbers) → KeepsCommits held → KeepsCommits (record held { numbers = numbers })
+numbers-kept held numbers kept = record { alone = kept.alone; room = kept.room; few = kept.few; number = kept.number; ready = kept.ready }
+
+-- the slots of the snapshot files are others
+pub slots-kept : (held : StoreMemory) (slots : SnapshotSlots) → KeepsCommits held → KeepsCommits (record held { slots = slots })
+slots-kept held slots kept = record { alone = kept.alone; room = kept.room; few = kept.few; number = kept.number; ready = kept.ready }
+
 -- a session that is dead
-pub dead-kept : (held : StoreMemory) (s : ℕ) (m n : Member) → IsMember s → slice_get held.members s ≡ Some m → (commits : Bool) (left : _) → n.stage ≡ stage.Dead commits left → (is_flying n.stage ≡ true → is_flying m.stage ≡ true) → n.written ≡ m.written → KeepsCommits held → KeepsCommits (with_member s n held)
-dead-kept held s m n is was commits left at flown written kept =
-    member-kept held s m n is was (by commits at) flown (subst (λ (st : MemberStage). IsReady st held.tables n) (sym at) tt) kept
+pub dead-kept : (held : StoreMemory) (s : ℕ) (m n : Member) → IsMember s → slice_get held.members s ≡ Some m → (commits : Bool) (left : _) → n.stage ≡ stage.Dead commits left → (is_flying n.stage ≡ true → is_flying m.stage ≡ true) → IsReady n.stage held.tables n → n.written ≡ m.written → KeepsCommits held → KeepsCommits (with_member s n held)
+dead-kept held s m n is was commits left at flown ready written kept =
+    member-kept held s m n is was (by commits at) flown ready kept
   where
     by : (b : Bool) → n.stage ≡ stage.Dead b left → due_of (Some n) ≤ due_of (Some m)
     by true dead =
@@ -365,7 +374,10 @@ ready-with old new each (stage.Committing turn) m is = (record { long = is.0.lon
 ready-with old new each stage.RollingBack m is = tt
 ready-with old new each stage.Closing m is = tt
 ready-with old new each stage.Reading m is = tt
-ready-with old new each (stage.Dead commits left) m is = tt
+ready-with old new each (stage.Dead commits recovery.Judging) m is = is
+ready-with old new each (stage.Dead commits recovery.Ending) m is = tt
+ready-with old new each (stage.Dead commits (recovery.Undoing left)) m is = tt
+ready-with old new each (stage.Dead commits recovery.Restoring) m is = tt
 
 -- a page is taken
 pub taken-kept : (held : StoreMemory) (file page area class : ℕ) (kept : Tables) → IsNew (pages_of held.tables file) page → TakesIn file page area class held.tables kept → KeepsCommits held → KeepsCommits (with_tables kept held)
@@ -398,13 +410,13 @@ due-room held s m is was flies some kept = by kept.room
     by (inl none) = absurd (let d = due in omega (arith, d, none))
     by (inr fits) = let d = due in omega (arith, d, fits)
 
-pub landed-kept : (held : StoreMemory) (s : ℕ) (m : Member) (next : MemberStage) (kept : Tables) → IsMember s → slice_get held.members s ≡ Some m → is_bound next ≡ false → is_flying m.stage ≡ true → 1 ≤ length m.written.keys → PutsAll held.tables m.written.lines kept → KeepsCommits held → KeepsCommits (landed_with next kept s m held)
+pub landed-kept : (held : StoreMemory) (s : ℕ) (m : Member) (next : MemberStage) (kept : Tables) → IsMember s → slice_get held.members s ≡ Some m → is_free next ≡ true → is_flying m.stage ≡ true → 1 ≤ length m.written.keys → PutsAll held.tables m.written.lines kept → KeepsCommits held → KeepsCommits (landed_with next kept s m held)
 landed-kept held s m next kept is was free flies some puts keeps = record {
   alone = still-alone held.members s m n was (λ f. absurd (free-flies next free f)) keeps.alone;
   room = inr (
       let room = due-room held s m is was flies some keeps in
       let after = due-after held.members s m n was is in
-      let none : due_of (Some n) ≡ 0 = free-due (is_bound next) 0 free in
+      let none : due_of (Some n) ≡ 0 = free-due (is_bound next) 0 (free-bound next free) in
       omega (arith, room, after, none)
       );
   few = keeps.few;
@@ -416,6 +428,9 @@ landed-kept held s m next kept is was free flies some puts keeps = record {
     n = forgotten next m
 
 -- ---- what is ready
+
+pub ready-judged : (held : StoreMemory) (s : ℕ) (m : Member) (commits : Bool) → KeepsCommits held → slice_get held.members s ≡ Some m → m.stage ≡ stage.Dead commits recovery.Judging → (commits ≡ true) × (1 ≤ length m.written.keys)
+ready-judged held s m commits kept was at = subst (λ (st : MemberStage). IsReady st held.tables m) at (kept.ready s m was)
 
 pub ready-now : (held : StoreMemory) (s : ℕ) (m : Member) (turn : CommitTurn) → KeepsCommits held → IsAtStage held.members s (stage.Committing turn) → slice_get held.members s ≡ Some m → AreOfPages held.tables m.written.lines m.classes.items × HasSome turn (length m.written.keys)
 ready-now held s m turn kept at was = subst (λ (st : MemberStage). IsReady st held.tables m) (subst (λ (x : Member). x.stage ≡ stage.Committing turn) (same_Some at.member m (sym at.is ∙ was)) at.at) (kept.ready s m was)

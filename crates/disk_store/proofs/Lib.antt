@@ -47,6 +47,7 @@ mod FewSteps
 pub mod Judged
 pub mod Ordered
 pub mod LinesPut
+pub mod Landed
 pub mod CommitsKept
 pub mod Ready
 pub mod DeadStages

@@ -15,6 +15,7 @@ use Rattle.page_table.specs.Pages.{IsLineOf, class_in}
 use Rattle.disk_store.specs.declared.member.Member.{Member}
 use Rattle.disk_store.specs.declared.member.MemberStage.{MemberStage}
 use Rattle.disk_store.specs.declared.member.MemberStage.TheVariants as stage
+use Rattle.disk_store.specs.declared.member.Recovery.TheVariants as recovery
 use Rattle.disk_store.specs.declared.held.Tables.{Tables}
 use Rattle.disk_store.specs.Memory.{StoreMemory}
 use Rattle.disk_store.specs.Preparing.{aside_beside}
@@ -28,6 +29,17 @@ is_bound stage.Prepared = true
 is_bound (stage.Committing turn) = true
 is_bound (stage.Dead commits left) = commits
 is_bound _ = false
+
+-- no commit is prepared, under way or to be judged
+abbrev pub is_free : MemberStage → Bool
+is_free stage.Prepared = false
+is_free (stage.Committing turn) = false
+is_free (stage.Dead true left) = false
+is_free (stage.Dead false recovery.Judging) = false
+is_free (stage.Dead false recovery.Ending) = true
+is_free (stage.Dead false (recovery.Undoing left)) = true
+is_free (stage.Dead false recovery.Restoring) = true
+is_free _ = true
 
 -- a commit is under way
 abbrev pub is_flying : MemberStage → Bool
@@ -75,10 +87,11 @@ HasSome (Entering at) lines = Unit {0}
 HasSome Securing lines = 1 ≤ lines
 HasSome (Going at) lines = 1 ≤ lines
 
--- a member that may commit has the classes of its lines
+-- A member that may commit has the classes of its lines; one whose commit is to be judged has a line.
 abbrev pub IsReady : MemberStage → Tables → Member → Type 0
 IsReady stage.Prepared tables m = AreOfPages tables m.written.lines m.classes.items
 IsReady (stage.Committing turn) tables m = AreOfPages tables m.written.lines m.classes.items × HasSome turn (length m.written.keys)
+IsReady (stage.Dead commits recovery.Judging) tables m = (commits ≡ true) × (1 ≤ length m.written.keys)
 IsReady _ tables m = Unit {0}
 
 -- ---- all of it

@@ -1,9 +1,9 @@
 // A session dies.
-ghost use Rattle.std.specs.Prelude.{◌≡◌, false, Some, slice_get};
+ghost use Rattle.std.specs.Prelude.{◌≡◌, true, Some, slice_get};
 ghost use Rattle.line_store.specs.Seats.{IsMember, IsAlive, died};
 ghost use Rattle.line_store.specs.Sights.{Does, Dies};
 ghost use Rattle.disk_store.specs.declared.member.Member.{Member as Sits};
-ghost use Rattle.disk_store.specs.Commits.{is_bound};
+ghost use Rattle.disk_store.specs.Commits.{is_free};
 ghost use Rattle.disk_store.specs.Dying.{recovery_at, dead_at, has_none, forgotten};
 ghost use Rattle.disk_store.specs.Memory.{with_member};
 ghost use Rattle.disk_store.specs.Seats.{stand_at};
@@ -73,10 +73,10 @@ impl Held {
         &self.members[s.number as usize]
     }
 
-    // A session comes to another stage, at which no room of the journal is set aside for it, and its lines are forgotten.
+    // A session comes to another stage, at which no commit of it is prepared, under way or to be judged, and its lines are forgotten.
     pub(crate) fn forget(&mut self, s: Session, next: MemberStage)
         requires member { IsMember s.number }
-        requires free { is_bound next ≡ false }
+        requires free { is_free next ≡ true }
         ensures { (m : Sits) × (slice_get self.old.members s.number ≡ Some m)
             × (self.new ≡ with_member s.number (forgotten next m) self.old) }
     {
@@ -92,6 +92,7 @@ pub fn die<D: Disk>(_disk: &D, held: &mut Held, s: Session)
     requires alive { IsAlive (stand_at held.old.members s.number) }
     ensures { Does s.number (died (stand_at held.old.members s.number)) (Dies s.number) (sight_of (D.view _disk.now) held.old) (sight_of (D.view _disk.now) held.new) }
 {
+    held.keeps_commits();
     let member = held.member(s);
     let stage = member.stage;
     let next = dead(stage, member.journalled);

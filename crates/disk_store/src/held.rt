@@ -5,7 +5,7 @@ ghost use Rattle.member_steps.specs.declared.committing.CommitTurn.{CommitTurn a
 ghost use Rattle.member_steps.specs.declared.committing.CommitTurn.TheVariants.{Entering};
 ghost use Rattle.disk_store.specs.declared.member.Member.{Member as Sits};
 ghost use Rattle.disk_store.specs.declared.member.MemberStage.TheVariants.{Committing, Dead, Prepared};
-ghost use Rattle.disk_store.specs.Commits.{is_bound, is_flying, HasSome, KeepsCommits};
+ghost use Rattle.disk_store.specs.Commits.{is_free, is_flying, HasSome, IsReady, KeepsCommits};
 ghost use Rattle.disk_store.specs.Memory.{at_stage, with_member, with_number};
 ghost use Rattle.disk_store.specs.Seats.{IsAtStage};
 ghost use Rattle.disk_store.specs.Sound.{IsSound};
@@ -91,10 +91,10 @@ impl Held {
         self.members.as_slice()
     }
 
-    /// A session comes to another stage, at which no room of the journal is set aside for it.
+    /// A session comes to another stage, at which no commit of it is prepared, under way or to be judged.
     pub fn set_stage(&mut self, s: Session, next: MemberStage)
         requires member { IsMember s.number }
-        requires free { is_bound next ≡ false }
+        requires free { is_free next ≡ true }
         ensures within { s.number < length self.old.members }
         ensures comes { (m : Sits) × (slice_get self.old.members s.number ≡ Some m)
             × (self.new ≡ with_member s.number (at_stage next m) self.old) }
@@ -103,11 +103,12 @@ impl Held {
         member.stage = next;
     }
 
-    /// A session is dead. Where its commit is under way, it was so before.
+    /// A session is dead. Where its commit is under way, it was so before, and where it is to be judged it wrote a line.
     pub fn set_dead(&mut self, s: Session, next: MemberStage)
         requires member { IsMember s.number }
         requires dead { (commits : Bool) × (left : _) × (next ≡ Dead commits left) }
         requires flies { is_flying next ≡ true → (m : Sits) → slice_get self.old.members s.number ≡ Some m → is_flying m.stage ≡ true }
+        requires ready { (m : Sits) → slice_get self.old.members s.number ≡ Some m → IsReady next self.old.tables (at_stage next m) }
         ensures within { s.number < length self.old.members }
         ensures comes { (m : Sits) × (slice_get self.old.members s.number ≡ Some m)
             × (self.new ≡ with_member s.number (at_stage next m) self.old) }

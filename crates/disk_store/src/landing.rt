@@ -1,5 +1,5 @@
 // A commit that stands is put into memory.
-ghost use Rattle.std.specs.Prelude.{◌≡◌, ◌<◌, ◌≤◌, ◌+◌, ℕ, false, true, List, Some, is_some, length, slice_get};
+ghost use Rattle.std.specs.Prelude.{◌≡◌, ◌<◌, ◌≤◌, ◌+◌, ℕ, true, List, Some, is_some, length, slice_get};
 ghost use Rattle.rdb_types.specs.declared.keys.Dbkey.{Dbkey as Key};
 ghost use Rattle.rdb_types.specs.declared.keys.Line.{Line as Written};
 ghost use Rattle.line_store.specs.Seats.{IsMember};
@@ -11,7 +11,7 @@ ghost use Rattle.line_moves.specs.Changes.{IsPlaceOf};
 ghost use Rattle.page_table.specs.Pages.{IsLineOf};
 ghost use Rattle.disk_store.specs.declared.member.Member.{Member as Sits};
 ghost use Rattle.disk_store.specs.declared.held.Tables.{Tables as Kept};
-ghost use Rattle.disk_store.specs.Commits.{is_bound, is_flying};
+ghost use Rattle.disk_store.specs.Commits.{is_free, is_flying};
 ghost use Rattle.disk_store.specs.Landing.{PutsIn, PutsAll, LieThere, landed_with};
 ghost use Rattle.disk_store.specs.Shown.{pages_of};
 
@@ -72,7 +72,7 @@ impl Held {
     /// A session's commit stands: the tables have its lines, the next group comes behind its own, and it comes to another stage without lines.
     pub fn land(&mut self, s: Session, next: MemberStage)
         requires member { IsMember s.number }
-        requires free { is_bound next ≡ false }
+        requires free { is_free next ≡ true }
         requires flies { (m : Sits) → slice_get self.old.members s.number ≡ Some m → (is_flying m.stage ≡ true) × (1 ≤ length m.written.keys) }
         ensures within { s.number < length self.old.members }
         ensures comes { (m : Sits) × (slice_get self.old.members s.number ≡ Some m)

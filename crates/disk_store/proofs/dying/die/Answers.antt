@@ -2,20 +2,20 @@ use Rattle.std.proofs.Common.{◌≡◌, sym, ap, subst, ◌∙◌, arith}
 use Rattle.line_store.specs.Seats.{IsAlive, died}
 use Rattle.line_store.specs.Sights.{Does, Dies}
 use Rattle.disk_store.specs.declared.member.Member.{Member}
-use Rattle.disk_store.specs.Dying.{forgotten}
+use Rattle.disk_store.specs.Dying.{dead_at, forgotten}
 use Rattle.disk_store.specs.Memory.{with_member, at_stage}
 use Rattle.disk_store.specs.Seats.{stand_of, stand_at}
 use Rattle.disk_store.specs.Shown.{sight_of}
 use Rattle.disk_store.proofs.Closing.{one-member}
 use Rattle.disk_store.proofs.Deaths.{dies-forgotten, dies-kept}
-use Rattle.disk_store.specs.Commits.{is_bound, is_flying}
-use Rattle.disk_store.proofs.DeadStages.{dead-is, dead-flies, dead-free}
+use Rattle.disk_store.specs.Commits.{is_free, is_flying, IsReady}
+use Rattle.disk_store.proofs.DeadStages.{dead-is, dead-flies, dead-free, dead-ready}
 use Rattle.disk_store.proofs.dying.die.Goals as goal
 
 pub forget-requires-clause-free : goal.forget-requires-clause-free
 forget-requires-clause-free g c =
     let m : Member = c.member-member.result.now in
-    ap is_bound c.dead-next.ensures ∙ dead-free m.stage m.journalled (sym c.forgets.ensures ∙ c.if-forgets.true)
+    ap is_free c.dead-next.ensures ∙ dead-free m.stage m.journalled (sym c.forgets.ensures ∙ c.if-forgets.true)
 
 pub set_dead-requires-clause-dead : goal.set_dead-requires-clause-dead
 set_dead-requires-clause-dead g c =
@@ -27,6 +27,14 @@ pub set_dead-requires-clause-flies : goal.set_dead-requires-clause-flies
 set_dead-requires-clause-flies g c flies x is =
     let m : Member = c.member-member.result.now in
     ap (λ (y : Member). is_flying y.stage) (one-member c.args.held.now.members c.args.s.number x m is c.member-member.ensures) ∙ dead-flies m.stage m.journalled (ap is_flying (sym c.dead-next.ensures) ∙ flies)
+
+pub set_dead-requires-clause-ready : goal.set_dead-requires-clause-ready
+set_dead-requires-clause-ready g c x is =
+    let held = c.args.held.now in
+    let m : Member = c.member-member.result.now in
+    let same : m ≡ x = one-member held.members c.args.s.number m x c.member-member.ensures is in
+    subst (λ st. IsReady st held.tables (at_stage st x)) (sym c.dead-next.ensures)
+    (subst (λ (y : Member). IsReady (dead_at m.stage m.journalled) held.tables (at_stage (dead_at m.stage m.journalled) y)) same (dead-ready m.stage m.journalled held.tables m (c.keeps_commits.ensures.ready c.args.s.number m c.member-member.ensures)))
 
 pub returns-then-forgets : goal.returns-then-forgets
 returns-then-forgets g c =

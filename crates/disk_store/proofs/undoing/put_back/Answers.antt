@@ -9,12 +9,13 @@ use Rattle.disk_store.specs.declared.member.Member.{Member}
 use Rattle.disk_store.specs.declared.member.MemberStage.TheVariants as stage
 use Rattle.disk_store.specs.declared.member.Recovery.{Recovery}
 use Rattle.disk_store.specs.declared.member.Recovery.TheVariants as recovery
-use Rattle.disk_store.specs.Commits.{is_flying}
+use Rattle.disk_store.specs.Commits.{is_flying, IsReady}
 use Rattle.disk_store.specs.Dying.{undoing_with}
 use Rattle.disk_store.specs.Memory.{StoreMemory, with_member, at_stage}
 use Rattle.disk_store.specs.Seats.{stand_at, IsAtStage, steps_at, steps_of, steps_in, recovery_left}
 use Rattle.disk_store.specs.Shown.{sight_of}
 use Rattle.disk_store.proofs.Members.{set-here}
+use Rattle.disk_store.proofs.DeadStages.{undoing-ready}
 use Rattle.disk_store.proofs.Closing.{one-member}
 use Rattle.disk_store.proofs.PutBack.{undone-with, does-back, does-none-left, fewer-left, cause-of}
 use Rattle.disk_store.proofs.undoing.put_back.Goals as goal
@@ -31,6 +32,9 @@ set_dead-requires-in-Ok-clause-flies g c flies m is = flies-still c.args.held.no
 
 pub set_dead-requires-in-Err-clause-flies : goal.set_dead-requires-in-Err-clause-flies
 set_dead-requires-in-Err-clause-flies g c flies m is = flies-still c.args.held.now.members c.args.s.number c.args.commits (recovery.Undoing c.args.left) c.requires.died flies m is
+
+pub set_dead-requires-in-Ok-clause-ready : goal.set_dead-requires-in-Ok-clause-ready
+set_dead-requires-in-Ok-clause-ready g c m is = subst (λ (r : Recovery). IsReady (stage.Dead c.args.commits r) c.args.held.now.tables (at_stage (stage.Dead c.args.commits r) m)) (sym c.undoing-recovery.ensures) (undoing-ready c.args.commits c.in-Ok.rest c.args.held.now.tables _)
 
 pub returns-then-left-eq0-clause-comes : goal.returns-then-left-eq0-clause-comes
 returns-then-left-eq0-clause-comes g c =
