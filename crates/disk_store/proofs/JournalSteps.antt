@@ -23,7 +23,7 @@ use Rattle.disk_seats.specs.Members.{LedgerFacts, IsLeftTo}
 use Rattle.ledger_versions.specs.Readers.{set_waiting}
 use Rattle.ledger_versions.proofs.LinesJoin.{line_journalled}
 use Rattle.member_memory.specs.Memory.{writes_in}
-use Rattle.member_memory.proofs.Growing.{has-it, get-more, length-more}
+use Rattle.member_memory.proofs.Growing.{get-more, length-more}
 use Rattle.disk_store.specs.declared.member.Member.{Member}
 use Rattle.disk_store.specs.declared.member.MemberStage.TheVariants as stage
 use Rattle.disk_store.specs.Memory.{StoreMemory, at_stage, with_member}
@@ -39,7 +39,7 @@ use Rattle.disk_store.proofs.Kept.{kept-stays}
 use Rattle.disk_store.proofs.Stepping.{ComesTo, Related, does-step, becomes-member, space-same}
 use Rattle.disk_store.proofs.Passing.{Passes, passes-aside, aside-ceiling, tables-pass, slots-pass, same-ledger}
 use Rattle.disk_store.proofs.Breaking.{StaysShown, taken-broken, does-break}
-use Rattle.disk_store.proofs.Changed.{some-found}
+use Rattle.disk_store.proofs.SlotsSound.{found-key}
 use Rattle.disk_store.proofs.LeftTo.{left-to, not-borne}
 
 -- ---- what memory has of a key that has no before-image yet
@@ -51,13 +51,7 @@ none-yet g s m key once has is i undo got same =
     let less = get-within has.all i undo got in
     omega (arith, at, less, has.count)
 
--- it is found in memory
-pub found-key : (held : StoreMemory) (sound : IsSound held) (s : ℕ) (m : Member) → slice_get held.members s ≡ Some m → (place : ℕ) (key : Dbkey) → slice_get m.written.keys place ≡ Some key → (line : Line) × (find dbkey_order key m.written.lines ≡ Some line)
-found-key held sound s m was place key is =
-    let keys = (sound.each s m was).keys in
-    some-found (find dbkey_order key m.written.lines) (sym (keys.same key) ∙ has-it m.written.keys place key is)
-
--- and lies within the limit of pages
+-- it lies within the limit of pages
 pub key-within : (v : View) (held : StoreMemory) (sound : IsSound held) (s : ℕ) (m : Member) (was : slice_get held.members s ≡ Some m) (key : Dbkey) (line : Line) → find dbkey_order key m.written.lines ≡ Some line → (h : Shelf) (shown : Shown v held h) → key.page ≤ shown.ledger.base.limits.pages
 key-within v held sound s m was key line found h shown =
     let lies = (sound.each s m was).lies key line found in

@@ -35,6 +35,8 @@ pub mod PushSteps
 pub mod ChangeEnds
 pub mod ReadFaults
 pub mod PushFaults
+pub mod ChangeCalls
+pub mod NextPushed
 mod Going
 mod Begun
 mod Seeing

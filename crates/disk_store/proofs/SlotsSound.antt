@@ -3,11 +3,14 @@ use Rattle.std.proofs.Common.{◌≡◌, ◌≢◌, ◌≤◌, ◌<◌, ◌+◌,
 use Rattle.std.specs.Prelude.{slice_get, slice_set, sum_by}
 use Rattle.std.specs.Ordering.{is_eq}
 use Rattle.std.specs.FinMap.Entries.{find, find-put}
+use Rattle.std.proofs.lemmas.Bool.{eqb-true}
 use Rattle.std.proofs.lemmas.Option.{same_Some}
 use Rattle.rdb_types.specs.declared.keys.Dbkey.{Dbkey}
 use Rattle.rdb_types.specs.declared.keys.Line.{Line}
 use Rattle.rdb_types.specs.Order.{dbkey_order}
 use Rattle.rdb_types.specs.OrderLaws.{dbkey_total, same_dbkey}
+use Rattle.rdb_outside.specs.Disk.{View}
+use Rattle.line_versions.specs.Versions.{snap_of}
 use Rattle.stable_lines.specs.Slots.{IsAreaFile}
 use Rattle.line_moves.proofs.Putting.{nat_cases}
 use Rattle.version_writing.specs.Slots.{SlotTable, Spends, without_aside}
@@ -15,13 +18,33 @@ use Rattle.version_writing.specs.Tables.{table_of}
 use Rattle.version_writing.specs.declared.snapshot_slots.Wanted.{Wanted}
 use Rattle.version_writing.specs.declared.snapshot_slots.SnapshotSlots.{SnapshotSlots}
 use Rattle.member_memory.specs.Memory.{Memory, AreKeysOf}
-use Rattle.member_memory.proofs.Growing.{tied}
+use Rattle.member_memory.proofs.Growing.{has-it, tied}
 use Rattle.disk_store.specs.declared.member.Member.{Member}
+use Rattle.disk_store.specs.declared.member.MemberStage.TheVariants as stage
 use Rattle.disk_store.specs.declared.held.Tables.{Tables}
-use Rattle.disk_store.specs.ChangeSteps.{Rechains, rechained, no_slots, one_less, spent, without_asides}
+use Rattle.disk_store.specs.ChangeSteps.{HasAside, IsNext, Rechains, TakesAside, rechained, no_slots, one_less, spent, without_asides}
 use Rattle.disk_store.specs.Memory.{StoreMemory, with_member}
 use Rattle.disk_store.specs.Sound.{LiesIn, IsSoundMember, wanted_in, aside_in, IsSound}
+use Rattle.disk_store.proofs.Changed.{some-found}
 use Rattle.disk_store.proofs.Sound.{Lessens, sound-member, sum-set}
+
+-- ---- keys
+
+-- a key of a member is found in memory
+pub found-key : (held : StoreMemory) (sound : IsSound held) (s : ℕ) (m : Member) → slice_get held.members s ≡ Some m → (place : ℕ) (key : Dbkey) → slice_get m.written.keys place ≡ Some key → (line : Line) × (find dbkey_order key m.written.lines ≡ Some line)
+found-key held sound s m was place key is =
+    let keys = (sound.each s m was).keys in
+    some-found (find dbkey_order key m.written.lines) (sym (keys.same key) ∙ has-it m.written.keys place key is)
+
+pub next-its : (members : List Member) (s : ℕ) (key : Dbkey) (m : Member) → slice_get members s ≡ Some m → IsNext members s key → (m.stage ≡ stage.Changing) × (slice_get m.written.keys m.pushed ≡ Some key)
+next-its members s key m was next =
+    let one = same_Some next.member m (sym next.is ∙ was) in (
+      subst (λ (x : Member). x.stage ≡ stage.Changing) one next.at,
+      subst (λ (x : Member). slice_get x.written.keys x.pushed ≡ Some key) one next.next,
+    )
+
+pub aside-its : (members : List Member) (s file : ℕ) (m : Member) → slice_get members s ≡ Some m → HasAside members s file → 1 ≤ wanted_in file m.aside
+aside-its members s file m was has = subst (λ (x : Member). 1 ≤ wanted_in file x.aside) (same_Some has.member m (sym has.is ∙ was)) has.some
 
 -- ---- what is wanted of a file
 
@@ -50,27 +73,30 @@ less-beside wanted = each-file (λ f. (file : ℕ) → IsAreaFile file → file 
     (each-file (λ file. file ≢ 3 → wanted_in file (one_less 3 wanted) ≡ wanted_in file wanted) (λ off. refl) (λ off. refl) (λ off. absurd (off refl)))
 
 -- of no file it is more
+abbrev fewer-first : Wanted → Wanted
+fewer-first wanted = record { catalog = wanted.catalog - 1; relations = wanted.relations; indexes = wanted.indexes }
+
+abbrev fewer-second : Wanted → Wanted
+fewer-second wanted = record { catalog = wanted.catalog; relations = wanted.relations - 1; indexes = wanted.indexes }
+
+abbrev fewer-third : Wanted → Wanted
+fewer-third wanted = record { catalog = wanted.catalog; relations = wanted.relations; indexes = wanted.indexes - 1 }
+
+in-file : (less wanted : Wanted) (file : ℕ) → less.catalog ≤ wanted.catalog → less.relations ≤ wanted.relations → less.indexes ≤ wanted.indexes → wanted_in file less ≤ wanted_in file wanted
+in-file less wanted file x y z = by (file == 1) (file == 2)
+  where
+    by : (a b : Bool) → (if a then less.catalog else (if b then less.relations else less.indexes)) ≤ (if a then wanted.catalog else (if b then wanted.relations else wanted.indexes))
+    by true b = x
+    by false true = y
+    by false false = z
+
 no-more : (wanted : Wanted) (f file : ℕ) → wanted_in file (one_less f wanted) ≤ wanted_in file wanted
 no-more wanted f file = by (f == 1) (f == 2)
   where
-    first : Wanted
-    first = record { catalog = wanted.catalog - 1; relations = wanted.relations; indexes = wanted.indexes }
-
-    second : Wanted
-    second = record { catalog = wanted.catalog; relations = wanted.relations - 1; indexes = wanted.indexes }
-
-    third : Wanted
-    third = record { catalog = wanted.catalog; relations = wanted.relations; indexes = wanted.indexes - 1 }
-
-    in-file : (less : Wanted) → less.catalog ≤ wanted.catalog → less.relations ≤ wanted.relations → less.indexes ≤ wanted.indexes → (a b : Bool) → (if a then less.catalog else (if b then less.relations else less.indexes)) ≤ (if a then wanted.catalog else (if b then wanted.relations else wanted.indexes))
-    in-file less x y z true b = x
-    in-file less x y z false true = y
-    in-file less x y z false false = z
-
-    by : (a b : Bool) → wanted_in file (if a then first else (if b then second else third)) ≤ wanted_in file wanted
-    by true b = in-file first (omega arith) (omega arith) (omega arith) (file == 1) (file == 2)
-    by false true = in-file second (omega arith) (omega arith) (omega arith) (file == 1) (file == 2)
-    by false false = in-file third (omega arith) (omega arith) (omega arith) (file == 1) (file == 2)
+    by : (a b : Bool) → wanted_in file (if a then fewer-first wanted else (if b then fewer-second wanted else fewer-third wanted)) ≤ wanted_in file wanted
+    by true b = in-file (fewer-first wanted) wanted file (omega arith) (omega arith) (omega arith)
+    by false true = in-file (fewer-second wanted) wanted file (omega arith) (omega arith) (omega arith)
+    by false false = in-file (fewer-third wanted) wanted file (omega arith) (omega arith) (omega arith)
 
 pub spent-no-more : (chain f : ℕ) (wanted : Wanted) (file : ℕ) → wanted_in file (spent chain f wanted) ≤ wanted_in file wanted
 spent-no-more chain f wanted file = by (chain == 0)
@@ -87,12 +113,15 @@ KeepsAsides before after old new = (file : ℕ) → IsAreaFile file → wanted_i
 
 -- where a slot was taken
 pub spent-keeps : (chain f : ℕ) (wanted : Wanted) (old new : SnapshotSlots) → IsAreaFile f → 1 ≤ wanted_in f wanted → (chain ≡ 0 → new ≡ old) → ((file : ℕ) → IsAreaFile file → file ≢ f → table_of new file ≡ table_of old file) → Spends (table_of old f) (table_of new f) → KeepsAsides wanted (spent chain f wanted) old new
-spent-keeps zero f wanted old new is some keeps others spends file there = let same = ap (λ (x : SnapshotSlots). (table_of x file).aside) (keeps refl) in omega (arith, same)
-spent-keeps (suc k) f wanted old new is some keeps others spends file there = elim (nat_cases file f) [
-  | inl same ↦ subst (λ (n : ℕ). wanted_in n (one_less f wanted) + (table_of old n).aside ≤ wanted_in n wanted + (table_of new n).aside) (sym same)
-      (let one = less-here wanted f is in let less = spends.aside in omega (arith, one, less, some))
-  | inr apart ↦ (let one = less-beside wanted f is file there apart in let same = ap (λ (t : SlotTable). t.aside) (others file there apart) in omega (arith, one, same))
-]
+spent-keeps chain f wanted old new is some keeps others spends file there = by (chain == 0) refl
+  where
+    by : (b : Bool) → (chain == 0) ≡ b → wanted_in file (if b then wanted else one_less f wanted) + (table_of old file).aside ≤ wanted_in file wanted + (table_of new file).aside
+    by true e = let same = ap (λ (x : SnapshotSlots). (table_of x file).aside) (keeps (eqb-true chain 0 e)) in omega (arith, same)
+    by false e = elim (nat_cases file f) [
+      | inl same ↦ subst (λ (n : ℕ). wanted_in n (one_less f wanted) + (table_of old n).aside ≤ wanted_in n wanted + (table_of new n).aside) (sym same)
+          (let one = less-here wanted f is in let less = spends.aside in omega (arith, one, less, some))
+      | inr apart ↦ (let one = less-beside wanted f is file there apart in let same = ap (λ (t : SlotTable). t.aside) (others file there apart) in omega (arith, one, same))
+    ]
 
 -- where none is set aside any more
 pub left-keeps : (wanted : Wanted) (slots : SnapshotSlots) → KeepsAsides wanted no_slots slots (without_asides wanted slots)
@@ -116,6 +145,13 @@ sound-slots h s m n slots was sound its less keeps =
           let kept = keeps file is in
           omega (arith, sum, all, kept);
     }
+
+-- where one was taken for a line, or none
+pub sound-spent : (v w : View) (h : StoreMemory) (s : ℕ) (m n : Member) (key : Dbkey) (chain : ℕ) (slots : SnapshotSlots) → TakesAside v w key chain h.slots slots → IsAreaFile (snap_of key) → 1 ≤ wanted_in (snap_of key) m.aside → n.aside ≡ spent chain (snap_of key) m.aside
+    → slice_get h.members s ≡ Some m → IsSound h → IsSoundMember h.tables n → ((q : Dbkey) (line : Line) → find dbkey_order q n.written.lines ≡ Some line → (before : Line) × (find dbkey_order q m.written.lines ≡ Some before)) → IsSound (record (with_member s n h) { slots = slots })
+sound-spent v w h s m n key chain slots takes is some aside was sound its lines = sound-slots h s m n slots was sound its
+    (record { lines = lines; asides = λ file. subst (λ (x : Wanted). wanted_in file x ≤ wanted_in file m.aside) (sym aside) (spent-no-more chain (snap_of key) m.aside file) })
+    (subst (λ (x : Wanted). KeepsAsides m.aside x h.slots slots) (sym aside) (spent-keeps chain (snap_of key) m.aside h.slots slots is some takes.keeps takes.others takes.spends))
 
 -- what is set aside for a session, is set aside of the file
 pub aside-there : (h : StoreMemory) (s : ℕ) (m : Member) → slice_get h.members s ≡ Some m → IsSound h → (file : ℕ) → IsAreaFile file → wanted_in file m.aside ≤ (table_of h.slots file).aside

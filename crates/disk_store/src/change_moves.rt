@@ -3,7 +3,6 @@ ghost use Rattle.std.specs.Prelude.{◌≡◌, ◌≤◌, Some, slice_get, OnOk,
 ghost use Rattle.rdb_outside.specs.Causes.{Rose};
 ghost use Rattle.line_store.specs.Seats.{IsMember};
 ghost use Rattle.line_moves.specs.Changes.{IsPlaceOf};
-ghost use Rattle.line_versions.specs.Versions.{snap_of};
 ghost use Rattle.disk_store.specs.declared.member.Member.{Member as Sits};
 ghost use Rattle.disk_store.specs.declared.member.MemberStage.TheVariants.{Changing};
 ghost use Rattle.disk_store.specs.ChangeSteps.{BreaksOff, HasAside, IsNext, PassesNext, PushesNext, Unjournalled, change_ended, journalled_more, named_now, spent};
@@ -70,7 +69,7 @@ impl Held {
         requires member { IsMember s.number }
         requires next { IsNext self.old.members s.number key }
         requires place { IsPlaceOf key place }
-        requires aside { HasAside self.old.members s.number (snap_of key) }
+        requires aside { HasAside self.old.members s.number place.file }
         ensures pushed { OnOk result (PushesNext s.number key (D.view disk.old) (D.view disk.new) self.old self.new) }
         ensures breaks { OnErr result (BreaksOff s.number key (D.view disk.old) (D.view disk.new) self.old self.new) }
         ensures failed { IsErrOf result Fault.Failed

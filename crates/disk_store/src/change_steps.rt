@@ -6,13 +6,13 @@ ghost use Rattle.rdb_outside.specs.Disk.{OnlyReads};
 ghost use Rattle.line_store.specs.Seats.{IsMember};
 ghost use Rattle.line_store.specs.Sights.{Does, IsLess, MayAnswer, Steps, stepped_to};
 ghost use Rattle.line_store.specs.declared.answers.Stepped.TheVariants as stepped;
-ghost use Rattle.line_versions.specs.Versions.{snap_of};
 ghost use Rattle.stable_lines.specs.Slots.{line_at as line_named, ruj_file as journal_named};
 ghost use Rattle.line_moves.specs.Changes.{IsPlaceOf};
 ghost use Rattle.disk_store.specs.declared.member.MemberStage.TheVariants as stage;
 ghost use Rattle.disk_store.specs.ChangeSteps.{HasAside, IsNext, ThroughAt, Unjournalled, Unpushed};
 ghost use Rattle.disk_store.specs.Seats.{IsAtStage, stand_at};
 ghost use Rattle.disk_store.specs.Shown.{sight_of};
+ghost use Rattle.disk_store.specs.Sound.{wanted_in};
 
 use crate::{Held, MemberStage};
 use line_moves::{Place, area_file, line_at, place_of, ruj_file};
@@ -20,6 +20,7 @@ use line_store::{Fault, Stepped};
 use member_steps::{Journalled, journal_next};
 use rdb_outside::Disk;
 use rdb_types::{Dbkey, LineState, Session};
+use version_writing::Wanted;
 
 // The next before-image of the session, or the header before the first. Behind a fault the transaction can only die.
 pub fn journal_key<D: Disk>(disk: &mut D, held: &mut Held, s: Session) -> Result<Stepped, Fault>
@@ -72,7 +73,7 @@ fn push_key<D: Disk>(
     requires changes { Unpushed held.old.members s.number }
     requires next { IsNext held.old.members s.number key }
     requires place { IsPlaceOf key place }
-    requires aside { HasAside held.old.members s.number (snap_of key) }
+    requires aside { HasAside held.old.members s.number place.file }
     ensures answers { MayAnswer (stand_at held.old.members s.number) result }
     ensures comes { Does s.number (stepped_to (stand_at held.old.members s.number) result)
         (Steps s.number result) (sight_of (D.view disk.old) held.old) (sight_of (D.view disk.new) held.new) }
@@ -128,17 +129,25 @@ fn pass_key<D: Disk>(
     Ok(Stepped::More)
 }
 
+// How many of these slots are of a file.
+fn slots_for(wanted: Wanted, file: u32) -> u32
+    ensures { result ≡ wanted_in file wanted }
+{
+    match file {
+        1 => wanted.catalog,
+        2 => wanted.relations,
+        _ => wanted.indexes,
+    }
+}
+
 // Whether a slot of the file is set aside for the session.
 fn has_aside(held: &Held, s: Session, file: u32) -> bool
     requires { IsMember s.number }
     ensures { result ≡ true → HasAside held.now.members s.number file }
 {
-    let aside = held.member(s).aside;
-    match file {
-        1 => aside.catalog > 0,
-        2 => aside.relations > 0,
-        _ => aside.indexes > 0,
-    }
+    let member = held.member(s);
+    let count = slots_for(member.aside, file);
+    count > 0
 }
 
 // The next line of the session is pushed aside, or passed where no slot is set aside for one of its file.

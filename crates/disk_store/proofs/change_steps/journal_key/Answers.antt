@@ -27,28 +27,15 @@ use Rattle.disk_store.specs.Sound.{IsSound}
 use Rattle.disk_store.specs.ChangeSteps.{Unjournalled, named_now, journalled_more}
 use Rattle.disk_store.proofs.Members.{set-here, get-within}
 use Rattle.disk_store.proofs.Closing.{one-member}
-use Rattle.disk_store.proofs.JournalSteps.{found-key, does-name, named-fewer, does-journal, journalled-fewer, header-facts, does-fault}
+use Rattle.disk_store.proofs.ChangeCalls.{fault-cause, place-for, fewer-at}
+use Rattle.disk_store.proofs.JournalSteps.{does-name, named-fewer, does-journal, journalled-fewer, header-facts, does-fault}
 use Rattle.disk_store.proofs.change_steps.journal_key.Goals as goal
-
-place-for : (held : StoreMemory) (sound : IsSound held) (s : _) (m : Member) (was : slice_get held.members s ≡ Some m) (place : _) (key : Dbkey) → slice_get m.written.keys place ≡ Some key → (p : Place) × IsPlaceOf key p
-place-for held sound s m was place key is = let f = found-key held sound s m was place key is in let lies = (sound.each s m was).lies key f.0 f.1 in (lies.place, lies.is)
-
-cause-of : (fault : Fault) (old new : Clock) → (fault ≡ Failed → Rose old.faults new.faults) → HasCause fault old new
-cause-of Failed old new rose = rose refl
-cause-of (Bad file slot) old new rose = tt
 
 behind-image : (w : View) (what : Journalled) (s : ℕ) (all : List Undo) (undo : Undo) (stable : ℕ) (g : Ledger) → what ≡ BeforeImage → LedgerFacts w (ledger_with what s all undo stable g) → LedgerFacts w (stands_as s (changing (all ++ undo ∷ []) stable) g)
 behind-image w what s all undo stable g same facts = subst (λ (x : Journalled). LedgerFacts w (ledger_with x s all undo stable g)) same facts
 
 behind-header : (w : View) (what : Journalled) (s : ℕ) (all : List Undo) (undo : Undo) (stable : ℕ) (g : Ledger) → what ≡ Header → LedgerFacts w (ledger_with what s all undo stable g) → LedgerFacts w g
 behind-header w what s all undo stable g same facts = subst (λ (x : Journalled). LedgerFacts w (ledger_with x s all undo stable g)) same facts
-
--- less is left of a member that was another
-fewer-at : (members behind : List Member) (s : ℕ) (m n : Member) → slice_get members s ≡ Some m → behind ≡ slice_set members s n → steps_in n.stage n < steps_in m.stage m → steps_at behind s < steps_at members s
-fewer-at members behind s m n was is less =
-    let new : steps_at behind s ≡ steps_in n.stage n = ap (λ ms. steps_at ms s) is ∙ ap steps_of (set-here members s n (get-within members s m was)) in
-    let old : steps_at members s ≡ steps_in m.stage m = ap steps_of was in
-    omega (arith, new, old, less)
 
 pub unreachable-requires : goal.unreachable-requires
 unreachable-requires g c =
@@ -88,7 +75,7 @@ returns-in-Err-clause-comes g c =
     subst (λ (new : StoreMemory). Does s (stand_at held.members s) (λ h k. Fails s c.in-Err.fault h k) (sight_of v held) (sight_of w new)) (sym (comes.2 ∙ ap (λ (x : Member). with_member s (at_stage stage.Broken x) held) same))
     (does-fault v w held s m c.member-member.ensures c.sound.ensures at c.journal_next.ensures.writes.0 c.journal_next.ensures.writes.1
     (λ t ledger has facts. c.journal_next.ensures.keeps t ledger has.transaction has.all has.stable facts has.stands has.is_open has.number has.count) c.in-Err.fault
-    (cause-of c.in-Err.fault (record { time = v.moment; faults = v.faults }) (record { time = w.moment; faults = w.faults }) (λ e. c.in-Err.ensures.failed (ap Err e))))
+    (fault-cause c.in-Err.fault (record { time = v.moment; faults = v.faults }) (record { time = w.moment; faults = w.faults }) (λ e. c.in-Err.ensures.failed (ap Err e))))
 
 pub returns-in-Ok-BeforeImage-clause-comes : goal.returns-in-Ok-BeforeImage-clause-comes
 returns-in-Ok-BeforeImage-clause-comes g c =
