@@ -8,7 +8,7 @@ pub journal_key-requires-clause-changes : goal.journal_key-requires-clause-chang
 journal_key-requires-clause-changes g c =
     let m : Member = c.member-member.result.now in
     let at = c.requires.changes in
-    let keys = ap (λ ks. length ks) c.keys-count.ensures.value in
+    let keys = ap (λ ks. length ks) c.keys.ensures.value in
     record {
       member = m;
       is = c.member-member.ensures;
@@ -20,7 +20,7 @@ pub push_or_pass-requires-clause-changes : goal.push_or_pass-requires-clause-cha
 push_or_pass-requires-clause-changes g c =
     let m : Member = c.member-member.result.now in
     let at = c.requires.changes in
-    let keys = ap (λ ks. length ks) c.keys-count.ensures.value in
+    let keys = ap (λ ks. length ks) c.keys.ensures.value in
     record {
       member = m;
       is = c.member-member.ensures;
@@ -33,7 +33,7 @@ pub end_change-requires-clause-through : goal.end_change-requires-clause-through
 end_change-requires-clause-through g c =
     let m : Member = c.member-member.result.now in
     let at = c.requires.changes in
-    let keys = ap (λ ks. length ks) c.keys-count.ensures.value in
+    let keys = ap (λ ks. length ks) c.keys.ensures.value in
     record {
       member = m;
       is = c.member-member.ensures;

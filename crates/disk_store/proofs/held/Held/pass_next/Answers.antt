@@ -26,7 +26,7 @@ invariant_of-self c =
     let n : Member = pushed_more c.set_chain.new.self m in (
       set-long i.members.items s n ∙ c.self.invariant.0,
       sound-member h s m n is c.self.invariant.1
-          (sound-rechained h.tables m c.set_chain.new.self key 0 its found.0 found.1 rechains n refl refl c.keys-_keys.ensures.its (subst (λ (ks : List Dbkey). length ks < 2 ^ 32) c.keys-_keys.ensures.value c.keys-_keys.ensures.few))
+          (sound-rechained h.tables m c.set_chain.new.self key 0 its found.0 found.1 rechains n refl refl c.keys-keys.ensures.its (subst (λ (ks : List Dbkey). length ks < 2 ^ 32) c.keys-keys.ensures.value c.keys-keys.ensures.few))
           (rechained-lessens h.tables m c.set_chain.new.self key 0 its found.0 found.1 rechains n refl (λ file. omega arith)),
       free-kept h s m n c.requires.member is (ap is_free next.0) c.self.invariant.2,
     )

@@ -162,7 +162,7 @@ invariant_of-self-2 g c =
     let n : Member = record m { written = c.set_chain.new.self; pushed = m.pushed + 1; aside = c.spend-member.result } in (
       set-long i.members.items s n ∙ c.self.invariant.0,
       sound-spent v w h s m n key chain slots takes (is_file key c.args.place c.requires.place) some left is c.self.invariant.1
-          (sound-rechained h.tables m c.set_chain.new.self key chain (c.self.invariant.1.each s m is) found.0 found.1 rechains n refl refl c.keys-_keys.ensures.its (subst (λ (ks : List Dbkey). length ks < 2 ^ 32) c.keys-_keys.ensures.value c.keys-_keys.ensures.few))
+          (sound-rechained h.tables m c.set_chain.new.self key chain (c.self.invariant.1.each s m is) found.0 found.1 rechains n refl refl c.keys-keys.ensures.its (subst (λ (ks : List Dbkey). length ks < 2 ^ 32) c.keys-keys.ensures.value c.keys-keys.ensures.few))
           (λ q line there. let old = line-before h.tables m c.set_chain.new.self key chain (c.self.invariant.1.each s m is) found.0 found.1 rechains q line there in (old.0, old.1)),
       slots-kept (with_member s n h) slots (free-kept h s m n c.requires.member is (ap is_free next.0) c.self.invariant.2),
     )
