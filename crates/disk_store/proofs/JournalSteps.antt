@@ -29,14 +29,14 @@ use Rattle.disk_store.specs.declared.member.MemberStage.TheVariants as stage
 use Rattle.disk_store.specs.Memory.{StoreMemory, at_stage, with_member}
 use Rattle.disk_store.specs.Seats.{seat_with, stand_of, stand_at, steps_in}
 use Rattle.disk_store.specs.Standing.{HasBegun, StageStands}
-use Rattle.disk_store.specs.Shown.{WaitPushed, WaitsAs, Shown, pages_of, sight_of}
+use Rattle.disk_store.specs.Shown.{WaitPushed, WaitsAs, Shown, sight_of}
 use Rattle.disk_store.specs.Sound.{IsSound}
 use Rattle.disk_store.specs.ChangeSteps.{named_now, journalled_more}
 use Rattle.disk_store.proofs.Moving.{itself}
 use Rattle.disk_store.proofs.Members.{get-within}
 use Rattle.disk_store.proofs.Beside.{StaysOf, stays-there}
 use Rattle.disk_store.proofs.Kept.{kept-stays}
-use Rattle.disk_store.proofs.Stepping.{ComesTo, Related, does-step, becomes-member, space-same}
+use Rattle.disk_store.proofs.Stepping.{ComesTo, does-step, becomes-member, space-same}
 use Rattle.disk_store.proofs.Passing.{Passes, passes-aside, aside-ceiling, tables-pass, slots-pass, same-ledger}
 use Rattle.disk_store.proofs.Breaking.{StaysShown, taken-broken, does-break}
 use Rattle.disk_store.proofs.SlotsSound.{found-key}

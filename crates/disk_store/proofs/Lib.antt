@@ -46,6 +46,7 @@ mod Taking
 pub mod PutBack
 pub mod Raising
 mod FewSteps
+mod Classed
 pub mod Judged
 pub mod Ordered
 pub mod LinesPut

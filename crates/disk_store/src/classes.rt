@@ -33,8 +33,8 @@ impl Held {
         self.sound();
         let lines = self.written(s).lines();
         let mut classes = Vec::new(self.alloc);
-        for place in 0..lines.len() {
-            classes.push(self.class_at(lines[place].0))?;
+        for line in lines {
+            classes.push(self.class_at(line.0))?;
         }
         Ok(classes)
     }

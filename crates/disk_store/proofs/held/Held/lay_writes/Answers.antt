@@ -1,12 +1,12 @@
-use Rattle.std.proofs.Common.{◌≡◌, List, length, Some, false, refl, sym, ap, subst, ◌∙◌, arith}
-use Rattle.std.specs.Prelude.{slice_get, slice_set}
+use Rattle.std.proofs.Common.{◌≡◌, List, length, Some, false, refl, sym, ap, subst, ◌∙◌, arith, rules}
+use Rattle.std.specs.Prelude.{slice_get}
 use Rattle.rdb_types.specs.declared.keys.Dbkey.{Dbkey}
 use Rattle.version_writing.specs.declared.snapshot_slots.SnapshotSlots.{SnapshotSlots}
 use Rattle.disk_store.specs.declared.member.Member.{Member}
 use Rattle.disk_store.specs.declared.member.MemberStage.TheVariants as stage
 use Rattle.disk_store.specs.Memory.{StoreMemory, with_member}
 use Rattle.disk_store.specs.Sound.{IsSound}
-use Rattle.disk_store.specs.Changing.{AreFit, with_asides, changing_with}
+use Rattle.disk_store.specs.Changing.{AreFit, Stops, StopsAt, with_asides, changing_with}
 use Rattle.disk_store.proofs.Members.{lent-there, set-long}
 use Rattle.disk_store.proofs.LaidLines.{laid-sound}
 use Rattle.disk_store.proofs.CommitsKept.{free-kept, slots-kept}
@@ -51,3 +51,16 @@ returns-clause-laid c =
           ∙ ap (λ (sl : SnapshotSlots). after c m.written.keys sl) c.in_ok-wanted.ensures.aside
           ∙ ap (λ (h : StoreMemory). record (with_member c.args.s.number (changing_with c.lay_lines.new.lines c.in_ok-wanted.wanted m) h) { slots = with_asides c.in_ok-wanted.wanted h.slots }) c.self.view_is;
     }
+
+pub returns-in_err-wanted-clause-cause : goal.returns-in_err-wanted-clause-cause
+returns-in_err-wanted-clause-cause c =
+    let i = c.self.inside in
+    let s = c.args.s.number in
+    let m : Member = c.index_mut-member.result.now in
+    let is : slice_get i.members.items s ≡ Some m = lent-there i.members.items s m (omega (arith, c.self.invariant.0, c.requires.member.last)) c.index_mut-member.ensures.value in
+    let stopped : StopsAt s c.args.writes.now c.args.self.now c.in_err-wanted.field-0.0 = record {
+      member = m;
+      was = ap (λ (h : StoreMemory). slice_get h.members s) (sym c.self.view_is) ∙ is;
+      stops = subst (λ (h : StoreMemory). Stops m.written c.args.writes.now h.slots h.limits.entries c.in_err-wanted.field-0.0) c.self.view_is c.in_err-wanted.ensures.cause;
+    } in
+    search (rules, stopped)
