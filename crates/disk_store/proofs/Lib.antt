@@ -25,18 +25,7 @@ pub mod LaidLines
 pub mod SlotsSound
 pub mod Changed
 pub mod Stopping
-pub mod LeftTo
-pub mod SnapWritten
-pub mod Breaking
 pub mod SpentSlots
-pub mod WaitMore
-pub mod JournalSteps
-pub mod PushSteps
-pub mod ChangeEnds
-pub mod ReadFaults
-pub mod PushFaults
-pub mod ChangeCalls
-pub mod NextPushed
 mod Going
 mod Begun
 mod Seeing

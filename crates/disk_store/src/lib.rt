@@ -4,7 +4,6 @@
 mod before_images;
 mod beginning;
 mod change_moves;
-mod change_steps;
 mod changing;
 mod classes;
 mod dying;
@@ -25,7 +24,6 @@ mod starts;
 mod undoing;
 
 pub use beginning::{ask, draw};
-pub use change_steps::{broken_step, change_step};
 pub use changing::change;
 pub use dying::die;
 pub use endings::{bury, put_away};

@@ -2,7 +2,7 @@ use Rattle.std.proofs.Common.{◌≡◌, ◌≤◌, ◌<◌, ℕ, length, List, 
 use Rattle.std.proofs.lemmas.Option.{same_Some}
 use Rattle.disk_store.specs.declared.member.Member.{Member}
 use Rattle.disk_store.specs.declared.member.MemberStage.TheVariants as stage
-use Rattle.disk_store.proofs.change_steps.change_step.Goals as goal
+use Rattle.change_steps.proofs.steps.change_step.Goals as goal
 
 pub journal_key-requires-clause-changes : goal.journal_key-requires-clause-changes
 journal_key-requires-clause-changes g c =

@@ -8,10 +8,10 @@ use Rattle.disk_store.specs.declared.member.MemberStage.TheVariants as stage
 use Rattle.disk_store.specs.Memory.{StoreMemory}
 use Rattle.disk_store.specs.Seats.{stand_at}
 use Rattle.disk_store.specs.Shown.{sight_of}
-use Rattle.disk_store.proofs.ChangeCalls.{fault-cause}
-use Rattle.disk_store.proofs.ReadFaults.{does-read-fail}
-use Rattle.disk_store.proofs.NextPushed.{does-next-pass, next-passed-less}
-use Rattle.disk_store.proofs.change_steps.pass_key.Goals as goal
+use Rattle.change_steps.proofs.ChangeCalls.{fault-cause}
+use Rattle.change_steps.proofs.ReadFaults.{does-read-fail}
+use Rattle.change_steps.proofs.NextPushed.{does-next-pass, next-passed-less}
+use Rattle.change_steps.proofs.pushing.pass_key.Goals as goal
 
 pub returns-in-Err-clause-comes : goal.returns-in-Err-clause-comes
 returns-in-Err-clause-comes g c =

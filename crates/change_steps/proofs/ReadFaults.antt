@@ -18,7 +18,7 @@ use Rattle.disk_store.specs.Shown.{Shown, sight_of}
 use Rattle.disk_store.proofs.Kept.{kept-stays}
 use Rattle.disk_store.proofs.Stepping.{becomes-member, space-same}
 use Rattle.disk_store.proofs.Passing.{Passes, passes-reads, reads-leave, reads-ceiling, tables-pass, slots-pass}
-use Rattle.disk_store.proofs.Breaking.{StaysShown, taken-broken, does-break}
+use Rattle.change_steps.proofs.Breaking.{StaysShown, taken-broken, does-break}
 
 module _ (v w : View) (held : StoreMemory) (s : ℕ) (m : Member) (was : slice_get held.members s ≡ Some m) (at : m.stage ≡ stage.Changing) (reads : OnlyReads v w) where
   abbrev n : Member

@@ -38,9 +38,9 @@ use Rattle.disk_store.proofs.Beside.{StaysOf, stays-there}
 use Rattle.disk_store.proofs.Kept.{kept-stays}
 use Rattle.disk_store.proofs.Stepping.{ComesTo, does-step, becomes-member, space-same}
 use Rattle.disk_store.proofs.Passing.{Passes, passes-aside, aside-ceiling, tables-pass, slots-pass, same-ledger}
-use Rattle.disk_store.proofs.Breaking.{StaysShown, taken-broken, does-break}
+use Rattle.change_steps.proofs.Breaking.{StaysShown, taken-broken, does-break}
 use Rattle.disk_store.proofs.SlotsSound.{found-key}
-use Rattle.disk_store.proofs.LeftTo.{left-to, not-borne}
+use Rattle.change_steps.proofs.LeftTo.{left-to, not-borne}
 
 -- ---- what memory has of a key that has no before-image yet
 

@@ -49,10 +49,10 @@ use Rattle.disk_store.proofs.Kept.{kept-stays}
 use Rattle.disk_store.proofs.Stepping.{ComesTo, Becomes, does-step}
 use Rattle.disk_store.proofs.Passing.{Passes, passes-reads, reads-leave, reads-ceiling, aside-ceiling, tables-pass, slots-pass}
 use Rattle.disk_store.proofs.Changed.{got-within, used-all}
-use Rattle.disk_store.proofs.LeftTo.{not-borne}
-use Rattle.disk_store.proofs.SnapWritten.{areas, snap-keeps, snap-tables}
+use Rattle.change_steps.proofs.LeftTo.{not-borne}
+use Rattle.change_steps.proofs.SnapWritten.{areas, snap-keeps, snap-tables}
 use Rattle.disk_store.proofs.SpentSlots.{space-less, keeps-less, stands-less}
-use Rattle.disk_store.proofs.WaitMore.{none-waits, puts-in, wait-more}
+use Rattle.change_steps.proofs.WaitMore.{none-waits, puts-in, wait-more}
 use Rattle.disk_store.proofs.SlotsSound.{found-key}
 
 -- ---- what the ledger has of the line

@@ -18,9 +18,9 @@ use Rattle.disk_store.specs.Shown.{sight_of}
 use Rattle.disk_store.specs.Sound.{IsSound}
 use Rattle.disk_store.proofs.Members.{get-within}
 use Rattle.disk_store.proofs.Changed.{used-all}
-use Rattle.disk_store.proofs.PushFaults.{takes-fewer}
-use Rattle.disk_store.proofs.PushSteps.{does-pass, does-push, pushed-fewer}
-use Rattle.disk_store.proofs.ChangeCalls.{fewer-at}
+use Rattle.change_steps.proofs.PushFaults.{takes-fewer}
+use Rattle.change_steps.proofs.PushSteps.{does-pass, does-push, pushed-fewer}
+use Rattle.change_steps.proofs.ChangeCalls.{fewer-at}
 
 module _ (held : StoreMemory) (s : ℕ) (key : Dbkey) (changes : Unpushed held.members s) (next : IsNext held.members s key) (m : Member) (was : slice_get held.members s ≡ Some m) where
   its-stage : m.stage ≡ stage.Changing

@@ -29,9 +29,9 @@ use Rattle.disk_store.proofs.Kept.{kept-stays}
 use Rattle.disk_store.proofs.Stepping.{Becomes}
 use Rattle.disk_store.proofs.Passing.{passes-reads, aside-ceiling, slots-pass}
 use Rattle.disk_store.proofs.Changed.{used-all}
-use Rattle.disk_store.proofs.SnapWritten.{areas, snap-keeps, snap-tables}
+use Rattle.change_steps.proofs.SnapWritten.{areas, snap-keeps, snap-tables}
 use Rattle.disk_store.proofs.SpentSlots.{spends-all, space-less, keeps-less, stands-less}
-use Rattle.disk_store.proofs.Breaking.{StaysShown, taken-broken, does-break}
+use Rattle.change_steps.proofs.Breaking.{StaysShown, taken-broken, does-break}
 
 -- what was taken aside, is no more in use or set aside than before
 pub takes-fewer : (v w : View) (key : Dbkey) (chain : ℕ) (old new : SnapshotSlots) → TakesAside v w key chain old new → used-all new ≤ used-all old

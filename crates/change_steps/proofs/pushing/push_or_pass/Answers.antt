@@ -4,8 +4,8 @@ use Rattle.std.proofs.lemmas.Option.{same_Some, slice_get-get_or}
 use Rattle.rdb_types.specs.declared.keys.Dbkey.{Dbkey}
 use Rattle.disk_store.specs.declared.member.Member.{Member}
 use Rattle.disk_store.specs.declared.member.MemberStage.TheVariants as stage
-use Rattle.disk_store.proofs.ChangeCalls.{place-for}
-use Rattle.disk_store.proofs.change_steps.push_or_pass.Goals as goal
+use Rattle.change_steps.proofs.ChangeCalls.{place-for}
+use Rattle.change_steps.proofs.pushing.push_or_pass.Goals as goal
 
 pub unreachable-requires : goal.unreachable-requires
 unreachable-requires g c =

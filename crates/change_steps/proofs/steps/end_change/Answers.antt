@@ -8,8 +8,8 @@ use Rattle.disk_store.specs.declared.member.MemberStage.TheVariants as stage
 use Rattle.disk_store.specs.Memory.{StoreMemory}
 use Rattle.disk_store.specs.Seats.{stand_at}
 use Rattle.disk_store.specs.Shown.{sight_of}
-use Rattle.disk_store.proofs.ChangeEnds.{does-written}
-use Rattle.disk_store.proofs.change_steps.end_change.Goals as goal
+use Rattle.change_steps.proofs.ChangeEnds.{does-written}
+use Rattle.change_steps.proofs.steps.end_change.Goals as goal
 
 pub returns : goal.returns
 returns g c =

@@ -27,9 +27,9 @@ use Rattle.disk_store.specs.Sound.{IsSound}
 use Rattle.disk_store.specs.ChangeSteps.{Unjournalled, named_now, journalled_more}
 use Rattle.disk_store.proofs.Members.{set-here, get-within}
 use Rattle.disk_store.proofs.Closing.{one-member}
-use Rattle.disk_store.proofs.ChangeCalls.{fault-cause, place-for, fewer-at}
-use Rattle.disk_store.proofs.JournalSteps.{does-name, named-fewer, does-journal, journalled-fewer, header-facts, does-fault}
-use Rattle.disk_store.proofs.change_steps.journal_key.Goals as goal
+use Rattle.change_steps.proofs.ChangeCalls.{fault-cause, place-for, fewer-at}
+use Rattle.change_steps.proofs.JournalSteps.{does-name, named-fewer, does-journal, journalled-fewer, header-facts, does-fault}
+use Rattle.change_steps.proofs.journalling.journal_key.Goals as goal
 
 behind-image : (w : View) (what : Journalled) (s : ℕ) (all : List Undo) (undo : Undo) (stable : ℕ) (g : Ledger) → what ≡ BeforeImage → LedgerFacts w (ledger_with what s all undo stable g) → LedgerFacts w (stands_as s (changing (all ++ undo ∷ []) stable) g)
 behind-image w what s all undo stable g same facts = subst (λ (x : Journalled). LedgerFacts w (ledger_with x s all undo stable g)) same facts
