@@ -1,21 +1,17 @@
 -- A change is through: each line of the session waits as memory has it, and no slot is set aside for it any more.
-use Rattle.std.proofs.Common.{◌≡◌, ◌≢◌, ◌≤◌, ◌<◌, ◌+◌, ◌-◌, ◌==◌, ◌⊎◌, ℕ, zero, suc, Bool, true, false, List, [], length, Option, Some, None, inl, refl, sym, ap, subst, ◌∙◌, arith}
+use Rattle.std.proofs.Common.{◌≡◌, ◌≤◌, ◌-◌, ◌==◌, ℕ, zero, suc, Bool, true, false, List, [], length, Option, Some, None, inl, refl, sym, ap, subst, ◌∙◌, arith}
 use Rattle.std.specs.Prelude.{slice_get, if◌then◌else◌, is_some}
-use Rattle.std.specs.FinMap.Entries.{find}
-use Rattle.std.proofs.lemmas.Option.{same_Some, none-some}
 use Rattle.rdb_types.specs.declared.keys.Dbkey.{Dbkey}
 use Rattle.rdb_types.specs.declared.keys.Line.{Line}
-use Rattle.rdb_types.specs.Order.{dbkey_order}
 use Rattle.rdb_outside.specs.Disk.{View}
 use Rattle.line_view.specs.declared.writes.Write.{Write}
 use Rattle.line_view.specs.Knowledge.{Lines}
 use Rattle.line_store.specs.Seats.{Seat, in_flight, done_at}
-use Rattle.line_store.specs.Shelves.{Shelf, Space}
+use Rattle.line_store.specs.Shelves.{Shelf}
 use Rattle.line_store.specs.Calls.{IsDone}
-use Rattle.line_store.specs.Sights.{bare, seat_or, Does}
+use Rattle.line_store.specs.Sights.{seat_or, Does}
 use Rattle.line_versions.specs.Versions.{Followed}
 use Rattle.line_moves.specs.Lines.{ChangedLines}
-use Rattle.stable_lines.specs.Slots.{Undo}
 use Rattle.version_writing.specs.Slots.{SlotTable, HoldsFile, without_aside}
 use Rattle.version_writing.specs.Tables.{HoldsAll}
 use Rattle.version_writing.specs.declared.snapshot_slots.SnapshotSlots.{SnapshotSlots}
@@ -39,7 +35,7 @@ use Rattle.disk_store.proofs.Beside.{stays-there}
 use Rattle.disk_store.proofs.Kept.{kept-stays}
 use Rattle.disk_store.proofs.Stepping.{ComesTo, Becomes, does-step}
 use Rattle.disk_store.proofs.Passing.{passes-none, none-leaves, tables-pass}
-use Rattle.disk_store.proofs.Changed.{got-within, some-found, used-all}
+use Rattle.disk_store.proofs.Changed.{got-within, used-all}
 use Rattle.disk_store.proofs.FoundLines.{found-there, stands-there, key-there}
 use Rattle.disk_store.proofs.SpentSlots.{space-less, keeps-less, stands-less}
 

@@ -1,6 +1,6 @@
 -- A before-image of a change is written, or the header before the first.
-use Rattle.std.proofs.Common.{◌≡◌, ◌≢◌, ◌≤◌, ◌<◌, ◌+◌, ◌-◌, ◌==◌, ◌++◌, ℕ, Bool, true, false, IsTrue, List, [], ◌∷◌, length, Some, None, ◌⊎◌, inl, inr, refl, sym, ap, subst, ◌∙◌, arith}
-use Rattle.std.specs.Prelude.{slice_get, if◌then◌else◌, is_some}
+use Rattle.std.proofs.Common.{◌≡◌, ◌≢◌, ◌≤◌, ◌<◌, ◌==◌, ◌++◌, ℕ, false, IsTrue, List, [], ◌∷◌, length, Some, None, ◌⊎◌, inl, inr, refl, sym, ap, subst, ◌∙◌, arith}
+use Rattle.std.specs.Prelude.{slice_get, if◌then◌else◌}
 use Rattle.std.specs.FinMap.Entries.{find}
 use Rattle.rdb_types.specs.declared.keys.Dbkey.{Dbkey}
 use Rattle.rdb_types.specs.declared.keys.Line.{Line}
@@ -10,10 +10,10 @@ use Rattle.rdb_outside.specs.Disk.{View, IsPending}
 use Rattle.line_view.specs.declared.writes.Write.{Write}
 use Rattle.line_view.specs.Knowledge.{Lines}
 use Rattle.line_store.specs.Seats.{in_flight}
-use Rattle.line_store.specs.Shelves.{Shelf, Space}
+use Rattle.line_store.specs.Shelves.{Shelf}
 use Rattle.line_store.specs.Calls.{Moves, GoesOn, Fails, HasCause}
 use Rattle.line_store.specs.declared.answers.Fault.{Fault}
-use Rattle.line_store.specs.Sights.{bare, Does}
+use Rattle.line_store.specs.Sights.{Does}
 use Rattle.stable_lines.specs.Slots.{Undo, ruj_file, line_at}
 use Rattle.stable_lines.specs.Image.{IsNoneOf}
 use Rattle.stable_lines.specs.Progress.{Open}
@@ -22,7 +22,6 @@ use Rattle.disk_seats.specs.Ledgers.{broken, changing, Ledger, stands_as}
 use Rattle.disk_seats.specs.Members.{LedgerFacts, IsLeftTo}
 use Rattle.ledger_versions.specs.Readers.{set_waiting}
 use Rattle.ledger_versions.proofs.LinesJoin.{line_journalled}
-use Rattle.member_memory.specs.Memory.{writes_in}
 use Rattle.member_memory.proofs.Growing.{get-more, length-more}
 use Rattle.disk_store.specs.declared.member.Member.{Member}
 use Rattle.disk_store.specs.declared.member.MemberStage.TheVariants as stage

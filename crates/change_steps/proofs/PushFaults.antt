@@ -1,10 +1,10 @@
 -- A push that fails: a slot may have been taken and written, which nobody follows, and the transaction can only end.
-use Rattle.std.proofs.Common.{◌≡◌, ◌≤◌, ◌<◌, ◌-◌, ℕ, zero, suc, Bool, true, false, IsTrue, Some, refl, sym, ap, subst, ◌∙◌, arith}
+use Rattle.std.proofs.Common.{◌≡◌, ◌≤◌, ◌-◌, ℕ, zero, suc, IsTrue, Some, refl, sym, ap, subst, ◌∙◌, arith}
 use Rattle.std.specs.Prelude.{slice_get}
 use Rattle.std.proofs.lemmas.Bool.{false≢true}
 use Rattle.rdb_types.specs.declared.keys.Dbkey.{Dbkey}
 use Rattle.rdb_outside.specs.Disk.{View}
-use Rattle.line_store.specs.Shelves.{Shelf, Space}
+use Rattle.line_store.specs.Shelves.{Shelf}
 use Rattle.line_store.specs.Calls.{Fails, HasCause}
 use Rattle.line_store.specs.Sights.{Does}
 use Rattle.line_store.specs.declared.answers.Fault.{Fault}

@@ -15,7 +15,11 @@ use rdb_outside::Disk;
 use rdb_types::Session;
 
 // The next before-image of the session, or the header before the first. Behind a fault the transaction can only die.
-pub(crate) fn journal_key<D: Disk>(disk: &mut D, held: &mut Held, s: Session) -> Result<Stepped, Fault>
+pub(crate) fn journal_key<D: Disk>(
+    disk: &mut D,
+    held: &mut Held,
+    s: Session,
+) -> Result<Stepped, Fault>
     requires member { IsMember s.number }
     requires changes { Unjournalled held.old.members s.number }
     ensures answers { MayAnswer (stand_at held.old.members s.number) result }

@@ -110,7 +110,11 @@ fn has_aside(held: &Held, s: Session, file: u32) -> bool
 }
 
 // The next line of the session is pushed aside, or passed where no slot is set aside for one of its file.
-pub(crate) fn push_or_pass<D: Disk>(disk: &mut D, held: &mut Held, s: Session) -> Result<Stepped, Fault>
+pub(crate) fn push_or_pass<D: Disk>(
+    disk: &mut D,
+    held: &mut Held,
+    s: Session,
+) -> Result<Stepped, Fault>
     requires member { IsMember s.number }
     requires changes { Unpushed held.old.members s.number }
     ensures answers { MayAnswer (stand_at held.old.members s.number) result }

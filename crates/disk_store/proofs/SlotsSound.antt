@@ -1,6 +1,6 @@
 -- A memory stays sound where slots are taken of those that are set aside for a session, or are given back, and where the chain of one of its lines is another.
 use Rattle.std.proofs.Common.{◌≡◌, ◌≢◌, ◌≤◌, ◌<◌, ◌+◌, ◌-◌, ◌^◌, ◌==◌, ◌⊎◌, inl, inr, ℕ, zero, suc, Bool, true, false, if◌then◌else◌, cond, length, List, Some, refl, sym, ap, subst, ◌∙◌, arith}
-use Rattle.std.specs.Prelude.{slice_get, slice_set, sum_by}
+use Rattle.std.specs.Prelude.{slice_get}
 use Rattle.std.specs.Ordering.{is_eq}
 use Rattle.std.specs.FinMap.Entries.{find, find-put}
 use Rattle.std.proofs.lemmas.Bool.{eqb-true}
@@ -13,7 +13,7 @@ use Rattle.rdb_outside.specs.Disk.{View}
 use Rattle.line_versions.specs.Versions.{snap_of}
 use Rattle.stable_lines.specs.Slots.{IsAreaFile}
 use Rattle.line_moves.proofs.Putting.{nat_cases}
-use Rattle.version_writing.specs.Slots.{SlotTable, Spends, without_aside}
+use Rattle.version_writing.specs.Slots.{SlotTable, Spends}
 use Rattle.version_writing.specs.Tables.{table_of}
 use Rattle.version_writing.specs.declared.snapshot_slots.Wanted.{Wanted}
 use Rattle.version_writing.specs.declared.snapshot_slots.SnapshotSlots.{SnapshotSlots}
@@ -24,7 +24,7 @@ use Rattle.disk_store.specs.declared.member.MemberStage.TheVariants as stage
 use Rattle.disk_store.specs.declared.held.Tables.{Tables}
 use Rattle.disk_store.specs.ChangeSteps.{HasAside, IsNext, Rechains, TakesAside, rechained, no_slots, one_less, spent, without_asides}
 use Rattle.disk_store.specs.Memory.{StoreMemory, with_member}
-use Rattle.disk_store.specs.Sound.{LiesIn, IsSoundMember, wanted_in, aside_in, IsSound}
+use Rattle.disk_store.specs.Sound.{LiesIn, IsSoundMember, wanted_in, IsSound}
 use Rattle.disk_store.proofs.Changed.{some-found}
 use Rattle.disk_store.proofs.Sound.{Lessens, sound-member, sum-set}
 

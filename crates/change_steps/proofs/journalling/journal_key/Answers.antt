@@ -1,19 +1,14 @@
-use Rattle.std.proofs.Common.{◌≡◌, ◌<◌, ◌++◌, ◌∷◌, [], ℕ, List, false, arith, Err, length, slice_index_or, Some, refl, sym, ap, subst, ◌∙◌}
-use Rattle.std.specs.Prelude.{slice_get, slice_set}
+use Rattle.std.proofs.Common.{◌≡◌, ◌<◌, ◌++◌, ◌∷◌, [], ℕ, List, false, arith, Err, length, slice_index_or, Some, sym, ap, subst, ◌∙◌}
+use Rattle.std.specs.Prelude.{slice_get}
 use Rattle.std.proofs.lemmas.Option.{same_Some, slice_get-get_or}
 use Rattle.rdb_types.specs.declared.keys.Dbkey.{Dbkey}
 use Rattle.rdb_outside.specs.Disk.{View}
-use Rattle.rdb_outside.specs.Causes.{Rose}
 use Rattle.stable_lines.specs.Slots.{Undo}
 use Rattle.disk_seats.specs.Ledgers.{changing, Ledger, stands_as}
 use Rattle.rdb_outside.specs.Moments.{each_slot}
-use Rattle.line_store.specs.Calls.{Fails, GoesOn, HasCause}
+use Rattle.line_store.specs.Calls.{Fails, GoesOn}
 use Rattle.line_store.specs.Sights.{Does}
-use Rattle.line_store.specs.Shelves.{Clock}
-use Rattle.line_store.specs.declared.answers.Fault.{Fault}
-use Rattle.line_store.specs.declared.answers.Fault.TheVariants.{Failed, Bad}
-use Rattle.line_moves.specs.declared.places.Place.{Place}
-use Rattle.line_moves.specs.Changes.{IsPlaceOf}
+use Rattle.line_store.specs.declared.answers.Fault.TheVariants.{Bad}
 use Rattle.disk_seats.specs.Members.{LedgerFacts}
 use Rattle.member_steps.specs.Journalling.{ledger_with}
 use Rattle.member_steps.specs.declared.journalling.Journalled.{Journalled}
@@ -21,11 +16,9 @@ use Rattle.member_steps.specs.declared.journalling.Journalled.TheVariants.{Heade
 use Rattle.disk_store.specs.declared.member.Member.{Member}
 use Rattle.disk_store.specs.declared.member.MemberStage.TheVariants as stage
 use Rattle.disk_store.specs.Memory.{StoreMemory, at_stage, with_member}
-use Rattle.disk_store.specs.Seats.{stand_at, steps_at, steps_of, steps_in}
+use Rattle.disk_store.specs.Seats.{stand_at}
 use Rattle.disk_store.specs.Shown.{sight_of}
-use Rattle.disk_store.specs.Sound.{IsSound}
-use Rattle.disk_store.specs.ChangeSteps.{Unjournalled, named_now, journalled_more}
-use Rattle.disk_store.proofs.Members.{set-here, get-within}
+use Rattle.disk_store.specs.ChangeSteps.{named_now, journalled_more}
 use Rattle.disk_store.proofs.Closing.{one-member}
 use Rattle.change_steps.proofs.ChangeCalls.{fault-cause, place-for, fewer-at}
 use Rattle.change_steps.proofs.JournalSteps.{does-name, named-fewer, does-journal, journalled-fewer, header-facts, does-fault}

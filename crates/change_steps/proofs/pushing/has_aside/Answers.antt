@@ -1,4 +1,4 @@
-use Rattle.std.proofs.Common.{◌≡◌, ◌≤◌, ℕ, arith, subst}
+use Rattle.std.proofs.Common.{◌≤◌, ℕ, arith, subst}
 use Rattle.change_steps.proofs.pushing.has_aside.Goals as goal
 
 pub returns : goal.returns

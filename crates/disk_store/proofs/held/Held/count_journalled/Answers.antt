@@ -4,7 +4,7 @@ use Rattle.std.proofs.lemmas.Option.{same_Some}
 use Rattle.disk_store.specs.declared.member.Member.{Member}
 use Rattle.disk_store.specs.declared.member.MemberStage.TheVariants as stage
 use Rattle.disk_store.specs.Commits.{is_free}
-use Rattle.disk_store.specs.ChangeSteps.{named_now, journalled_more}
+use Rattle.disk_store.specs.ChangeSteps.{journalled_more}
 use Rattle.disk_store.specs.Memory.{StoreMemory, with_member}
 use Rattle.disk_store.specs.Sound.{IsSound}
 use Rattle.disk_store.proofs.Members.{lent-there, set-long}

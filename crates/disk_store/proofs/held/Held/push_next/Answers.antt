@@ -12,7 +12,7 @@ use Rattle.disk_store.specs.declared.member.MemberStage.TheVariants as stage
 use Rattle.disk_store.specs.ChangeSteps.{HasAside, IsNext, Rechains, StandsAside, TakesAside, pushed_more, spent, with_spent}
 use Rattle.disk_store.specs.Commits.{is_free}
 use Rattle.disk_store.specs.Memory.{StoreMemory, at_stage, with_member}
-use Rattle.disk_store.specs.Sound.{IsSound, wanted_in}
+use Rattle.disk_store.specs.Sound.{wanted_in}
 use Rattle.disk_store.proofs.Members.{get-within, lent-there, set-long}
 use Rattle.disk_store.proofs.Sound.{sound-as}
 use Rattle.disk_store.proofs.SlotsSound.{aside-its, aside-there, found-key, line-before, next-its, sound-rechained, sound-spent}
