@@ -1,5 +1,5 @@
 -- Behind a need that was read the session is nearer to its end.
-use Rattle.std.proofs.Common.{◌≡◌, ◌<◌, ◌+◌, ◌-◌, ◌*◌, ℕ, List, length, refl, sym, subst, arith, Option, Some, None, slice_get}
+use Rattle.std.proofs.Common.{◌≡◌, ◌+◌, ℕ, List, refl, sym, subst, arith, Option, Some, None, slice_get}
 use Rattle.std.specs.Prelude.{MatchOption}
 use Rattle.rdo_ast.specs.declared.syntax.Item.{Item}
 use Rattle.line_view.specs.declared.need.Need.{Need}

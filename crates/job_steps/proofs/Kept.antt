@@ -1,5 +1,5 @@
 -- What a START_TRANSACTION reserves, and the step that keeps its record.
-use Rattle.std.proofs.Common.{◌≡◌, ℕ, zero, suc, Bool, true, false, [], ◌∷◌, List, refl, sym, ap, subst, Option, Some, None, slice_get}
+use Rattle.std.proofs.Common.{◌≡◌, ℕ, zero, suc, Bool, true, false, [], ◌∷◌, List, sym, ap, subst, Option, Some, slice_get}
 use Rattle.std.specs.Prelude.{MatchOption}
 use Rattle.std.proofs.lemmas.Option.{none-some, same_Some}
 use Rattle.rdo_ast.specs.declared.reply.Standing.{Standing}
@@ -11,12 +11,11 @@ use Rattle.rdo_ast.specs.Views.{uttered_of}
 use Rattle.rdb_types.specs.declared.node.Node.{Node}
 use Rattle.rdb_types.specs.declared.node.Level.{Level}
 use Rattle.rdb_types.specs.declared.node.Level.TheVariants.{Area}
-use Rattle.vms_queues.specs.declared.lock_mode.Mode.{Mode}
 use Rattle.lock_needs.specs.declared.need.Need.{Need}
 use Rattle.lock_needs.specs.Needs.{is_plain, is_plain_at}
 use Rattle.lock_needs.specs.Nodes.{is_on}
 use Rattle.line_steps.specs.Images.{journal_node}
-use Rattle.line_view.specs.Held.{Held, knows}
+use Rattle.line_view.specs.Held.{knows}
 use Rattle.session_jobs.specs.Records.{Model, IsOrderly}
 use Rattle.session_jobs.specs.Jobs.{IsFound, IsLacking, WhereItAgrees}
 use Rattle.session_jobs.specs.declared.jobs.Found.TheVariants.{Done, Missing}

@@ -72,10 +72,13 @@ fn locks_of<S: Reserves>(
         return Ok(None);
     }
     match item {
-        Item::Statement(Statement::StartReadWrite { wait: _, reserved }) if !reserved.is_empty() => {
-            let locks = S::reserved_locks(alloc, &terms.known, reserved.as_slice())?;
-            Ok(Some(locks))
-        }
+        Item::Statement(Statement::StartReadWrite { wait: _, reserved }) if !reserved.is_empty() =>
+            {
+                match S::reserved_locks(alloc, &terms.known, reserved.as_slice()) {
+                    Ok(locks) => Ok(Some(locks)),
+                    Err(why) => Err(why),
+                }
+            }
         _ => Ok(None),
     }
 }

@@ -1,5 +1,5 @@
 -- A step of the phase alone before another one, in one step.
-use Rattle.std.proofs.Common.{◌≡◌, ℕ, List, [], refl}
+use Rattle.std.proofs.Common.{ℕ, List, [], refl}
 use Rattle.rdo_ast.specs.declared.syntax.Item.{Item}
 use Rattle.lock_tree_laws.specs.Forest.{State}
 use Rattle.line_store.specs.Shelves.{Shelf}

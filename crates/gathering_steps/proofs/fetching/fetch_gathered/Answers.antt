@@ -1,9 +1,8 @@
 use Rattle.session_states.specs.declared.stage.Stage.{Stage}
 use Rattle.session_states.specs.declared.stage.Life.TheVariants.{Alive}
-use Rattle.std.proofs.Common.{refl, ap, ◌∙◌, ◌+◌, [], Ok, arith}
+use Rattle.std.proofs.Common.{refl, ap, ◌∙◌, [], Ok, arith}
 use Rattle.session_states.specs.declared.stage.Gather.TheVariants.{Reading}
-use Rattle.session_states.specs.declared.stage.Work.TheVariants.{Due}
-use Rattle.session_states.specs.declared.stage.Stage.TheVariants.{Working, Gathering}
+use Rattle.session_states.specs.declared.stage.Stage.TheVariants.{Gathering}
 use Rattle.session_states.specs.States.{session}
 use Rattle.session_states.proofs.InTurn.{steps-on}
 use Rattle.session_states.proofs.Resting.{rests-by}
@@ -13,7 +12,7 @@ use Rattle.stage_steps.proofs.Goes.{goes, goes-still, goes-behind, comes-as}
 use Rattle.stage_steps.proofs.Resting.{as-before}
 use Rattle.stage_steps.proofs.Seated.{rests-at}
 use Rattle.stage_steps.proofs.Read.{was-read, was-more, was-forgone, was-fault}
-use Rattle.gathering_steps.proofs.Gathered.{gathered-last, gathered-more, gathered-behind}
+use Rattle.gathering_steps.proofs.Gathered.{gathered-more, gathered-behind}
 use Rattle.gathering_steps.proofs.Nearer.{nearer-behind}
 use Rattle.gathering_steps.proofs.Seats.{behind-seat}
 use Rattle.gathering_steps.proofs.fetching.fetch_gathered.Goals as goal

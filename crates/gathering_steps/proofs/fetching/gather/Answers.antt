@@ -1,7 +1,6 @@
-use Rattle.std.proofs.Common.{◌≡◌, ◌∙◌, ap, sym, subst, [], refl, arith}
+use Rattle.std.proofs.Common.{◌∙◌, ap, sym, subst, refl, arith}
 use Rattle.session_states.specs.declared.stage.Gather.TheVariants.{Locking}
 use Rattle.session_states.specs.declared.stage.Stage.{Stage}
-use Rattle.session_states.specs.declared.stage.Stage.TheVariants.{Gathering}
 use Rattle.session_states.specs.declared.stage.Phase.{Phase}
 use Rattle.session_states.proofs.Gathering.{gathers-on}
 use Rattle.session_measure.proofs.Nearer.{nearer-in-round}

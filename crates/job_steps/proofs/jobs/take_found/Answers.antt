@@ -28,6 +28,6 @@ returns-in-Bad-clause-comes g c =
     (goes-still c.args.s.number _ Alive _ Alive _ _ _ refl (λ f. rests-at _ _ c.args.s.number _ f.seat f.wants f.needs f.statement) (λ u other. refl) (nearer-in-round c.args.s.number _ _ _ _ refl refl refl refl (omega arith))
     (λ h shown dead left total. rests-by g.S.Statements.stands g.met.S.Statements.orderly c.args.s.number (shared c.args.common.now.word h c.args.common.now.tree dead) left total _ _ refl (λ o p g1 f. absurd (never-bad g.S.Statements.stands g.met.S.Statements.orderly c.args.s.number (shared c.args.common.now.word h c.args.common.now.tree dead) left total c.args.terms.standing c.args.terms.known c.args.terms.spoken c.args.terms.waits c.args.item c.in-Bad.field-0 (subst (λ (f : Found). IsFound g.S.Statements.stands c.args.common.now.word c.args.terms.standing (uttered_of c.args.item) (knows c.args.terms.known) f) c.in-Bad.is c.requires.found) o p g1 f))))
 
-pub returns-clause-comes : goal.returns-clause-comes
-returns-clause-comes g c =
+pub returns-in-NoMemory-clause-comes : goal.returns-in-NoMemory-clause-comes
+returns-in-NoMemory-clause-comes g c =
     c.forgo.ensures.forgoes c.args.common.now.tree (Working c.args.item Out) (as-before c.args.common.now.tree) refl refl

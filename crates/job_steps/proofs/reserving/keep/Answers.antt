@@ -1,8 +1,4 @@
-use Rattle.std.proofs.Common.{rules, ◌≡◌, refl, ◌∙◌, ap, Err, subst, arith}
-use Rattle.rdo_ast.specs.Views.{uttered_of}
-use Rattle.line_view.specs.Held.{knows}
-use Rattle.session_jobs.specs.Jobs.{IsFound}
-use Rattle.session_jobs.specs.declared.jobs.Found.{Found}
+use Rattle.std.proofs.Common.{rules, ◌≡◌, refl, ◌∙◌, ap, Err, arith}
 use Rattle.session_states.specs.declared.stage.Life.TheVariants.{Alive}
 use Rattle.session_states.specs.declared.stage.Work.TheVariants.{Out}
 use Rattle.session_states.specs.declared.stage.Stage.TheVariants.{Working, Reserving}

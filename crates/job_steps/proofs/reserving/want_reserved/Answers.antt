@@ -1,14 +1,10 @@
-use Rattle.std.proofs.Common.{refl, ◌∙◌, sym, ap, subst, arith}
+use Rattle.std.proofs.Common.{refl, ◌∙◌, sym, arith}
 use Rattle.session_states.specs.declared.stage.Life.TheVariants.{Alive}
-use Rattle.session_states.specs.declared.stage.Stage.{Stage}
-use Rattle.session_states.specs.declared.stage.Stage.TheVariants.{Reserving}
 use Rattle.session_states.proofs.Reserving.{reserved-on}
 use Rattle.session_measure.proofs.Nearer.{nearer-by-rank}
-use Rattle.stage_steps.specs.Scenes.{ComesIn, scene}
-use Rattle.stage_steps.specs.Turns.{shared, at_stage}
+use Rattle.stage_steps.specs.Turns.{shared}
 use Rattle.stage_steps.proofs.Goes.{goes-still, comes-as}
 use Rattle.stage_steps.proofs.Seated.{rests-at, unwanted}
-use Rattle.job_steps.proofs.Kept.{area-at, plain-on-area, off-journal}
 use Rattle.job_steps.proofs.reserving.want_reserved.Goals as goal
 
 pub returns-in_default : goal.returns-in_default

@@ -1,13 +1,10 @@
-use Rattle.std.proofs.Common.{refl, sym, subst, ap, ◌∙◌, [], arith, length, ◌-◌}
-use Rattle.rdb_types.specs.declared.keys.Dbkey.{Dbkey}
-use Rattle.lock_tree_laws.specs.Forest.{opened_of}
+use Rattle.std.proofs.Common.{refl, subst, arith, length, ◌-◌}
 use Rattle.line_view.specs.declared.need.Need.TheVariants.{Room as RoomOf}
 use Rattle.session_states.specs.declared.stage.Life.TheVariants.{Alive}
 use Rattle.session_states.specs.declared.stage.Gather.TheVariants.{Locking, Housing}
 use Rattle.session_states.specs.declared.stage.Work.TheVariants.{Lacking}
 use Rattle.session_states.specs.declared.stage.Stage.{Stage}
 use Rattle.session_states.specs.declared.stage.Stage.TheVariants.{Working, Gathering}
-use Rattle.session_states.specs.declared.stage.Phase.{Phase}
 use Rattle.session_states.proofs.Gathering.{drops-on, houses-in-turn}
 use Rattle.session_states.specs.States.{session}
 use Rattle.session_measure.proofs.Falling.{by-place, by-round, housed}

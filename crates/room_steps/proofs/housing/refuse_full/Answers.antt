@@ -1,6 +1,4 @@
-use Rattle.std.proofs.Common.{refl, ◌∙◌, ap, sym, subst, Ok, arith}
-use Rattle.rdo_ast.specs.declared.reply.Reply.TheVariants.{AreaFull}
-use Rattle.line_store.specs.Seats.{IsWriting}
+use Rattle.std.proofs.Common.{refl, ◌∙◌, ap, Ok, arith}
 use Rattle.session_states.specs.declared.stage.Life.TheVariants.{Alive}
 use Rattle.session_states.specs.declared.stage.Work.TheVariants.{Lacking}
 use Rattle.session_states.specs.declared.stage.Stage.TheVariants.{Working}
@@ -10,7 +8,7 @@ use Rattle.session_measure.proofs.Nearer.{nearer-answered}
 use Rattle.stage_steps.specs.Turns.{shared}
 use Rattle.stage_steps.proofs.Goes.{goes-still}
 use Rattle.stage_steps.proofs.Resting.{as-before}
-use Rattle.stage_steps.proofs.Seated.{rests-at, bare-writing}
+use Rattle.stage_steps.proofs.Seated.{rests-at}
 use Rattle.room_steps.proofs.housing.refuse_full.Goals as goal
 
 pub returns-in-Ok-true : goal.returns-in-Ok-true
