@@ -1,0 +1,5 @@
+pub mod Chains
+pub mod Awake
+pub mod Marks
+pub mod Turning
+pub mod Driving
