@@ -13,6 +13,8 @@ use line_store::LineStore;
 use rdb_account::{Event, Events};
 use rdb_drive::{Driven, Point, Step};
 use rdb_types::Session;
+use reached_changes::Reaches;
+use reserved_locks::Reserves;
 use session_jobs::Statements;
 use std::marker::Model;
 
@@ -56,7 +58,7 @@ fn answers_behind(events: &[Event], from: usize) -> u64
     count
 }
 
-impl<O: Origin, S: Statements, L: LineStore + Drop> LineDriver<O, S, L> {
+impl<O: Origin, S: Reserves + Reaches, L: LineStore + Drop> LineDriver<O, S, L> {
     /// Sessions of which nothing happened yet.
     pub fn new(cluster: LineCluster<O, S, L>) -> Self
         requires fresh { cluster.events ≡ [] }
@@ -128,7 +130,7 @@ impl<O: Origin, S: Statements, L: LineStore + Drop> LineDriver<O, S, L> {
     }
 }
 
-impl<O: Origin, S: Statements, L: LineStore + Drop> Driven for LineDriver<O, S, L> {
+impl<O: Origin, S: Reserves + Reaches, L: LineStore + Drop> Driven for LineDriver<O, S, L> {
     ghost use Rattle.std.specs.Prelude.{[]};
     ghost use Rattle.line_drive.specs.Boards.{board_of};
 

@@ -12,7 +12,8 @@ use line_store::LineStore;
 use rdb_account::Events;
 use rdb_drive::{Act, Gate, MOST_SESSIONS, Point, drive_in_order};
 use rdb_types::Session;
-use session_jobs::Statements;
+use reached_changes::Reaches;
+use reserved_locks::Reserves;
 
 /// What a run came to: its events, and whether every session came to its end.
 #[derive(Drop)]
@@ -40,7 +41,7 @@ impl<'a, G: Gate> Gate for Calm<'a, G> {
 
 /// Drives the sessions by the calling thread, a turn for each entry of the order and then in ascending order, again and again,
 /// until all have ended or no session goes on. The gate is asked before each step; no session dies yet.
-pub fn run_in_order<O: Origin, S: Statements, L: LineStore + Drop, G: Gate>(
+pub fn run_in_order<O: Origin, S: Reserves + Reaches, L: LineStore + Drop, G: Gate>(
     cluster: LineCluster<O, S, L>,
     sessions: u32,
     order: &[u32],
