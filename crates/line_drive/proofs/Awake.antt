@@ -29,7 +29,8 @@ use Rattle.session_states.specs.declared.stage.Life.TheVariants.{Alive, Dead, Go
 use Rattle.session_states.specs.declared.stage.Member.{Member}
 use Rattle.session_stands.specs.Seated.{IsSeated, LivesAt}
 use Rattle.session_stands.specs.Sessions.{AreSeated, member_at}
-use Rattle.line_cluster.specs.Going.{is_over, is_done}
+use Rattle.line_arms.specs.Going.{is_done}
+use Rattle.line_cluster.specs.Going.{is_over}
 use Rattle.line_cluster.specs.Turned.{Sessions, is_patient_at}
 use Rattle.line_drive.specs.Boards.{Driven, board_of, has_ended, is_patient, is_asleep, is_stopped}
 use Rattle.line_drive.specs.Turns.{AreAlive}

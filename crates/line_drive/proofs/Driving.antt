@@ -1,5 +1,5 @@
 -- What a driver asks beside a turn.
-use Rattle.std.proofs.Common.{◌≡◌, ◌≤◌, ◌<◌, ◌-◌, ℕ, zero, suc, ◌+◌, ◌++◌, ◌∷◌, [], ◌==◌, Bool, true, false, List, length, refl, ◌∙◌, sym, ap, subst, arith, Option, Some, None, slice_get, slice_set, slice_index_or, drop, map, inl, inr}
+use Rattle.std.proofs.Common.{◌≡◌, ◌≤◌, ◌<◌, ◌-◌, ℕ, zero, suc, ◌+◌, ◌++◌, ◌∷◌, [], ◌==◌, Bool, not, true, false, List, length, refl, ◌∙◌, sym, ap, subst, arith, Option, Some, None, slice_get, slice_set, slice_index_or, drop, map, inl, inr}
 use Rattle.rdb_account.specs.declared.event.Event.{Event as Declared}
 use Rattle.rdb_account.specs.Places.{Opening}
 use Rattle.rdb_drive.specs.Boards.{AllEnded, IsSession}
@@ -52,6 +52,10 @@ recovers-none told o d sessions alive count seated whole = record {
   tells = (refl, inl refl);
   awake = awake told o d sessions seated whole alive count;
 }
+
+pub not-true : (b : Bool) → not b ≡ true → b ≡ false
+not-true true h = absurd (false≢true h)
+not-true false h = refl
 
 -- ---- the order
 

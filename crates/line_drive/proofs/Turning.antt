@@ -18,7 +18,8 @@ use Rattle.session_states.specs.declared.stage.Life.TheVariants.{Alive}
 use Rattle.session_states.specs.declared.stage.Member.{Member}
 use Rattle.session_stands.specs.Sessions.{AreSeated, dead_in, member_at}
 use Rattle.line_cluster.specs.declared.sessions.Turn.TheVariants as turn
-use Rattle.line_cluster.specs.Going.{is_done, is_over}
+use Rattle.line_arms.specs.Going.{is_done}
+use Rattle.line_cluster.specs.Going.{is_over}
 use Rattle.line_cluster.specs.Turned.{Sessions, GoesFurther, IsAnother, Grows, Came, Rests, Waits, IsAtEnd, mark_of, is_patient_at}
 use Rattle.line_drive.specs.Boards.{Driven, board_of, has_ended, is_asleep, is_patient, is_stopped, marks_of, RestsAt, RestsBehind}
 use Rattle.line_drive.specs.Turns.{AreAlive}

@@ -86,8 +86,6 @@ impl<O: Origin, S: Reserves + Reaches, L: LineStore + Drop> LineDriver<O, S, L> 
         let before = self.cluster.events().len();
         let turn = self.cluster.turn(s);
         self.cluster.facts();
-        // (their number is one that a counter has)
-        let _count = self.cluster.events().len();
         self.answers[s.number as usize] += answers_behind(self.cluster.events(), before);
         match turn {
             Turn::Moved => {

@@ -46,9 +46,10 @@ invariant_of-self-in-Stopped g c =
 
 pub overflow_add-self : goal.overflow_add-self
 overflow_add-self g c =
-    count-fits g.O.Origin.sessions c.args.s.number c.self.inside.answers c.self.inside.cluster c.turn-turn.new.self c.turn-turn.result c.answers_behind.result 18446744073709551616 c.requires.session c.self.invariant c.turn-turn.ensures.came
-    (since c.self.inside.cluster.events c.turn-turn.new.self.events c.events-before.result.now c.events-2.result.now c.answers_behind.result c.events-before.ensures c.events-2.ensures c.answers_behind.ensures)
-    (search rules)
+    let fits = count-fits g.O.Origin.sessions c.args.s.number c.self.inside.answers c.self.inside.cluster c.turn-turn.new.self c.turn-turn.result c.answers_behind.result 18446744073709551616 c.requires.session c.self.invariant c.turn-turn.ensures.came
+        (since c.self.inside.cluster.events c.turn-turn.new.self.events c.events-before.result.now c.events.result.now c.answers_behind.result c.events-before.ensures c.events.ensures c.answers_behind.ensures)
+        (subst (λ (es : List Declared). length es < 18446744073709551616) c.events.ensures c.events.type_inv.0) in
+    omega (arith, fits)
 
 pub unreachable-requires : goal.unreachable-requires
 unreachable-requires g c = never-frozen c.args.s.number c.self.inside.cluster c.turn-turn.new.self c.self.invariant.alive c.in-Frozen.ensures.came
