@@ -73,7 +73,7 @@ print_item_send = whole_enum PrintItem.the_type (enum_send (E.shape PrintItem.th
 pub action_send : IsSend (Action.the_field).row
 action_send = actions.send-Action (search (sendable, range.the_field_send)) (search (sendable, items.the_send, assign_send)) selection_send items.the_send (search (sendable, items.the_send, print_item_send)) (search (sendable, items.the_send, crosses))
 
-names_send : IsSend (Items.the_row Builtin.u8)
+pub names_send : IsSend (Items.the_row Builtin.u8)
 names_send = search (sendable, items.the_send, crosses)
 
 pub statement_send : IsSend (Statement.the_field).row

@@ -3,3 +3,4 @@ pub mod Awake
 pub mod Marks
 pub mod Turning
 pub mod Driving
+pub mod Crossing

@@ -5,4 +5,4 @@ mod driver;
 mod run;
 
 pub use driver::LineDriver;
-pub use run::{Ran, run_in_order};
+pub use run::{Ran, run_in_order, run_in_threads};

@@ -10,10 +10,13 @@ use crate::driver::LineDriver;
 use line_cluster::{LineCluster, Origin};
 use line_store::LineStore;
 use rdb_account::Events;
-use rdb_drive::{Act, Gate, MOST_SESSIONS, Point, drive_in_order};
+use rdb_drive::{Act, Gate, MOST_SESSIONS, Point, drive, drive_in_order};
 use rdb_types::Session;
 use reached_changes::Reaches;
 use reserved_locks::Reserves;
+use std::marker::Send;
+use std::sync::{Condvar, Mutex, Wait};
+use std::thread::Threads;
 
 /// What a run came to: its events, and whether every session came to its end.
 #[derive(Drop)]
@@ -58,6 +61,43 @@ pub fn run_in_order<O: Origin, S: Reserves + Reaches, L: LineStore + Drop, G: Ga
 {
     let mut driver = LineDriver::new(cluster);
     let is_whole = drive_in_order(&mut driver, sessions, order, &Calm { gate });
+    driver.facts();
+    let is_whole = is_whole && !driver.is_halted();
+    Ran {
+        events: driver.into_events(),
+        is_whole,
+    }
+}
+
+/// Drives the sessions by a thread each, and what hasn't ended then by the calling thread, until all have ended or no session goes
+/// on. The gate is asked before each step; no session dies yet.
+pub fn run_in_threads<
+    R: Threads + Wait + Sync,
+    O: Origin + Send,
+    S: Reserves + Reaches + Send,
+    L: LineStore + Drop + Send,
+    G: Gate + Sync,
+>(
+    rt: &R,
+    cluster: LineCluster<O, S, L>,
+    sessions: u32,
+    gate: &G,
+) -> Ran
+where
+    S::Kept: Send,
+    requires fresh { cluster.events ≡ [] }
+    requires alive { AreAlive cluster.members }
+    requires sessions { sessions ≡ O.sessions }
+    requires few { sessions ≤ MOST_SESSIONS }
+    ensures legal { O.told → IsLegal O.opening (map event_of result.events) }
+    ensures whole { result.is_whole ≡ true → O.told → AreWhole (is_session O.sessions) O.opening (map event_of result.events) }
+{
+    let calm = Calm { gate };
+    let shared = Mutex::new(LineDriver::new(cluster));
+    let bell = Condvar::new();
+    drive(rt, &shared, &bell, sessions, &calm);
+    let mut driver = shared.into_inner();
+    let is_whole = drive_in_order(&mut driver, sessions, &[], &calm);
     driver.facts();
     let is_whole = is_whole && !driver.is_halted();
     Ran {
