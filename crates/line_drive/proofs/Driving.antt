@@ -1,5 +1,5 @@
 -- What a driver asks beside a turn.
-use Rattle.std.proofs.Common.{◌≡◌, ◌≤◌, ◌<◌, ◌-◌, ℕ, zero, suc, ◌+◌, ◌++◌, ◌∷◌, [], ◌==◌, Bool, not, true, false, List, length, refl, ◌∙◌, sym, ap, subst, arith, Option, Some, None, slice_get, slice_set, slice_index_or, drop, map, inl, inr}
+use Rattle.std.proofs.Common.{◌≡◌, ◌≤◌, ◌<◌, ℕ, zero, suc, ◌+◌, ◌++◌, ◌∷◌, [], ◌==◌, Bool, not, true, false, List, length, refl, ◌∙◌, sym, ap, subst, arith, Some, slice_get, slice_set, slice_index_or, drop, map, inl, inr}
 use Rattle.rdb_account.specs.declared.event.Event.{Event as Declared}
 use Rattle.rdb_account.specs.Places.{Opening}
 use Rattle.rdb_drive.specs.Boards.{AllEnded, IsSession}
@@ -9,10 +9,7 @@ use Rattle.rdb_drive.specs.Steps.{RecoveryOf}
 use Rattle.rdb_drive.specs.declared.driven.Step.TheVariants as step
 use Rattle.lock_tree_laws.specs.Forest.{IsWhole}
 use Rattle.line_store.specs.Seats.{Seat}
-use Rattle.session_states.specs.declared.stage.Life.TheVariants.{Alive}
-use Rattle.session_states.specs.declared.stage.Member.{Member}
-use Rattle.session_stands.specs.Sessions.{AreSeated, member_at}
-use Rattle.line_cluster.specs.Going.{is_over}
+use Rattle.session_stands.specs.Sessions.{AreSeated}
 use Rattle.std.proofs.lemmas.Bool.{cases_Bool, eqb-true, false≢true}
 use Rattle.std.proofs.lemmas.Option.{same_Some}
 use Rattle.rdb_account.specs.Events.{event_of}

@@ -5,9 +5,6 @@ use Rattle.rdb_account.specs.Events.{event_of}
 use Rattle.rdb_account.specs.Places.{Opening, Place, place, next_item}
 use Rattle.rdb_drive.specs.Boards.{Board, Mark}
 use Rattle.lock_tree.specs.Sleeping.{is_sleeping}
-use Rattle.lock_tree_laws.specs.Forest.{State}
-use Rattle.session_states.specs.declared.stage.Life.{Life}
-use Rattle.session_states.specs.declared.stage.Life.TheVariants.{Alive, Dead, Gone}
 use Rattle.session_states.specs.declared.stage.Member.{Member}
 use Rattle.session_stands.specs.Sessions.{member_at}
 use Rattle.line_cluster.specs.Going.{is_over}

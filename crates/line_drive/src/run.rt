@@ -77,12 +77,7 @@ pub fn run_in_threads<
     S: Reserves + Reaches + Send,
     L: LineStore + Drop + Send,
     G: Gate + Sync,
->(
-    rt: &R,
-    cluster: LineCluster<O, S, L>,
-    sessions: u32,
-    gate: &G,
-) -> Ran
+>(rt: &R, cluster: LineCluster<O, S, L>, sessions: u32, gate: &G) -> Ran
 where
     S::Kept: Send,
     requires fresh { cluster.events ≡ [] }

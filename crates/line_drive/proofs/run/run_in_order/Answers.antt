@@ -1,7 +1,6 @@
 use Rattle.std.proofs.Common.{◌≡◌, false, true, map, subst, sym, ap, ◌∙◌}
 use Rattle.std.proofs.lemmas.Bool.{false≢true}
 use Rattle.rdb_account.specs.Events.{event_of}
-use Rattle.rdb_account.specs.declared.event.Event.{Event as Declared}
 use Rattle.rdb_account.specs.Legal.{AreWhole}
 use Rattle.line_cluster.specs.Turned.{Sessions, is_session}
 use Rattle.line_drive.specs.Turns.{KeepsTurns}
