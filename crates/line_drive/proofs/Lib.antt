@@ -1,0 +1,6 @@
+pub mod Chains
+pub mod Awake
+pub mod Marks
+pub mod Turning
+pub mod Driving
+pub mod Crossing
