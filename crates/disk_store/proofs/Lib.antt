@@ -41,3 +41,4 @@ pub mod PutBack
 pub mod Raising
 mod FewSteps
 pub mod Judged
+pub mod FirstSound

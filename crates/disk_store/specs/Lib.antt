@@ -12,3 +12,4 @@ pub mod Changing
 pub mod ChangeSteps
 pub mod Readers
 pub mod Learning
+pub mod Opening
