@@ -41,7 +41,7 @@ use Rattle.committed_lines.proofs.Nowhere.{nowhere}
 use Rattle.disk_store.specs.declared.held.Tables.{Tables}
 use Rattle.disk_store.specs.Memory.{StoreMemory}
 use Rattle.disk_store.specs.Opening.{AreFresh, HasAllFree}
-use Rattle.disk_store.specs.Shown.{pages_of, Shown}
+use Rattle.disk_store.specs.Shown.{pages_of, Shown, sight_of}
 use Rattle.opened_store.specs.Tables.{AreTablesOf}
 use Rattle.opened_store.specs.Opened.{is_taken_in, BeginsFrom}
 use Rattle.opened_store.proofs.Free.{none-in-use}
@@ -148,7 +148,7 @@ module _ (old mid raised v : View) (t : IsTrue old.tells) (told : mid.tells ≡ 
           let none : line_in key lines ≡ None = nowhere v left (new_ledger (beginning_with classes lines journal start) raised.moment) facts key (λ place names. true≢false (sym (placed place names) ∙ isnt)) in
           absurd (true≢false (sym some ∙ ap (λ (o : Option (List ℕ)). is_some o) none))
 
-  pub begins-from : BeginsFrom old.content lines journal v held
+  pub begins-from : BeginsFrom old.content lines journal (sight_of v held)
   begins-from = record {
     shelf = first_shelf v held lines;
     shown = is-shown;

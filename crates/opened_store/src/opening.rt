@@ -9,6 +9,7 @@ ghost use Rattle.stable_lines.specs.Journal.{Journal};
 ghost use Rattle.stable_lines.specs.Kept.{Kept};
 ghost use Rattle.line_moves.specs.Classes.{HaveTheirClasses};
 ghost use Rattle.disk_store.specs.Seats.{stand_at};
+ghost use Rattle.disk_store.specs.Shown.{sight_of};
 ghost use Rattle.opened_store.specs.Opened.{BeginsFrom};
 
 use crate::tables::read_tables;
@@ -40,7 +41,7 @@ pub fn open<D: Disk>(alloc: Global, disk: &mut D) -> Result<Held, OpeningFault>
         → (classes : ℕ → ℕ) (lines : Lines) (journal : Journal)
         → Kept classes lines journal (D.view disk.old).content
         → (by_area : ℕ → ℕ) → HaveTheirClasses by_area (D.view disk.old).content
-        → BeginsFrom (D.view disk.old).content lines journal (D.view disk.new) held) }
+        → BeginsFrom (D.view disk.old).content lines journal (sight_of (D.view disk.new) held)) }
 
     // Whatever it answers, a crash at any moment of it leaves what one before might have left, or an image of these lines.
     ensures stands { IsTrue (D.view disk.old).tells

@@ -1,0 +1,8 @@
+//! The store of lines on a disk as sessions ask for it.
+#![tactic(auto)]
+
+mod recovering;
+mod stepping;
+mod store;
+
+pub use store::DiskStore;

@@ -1,0 +1,147 @@
+// A store of lines on a disk, as sessions ask for it.
+ghost use Rattle.std.specs.Prelude.{◌≡◌, ◌<◌, ◌^◌, ℕ};
+ghost use Rattle.line_store.specs.Seats.{outside};
+ghost use Rattle.disk_store.specs.Seats.{stand_at, steps_at};
+ghost use Rattle.disk_store.specs.Shown.{sight_of};
+
+use crate::stepping::step;
+use area_files::AreaFull;
+use disk_store::{
+    Held, begin, begin_reading, change, commit, die, end_reading, give_back, learn_area,
+    learn_line, prepare, roll_back, room, steps_are_few, take_room,
+};
+use line_store::{ChangeStop, CommitStop, Fault, LineStore, Progress, ReadStop, Stepped};
+use line_view::{Known, Write};
+use rdb_outside::Disk;
+use rdb_types::{Dbkey, Moment, NoMemory, Session};
+
+/// A store of lines on a disk: the disk, and what is kept in memory beside it. What is left to do for a session is a number that a loop can count to.
+#[derive(Drop)]
+pub struct DiskStore<D: Disk + Drop> {
+    disk: D,
+    held: Held,
+    ghost few: { (s : ℕ) → steps_at held.members s < 2 ^ 64 },
+}
+
+impl<D: Disk + Drop> DiskStore<D> {
+    /// The store of an opened database, in which no session has a transaction.
+    pub fn new(disk: D, held: Held) -> DiskStore<D>
+        requires { (s : ℕ) → stand_at held.members s ≡ outside }
+        ensures { ⟦<DiskStore<D> as LineStore>⟧.sight result ≡ sight_of (D.view disk) held }
+    {
+        DiskStore { disk, held }
+    }
+
+    /// The disk, whose calls are the store's alone.
+    pub fn disk(&self) -> &D {
+        &self.disk
+    }
+}
+
+impl<D: Disk + Drop> LineStore for DiskStore<D> {
+    ghost use Rattle.std.proofs.Common.{sym};
+    ghost use Rattle.disk_store.specs.Shown.{sight_of};
+    ghost use Rattle.disk_store.proofs.Agreeing.{agreeing, standing};
+
+    ghost sight = { λ store. sight_of (D.view store.disk) store.held };
+
+    ghost agrees = { λ store. agreeing (D.view store.disk) store.held };
+
+    ghost counts = { λ store. record { same = λ h shown s. sym (shown.steps s); few = store.few } };
+
+    ghost stands = { λ store. standing (D.view store.disk) store.held };
+
+    fn begin(&mut self, s: Session) {
+        begin(&self.disk, &mut self.held, s);
+        steps_are_few(&self.held, s);
+    }
+
+    fn begin_reading(&mut self, s: Session) -> Result<(), NoMemory> {
+        let begun = begin_reading(&self.disk, &mut self.held, s);
+        steps_are_few(&self.held, s);
+        begun
+    }
+
+    fn end_reading(&mut self, s: Session) {
+        end_reading(&self.disk, &mut self.held, s);
+        steps_are_few(&self.held, s);
+    }
+
+    fn learn_line(
+        &mut self,
+        s: Session,
+        key: Dbkey,
+        known: &mut Known,
+    ) -> Result<Progress, ReadStop> {
+        learn_line(&mut self.disk, &self.held, s, key, known)
+    }
+
+    fn learn_area(
+        &mut self,
+        s: Session,
+        area: u32,
+        known: &mut Known,
+    ) -> Result<Progress, ReadStop> {
+        learn_area(&mut self.disk, &self.held, s, area, known)
+    }
+
+    fn room(
+        &self,
+        s: Session,
+        area: u32,
+        class: u16,
+        from: Option<Dbkey>,
+    ) -> Result<Dbkey, AreaFull> {
+        room(&self.disk, &self.held, s, area, class, from)
+    }
+
+    fn take_room(&mut self, s: Session, key: Dbkey, class: u16) -> Result<bool, NoMemory> {
+        take_room(&self.disk, &mut self.held, s, key, class)
+    }
+
+    fn change(&mut self, s: Session, writes: &[Write]) -> Result<(), ChangeStop> {
+        let changed = change(&self.disk, &mut self.held, s, writes);
+        steps_are_few(&self.held, s);
+        changed
+    }
+
+    fn prepare(&mut self, s: Session) -> Result<(), CommitStop> {
+        let prepared = prepare(&self.disk, &mut self.held, s);
+        steps_are_few(&self.held, s);
+        prepared
+    }
+
+    fn give_back(&mut self, s: Session) {
+        give_back(&self.disk, &mut self.held, s);
+        steps_are_few(&self.held, s);
+    }
+
+    fn commit(&mut self, s: Session) {
+        commit(&self.disk, &mut self.held, s);
+        steps_are_few(&self.held, s);
+    }
+
+    fn roll_back(&mut self, s: Session) {
+        roll_back(&self.disk, &mut self.held, s);
+        steps_are_few(&self.held, s);
+    }
+
+    fn die(&mut self, s: Session) {
+        die(&self.disk, &mut self.held, s);
+        steps_are_few(&self.held, s);
+    }
+
+    fn step(&mut self, s: Session) -> Result<Stepped, Fault> {
+        let stepped = step(&mut self.disk, &mut self.held, s);
+        steps_are_few(&self.held, s);
+        stepped
+    }
+
+    fn is_at_barrier(&self, s: Session) -> bool {
+        is_at_barrier(&self.held, s)
+    }
+
+    fn moment(&self) -> Moment {
+        self.disk.moment()
+    }
+}
