@@ -1,7 +1,6 @@
 //! The store of lines on a disk as sessions ask for it.
 #![tactic(auto)]
 
-mod recovering;
 mod stepping;
 mod store;
 

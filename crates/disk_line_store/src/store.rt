@@ -6,6 +6,7 @@ ghost use Rattle.disk_store.specs.Shown.{sight_of};
 
 use crate::stepping::step;
 use area_files::AreaFull;
+use commit_steps::is_at_barrier;
 use disk_store::{
     Held, begin, begin_reading, change, commit, die, end_reading, give_back, learn_area,
     learn_line, prepare, roll_back, room, steps_are_few, take_room,
@@ -32,9 +33,14 @@ impl<D: Disk + Drop> DiskStore<D> {
         DiskStore { disk, held }
     }
 
-    /// The disk, whose calls are the store's alone.
+    /// The disk, of which all calls are the store's.
     pub fn disk(&self) -> &D {
         &self.disk
+    }
+
+    /// The store ends, and its disk is free.
+    pub fn into_disk(self) -> D {
+        self.disk
     }
 }
 

@@ -48,9 +48,9 @@ use Rattle.opened_store.proofs.Free.{none-in-use}
 use Rattle.opened_store.proofs.TakenPages.{taken-there, same-said}
 use Rattle.opened_store.proofs.First.{IsHeldOf, few-pages, first_shelf, first-shown, has-committed}
 
--- What memory was made of: the start, the root that was raised, and the tables that were read.
-pub record IsMadeOf (start : StoreStart) (root : Root) (tables : Tables) (held : StoreMemory) : Type 0 where
-  pub limits : held.limits ≡ root.limits
+-- What memory was made of: the start, and the tables that were read.
+pub record IsMadeOf (start : StoreStart) (tables : Tables) (held : StoreMemory) : Type 0 where
+  pub limits : held.limits ≡ start.root.limits
   pub next : held.numbers.next ≡ start.next_tsn
   pub ceiling : held.numbers.ceiling ≡ start.next_tsn + 64
   pub written : held.numbers.written ≡ start.next_tsn + 64
@@ -64,6 +64,13 @@ pub ceiling-read : (v : View) (left : LeftNow v v.content) (classes : ℕ → �
 ceiling-read v left classes lines journal start root begins is =
     let stands = begins.facts.root (v.content root_file 0) (each_slot v v.content left root_file 0) in
     subst (λ (r : Root). start.next_tsn ≤ r.ceiling) (one_root (v.content root_file 0) stands.root root stands.is is) stands.ceiling
+
+-- the limits of the image are those of the start
+pub limits-kept : (old mid : View) → LeftNow mid mid.content → (classes : ℕ → ℕ) (lines : Lines) (journal : Journal) (start : StoreStart) → IsStart classes lines journal mid start
+    → KeepsRootAndSpaces old.content mid.content → (root : Root) → IsRoot (old.content root_file 0) root → root.limits ≡ start.root.limits
+limits-kept old mid left classes lines journal start begins untouched root is =
+    limits_read mid (beginning_with classes lines journal start) (mid.content root_file 0) root begins.facts (each_slot mid mid.content left root_file 0)
+    (subst (λ (b : List ℕ). IsRoot b root) (sym untouched.root) is)
 
 area-apart : (file : ℕ) → area_file file ≡ root_file → ⊥
 area-apart file e = let kind : Area ≡ OfRoot = ap (λ (f : FileId). f.kind) e in absurd (cc)
@@ -79,8 +86,8 @@ module _ (old mid raised v : View) (t : IsTrue old.tells) (told : mid.tells ≡ 
     (untouched : KeepsRootAndSpaces old.content mid.content)
     (others : (file : FileId) (slot : ℕ) → (file ≡ root_file → ⊥) → raised.content file slot ≡ mid.content file slot)
     (ledger : LedgerFacts raised (new_ledger (beginning_with classes lines journal start) raised.moment)) (ceiling : HasCeiling (Pending raised) (start.next_tsn + 64)) (stable : IsStable raised)
-    (root : Root) (limits : root.limits ≡ start.root.limits) (tables : Tables) (are : AreTablesOf raised.content root.limits.pages tables)
-    (held : StoreMemory) (made : IsMadeOf start root tables held) (by_area : ℕ → ℕ) (lie : HaveTheirClasses by_area mid.content) where
+    (tables : Tables) (are : AreTablesOf raised.content start.root.limits.pages tables)
+    (held : StoreMemory) (made : IsMadeOf start tables held) (by_area : ℕ → ℕ) (lie : HaveTheirClasses by_area mid.content) where
   t_mid : IsTrue mid.tells
   t_mid = still_tells old mid told t
 
@@ -101,12 +108,11 @@ module _ (old mid raised v : View) (t : IsTrue old.tells) (told : mid.tells ≡ 
 
   tables-there : AreTablesOf v.content start.root.limits.pages held.tables
   tables-there = subst (λ (kept : Tables). AreTablesOf v.content start.root.limits.pages kept) (sym made.tables_are)
-      (subst (λ (l : Limits). AreTablesOf v.content l.pages tables) limits
-      (subst (λ (image : Image). AreTablesOf image root.limits.pages tables) (sym (image_same raised v reads t_raised)) are))
+      (subst (λ (image : Image). AreTablesOf image start.root.limits.pages tables) (sym (image_same raised v reads t_raised)) are)
 
   has : IsHeldOf v journal start held
   has = record {
-    limits = made.limits ∙ limits;
+    limits = made.limits;
     next = made.next;
     ceiling = subst (λ (n : ℕ). HasCeiling (Pending v) n) (sym made.ceiling) (λ content other q is. ceiling content other ((reads.keeps t_raised).pending root_file 0 content q) is);
     written = made.written ∙ sym made.ceiling;
@@ -154,8 +160,7 @@ module _ (old mid raised v : View) (t : IsTrue old.tells) (told : mid.tells ≡ 
     shown = is-shown;
     now = refl;
     seats = λ s. refl;
-    limits = λ other is. has.limits ∙ sym (limits_read mid (beginning_with classes lines journal start) (mid.content root_file 0) other begins.facts (each_slot mid mid.content left_mid root_file 0)
-        (subst (λ (b : List ℕ). IsRoot b other) (sym untouched.root) is));
+    limits = λ other is. has.limits ∙ sym (limits-kept old mid left_mid classes lines journal start begins untouched other is);
     taken = taken-before;
     lie = lies;
     snaps = none-in-use held has.free;

@@ -1,5 +1,5 @@
 -- What a store shows behind the opening of a database.
-use Rattle.std.specs.Prelude.{ℕ, ◌-◌, ◌%◌, ◌==◌, ◌&&◌, ◌≡◌, nat_le, not, Bool, true, length, is_some}
+use Rattle.std.specs.Prelude.{ℕ, ◌+◌, ◌-◌, ◌%◌, ◌^◌, ◌<◌, ◌==◌, ◌&&◌, ◌≡◌, ◌⊎◌, nat_le, not, Bool, true, length, is_some}
 use Rattle.rdb_types.specs.declared.keys.Dbkey.{Dbkey}
 use Rattle.rdb_outside.specs.Disk.{Image}
 use Rattle.root_file.specs.declared.Root.{Root}
@@ -10,7 +10,7 @@ use Rattle.line_versions.specs.Lines.{storage_area}
 use Rattle.line_store.specs.Seats.{outside}
 use Rattle.line_store.specs.Shelves.{Shelf}
 use Rattle.line_store.specs.Sights.{Sight}
-use Rattle.stable_lines.specs.Journal.{Journal, slots_in}
+use Rattle.stable_lines.specs.Journal.{Journal, slots_in, next_number, next_slot}
 use Rattle.database_opening.specs.Owners.{owner_said}
 
 -- By an image, all pages of an area file are taken but those that may hold lines, are within the limit, and are nobody's by their space page.
@@ -28,3 +28,7 @@ pub record BeginsFrom (image : Image) (lines : Lines) (journal : Journal) (sight
   pub lie : (key : Dbkey) → is_some (line_in key lines) ≡ true → is_taken_in image shelf.space.limits.pages (storage_area key.area) key.page ≡ true
   pub snaps : shelf.space.snaps ≡ 0
   pub slots : shelf.space.slots ≡ length (slots_in journal)
+
+-- The numbers of transactions are used up, or there aren't as many of groups as the journal has room for.
+abbrev pub AreUsedUp : Journal → Root → Type 0
+AreUsedUp journal root = (2 ^ 62 - 64 < root.ceiling) ⊎ (2 ^ 62 + next_slot journal < next_number journal + root.limits.slots)

@@ -1,16 +1,16 @@
-use Rattle.std.proofs.Common.{rules, ◌∙◌, List, ℕ, refl, sym, ap, subst, arith}
+use Rattle.std.proofs.Common.{rules, inl, inr, ◌∙◌, List, ℕ, refl, sym, ap, subst, arith}
 use Rattle.std.proofs.lemmas.Result.{err_from_is_err_and}
 use Rattle.root_file.specs.Root.{IsRoot}
 use Rattle.line_moves.proofs.Runs.{still_tells}
 use Rattle.database_opening.specs.Start.{beginning_with}
 use Rattle.disk_store.specs.declared.held.Numbers.{Numbers}
 use Rattle.opened_store.proofs.Fresh.{all-outside}
-use Rattle.opened_store.proofs.Behind.{ceiling-read, begins-from}
+use Rattle.opened_store.proofs.Behind.{ceiling-read, limits-kept, begins-from}
 use Rattle.opened_store.proofs.Moments.{left-raised, left-read, all-pages}
 use Rattle.opened_store.proofs.opening.open.Goals as goal
 
 pub read_tables-requires : goal.read_tables-requires
-read_tables-requires g c = c.in_ok-root.ensures.allowed.limits.pages.1
+read_tables-requires g c = c.in_ok-start.ensures.root.limits.pages.1
 
 pub returns-in_err-start-clause-bad : goal.returns-in_err-start-clause-bad
 returns-in_err-start-clause-bad g c = λ file slot is t classes lines journal kept.
@@ -26,7 +26,7 @@ returns-in_err-root-clause-bad g c = let v = g.D.Disk.view in let old = v c.args
     let used_up = c.begin_members.ensures.bad file slot (first_of (cc, search rules)) told (beginning_with classes lines journal c.in_ok-start.start) begins.facts in
     let left = g.met.D.Disk.content_left c.open_database.new.disk mid.moment told (omega arith) in
     let most = ceiling-read mid left classes lines journal c.in_ok-start.start kept.root begins (subst (λ (b : List ℕ). IsRoot b kept.root) (sym (c.open_database.ensures.untouched t).root) kept.is_root.is) in
-    omega (arith, used_up, most)
+    inl (omega (arith, used_up, most))
 
 pub returns-in_err-tables-clause-bad : goal.returns-in_err-tables-clause-bad
 returns-in_err-tables-clause-bad g c = let v = g.D.Disk.view in let old = v c.args.disk.now in let mid = v c.open_database.new.disk in let raised = v c.begin_members.new.disk in
@@ -103,7 +103,7 @@ returns-in-Ok-clause-begins g c = let v = g.D.Disk.view in let old = v c.args.di
     (g.met.D.Disk.content_left c.read_tables.new.disk new.moment told_new (omega arith))
     classes lines journal start begins (c.open_database.ensures.untouched t) (c.begin_members.ensures.others told)
     both.0 both.1 (c.in_ok-root.ensures.stable told)
-    c.in_ok-root.root (c.in_ok-root.ensures.limits told base begins.facts) c.in_ok-tables.tables (c.in_ok-tables.ensures.tables told_on)
+    c.in_ok-tables.tables (c.in_ok-tables.ensures.tables told_on)
     c.in-Ok.held (record {
       limits = made.limits;
       next = ap (λ (n : Numbers). n.next) made.numbers;
