@@ -1,5 +1,5 @@
 -- What a store shows behind the opening, in terms of the image before it.
-use Rattle.std.proofs.Common.{◌≡◌, ◌⊎◌, inl, inr, ⊎_elim, ℕ, ◌+◌, ◌-◌, ◌≤◌, not, Bool, true, false, List, length, Option, Some, None, is_some, IsTrue, refl, sym, ap, subst, ◌∙◌, arith}
+use Rattle.std.proofs.Common.{◌≡◌, ℕ, ◌+◌, ◌-◌, ◌≤◌, not, Bool, true, false, List, length, Option, Some, None, is_some, IsTrue, refl, sym, ap, subst, ◌∙◌, arith}
 use Rattle.std.proofs.lemmas.Bool.{true≢false}
 use Rattle.rdb_types.specs.declared.file.FileId.{FileId}
 use Rattle.rdb_types.specs.declared.file.FileKind.TheVariants.{Root as OfRoot, Area}
@@ -10,13 +10,12 @@ use Rattle.root_file.specs.Root.{IsRoot}
 use Rattle.root_file.proofs.Readings.{one_root}
 use Rattle.rdb_outside.specs.Disk.{Image, View, LeftNow, Pending, IsStable, OnlyReads}
 use Rattle.rdb_outside.specs.Moments.{each_slot}
-use Rattle.area_files.specs.Areas.{IsPage, IsDataPage, IsSpacePage}
+use Rattle.area_files.specs.Areas.{IsDataPage}
 use Rattle.new_database.specs.Maker.{root_file}
 use Rattle.line_view.specs.Knowledge.{Lines, line_in}
 use Rattle.line_versions.specs.Lines.{storage_area}
 use Rattle.stable_lines.specs.Slots.{area_file}
 use Rattle.stable_lines.specs.Journal.{Journal, slots_in}
-use Rattle.stable_lines.specs.Progress.{Progress}
 use Rattle.line_opening.specs.declared.groups.NextGroup.{NextGroup}
 use Rattle.line_opening.proofs.Passed.{image_same}
 use Rattle.line_moves.specs.declared.places.Place.{Place}
@@ -34,7 +33,6 @@ use Rattle.disk_seats.specs.Members.{LedgerFacts}
 use Rattle.member_steps.specs.Beginning.{HasCeiling}
 use Rattle.member_steps.proofs.Begun.{limits_read}
 use Rattle.member_steps.proofs.Journals.{read_ledger}
-use Rattle.page_table.specs.Pages.{owner_in}
 use Rattle.store_shows.specs.Rooms.{is_free}
 use Rattle.store_shows.proofs.Taken.{not_free}
 use Rattle.committed_lines.proofs.Nowhere.{nowhere}

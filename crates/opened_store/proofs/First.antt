@@ -1,38 +1,35 @@
 -- The first shelf that is shown.
-use Rattle.std.proofs.Common.{◌≡◌, ◌≢◌, ◌⊎◌, inl, inr, ⊎_elim, ℕ, ◌+◌, ◌-◌, ◌%◌, not, ◌≤◌, Bool, true, false, List, [], length, Option, Some, None, is_some, IsTrue, refl, sym, ap, subst, ◌∙◌, arith}
-use Rattle.std.proofs.lemmas.Bool.{false≢true, true≢false}
+use Rattle.std.proofs.Common.{◌≡◌, ◌≢◌, ◌⊎◌, inl, inr, ⊎_elim, ℕ, ◌+◌, ◌-◌, ◌%◌, not, ◌≤◌, List, [], Some, None, IsTrue, refl, sym, ap, subst, ◌∙◌, arith}
+use Rattle.std.proofs.lemmas.Bool.{false≢true}
 use Rattle.std.proofs.lemmas.Option.{none-some}
-use Rattle.rdb_types.specs.declared.keys.Dbkey.{Dbkey}
 use Rattle.rdb_types.specs.declared.keys.Limits.{Limits}
-use Rattle.rdb_outside.specs.Disk.{Image, View, LeftNow, Pending, IsStable}
+use Rattle.rdb_outside.specs.Disk.{View, LeftNow, Pending, IsStable}
 use Rattle.rdb_outside.specs.Moments.{each_slot}
-use Rattle.rdb_page.specs.Page.{IsOwner, class_at}
+use Rattle.rdb_page.specs.Page.{IsOwner}
 use Rattle.area_files.specs.Areas.{IsPage, IsDataPage, space_page_of}
 use Rattle.space_pages.specs.Space.{owner_of}
 use Rattle.line_view.specs.Knowledge.{Lines, line_in}
 use Rattle.line_versions.specs.Course.{Course, opened}
-use Rattle.line_versions.specs.Lines.{storage_area}
 use Rattle.line_store.specs.Seats.{outside}
 use Rattle.line_store.specs.Shelves.{Shelf}
 use Rattle.new_database.specs.Maker.{root_file}
 use Rattle.stable_lines.specs.Slots.{IsAreaFile, area_file, ruj_file, owner_at, line_at}
-use Rattle.stable_lines.specs.Journal.{Journal, slots_in}
+use Rattle.stable_lines.specs.Journal.{Journal}
 use Rattle.stable_lines.specs.Progress.{Progress}
 use Rattle.stable_lines.specs.Facts.{Facts}
 use Rattle.stable_lines.proofs.Never.{space_owner}
 use Rattle.line_opening.specs.Passing.{IsNext}
 use Rattle.line_moves.specs.declared.places.Place.{Place}
-use Rattle.line_moves.specs.Changes.{IsPlaceOf, IsForArea}
 use Rattle.line_moves.specs.Classes.{HaveTheirClasses}
 use Rattle.line_moves.proofs.Putting.{nat_cases}
 use Rattle.database_opening.specs.declared.start.StoreStart.{StoreStart}
 use Rattle.database_opening.specs.Owners.{owner_said}
 use Rattle.database_opening.specs.Start.{beginning_with}
-use Rattle.disk_seats.specs.Ledgers.{Ledger, Commit, new_ledger}
+use Rattle.disk_seats.specs.Ledgers.{Ledger, new_ledger}
 use Rattle.disk_seats.specs.Members.{LedgerFacts}
 use Rattle.member_steps.specs.Beginning.{HasCeiling}
 use Rattle.page_table.specs.declared.uses.PageUse.{PageUse}
-use Rattle.page_table.specs.Pages.{Pages, use_of, owner_in, class_in, IsWithin}
+use Rattle.page_table.specs.Pages.{use_of, owner_in, class_in, IsWithin}
 use Rattle.page_table.specs.Reading.{IsEntryOf}
 use Rattle.committed_tables.specs.Tables.{HasCommitted}
 use Rattle.committed_tables.proofs.AtOpening.{begins_with}

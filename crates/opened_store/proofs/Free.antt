@@ -1,9 +1,8 @@
 -- Snapshot files whose slots are all free.
-use Rattle.std.proofs.Common.{◌≡◌, ◌≤◌, ◌+◌, ◌-◌, ℕ, zero, suc, Bool, true, cond, List, [], ◌∷◌, length, refl, ap, ◌∙◌, arith}
+use Rattle.std.proofs.Common.{◌≡◌, ◌≤◌, ◌+◌, ℕ, zero, suc, Bool, true, cond, List, [], ◌∷◌, length, refl, ap, ◌∙◌, arith}
 use Rattle.snapshot_file.specs.Slots.{is_free, left_in}
-use Rattle.stable_lines.specs.Slots.{IsAreaFile}
 use Rattle.version_writing.specs.Slots.{SlotTable, AreFree}
-use Rattle.version_writing.specs.Tables.{HoldsAll, table_of}
+use Rattle.version_writing.specs.Tables.{HoldsAll}
 use Rattle.line_versions.specs.Versions.{Followed}
 use Rattle.rdb_outside.specs.Disk.{Image}
 use Rattle.disk_store.specs.Memory.{StoreMemory}

@@ -31,8 +31,8 @@ module _ (classes : ℕ → ℕ) (lines : Lines) (journal : Journal) (start : St
   pub left-read : (old raised v : View) → LeavesOnly old raised (IsLeft classes lines journal old) → OnlyReads raised v → IsTrue raised.tells → Facts (Pending raised) base → LeavesOnly old v (IsLeft classes lines journal old)
   left-read old raised v was reads t facts = left_by_step classes lines journal old raised v was (weaker raised v (StandsAs base) (Kept classes lines journal) kept-as (read_stands raised v base reads t facts))
 
-pub all-pages : (v : View) (base : Progress) → LeftNow v v.content → Facts (Pending v) base → AreAllPages v.content
-all-pages v base left facts file is = record {
+pub all-pages : (v : View) (now : Progress) → LeftNow v v.content → Facts (Pending v) now → AreAllPages v.content
+all-pages v now left facts file is = record {
   page = λ page plain. facts.pages.page file page (v.content (area_file file) (page - 1)) is plain (each_slot v v.content left (area_file file) (page - 1));
   space = λ page whole space. facts.pages.space file page (v.content (area_file file) (page - 1)) is whole space (each_slot v v.content left (area_file file) (page - 1));
 }

@@ -1,18 +1,16 @@
 -- Pages that are taken by the tables are taken by the image.
 use Rattle.std.specs.Prelude.{nat_le, if◌then◌else◌}
-use Rattle.std.proofs.Common.{◌≡◌, ◌≢◌, ◌⊎◌, inl, inr, ⊎_elim, ℕ, zero, suc, ◌-◌, ◌%◌, ◌==◌, ◌&&◌, not, ◌≤◌, Bool, true, false, List, [], ◌∷◌, length, replicate, slice_index_or, refl, sym, ap, subst, ◌∙◌, arith}
+use Rattle.std.proofs.Common.{◌≡◌, ◌≢◌, ◌⊎◌, inl, inr, ⊎_elim, ℕ, zero, suc, ◌-◌, ◌%◌, ◌==◌, ◌&&◌, not, ◌≤◌, Bool, true, false, List, length, replicate, slice_index_or, refl, sym, ap, ◌∙◌, arith}
 use Rattle.std.proofs.lemmas.Bool.{eqb-true, leb-true, and_parts, true≢false}
 use Rattle.std.proofs.lemmas.List.{length-replicate}
 use Rattle.rdb_outside.specs.Disk.{Image}
 use Rattle.area_files.specs.Areas.{IsPage, IsDataPage, IsSpacePage, space_page_of}
 use Rattle.stable_lines.specs.Slots.{IsAreaFile, area_file}
 use Rattle.space_pages.specs.Space.{owner_of}
-use Rattle.line_moves.proofs.Putting.{nat_cases}
 use Rattle.database_opening.specs.Owners.{owner_said}
 use Rattle.page_table.specs.declared.uses.PageUse.{PageUse}
-use Rattle.page_table.specs.Pages.{Pages, nobodys, use_of, owner_in}
+use Rattle.page_table.specs.Pages.{Pages, nobodys, owner_in}
 use Rattle.page_table.specs.Scans.{IsNew}
-use Rattle.page_table.specs.Reading.{IsTableOf}
 use Rattle.store_shows.specs.Rooms.{is_free}
 use Rattle.store_shows.proofs.Taken.{new_free}
 use Rattle.disk_store.specs.declared.held.Tables.{Tables}

@@ -1,5 +1,6 @@
 use Rattle.std.proofs.Common.{rules, inl, inr, ◌∙◌, List, ℕ, refl, sym, ap, subst, arith}
 use Rattle.std.proofs.lemmas.Result.{err_from_is_err_and}
+use Rattle.rdb_types.specs.declared.keys.Limits.{Limits}
 use Rattle.root_file.specs.Root.{IsRoot}
 use Rattle.line_moves.proofs.Runs.{still_tells}
 use Rattle.database_opening.specs.Start.{beginning_with}
@@ -16,6 +17,18 @@ pub returns-in_err-start-clause-bad : goal.returns-in_err-start-clause-bad
 returns-in_err-start-clause-bad g c = λ file slot is t classes lines journal kept.
     let p = err_from_is_err_and c.from_residual.result c.from_residual.ensures.1 in
     absurd (c.open_database.ensures.bad file slot (first_of (cc, search rules)) t classes lines journal kept)
+
+pub returns-then-not-has_numbers-clause-bad : goal.returns-then-not-has_numbers-clause-bad
+returns-then-not-has_numbers-clause-bad g c = let v = g.D.Disk.view in let old = v c.args.disk.now in let mid = v c.open_database.new.disk in
+    λ file slot is t classes lines journal kept.
+    let told = still_tells old mid c.open_database.ensures.told t in
+    let begins = c.in_ok-start.ensures.begins t classes lines journal kept in
+    let left = g.met.D.Disk.content_left c.open_database.new.disk mid.moment told (omega arith) in
+    let slots = ap (λ (l : Limits). l.slots) (limits-kept old mid left classes lines journal c.in_ok-start.start begins (c.open_database.ensures.untouched t) kept.root kept.is_root.is) in
+    let few = c.if-not-has_numbers.ensures.no refl in
+    let in_slot = begins.next.in_slot in
+    let numbered = begins.next.numbered in
+    inr (omega (arith, few, in_slot, numbered, slots))
 
 pub returns-in_err-root-clause-bad : goal.returns-in_err-root-clause-bad
 returns-in_err-root-clause-bad g c = let v = g.D.Disk.view in let old = v c.args.disk.now in let mid = v c.open_database.new.disk in

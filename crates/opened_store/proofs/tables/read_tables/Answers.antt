@@ -1,4 +1,4 @@
-use Rattle.std.proofs.Common.{rules, ◌∙◌, ℕ, arith}
+use Rattle.std.proofs.Common.{rules, arith}
 use Rattle.rdb_outside.specs.Runs.{then_reads}
 use Rattle.line_moves.proofs.Runs.{still_tells}
 use Rattle.opened_store.proofs.ThreeTables.{table-before, pages-behind, all-tables}
