@@ -88,7 +88,7 @@ module _ (v w : View) (held behind : StoreMemory) (s : ℕ) (m n : Member) (was 
       facts = facts h shown has;
       limits = refl;
       none = λ t apart rests. ap (λ b. if b then broken else g.standing t) apart ∙ rests;
-      others = λ t x apart stood. stays-there v w g after t kept.areas (there t apart) x stood;
+      others = λ t x apart got stood. stays-there v w g after t kept.areas (there t apart) x stood;
       mine = subst (λ x. StageStands x w after s n) (sym breaks) mine;
       numbered = record { number = kept.numbered.number; first = kept.numbered.first; ceiling = kept.numbered.ceiling; group = kept.numbered.group };
       kept = kept.kept;

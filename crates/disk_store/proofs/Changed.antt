@@ -149,7 +149,7 @@ module _ (v : View) (held : StoreMemory) (s : ℕ) (m : Member) (more : List Wri
       facts = shown.facts;
       limits = refl;
       none = λ t apart rests. rests;
-      others = λ t x apart stood. stays-there v v g g t (λ file slot. refl) (record { standing = inl refl; going = refl; commit = refl }) x stood;
+      others = λ t x apart got stood. stays-there v v g g t (λ file slot. refl) (record { standing = inl refl; going = refl; commit = refl }) x stood;
       mine = begun;
       numbered = record { number = shown.numbers.number; first = shown.numbers.first; ceiling = shown.numbers.ceiling; group = shown.numbers.group };
       kept = kept-stays held.members s held.numbers.next held.numbers.written m next was (omega arith) shown.kept;

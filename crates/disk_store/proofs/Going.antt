@@ -105,7 +105,7 @@ module _ (v : View) (held : StoreMemory) (h : Shelf) (shown : Shown v held h) wh
   opens s m stage.Prepared x goes = begun s m x.begun
   opens s m (stage.Committing (Entering n)) x goes = begun s m x.journalled.begun
   opens s m (stage.Committing Securing) x goes = begun s m x.journalled.begun
-  opens s m (stage.Committing (Going n)) x goes = commits s m n x
+  opens s m (stage.Committing (Going n)) x goes = commits s m n x.commit
   opens s m stage.RollingBack x goes = absurd (true≢false (sym goes))
   opens s m stage.Closing x goes = absurd (true≢false (sym goes))
   opens s m stage.Reading x goes = absurd (true≢false (sym goes))

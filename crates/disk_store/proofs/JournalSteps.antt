@@ -174,7 +174,7 @@ module _ (v w : View) (held : StoreMemory) (s : ℕ) (m : Member) (was : slice_g
         facts = facts shown.tells g has.transaction has.all has.stable shown.facts has.stands has.is_open has.number has.count (none-yet g s m key (sound.each s m was).keys.once has is) left (key-within v held sound s m was key line found h shown);
         limits = refl;
         none = λ t apart rests. ap (λ b. if b then changing (has.all ++ undo ∷ []) has.stable else g.standing t) apart ∙ rests;
-        others = λ t x apart stood. stays-there v w g after t p.areas (there t apart) x stood;
+        others = λ t x apart got stood. stays-there v w g after t p.areas (there t apart) x stood;
         mine = subst (λ x. StageStands x w after s more) (sym at) mine;
         numbered = record { number = shown.numbers.number; first = shown.numbers.first; ceiling = aside-ceiling v w shown.tells (ruj_file s) slot (λ e. cc) only held.numbers shown.numbers.ceiling; group = shown.numbers.group };
         kept = kept-stays held.members s held.numbers.next held.numbers.written m more was (omega arith) shown.kept;

@@ -63,7 +63,7 @@ module _ (v : View) (g : Ledger) (facts : LedgerFacts v g) (t : ℕ) (x : Member
   in-memory stage.Prepared has = of-begun has.begun
   in-memory (stage.Committing (Entering at)) has = of-begun has.journalled.begun
   in-memory (stage.Committing Securing) has = of-begun has.journalled.begun
-  in-memory (stage.Committing (Going at)) is = of-commit at is
+  in-memory (stage.Committing (Going at)) is = of-commit at is.commit
   in-memory stage.RollingBack rests = of-resting rests
   in-memory stage.Closing rests = of-resting rests
   in-memory stage.Reading rests = of-resting rests

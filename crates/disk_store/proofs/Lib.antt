@@ -35,10 +35,17 @@ mod Going
 mod Begun
 mod Seeing
 mod EndedReading
-mod Tabled
+pub mod Tabled
 mod Taking
 pub mod PutBack
 pub mod Raising
 mod FewSteps
+mod Classed
 pub mod Judged
 pub mod FirstSound
+pub mod Ordered
+pub mod LinesPut
+pub mod Landed
+pub mod CommitsKept
+pub mod Ready
+pub mod DeadStages

@@ -164,7 +164,7 @@ module _ (v w : View) (held behind : StoreMemory) (s : ℕ) (m n : Member) (was 
       facts = facts;
       limits = refl;
       none = λ t apart rests. rests;
-      others = λ t x apart stood. stays-there v w g g t same (record { standing = inl refl; going = refl; commit = refl }) x stood;
+      others = λ t x apart got stood. stays-there v w g g t same (record { standing = inl refl; going = refl; commit = refl }) x stood;
       mine = subst (λ x. StageStands x w g s n) (sym at-now) begun-now;
       numbered = numbered;
       kept = kept-now;

@@ -70,5 +70,5 @@ module _ (v w : View) (number slot : ℕ) (t : IsTrue v.tells) (only : OnlyWrite
     classes = was.classes;
     lie = λ file page is plain. subst (λ bytes. HasItsClass was.classes bytes) (sym (areas file (page - 1))) (was.lie file page is plain);
     class = was.class;
-    owned = λ place owner is within its x p. was.owned place owner is within its x (area place.file (place.page - 1) x p);
+    owned = λ place owner is within plain its x p. was.owned place owner is within plain its x (area place.file (place.page - 1) x p);
   }

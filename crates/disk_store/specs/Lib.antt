@@ -4,6 +4,8 @@ pub mod Seats
 pub mod Standing
 pub mod Shown
 pub mod Sound
+pub mod Commits
+pub mod Landing
 pub mod Preparing
 pub mod Dying
 pub mod BeforeImages

@@ -4,10 +4,12 @@
 mod before_images;
 mod beginning;
 mod changing;
+mod classes;
 mod dying;
 mod endings;
 mod few;
 mod held;
+mod landing;
 mod laws;
 mod learning;
 mod member;

@@ -1,5 +1,5 @@
 // What a store keeps in memory as it begins.
-ghost use Rattle.std.specs.Prelude.{◌≡◌, ◌≤◌, ◌^◌, length, IfOk};
+ghost use Rattle.std.specs.Prelude.{◌≡◌, ◌≤◌, ◌+◌, ◌^◌, length, IfOk};
 ghost use Rattle.disk_store.specs.Numbers.{AreAllowed};
 ghost use Rattle.disk_store.specs.Opening.{IsFresh, AreFresh, HasAllFree};
 
@@ -25,6 +25,7 @@ fn fresh(alloc: Global) -> Member
         written: MemberLines::new(alloc),
         journalled: 0,
         pushed: 0,
+        classes: Vec::new(alloc),
         aside: Wanted {
             catalog: 0,
             relations: 0,
@@ -57,6 +58,7 @@ impl Held {
         requires first { 1 ≤ numbers.next }
         requires last { numbers.ceiling ≤ 2 ^ 62 }
         requires allowed { AreAllowed limits numbers }
+        requires groups { next.number + limits.slots ≤ 2 ^ 62 + next.slot }
         ensures limits { IfOk result (λ held. held.limits ≡ limits) }
         ensures numbers { IfOk result (λ held. held.numbers ≡ numbers) }
         ensures next { IfOk result (λ held. held.next ≡ next) }

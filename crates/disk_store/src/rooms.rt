@@ -65,7 +65,7 @@ impl Held {
     }
 
     // What a session's transaction wrote.
-    fn written(&self, s: Session) -> &MemberLines
+    pub(crate) fn written(&self, s: Session) -> &MemberLines
         requires { IsMember s.number }
         ensures { (m : Sits) × (slice_get self.now.members s.number ≡ Some m) × (result.now ≡ m.written) }
     {
