@@ -1,16 +1,14 @@
 -- What memory keeps of commits, behind what its functions change.
-use Rattle.std.proofs.Common.{◌≡◌, ◌≢◌, ◌≤◌, ◌<◌, ◌+◌, ◌-◌, ◌^◌, ◌==◌, ◌⊎◌, inl, inr, if◌then◌else◌, cond, ℕ, zero, suc, Bool, true, false, List, [], length, sum_by, Option, Some, None, ⊎_elim, refl, sym, ap, subst, ◌∙◌, arith}
+use Rattle.std.proofs.Common.{◌≡◌, ◌≤◌, ◌<◌, ◌+◌, ◌^◌, ◌==◌, ◌⊎◌, inl, inr, if◌then◌else◌, ℕ, zero, suc, Bool, true, false, List, [], length, sum_by, Option, Some, None, ⊎_elim, refl, sym, ap, subst, ◌∙◌, arith}
 use Rattle.std.specs.Prelude.{slice_get, slice_set}
-use Rattle.std.proofs.lemmas.Bool.{true≢false, eqb-true, eqb-false}
-use Rattle.std.proofs.lemmas.Option.{same_Some, none-some}
-use Rattle.rdb_page.specs.Page.{IsOwner, lines_of}
+use Rattle.std.proofs.lemmas.Bool.{true≢false, eqb-true}
+use Rattle.std.proofs.lemmas.Option.{same_Some}
+use Rattle.rdb_page.specs.Page.{lines_of}
 use Rattle.line_store.specs.Seats.{IsMember, members, group_of, lines_written, set_aside}
-use Rattle.line_moves.specs.Lines.{ChangedLines}
 use Rattle.member_steps.specs.declared.committing.CommitTurn.{CommitTurn}
 use Rattle.member_steps.specs.declared.committing.CommitTurn.TheVariants.{Entering}
 use Rattle.line_moves.proofs.Putting.{nat_cases}
-use Rattle.page_table.specs.declared.uses.PageUse.{PageUse}
-use Rattle.page_table.specs.Pages.{Pages, use_of, owner_in, class_in, empty_of, IsLineOf, IsWithin}
+use Rattle.page_table.specs.Pages.{owner_in}
 use Rattle.page_table.specs.Scans.{IsNew}
 use Rattle.version_writing.specs.declared.snapshot_slots.SnapshotSlots.{SnapshotSlots}
 use Rattle.member_memory.specs.Memory.{AreKeysOf, writes_in}

@@ -1,6 +1,6 @@
 -- A before-image of a change is written, or the header before the first.
-use Rattle.std.proofs.Common.{◌≡◌, ◌≢◌, ◌≤◌, ◌<◌, ◌+◌, ◌-◌, ◌==◌, ◌++◌, ℕ, Bool, true, false, IsTrue, List, [], ◌∷◌, length, Some, None, inl, inr, refl, sym, ap, subst, ◌∙◌, arith}
-use Rattle.std.specs.Prelude.{slice_get, if◌then◌else◌, is_some}
+use Rattle.std.proofs.Common.{◌≡◌, ◌≢◌, ◌≤◌, ◌<◌, ◌==◌, ◌++◌, ℕ, false, IsTrue, List, [], ◌∷◌, length, Some, None, inl, inr, refl, sym, ap, subst, ◌∙◌, arith}
+use Rattle.std.specs.Prelude.{slice_get, if◌then◌else◌}
 use Rattle.std.specs.FinMap.Entries.{find}
 use Rattle.rdb_types.specs.declared.keys.Dbkey.{Dbkey}
 use Rattle.rdb_types.specs.declared.keys.Line.{Line}
@@ -10,9 +10,9 @@ use Rattle.rdb_outside.specs.Disk.{View, IsPending}
 use Rattle.line_view.specs.declared.writes.Write.{Write}
 use Rattle.line_view.specs.Knowledge.{Lines}
 use Rattle.line_store.specs.Seats.{in_flight}
-use Rattle.line_store.specs.Shelves.{Shelf, Space}
-use Rattle.line_store.specs.Calls.{Moves, GoesOn, KeepsSpace}
-use Rattle.line_store.specs.Sights.{bare, Does}
+use Rattle.line_store.specs.Shelves.{Shelf}
+use Rattle.line_store.specs.Calls.{Moves, GoesOn}
+use Rattle.line_store.specs.Sights.{Does}
 use Rattle.stable_lines.specs.Slots.{Undo, ruj_file, line_at}
 use Rattle.stable_lines.specs.Image.{IsNoneOf}
 use Rattle.stable_lines.specs.Progress.{Open}
@@ -21,21 +21,20 @@ use Rattle.disk_seats.specs.Ledgers.{changing, Ledger, stands_as}
 use Rattle.disk_seats.specs.Members.{LedgerFacts, IsLeftTo}
 use Rattle.ledger_versions.specs.Readers.{set_waiting}
 use Rattle.ledger_versions.proofs.LinesJoin.{line_journalled}
-use Rattle.member_memory.specs.Memory.{writes_in}
 use Rattle.member_memory.proofs.Growing.{has-it, get-more, length-more}
 use Rattle.disk_store.specs.declared.member.Member.{Member}
 use Rattle.disk_store.specs.declared.member.MemberStage.TheVariants as stage
 use Rattle.disk_store.specs.Memory.{StoreMemory, with_member}
 use Rattle.disk_store.specs.Seats.{seat_with, stand_of, stand_at, steps_in}
 use Rattle.disk_store.specs.Standing.{HasBegun, StageStands}
-use Rattle.disk_store.specs.Shown.{WaitPushed, WaitsAs, Shown, pages_of, sight_of}
+use Rattle.disk_store.specs.Shown.{WaitPushed, WaitsAs, Shown, sight_of}
 use Rattle.disk_store.specs.Sound.{IsSound}
 use Rattle.disk_store.specs.ChangeSteps.{named_now, journalled_more}
 use Rattle.disk_store.proofs.Moving.{itself}
 use Rattle.disk_store.proofs.Members.{get-within}
 use Rattle.disk_store.proofs.Beside.{StaysOf, stays-there}
 use Rattle.disk_store.proofs.Kept.{kept-stays}
-use Rattle.disk_store.proofs.Stepping.{ComesTo, Related, does-step, becomes-member, space-same}
+use Rattle.disk_store.proofs.Stepping.{ComesTo, does-step, becomes-member, space-same}
 use Rattle.disk_store.proofs.Passing.{Passes, passes-aside, aside-ceiling, tables-pass, slots-pass, same-ledger}
 use Rattle.disk_store.proofs.Changed.{some-found}
 use Rattle.disk_store.proofs.LeftTo.{left-to, not-borne}

@@ -1,5 +1,5 @@
 -- What is shown behind a commit that lands: where the next group is, pages, and the space that is taken.
-use Rattle.std.proofs.Common.{◌≡◌, ◌≤◌, ◌+◌, ◌-◌, ◌==◌, ◌&&◌, ◌%◌, inl, inr, ◌⊎◌, ℕ, Bool, true, false, not, nat_le, List, [], ◌∷◌, length, Some, refl, sym, ap, subst, ◌∙◌, arith}
+use Rattle.std.proofs.Common.{◌≡◌, ◌+◌, ◌-◌, ◌==◌, ◌&&◌, ◌%◌, inl, inr, ◌⊎◌, ℕ, Bool, true, false, not, nat_le, [], ◌∷◌, length, Some, refl, sym, ap, subst, ◌∙◌, arith}
 use Rattle.std.specs.Prelude.{slice_get}
 use Rattle.std.specs.List.{flat_map}
 use Rattle.std.proofs.lemmas.List.{length-append}
@@ -9,7 +9,6 @@ use Rattle.rdb_page.specs.Page.{IsOwner}
 use Rattle.rdb_outside.specs.Disk.{View}
 use Rattle.journal_scan.specs.declared.group.Group.{Group}
 use Rattle.journal_scan.specs.Whole.{slots_from, slots_of}
-use Rattle.line_view.specs.declared.writes.Write.{Write}
 use Rattle.line_view.specs.Knowledge.{Lines}
 use Rattle.line_view.specs.Writes.{laid_all}
 use Rattle.line_store.specs.Shelves.{Shelf, Space}
@@ -18,7 +17,7 @@ use Rattle.stable_lines.specs.Journal.{Journal, next_number, next_slot, with_gro
 use Rattle.line_moves.specs.Lines.{ChangedLines}
 use Rattle.disk_seats.specs.Ledgers.{Ledger}
 use Rattle.committed_tables.specs.Tables.{HasCommitted}
-use Rattle.page_table.specs.Pages.{Pages, owner_in, IsWithin}
+use Rattle.page_table.specs.Pages.{owner_in, IsWithin}
 use Rattle.store_shows.specs.Rooms.{is_free}
 use Rattle.member_memory.specs.Memory.{writes_in}
 use Rattle.disk_store.specs.declared.member.Member.{Member}
@@ -27,7 +26,7 @@ use Rattle.disk_store.specs.declared.held.Tables.{Tables}
 use Rattle.disk_store.specs.Dying.{forgotten}
 use Rattle.disk_store.specs.Landing.{PutsAll, landed_with}
 use Rattle.disk_store.specs.Memory.{StoreMemory}
-use Rattle.disk_store.specs.Shown.{SpaceStands, TablesStand, Shown, pages_of}
+use Rattle.disk_store.specs.Shown.{TablesStand, Shown, pages_of}
 use Rattle.disk_store.specs.Sound.{IsSound}
 use Rattle.disk_store.proofs.Written.{lines-counted}
 use Rattle.disk_store.proofs.LinesPut.{SamePages, all-same, all-committed}

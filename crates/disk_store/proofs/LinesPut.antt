@@ -1,5 +1,5 @@
 -- The tables behind lines that are committed.
-use Rattle.std.proofs.Common.{cond, ◌==◌, ◌+◌, zero, suc, Some, get_or, take, replicate, ◌≡◌, ◌≢◌, ◌≤◌, ◌<◌, ◌++◌, ℕ, Bool, true, false, List, [], ◌∷◌, length, is_some, ⊎_elim, refl, sym, ap, subst, ◌∙◌, arith}
+use Rattle.std.proofs.Common.{cond, ◌==◌, ◌+◌, zero, suc, Some, get_or, take, replicate, ◌≡◌, ◌≤◌, ◌<◌, ◌++◌, ℕ, Bool, [], ◌∷◌, length, is_some, ⊎_elim, refl, sym, ap, subst, ◌∙◌, arith}
 use Rattle.std.proofs.lemmas.List.{map-append, take_more}
 use Rattle.std.proofs.lemmas.Option.{same_Some}
 use Rattle.std.specs.Prelude.{slice_get}
@@ -13,7 +13,7 @@ use Rattle.line_versions.specs.Lines.{shown}
 use Rattle.line_moves.specs.Lines.{ChangedLines}
 use Rattle.line_moves.proofs.Putting.{nat_cases}
 use Rattle.page_table.specs.declared.uses.PageUse.{PageUse}
-use Rattle.page_table.specs.Pages.{Pages, use_of, owner_in, class_in, nobodys, IsLineOf, PutsLine}
+use Rattle.page_table.specs.Pages.{Pages, owner_in, class_in, nobodys, IsLineOf, PutsLine}
 use Rattle.committed_tables.specs.Tables.{HasCommitted, WereUsed}
 use Rattle.committed_tables.proofs.Following.{laid_behind, other_behind}
 use Rattle.committed_tables.proofs.EverUsed.{used_behind_line}

@@ -1,5 +1,5 @@
 -- Lines in the order of their keys.
-use Rattle.std.proofs.Common.{◌≡◌, ◌&&◌, ◌||◌, ℕ, zero, suc, Bool, true, false, cond, List, [], ◌∷◌, length, map, Option, Some, None, is_lt, is_some, refl, sym, ap, subst, ◌∙◌, arith}
+use Rattle.std.proofs.Common.{◌≡◌, ◌&&◌, ◌||◌, ℕ, zero, suc, Bool, true, false, cond, List, [], ◌∷◌, length, map, Some, None, is_lt, is_some, refl, sym, ap, ◌∙◌, arith}
 use Rattle.std.specs.Prelude.{slice_get}
 use Rattle.std.specs.Ordering.{is_eq}
 use Rattle.std.specs.Cmp.{tied_itself}
@@ -11,8 +11,7 @@ use Rattle.std.proofs.lemmas.Option.{same_Some, none-some}
 use Rattle.rdb_types.specs.declared.keys.Dbkey.{Dbkey}
 use Rattle.rdb_types.specs.declared.keys.Line.{Line}
 use Rattle.rdb_types.specs.Order.{dbkey_order}
-use Rattle.rdb_types.specs.OrderLaws.{dbkey_total, same_dbkey}
-use Rattle.aij_journal.specs.declared.part.GroupLine.{GroupLine}
+use Rattle.rdb_types.specs.OrderLaws.{dbkey_total}
 use Rattle.journal_scan.specs.Whole.{ascends}
 use Rattle.line_view.specs.declared.writes.Write.{Write}
 use Rattle.line_moves.specs.Lines.{ChangedLines, AreDistinct}

@@ -1,5 +1,5 @@
 -- A line of a change is pushed aside, or has nothing to push: it joins those that wait.
-use Rattle.std.proofs.Common.{◌≡◌, ◌≢◌, ◌≤◌, ◌<◌, ◌+◌, ◌-◌, ◌==◌, ℕ, Bool, true, false, IsTrue, List, [], ◌∷◌, length, Some, None, inl, refl, sym, ap, subst, ◌∙◌, arith}
+use Rattle.std.proofs.Common.{◌≡◌, ◌≢◌, ◌≤◌, ◌<◌, ◌+◌, ◌-◌, ℕ, true, false, IsTrue, List, [], ◌∷◌, length, Some, None, inl, refl, sym, ap, subst, ◌∙◌, arith}
 use Rattle.std.specs.Prelude.{slice_get, slice_set, if◌then◌else◌}
 use Rattle.std.specs.FinMap.Entries.{find, put}
 use Rattle.rdb_types.specs.declared.keys.Dbkey.{Dbkey}
@@ -17,12 +17,10 @@ use Rattle.line_store.specs.Sights.{bare, Does}
 use Rattle.line_versions.specs.Versions.{snap_of}
 use Rattle.line_versions.specs.Files.{entries_in, snap_file}
 use Rattle.line_versions.specs.Course.{Course, pushed}
-use Rattle.stable_lines.specs.Slots.{Undo, line_at}
-use Rattle.stable_lines.specs.Progress.{Progress}
+use Rattle.stable_lines.specs.Slots.{line_at}
 use Rattle.line_moves.specs.Calls.{OnlyWrites}
 use Rattle.line_moves.specs.Lines.{ChangedLines}
 use Rattle.disk_versions.specs.Courses.{course_pushed}
-use Rattle.disk_versions.specs.Versions.{VersionFacts}
 use Rattle.version_writing.specs.Slots.{IsAside}
 use Rattle.version_writing.specs.Tables.{HoldsAll}
 use Rattle.disk_seats.specs.Ledgers.{changing, entries_of, Ledger, Standing}
@@ -30,7 +28,7 @@ use Rattle.disk_seats.specs.Members.{IsLeftTo, LedgerFacts}
 use Rattle.ledger_versions.specs.Readers.{HasBefore, ReaderFacts, set_waiting}
 use Rattle.ledger_versions.proofs.LinesJoin.{line_first, line_joins}
 use Rattle.ledger_versions.proofs.Restanding.{same_ledger}
-use Rattle.member_memory.specs.Memory.{Memory, writes_in}
+use Rattle.member_memory.specs.Memory.{writes_in}
 use Rattle.member_steps.proofs.Journals.{read_ledger}
 use Rattle.disk_store.specs.declared.member.Member.{Member}
 use Rattle.disk_store.specs.declared.member.MemberStage.TheVariants as stage
@@ -47,7 +45,7 @@ use Rattle.disk_store.proofs.Moving.{itself}
 use Rattle.disk_store.proofs.Members.{get-within}
 use Rattle.disk_store.proofs.Beside.{SameAreas, stays-there}
 use Rattle.disk_store.proofs.Kept.{kept-stays}
-use Rattle.disk_store.proofs.Stepping.{ComesTo, Becomes, Related, does-step}
+use Rattle.disk_store.proofs.Stepping.{ComesTo, Becomes, does-step}
 use Rattle.disk_store.proofs.Passing.{Passes, passes-reads, reads-leave, reads-ceiling, aside-ceiling, tables-pass, slots-pass}
 use Rattle.disk_store.proofs.Changed.{got-within, used-all}
 use Rattle.disk_store.proofs.LeftTo.{not-borne}

@@ -1,12 +1,11 @@
 -- A slot of a snapshot file is written: the ledger stays, and the tables.
-use Rattle.std.proofs.Common.{◌≡◌, ◌≢◌, ◌-◌, ℕ, suc, IsTrue, List, Option, Some, refl, sym, ap, subst, arith}
+use Rattle.std.proofs.Common.{◌≡◌, ◌-◌, ℕ, suc, IsTrue, List, Option, refl, sym, ap, subst, arith}
 use Rattle.rdb_types.specs.declared.file.FileId.{FileId}
 use Rattle.rdb_types.specs.declared.file.FileKind.TheVariants.{Root, Area, Ruj, Aij, Snap}
-use Rattle.rdb_types.specs.declared.keys.Dbkey.{Dbkey}
 use Rattle.rdb_outside.specs.Disk.{View, Pending}
 use Rattle.new_database.specs.Maker.{root_file, aij_file}
 use Rattle.line_versions.specs.Files.{snap_file}
-use Rattle.stable_lines.specs.Slots.{Undo, ruj_file, area_file}
+use Rattle.stable_lines.specs.Slots.{ruj_file, area_file}
 use Rattle.stable_lines.specs.Progress.{Progress}
 use Rattle.stable_lines.specs.Facts.{Facts}
 use Rattle.stable_lines.proofs.Fewer.{all}
@@ -15,12 +14,11 @@ use Rattle.line_moves.specs.Classes.{HasItsClass}
 use Rattle.line_seat.proofs.StageStays.{IsBesideIt}
 use Rattle.disk_versions.proofs.Moves.{lines_in_slot}
 use Rattle.disk_seats.specs.Ledgers.{Commit, Ledger, progress_with, progress_of}
-use Rattle.disk_seats.specs.Members.{MemberStands, LedgerFacts}
+use Rattle.disk_seats.specs.Members.{LedgerFacts}
 use Rattle.disk_seats.proofs.OthersStay.{leaves_aside, member_stays, commit_stays, used_stays}
 use Rattle.disk_seats.proofs.Assembled.{assembled}
-use Rattle.committed_tables.specs.Tables.{HasCommitted}
 use Rattle.disk_store.specs.declared.held.Tables.{Tables}
-use Rattle.disk_store.specs.Shown.{TablesStand, pages_of}
+use Rattle.disk_store.specs.Shown.{TablesStand}
 use Rattle.disk_store.proofs.Beside.{SameAreas}
 
 other-kind : (a b : FileId) → (a.kind ≡ b.kind → ⊥) → a ≡ b → ⊥

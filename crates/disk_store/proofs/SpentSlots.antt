@@ -1,6 +1,5 @@
 -- What a push takes of the slots: no more are in use or set aside than before.
-use Rattle.std.proofs.Common.{◌≡◌, ◌≢◌, ◌≤◌, ◌+◌, ◌-◌, ◌==◌, ℕ, suc, Bool, true, false, cond, List, [], ◌∷◌, length, ⊎_elim, refl, sym, ap, subst, ◌∙◌, arith}
-use Rattle.std.specs.Prelude.{if◌then◌else◌}
+use Rattle.std.proofs.Common.{◌≡◌, ◌≢◌, ◌≤◌, ◌-◌, ℕ, Bool, true, false, List, [], ◌∷◌, length, ⊎_elim, refl, sym, ap, subst, ◌∙◌, arith}
 use Rattle.snapshot_file.specs.Slots.{left_in}
 use Rattle.line_store.specs.Shelves.{Space}
 use Rattle.line_store.specs.Calls.{KeepsSpace}

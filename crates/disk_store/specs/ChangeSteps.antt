@@ -1,6 +1,5 @@
 -- What the steps of a change make of a session's member.
 use Rattle.std.specs.Prelude.{ℕ, ◌≡◌, ◌+◌, ◌-◌, ◌<◌, ◌≤◌, ◌==◌, true, if◌then◌else◌, List, length, Some, slice_get}
-use Rattle.rdb_types.specs.declared.keys.Dbkey.{Dbkey}
 use Rattle.version_writing.specs.declared.snapshot_slots.Wanted.{Wanted}
 use Rattle.member_memory.specs.Memory.{Memory}
 use Rattle.disk_store.specs.declared.member.Member.{Member}

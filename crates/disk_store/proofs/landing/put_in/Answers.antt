@@ -1,5 +1,4 @@
-use Rattle.std.proofs.Common.{◌≡◌, is_some, subst, sym}
-use Rattle.line_versions.specs.Lines.{shown}
+use Rattle.std.proofs.Common.{subst}
 use Rattle.page_table.specs.Pages.{PutsLine}
 use Rattle.disk_store.proofs.LinesPut.{puts-catalog, puts-relations, puts-indexes}
 use Rattle.disk_store.proofs.landing.put_in.Goals as goal

@@ -1,5 +1,5 @@
 use Rattle.std.proofs.Common.{refl, take}
-use Rattle.disk_store.specs.Landing.{PutsAll, none}
+use Rattle.disk_store.specs.Landing.{none}
 use Rattle.disk_store.proofs.Members.{lent-there}
 use Rattle.disk_store.proofs.LinesPut.{all-same, line-of-same, put-more}
 use Rattle.disk_store.proofs.landing.put_lines.Goals as goal

@@ -1,11 +1,9 @@
-use Rattle.std.proofs.Common.{[], refl, sym, ap, subst, ◌∙◌}
-use Rattle.line_store.specs.Seats.{IsWriting, prepared, prepared_by}
-use Rattle.line_store.specs.Calls.{Moves, MayStopCommit}
+use Rattle.std.proofs.Common.{[], refl, sym, ap, subst}
+use Rattle.line_store.specs.Seats.{IsWriting, prepared}
+use Rattle.line_store.specs.Calls.{MayStopCommit}
 use Rattle.line_store.specs.declared.answers.CommitStop.TheVariants.{AijFull}
 use Rattle.line_store.specs.Sights.{Does, Prepares}
-use Rattle.member_memory.specs.Memory.{writes_in}
 use Rattle.disk_store.specs.declared.member.Member.{Member}
-use Rattle.disk_store.specs.declared.member.MemberStage.TheVariants as stage
 use Rattle.disk_store.specs.Memory.{StoreMemory}
 use Rattle.disk_store.specs.Seats.{seat_with, stand_of}
 use Rattle.disk_store.specs.Shown.{sight_of}

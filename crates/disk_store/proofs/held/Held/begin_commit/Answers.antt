@@ -1,13 +1,11 @@
-use Rattle.std.proofs.Common.{◌≡◌, ◌==◌, ◌<◌, ℕ, false, subst, Some, [], refl, sym, ap, ◌∙◌, arith}
+use Rattle.std.proofs.Common.{◌≡◌, ◌==◌, ℕ, false, subst, Some, refl, sym, ap, ◌∙◌, arith}
 use Rattle.std.specs.Prelude.{slice_get}
-use Rattle.member_memory.specs.Memory.{Memory}
 use Rattle.disk_store.specs.declared.member.Member.{Member}
 use Rattle.disk_store.specs.declared.member.MemberStage.TheVariants as stage
-use Rattle.disk_store.specs.Dying.{forgotten}
-use Rattle.disk_store.specs.Memory.{StoreMemory, at_stage, begun_with, drawn, with_member, with_number}
+use Rattle.disk_store.specs.Memory.{StoreMemory, at_stage, with_member}
 use Rattle.disk_store.specs.Sound.{IsSound}
 use Rattle.disk_store.proofs.Members.{lent-there, set-long}
-use Rattle.disk_store.proofs.Sound.{sound-member, sound-with, sound-as, sound-empty, keeps-lines, loses-lines}
+use Rattle.disk_store.proofs.Sound.{sound-member, sound-as, keeps-lines}
 use Rattle.member_steps.specs.declared.committing.CommitTurn.TheVariants.{Entering}
 use Rattle.disk_store.specs.Seats.{IsAtStage}
 use Rattle.disk_store.specs.Commits.{is_flying}

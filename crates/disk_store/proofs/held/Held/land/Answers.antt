@@ -1,18 +1,16 @@
-use Rattle.std.proofs.Common.{◌≡◌, ◌≤◌, ◌<◌, ◌+◌, ℕ, List, Some, true, length, refl, sym, ap, subst, ◌∙◌, arith}
+use Rattle.std.proofs.Common.{◌≡◌, List, Some, length, refl, sym, ap, subst, ◌∙◌, arith}
 use Rattle.std.specs.Prelude.{slice_get}
 use Rattle.rdb_types.specs.declared.keys.Dbkey.{Dbkey}
 use Rattle.line_moves.specs.Lines.{ChangedLines}
 use Rattle.member_memory.specs.Memory.{Memory}
 use Rattle.disk_store.specs.declared.member.Member.{Member}
 use Rattle.disk_store.specs.declared.held.Tables.{Tables}
-use Rattle.disk_store.specs.Commits.{is_flying, KeepsCommits}
 use Rattle.disk_store.specs.Dying.{forgotten}
 use Rattle.disk_store.specs.Landing.{PutsAll, group_behind, landed_with}
 use Rattle.disk_store.specs.Memory.{StoreMemory, with_member}
-use Rattle.disk_store.specs.Sound.{IsSound}
 use Rattle.disk_store.proofs.Members.{lent-there, set-long}
 use Rattle.disk_store.proofs.Ordered.{found-by}
-use Rattle.disk_store.proofs.CommitsKept.{due-beside, due-room, landed-kept, landed-as, sound-landed}
+use Rattle.disk_store.proofs.CommitsKept.{due-room, landed-kept, landed-as, sound-landed}
 use Rattle.disk_store.proofs.held.Held.land.Goals as goal
 
 pub put_lines-requires : goal.put_lines-requires

@@ -1,14 +1,11 @@
-use Rattle.std.proofs.Common.{◌≡◌, ◌<◌, Some, [], refl, sym, ap, subst, ◌∙◌, arith}
+use Rattle.std.proofs.Common.{◌≡◌, Some, refl, sym, ap, subst, ◌∙◌, arith}
 use Rattle.std.specs.Prelude.{slice_get}
-use Rattle.member_memory.specs.Memory.{Memory}
 use Rattle.disk_store.specs.declared.member.Member.{Member}
-use Rattle.disk_store.specs.declared.member.MemberStage.TheVariants as stage
-use Rattle.disk_store.specs.Dying.{forgotten}
-use Rattle.disk_store.specs.Memory.{StoreMemory, at_stage, begun_with, drawn, with_member, with_number}
+use Rattle.disk_store.specs.Memory.{StoreMemory, at_stage, with_member}
 use Rattle.disk_store.specs.Sound.{IsSound}
 use Rattle.disk_store.specs.Commits.{IsReady}
 use Rattle.disk_store.proofs.Members.{lent-there, set-long}
-use Rattle.disk_store.proofs.Sound.{sound-member, sound-with, sound-as, sound-empty, keeps-lines, loses-lines}
+use Rattle.disk_store.proofs.Sound.{sound-member, sound-as, keeps-lines}
 use Rattle.disk_store.proofs.CommitsKept.{dead-kept}
 use Rattle.disk_store.proofs.held.Held.set_dead.Goals as goal
 
