@@ -1,8 +1,11 @@
 // A store of lines on a disk, as sessions ask for it.
-ghost use Rattle.std.specs.Prelude.{◌≡◌, ◌<◌, ◌^◌, ℕ};
+ghost use Rattle.std.specs.Prelude.{◌≡◌, ◌↔◌, ◌<◌, ◌^◌, ℕ};
+ghost use Rattle.line_view.specs.Knowledge.{Lines};
 ghost use Rattle.line_store.specs.Seats.{outside};
+ghost use Rattle.line_store.specs.Shelves.{Shelf};
+ghost use Rattle.store_shows.specs.Shows.{Leaves};
 ghost use Rattle.disk_store.specs.Seats.{stand_at, steps_at};
-ghost use Rattle.disk_store.specs.Shown.{sight_of};
+ghost use Rattle.disk_store.specs.Shown.{Shown};
 
 use crate::stepping::step;
 use area_files::AreaFull;
@@ -28,7 +31,11 @@ impl<D: Disk + Drop> DiskStore<D> {
     /// The store of an opened database, in which no session has a transaction.
     pub fn new(disk: D, held: Held) -> DiskStore<D>
         requires { (s : ℕ) → stand_at held.members s ≡ outside }
-        ensures { ⟦<DiskStore<D> as LineStore>⟧.sight result ≡ sight_of (D.view disk) held }
+        ensures outside { (s : ℕ) → (⟦<DiskStore<D> as LineStore>⟧.sight result).stand s ≡ outside }
+
+        // It shows what the disk and the memory do, and a crash leaves what one of the disk may leave.
+        ensures shows { (h : Shelf) → (⟦<DiskStore<D> as LineStore>⟧.sight result).shows h ↔ Shown (D.view disk) held h }
+        ensures left { (t : ℕ) (lines : Lines) → (⟦<DiskStore<D> as LineStore>⟧.sight result).left t lines → Leaves (D.view disk) t lines }
     {
         DiskStore { disk, held }
     }
@@ -58,19 +65,22 @@ impl<D: Disk + Drop> LineStore for DiskStore<D> {
     ghost stands = { λ store. standing (D.view store.disk) store.held };
 
     fn begin(&mut self, s: Session) {
-        begin(&self.disk, &mut self.held, s);
-        steps_are_few(&self.held, s);
+        let held = &mut self.held;
+        begin(&self.disk, held, s);
+        steps_are_few(held, s);
     }
 
     fn begin_reading(&mut self, s: Session) -> Result<(), NoMemory> {
-        let begun = begin_reading(&self.disk, &mut self.held, s);
-        steps_are_few(&self.held, s);
+        let held = &mut self.held;
+        let begun = begin_reading(&self.disk, held, s);
+        steps_are_few(held, s);
         begun
     }
 
     fn end_reading(&mut self, s: Session) {
-        end_reading(&self.disk, &mut self.held, s);
-        steps_are_few(&self.held, s);
+        let held = &mut self.held;
+        end_reading(&self.disk, held, s);
+        steps_are_few(held, s);
     }
 
     fn learn_line(
@@ -106,40 +116,47 @@ impl<D: Disk + Drop> LineStore for DiskStore<D> {
     }
 
     fn change(&mut self, s: Session, writes: &[Write]) -> Result<(), ChangeStop> {
-        let changed = change(&self.disk, &mut self.held, s, writes);
-        steps_are_few(&self.held, s);
+        let held = &mut self.held;
+        let changed = change(&self.disk, held, s, writes);
+        steps_are_few(held, s);
         changed
     }
 
     fn prepare(&mut self, s: Session) -> Result<(), CommitStop> {
-        let prepared = prepare(&self.disk, &mut self.held, s);
-        steps_are_few(&self.held, s);
+        let held = &mut self.held;
+        let prepared = prepare(&self.disk, held, s);
+        steps_are_few(held, s);
         prepared
     }
 
     fn give_back(&mut self, s: Session) {
-        give_back(&self.disk, &mut self.held, s);
-        steps_are_few(&self.held, s);
+        let held = &mut self.held;
+        give_back(&self.disk, held, s);
+        steps_are_few(held, s);
     }
 
     fn commit(&mut self, s: Session) {
-        commit(&self.disk, &mut self.held, s);
-        steps_are_few(&self.held, s);
+        let held = &mut self.held;
+        commit(&self.disk, held, s);
+        steps_are_few(held, s);
     }
 
     fn roll_back(&mut self, s: Session) {
-        roll_back(&self.disk, &mut self.held, s);
-        steps_are_few(&self.held, s);
+        let held = &mut self.held;
+        roll_back(&self.disk, held, s);
+        steps_are_few(held, s);
     }
 
     fn die(&mut self, s: Session) {
-        die(&self.disk, &mut self.held, s);
-        steps_are_few(&self.held, s);
+        let held = &mut self.held;
+        die(&self.disk, held, s);
+        steps_are_few(held, s);
     }
 
     fn step(&mut self, s: Session) -> Result<Stepped, Fault> {
-        let stepped = step(&mut self.disk, &mut self.held, s);
-        steps_are_few(&self.held, s);
+        let held = &mut self.held;
+        let stepped = step(&mut self.disk, held, s);
+        steps_are_few(held, s);
         stepped
     }
 
