@@ -3,6 +3,7 @@
 
 mod before_images;
 mod beginning;
+mod change_moves;
 mod changing;
 mod classes;
 mod dying;
