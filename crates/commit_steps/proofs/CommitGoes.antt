@@ -1,5 +1,5 @@
 -- A step of a commit: it goes on, or failed.
-use Rattle.std.proofs.Common.{◌≡◌, ◌≢◌, ◌≤◌, ◌<◌, ◌+◌, ◌-◌, ◌==◌, ℕ, Bool, true, false, cond, IsTrue, List, [], length, Ok, Option, Some, None, refl, sym, ap, subst, ◌∙◌, arith}
+use Rattle.std.proofs.Common.{◌≡◌, ◌≢◌, ◌≤◌, ◌<◌, ◌+◌, ◌-◌, ◌==◌, ◌⊎◌, inl, inr, ℕ, Bool, true, false, cond, IsTrue, List, [], length, Ok, Option, Some, None, refl, sym, ap, subst, ◌∙◌, arith}
 use Rattle.std.specs.Prelude.{slice_get, if◌then◌else◌}
 use Rattle.rdb_outside.specs.Causes.{Rose}
 use Rattle.rdb_outside.specs.Disk.{View, LeftNow}
@@ -100,15 +100,15 @@ has-some Securing n some = some
 has-some (Going at) n some = some
 
 -- only the last turn commits
-pub lands-from : (turn : CommitTurn) → IsNextTurn turn (Going Committed) → turn ≡ Going Landing
+pub lands-from : (turn : CommitTurn) → IsNextTurn turn (Going Committed) → (turn ≡ Going Landing) ⊎ (turn ≡ Going Committed)
 lands-from (Entering at) is = absurd is
 lands-from Securing is = absurd is
 lands-from (Going (Changing at)) is = absurd is
 lands-from (Going (Imaging at)) is = absurd is
 lands-from (Going Gathering) is = absurd is
 lands-from (Going Sealing) is = absurd is
-lands-from (Going Landing) is = refl
-lands-from (Going Committed) is = absurd is
+lands-from (Going Landing) is = inl refl
+lands-from (Going Committed) is = inr refl
 
 -- ---- what the step does
 

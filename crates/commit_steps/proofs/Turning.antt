@@ -75,7 +75,7 @@ module _ (held : StoreMemory) (s : ℕ) (m : Member) (was : slice_get held.membe
   beside-rests t x apart got = not-flying (is_flying x.stage) (λ flown. eqb-false t s apart (commits.alone t s x m got was flown flies))
 
   pub beside-stands : (v w : View) (g h : Ledger) (t : ℕ) (x : Member) → (t == s) ≡ false → slice_get held.members t ≡ Some x → StaysWith t g h → StageStands x.stage v g t x → StageStands x.stage w h t x
-  beside-stands v w g h t x apart got stays stands = view-free x.stage v w h t x (beside-rests t x apart got) (stays-with v v g h t (λ file slot. refl) (λ classes lie. lie) stays x stands)
+  beside-stands v w g h t x apart got stays stands = view-free x.stage v w h t x (beside-rests t x apart got) (stays-with v v g h t (λ file page is. refl) (λ classes lie. lie) stays x stands)
 
 -- ---- what the disk gives
 
@@ -123,7 +123,7 @@ module _ (v w : View) (held : StoreMemory) (s : ℕ) (m : Member) (was : slice_g
       ledger = k;
       facts = facts;
       limits = base.limits;
-      none = λ t apart rested. rests v v g k t (λ file slot. refl) (λ classes lie. lie) (stays t apart) rested;
+      none = λ t apart rested. rests v v g k t (λ file page is. refl) (λ classes lie. lie) (stays t apart) rested;
       others = λ t x apart got stood. beside-stands held s m was (ap is_flying at) commits v w g k t x apart (sym (set-beside held.members s t (at_stage (stage.Committing next) m) apart) ∙ got) (stays t apart) stood;
       mine = mine;
       numbered = record {

@@ -22,15 +22,10 @@ pub mod Kept
 pub mod Reading
 pub mod FoundLines
 pub mod LaidLines
+pub mod SlotsSound
 pub mod Changed
 pub mod Stopping
-pub mod LeftTo
-pub mod SnapWritten
-pub mod Breaking
 pub mod SpentSlots
-pub mod WaitMore
-pub mod JournalSteps
-pub mod PushSteps
 mod Going
 mod Begun
 mod Seeing

@@ -1,7 +1,8 @@
 // What an ended transaction left is put away: one write, which closes its header. Of a session that died, too.
-ghost use Rattle.std.specs.Prelude.{◌⊎◌, Bool};
+ghost use Rattle.std.specs.Prelude.{◌≡◌, ◌⊎◌, Bool, Ok};
 ghost use Rattle.line_store.specs.Seats.{IsMember};
-ghost use Rattle.line_store.specs.Sights.{Does, Steps, stepped_to, MayAnswer};
+ghost use Rattle.line_store.specs.Sights.{Does, Steps, stepped_to, MayAnswer, IsLess};
+ghost use Rattle.line_store.specs.declared.answers.Stepped.TheVariants as stepped;
 ghost use Rattle.disk_store.specs.declared.member.MemberStage.TheVariants as stage;
 ghost use Rattle.disk_store.specs.declared.member.Recovery.TheVariants as recovery;
 ghost use Rattle.disk_store.specs.Seats.{stand_at, IsAtStage};
@@ -20,6 +21,7 @@ pub fn put_away<D: Disk>(disk: &mut D, held: &mut Held, s: Session) -> Result<St
     ensures answers { MayAnswer (stand_at held.old.members s.number) result }
     ensures comes { Does s.number (stepped_to (stand_at held.old.members s.number) result)
         (Steps s.number result) (sight_of (D.view disk.old) held.old) (sight_of (D.view disk.new) held.new) }
+    ensures less { result ≡ Ok stepped.More → IsLess s.number (sight_of (D.view disk.old) held.old) (sight_of (D.view disk.new) held.new) }
 {
     let Ok(()) = close(disk, s.number) else {
         return Err(Fault::Failed);
@@ -35,6 +37,7 @@ pub fn bury<D: Disk>(disk: &mut D, held: &mut Held, s: Session) -> Result<Steppe
     ensures answers { MayAnswer (stand_at held.old.members s.number) result }
     ensures comes { Does s.number (stepped_to (stand_at held.old.members s.number) result)
         (Steps s.number result) (sight_of (D.view disk.old) held.old) (sight_of (D.view disk.new) held.new) }
+    ensures less { result ≡ Ok stepped.More → IsLess s.number (sight_of (D.view disk.old) held.old) (sight_of (D.view disk.new) held.new) }
 {
     let Ok(()) = close(disk, s.number) else {
         return Err(Fault::Failed);

@@ -3,6 +3,7 @@
 
 mod before_images;
 mod beginning;
+mod change_moves;
 mod changing;
 mod classes;
 mod dying;
@@ -38,3 +39,4 @@ pub use restoring::restore;
 pub use rolling::roll_back;
 pub use rooms::{room, take_room};
 pub use starts::{begin_reading, end_reading};
+pub use undoing::put_back;

@@ -1,5 +1,5 @@
 -- A before-image of a change is written, or the header before the first.
-use Rattle.std.proofs.Common.{◌≡◌, ◌≢◌, ◌≤◌, ◌<◌, ◌==◌, ◌++◌, ℕ, false, IsTrue, List, [], ◌∷◌, length, Some, None, inl, inr, refl, sym, ap, subst, ◌∙◌, arith}
+use Rattle.std.proofs.Common.{◌≡◌, ◌≢◌, ◌≤◌, ◌<◌, ◌==◌, ◌++◌, ℕ, false, IsTrue, List, [], ◌∷◌, length, Some, None, ◌⊎◌, inl, inr, refl, sym, ap, subst, ◌∙◌, arith}
 use Rattle.std.specs.Prelude.{slice_get, if◌then◌else◌}
 use Rattle.std.specs.FinMap.Entries.{find}
 use Rattle.rdb_types.specs.declared.keys.Dbkey.{Dbkey}
@@ -11,20 +11,21 @@ use Rattle.line_view.specs.declared.writes.Write.{Write}
 use Rattle.line_view.specs.Knowledge.{Lines}
 use Rattle.line_store.specs.Seats.{in_flight}
 use Rattle.line_store.specs.Shelves.{Shelf}
-use Rattle.line_store.specs.Calls.{Moves, GoesOn}
+use Rattle.line_store.specs.Calls.{Moves, GoesOn, Fails, HasCause}
+use Rattle.line_store.specs.declared.answers.Fault.{Fault}
 use Rattle.line_store.specs.Sights.{Does}
 use Rattle.stable_lines.specs.Slots.{Undo, ruj_file, line_at}
 use Rattle.stable_lines.specs.Image.{IsNoneOf}
 use Rattle.stable_lines.specs.Progress.{Open}
 use Rattle.line_moves.specs.Calls.{OnlyWrites}
-use Rattle.disk_seats.specs.Ledgers.{changing, Ledger, stands_as}
+use Rattle.disk_seats.specs.Ledgers.{broken, changing, Ledger, stands_as}
 use Rattle.disk_seats.specs.Members.{LedgerFacts, IsLeftTo}
 use Rattle.ledger_versions.specs.Readers.{set_waiting}
 use Rattle.ledger_versions.proofs.LinesJoin.{line_journalled}
-use Rattle.member_memory.proofs.Growing.{has-it, get-more, length-more}
+use Rattle.member_memory.proofs.Growing.{get-more, length-more}
 use Rattle.disk_store.specs.declared.member.Member.{Member}
 use Rattle.disk_store.specs.declared.member.MemberStage.TheVariants as stage
-use Rattle.disk_store.specs.Memory.{StoreMemory, with_member}
+use Rattle.disk_store.specs.Memory.{StoreMemory, at_stage, with_member}
 use Rattle.disk_store.specs.Seats.{seat_with, stand_of, stand_at, steps_in}
 use Rattle.disk_store.specs.Standing.{HasBegun, StageStands}
 use Rattle.disk_store.specs.Shown.{WaitPushed, WaitsAs, Shown, sight_of}
@@ -36,8 +37,9 @@ use Rattle.disk_store.proofs.Beside.{StaysOf, stays-there}
 use Rattle.disk_store.proofs.Kept.{kept-stays}
 use Rattle.disk_store.proofs.Stepping.{ComesTo, does-step, becomes-member, space-same}
 use Rattle.disk_store.proofs.Passing.{Passes, passes-aside, aside-ceiling, tables-pass, slots-pass, same-ledger}
-use Rattle.disk_store.proofs.Changed.{some-found}
-use Rattle.disk_store.proofs.LeftTo.{left-to, not-borne}
+use Rattle.change_steps.proofs.Breaking.{StaysShown, taken-broken, does-break}
+use Rattle.disk_store.proofs.SlotsSound.{found-key}
+use Rattle.change_steps.proofs.LeftTo.{left-to, not-borne}
 
 -- ---- what memory has of a key that has no before-image yet
 
@@ -48,19 +50,37 @@ none-yet g s m key once has is i undo got same =
     let less = get-within has.all i undo got in
     omega (arith, at, less, has.count)
 
--- it is found in memory
-pub found-key : (held : StoreMemory) (sound : IsSound held) (s : ℕ) (m : Member) → slice_get held.members s ≡ Some m → (place : ℕ) (key : Dbkey) → slice_get m.written.keys place ≡ Some key → (line : Line) × (find dbkey_order key m.written.lines ≡ Some line)
-found-key held sound s m was place key is =
-    let keys = (sound.each s m was).keys in
-    some-found (find dbkey_order key m.written.lines) (sym (keys.same key) ∙ has-it m.written.keys place key is)
-
--- and lies within the limit of pages
+-- it lies within the limit of pages
 pub key-within : (v : View) (held : StoreMemory) (sound : IsSound held) (s : ℕ) (m : Member) (was : slice_get held.members s ≡ Some m) (key : Dbkey) (line : Line) → find dbkey_order key m.written.lines ≡ Some line → (h : Shelf) (shown : Shown v held h) → key.page ≤ shown.ledger.base.limits.pages
 key-within v held sound s m was key line found h shown =
     let lies = (sound.each s m was).lies key line found in
     let long = shown.space.pages.limit lies.place.file in
     let limit = ap (λ (l : Limits). l.pages) (shown.space.limits ∙ sym shown.limits) in
     omega (arith, long, limit, lies.is_line.within.last)
+
+-- what is left is less
+
+pub named-fewer : (m : Member) → m.stage ≡ stage.Changing → m.named ≡ false → steps_in (named_now m).stage (named_now m) < steps_in m.stage m
+named-fewer m at unnamed =
+    let one : ◌≡◌ {A = ℕ} (if m.named then 0 else 1) 1 = ap (λ b. if b then 0 else 1) unnamed in
+    let new : steps_in (named_now m).stage (named_now m) ≡ steps_in stage.Changing (named_now m) = ap (λ x. steps_in x (named_now m)) at in
+    let old : steps_in m.stage m ≡ steps_in stage.Changing m = ap (λ x. steps_in x m) at in
+    omega (arith, one, new, old)
+
+pub journalled-fewer : (m : Member) → m.stage ≡ stage.Changing → m.journalled < length m.written.keys → steps_in (journalled_more m).stage (journalled_more m) < steps_in m.stage m
+journalled-fewer m at less =
+    let new : steps_in (journalled_more m).stage (journalled_more m) ≡ steps_in stage.Changing (journalled_more m) = ap (λ x. steps_in x (journalled_more m)) at in
+    let old : steps_in m.stage m ≡ steps_in stage.Changing m = ap (λ x. steps_in x m) at in
+    omega (arith, new, old, less)
+
+-- the ledger behind a header
+pub header-facts : (v w : View) (held : StoreMemory) (s : ℕ) (m : Member) → slice_get held.members s ≡ Some m → IsSound held → (key : Dbkey) → slice_get m.written.keys m.journalled ≡ Some key
+    → (IsTrue v.tells → (g : Ledger) (o : Open) (all : List Undo) (stable : ℕ) → LedgerFacts v g → g.standing s ≡ changing all stable → g.base.going s ≡ Some o → m.tsn ≡ o.tsn → m.journalled ≡ length all → IsNoneOf key all → IsLeftTo s key g.standing → key.page ≤ g.base.limits.pages → LedgerFacts w g)
+    → (h : Shelf) (shown : Shown v held h) → HasBegun shown.ledger s m → LedgerFacts w shown.ledger
+header-facts v w held s m was sound key is goes h shown has =
+    let line = found-key held sound s m was m.journalled key is in
+    goes shown.tells shown.ledger has.transaction has.all has.stable shown.facts has.stands has.is_open has.number has.count (none-yet shown.ledger s m key (sound.each s m was).keys.once has is)
+    (left-to v held sound h shown s m was key line.0 line.1) (key-within v held sound s m was key line.0 line.1 h shown)
 
 module _ (v w : View) (held : StoreMemory) (s : ℕ) (m : Member) (was : slice_get held.members s ≡ Some m) (sound : IsSound held) (at : m.stage ≡ stage.Changing) (slot : ℕ) (only : OnlyWrites (ruj_file s) slot v w) where
   pub has-begun : (g : Ledger) → StageStands m.stage v g s m → HasBegun g s m
@@ -194,3 +214,34 @@ module _ (v w : View) (held : StoreMemory) (s : ℕ) (m : Member) (was : slice_g
         (does-step v w held (record (with_member s more held) { numbers = held.numbers }) s m more was (becomes-member held held.numbers s more) plain only.told only.leaves to-more
         only.later only.no_fewer (stand_of (Some m)) (λ h g. GoesOn s h g) refl still (λ h shown stands. record { lines = refl; commit = refl }) space-same
         (λ h g start related moves. record { moves = subst (λ x. Moves s x h g) (sym related.seat) moves; less = let new = related.steps_behind in let old = related.steps in let less = more-less in omega (arith, new, old, less) }))
+
+  -- ---- a fault
+
+  module _ (kept : IsTrue v.tells → (g : Ledger) → HasBegun g s m → LedgerFacts v g → LedgerFacts w g ⊎ LedgerFacts w (stands_as s broken g)) where
+    abbrev b : Member
+    b = at_stage stage.Broken m
+
+    abbrev behind-fault : StoreMemory
+    behind-fault = record (with_member s b held) { numbers = held.numbers }
+
+    stays-shown : (h : Shelf) (shown : Shown v held h) → StaysShown v w held behind-fault h shown
+    stays-shown h shown =
+        let p = passes shown.tells in
+        record {
+          areas = p.areas;
+          numbered = record { number = shown.numbers.number; first = shown.numbers.first; ceiling = aside-ceiling v w shown.tells (ruj_file s) slot (λ e. cc) only held.numbers shown.numbers.ceiling; group = shown.numbers.group };
+          kept = kept-stays held.members s held.numbers.next held.numbers.written m b was (omega arith) shown.kept;
+          tabled = tables-pass v w p shown.ledger shown.ledger held.tables refl shown.tables;
+          used = shown.versions.used;
+          readers = p.readers shown.ledger held.limits.snaps shown.versions.course shown.versions.waiting shown.versions.readers;
+          slots = slots-pass v w p shown.versions.course.followed held.limits.snaps held.slots shown.versions.slots;
+        }
+
+    broken-now : (h : Shelf) (shown : Shown v held h) → HasBegun shown.ledger s m → LedgerFacts w (stands_as s broken shown.ledger)
+    broken-now h shown has = elim (kept shown.tells shown.ledger has shown.facts) [
+      | inl same ↦ taken-broken w shown.ledger s m (subst IsTrue (sym only.told) shown.tells) has same
+      | inr broke ↦ broke
+    ]
+
+    pub does-fault : (fault : Fault) → HasCause fault (record { time = v.moment; faults = v.faults }) (record { time = w.moment; faults = w.faults }) → Does s (stand_at held.members s) (λ h g. Fails s fault h g) (sight_of v held) (sight_of w (with_member s b held))
+    does-fault fault cause = does-break v w held behind-fault s m b was at (becomes-member held held.numbers s b) refl refl refl only.told only.leaves only.later only.no_fewer broken-now stays-shown space-same fault cause

@@ -110,7 +110,7 @@ module _ (v w : View) (held behind : StoreMemory) (s : ℕ) (m n : Member) (was 
   seated : (start : Lines) → seat_with n.stage (writes_in n.written.lines) start ≡ seat_with m.stage (writes_in m.written.lines) start
   seated start = ap (λ x. seat_with x (writes_in n.written.lines) start) breaks ∙ ap (λ w. seat_with stage.Changing (writes_in w.lines) start) same ∙ ap (λ x. seat_with x (writes_in m.written.lines) start) (sym at)
 
-  does-break : (fault : Fault) → HasCause fault (record { time = v.moment; faults = v.faults }) (record { time = w.moment; faults = w.faults }) → Does s (stand_at held.members s) (λ h g. Fails s fault h g) (sight_of v held) (sight_of w behind)
+  pub does-break : (fault : Fault) → HasCause fault (record { time = v.moment; faults = v.faults }) (record { time = w.moment; faults = w.faults }) → Does s (stand_at held.members s) (λ h g. Fails s fault h g) (sight_of v held) (sight_of w behind)
   does-break fault cause = subst (λ x. Does s (stand_of x) (λ h g. Fails s fault h g) (sight_of v held) (sight_of w behind)) (sym was)
       (does-step v w held behind s m n was becomes (λ e. let bad : stage.Broken ≡ stage.Reading = sym breaks ∙ e in cc) told leaves to-broken later no-fewer (stand_of (Some m)) (λ h g. Fails s fault h g) (ap (λ x. bare (seat_with x [] [])) breaks ∙ sym (ap (λ x. bare (seat_with x [] [])) at))
       still (λ h shown stands. record { lines = refl; commit = refl }) keeps-space

@@ -35,6 +35,7 @@ use Rattle.disk_store.specs.declared.member.MemberStage.TheVariants as stage
 use Rattle.committed_tables.specs.Tables.{WereUsed}
 use Rattle.disk_store.specs.declared.held.Numbers.{Numbers}
 use Rattle.disk_store.specs.declared.held.Tables.{Tables}
+use Rattle.disk_store.specs.ChangeSteps.{rechained}
 use Rattle.disk_store.specs.Memory.{StoreMemory}
 use Rattle.disk_store.specs.Numbers.{kept_at, kept_in}
 use Rattle.disk_store.specs.Seats.{seat_with, stand_of, stand_at, steps_in}
@@ -48,11 +49,11 @@ use Rattle.disk_store.proofs.Kept.{kept-stays}
 use Rattle.disk_store.proofs.Stepping.{ComesTo, Becomes, does-step}
 use Rattle.disk_store.proofs.Passing.{Passes, passes-reads, reads-leave, reads-ceiling, aside-ceiling, tables-pass, slots-pass}
 use Rattle.disk_store.proofs.Changed.{got-within, used-all}
-use Rattle.disk_store.proofs.LeftTo.{not-borne}
-use Rattle.disk_store.proofs.SnapWritten.{areas, snap-keeps, snap-tables}
+use Rattle.change_steps.proofs.LeftTo.{not-borne}
+use Rattle.change_steps.proofs.SnapWritten.{areas, snap-keeps, snap-tables}
 use Rattle.disk_store.proofs.SpentSlots.{space-less, keeps-less, stands-less}
-use Rattle.disk_store.proofs.WaitMore.{rechained, none-waits, puts-in, wait-more}
-use Rattle.disk_store.proofs.JournalSteps.{found-key}
+use Rattle.change_steps.proofs.WaitMore.{none-waits, puts-in, wait-more}
+use Rattle.disk_store.proofs.SlotsSound.{found-key}
 
 -- ---- what the ledger has of the line
 
@@ -72,6 +73,15 @@ module _ (v : View) (g : Ledger) (s : ℕ) (m : Member) (key : Dbkey) (has : Has
   left-still facts t i undo ne got same =
       let mine = has-before in
       facts.apart s t mine.index i mine.undo undo (λ e. ne (sym e)) (ap (λ (x : Standing). slice_get (entries_of x) mine.index) has.stands ∙ mine.is) got (mine.key_is ∙ sym same)
+
+-- what is left is less
+pub pushed-fewer : (m n : Member) → m.stage ≡ stage.Changing → n.stage ≡ m.stage → n.named ≡ m.named → n.journalled ≡ m.journalled → n.pushed ≡ m.pushed + 1 → n.written.keys ≡ m.written.keys → m.pushed < length m.written.keys → steps_in n.stage n < steps_in m.stage m
+pushed-fewer m n at stage-is named-is journalled-is pushed-is keys-is less =
+    let new : steps_in n.stage n ≡ steps_in stage.Changing n = ap (λ x. steps_in x n) (stage-is ∙ at) in
+    let old : steps_in m.stage m ≡ steps_in stage.Changing m = ap (λ x. steps_in x m) at in
+    let named : ◌≡◌ {A = ℕ} (if n.named then 0 else 1) (if m.named then 0 else 1) = ap (λ b. if b then 0 else 1) named-is in
+    let keys = ap (λ ks. length ks) keys-is in
+    omega (arith, new, old, less, named, keys, journalled-is, pushed-is)
 
 module _ (v w : View) (held behind : StoreMemory) (s : ℕ) (m n : Member) (was : slice_get held.members s ≡ Some m) (sound : IsSound held) (at : m.stage ≡ stage.Changing) (all-in : length m.written.keys ≤ m.journalled) (key : Dbkey) (is : slice_get m.written.keys m.pushed ≡ Some key) (chain : ℕ)
     (stage-is : n.stage ≡ m.stage) (tsn-is : n.tsn ≡ m.tsn) (named-is : n.named ≡ m.named) (journalled-is : n.journalled ≡ m.journalled) (pushed-is : n.pushed ≡ m.pushed + 1) (keys-is : n.written.keys ≡ m.written.keys)
@@ -98,13 +108,7 @@ module _ (v w : View) (held behind : StoreMemory) (s : ℕ) (m n : Member) (was 
   at-now = stage-is ∙ at
 
   pub push-less : steps_in n.stage n < steps_in m.stage m
-  push-less =
-      let new : steps_in n.stage n ≡ steps_in stage.Changing n = ap (λ x. steps_in x n) at-now in
-      let old : steps_in m.stage m ≡ steps_in stage.Changing m = ap (λ x. steps_in x m) at in
-      let less = get-within m.written.keys m.pushed key is in
-      let named : ◌≡◌ {A = ℕ} (if n.named then 0 else 1) (if m.named then 0 else 1) = ap (λ b. if b then 0 else 1) named-is in
-      let keys = ap (λ ks. length ks) keys-is in
-      omega (arith, new, old, less, named, keys, journalled-is, pushed-is)
+  push-less = pushed-fewer m n at stage-is named-is journalled-is pushed-is keys-is (get-within m.written.keys m.pushed key is)
 
   module _ (h : Shelf) (shown : Shown v held h) (stands : StageStands m.stage v shown.ledger s m) where
     abbrev g : Ledger

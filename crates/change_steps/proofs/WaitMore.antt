@@ -15,11 +15,8 @@ use Rattle.disk_versions.specs.Versions.{PutsIn, IsNoneOfThem}
 use Rattle.ledger_versions.specs.Readers.{HasVersionOf}
 use Rattle.member_memory.specs.Memory.{Memory}
 use Rattle.member_memory.proofs.Growing.{tied}
+use Rattle.disk_store.specs.ChangeSteps.{rechained}
 use Rattle.disk_store.specs.Shown.{IsPushed, WaitPushed}
-
--- the line with its version before at this chain
-abbrev pub rechained : ℕ → Line → Line
-rechained chain line = record { state = line.state; tsn = line.tsn; chain = chain; image = line.image }
 
 pair-key : (a b : Dbkey × Line) → Some a ≡ Some b → a ≡ b
 pair-key a b same = same_Some a b same
