@@ -1,5 +1,5 @@
 -- A barrier, and a read behind it.
-use Rattle.std.proofs.Common.{◌≡◌, IsTrue, sym, subst, ◌∙◌}
+use Rattle.std.proofs.Common.{IsTrue, sym, subst, ◌∙◌}
 use Rattle.rdb_outside.specs.Disk.{View, OnlyReads, IsStable}
 use Rattle.rdb_outside.specs.Runs.{then_reads}
 use Rattle.disk_seats.specs.Ledgers.{Ledger}

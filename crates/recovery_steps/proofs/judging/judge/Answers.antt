@@ -1,6 +1,5 @@
-use Rattle.std.proofs.Common.{◌≡◌, ◌<◌, ◌+◌, ℕ, Bool, IsTrue, Ok, Some, refl, sym, ap, subst, ◌∙◌, arith}
-use Rattle.rdb_outside.specs.Disk.{OnlyReads}
-use Rattle.line_store.specs.Seats.{outside, IsAlive}
+use Rattle.std.proofs.Common.{◌≡◌, ◌+◌, ℕ, Bool, Ok, refl, sym, ap, subst, ◌∙◌, arith}
+use Rattle.line_store.specs.Seats.{outside}
 use Rattle.line_store.specs.Calls.{GoesOn, IsSaved}
 use Rattle.line_store.specs.Sights.{Does}
 use Rattle.disk_store.specs.declared.member.Member.{Member}
