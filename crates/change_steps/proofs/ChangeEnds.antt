@@ -37,32 +37,7 @@ use Rattle.disk_store.proofs.Stepping.{ComesTo, Becomes, does-step}
 use Rattle.disk_store.proofs.Passing.{passes-none, none-leaves, tables-pass}
 use Rattle.disk_store.proofs.Changed.{got-within, used-all}
 use Rattle.disk_store.proofs.FoundLines.{found-there, stands-there, key-there}
-use Rattle.disk_store.proofs.SpentSlots.{space-less, keeps-less, stands-less}
-
--- ---- slots
-
--- slots that aren't set aside any more hold what they held
-pub held-left : (v : View) (followed : Followed) (limit : ℕ) (wanted : Wanted) (slots : SnapshotSlots) → HoldsAll v.content followed limit slots → HoldsAll v.content followed limit (without_asides wanted slots)
-held-left v followed limit wanted slots was file is = by (file == 1) (file == 2) (was file is)
-  where
-    less : (n : ℕ) (t : SlotTable) → HoldsFile v.content followed file limit t → HoldsFile v.content followed file limit (without_aside n t)
-    less n t has = record { long = has.long; used = has.used; pusher = has.pusher }
-
-    by : (a b : Bool) → HoldsFile v.content followed file limit (if a then slots.catalog else (if b then slots.relations else slots.indexes)) →
-        HoldsFile v.content followed file limit (if a then (without_asides wanted slots).catalog else (if b then (without_asides wanted slots).relations else (without_asides wanted slots).indexes))
-    by true b has = less wanted.catalog slots.catalog has
-    by false true has = less wanted.relations slots.relations has
-    by false false has = less wanted.indexes slots.indexes has
-
-used-left : (n : ℕ) (t : SlotTable) → used_in (without_aside n t) ≤ used_in t
-used-left n t = omega arith
-
-pub fewer-left : (wanted : Wanted) (slots : SnapshotSlots) → used-all (without_asides wanted slots) ≤ used-all slots
-fewer-left wanted slots =
-    let a = used-left wanted.catalog slots.catalog in
-    let b = used-left wanted.relations slots.relations in
-    let c = used-left wanted.indexes slots.indexes in
-    omega (arith, a, b, c)
+use Rattle.disk_store.proofs.SpentSlots.{fewer-left, held-left, space-less, keeps-less, stands-less}
 
 -- ---- lines that wait
 
