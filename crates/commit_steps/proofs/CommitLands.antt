@@ -1,52 +1,52 @@
 -- The last turn of a commit: its lines are committed.
-use Rattle.std.proofs.Common.{◌≡◌, ◌≢◌, ◌≤◌, ◌<◌, ◌+◌, ◌-◌, ◌==◌, ◌&&◌, ◌%◌, inl, inr, ◌⊎◌, ℕ, zero, suc, Bool, true, false, cond, not, nat_le, IsTrue, List, [], ◌∷◌, ◌++◌, length, map, Ok, Option, Some, None, refl, sym, ap, subst, ◌∙◌, arith}
-use Rattle.std.specs.Prelude.{slice_get, if◌then◌else◌}
+use Rattle.std.proofs.Common.{◌≡◌, ◌+◌, ◌==◌, inl, inr, ◌⊎◌, ℕ, Bool, false, cond, IsTrue, List, [], length, map, Ok, Some, None, refl, sym, ap, subst, ◌∙◌, arith}
+use Rattle.std.specs.Prelude.{slice_get}
 use Rattle.std.proofs.lemmas.Bool.{eqb-false}
 use Rattle.std.proofs.lemmas.Option.{none-some}
 use Rattle.rdb_outside.specs.Disk.{View, LeftNow}
 use Rattle.line_view.specs.declared.writes.Write.{Write}
 use Rattle.line_view.specs.Knowledge.{Lines}
 use Rattle.line_view.specs.Writes.{laid_all}
-use Rattle.line_store.specs.Seats.{Seat, committing, closing, in_flight, lines_written}
+use Rattle.line_store.specs.Seats.{committing, closing}
 use Rattle.line_store.specs.Shelves.{Shelf, Space}
 use Rattle.line_store.specs.Calls.{IsCommitted, TakesGroup}
-use Rattle.line_store.specs.Sights.{bare, Does}
+use Rattle.line_store.specs.Sights.{Does}
 use Rattle.stable_lines.specs.Slots.{line_at}
 use Rattle.stable_lines.specs.Journal.{next_slot, write_of}
 use Rattle.stable_lines.specs.Progress.{lines_with}
 use Rattle.line_seat.specs.declared.commit.CommitStage.TheVariants.{Gathering, Landing, Committed}
 use Rattle.line_seat.specs.Groups.{group_of}
-use Rattle.disk_seats.specs.Ledgers.{resting, Standing, Commit, Ledger, held_up, landed_at}
+use Rattle.disk_seats.specs.Ledgers.{resting, Commit, Ledger, held_up, landed_at}
 use Rattle.disk_seats.specs.Members.{LedgerFacts}
 use Rattle.disk_versions.specs.Courses.{course_landed}
 use Rattle.member_steps.specs.declared.committing.CommitTurn.{CommitTurn}
-use Rattle.member_steps.specs.declared.committing.CommitTurn.TheVariants.{Entering, Securing, Going}
+use Rattle.member_steps.specs.declared.committing.CommitTurn.TheVariants.{Going}
 use Rattle.member_steps.specs.Turns.{Plan, commit_of_plan}
 use Rattle.ledger_versions.specs.Readers.{set_waiting}
 use Rattle.reader_turns.proofs.TurnSteps.{turn_lands}
 use Rattle.member_memory.specs.Memory.{writes_in}
 use Rattle.disk_store.specs.declared.member.Member.{Member}
-use Rattle.disk_store.specs.declared.member.MemberStage.{MemberStage}
 use Rattle.disk_store.specs.declared.member.MemberStage.TheVariants as stage
 use Rattle.disk_store.specs.declared.held.Tables.{Tables}
 use Rattle.disk_store.specs.Dying.{forgotten}
-use Rattle.disk_store.specs.Memory.{StoreMemory, with_member}
-use Rattle.disk_store.specs.Seats.{seat_with, stand_of, stand_at}
+use Rattle.disk_store.specs.Memory.{StoreMemory}
+use Rattle.disk_store.specs.Seats.{seat_with}
 use Rattle.disk_store.specs.Standing.{IsGoing, StageStands}
-use Rattle.disk_store.specs.Shown.{TablesStand, Shown, sight_of}
+use Rattle.disk_store.specs.Shown.{Sits, TablesStand, Shown, sight_of}
 use Rattle.disk_store.specs.Sound.{IsSound}
 use Rattle.disk_store.specs.Commits.{is_flying, AreOfPages, KeepsCommits}
 use Rattle.disk_store.specs.Landing.{PutsAll, landed_with}
-use Rattle.commit_steps.specs.Turns.{group_for, MakesTurn}
+use Rattle.commit_steps.specs.Turns.{group_for, WritesAside, MakesTurn}
 use Rattle.disk_store.proofs.Members.{set-beside}
 use Rattle.disk_store.proofs.Moving.{itself}
 use Rattle.disk_store.proofs.Ordered.{group-long, same-writes}
-use Rattle.commit_steps.proofs.Planning.{own-commit, plan-going, under-way-now, of-areas, lie-for, waits-now}
+use Rattle.commit_steps.proofs.Planning.{own-commit, plan-going, under-way-now, waits-now}
 use Rattle.disk_store.proofs.Kept.{kept-stays}
 use Rattle.disk_store.proofs.Stepping.{ComesTo, does-any}
 use Rattle.disk_store.proofs.Passing.{aside-ceiling}
 use Rattle.disk_store.proofs.Beside.{StaysWith, rests}
 use Rattle.commit_steps.proofs.Turning.{beside-stands, slots-aside, tables-turned}
+use Rattle.commit_steps.proofs.CommitGoes.{lands-from}
 use Rattle.disk_store.proofs.LinesPut.{all-used}
 use Rattle.disk_store.proofs.Landed.{slot-behind, number-behind, tables-landed, becomes-landed, takes-landed}
 
@@ -110,7 +110,7 @@ module _ (v w : View) (held : StoreMemory) (s : ℕ) (m : Member) (was : slice_g
       ledger = k;
       facts = facts;
       limits = refl;
-      none = λ t apart rested. rests v v g k t (λ file slot. refl) (λ classes lie. lie) (stays t apart) rested;
+      none = λ t apart rested. rests v v g k t (λ file page is. refl) (λ classes lie. lie) (stays t apart) rested;
       others = λ t x apart got stood. beside-stands held s m was (ap is_flying at) commits v w g k t x apart (sym (set-beside held.members s t n apart) ∙ got) (stays t apart) stood;
       mine = ap (λ (b : Bool). cond b resting (g.standing s)) (itself s);
       numbered = record {
@@ -156,3 +156,31 @@ module _ (v w : View) (held : StoreMemory) (s : ℕ) (m : Member) (was : slice_g
           at = now ∙ sym related.time_behind;
         };
       })
+
+-- no commit that is under way is through
+module _ (v w : View) (held : StoreMemory) (s : ℕ) (m : Member) (was : slice_get held.members s ≡ Some m) (at : m.stage ≡ stage.Committing (Going Committed)) (only : WritesAside v w) (kept : Tables) (puts : PutsAll held.tables m.written.lines kept) where
+  never-through : (h : Shelf) (shown : Shown v held h) → StageStands m.stage v shown.ledger s m → ⊥
+  never-through h shown stands =
+      let going : IsGoing v shown.ledger s m Committed = subst (λ st. StageStands st v shown.ledger s m) at stands in
+      (shown.facts.commit (commit_of_plan going.commit.plan Committed) going.commit.under_way).under_way refl
+
+  pub does-through : (moment : ℕ) → Does s closing (λ h g. IsCommitted s moment h g) (sight_of v held) (sight_of w (landed_with stage.Closing kept s m held))
+  does-through moment =
+      does-any v w held (landed_with stage.Closing kept s m held) s m (forgotten stage.Closing m) was (becomes-landed held s m stage.Closing kept puts) (λ e. cc) only.only.told only.only.leaves
+      (λ h shown stands. absurd (never-through h shown stands))
+      only.only.later only.only.no_fewer closing (λ h g. IsCommitted s moment h g) refl
+      (λ h shown d is. absurd (never-through h shown (subst (λ x. Sits v shown.ledger s x (h.seat s)) was (shown.seats s)).stands))
+      (λ h g start related. absurd (never-through h related.shown related.stands))
+
+-- the turn that comes to the end is the last one
+pub does-last : (v w : View) (held : StoreMemory) (s : ℕ) (m : Member) (was : slice_get held.members s ≡ Some m) (turn next : CommitTurn) (at : m.stage ≡ stage.Committing turn) (sound : IsSound held) (commits : KeepsCommits held) (are : AreOfPages held.tables m.written.lines m.classes.items) (through : next ≡ Going Committed)
+    (makes : MakesTurn v w turn (group_for held m) m.written.lines m.classes.items (Ok next)) (kept : Tables) (puts : PutsAll held.tables m.written.lines kept) (left : IsTrue w.tells → LeftNow w w.content) (moment : ℕ) (now : moment ≡ w.moment)
+    → Does s closing (λ h g. IsCommitted s moment h g) (sight_of v held) (sight_of w (landed_with stage.Closing kept s m held))
+does-last v w held s m was turn next at sound commits are through makes kept puts left moment now = by (lands-from turn made.order)
+  where
+    made : MakesTurn v w turn (group_for held m) m.written.lines m.classes.items (Ok (Going Committed))
+    made = subst (λ (t : CommitTurn). MakesTurn v w turn (group_for held m) m.written.lines m.classes.items (Ok t)) through makes
+
+    by : (turn ≡ Going Landing) ⊎ (turn ≡ Going Committed) → Does s closing (λ h g. IsCommitted s moment h g) (sight_of v held) (sight_of w (landed_with stage.Closing kept s m held))
+    by (inl lands) = does-land v w held s m was (at ∙ ap stage.Committing lands) sound commits are (subst (λ (t : CommitTurn). MakesTurn v w t (group_for held m) m.written.lines m.classes.items (Ok (Going Committed))) lands made) kept puts left moment now
+    by (inr was-through) = does-through v w held s m was (at ∙ ap stage.Committing was-through) made.writes kept puts moment

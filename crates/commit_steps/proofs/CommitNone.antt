@@ -1,5 +1,5 @@
 -- A commit of no lines.
-use Rattle.std.proofs.Common.{◌≡◌, ◌≤◌, ◌+◌, ℕ, IsTrue, List, [], ◌∷◌, length, Some, refl, sym, ap, subst, ◌∙◌, arith}
+use Rattle.std.proofs.Common.{◌≡◌, ℕ, IsTrue, List, [], ◌∷◌, length, Some, refl, sym, ap, subst, ◌∙◌, arith}
 use Rattle.std.specs.Prelude.{slice_get}
 use Rattle.rdb_types.specs.declared.keys.Dbkey.{Dbkey}
 use Rattle.rdb_types.specs.declared.keys.Line.{Line}
@@ -30,7 +30,7 @@ module _ (v : View) (held : StoreMemory) (s : ℕ) (m : Member) (was : slice_get
 
   pub does-commit-none : (moment : ℕ) → moment ≡ v.moment → Does s closing (λ h g. IsCommitted s moment h g) (sight_of v held) (sight_of v (with_member s (at_stage stage.Closing m) held))
   does-commit-none moment now =
-      does-end-at v held s m was stage.Closing left (λ g rests. rests) (λ waiting. tt) (λ e. cc)
+      does-end-at v held s m was stage.Closing left (λ g rests. rests) (λ waiting. tt) (λ e. cc) refl
       (λ g stands. let entered : HasEntered v g s m k = subst (λ st. StageStands st v g s m) at stands in may-end-begun g s m entered.journalled.begun)
       closing (λ h g. IsCommitted s moment h g) refl
       (λ h g start seat time moves. record {

@@ -1,10 +1,12 @@
 // The steps of a commit.
-ghost use Rattle.std.specs.Prelude.{◌≡◌, ◌≤◌, true, Ok, Some, length, slice_get};
+ghost use Rattle.std.specs.Prelude.{◌≡◌, ◌≢◌, ◌≤◌, true, false, Ok, Some, length, slice_get};
 ghost use Rattle.line_store.specs.Seats.{IsMember, is_committing};
 ghost use Rattle.line_store.specs.Sights.{Does, Steps, stepped_to, MayAnswer, IsLess};
 ghost use Rattle.line_store.specs.declared.answers.Stepped.TheVariants as stepped;
+ghost use Rattle.line_seat.specs.declared.commit.CommitStage.TheVariants.{Committed};
 ghost use Rattle.disk_seats.specs.Ledgers.{again as stage_again};
 ghost use Rattle.member_steps.specs.declared.committing.CommitTurn.{CommitTurn as Turn};
+ghost use Rattle.member_steps.specs.declared.committing.CommitTurn.TheVariants.{Going};
 ghost use Rattle.disk_store.specs.declared.member.Member.{Member as Sits};
 ghost use Rattle.disk_store.specs.declared.member.MemberStage.TheVariants as stage;
 ghost use Rattle.disk_store.specs.Commits.{HasSome};
@@ -41,6 +43,25 @@ fn made_again(turn: CommitTurn) -> CommitTurn
         CommitTurn::Entering(_) => CommitTurn::Entering(0),
         CommitTurn::Securing => CommitTurn::Entering(0),
         CommitTurn::Going(stage) => CommitTurn::Going(again(stage)),
+    }
+}
+
+// Whether a commit that has come to a turn is through.
+fn is_through(turn: CommitTurn) -> bool
+    ensures yes { result ≡ true → turn ≡ Going Committed }
+    ensures no { result ≡ false → turn ≢ Going Committed }
+{
+    match turn {
+        CommitTurn::Entering(_) => false,
+        CommitTurn::Securing => false,
+        CommitTurn::Going(stage) => match stage {
+            CommitStage::Changing(_) => false,
+            CommitStage::Imaging(_) => false,
+            CommitStage::Gathering => false,
+            CommitStage::Sealing => false,
+            CommitStage::Landing => false,
+            CommitStage::Committed => true,
+        },
     }
 }
 
@@ -129,11 +150,11 @@ pub fn commit_step<D: Disk>(disk: &mut D, held: &mut Held, s: Session) -> Result
         return Ok(Stepped::Committed(disk.moment()));
     }
     match turn_on(disk, held, s, turn) {
-        Ok(CommitTurn::Going(CommitStage::Committed)) => {
-            held.land(s, MemberStage::Closing);
-            Ok(Stepped::Committed(disk.moment()))
-        }
         Ok(next) => {
+            if is_through(next) {
+                held.land(s, MemberStage::Closing);
+                return Ok(Stepped::Committed(disk.moment()));
+            }
             held.set_turn(s, next);
             Ok(Stepped::More)
         }

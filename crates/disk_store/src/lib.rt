@@ -39,3 +39,4 @@ pub use restoring::restore;
 pub use rolling::roll_back;
 pub use rooms::{room, take_room};
 pub use starts::{begin_reading, end_reading};
+pub use undoing::put_back;

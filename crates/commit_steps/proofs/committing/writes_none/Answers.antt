@@ -1,7 +1,6 @@
-use Rattle.std.proofs.Common.{ℕ, length, sym, ap, subst, ◌∙◌}
+use Rattle.std.proofs.Common.{length, sym, ap, subst, ◌∙◌}
 use Rattle.std.proofs.lemmas.Bool.{eqb-true, false≢true}
 use Rattle.rdb_types.specs.declared.keys.Dbkey.{Dbkey}
-use Rattle.member_memory.specs.Memory.{Memory}
 use Rattle.member_steps.specs.declared.committing.CommitTurn.{CommitTurn}
 use Rattle.disk_store.specs.Commits.{HasSome}
 use Rattle.disk_store.proofs.CommitsKept.{ready-now}
@@ -9,11 +8,10 @@ use Rattle.commit_steps.proofs.committing.writes_none.Goals as goal
 
 pub returns-in-Entering-clause-none : goal.returns-in-Entering-clause-none
 returns-in-Entering-clause-none c e =
-    let its = c.written.ensures in
     record {
-      member = its.0;
-      is = its.1;
-      none = ap (λ (w : Memory). length w.keys) (sym its.2) ∙ (ap (λ ks. length {A = Dbkey} ks) (sym c.keys.ensures.value) ∙ eqb-true _ 0 (sym c.is_empty.ensures ∙ e));
+      member = c.member.result.now;
+      is = c.member.ensures;
+      none = ap (λ ks. length {A = Dbkey} ks) (sym c.keys.ensures.value) ∙ eqb-true _ 0 (sym c.is_empty.ensures ∙ e);
       at = c.in-Entering.field-0;
       begins = c.in-Entering.is;
     }
