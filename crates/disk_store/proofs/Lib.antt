@@ -39,6 +39,7 @@ mod SlotsGiven
 mod Tidied
 mod Classed
 pub mod Judged
+pub mod FirstSound
 pub mod Ordered
 pub mod LinesPut
 pub mod Landed

@@ -14,4 +14,4 @@ pub mod Changing
 pub mod ChangeSteps
 pub mod Giving
 pub mod Readers
-pub mod Learning
+pub mod Opening

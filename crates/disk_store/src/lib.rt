@@ -16,6 +16,7 @@ mod laws;
 mod learning;
 mod member;
 mod moves;
+mod opening;
 mod preparing;
 mod restoring;
 mod rolling;
