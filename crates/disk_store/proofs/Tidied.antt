@@ -1,5 +1,5 @@
 -- What ended and came to rest stays so where its slots are given back behind it.
-use Rattle.std.proofs.Common.{◌≡◌, ℕ, Some, None, Option, refl, sym, ap, subst, ◌∙◌}
+use Rattle.std.proofs.Common.{◌≡◌, ℕ, None, Option, refl, sym, ap, subst, ◌∙◌}
 use Rattle.line_store.specs.Seats.{Seat, outside, beginning, writing, changing, prepared, committing, rolling_back, closing, reading, dead, in_flight, done_at}
 use Rattle.line_store.specs.Shelves.{Shelf}
 use Rattle.line_store.specs.Calls.{IsDone, IsUndone, Moves}

@@ -47,9 +47,9 @@ returns-clause-comes g c =
     let same : comes.0 ≡ at.member = one-member held.members s comes.0 at.member comes.1 at.is in
     let out = forgotten-outside held mid s comes.0 comes.1 comes.2 in
     let closed : Does s outside (λ h k. IsUndone s moment h k) (sight_of v held) (sight_of w mid) =
-        subst (λ (x : StoreMemory). Does s outside (λ h k. IsUndone s moment h k) (sight_of v held) (sight_of w x))
-        (sym (comes.2 ∙ ap (λ (x : Member). with_member s (forgotten stage.Outside x) held) same))
-        (does-bury v w held s moment at.member c.requires.died.0 at.is at.at c.close.ensures.writes c.close.ensures.keeps c.moment.ensures) in
+    subst (λ (x : StoreMemory). Does s outside (λ h k. IsUndone s moment h k) (sight_of v held) (sight_of w x))
+    (sym (comes.2 ∙ ap (λ (x : Member). with_member s (forgotten stage.Outside x) held) same))
+    (does-bury v w held s moment at.member c.requires.died.0 at.is at.at c.close.ensures.writes c.close.ensures.keeps c.moment.ensures) in
     undone-still s outside (sight_of v held) (sight_of w mid) (sight_of w behind) (stands-outside mid.members s out) (does-give w mid behind s out c.give_slots.ensures) moment closed
 
 pub returns-clause-slots : goal.returns-clause-slots
