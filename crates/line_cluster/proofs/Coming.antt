@@ -104,7 +104,7 @@ nobodys-of : (s : ℕ) (ms : List Mark) → AllNobodys ms → AllOf s ms × (ans
 nobodys-of s [] h = (tt, refl)
 nobodys-of s (Says t ∷ ms) h = absurd h.0
 nobodys-of s (Does t ∷ ms) h = absurd h.0
-nobodys-of s (Other ∷ ms) h = let more = nobodys-of s ms h.1 in ((tt, more.0), more.1)
+nobodys-of s (Other ∷ ms) h = let more = nobodys-of s ms h.1 in let none = more.1 in ((tt, more.0), omega (arith, none))
 
 pub went-served : (s : ℕ) (old mid new : Sessions) → GoesFurther s old mid → new.members ≡ mid.members → GrowsQuietly mid.events new.events → GoesFurther s old new
 went-served s old mid new g same quiet =

@@ -183,7 +183,7 @@ module _ (M : Model) (s at : ℕ) (c d : Scene) (members put : List Member) (eac
       subst (λ (x : Option Halt). Less (measure_by (is_some x) put (rounds_at behind) (record { locks = locks; steps = d.sight.steps })) (measure_by (is_some old) members (rounds_at each) (beside c))) (sym on)
       (subst (λ (x : Option Halt). Less (measure_by false put (rounds_at behind) (record { locks = locks; steps = d.sight.steps })) (measure_by (is_some x) members (rounds_at each) (beside c))) (sym none)
       (subst (λ (xs : List Member). Less (measure_by false xs (rounds_at behind) (record { locks = locks; steps = d.sight.steps })) (measure_by false members (rounds_at each) (beside c))) (sym put-is)
-      (subst (λ (as : List Allotment). Less (measure_by false (slice_set members at (record { left = rest; total = m.total; phase = y; life = m.life })) (rounds_at as) (record { locks = locks; steps = d.sight.steps })) (measure_by false members (rounds_at each) (beside c)))
+      (subst (λ (xs : List Allotment). Less (measure_by false (slice_set members at (record { left = rest; total = m.total; phase = y; life = m.life })) (rounds_at xs) (record { locks = locks; steps = d.sight.steps })) (measure_by false members (rounds_at each) (beside c)))
       (ap (λ (i : ℕ). slice_set each i b) is ∙ sym behind-is) less)))
 
   given-at : slice_get each at ≡ Some a
