@@ -1,12 +1,11 @@
 -- What a turn comes to.
-use Rattle.std.proofs.Common.{◌≡◌, ◌≤◌, ◌<◌, ◌-◌, ℕ, zero, suc, ◌+◌, ◌++◌, ◌∷◌, [], List, true, false, refl, ◌∙◌, sym, ap, subst, arith, map, Option, Some, None, slice_get, slice_set, append-nil, append_assoc, inl, inr, ◌⊎◌, Bool, is_some, IfSome}
+use Rattle.std.proofs.Common.{◌≡◌, ◌≤◌, ◌<◌, ◌-◌, ℕ, zero, suc, ◌++◌, ◌∷◌, [], List, true, false, refl, ◌∙◌, sym, ap, subst, arith, map, Option, Some, None, slice_get, slice_set, append-nil, append_assoc, inl, inr, ◌⊎◌, Bool, is_some, IfSome}
 use Rattle.std.proofs.lemmas.Bool.{false≢true}
 use Rattle.std.proofs.lemmas.List.{map-append}
-use Rattle.std.proofs.lemmas.Option.{none-some, same_Some}
+use Rattle.std.proofs.lemmas.Option.{same_Some}
 use Rattle.rdb_drive.specs.Boards.{Mark, Says, Does, Other, AllOf, AllNobodys, answers}
 use Rattle.rdb_account.specs.declared.event.Event.{Event as Declared}
 use Rattle.rdb_account.specs.Events.{Event, event_of}
-use Rattle.lock_tree_laws.specs.Forest.{State}
 use Rattle.session_states.specs.declared.stage.Life.{Life}
 use Rattle.session_states.specs.declared.stage.Life.TheVariants.{Alive, Dead, Gone}
 use Rattle.session_states.specs.declared.stage.Member.{Member}
@@ -104,7 +103,7 @@ nobodys-of : (s : ℕ) (ms : List Mark) → AllNobodys ms → AllOf s ms × (ans
 nobodys-of s [] h = (tt, refl)
 nobodys-of s (Says t ∷ ms) h = absurd h.0
 nobodys-of s (Does t ∷ ms) h = absurd h.0
-nobodys-of s (Other ∷ ms) h = let more = nobodys-of s ms h.1 in ((tt, more.0), more.1)
+nobodys-of s (Other ∷ ms) h = let more = nobodys-of s ms h.1 in let none = more.1 in ((tt, more.0), omega (arith, none))
 
 pub went-served : (s : ℕ) (old mid new : Sessions) → GoesFurther s old mid → new.members ≡ mid.members → GrowsQuietly mid.events new.events → GoesFurther s old new
 went-served s old mid new g same quiet =

@@ -1,8 +1,7 @@
 -- Who rests does so in the account.
-use Rattle.std.proofs.Common.{◌≡◌, ◌≤◌, ◌-◌, ℕ, zero, suc, ◌++◌, ◌∷◌, [], List, length, Bool, true, false, not, nat_le, ◌&&◌, refl, ◌∙◌, sym, ap, subst, arith, map, Option, Some, None, slice_get, option_map, ◌==◌, ◌⊎◌}
+use Rattle.std.proofs.Common.{◌≡◌, ◌≤◌, ◌-◌, ℕ, zero, suc, ◌++◌, ◌∷◌, [], List, length, true, false, not, nat_le, refl, ◌∙◌, sym, ap, subst, arith, map, Option, Some, None, slice_get, option_map, ◌==◌}
 use Rattle.std.proofs.lemmas.Bool.{false≢true, and_parts, leb-true}
 use Rattle.rdo_ast.specs.declared.syntax.Item.{Item}
-use Rattle.rdo_ast.specs.Tree.{Uttered}
 use Rattle.rdo_ast.specs.Views.{uttered_of}
 use Rattle.rdb_account.specs.Events.{Event}
 use Rattle.rdb_account.specs.Places.{Opening, Place, place, next_item}
@@ -13,7 +12,6 @@ use Rattle.lock_tree_laws.specs.Forest.{State, party_of, open_asks}
 use Rattle.lock_ties.proofs.Causes.{tree-waits}
 use Rattle.line_steps.specs.Members.{Member as Seen, left_of}
 use Rattle.line_steps.specs.Right.{Ground, Stands}
-use Rattle.line_store.specs.Shelves.{Shelf}
 use Rattle.line_store.specs.Sights.{Sight}
 use Rattle.session_jobs.specs.Records.{Model}
 use Rattle.session_states.specs.declared.stage.Phase.{Phase}
@@ -22,11 +20,9 @@ use Rattle.session_states.specs.declared.stage.Life.{Life}
 use Rattle.session_states.specs.declared.stage.Life.TheVariants.{Alive, Dead, Gone}
 use Rattle.session_states.specs.declared.stage.Member.{Member}
 use Rattle.session_states.specs.States.{seen}
-use Rattle.session_states.specs.Fits.{LifeFits, PhaseFits, WriterFits}
-use Rattle.session_states.specs.Kept.{AreKept}
+use Rattle.session_states.specs.Fits.{LifeFits}
 use Rattle.session_states.specs.Shared.{Shared}
 use Rattle.session_stands.specs.Sessions.{IsTold, sharing, dead_in}
-use Rattle.line_arms.specs.Going.{is_done}
 use Rattle.line_cluster.specs.Going.{is_over}
 use Rattle.line_cluster.specs.Turned.{Sessions, SleepsFor, Waits, is_patient_at, HaveEnded, is_session}
 
@@ -144,7 +140,7 @@ over-rests-at M o word sight locks members events s m told first found alive ove
     subst (λ (t : ℕ). next_item o (place o events) t ≡ None) (numbered s first) (over-rests M o word sight locks members events told (s - 1) m found alive over)
 
 pub asleep-rests-at : (M : Model) (o : Opening) (word : List ℕ) (sight : Sight) (locks : State) (members : List Member) (events : List Event) (s t : ℕ) (c : Sessions) → IsTold M o word sight locks members events → 1 ≤ s →
-    Waits s t (record { members = members; events = c.events; rounds = c.rounds; steps = c.steps; locks = locks; halted = c.halted }) → SleepsFor (place o events) s t
+    Waits s t (record { members = members; events = c.events; measure = c.measure; locks = locks; halted = c.halted }) → SleepsFor (place o events) s t
 asleep-rests-at M o word sight locks members events s t c told first w =
     subst (λ (u : ℕ). SleepsFor (place o events) u t) (numbered s first)
     (asleep-rests M o word sight locks members events (s - 1) t w.member told w.found w.lives w.patient (subst (λ (u : ℕ). IsBlockedBy locks u t) (sym (numbered s first)) w.blocked))

@@ -1,10 +1,7 @@
-use Rattle.std.proofs.Common.{◌≡◌, ◌-◌, ℕ, suc, sym, ◌∙◌, ap, subst, refl, IfSome, slice_get, false, true, List}
-use Rattle.rdb_account.specs.Places.{place, next_item}
-use Rattle.rdb_account.specs.Events.{event_of}
+use Rattle.std.proofs.Common.{◌-◌, sym, ◌∙◌, ap, refl, slice_get, false, true, List}
 use Rattle.session_states.specs.declared.stage.Member.{Member}
 use Rattle.line_cluster.specs.Turned.{sessions}
 use Rattle.line_cluster.proofs.Coming.{came-from, looked, none-from, on-rests, some-found}
-use Rattle.line_cluster.proofs.Places.{suc-less}
 use Rattle.line_cluster.proofs.Resting.{asleep-rests-at, over-rests-at}
 use Rattle.line_cluster.proofs.sessions.Core.turn.Goals as goal
 
