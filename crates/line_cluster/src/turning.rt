@@ -8,7 +8,7 @@ ghost use Rattle.stage_steps.specs.Happenings.{events_of, handed_back};
 ghost use Rattle.stage_steps.specs.Scenes.{scene};
 ghost use Rattle.line_cluster.specs.Sound.{IsSound, IsOneOf};
 ghost use Rattle.line_cluster.specs.Going.{IsWriterAt, is_over as is_over_at};
-ghost use Rattle.line_cluster.specs.Turned.{Came, GoesOn, Rests, Waits, sessions};
+ghost use Rattle.line_cluster.specs.Turned.{Came, GoesOn, IsHalt, Rests, Waits, sessions};
 ghost use Rattle.std.specs.Vec.{vec_len, vec_capacity};
 
 use crate::falls::first_dead;
@@ -76,8 +76,8 @@ impl<O: Origin, S: Reserves + Reaches, L: LineStore> Core<O, S, L> {
         requires sound { IsSound S.stands O.told O.opening (scene self.old.common.word (L.sight self.old.common.store) self.old.common.tree) self.old.members.items (map event_of self.old.events.items) self.old.halt }
         ensures sound { IsSound S.stands O.told O.opening (scene self.new.common.word (L.sight self.new.common.store) self.new.common.tree) self.new.members.items (map event_of self.new.events.items) self.new.halt }
         ensures members { self.new.members.items ≡ self.old.members.items }
-        ensures came { (s : ℕ) → Came s (sessions self.old.members.items self.old.events.items self.old.common.tree self.old.halt) (sessions self.new.members.items self.new.events.items self.new.common.tree self.new.halt) result }
-        ensures on { GoesOn result }
+        ensures stops { result ≡ Turn.Stopped }
+        ensures halts { IsHalt (sessions self.old.members.items self.old.events.items self.old.common.tree self.old.halt) (sessions self.new.members.items self.new.events.items self.new.common.tree self.new.halt) }
     {
         self.halt = Some(halt);
         Turn::Stopped
@@ -119,6 +119,7 @@ impl<O: Origin, S: Reserves + Reaches, L: LineStore> Core<O, S, L> {
         requires one { IsOneOf self.now.members.items s.number }
         requires at { at ≡ s.number - 1 }
         requires going { self.now.halt ≡ None }
+        requires mourns_none { dead_in self.now.members.items ≡ 0 }
         requires lives { (m : MemberValue) → slice_get self.now.members.items at ≡ Some m → is_over_at m m.life ≡ false }
         ensures { IfSome result (λ t. Waits s.number t.number (sessions self.now.members.items self.now.events.items self.now.common.tree self.now.halt)) }
     {
