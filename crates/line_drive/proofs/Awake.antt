@@ -121,6 +121,9 @@ module _ (stand : ℕ → Seat) (c : Sessions) (seated : AreSeated stand c.locks
   awake-going : (s : ℕ) → IsSession sessions s → has_ended (member_at c.members s) ≡ false → (t : ℕ) × (Lives t × (is_asleep c t ≡ false))
   awake-going s session going = somebody-awake (WaitsIn (queues_at c.locks.table)) (live-of c.locks whole).acyclic Lives (is_asleep c) next sessions s (session, going) (λ t l. l.0)
 
+none-more : (n : ℕ) → nat_lt 0 n ≡ false → n ≡ 0
+none-more n h = grind arith
+
 -- whether or not the sessions are stopped, or one that died awaits its recovery
 pub awake : (told : Type 0) (o : Opening) (d : Driven) (sessions : ℕ) → (d.sessions.halted ≡ false → (stand : ℕ → Seat) × AreSeated stand d.sessions.locks d.sessions.members) → IsWhole d.sessions.locks →
     length d.sessions.members ≡ sessions → IsAwake sessions (board_of told o d)
@@ -138,14 +141,11 @@ awake told o d sessions seated whole count s session going = by d.sessions.halte
     unmourned true b h = absurd (false≢true (sym h))
     unmourned false b h = h
 
-    nobody : (n : ℕ) → nat_lt 0 n ≡ false → n ≡ 0
-    nobody n h = grind arith
-
     by : (h : Bool) → d.sessions.halted ≡ h → (n : Bool) → (is_stopped d || is_mourning d.sessions) ≡ n →
         (t : ℕ) × IsSession sessions t × (has_ended (member_at d.sessions.members t) ≡ false) × ((not (is_stopped d || is_mourning d.sessions) && is_asleep d.sessions t) ≡ false)
     by h e true f = still f
     by true e false f = absurd (false≢true (sym f ∙ ap (λ (b : Bool). (b || (d.turns == 0)) || is_mourning d.sessions) e))
     by false e false f =
         let k = seated e in
-        let a = awake-going k.0 d.sessions k.1 whole (nobody (dead_in d.sessions.members) (unmourned (is_stopped d) (is_mourning d.sessions) f)) sessions count s session going in
+        let a = awake-going k.0 d.sessions k.1 whole (none-more (dead_in d.sessions.members) (unmourned (is_stopped d) (is_mourning d.sessions) f)) sessions count s session going in
         (a.0, a.1.0.0, a.1.0.1, either (not (is_stopped d || is_mourning d.sessions)) (is_asleep d.sessions a.0) a.1.1)

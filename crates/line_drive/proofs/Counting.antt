@@ -122,7 +122,7 @@ nobodys-count : (u : ℕ) (ms : List Mark) → AllNobodys ms → answers_by u ms
 nobodys-count u [] h = refl
 nobodys-count u (Says t ∷ ms) h = absurd h.0
 nobodys-count u (Does t ∷ ms) h = absurd h.0
-nobodys-count u (Other ∷ ms) h = nobodys-count u ms h.1
+nobodys-count u (Other ∷ ms) h = let more = nobodys-count u ms h.1 in omega (arith, more)
 
 events-same : (old new : Sessions) → new ≡ old → new.events ≡ old.events
 events-same old new same = ap (λ (c : Sessions). c.events) same
