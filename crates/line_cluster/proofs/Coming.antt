@@ -1,7 +1,9 @@
 -- What a turn comes to.
-use Rattle.std.proofs.Common.{◌≡◌, ◌≤◌, ◌<◌, ◌-◌, ℕ, zero, suc, ◌+◌, ◌++◌, ◌∷◌, [], List, true, false, refl, ◌∙◌, sym, ap, subst, arith, map, Option, Some, None, slice_get, slice_set, append-nil, inl, inr, ◌⊎◌, Bool, is_some, IfSome, Result, Ok, Err}
+use Rattle.std.proofs.Common.{◌≡◌, ◌≤◌, ◌<◌, ◌-◌, ℕ, zero, suc, ◌+◌, ◌++◌, ◌∷◌, [], List, true, false, refl, ◌∙◌, sym, ap, subst, arith, map, Option, Some, None, slice_get, slice_set, append-nil, append_assoc, inl, inr, ◌⊎◌, Bool, is_some, IfSome, Result, Ok, Err}
 use Rattle.std.proofs.lemmas.Bool.{false≢true}
+use Rattle.std.proofs.lemmas.List.{map-append}
 use Rattle.std.proofs.lemmas.Option.{none-some, same_Some}
+use Rattle.rdb_drive.specs.Boards.{Mark, Says, Does, Other, AllOf, AllNobodys, answers}
 use Rattle.rdb_account.specs.declared.event.Event.{Event as Declared}
 use Rattle.rdb_account.specs.Events.{Event, Died, event_of}
 use Rattle.lock_tree_laws.specs.Forest.{State}
@@ -12,7 +14,6 @@ use Rattle.session_states.specs.declared.stage.Member.{Member}
 use Rattle.session_stands.specs.Sessions.{dead_in, one_dead}
 use Rattle.line_cluster.specs.Going.{IsDeadAt, is_alive_life, is_dead_life, is_over}
 use Rattle.rdb_account.specs.Places.{Opening}
-use Rattle.rdb_drive.specs.Boards.{AllNobodys}
 use Rattle.line_store.specs.declared.answers.Fault.{Fault}
 use Rattle.stage_steps.specs.declared.dying.Recovery.{Recovery}
 use Rattle.stage_steps.specs.declared.dying.Recovery.TheVariants.{More, Done}
@@ -21,8 +22,8 @@ use Rattle.stage_steps.specs.declared.happening.Happening.{Happening}
 use Rattle.stage_steps.specs.Happenings.{events_of}
 use Rattle.line_cluster.specs.declared.sessions.Turn.{Turn}
 use Rattle.line_cluster.specs.declared.sessions.Turn.TheVariants as turn
-use Rattle.line_cluster.specs.Turned.{Sessions, Came, GoesFurther, GoesOn, Grows, IsAnother, IsDeath, IsHalt, IsRecovery, RecoveryCame, Rests, mark_of, with_life}
-use Rattle.line_cluster.proofs.Marks.{IsOf, step-marks}
+use Rattle.line_cluster.specs.Turned.{Sessions, Came, GoesFurther, GoesOn, Grows, GrowsQuietly, IsAnother, IsDeath, IsHalt, IsRecovery, RecoveryCame, Rests, mark_of, with_life}
+use Rattle.line_cluster.proofs.Marks.{IsOf, all-append, answers-append, step-marks}
 use Rattle.line_cluster.proofs.Places.{set-same}
 
 -- nothing happened
@@ -102,15 +103,34 @@ none-from (Some x) e = absurd (false≢true (sym e))
 pub looked : (ms : List Member) (i : ℕ) (m n : Member) (b : Bool) → slice_get ms i ≡ Some m → is_over m m.life ≡ b → slice_get ms i ≡ Some n → is_over n n.life ≡ b
 looked ms i m n b found is there = subst (λ (x : Member). is_over x x.life ≡ b) (same_Some m n (sym found ∙ there)) is
 
--- no session goes on
-pub halt-came : (s : ℕ) (old then new : Sessions) (t : Turn) → t ≡ turn.Stopped → then.members ≡ old.members → then.events ≡ old.events → IsHalt then new → Came s old new t
-halt-came s old then new t is members events h = subst (λ (u : Turn). Came s old new u) (sym is) (h.halted, still s old new (h.members ∙ members) (h.events ∙ events))
+-- ---- and a notice was served
 
-pub halt-from : (old then new : Sessions) → then.members ≡ old.members → then.events ≡ old.events → IsHalt then new → IsHalt old new
-halt-from old then new members events h = record { halted = h.halted; members = h.members ∙ members; events = h.events ∙ events }
+nobodys-of : (s : ℕ) (ms : List Mark) → AllNobodys ms → AllOf s ms × (answers ms ≡ 0)
+nobodys-of s [] h = (tt, refl)
+nobodys-of s (Says t ∷ ms) h = absurd h.0
+nobodys-of s (Does t ∷ ms) h = absurd h.0
+nobodys-of s (Other ∷ ms) h = let more = nobodys-of s ms h.1 in ((tt, more.0), more.1)
 
-pub stopped-on : (t : Turn) → t ≡ turn.Stopped → GoesOn t
-stopped-on t is = subst (λ (u : Turn). GoesOn u) (sym is) tt
+pub went-served : (s : ℕ) (old mid new : Sessions) → GoesFurther s old mid → new.members ≡ mid.members → GrowsQuietly mid.events new.events → GoesFurther s old new
+went-served s old mid new g same quiet =
+    let marks : map mark_of ((g.events).more ++ quiet.more) ≡ map mark_of (g.events).more ++ map mark_of quiet.more = map-append mark_of (g.events).more quiet.more in
+    let none = nobodys-of s (map mark_of quiet.more) quiet.nobodys in
+    record {
+      members = subst (λ (ms : List Member). (ms ≡ old.members) ⊎ IsAnother s old.members ms) (sym same) g.members;
+      events = record {
+        more = (g.events).more ++ quiet.more;
+        grown = quiet.grown ∙ (ap (λ (es : List Event). es ++ quiet.more) (g.events).grown ∙ append_assoc (map event_of old.events) (g.events).more quiet.more);
+        of_s = subst (λ (xs : List Mark). AllOf s xs) (sym marks) (all-append s (map mark_of (g.events).more) (map mark_of quiet.more) (g.events).of_s none.0);
+        one = subst (λ (xs : List Mark). answers xs ≤ 1) (sym marks) (let both = answers-append (map mark_of (g.events).more) (map mark_of quiet.more) in let one = (g.events).one in let zero_ = none.1 in omega (arith, both, one, zero_));
+      };
+    }
+
+pub came-by : (s : ℕ) (old new : Sessions) (t : Turn) → GoesOn t → GoesFurther s old new → (t ≡ turn.Stopped → new.halted ≡ true) → Came s old new t
+came-by s old new turn.Moved on g halted = g
+came-by s old new turn.Stopped on g halted = (halted refl, g)
+came-by s old new (turn.Asleep u) on g halted = absurd on
+came-by s old new turn.Frozen on g halted = absurd on
+came-by s old new turn.Ended on g halted = absurd on
 
 -- ---- deaths
 
@@ -181,10 +201,10 @@ recovery-from old then new members events r = record {
 
 pub recovery-came-from : (old then new : Sessions) (t : Turn) → then.members ≡ old.members → then.events ≡ old.events → GoesOn t → RecoveryCame then new t → RecoveryCame old new t
 recovery-came-from old then new turn.Moved members events on r = recovery-from old then new members events r
-recovery-came-from old then new turn.Stopped members events on h = halt-from old then new members events h
+recovery-came-from old then new turn.Stopped members events on h = record { halted = h.halted; members = h.members ∙ members; events = h.events ∙ events }
 recovery-came-from old then new (turn.Asleep u) members events on r = absurd on
 recovery-came-from old then new turn.Frozen members events on r = absurd on
 recovery-came-from old then new turn.Ended members events on r = absurd on
 
-pub halt-recovery : (old then new : Sessions) (t : Turn) → t ≡ turn.Stopped → then.members ≡ old.members → then.events ≡ old.events → IsHalt then new → RecoveryCame old new t
-halt-recovery old then new t is members events h = subst (λ (u : Turn). RecoveryCame old new u) (sym is) (halt-from old then new members events h)
+pub halt-recovery : (old new : Sessions) (t : Turn) → t ≡ turn.Stopped → IsHalt old new → RecoveryCame old new t
+halt-recovery old new t is h = subst (λ (u : Turn). RecoveryCame old new u) (sym is) h

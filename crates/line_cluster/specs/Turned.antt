@@ -1,20 +1,23 @@
 -- What a turn of a session comes to, as who drives sessions sees it.
-use Rattle.std.specs.Prelude.{◌≡◌, ◌≤◌, ◌<◌, ◌-◌, ◌⊎◌, ◌&&◌, nat_le, ℕ, Bool, true, false, List, [], ◌∷◌, ◌++◌, map, Option, Some, None, is_some, slice_get, slice_set}
+use Rattle.std.specs.Prelude.{◌≡◌, ◌≤◌, ◌<◌, ◌-◌, ◌⊎◌, ◌&&◌, nat_le, ℕ, zero, suc, Bool, true, false, List, [], ◌∷◌, ◌++◌, map, Option, Some, None, is_some, slice_get, slice_set}
 use Rattle.rdb_types.specs.declared.session.Cause.{Cause}
-use Rattle.rdb_drive.specs.Boards.{Mark, Says, Does, Other, AllOf, AllNobodys, answers}
+use Rattle.rdb_drive.specs.Boards.{Mark, Says, Does, Other, AllOf, AllNobodys, Less, answers}
 use Rattle.rdb_account.specs.declared.event.Event.{Event as Declared}
 use Rattle.rdb_account.specs.Events.{Event, Began, Wanted, Got, Demoted, Said, Committed, RolledBack, Died, Recovered, event_of}
 use Rattle.rdb_account.specs.Places.{Opening, Place, place, next_item}
 use Rattle.rdb_account.specs.Lawful.{waits, is_nowait}
 use Rattle.rdb_account.specs.Legal.{AreWhole, has_not_died}
-use Rattle.lock_tree.specs.Sleeping.{IsBlockedBy}
+use Rattle.lock_tree.specs.Sleeping.{IsBlockedBy, is_sleeping}
 use Rattle.lock_tree_laws.specs.Forest.{State}
+use Rattle.line_store.specs.Sights.{Sight}
 use Rattle.session_states.specs.declared.stage.Phase.{Phase}
 use Rattle.session_states.specs.declared.stage.Phase.TheVariants.{Writing}
 use Rattle.session_states.specs.declared.stage.Life.{Life}
 use Rattle.session_states.specs.declared.stage.Life.TheVariants.{Alive, Dead}
 use Rattle.session_states.specs.declared.stage.Member.{Member}
 use Rattle.session_stands.specs.Sessions.{dead_in}
+use Rattle.line_arms.specs.declared.allotment.Allotment.{Allotment}
+use Rattle.line_cluster.specs.Measured.{measure_by}
 use Rattle.line_cluster.specs.declared.sessions.Halt.{Halt}
 use Rattle.line_cluster.specs.declared.sessions.Turn.{Turn}
 use Rattle.line_cluster.specs.declared.sessions.Turn.TheVariants as turn
@@ -24,11 +27,22 @@ use Rattle.line_cluster.specs.Going.{is_alive_life, is_dead, is_over}
 pub record Sessions : Type 0 where
   pub members : List Member
   pub events : List Declared
+  -- how often the job of each session's statement may still be handed out, and how often a call of the store for it may still answer that there is more to do
+  pub rounds : ℕ → ℕ
+  pub steps : ℕ → ℕ
   pub locks : State
   pub halted : Bool
 
-abbrev pub sessions : List Member → List Declared → State → Option Halt → Sessions
-sessions members events locks halt = record { members = members; events = events; locks = locks; halted = is_some halt }
+abbrev pub rounds_of : Option Allotment → ℕ
+rounds_of None = 0
+rounds_of (Some a) = a.rounds
+
+abbrev pub rounds_at : List Allotment → ℕ → ℕ
+rounds_at each zero = 0
+rounds_at each (suc at) = rounds_of (slice_get each at)
+
+abbrev pub sessions : List Member → List Declared → List Allotment → Sight → State → Option Halt → Sessions
+sessions members events each sight locks halt = record { members = members; events = events; rounds = rounds_at each; steps = sight.steps; locks = locks; halted = is_some halt }
 
 -- ---- the account as drivers read it
 
@@ -75,6 +89,12 @@ pub record Grows (s : ℕ) (old new : List Declared) : Type 0 where
   pub of_s : AllOf s (map mark_of more)
   pub one : answers (map mark_of more) ≤ 1
 
+-- what happened is of nobody
+pub record GrowsQuietly (old new : List Declared) : Type 0 where
+  pub more : List Event
+  pub grown : map event_of new ≡ map event_of old ++ more
+  pub nobodys : AllNobodys (map mark_of more)
+
 pub record GoesFurther (s : ℕ) (old new : Sessions) : Type 0 where
   pub members : (new.members ≡ old.members) ⊎ IsAnother s old.members new.members
   pub events : Grows s old.events new.events
@@ -101,6 +121,17 @@ Came s old new (turn.Asleep t) = (new ≡ old) × Waits s t.number old
 Came s old new turn.Frozen = (new ≡ old) × (0 < dead_in old.members)
 Came s old new turn.Ended = (new ≡ old) × IsAtEnd s old × (dead_in old.members ≡ 0)
 Came s old new turn.Stopped = (new.halted ≡ true) × GoesFurther s old new
+
+-- ---- what falls
+
+abbrev pub measure_of : Sessions → List ℕ
+measure_of c = measure_by c.halted c.members c.rounds (record { locks = c.locks; steps = c.steps })
+
+-- where its want wasn't queued before, all sessions have less before them
+abbrev pub IsNearer : ℕ → Sessions → Sessions → Type 0
+IsNearer s old new = is_sleeping old.locks s ≡ false → Less (measure_of new) (measure_of old)
+
+-- ---- who goes on
 
 -- the session doesn't rest
 abbrev pub GoesOn : Turn → Type 0

@@ -8,11 +8,10 @@ ghost use Rattle.line_store.specs.Sights.{bare};
 ghost use Rattle.lock_tree_laws.specs.Forest.{IsWhole};
 ghost use Rattle.session_stands.specs.Sessions.{AreSeated};
 ghost use Rattle.line_cluster.specs.Sound.{FollowsScripts, IsLeft, IsOpenedBy, IsSession, fresh_member};
-ghost use Rattle.line_cluster.specs.Turned.{Came, DeathCame, HasNothingLeft, HaveAllEnded, HaveEnded, IsAtEnd, RecoveryCame, Rests};
+ghost use Rattle.line_cluster.specs.Turned.{Came, DeathCame, HasNothingLeft, HaveAllEnded, HaveEnded, IsAtEnd, IsNearer, RecoveryCame, Rests};
 
-use crate::lent::SessionRooms;
+use crate::allotments::Allotments;
 use crate::members::takes_item;
-use crate::notes::Notes;
 use crate::origin::Origin;
 use crate::sessions::{Core, Turn};
 use line_store::LineStore;
@@ -53,7 +52,7 @@ impl<O: Origin, S: Statements, L: LineStore + Drop> Model for LineCluster<O, S, 
 
     ghost coded = { Prim.hlevel (codes, action_type.the_row.coded) };
 
-    ghost view = { λ c. sessions c.core.members.items c.core.events.items c.core.common.tree c.core.halt };
+    ghost view = { λ c. sessions c.core.members.items c.core.events.items c.core.allotments (L.sight c.core.common.store) c.core.common.tree c.core.halt };
 
     ghost invariant = { λ c. AreSound S.stands O.told O.opening O.sessions (scene c.core.common.word (L.sight c.core.common.store) c.core.common.tree) c.core.members.items (map event_of c.core.events.items) c.core.halt };
 }
@@ -99,7 +98,7 @@ impl<O: Origin, S: Reserves + Reaches, L: LineStore + Drop> LineCluster<O, S, L>
         let Ok(members) = members_of(alloc, scripts) else {
             return Err(store);
         };
-        let Ok(rooms) = SessionRooms::new(alloc) else {
+        let Ok(allotments) = Allotments::new(alloc) else {
             return Err(store);
         };
         Ok(LineCluster {
@@ -111,8 +110,7 @@ impl<O: Origin, S: Reserves + Reaches, L: LineStore + Drop> LineCluster<O, S, L>
                     tree: Tree::new(alloc),
                 },
                 members,
-                notes: Notes::new(),
-                rooms,
+                allotments,
                 events: Vec::new(alloc),
                 halt: None,
                 of: PhantomData,
@@ -124,6 +122,7 @@ impl<O: Origin, S: Reserves + Reaches, L: LineStore + Drop> LineCluster<O, S, L>
     pub fn turn(&mut self, s: Session) -> Turn
         requires session { IsSession O.sessions s.number }
         ensures came { Came s.number self.old self.new result }
+        ensures nearer { result ≡ Turn.Moved → IsNearer s.number self.old self.new }
         ensures rests { O.told → Rests O.opening s.number self.old result }
     {
         self.core.turn(s)

@@ -60,7 +60,7 @@ impl<O: Origin, S: Reserves + Reaches, L: LineStore> Core<O, S, L> {
         requires sound { IsSound S.stands O.told O.opening (scene self.old.common.word (L.sight self.old.common.store) self.old.common.tree) self.old.members.items (map event_of self.old.events.items) self.old.halt }
         ensures sound { IsSound S.stands O.told O.opening (scene self.new.common.word (L.sight self.new.common.store) self.new.common.tree) self.new.members.items (map event_of self.new.events.items) self.new.halt }
         ensures count { length self.new.members.items ≡ length self.old.members.items }
-        ensures came { DeathCame s.number cause (sessions self.old.members.items self.old.events.items self.old.common.tree self.old.halt) (sessions self.new.members.items self.new.events.items self.new.common.tree self.new.halt) }
+        ensures came { DeathCame s.number cause (sessions self.old.members.items self.old.events.items self.old.allotments (L.sight self.old.common.store) self.old.common.tree self.old.halt) (sessions self.new.members.items self.new.events.items self.new.allotments (L.sight self.new.common.store) self.new.common.tree self.new.halt) }
     {
         if self.halt.is_some() {
             return;
@@ -86,7 +86,7 @@ impl<O: Origin, S: Reserves + Reaches, L: LineStore> Core<O, S, L> {
         requires unfinished { (m : MemberValue) → slice_get self.old.members.items at ≡ Some m → is_over_at m m.life ≡ false }
         ensures sound { IsSound S.stands O.told O.opening (scene self.new.common.word (L.sight self.new.common.store) self.new.common.tree) self.new.members.items (map event_of self.new.events.items) self.new.halt }
         ensures count { length self.new.members.items ≡ length self.old.members.items }
-        ensures came { IsDeath s.number cause (sessions self.old.members.items self.old.events.items self.old.common.tree self.old.halt) (sessions self.new.members.items self.new.events.items self.new.common.tree self.new.halt) }
+        ensures came { IsDeath s.number cause (sessions self.old.members.items self.old.events.items self.old.allotments (L.sight self.old.common.store) self.old.common.tree self.old.halt) (sessions self.new.members.items self.new.events.items self.new.allotments (L.sight self.new.common.store) self.new.common.tree self.new.halt) }
     {
         let Member {
             left,
@@ -111,7 +111,7 @@ impl<O: Origin, S: Reserves + Reaches, L: LineStore> Core<O, S, L> {
         requires sound { IsSound S.stands O.told O.opening (scene self.old.common.word (L.sight self.old.common.store) self.old.common.tree) self.old.members.items (map event_of self.old.events.items) self.old.halt }
         ensures sound { IsSound S.stands O.told O.opening (scene self.new.common.word (L.sight self.new.common.store) self.new.common.tree) self.new.members.items (map event_of self.new.events.items) self.new.halt }
         ensures count { length self.new.members.items ≡ length self.old.members.items }
-        ensures came { RecoveryCame (sessions self.old.members.items self.old.events.items self.old.common.tree self.old.halt) (sessions self.new.members.items self.new.events.items self.new.common.tree self.new.halt) result }
+        ensures came { RecoveryCame (sessions self.old.members.items self.old.events.items self.old.allotments (L.sight self.old.common.store) self.old.common.tree self.old.halt) (sessions self.new.members.items self.new.events.items self.new.allotments (L.sight self.new.common.store) self.new.common.tree self.new.halt) result }
     {
         if self.halt.is_some() {
             return Turn::Stopped;
@@ -133,7 +133,7 @@ impl<O: Origin, S: Reserves + Reaches, L: LineStore> Core<O, S, L> {
         requires dead { IsDeadAt self.old.members.items at }
         ensures sound { IsSound S.stands O.told O.opening (scene self.new.common.word (L.sight self.new.common.store) self.new.common.tree) self.new.members.items (map event_of self.new.events.items) self.new.halt }
         ensures count { length self.new.members.items ≡ length self.old.members.items }
-        ensures came { RecoveryCame (sessions self.old.members.items self.old.events.items self.old.common.tree self.old.halt) (sessions self.new.members.items self.new.events.items self.new.common.tree self.new.halt) result }
+        ensures came { RecoveryCame (sessions self.old.members.items self.old.events.items self.old.allotments (L.sight self.old.common.store) self.old.common.tree self.old.halt) (sessions self.new.members.items self.new.events.items self.new.allotments (L.sight self.new.common.store) self.new.common.tree self.new.halt) result }
         ensures on { GoesOn result }
     {
         let _count = self.members.len();

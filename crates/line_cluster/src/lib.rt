@@ -2,11 +2,11 @@
 //! the account, and its type keeps what is true of them all.
 #![tactic(auto)]
 
+mod allotments;
+mod behind;
 mod cluster;
 mod falls;
-mod lent;
 mod members;
-mod notes;
 mod origin;
 mod sessions;
 mod turning;

@@ -4,7 +4,7 @@ use Rattle.rdb_account.specs.Events.{event_of}
 use Rattle.session_states.specs.declared.stage.Member.{Member}
 use Rattle.session_stands.specs.Sessions.{dead_in}
 use Rattle.line_cluster.specs.Turned.{sessions}
-use Rattle.line_cluster.proofs.Coming.{came-from, halt-came, looked, none-from, on-rests, some-found, stopped-on}
+use Rattle.line_cluster.proofs.Coming.{came-from, looked, none-from, on-rests, some-found}
 use Rattle.line_cluster.proofs.Places.{suc-less}
 use Rattle.line_cluster.proofs.Resting.{asleep-rests-at}
 use Rattle.line_cluster.proofs.sessions.Core.turn.Goals as goal
@@ -22,16 +22,13 @@ pub step-requires-clause-work : goal.step-requires-clause-work
 step-requires-clause-work g c = λ m found. looked c.args.self.now.members.items (c.args.s.number - 1) c.member_at.result.now m false (ap (λ (ms : List Member). slice_get ms (c.args.s.number - 1)) (sym c.deref-2.ensures.value) ∙ c.member_at.ensures) (sym c.is_over.ensures ∙ c.if-is_over.false) found
 
 pub returns-in-Some-clause-rests : goal.returns-in-Some-clause-rests
-returns-in-Some-clause-rests g c = λ told. asleep-rests-at g.S.Statements.stands g.O.Origin.opening _ _ _ _ _ c.args.s.number c.in-Some.other.number (sessions c.args.self.now.members.items c.args.self.now.events.items c.args.self.now.common.tree c.args.self.now.halt) (c.requires.sound.kept (none-from _ (sym c.is_some.ensures ∙ c.if-is_some.false)) told) c.requires.one.first c.in-Some.ensures
+returns-in-Some-clause-rests g c = λ told. asleep-rests-at g.S.Statements.stands g.O.Origin.opening _ _ _ _ _ c.args.s.number c.in-Some.other.number (sessions c.args.self.now.members.items c.args.self.now.events.items c.args.self.now.allotments (g.L.LineStore.sight c.args.self.now.common.store) c.args.self.now.common.tree c.args.self.now.halt) (c.requires.sound.kept (none-from _ (sym c.is_some.ensures ∙ c.if-is_some.false)) told) c.requires.one.first c.in-Some.ensures
 
 pub returns-then-is_err-clause-came : goal.returns-then-is_err-clause-came
-returns-then-is_err-clause-came g c = halt-came c.args.s.number _ _ _ c.stop.result c.stop.ensures.stops refl c.reserve_step.ensures.same c.stop.ensures.halts
+returns-then-is_err-clause-came g c = came-from c.args.s.number _ _ _ c.stop.result refl c.reserve_step.ensures.same c.stop.ensures.on (c.stop.ensures.came c.args.s.number)
 
 pub returns-then-is_err-clause-rests : goal.returns-then-is_err-clause-rests
-returns-then-is_err-clause-rests g c = λ told. on-rests g.O.Origin.opening c.args.s.number (sessions c.args.self.now.members.items c.args.self.now.events.items c.args.self.now.common.tree c.args.self.now.halt) c.stop.result (stopped-on c.stop.result c.stop.ensures.stops)
+returns-then-is_err-clause-rests g c = λ told. on-rests g.O.Origin.opening c.args.s.number (sessions c.args.self.now.members.items c.args.self.now.events.items c.args.self.now.allotments (g.L.LineStore.sight c.args.self.now.common.store) c.args.self.now.common.tree c.args.self.now.halt) c.stop.result c.stop.ensures.on
 
-pub returns-in-Some-due-clause-rests : goal.returns-in-Some-due-clause-rests
-returns-in-Some-due-clause-rests g c = λ told. on-rests g.O.Origin.opening c.args.s.number (sessions c.args.self.now.members.items c.args.self.now.events.items c.args.self.now.common.tree c.args.self.now.halt) c.serve_notice.result c.serve_notice.ensures.on
-
-pub returns-in-None-clause-rests : goal.returns-in-None-clause-rests
-returns-in-None-clause-rests g c = λ told. on-rests g.O.Origin.opening c.args.s.number (sessions c.args.self.now.members.items c.args.self.now.events.items c.args.self.now.common.tree c.args.self.now.halt) c.step.result c.step.ensures.on
+pub returns-clause-rests : goal.returns-clause-rests
+returns-clause-rests g c = λ told. on-rests g.O.Origin.opening c.args.s.number (sessions c.args.self.now.members.items c.args.self.now.events.items c.args.self.now.allotments (g.L.LineStore.sight c.args.self.now.common.store) c.args.self.now.common.tree c.args.self.now.halt) c.step.result c.step.ensures.on
