@@ -2,7 +2,7 @@
 use Rattle.std.proofs.Common.{◌≡◌, ◌≤◌, ◌<◌, ◌-◌, ℕ, zero, suc, ◌+◌, ◌++◌, ◌∷◌, [], List, true, false, refl, ◌∙◌, sym, ap, subst, arith, map, Option, Some, None, slice_get, slice_set, append-nil, append_assoc, inl, inr, ◌⊎◌, Bool, is_some, IfSome, Result, Ok, Err}
 use Rattle.std.proofs.lemmas.Bool.{false≢true}
 use Rattle.std.proofs.lemmas.List.{map-append}
-use Rattle.std.proofs.lemmas.Option.{none-some, same_Some}
+use Rattle.std.proofs.lemmas.Option.{same_Some}
 use Rattle.rdb_drive.specs.Boards.{Mark, Says, Does, Other, AllOf, AllNobodys, answers}
 use Rattle.rdb_account.specs.declared.event.Event.{Event as Declared}
 use Rattle.rdb_account.specs.Events.{Event, Died, event_of}
@@ -109,7 +109,7 @@ nobodys-of : (s : ℕ) (ms : List Mark) → AllNobodys ms → AllOf s ms × (ans
 nobodys-of s [] h = (tt, refl)
 nobodys-of s (Says t ∷ ms) h = absurd h.0
 nobodys-of s (Does t ∷ ms) h = absurd h.0
-nobodys-of s (Other ∷ ms) h = let more = nobodys-of s ms h.1 in ((tt, more.0), more.1)
+nobodys-of s (Other ∷ ms) h = let more = nobodys-of s ms h.1 in let none = more.1 in ((tt, more.0), omega (arith, none))
 
 pub went-served : (s : ℕ) (old mid new : Sessions) → GoesFurther s old mid → new.members ≡ mid.members → GrowsQuietly mid.events new.events → GoesFurther s old new
 went-served s old mid new g same quiet =

@@ -2,7 +2,6 @@
 use Rattle.std.proofs.Common.{◌≡◌, ◌≤◌, ◌-◌, ℕ, zero, suc, ◌++◌, ◌∷◌, [], List, length, Bool, true, false, not, nat_le, ◌&&◌, refl, ◌∙◌, sym, ap, subst, arith, map, Option, Some, None, slice_get, option_map, ◌==◌, ◌⊎◌, inl, inr, ◌+◌}
 use Rattle.std.proofs.lemmas.Bool.{false≢true, and_parts, leb-true}
 use Rattle.rdo_ast.specs.declared.syntax.Item.{Item}
-use Rattle.rdo_ast.specs.Tree.{Uttered}
 use Rattle.rdo_ast.specs.Views.{uttered_of}
 use Rattle.rdb_account.specs.Events.{Event}
 use Rattle.rdb_account.specs.Places.{Opening, Place, place, next_item}
@@ -184,7 +183,7 @@ over-left-at M o word sight locks members events s m told first found over =
     subst (λ (t : ℕ). HasNothingLeft o (place o events) t) (numbered s first) (over-left M o word sight locks members events told (s - 1) m found over)
 
 pub asleep-rests-at : (M : Model) (o : Opening) (word : List ℕ) (sight : Sight) (locks : State) (members : List Member) (events : List Event) (s t : ℕ) (c : Sessions) → IsTold M o word sight locks members events → 1 ≤ s →
-    Waits s t (record { members = members; events = c.events; rounds = c.rounds; steps = c.steps; locks = locks; halted = c.halted }) → SleepsFor (place o events) s t
+    Waits s t (record { members = members; events = c.events; measure = c.measure; locks = locks; halted = c.halted }) → SleepsFor (place o events) s t
 asleep-rests-at M o word sight locks members events s t c told first w =
     subst (λ (u : ℕ). SleepsFor (place o events) u t) (numbered s first)
     (asleep-rests M o word sight locks members events (s - 1) t w.member told w.found w.lives w.patient (subst (λ (u : ℕ). IsBlockedBy locks u t) (sym (numbered s first)) w.blocked))

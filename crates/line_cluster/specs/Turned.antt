@@ -23,16 +23,16 @@ use Rattle.line_cluster.specs.declared.sessions.Turn.{Turn}
 use Rattle.line_cluster.specs.declared.sessions.Turn.TheVariants as turn
 use Rattle.line_cluster.specs.Going.{is_alive_life, is_dead, is_over}
 
--- the sessions as contracts see them: each with what it has left, what happened, the locks, and whether no session goes on
+-- the sessions as contracts see them: each with what it has left, what happened, what falls, the locks, and whether no session goes on
 pub record Sessions : Type 0 where
   pub members : List Member
   pub events : List Declared
-  -- how often the job of each session's statement may still be handed out, and how often a call of the store for it may still answer that there is more to do
-  pub rounds : ℕ → ℕ
-  pub steps : ℕ → ℕ
+  -- what all of them have before them
+  pub measure : List ℕ
   pub locks : State
   pub halted : Bool
 
+-- how often the job of its statement may still be handed out
 abbrev pub rounds_of : Option Allotment → ℕ
 rounds_of None = 0
 rounds_of (Some a) = a.rounds
@@ -42,7 +42,7 @@ rounds_at each zero = 0
 rounds_at each (suc at) = rounds_of (slice_get each at)
 
 abbrev pub sessions : List Member → List Declared → List Allotment → Sight → State → Option Halt → Sessions
-sessions members events each sight locks halt = record { members = members; events = events; rounds = rounds_at each; steps = sight.steps; locks = locks; halted = is_some halt }
+sessions members events each sight locks halt = record { members = members; events = events; measure = measure_by (is_some halt) members (rounds_at each) (record { locks = locks; steps = sight.steps }); locks = locks; halted = is_some halt }
 
 -- ---- the account as drivers read it
 
@@ -124,12 +124,9 @@ Came s old new turn.Stopped = (new.halted ≡ true) × GoesFurther s old new
 
 -- ---- what falls
 
-abbrev pub measure_of : Sessions → List ℕ
-measure_of c = measure_by c.halted c.members c.rounds (record { locks = c.locks; steps = c.steps })
-
 -- where its want wasn't queued before, all sessions have less before them
 abbrev pub IsNearer : ℕ → Sessions → Sessions → Type 0
-IsNearer s old new = is_sleeping old.locks s ≡ false → Less (measure_of new) (measure_of old)
+IsNearer s old new = is_sleeping old.locks s ≡ false → Less new.measure old.measure
 
 -- ---- who goes on
 
