@@ -1,10 +1,9 @@
 -- What a turn comes to.
-use Rattle.std.proofs.Common.{◌≡◌, ◌≤◌, ◌<◌, ◌-◌, ℕ, zero, suc, ◌+◌, ◌++◌, ◌∷◌, [], List, true, false, refl, ◌∙◌, sym, ap, subst, arith, map, Option, Some, None, slice_get, slice_set, append-nil, inl, inr, ◌⊎◌, Bool, is_some, IfSome, Result, Ok, Err}
+use Rattle.std.proofs.Common.{◌≡◌, ◌<◌, ◌-◌, ℕ, zero, suc, ◌+◌, ◌++◌, ◌∷◌, [], List, true, false, refl, ◌∙◌, sym, ap, subst, arith, map, Option, Some, None, slice_get, slice_set, append-nil, inl, inr, ◌⊎◌, Bool, is_some, IfSome, Result, Ok, Err}
 use Rattle.std.proofs.lemmas.Bool.{false≢true}
-use Rattle.std.proofs.lemmas.Option.{none-some, same_Some}
+use Rattle.std.proofs.lemmas.Option.{same_Some}
 use Rattle.rdb_account.specs.declared.event.Event.{Event as Declared}
 use Rattle.rdb_account.specs.Events.{Event, Died, event_of}
-use Rattle.lock_tree_laws.specs.Forest.{State}
 use Rattle.session_states.specs.declared.stage.Life.{Life}
 use Rattle.session_states.specs.declared.stage.Life.TheVariants.{Alive, Dead, Gone}
 use Rattle.rdb_types.specs.declared.session.Cause.{Cause}
