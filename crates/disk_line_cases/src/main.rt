@@ -1,0 +1,46 @@
+//! Cases of a store of lines on a disk in memory. Each line of standard input makes a call for a session, as in the cases of the store in memory; it is echoed on standard output, and below it stands what the call answers. A line that begins with `-` begins with a new database, of whose disk the calls with the numbers behind it fail; `crashes AREA BITS` tells which lines of an area the crashes leave that are possible now.
+#![tactic(auto)]
+
+mod crashes;
+mod opening;
+
+use case_words::number_of;
+use crashes::say_crashes;
+use opening::{Opened, opened_anew};
+use std::process::ExitCode;
+use store_desk::say;
+
+fn say_line(rt: &HostRuntime, desk: &mut Opened, text: &str) {
+    let (word, rest) = text.split_once(' ').unwrap_or((text, ""));
+    if word != "crashes" {
+        return say(rt, desk, text);
+    }
+    let (area, bits) = rest.split_once(' ').unwrap_or((rest, ""));
+    let area = number_of(Some(area)).unwrap_or(0);
+    let bits = number_of(Some(bits)).unwrap_or(0).min(8);
+    say_crashes(rt, desk, area, bits);
+}
+
+fn main(rt: HostRuntime) -> ExitCode {
+    let Some(mut desk) = opened_anew(rt.alloc(), "") else {
+        return ExitCode::from(1);
+    };
+    for line in rt.lines(rt.alloc()) {
+        let Ok(line) = line else {
+            return ExitCode::from(3);
+        };
+        let text = line.as_str();
+        let _ = println!(rt; "{text}");
+        if text.starts_with("-") {
+            let (_, fails) = text.split_once(' ').unwrap_or((text, ""));
+            let Some(anew) = opened_anew(rt.alloc(), fails) else {
+                let _ = println!(rt; "  not opened");
+                continue;
+            };
+            desk = anew;
+        } else if !text.starts_with("!") {
+            say_line(&rt, &mut desk, text);
+        }
+    }
+    ExitCode::from(0)
+}

@@ -1,0 +1,34 @@
+// A new database on a disk in memory, opened.
+use case_words::number_of;
+use disk_line_store::DiskStore;
+use new_database::make_new;
+use opened_store::open;
+use rdb_outside::MemoryDisk;
+use rdb_types::Limits;
+use std::alloc::Global;
+use store_desk::Desk;
+
+/// A store on a disk in memory, of whose sessions it is known where they stand.
+pub type Opened = Desk<DiskStore<MemoryDisk>>;
+
+/// Opens the database on a disk.
+pub fn opened(alloc: Global, disk: MemoryDisk) -> Option<Opened> {
+    let mut disk = disk;
+    let held = open(alloc, &mut disk).ok()?;
+    Some(Desk::new(DiskStore::new(disk, held)))
+}
+
+/// Opens a new database, of whose disk the call with this number fails, if the word is one.
+pub fn opened_anew(alloc: Global, word: &str) -> Option<Opened> {
+    // Four pages may be taken in an area.
+    let limits = Limits {
+        pages: 6,
+        snaps: 64,
+        entries: 16,
+        slots: 64,
+    };
+    let fails = number_of(Some(word)).unwrap_or(0);
+    let mut disk = MemoryDisk::new(alloc, 128, 4096, &[fails]).ok()?;
+    make_new(&mut disk, limits).ok()?;
+    opened(alloc, disk)
+}
