@@ -17,11 +17,7 @@ use line_store::Fault;
 use rdb_outside::Disk;
 
 /// Copies the after-image journal of a database that was opened, and begins it anew. A journal without groups is left as it is, and so is a copy of that number: given again behind a stop it doesn't empty the only copy.
-pub fn back_up_journal<D: Disk>(
-    disk: &mut D,
-    start: &StoreStart,
-    number: u32,
-) -> Result<(), Fault>
+pub fn back_up_journal<D: Disk>(disk: &mut D, start: &StoreStart, number: u32) -> Result<(), Fault>
     ensures told { (D.view disk.new).tells ≡ (D.view disk.old).tells }
     ensures no_fewer { (D.view disk.old).faults ≤ (D.view disk.new).faults }
     ensures failed { IsErrOf result Fault.Failed
