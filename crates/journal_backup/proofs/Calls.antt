@@ -6,7 +6,6 @@ use Rattle.rdb_types.specs.declared.file.FileKind.TheVariants.{Root, Area, Ruj, 
 use Rattle.rdb_outside.specs.Disk.{Image, View, Pending, LeavesOnly, OnlyReads}
 use Rattle.new_database.specs.Maker.{root_file, aij_file}
 use Rattle.line_moves.specs.Calls.{OnlyWrites}
-use Rattle.line_moves.proofs.Runs.{facts_read, still_tells}
 use Rattle.line_opening.proofs.Standing.{written_stands, read_stands, leaves_on}
 use Rattle.stable_lines.specs.Slots.{ruj_file, area_file}
 use Rattle.stable_lines.specs.Progress.{Progress}

@@ -1,5 +1,5 @@
 -- The after-image journal and its copy.
-use Rattle.std.specs.Prelude.{ℕ, ◌+◌, ◌<◌, ◌≤◌, ◌≡◌, ◌≢◌, List, [], slice_get, Option, Some}
+use Rattle.std.specs.Prelude.{ℕ, ◌+◌, ◌≡◌, ◌≢◌, [], slice_get, Option, Some}
 use Rattle.rdb_types.specs.declared.file.FileId.{FileId}
 use Rattle.rdb_types.specs.declared.file.FileKind.TheVariants.{AijBackup}
 use Rattle.rdb_outside.specs.Disk.{Image}

@@ -1,8 +1,6 @@
-use Rattle.std.proofs.Common.{rules, ◌≡◌, ◌≤◌, ◌<◌, ◌∙◌, ℕ, zero, suc, sym, arith}
-use Rattle.new_database.specs.Maker.{aij_file}
+use Rattle.std.proofs.Common.{◌∙◌, arith}
 use Rattle.line_moves.proofs.Runs.{on_ok, still_tells}
-use Rattle.journal_backup.specs.Copied.{copy_named}
-use Rattle.journal_backup.proofs.Calls.{KeepsAll, Stands, groups_apart, keeps_read, keeps_written, keeps_on, stands_read, stands_written, stands_on, copied_whole}
+use Rattle.journal_backup.proofs.Calls.{KeepsAll, Stands, keeps_read, keeps_written, keeps_on, stands_read, stands_written, stands_on, copied_whole}
 use Rattle.journal_backup.proofs.copying.copy_journal.Goals as goal
 
 pub returns-in_err-blank-clause-told : goal.returns-in_err-blank-clause-told

@@ -1,7 +1,5 @@
-use Rattle.std.specs.Prelude.{OnOk, OnErr, Ok, Err}
-use Rattle.std.proofs.Common.{◌∙◌, IsTrue, Result, ◌⊎◌, inl, inr, ap, refl}
+use Rattle.std.proofs.Common.{◌∙◌, IsTrue, refl}
 use Rattle.rdb_outside.specs.Disk.{SameContent, Puts}
-use Rattle.new_database.specs.Maker.{aij_file}
 use Rattle.line_moves.proofs.Runs.{reads_once, writes_none, writes_one, here_at, on_ok, still_tells}
 use Rattle.journal_backup.specs.Copied.{copy_named}
 use Rattle.journal_backup.proofs.Calls.{either_way}

@@ -1,4 +1,4 @@
-use Rattle.std.proofs.Common.{rules, ◌≤◌, ◌<◌, ◌∙◌, refl, arith}
+use Rattle.std.proofs.Common.{rules, ◌≤◌, ◌∙◌, refl, arith}
 use Rattle.line_moves.proofs.Runs.{still_tells}
 use Rattle.line_opening.proofs.Standing.{stands_now}
 use Rattle.database_opening.proofs.Others.{file_unused}
