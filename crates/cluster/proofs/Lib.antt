@@ -6,3 +6,4 @@ pub mod Taking
 pub mod Holding
 pub mod Ordered
 pub mod Crossing
+pub mod Mortals

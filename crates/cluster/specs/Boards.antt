@@ -1,5 +1,8 @@
 -- What drivers see of the sessions.
 use Rattle.std.specs.Prelude.{◌≡◌, ℕ, zero, suc, Bool, true, false, not, ◌&&◌, ◌==◌, List, [], ◌∷◌, map, take, Option, Some, None, slice_get, ◌⊎◌}
+use Rattle.std.specs.List.{filter}
+use Rattle.rdb_types.specs.declared.session.Cause.TheVariants.{Gate}
+use Rattle.rdb_drive.specs.Orders.{upward}
 use Rattle.rdb_account.specs.declared.event.Event.{Event as Declared}
 use Rattle.rdb_account.specs.Events.{Event, Began, Wanted, Got, Demoted, Said, Committed, RolledBack, Died, Recovered, event_of}
 use Rattle.rdb_account.specs.Places.{Opening, Place, place, next_item}
@@ -61,3 +64,7 @@ board_of o c = record {
   mourns = false;
   stopped = c.halted;
 }
+
+-- the sessions of so many that the gate may have die
+abbrev pub mortals_of : Opening → ℕ → List ℕ
+mortals_of o sessions = filter (λ s. o.may_die s Gate) (upward 1 sessions)

@@ -155,9 +155,9 @@ fn step(turn: Turn) -> Step<()>
 }
 
 impl<O: Origin> Driven for Cluster<O> {
-    ghost use Rattle.std.specs.Prelude.{length, []};
+    ghost use Rattle.std.specs.Prelude.{length};
     ghost use Rattle.session_steps.specs.Openings.{opening};
-    ghost use Rattle.cluster.specs.Boards.{board_of};
+    ghost use Rattle.cluster.specs.Boards.{board_of, mortals_of};
 
     type Piece = ();
 
@@ -167,7 +167,7 @@ impl<O: Origin> Driven for Cluster<O> {
 
     ghost sessions = { length O.scripts };
 
-    ghost mortals = { [] };
+    ghost mortals = { mortals_of (opening O.word O.scripts) (length O.scripts) };
 
     fn point(&self, s: Session) -> Point {
         let member = &self.core.members[s.number as usize - 1];

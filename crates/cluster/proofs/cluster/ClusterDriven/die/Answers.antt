@@ -1,6 +1,7 @@
-use Rattle.std.proofs.Common.{arith}
+use Rattle.std.proofs.Common.{length}
+use Rattle.rdb_drive.specs.Orders.{upward}
+use Rattle.cluster.proofs.Mortals.{nobody-dies}
 use Rattle.cluster.proofs.cluster.ClusterDriven.die.Goals as goal
 
--- nobody is mortal
 pub unreachable-requires : goal.unreachable-requires
-unreachable-requires g c = let within = c.requires.mortal.1 in omega (arith, within)
+unreachable-requires g c = nobody-dies (upward 1 (length g.O.Origin.scripts)) c.args._s.number c.requires.mortal
