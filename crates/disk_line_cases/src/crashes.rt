@@ -64,7 +64,7 @@ fn put_lines(rt: &HostRuntime, known: &Known, area: u32) {
 /// Tells which lines of an area a crash may leave, by each pick of so many late writes, where they are others than those of the pick before.
 pub fn say_crashes(rt: &HostRuntime, desk: &Opened, area: u32, bits: u32) {
     let mut last = None;
-    for pick in 0..1u32 << bits {
+    for pick in 0..1u32.wrapping_shl(bits) {
         let Some(known) = left(rt.alloc(), desk.store().disk(), pick, area) else {
             let _ = println!(rt; "  not opened");
             continue;
