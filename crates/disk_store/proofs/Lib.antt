@@ -37,6 +37,7 @@ pub mod Raising
 mod FewSteps
 mod Classed
 pub mod Judged
+pub mod FirstSound
 pub mod Ordered
 pub mod LinesPut
 pub mod Landed

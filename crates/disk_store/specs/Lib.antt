@@ -13,4 +13,4 @@ pub mod Taken
 pub mod Changing
 pub mod ChangeSteps
 pub mod Readers
-pub mod Learning
+pub mod Opening

@@ -15,6 +15,7 @@ mod laws;
 mod learning;
 mod member;
 mod moves;
+mod opening;
 mod preparing;
 mod restoring;
 mod rolling;
