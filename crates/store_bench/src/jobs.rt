@@ -126,7 +126,21 @@ fn transfer<L: LineStore + Drop>(
         && commit(desk, s)
 }
 
-/// Makes so many transfers, each between two neighbours of the lines.
+/// The place of the first line with the greatest balance.
+fn place_of_greatest(known: &Known, keys: &[Dbkey]) -> usize {
+    let mut place = 0;
+    let mut greatest = 0;
+    for (number, key) in keys.iter().enumerate() {
+        let balance = balance_of(known, *key);
+        if balance > greatest {
+            place = number;
+            greatest = balance;
+        }
+    }
+    place
+}
+
+/// Makes so many transfers, each from the line with the greatest balance to the one behind it, and tells each.
 fn make_transfers<L: LineStore + Drop>(
     rt: &HostRuntime,
     desk: &mut Desk<L>,
@@ -142,21 +156,22 @@ fn make_transfers<L: LineStore + Drop>(
     let Ok(keys) = known.area(AREA).unwrap_or(&[]).to_vec(rt.alloc()) else {
         return Came::Stopped;
     };
-    for number in 0..count as usize {
-        if keys.len() < 2 {
+    if keys.is_empty() {
+        return Came::Stopped;
+    }
+    let mut place = place_of_greatest(&known, &keys);
+    for number in 0..count {
+        let next = place.wrapping_add(1) % keys.len();
+        if !transfer(desk, s, &mut known, keys[place % keys.len()], keys[next]) {
             return Came::Stopped;
         }
-        let from = keys[number % keys.len()];
-        let to = keys[number.wrapping_add(1) % keys.len()];
-        if !transfer(desk, s, &mut known, from, to) {
-            return Came::Stopped;
-        }
+        place = next;
         let _ = println!(rt; "{number}");
     }
     Came::Done
 }
 
-/// Tells how many lines there are, and the sum of their balances.
+/// Tells how many lines there are, the sum of their balances, and the place of the greatest.
 fn tell_sum<L: LineStore + Drop>(rt: &HostRuntime, desk: &mut Desk<L>, s: Session) -> Came
     requires { IsMember s.number }
 {
@@ -169,7 +184,8 @@ fn tell_sum<L: LineStore + Drop>(rt: &HostRuntime, desk: &mut Desk<L>, s: Sessio
     for key in keys {
         sum = sum.wrapping_add(balance_of(&known, *key));
     }
-    let _ = println!(rt; "{} lines, {sum}", keys.len());
+    let place = place_of_greatest(&known, keys);
+    let _ = println!(rt; "{} lines, sum {sum}, greatest {place}", keys.len());
     Came::Done
 }
 
