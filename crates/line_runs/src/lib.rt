@@ -5,4 +5,4 @@ mod laws;
 mod runs;
 
 pub use laws::a_run_opens;
-pub use runs::{Ended, LineRun, run_lines};
+pub use runs::{LineRun, Said, say_in_order, say_in_threads};
