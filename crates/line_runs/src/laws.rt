@@ -17,7 +17,8 @@ use session_jobs::Statements;
 pub fn a_run_opens<D: Disk, S: Statements>(disk: &D, held: &Held)
     ensures { (image : Image) (lines : Lines) (journal : Journal) (word : List ℕ) (o : Opening)
         → BeginsFrom image lines journal (sight_of (D.view disk.now) held.now)
-        → IsOpeningOf image journal (D.view disk.now).moment word o
+        → IsOpeningOf image journal (D.view disk.now).moment o
+        → o.word ≡ word
         → S.stands lines o.tables
         → IsOpenedBy S.stands o word (sight_of (D.view disk.now) held.now) }
 {}

@@ -1,5 +1,5 @@
 // Scripts said over a database on a disk.
-ghost use Rattle.std.specs.Prelude.{◌≡◌, ◌≤◌, ◌<◌, ◌^◌, All, None, Some, IfOk, IfErr, [], false, true, length, map};
+ghost use Rattle.std.specs.Prelude.{◌≡◌, ◌≤◌, ◌<◌, ◌^◌, ℕ, All, None, Some, IfOk, IfErr, [], false, true, length, map};
 ghost use Rattle.rdb_types.specs.declared.file.FileId.{FileId as File};
 ghost use Rattle.rdb_outside.specs.Causes.{Rose};
 ghost use Rattle.rdb_account.specs.Events.{event_of};
@@ -8,7 +8,7 @@ ghost use Rattle.rdb_drive.specs.Boards.{IsSession};
 ghost use Rattle.line_cluster.specs.Sound.{FollowsScripts, fresh_member};
 ghost use Rattle.line_cluster.specs.Turned.{is_session};
 ghost use Rattle.line_drive.specs.Turns.{KeepsTurns};
-ghost use Rattle.line_runs.specs.Openings.{OpensWith};
+ghost use Rattle.line_runs.specs.Openings.{HasNoNumbers, OpensWith};
 
 use crate::laws::a_run_opens;
 use disk_line_store::DiskStore;
@@ -21,6 +21,7 @@ use rdb_drive::Gate;
 use rdb_outside::Disk;
 use rdb_types::{Items, Word};
 use rdo_reserving::ReservingStatements;
+use session_jobs::Statements;
 use session_states::ItemQueue;
 use std::alloc::Global;
 use std::marker::Send;
@@ -63,10 +64,12 @@ fn begin<O: Origin, D: Disk + Drop>(
     requires few { O.sessions ≤ 16 }
     requires short { All (λ items. length items < 2 ^ 32) said.scripts.items }
     requires scripts { FollowsScripts O.opening said.scripts.items }
-    requires opens { O.told → OpensWith ⟦<ReservingStatements as Statements>⟧.stands (D.view disk) said.word O.opening }
+    requires word { said.word ≡ O.opening.word }
+    requires opens { O.told → OpensWith ⟦<ReservingStatements as Statements>⟧.stands (D.view disk) O.opening }
     ensures events { IfOk result (λ c. c.events ≡ []) }
     ensures members { IfOk result (λ c. c.members ≡ map fresh_member said.scripts.items) }
     ensures failed { IfErr result (λ u. u.fault ≡ OpeningFault.Failed → Rose (D.view disk).faults (D.view u.disk).faults) }
+    ensures bad { (file : File) (slot : ℕ) → IfErr result (λ u. u.fault ≡ OpeningFault.Bad file slot → HasNoNumbers (D.view disk)) }
 {
     let mut disk = disk;
     let held = match open(alloc, &mut disk) {
@@ -125,11 +128,13 @@ pub fn say_in_order<O: Origin, D: Disk + Drop, G: Gate>(
     requires short { All (λ items. length items < 2 ^ 32) said.scripts.items }
     requires scripts { FollowsScripts O.opening said.scripts.items }
     requires entries { All (λ s. IsSession O.sessions s) order.now }
-    requires opens { O.told → OpensWith ⟦<ReservingStatements as Statements>⟧.stands (D.view disk) said.word O.opening }
+    requires word { said.word ≡ O.opening.word }
+    requires opens { O.told → OpensWith ⟦<ReservingStatements as Statements>⟧.stands (D.view disk) O.opening }
     ensures legal { O.told → IsLegal O.opening (map event_of result.events) }
     ensures whole { O.told → result.is_whole ≡ true → AreWhole (is_session O.sessions) O.opening (map event_of result.events) }
     ensures order { O.told → result.is_whole ≡ true → KeepsTurns O.opening O.sessions order.now result.events }
     ensures failed { result.fault ≡ Some OpeningFault.Failed → Rose (D.view disk).faults (D.view result.disk).faults }
+    ensures bad { (file : File) (slot : ℕ) → result.fault ≡ Some (OpeningFault.Bad file slot) → HasNoNumbers (D.view disk) }
     ensures unsaid { (result.fault ≡ None → ⊥) → result.events ≡ [] }
 {
     let sessions = said.scripts.len() as u32;
@@ -156,10 +161,12 @@ pub fn say_in_threads<
     requires few { O.sessions ≤ 16 }
     requires short { All (λ items. length items < 2 ^ 32) said.scripts.items }
     requires scripts { FollowsScripts O.opening said.scripts.items }
-    requires opens { O.told → OpensWith ⟦<ReservingStatements as Statements>⟧.stands (D.view disk) said.word O.opening }
+    requires word { said.word ≡ O.opening.word }
+    requires opens { O.told → OpensWith ⟦<ReservingStatements as Statements>⟧.stands (D.view disk) O.opening }
     ensures legal { O.told → IsLegal O.opening (map event_of result.events) }
     ensures whole { O.told → result.is_whole ≡ true → AreWhole (is_session O.sessions) O.opening (map event_of result.events) }
     ensures failed { result.fault ≡ Some OpeningFault.Failed → Rose (D.view disk).faults (D.view result.disk).faults }
+    ensures bad { (file : File) (slot : ℕ) → result.fault ≡ Some (OpeningFault.Bad file slot) → HasNoNumbers (D.view disk) }
     ensures unsaid { (result.fault ≡ None → ⊥) → result.events ≡ [] }
 {
     let sessions = said.scripts.len() as u32;

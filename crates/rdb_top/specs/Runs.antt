@@ -7,9 +7,13 @@ use Rattle.rdb_drive.specs.Orders.{upward}
 use Rattle.rdb_account.specs.declared.event.Event.{Event}
 use Rattle.rdb_account.specs.Events.{event_of}
 use Rattle.rdb_account.specs.Legal.{IsLegal, AreWhole}
+use Rattle.rdb_account.specs.Places.{Opening}
 use Rattle.rdb_account.specs.Transcript.{transcript}
-use Rattle.session_steps.specs.Openings.{opening}
-use Rattle.cluster.specs.Turns.{KeepsTurns, is_session}
+use Rattle.line_cluster.specs.Turned.{is_session}
+use Rattle.line_drive.specs.Turns.{KeepsTurns}
+use Rattle.line_opening.specs.declared.fault.OpeningFault.{OpeningFault}
+use Rattle.line_opening.specs.declared.fault.OpeningFault.TheVariants as fault
+use Rattle.line_runs.specs.Openings.{said_to}
 use Rattle.command_words.specs.declared.words.Scripts.{Scripts}
 use Rattle.command_words.specs.declared.words.Command.{Command}
 use Rattle.command_words.specs.declared.words.Command.TheVariants.{New, Rdo, Verify, Dump, DumpPage}
@@ -38,11 +42,11 @@ abbrev pub IsWhole : ℕ → Type 0
 IsWhole status = (status ≡ 0) ⊎ (status ≡ 6)
 
 -- the account of a run of these scripts' items is legal, whole where every item was said, and keeps to the order where there is one
-abbrev pub IsRun : List ℕ → Scripts → List ℕ → ℕ → List Event → List (List Item) → Type 0
-IsRun word given order status events scripts =
-    IsLegal (opening word scripts) (map event_of events)
-    × (IsWhole status → AreWhole (is_session given.count) (opening word scripts) (map event_of events))
-    × (given.has_order ≡ true → IsWhole status → KeepsTurns (opening word scripts) given.count order events)
+abbrev pub IsRun : Opening → List ℕ → Scripts → List ℕ → ℕ → List Event → List (List Item) → Type 0
+IsRun o word given order status events scripts =
+    IsLegal (said_to o word scripts) (map event_of events)
+    × (IsWhole status → AreWhole (is_session given.count) (said_to o word scripts) (map event_of events))
+    × (given.has_order ≡ true → IsWhole status → KeepsTurns (said_to o word scripts) given.count order events)
 
 -- there are so many scripts of which it holds: where the source tells them, its own
 abbrev pub OfSomeScripts : ℕ → Type 0 → List (List Item) → (List (List Item) → Type 0) → Type 0
@@ -53,10 +57,16 @@ is_status n = list_any (nat_eq n) (0 ∷ 1 ∷ 2 ∷ 3 ∷ 4 ∷ 5 ∷ 6 ∷ 7 �
 
 -- the statuses of a run of scripts
 abbrev pub is_script_status : ℕ → Bool
-is_script_status n = list_any (nat_eq n) (0 ∷ 2 ∷ 5 ∷ 6 ∷ 10 ∷ [])
+is_script_status n = list_any (nat_eq n) (0 ∷ 2 ∷ 3 ∷ 4 ∷ 5 ∷ 6 ∷ 10 ∷ [])
 
 -- the status of a script that wasn't read
 abbrev pub status_at : ReadStop → ℕ
 status_at Failed = 2
 status_at OutOfMemory = 5
 status_at TooLong = 10
+
+-- the status of a database that wasn't opened
+abbrev pub unopened_status : OpeningFault → ℕ
+unopened_status fault.Failed = 3
+unopened_status fault.NoMemory = 5
+unopened_status (fault.Bad file slot) = 4

@@ -13,14 +13,14 @@ same-file : (area : ℕ) → storage_area area ≡ file_of area
 same-file area = refl
 
 pub returns : goal.returns
-returns g c = λ image lines journal word o begins opens stands.
+returns g c = λ image lines journal word o begins opens named stands.
     let h = begins.shelf in
     let limits : h.space.limits ≡ opens.root.limits = begins.limits opens.root opens.is in
     record {
       shelf = h;
       shown = begins.shown;
       opened = λ locks parties trail. record {
-        word = opens.word_is;
+        word = named;
         stands = subst (λ (l : Lines). g.S.Statements.stands l o.tables) (sym begins.now) stands;
         past = subst (λ (n : ℕ). o.moment ≤ n) (sym begins.shown.lines.time) opens.past;
         dead = refl;
