@@ -1,5 +1,5 @@
 -- A change is through: each line of the session waits as memory has it, and no slot is set aside for it any more.
-use Rattle.std.proofs.Common.{◌≡◌, ◌≤◌, ◌-◌, ◌==◌, ℕ, zero, suc, Bool, true, false, List, [], length, Option, Some, None, inl, refl, sym, ap, subst, ◌∙◌, arith}
+use Rattle.std.proofs.Common.{◌≡◌, ◌≤◌, ◌-◌, ℕ, zero, suc, List, [], length, Option, Some, None, inl, refl, sym, ap, subst, ◌∙◌, arith}
 use Rattle.std.specs.Prelude.{slice_get, if◌then◌else◌, is_some}
 use Rattle.rdb_types.specs.declared.keys.Dbkey.{Dbkey}
 use Rattle.rdb_types.specs.declared.keys.Line.{Line}
@@ -10,12 +10,7 @@ use Rattle.line_store.specs.Seats.{Seat, in_flight, done_at}
 use Rattle.line_store.specs.Shelves.{Shelf}
 use Rattle.line_store.specs.Calls.{IsDone}
 use Rattle.line_store.specs.Sights.{seat_or, Does}
-use Rattle.line_versions.specs.Versions.{Followed}
 use Rattle.line_moves.specs.Lines.{ChangedLines}
-use Rattle.version_writing.specs.Slots.{SlotTable, HoldsFile, without_aside}
-use Rattle.version_writing.specs.Tables.{HoldsAll}
-use Rattle.version_writing.specs.declared.snapshot_slots.SnapshotSlots.{SnapshotSlots}
-use Rattle.version_writing.specs.declared.snapshot_slots.Wanted.{Wanted}
 use Rattle.disk_seats.specs.Ledgers.{changing, Ledger}
 use Rattle.ledger_versions.specs.Readers.{AreAlike, HasVersionOf, ReaderFacts, set_waiting}
 use Rattle.ledger_versions.proofs.LinesJoin.{lines_alike}
@@ -23,11 +18,11 @@ use Rattle.ledger_versions.proofs.Restanding.{same_ledger}
 use Rattle.member_memory.specs.Memory.{Memory, AreKeysOf, writes_in}
 use Rattle.disk_store.specs.declared.member.Member.{Member}
 use Rattle.disk_store.specs.declared.member.MemberStage.TheVariants as stage
-use Rattle.disk_store.specs.ChangeSteps.{change_ended, without_asides, written_now}
+use Rattle.disk_store.specs.ChangeSteps.{change_ended, written_now}
 use Rattle.disk_store.specs.Memory.{StoreMemory}
 use Rattle.disk_store.specs.Seats.{seat_with, stand_of, stand_at}
 use Rattle.disk_store.specs.Standing.{HasBegun, HasJournalled, StageStands}
-use Rattle.disk_store.specs.Shown.{WaitPushed, WaitsAs, Shown, used_in, sight_of}
+use Rattle.disk_store.specs.Shown.{WaitPushed, WaitsAs, Shown, sight_of}
 use Rattle.disk_store.specs.Sound.{IsSound}
 use Rattle.disk_store.proofs.Moving.{itself}
 use Rattle.disk_store.proofs.Members.{get-within}
@@ -37,32 +32,7 @@ use Rattle.disk_store.proofs.Stepping.{ComesTo, Becomes, does-step}
 use Rattle.disk_store.proofs.Passing.{passes-none, none-leaves, tables-pass}
 use Rattle.disk_store.proofs.Changed.{got-within, used-all}
 use Rattle.disk_store.proofs.FoundLines.{found-there, stands-there, key-there}
-use Rattle.disk_store.proofs.SpentSlots.{space-less, keeps-less, stands-less}
-
--- ---- slots
-
--- slots that aren't set aside any more hold what they held
-pub held-left : (v : View) (followed : Followed) (limit : ℕ) (wanted : Wanted) (slots : SnapshotSlots) → HoldsAll v.content followed limit slots → HoldsAll v.content followed limit (without_asides wanted slots)
-held-left v followed limit wanted slots was file is = by (file == 1) (file == 2) (was file is)
-  where
-    less : (n : ℕ) (t : SlotTable) → HoldsFile v.content followed file limit t → HoldsFile v.content followed file limit (without_aside n t)
-    less n t has = record { long = has.long; used = has.used; pusher = has.pusher }
-
-    by : (a b : Bool) → HoldsFile v.content followed file limit (if a then slots.catalog else (if b then slots.relations else slots.indexes)) →
-        HoldsFile v.content followed file limit (if a then (without_asides wanted slots).catalog else (if b then (without_asides wanted slots).relations else (without_asides wanted slots).indexes))
-    by true b has = less wanted.catalog slots.catalog has
-    by false true has = less wanted.relations slots.relations has
-    by false false has = less wanted.indexes slots.indexes has
-
-used-left : (n : ℕ) (t : SlotTable) → used_in (without_aside n t) ≤ used_in t
-used-left n t = omega arith
-
-pub fewer-left : (wanted : Wanted) (slots : SnapshotSlots) → used-all (without_asides wanted slots) ≤ used-all slots
-fewer-left wanted slots =
-    let a = used-left wanted.catalog slots.catalog in
-    let b = used-left wanted.relations slots.relations in
-    let c = used-left wanted.indexes slots.indexes in
-    omega (arith, a, b, c)
+use Rattle.disk_store.proofs.SpentSlots.{fewer-left, held-left, space-less, keeps-less, stands-less}
 
 -- ---- lines that wait
 

@@ -1,37 +1,36 @@
 -- The last turn of a commit: its lines are committed.
-use Rattle.std.proofs.Common.{◌≡◌, ◌≢◌, ◌≤◌, ◌<◌, ◌+◌, ◌-◌, ◌==◌, ◌&&◌, ◌%◌, inl, inr, ◌⊎◌, ℕ, zero, suc, Bool, true, false, cond, not, nat_le, IsTrue, List, [], ◌∷◌, ◌++◌, length, map, Ok, Option, Some, None, refl, sym, ap, subst, ◌∙◌, arith}
-use Rattle.std.specs.Prelude.{slice_get, if◌then◌else◌}
+use Rattle.std.proofs.Common.{◌≡◌, ◌+◌, ◌==◌, inl, inr, ◌⊎◌, ℕ, Bool, false, cond, IsTrue, List, [], length, map, Ok, Some, None, refl, sym, ap, subst, ◌∙◌, arith}
+use Rattle.std.specs.Prelude.{slice_get}
 use Rattle.std.proofs.lemmas.Bool.{eqb-false}
 use Rattle.std.proofs.lemmas.Option.{none-some}
 use Rattle.rdb_outside.specs.Disk.{View, LeftNow}
 use Rattle.line_view.specs.declared.writes.Write.{Write}
 use Rattle.line_view.specs.Knowledge.{Lines}
 use Rattle.line_view.specs.Writes.{laid_all}
-use Rattle.line_store.specs.Seats.{Seat, committing, closing, in_flight, lines_written}
+use Rattle.line_store.specs.Seats.{committing, closing}
 use Rattle.line_store.specs.Shelves.{Shelf, Space}
 use Rattle.line_store.specs.Calls.{IsCommitted, TakesGroup}
-use Rattle.line_store.specs.Sights.{bare, Does}
+use Rattle.line_store.specs.Sights.{Does}
 use Rattle.stable_lines.specs.Slots.{line_at}
 use Rattle.stable_lines.specs.Journal.{next_slot, write_of}
 use Rattle.stable_lines.specs.Progress.{lines_with}
 use Rattle.line_seat.specs.declared.commit.CommitStage.TheVariants.{Gathering, Landing, Committed}
 use Rattle.line_seat.specs.Groups.{group_of}
-use Rattle.disk_seats.specs.Ledgers.{resting, Standing, Commit, Ledger, held_up, landed_at}
+use Rattle.disk_seats.specs.Ledgers.{resting, Commit, Ledger, held_up, landed_at}
 use Rattle.disk_seats.specs.Members.{LedgerFacts}
 use Rattle.disk_versions.specs.Courses.{course_landed}
 use Rattle.member_steps.specs.declared.committing.CommitTurn.{CommitTurn}
-use Rattle.member_steps.specs.declared.committing.CommitTurn.TheVariants.{Entering, Securing, Going}
+use Rattle.member_steps.specs.declared.committing.CommitTurn.TheVariants.{Going}
 use Rattle.member_steps.specs.Turns.{Plan, commit_of_plan}
 use Rattle.ledger_versions.specs.Readers.{set_waiting}
 use Rattle.reader_turns.proofs.TurnSteps.{turn_lands}
 use Rattle.member_memory.specs.Memory.{writes_in}
 use Rattle.disk_store.specs.declared.member.Member.{Member}
-use Rattle.disk_store.specs.declared.member.MemberStage.{MemberStage}
 use Rattle.disk_store.specs.declared.member.MemberStage.TheVariants as stage
 use Rattle.disk_store.specs.declared.held.Tables.{Tables}
 use Rattle.disk_store.specs.Dying.{forgotten}
-use Rattle.disk_store.specs.Memory.{StoreMemory, with_member}
-use Rattle.disk_store.specs.Seats.{seat_with, stand_of, stand_at}
+use Rattle.disk_store.specs.Memory.{StoreMemory}
+use Rattle.disk_store.specs.Seats.{seat_with}
 use Rattle.disk_store.specs.Standing.{IsGoing, StageStands}
 use Rattle.disk_store.specs.Shown.{Sits, TablesStand, Shown, sight_of}
 use Rattle.disk_store.specs.Sound.{IsSound}
@@ -41,7 +40,7 @@ use Rattle.commit_steps.specs.Turns.{group_for, WritesAside, MakesTurn}
 use Rattle.disk_store.proofs.Members.{set-beside}
 use Rattle.disk_store.proofs.Moving.{itself}
 use Rattle.disk_store.proofs.Ordered.{group-long, same-writes}
-use Rattle.commit_steps.proofs.Planning.{own-commit, plan-going, under-way-now, of-areas, lie-for, waits-now}
+use Rattle.commit_steps.proofs.Planning.{own-commit, plan-going, under-way-now, waits-now}
 use Rattle.disk_store.proofs.Kept.{kept-stays}
 use Rattle.disk_store.proofs.Stepping.{ComesTo, does-any}
 use Rattle.disk_store.proofs.Passing.{aside-ceiling}

@@ -1,23 +1,22 @@
 -- The commit of a member's lines, by memory and by the ledger.
-use Rattle.std.proofs.Common.{◌≡◌, ◌≢◌, ◌≤◌, ◌==◌, ◌⊎◌, inl, inr, ℕ, Bool, true, false, IsTrue, List, [], length, Option, Some, None, is_some, cond, refl, sym, ap, subst, ◌∙◌, arith}
+use Rattle.std.proofs.Common.{◌≡◌, ◌≤◌, ◌⊎◌, inl, inr, ℕ, Bool, true, false, List, Option, Some, None, cond, refl, sym, ap, subst, ◌∙◌, arith}
 use Rattle.std.specs.Prelude.{slice_get}
-use Rattle.std.specs.FinMap.Entries.{find, is_sorted}
-use Rattle.std.proofs.lemmas.Bool.{true≢false}
-use Rattle.std.proofs.lemmas.Option.{same_Some, none-some}
+use Rattle.std.specs.FinMap.Entries.{is_sorted}
+use Rattle.std.proofs.lemmas.Option.{none-some}
 use Rattle.rdb_types.specs.declared.keys.Dbkey.{Dbkey}
 use Rattle.rdb_types.specs.declared.keys.Limits.{Limits}
 use Rattle.rdb_types.specs.declared.keys.Line.{Line}
 use Rattle.rdb_types.specs.Order.{dbkey_order}
 use Rattle.rdb_page.specs.Page.{IsOwner}
-use Rattle.rdb_outside.specs.Disk.{View, Pending}
+use Rattle.rdb_outside.specs.Disk.{View}
 use Rattle.line_view.specs.declared.writes.Write.{Write}
 use Rattle.line_view.specs.Knowledge.{Lines}
-use Rattle.line_store.specs.Seats.{Seat, in_flight}
+use Rattle.line_store.specs.Seats.{in_flight}
 use Rattle.line_store.specs.Shelves.{Shelf}
 use Rattle.stable_lines.specs.Slots.{Undo}
-use Rattle.stable_lines.specs.Progress.{Open, Flight}
+use Rattle.stable_lines.specs.Progress.{Flight}
 use Rattle.line_moves.specs.declared.places.Place.{Place}
-use Rattle.line_moves.specs.Changes.{IsForArea, IsPlaceOf}
+use Rattle.line_moves.specs.Changes.{IsPlaceOf}
 use Rattle.line_moves.specs.Classes.{LieForArea}
 use Rattle.line_moves.specs.Lines.{ChangedLines}
 use Rattle.line_seat.specs.declared.commit.GroupPlace.{GroupPlace}
@@ -31,19 +30,19 @@ use Rattle.member_steps.specs.Turns.{Plan, MayCommit, plan_of, commit_of_plan}
 use Rattle.page_table.specs.Pages.{owner_in, IsWithin}
 use Rattle.ledger_versions.specs.Readers.{HasBefore, HasLines}
 use Rattle.store_shows.specs.Shows.{IsInFlight}
-use Rattle.member_memory.specs.Memory.{AreKeysOf, writes_in, has_key}
+use Rattle.member_memory.specs.Memory.{AreKeysOf, writes_in}
 use Rattle.disk_store.specs.declared.member.Member.{Member}
 use Rattle.disk_store.specs.declared.member.MemberStage.{MemberStage}
 use Rattle.disk_store.specs.declared.member.MemberStage.TheVariants as stage
 use Rattle.disk_store.specs.Memory.{StoreMemory}
 use Rattle.disk_store.specs.Seats.{seat_with}
-use Rattle.disk_store.specs.Standing.{HasJournalled, IsGoing, StageStands}
-use Rattle.disk_store.specs.Shown.{Sits, SitsAs, WaitsAs, pages_of, Shown}
+use Rattle.disk_store.specs.Standing.{HasJournalled, IsGoing}
+use Rattle.disk_store.specs.Shown.{Sits, WaitsAs, pages_of, Shown}
 use Rattle.disk_store.specs.Sound.{IsSound}
 use Rattle.disk_store.specs.Commits.{is_flying, HasClass, AreOfPages, KeepsCommits}
 use Rattle.commit_steps.specs.Turns.{group_for}
 use Rattle.disk_store.proofs.Moving.{itself}
-use Rattle.disk_store.proofs.Ordered.{are-distinct, place-of-key, listed, group-ascends, InGroup, in-group}
+use Rattle.disk_store.proofs.Ordered.{place-of-key, listed, group-ascends, InGroup, in-group}
 use Rattle.disk_store.proofs.Tabled.{file-of, one-file, some-owner}
 
 -- ---- lines and their pages

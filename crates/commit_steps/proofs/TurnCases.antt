@@ -1,17 +1,15 @@
 -- The turns of a commit that aren't its last, one by one.
-use Rattle.std.proofs.Common.{◌≡◌, ◌≢◌, ◌==◌, inl, inr, ℕ, IsTrue, Bool, true, false, cond, List, length, Ok, Err, Option, Some, None, refl, sym, ap, subst, ◌∙◌, arith}
+use Rattle.std.proofs.Common.{◌≡◌, ◌≢◌, ◌==◌, inl, inr, ℕ, IsTrue, Bool, false, cond, length, Ok, Some, refl, sym, ap, subst, ◌∙◌, arith}
 use Rattle.std.specs.Prelude.{slice_get}
 use Rattle.std.proofs.lemmas.Bool.{eqb-false}
 use Rattle.std.proofs.lemmas.Option.{none-some}
 use Rattle.rdb_outside.specs.Disk.{View, LeftNow}
 use Rattle.line_store.specs.Shelves.{Shelf}
-use Rattle.line_store.specs.declared.answers.Fault.{Fault}
 use Rattle.line_moves.specs.Lines.{ChangedLines, AreDistinct, PutsOnly}
 use Rattle.line_seat.specs.declared.commit.CommitStage.{CommitStage}
 use Rattle.line_seat.specs.declared.commit.CommitStage.TheVariants.{Changing, Imaging, Gathering, Sealing, Landing, Committed}
 use Rattle.line_seat.specs.Groups.{HaveClasses}
-use Rattle.line_seat.specs.Stages.{IsNextStage}
-use Rattle.disk_seats.specs.Ledgers.{Standing, committing, gained, Commit, Ledger, again, held_up, gone_on}
+use Rattle.disk_seats.specs.Ledgers.{committing, gained, Commit, Ledger, again, held_up, gone_on}
 use Rattle.disk_seats.specs.Members.{LedgerFacts, AreOwned}
 use Rattle.member_steps.specs.declared.committing.CommitTurn.{CommitTurn}
 use Rattle.member_steps.specs.declared.committing.CommitTurn.TheVariants.{Entering, Securing, Going}
@@ -21,7 +19,6 @@ use Rattle.ledger_versions.specs.Readers.{ReaderFacts}
 use Rattle.reader_turns.proofs.TurnSteps.{turn_held, turn_further}
 use Rattle.member_memory.specs.Memory.{writes_in}
 use Rattle.disk_store.specs.declared.member.Member.{Member}
-use Rattle.disk_store.specs.declared.member.MemberStage.{MemberStage}
 use Rattle.disk_store.specs.declared.member.MemberStage.TheVariants as stage
 use Rattle.disk_store.specs.Memory.{StoreMemory, with_member, at_stage}
 use Rattle.disk_store.specs.Standing.{HasJournalled, HasEntered, IsGoing, StageStands}

@@ -1,47 +1,39 @@
 -- A turn of a commit that isn't its last: what is shown behind it.
-use Rattle.std.proofs.Common.{◌≡◌, ◌≢◌, ◌≤◌, ◌<◌, ◌==◌, ◌⊎◌, inl, inr, ℕ, ◌-◌, Bool, true, false, IsTrue, List, [], length, map, Option, Some, None, refl, sym, ap, subst, ◌∙◌, arith}
-use Rattle.std.specs.Prelude.{slice_get, if◌then◌else◌}
-use Rattle.std.proofs.lemmas.Bool.{true≢false, eqb-true, eqb-false}
-use Rattle.std.proofs.lemmas.Option.{same_Some, none-some}
-use Rattle.rdb_outside.specs.Disk.{View, Pending}
+use Rattle.std.proofs.Common.{◌≡◌, ◌==◌, ℕ, Bool, true, false, IsTrue, List, map, Some, refl, sym, ap, subst, ◌∙◌, arith}
+use Rattle.std.specs.Prelude.{slice_get}
+use Rattle.std.proofs.lemmas.Bool.{true≢false, eqb-false}
+use Rattle.std.proofs.lemmas.Option.{same_Some}
+use Rattle.rdb_outside.specs.Disk.{View}
 use Rattle.line_view.specs.declared.writes.Write.{Write}
 use Rattle.line_view.specs.Knowledge.{Lines}
 use Rattle.line_view.specs.Writes.{laid_all}
-use Rattle.line_store.specs.Seats.{Seat, committing, in_flight}
 use Rattle.line_store.specs.Shelves.{Shelf}
 use Rattle.line_versions.specs.Files.{snap_file}
 use Rattle.line_versions.specs.Versions.{Followed}
-use Rattle.stable_lines.specs.Journal.{Journal, lines_behind, next_number, next_slot, write_of}
-use Rattle.stable_lines.specs.Progress.{Flight, Progress, lines_with}
-use Rattle.line_moves.specs.Calls.{OnlyWrites}
+use Rattle.stable_lines.specs.Journal.{lines_behind, next_number, next_slot, write_of}
+use Rattle.stable_lines.specs.Progress.{lines_with}
 use Rattle.line_seat.specs.declared.commit.CommitStage.{CommitStage}
-use Rattle.line_seat.specs.declared.commit.CommitStage.TheVariants.{Changing, Imaging, Gathering, Sealing, Landing, Committed}
 use Rattle.line_seat.specs.Groups.{group_lines}
-use Rattle.disk_seats.specs.Ledgers.{resting, Standing, Commit, Ledger}
+use Rattle.disk_seats.specs.Ledgers.{Commit, Ledger}
 use Rattle.disk_seats.specs.Members.{LedgerFacts}
 use Rattle.member_steps.specs.declared.committing.CommitTurn.{CommitTurn}
-use Rattle.member_steps.specs.declared.committing.CommitTurn.TheVariants.{Entering, Securing, Going}
 use Rattle.member_steps.specs.Turns.{Plan, commit_of_plan}
 use Rattle.committed_tables.specs.Tables.{HasCommitted}
 use Rattle.version_writing.specs.Tables.{HoldsAll}
 use Rattle.version_writing.specs.declared.snapshot_slots.SnapshotSlots.{SnapshotSlots}
 use Rattle.ledger_versions.specs.Readers.{ReaderFacts, Waiting}
 use Rattle.line_versions.specs.Course.{Course}
-use Rattle.store_shows.specs.Shows.{IsInFlight}
 use Rattle.member_memory.specs.Memory.{writes_in}
 use Rattle.disk_store.specs.declared.member.Member.{Member}
 use Rattle.disk_store.specs.declared.member.MemberStage.{MemberStage}
 use Rattle.disk_store.specs.declared.member.MemberStage.TheVariants as stage
-use Rattle.disk_store.specs.declared.held.Tables.{Tables}
 use Rattle.disk_store.specs.Memory.{StoreMemory, with_member, at_stage}
-use Rattle.disk_store.specs.Seats.{seat_with}
-use Rattle.disk_store.specs.Standing.{HasJournalled, HasEntered, IsGoing, StageStands}
-use Rattle.disk_store.specs.Shown.{TablesStand, NumbersStand, Shown, pages_of}
+use Rattle.disk_store.specs.Standing.{StageStands}
+use Rattle.disk_store.specs.Shown.{TablesStand, Shown, pages_of}
 use Rattle.disk_store.specs.Sound.{IsSound}
 use Rattle.disk_store.specs.Commits.{is_flying, AreOfPages, KeepsCommits}
 use Rattle.commit_steps.specs.Turns.{group_for, WritesAside, MakesTurn}
 use Rattle.disk_store.proofs.Members.{set-beside}
-use Rattle.disk_store.proofs.Moving.{itself}
 use Rattle.disk_store.proofs.Beside.{StaysWith, stays-with, rests}
 use Rattle.disk_store.proofs.Kept.{kept-stays}
 use Rattle.disk_store.proofs.Stepping.{ComesTo}

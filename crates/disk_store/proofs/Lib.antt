@@ -35,6 +35,8 @@ mod Taking
 pub mod PutBack
 pub mod Raising
 mod FewSteps
+mod SlotsGiven
+mod Tidied
 mod Classed
 pub mod Judged
 pub mod FirstSound

@@ -48,7 +48,7 @@ aside-its members s file m was has = subst (λ (x : Member). 1 ≤ wanted_in fil
 
 -- ---- what is wanted of a file
 
-each-file : (P : ℕ → Type 0) → P 1 → P 2 → P 3 → (f : ℕ) → IsAreaFile f → P f
+pub each-file : (P : ℕ → Type 0) → P 1 → P 2 → P 3 → (f : ℕ) → IsAreaFile f → P f
 each-file P a b c zero is = absurd (let first = is.first in omega (arith, first))
 each-file P a b c (suc zero) is = a
 each-file P a b c (suc (suc zero)) is = b

@@ -12,5 +12,6 @@ pub mod BeforeImages
 pub mod Taken
 pub mod Changing
 pub mod ChangeSteps
+pub mod Giving
 pub mod Readers
 pub mod Opening

@@ -9,6 +9,7 @@ mod classes;
 mod dying;
 mod endings;
 mod few;
+mod giving;
 mod held;
 mod landing;
 mod laws;

@@ -20,7 +20,7 @@ use version_reading::Reader;
 
 impl Member {
     // Whether its read-write transaction is open on the disk.
-    fn goes_on(&self) -> bool
+    pub(crate) fn goes_on(&self) -> bool
         ensures { result ≡ goes_at self.now.stage }
     {
         match self.stage {

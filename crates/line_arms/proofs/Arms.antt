@@ -1,15 +1,7 @@
 -- From what a stage's function says to what an arm says.
-use Rattle.std.proofs.Common.{◌≡◌, ℕ, List, [], ◌∷◌, ◌++◌, Bool, true, false, refl, ◌∙◌, sym, ap, subst, Option, Some, None}
-use Rattle.std.proofs.lemmas.Option.{none-some}
+use Rattle.std.proofs.Common.{◌≡◌, ℕ, List, [], ◌∷◌, ◌++◌, refl, sym, subst}
 use Rattle.rdo_ast.specs.declared.syntax.Item.{Item}
-use Rattle.rdo_ast.specs.Views.{uttered_of}
-use Rattle.rdb_account.specs.Legal.{ends_by}
-use Rattle.lock_needs.specs.declared.need.Need.{Need}
-use Rattle.lock_needs.specs.Needs.{is_plain}
-use Rattle.lock_needs.specs.Nodes.{is_on}
-use Rattle.line_steps.specs.Images.{journal_node}
 use Rattle.line_store.specs.Shelves.{Shelf}
-use Rattle.line_store.specs.Sights.{Sight}
 use Rattle.line_store.proofs.InTurn.{does-as, does-nothing}
 use Rattle.session_jobs.specs.Records.{Model}
 use Rattle.session_states.specs.declared.stage.Phase.{Phase}
@@ -74,3 +66,6 @@ passes M s c x y p = record {
 pub reads-on : (M : Model) (s : ℕ) (old new : Scene) (r : Reader) (stage : ReaderStage) (y : Phase) (e : Happening) (left : List Item) → r.stage ≡ stage → ComesIn M s old (Reading (reader r.standing r.known r.spoken stage)) new y e → GoesOn M s old left (Reading r) new left y e
 reads-on M s old new r stage y e left f step = goes-on M s old new (Reading r) y e left
     (subst (λ (st : ReaderStage). ComesIn M s old (Reading (reader r.standing r.known r.spoken st)) new y e) (sym f) step)
+
+pub reads-between : (M : Model) (s : ℕ) (old new : Scene) (r : Reader) (stage : ReaderStage) (y : Phase) (e : Happening) (left rest : List Item) → r.stage ≡ stage → GoesOn M s old left (Reading (reader r.standing r.known r.spoken stage)) new rest y e → GoesOn M s old left (Reading r) new rest y e
+reads-between M s old new r stage y e left rest f step = subst (λ (st : ReaderStage). GoesOn M s old left (Reading (reader r.standing r.known r.spoken st)) new rest y e) (sym f) step

@@ -1,5 +1,5 @@
 -- A statement that lacks a room has its job worked again.
-use Rattle.std.proofs.Common.{◌≡◌, ℕ, refl, arith}
+use Rattle.std.proofs.Common.{refl, arith}
 use Rattle.rdb_types.specs.declared.keys.Dbkey.{Dbkey}
 use Rattle.rdo_ast.specs.declared.syntax.Item.{Item}
 use Rattle.line_view.specs.declared.need.Need.TheVariants as need

@@ -1,9 +1,10 @@
 //! A read-only transaction, by its stage.
-ghost use Rattle.std.specs.Prelude.{◌≡◌};
+ghost use Rattle.std.specs.Prelude.{◌≡◌, []};
 ghost use Rattle.line_store.specs.Seats.{IsMember};
 ghost use Rattle.session_states.specs.declared.stage.Phase.TheVariants.{Reading};
 ghost use Rattle.session_stands.specs.Seated.{IsSeated};
 ghost use Rattle.session_measure.specs.Nearer.{AreRounds};
+ghost use Rattle.stage_steps.specs.Happenings.{handed_back};
 ghost use Rattle.stage_steps.specs.Scenes.{ComesIn, scene};
 ghost use Rattle.stage_steps.specs.Turns.{reads_at};
 ghost use Rattle.line_arms.specs.Going.{GoesOn};
@@ -15,8 +16,8 @@ use rdo_ast::syntax::Item;
 use session_jobs::Statements;
 use session_states::{ItemQueue, Reader, ReaderStage, ReaderWork};
 use stage_steps::{
-    Common, ReaderTerms, Turned, compute_reading, fetch_reading, forgo_reading, hand_out_reading, leave_reading,
-    quiet, take_up_reading,
+    Common, ReaderTerms, Turned, compute_reading, fetch_reading, forgo_reading, hand_out_reading,
+    leave_reading, quiet, take_up_reading,
 };
 
 /// One step of a read-only transaction.
@@ -29,7 +30,7 @@ pub(crate) fn go_on_reading<S: Statements, L: LineStore>(
 ) -> Turned
     requires member { IsMember s.number }
     requires seated { IsSeated (L.sight common.old.store).stand common.old.tree s.number (Reading reader) }
-    ensures goes { GoesOn S.stands s.number (scene common.old.word (L.sight common.old.store) common.old.tree) left.old (Reading reader)
+    ensures goes { handed_back result.happened ≡ [] → GoesOn S.stands s.number (scene common.old.word (L.sight common.old.store) common.old.tree) left.old (Reading reader)
         (scene common.new.word (L.sight common.new.store) common.new.tree) left.new result.phase result.happened }
     ensures rounds { AreRounds (Reading reader) result.phase allotment.old.rounds allotment.new.rounds }
 {
@@ -62,7 +63,7 @@ fn read_next<S: Statements, L: LineStore>(
 ) -> Turned
     requires member { IsMember s.number }
     requires seated { IsSeated (L.sight common.old.store).stand common.old.tree s.number (reads_at terms ReaderStage.Between) }
-    ensures { GoesOn S.stands s.number (scene common.old.word (L.sight common.old.store) common.old.tree) left.old (reads_at terms ReaderStage.Between)
+    ensures { handed_back result.happened ≡ [] → GoesOn S.stands s.number (scene common.old.word (L.sight common.old.store) common.old.tree) left.old (reads_at terms ReaderStage.Between)
         (scene common.new.word (L.sight common.new.store) common.new.tree) left.new result.phase result.happened }
 {
     match left.pop() {

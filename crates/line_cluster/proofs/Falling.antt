@@ -14,7 +14,7 @@ use Rattle.line_store.proofs.InTurn.{does-as}
 use Rattle.session_jobs.specs.Records.{Model, IsOrderly}
 use Rattle.session_states.specs.declared.stage.Phase.{Phase}
 use Rattle.session_states.specs.declared.stage.Life.{Life}
-use Rattle.session_states.specs.declared.stage.Life.TheVariants.{Alive, Dead, Gone}
+use Rattle.session_states.specs.declared.stage.Life.TheVariants.{Alive, Dead}
 use Rattle.session_states.specs.declared.stage.Member.{Member}
 use Rattle.session_states.specs.declared.stage.Work.TheVariants.{Opening as OpeningIt, Due, Out, Lacking, Housing, Fetching, Lodging}
 use Rattle.session_states.specs.declared.stage.Laying.TheVariants.{Claiming, Changing}
@@ -25,7 +25,7 @@ use Rattle.session_states.specs.declared.stage.Phase.TheVariants.{Outside, Closi
 use Rattle.session_states.specs.States.{commits_in, session, dead_session, gone_session}
 use Rattle.session_states.specs.Steps.{Fall}
 use Rattle.session_stands.specs.Seated.{stand_of, IsStandOf, HasFallen, LivesAt}
-use Rattle.session_stands.specs.Sessions.{AreSeated, IsTold, dead_in, one_dead, sharing}
+use Rattle.session_stands.specs.Sessions.{AreSeated, IsTold, dead_in, one_dead}
 use Rattle.session_stands.proofs.Seating.{seated}
 use Rattle.session_stands.proofs.Seats.{dead-seat}
 use Rattle.session_stands.proofs.Telling.{falls}

@@ -1,6 +1,5 @@
 -- Where one session comes nearer to its end the measure of all sessions falls.
-use Rattle.std.proofs.Common.{◌≡◌, ◌≤◌, ◌<◌, ◌+◌, ◌==◌, ◌||◌, ℕ, zero, suc, ◌∷◌, ◌++◌, [], Bool, List, true, false, length, refl, sym, ap, subst, ◌∙◌, arith, Option, Some, None, slice_get, slice_set}
-use Rattle.std.specs.List.{list_any}
+use Rattle.std.proofs.Common.{◌≡◌, ◌<◌, ◌+◌, ◌==◌, ℕ, zero, suc, ◌∷◌, ◌++◌, [], List, true, false, length, refl, sym, ap, subst, ◌∙◌, arith, Some, slice_get, slice_set}
 use Rattle.std.proofs.lemmas.Option.{none-some, same_Some}
 use Rattle.std.proofs.lemmas.Bool.{or_left, or_right}
 use Rattle.lock_tree_laws.specs.Progress.{measure, is_among, Falls as LocksFall}

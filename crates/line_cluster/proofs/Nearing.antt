@@ -1,18 +1,16 @@
 -- A turn that moves brings its session nearer to its end, and so all sessions.
-use Rattle.std.proofs.Common.{◌≡◌, ◌≤◌, ◌<◌, ◌-◌, ◌+◌, ◌==◌, ◌⊎◌, ℕ, zero, suc, ◌∷◌, [], Bool, List, true, false, refl, sym, ap, subst, ◌∙◌, arith, Option, Some, None, slice_get, slice_set, is_some, inl, inr}
+use Rattle.std.proofs.Common.{◌≡◌, ◌≤◌, ◌-◌, ◌==◌, ◌⊎◌, ℕ, zero, suc, ◌∷◌, [], List, true, false, refl, sym, ap, subst, ◌∙◌, arith, Option, Some, None, slice_get, slice_set, is_some, inl, inr}
 use Rattle.std.proofs.lemmas.Bool.{false≢true}
 use Rattle.std.proofs.lemmas.Option.{none-some, same_Some}
 use Rattle.rdb_types.specs.declared.node.Node.{Node}
 use Rattle.vms_queues.specs.declared.lock_mode.Mode.{Mode}
 use Rattle.rdo_ast.specs.declared.syntax.Item.{Item}
-use Rattle.lock_needs.specs.declared.need.Need.{Need}
 use Rattle.lock_needs.specs.declared.party.OpenWant.{OpenWant}
 use Rattle.lock_needs.specs.Party.{Party}
 use Rattle.lock_tree.specs.Sleeping.{is_queued, is_sleeping}
 use Rattle.lock_tree_laws.specs.Forest.{State, Parties, IsWhole, idle, opened_of, party_of}
 use Rattle.lock_tree_laws.specs.LockTable.{granted_at}
 use Rattle.lock_tree_laws.specs.Progress.{is_spare, Falls as LocksFall}
-use Rattle.lock_tree_laws.specs.Wanted.{needs_of}
 use Rattle.lock_tree_laws.proofs.ServedAt.{nothing-due}
 use Rattle.line_store.specs.Seats.{Seat}
 use Rattle.session_jobs.specs.Records.{Model}
@@ -22,9 +20,9 @@ use Rattle.session_states.specs.declared.stage.Phase.{Phase}
 use Rattle.session_states.specs.declared.stage.Phase.TheVariants.{Outside, Closing, Writing, Reading, Over}
 use Rattle.session_states.specs.declared.stage.Member.{Member}
 use Rattle.session_states.specs.States.{session}
-use Rattle.session_stands.specs.Seated.{IsSeated, LivesAt}
+use Rattle.session_stands.specs.Seated.{LivesAt}
 use Rattle.session_stands.specs.Sessions.{AreSeated, dead_in, member_at, one_dead}
-use Rattle.session_measure.specs.Weights.{Beside, weight, unopened}
+use Rattle.session_measure.specs.Weights.{Beside, unopened}
 use Rattle.session_measure.specs.Nearer.{AreRounds, Nears, Keeps, ComesNearer}
 use Rattle.session_measure.proofs.Nearer.{same-weight}
 use Rattle.rdb_drive.specs.Boards.{Less}
@@ -183,7 +181,7 @@ module _ (M : Model) (s at : ℕ) (c d : Scene) (members put : List Member) (eac
       subst (λ (x : Option Halt). Less (measure_by (is_some x) put (rounds_at behind) (record { locks = locks; steps = d.sight.steps })) (measure_by (is_some old) members (rounds_at each) (beside c))) (sym on)
       (subst (λ (x : Option Halt). Less (measure_by false put (rounds_at behind) (record { locks = locks; steps = d.sight.steps })) (measure_by (is_some x) members (rounds_at each) (beside c))) (sym none)
       (subst (λ (xs : List Member). Less (measure_by false xs (rounds_at behind) (record { locks = locks; steps = d.sight.steps })) (measure_by false members (rounds_at each) (beside c))) (sym put-is)
-      (subst (λ (as : List Allotment). Less (measure_by false (slice_set members at (record { left = rest; total = m.total; phase = y; life = m.life })) (rounds_at as) (record { locks = locks; steps = d.sight.steps })) (measure_by false members (rounds_at each) (beside c)))
+      (subst (λ (xs : List Allotment). Less (measure_by false (slice_set members at (record { left = rest; total = m.total; phase = y; life = m.life })) (rounds_at xs) (record { locks = locks; steps = d.sight.steps })) (measure_by false members (rounds_at each) (beside c)))
       (ap (λ (i : ℕ). slice_set each i b) is ∙ sym behind-is) less)))
 
   given-at : slice_get each at ≡ Some a

@@ -1,5 +1,5 @@
 -- One session steps, and all of them stay sound.
-use Rattle.std.proofs.Common.{◌≡◌, ◌≤◌, ◌-◌, ℕ, zero, suc, true, false, arith, ◌++◌, ◌∷◌, [], List, refl, ◌∙◌, sym, ap, subst, Option, Some, None, slice_get, slice_set, append-nil}
+use Rattle.std.proofs.Common.{◌≡◌, ◌≤◌, ◌-◌, ℕ, suc, true, false, ◌++◌, ◌∷◌, [], List, refl, ◌∙◌, sym, ap, subst, Option, Some, None, slice_get, slice_set, append-nil}
 use Rattle.std.proofs.lemmas.Bool.{false≢true}
 use Rattle.rdo_ast.specs.declared.syntax.Item.{Item}
 use Rattle.rdb_account.specs.Events.{Event}
@@ -33,7 +33,7 @@ use Rattle.stage_steps.specs.Scenes.{Scene, Goes, scene, on_shelf}
 use Rattle.stage_steps.specs.Turns.{Comes}
 use Rattle.line_cluster.specs.declared.sessions.Halt.{Halt}
 use Rattle.line_arms.specs.Going.{GoesOn, IsAmong, is_done}
-use Rattle.line_cluster.specs.Going.{IsWriterAt, writes_at, is_over, is_alive, is_alive_life, is_dead, is_dead_life}
+use Rattle.line_cluster.specs.Going.{IsWriterAt, writes_at, is_over, is_dead, is_dead_life}
 use Rattle.line_cluster.specs.declared.behind.Notice.{Notice}
 use Rattle.line_cluster.specs.Behind.{IsNoticed, is_moving}
 use Rattle.line_cluster.proofs.Places.{suc-less, set-same}
@@ -178,14 +178,6 @@ over-alive m Gone h = absurd (false≢true (sym h))
 
 pub work-alive : (m : Member) → is_over m m.life ≡ false → m.life ≡ Alive
 work-alive m h = over-alive m m.life h
-
-alive-true : (l : Life) → is_alive_life l ≡ true → l ≡ Alive
-alive-true Alive h = refl
-alive-true Dead h = absurd (false≢true h)
-alive-true Gone h = absurd (false≢true h)
-
-pub is-alive : (m : Member) → is_alive m ≡ true → m.life ≡ Alive
-is-alive m h = alive-true m.life h
 
 dead-true : (l : Life) → is_dead_life l ≡ true → l ≡ Dead
 dead-true Alive h = absurd (false≢true h)

@@ -1,6 +1,5 @@
 -- What falls with each turn that moves.
 use Rattle.std.specs.Prelude.{ℕ, suc, Bool, true, false, List, [], ◌∷◌, ◌++◌}
-use Rattle.lock_tree_laws.specs.Forest.{State}
 use Rattle.lock_tree_laws.specs.Progress.{measure}
 use Rattle.session_states.specs.declared.stage.Member.{Member}
 use Rattle.session_measure.specs.Weights.{Beside, weight, sum_of}

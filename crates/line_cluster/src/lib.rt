@@ -11,6 +11,6 @@ mod origin;
 mod sessions;
 mod turning;
 
-pub use cluster::LineCluster;
+pub use cluster::{Finished, LineCluster};
 pub use origin::Origin;
 pub use sessions::{Core, Halt, Turn};

@@ -78,6 +78,7 @@ impl<O: Origin, S: Reserves + Reaches, L: LineStore> Core<O, S, L> {
         requires one { IsOneOf self.now.members.items s.number }
         requires at { at ≡ s.number - 1 }
         requires going { self.now.halt ≡ None }
+        requires mourns_none { dead_in self.now.members.items ≡ 0 }
         requires lives { (m : MemberValue) → slice_get self.now.members.items at ≡ Some m → is_over_at m m.life ≡ false }
         ensures { IfSome result (λ t. Waits s.number t.number (sessions self.now.members.items self.now.events.items self.now.allotments (L.sight self.now.common.store) self.now.common.tree self.now.halt)) }
     {

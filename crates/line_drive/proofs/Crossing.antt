@@ -31,8 +31,7 @@ use Rattle.session_jobs.specs.declared.statements.Statements.{Ghosts as Statemen
 use Rattle.line_store.specs.declared.store.LineStore.{Ghosts as StoreGhosts}
 use Rattle.stage_steps.specs.contracts.common.Common as Common
 use Rattle.line_cluster.specs.declared.origin.Origin.{Ghosts as OriginGhosts}
-use Rattle.line_cluster.proofs.lent.SessionRooms.TheSendSync as rooms
-use Rattle.line_cluster.proofs.notes.Notes.TheSendSync as notes
+use Rattle.line_cluster.proofs.allotments.Allotments.TheSendSync as allotments
 use Rattle.line_cluster.proofs.sessions.Halt.TheSendSync as halt
 use Rattle.line_cluster.specs.contracts.sessions.Core as Core
 use Rattle.line_cluster.specs.contracts.cluster.LineCluster as LineCluster
@@ -82,7 +81,7 @@ core_send A B L K l = struct_send (S.shape (Core.the_type A B L K)) (
   common_send L l,
   (
     search (crosses, member_send),
-    (notes.the_field_send, (rooms.the_send, (search (crosses, event_send), (search (sendable, halt.the_send), (search phantom.the_field_send, tt))))),
+    (allotments.the_send, (search (crosses, event_send), (search (sendable, halt.the_send), (search phantom.the_field_send, tt)))),
   ),
 )
 

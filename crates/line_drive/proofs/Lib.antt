@@ -2,5 +2,7 @@ pub mod Chains
 pub mod Awake
 pub mod Marks
 pub mod Turning
-pub mod Driving
+pub mod Counting
+pub mod Dying
+pub mod Ordered
 pub mod Crossing

@@ -4,23 +4,16 @@ use Rattle.rdb_account.specs.declared.event.Event.{Event as Declared}
 use Rattle.rdb_account.specs.Places.{Opening}
 use Rattle.rdb_drive.specs.Boards.{IsSession, answers_by}
 use Rattle.rdb_drive.specs.Orders.{AreParts, rounds}
-use Rattle.session_states.specs.declared.stage.Life.TheVariants.{Alive}
-use Rattle.session_states.specs.declared.stage.Member.{Member}
 use Rattle.line_cluster.specs.Turned.{Sessions}
 use Rattle.line_drive.specs.Boards.{RestsBehind, marks_of}
-
--- Each session lives.
-abbrev pub AreAlive : List Member → Type 0
-AreAlive members = (i : ℕ) (m : Member) → slice_get members i ≡ Some m → m.life ≡ Alive
 
 -- in the place of each session's number stands how many answers it was given
 abbrev pub AreCounted : ℕ → List ℕ → List Declared → Type 0
 AreCounted sessions counts events = (s : ℕ) → IsSession sessions s → slice_get counts s ≡ Some (answers_by s (marks_of events))
 
--- All sessions live, and their answers are counted.
+-- The answers of the sessions are counted.
 pub record IsDriven (sessions : ℕ) (counts : List ℕ) (c : Sessions) : Type 0 where
   pub few : sessions ≤ 16
-  pub alive : AreAlive c.members
   pub counted : AreCounted sessions counts c.events
 
 -- the events keep to the order, and then to all sessions in ascending order, again and again

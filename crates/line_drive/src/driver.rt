@@ -1,18 +1,20 @@
 //! The sessions as drivers see them.
-ghost use Rattle.std.specs.Prelude.{◌≡◌, ◌≤◌, [], drop, length, map, false, true, IfOk};
+ghost use Rattle.std.specs.Prelude.{◌≡◌, ◌≤◌, ℕ, [], drop, length, map, false};
 ghost use Rattle.rdb_account.specs.Events.{event_of};
-ghost use Rattle.rdb_account.specs.Legal.{IsLegal, AreWhole};
-ghost use Rattle.rdb_drive.specs.Boards.{IsSession, AllEnded, answers, answers_by};
+ghost use Rattle.rdb_account.specs.Legal.{IsLegal};
+ghost use Rattle.rdb_drive.specs.Boards.{IsSession, AllEnded, answers};
 ghost use Rattle.rdb_drive.specs.Steps.{StepOf};
-ghost use Rattle.line_cluster.specs.Turned.{is_session};
-ghost use Rattle.line_drive.specs.Boards.{board_of, marks_of};
-ghost use Rattle.line_drive.specs.Turns.{AreAlive};
+ghost use Rattle.line_store.specs.Seats.{outside};
+ghost use Rattle.line_store.specs.Sights.{bare};
+ghost use Rattle.line_cluster.specs.Sound.{IsLeft};
+ghost use Rattle.line_cluster.specs.Turned.{HaveAllEnded};
+ghost use Rattle.line_drive.specs.Boards.{board_of, is_stopped as is_stopped_at, marks_of};
 
-use line_cluster::{LineCluster, Origin, Turn};
+use line_cluster::{Finished, LineCluster, Origin, Turn};
 use line_store::LineStore;
-use rdb_account::{Event, Events};
+use rdb_account::Event;
 use rdb_drive::{Driven, Point, Step};
-use rdb_types::Session;
+use rdb_types::{Cause, Session};
 use reached_changes::Reaches;
 use reserved_locks::Reserves;
 use session_jobs::Statements;
@@ -62,11 +64,9 @@ impl<O: Origin, S: Reserves + Reaches, L: LineStore + Drop> LineDriver<O, S, L> 
     /// Sessions of which nothing happened yet.
     pub fn new(cluster: LineCluster<O, S, L>) -> Self
         requires fresh { cluster.events ≡ [] }
-        requires alive { AreAlive cluster.members }
         requires few { O.sessions ≤ 16 }
         ensures { result.sessions ≡ cluster }
     {
-        cluster.facts();
         LineDriver {
             cluster,
             answers: [0; NUMBERS],
@@ -74,13 +74,21 @@ impl<O: Origin, S: Reserves + Reaches, L: LineStore + Drop> LineDriver<O, S, L> 
         }
     }
 
+    // Whether no session goes on, or no turn is left.
+    fn is_stopped(&self) -> bool
+        ensures { result ≡ is_stopped_at self.now }
+    {
+        self.cluster.is_halted() || self.turns == 0
+    }
+
     // A turn of a session. Its answers are counted, and where it moved, one turn fewer is left.
     fn turn(&mut self, s: Session) -> Step<()>
         requires session { IsSession O.sessions s.number }
         ensures step { StepOf O.sessions s.number (board_of O.told O.opening self.old) (board_of O.told O.opening self.new) result }
     {
+        let stops = self.is_stopped();
         self.cluster.facts();
-        if self.turns == 0 {
+        if stops {
             return Step::Stopped;
         }
         let before = self.cluster.events().len();
@@ -93,7 +101,7 @@ impl<O: Origin, S: Reserves + Reaches, L: LineStore + Drop> LineDriver<O, S, L> 
                 Step::Moved
             }
             Turn::Asleep(_) => Step::Asleep,
-            Turn::Frozen => unreachable!(),
+            Turn::Frozen => Step::Frozen,
             Turn::Ended => Step::Ended,
             Turn::Stopped => Step::Stopped,
         }
@@ -110,27 +118,29 @@ impl<O: Origin, S: Reserves + Reaches, L: LineStore + Drop> LineDriver<O, S, L> 
     pub fn facts(&self)
         ensures legal { O.told → IsLegal O.opening (map event_of self.now.sessions.events) }
         ensures whole { O.told → self.now.sessions.halted ≡ false → AllEnded O.sessions (board_of O.told O.opening self.now) →
-            AreWhole (is_session O.sessions) O.opening (map event_of self.now.sessions.events) }
+            HaveAllEnded O.opening O.sessions (map event_of self.now.sessions.events) }
     {
         self.cluster.facts();
     }
 
-    /// The events of the run.
-    pub fn into_events(self) -> Events
-        ensures { result ≡ self.sessions.events }
+    /// The run is over.
+    pub fn end(self) -> Finished<L>
+        ensures events { result.events ≡ self.sessions.events }
+        ensures left { O.told → self.sessions.halted ≡ false → IsLeft S.stands O.opening (L.sight result.store) (map event_of self.sessions.events) }
+        ensures outside { self.sessions.halted ≡ false → AllEnded O.sessions (board_of O.told O.opening self) → (s : ℕ) → bare ((L.sight result.store).stand s) ≡ outside }
     {
         let LineDriver {
             cluster,
             answers: _,
             turns: _,
         } = self;
-        cluster.into_events()
+        cluster.facts();
+        cluster.end()
     }
 }
 
 impl<O: Origin, S: Reserves + Reaches, L: LineStore + Drop> Driven for LineDriver<O, S, L> {
-    ghost use Rattle.std.specs.Prelude.{[]};
-    ghost use Rattle.line_drive.specs.Boards.{board_of};
+    ghost use Rattle.line_drive.specs.Boards.{board_of, mortals_of};
 
     type Piece = ();
 
@@ -140,7 +150,7 @@ impl<O: Origin, S: Reserves + Reaches, L: LineStore + Drop> Driven for LineDrive
 
     ghost sessions = { O.sessions };
 
-    ghost mortals = { [] };
+    ghost mortals = { mortals_of O.opening O.sessions };
 
     fn point(&self, s: Session) -> Point {
         if self.cluster.begins_item(s) {
@@ -160,13 +170,28 @@ impl<O: Origin, S: Reserves + Reaches, L: LineStore + Drop> Driven for LineDrive
         self.turn(s)
     }
 
-    fn die(&mut self, _s: Session) {
-        let _ = &self.cluster;
+    fn die(&mut self, s: Session) {
+        self.cluster.die(s, Cause::Gate);
+        self.cluster.facts();
     }
 
     fn recover_step(&mut self) -> Step<()> {
+        let stops = self.is_stopped();
         self.cluster.facts();
-        Step::Ended
+        if stops {
+            return Step::Stopped;
+        }
+        let turn = self.cluster.recover();
+        self.cluster.facts();
+        match turn {
+            Turn::Moved => {
+                self.turns -= 1;
+                Step::Moved
+            }
+            Turn::Ended => Step::Ended,
+            Turn::Stopped => Step::Stopped,
+            Turn::Asleep(_) | Turn::Frozen => unreachable!(),
+        }
     }
 
     fn answered(&self, s: Session) -> u64 {

@@ -17,7 +17,6 @@ use Rattle.stable_lines.specs.Slots.{IsAreaFile, area_file, ruj_file, owner_at, 
 use Rattle.stable_lines.specs.Journal.{Journal}
 use Rattle.stable_lines.specs.Progress.{Progress}
 use Rattle.stable_lines.specs.Facts.{Facts}
-use Rattle.stable_lines.proofs.Never.{space_owner}
 use Rattle.line_opening.specs.Passing.{IsNext}
 use Rattle.line_moves.specs.declared.places.Place.{Place}
 use Rattle.line_moves.specs.Classes.{HaveTheirClasses}
@@ -146,7 +145,7 @@ module _ (v : View) (t : IsTrue v.tells) (left : LeftNow v v.content) (stable : 
     class-is : class_in (pages_of held.tables file) page ≡ by_area (owner_in (pages_of held.tables file) page)
     class-is = ⊎_elim class-of-space class-of-data (nat_cases ((page - 1) % 200) 0)
 
-  module _ (place : Place) (area : ℕ) (is : IsAreaFile place.file) (within : IsWithin (pages_of held.tables place.file) place.page)
+  module _ (place : Place) (area : ℕ) (is : IsAreaFile place.file) (within : IsWithin (pages_of held.tables place.file) place.page) (data_page : IsDataPage place.page)
       (whose : (owner_in (pages_of held.tables place.file) place.page ≡ 0) ⊎ (owner_in (pages_of held.tables place.file) place.page ≡ area))
       (x : List ℕ) (p : Pending v (area_file place.file) (place.page - 1) x) (some : 1 ≤ owner_at x) where
     abbrev bytes : List ℕ
@@ -158,12 +157,8 @@ module _ (v : View) (t : IsTrue v.tells) (left : LeftNow v v.content) (stable : 
     read_is : owner_at x ≡ owner_at bytes
     read_is = ap owner_at (stable (area_file place.file) (place.page - 1) x p)
 
-    owner-of-space : (place.page - 1) % 200 ≡ 0 → owner_at x ≡ area
-    owner-of-space space = let none = space_owner x place.page (facts.pages.space place.file place.page x is (a-page place.file place.page is within) space p) in absurd (omega (arith, none, some))
-
-    owner-of-data : (place.page - 1) % 200 ≢ 0 → owner_at x ≡ area
-    owner-of-data plain =
-        let data_page : IsDataPage place.page = record { is_page = a-page place.file place.page is within; plain = plain } in
+    owner-is : owner_at x ≡ area
+    owner-is =
         let at_space : List ℕ = v.content (area_file place.file) (space_page_of place.page - 1) in
         ⊎_elim
         (λ free.
@@ -175,9 +170,6 @@ module _ (v : View) (t : IsTrue v.tells) (left : LeftNow v v.content) (stable : 
         (λ (here : kept_of.owner ≡ area). read_is ∙ sym its ∙ here)
         whose)
         (entry place.file place.page is data_page within)
-
-    owner-is : owner_at x ≡ area
-    owner-is = ⊎_elim owner-of-space owner-of-data (nat_cases ((place.page - 1) % 200) 0)
 
   pub has-committed : (file : ℕ) → IsAreaFile file → HasCommitted (pages_of held.tables file) file lines
   has-committed file is = begins_with v left base facts (λ member. refl) file (pages_of held.tables file) (has.tables file is)
@@ -203,7 +195,7 @@ module _ (v : View) (t : IsTrue v.tells) (left : LeftNow v v.content) (stable : 
     classes = by_area;
     lie = lie;
     class = λ file page within owner. class-is file page within owner;
-    owned = λ place area is within whose x p some. owner-is place area is within whose x p some;
+    owned = λ place area is within data_page whose x p some. owner-is place area is within data_page whose x p some;
   }
 
   versions-stand : VersionsStand v ledger held (first_shelf v held lines)

@@ -1,5 +1,5 @@
 -- The commit of a session that died stands: its lines are committed.
-use Rattle.std.proofs.Common.{◌≡◌, ◌≤◌, ◌+◌, ◌==◌, inl, ℕ, Bool, true, cond, IsTrue, false, List, [], length, map, Some, None, refl, sym, ap, subst, ◌∙◌, arith}
+use Rattle.std.proofs.Common.{◌≡◌, ◌+◌, ◌==◌, inl, ℕ, Bool, true, cond, IsTrue, false, List, [], length, map, Some, None, refl, sym, ap, subst, ◌∙◌, arith}
 use Rattle.std.specs.Prelude.{slice_get}
 use Rattle.std.proofs.lemmas.Bool.{eqb-false}
 use Rattle.std.proofs.lemmas.Option.{none-some}
@@ -9,7 +9,7 @@ use Rattle.new_database.specs.Maker.{aij_file}
 use Rattle.line_view.specs.declared.writes.Write.{Write}
 use Rattle.line_view.specs.Knowledge.{Lines}
 use Rattle.line_view.specs.Writes.{laid_all}
-use Rattle.line_store.specs.Seats.{outside, dead}
+use Rattle.line_store.specs.Seats.{outside}
 use Rattle.line_store.specs.Shelves.{Shelf}
 use Rattle.line_store.specs.Calls.{IsSaved, TakesGroup}
 use Rattle.line_store.specs.Sights.{Does}
@@ -18,7 +18,6 @@ use Rattle.stable_lines.specs.Journal.{commit_of, next_slot, write_of}
 use Rattle.stable_lines.specs.Progress.{Flight, Progress, lines_with}
 use Rattle.line_moves.specs.Changes.{IsCommitOf as IsItsCommit}
 use Rattle.line_moves.specs.Lines.{ChangedLines}
-use Rattle.line_seat.specs.Groups.{group_lines}
 use Rattle.disk_seats.specs.Ledgers.{resting, Commit, Ledger, landed_at}
 use Rattle.disk_seats.specs.Members.{LedgerFacts}
 use Rattle.disk_seats.proofs.GivenUp.{stands_facts}

@@ -1,4 +1,4 @@
-use Rattle.std.proofs.Common.{◌≡◌, ◌<◌, ◌+◌, length, Err, refl, sym, ap, subst, ◌∙◌, arith}
+use Rattle.std.proofs.Common.{◌≡◌, length, Err, sym, ap, subst, ◌∙◌, arith}
 use Rattle.line_store.specs.Seats.{closing}
 use Rattle.line_store.specs.Calls.{Fails, GoesOn, IsCommitted}
 use Rattle.line_store.specs.Sights.{Does}

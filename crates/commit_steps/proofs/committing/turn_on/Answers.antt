@@ -1,18 +1,16 @@
-use Rattle.std.proofs.Common.{◌≡◌, ◌+◌, ◌<◌, ℕ, List, Some, length, refl, sym, ap, subst, ◌∙◌, arith}
+use Rattle.std.proofs.Common.{◌≡◌, ℕ, List, length, sym, ap, subst, ◌∙◌, arith}
 use Rattle.std.specs.Prelude.{slice_get}
-use Rattle.rdb_types.specs.declared.keys.Dbkey.{Dbkey}
-use Rattle.rdb_types.specs.declared.keys.Line.{Line}
 use Rattle.line_moves.specs.Lines.{ChangedLines, AreDistinct}
 use Rattle.line_seat.specs.declared.commit.GroupPlace.{GroupPlace}
 use Rattle.line_seat.specs.Groups.{ArePlaced}
 use Rattle.disk_store.specs.declared.member.Member.{Member}
 use Rattle.disk_store.specs.declared.member.MemberStage.TheVariants as stage
 use Rattle.disk_store.specs.Commits.{is_flying}
-use Rattle.commit_steps.specs.Turns.{group_for, MakesTurn}
+use Rattle.commit_steps.specs.Turns.{MakesTurn}
 use Rattle.disk_store.proofs.Closing.{one-member}
 use Rattle.disk_store.proofs.Ordered.{are-distinct}
 use Rattle.commit_steps.proofs.Planning.{all-placed, all-allowed}
-use Rattle.disk_store.proofs.CommitsKept.{due-beside, due-room, ready-now}
+use Rattle.disk_store.proofs.CommitsKept.{due-room, ready-now}
 use Rattle.commit_steps.proofs.committing.turn_on.Goals as goal
 
 pub commit_next-requires-clause-distinct : goal.commit_next-requires-clause-distinct

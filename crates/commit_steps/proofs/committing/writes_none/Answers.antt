@@ -1,7 +1,6 @@
-use Rattle.std.proofs.Common.{ℕ, length, sym, ap, subst, ◌∙◌}
+use Rattle.std.proofs.Common.{length, sym, ap, subst, ◌∙◌}
 use Rattle.std.proofs.lemmas.Bool.{eqb-true, false≢true}
 use Rattle.rdb_types.specs.declared.keys.Dbkey.{Dbkey}
-use Rattle.member_memory.specs.Memory.{Memory}
 use Rattle.member_steps.specs.declared.committing.CommitTurn.{CommitTurn}
 use Rattle.disk_store.specs.Commits.{HasSome}
 use Rattle.disk_store.proofs.CommitsKept.{ready-now}

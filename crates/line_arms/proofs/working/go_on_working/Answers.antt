@@ -16,7 +16,7 @@ want_lock-requires-clause-asked g c = work-asked (uttered_of c.args.item) c.args
 pub returns-in-Lacking-Room-clause-comes : goal.returns-in-Lacking-Room-clause-comes
 returns-in-Lacking-Room-clause-comes g c =
     let is : c.args.work ≡ Lacking (Room c.in-Lacking-Room.field-0-0) = search rules in
-    rw is (quiet-comes _ _ _ _ _ _ _ _ c.quiet-in-Lacking-Room.ensures.phase c.quiet-in-Lacking-Room.ensures.happened (passes _ c.args.s.number (scene c.args.common.now.word (g.L.LineStore.sight c.args.common.now.store) c.args.common.now.tree) _ _ (c.hand_in.ensures.lacks c.in-Lacking-Room.field-0-0)))
+    rw is (quiet-comes _ _ _ _ _ _ _ _ c.quiet.ensures.phase c.quiet.ensures.happened (passes _ c.args.s.number (scene c.args.common.now.word (g.L.LineStore.sight c.args.common.now.store) c.args.common.now.tree) _ _ (c.hand_in.ensures.lacks c.in-Lacking-Room.field-0-0)))
 
 pub returns-in-Lodging-clause-comes : goal.returns-in-Lodging-clause-comes
 returns-in-Lodging-clause-comes g c = rw c.in-Lodging.is (quiet-comes _ _ _ _ _ _ _ _ c.quiet-in-Lodging.ensures.phase c.quiet-in-Lodging.ensures.happened (passes _ c.args.s.number (scene c.args.common.now.word (g.L.LineStore.sight c.args.common.now.store) c.args.common.now.tree) _ _ (c.hand_in-in-Lodging.ensures.lodges c.in-Lodging.field-0 c.in-Lodging.field-1)))

@@ -2,7 +2,6 @@ use Rattle.std.proofs.Common.{◌≡◌, ⊎_elim, Some}
 use Rattle.rdb_outside.specs.Disk.{Pending}
 use Rattle.rdb_outside.specs.Moments.{each_slot}
 use Rattle.line_view.specs.Knowledge.{Lines}
-use Rattle.line_store.specs.Calls.{MayStand}
 use Rattle.stable_lines.specs.Progress.{lines_with}
 use Rattle.stable_lines.proofs.Stands.{stands}
 use Rattle.disk_seats.specs.Ledgers.{Commit, progress_of}

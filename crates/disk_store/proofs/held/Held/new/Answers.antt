@@ -1,6 +1,6 @@
 use Rattle.disk_store.specs.Memory.{StoreMemory}
 use Rattle.disk_store.proofs.FirstSound.{first-sound, first-commits}
-use Rattle.disk_store.proofs.opening.Held.new.Goals as goal
+use Rattle.disk_store.proofs.held.Held.new.Goals as goal
 
 pub invariant_of-result : goal.invariant_of-result
 invariant_of-result c =
