@@ -3,10 +3,11 @@ ghost use Rattle.std.specs.Prelude.{◌≡◌, ◌≤◌, ◌<◌, ◌^◌, ℕ,
 ghost use Rattle.rdb_types.specs.declared.file.FileId.{FileId as File};
 ghost use Rattle.rdb_outside.specs.Causes.{Rose};
 ghost use Rattle.rdb_account.specs.Events.{event_of};
-ghost use Rattle.rdb_account.specs.Legal.{IsLegal, AreWhole};
-ghost use Rattle.rdb_drive.specs.Boards.{IsSession};
-ghost use Rattle.line_cluster.specs.Sound.{FollowsScripts, fresh_member};
-ghost use Rattle.line_cluster.specs.Turned.{is_session};
+ghost use Rattle.rdb_account.specs.Legal.{IsLegal};
+ghost use Rattle.rdb_drive.specs.Boards.{IsSession, MayDie};
+ghost use Rattle.line_cluster.specs.Sound.{FollowsScripts};
+ghost use Rattle.line_cluster.specs.Turned.{HaveAllEnded};
+ghost use Rattle.line_drive.specs.Boards.{mortals_of};
 ghost use Rattle.line_drive.specs.Turns.{KeepsTurns};
 ghost use Rattle.line_runs.specs.Openings.{HasNoNumbers, OpensWith};
 
@@ -42,7 +43,7 @@ pub struct Unopened<D: Drop> {
     pub fault: OpeningFault,
 }
 
-/// What a run came to: its events, whether every session came to its end, and why the database wasn't opened, if it wasn't.
+/// What a run came to: its events, whether every session came to its end, or died and was recovered, and why the database wasn't opened, if it wasn't.
 #[derive(Drop)]
 pub struct LineRun<D: Drop> {
     pub disk: D,
@@ -67,7 +68,6 @@ fn begin<O: Origin, D: Disk + Drop>(
     requires word { said.word ≡ O.opening.word }
     requires opens { O.told → OpensWith ⟦<ReservingStatements as Statements>⟧.stands (D.view disk) O.opening }
     ensures events { IfOk result (λ c. c.events ≡ []) }
-    ensures members { IfOk result (λ c. c.members ≡ map fresh_member said.scripts.items) }
     ensures failed { IfErr result (λ u. u.fault ≡ OpeningFault.Failed → Rose (D.view disk).faults (D.view u.disk).faults) }
     ensures bad { (file : File) (slot : ℕ) → IfErr result (λ u. u.fault ≡ OpeningFault.Bad file slot → HasNoNumbers (D.view disk)) }
 {
@@ -115,7 +115,7 @@ fn ended<D: Disk + Drop>(ran: Ran<DiskStore<D>>) -> LineRun<D>
     }
 }
 
-/// Opens a database, and says scripts to it by turns of their sessions, which the order names, and then in ascending order, again and again. No session dies.
+/// Opens a database, and says scripts to it by turns of their sessions, which the order names, and then in ascending order, again and again. The gate may have a session die.
 pub fn say_in_order<O: Origin, D: Disk + Drop, G: Gate>(
     alloc: Global,
     disk: D,
@@ -129,9 +129,10 @@ pub fn say_in_order<O: Origin, D: Disk + Drop, G: Gate>(
     requires scripts { FollowsScripts O.opening said.scripts.items }
     requires entries { All (λ s. IsSession O.sessions s) order.now }
     requires word { said.word ≡ O.opening.word }
+    requires mortals { MayDie (G.mortals gate.now) (mortals_of O.opening O.sessions) }
     requires opens { O.told → OpensWith ⟦<ReservingStatements as Statements>⟧.stands (D.view disk) O.opening }
     ensures legal { O.told → IsLegal O.opening (map event_of result.events) }
-    ensures whole { O.told → result.is_whole ≡ true → AreWhole (is_session O.sessions) O.opening (map event_of result.events) }
+    ensures whole { O.told → result.is_whole ≡ true → HaveAllEnded O.opening O.sessions (map event_of result.events) }
     ensures order { O.told → result.is_whole ≡ true → KeepsTurns O.opening O.sessions order.now result.events }
     ensures failed { result.fault ≡ Some OpeningFault.Failed → Rose (D.view disk).faults (D.view result.disk).faults }
     ensures bad { (file : File) (slot : ℕ) → result.fault ≡ Some (OpeningFault.Bad file slot) → HasNoNumbers (D.view disk) }
@@ -144,7 +145,7 @@ pub fn say_in_order<O: Origin, D: Disk + Drop, G: Gate>(
     }
 }
 
-/// Opens a database, and says scripts to it, each by a thread of its own. No session dies.
+/// Opens a database, and says scripts to it, each by a thread of its own. The gate may have a session die.
 pub fn say_in_threads<
     R: Threads + Wait + Sync,
     O: Origin + Send,
@@ -162,9 +163,10 @@ pub fn say_in_threads<
     requires short { All (λ items. length items < 2 ^ 32) said.scripts.items }
     requires scripts { FollowsScripts O.opening said.scripts.items }
     requires word { said.word ≡ O.opening.word }
+    requires mortals { MayDie (G.mortals gate.now) (mortals_of O.opening O.sessions) }
     requires opens { O.told → OpensWith ⟦<ReservingStatements as Statements>⟧.stands (D.view disk) O.opening }
     ensures legal { O.told → IsLegal O.opening (map event_of result.events) }
-    ensures whole { O.told → result.is_whole ≡ true → AreWhole (is_session O.sessions) O.opening (map event_of result.events) }
+    ensures whole { O.told → result.is_whole ≡ true → HaveAllEnded O.opening O.sessions (map event_of result.events) }
     ensures failed { result.fault ≡ Some OpeningFault.Failed → Rose (D.view disk).faults (D.view result.disk).faults }
     ensures bad { (file : File) (slot : ℕ) → result.fault ≡ Some (OpeningFault.Bad file slot) → HasNoNumbers (D.view disk) }
     ensures unsaid { (result.fault ≡ None → ⊥) → result.events ≡ [] }
