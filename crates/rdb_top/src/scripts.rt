@@ -4,10 +4,10 @@ ghost use Rattle.rdb_outside.specs.Causes.{Rose};
 ghost use Rattle.rdo_parser.specs.Script.{script_items};
 ghost use Rattle.rdb_drive.specs.Boards.{IsSession};
 ghost use Rattle.script_streams.specs.Fronts.{WritesFront};
-ghost use Rattle.rdb_top.specs.Runs.{scripts_of, transcripts};
+ghost use Rattle.rdb_top.specs.Runs.{has_death, scripts_of, transcripts};
 
 use ordered_entries::Entries;
-use rdb_account::{Account, Events, transcript};
+use rdb_account::{Account, Event, Events, transcript};
 use rdb_meaning::Tables;
 use rdb_outside::{Sink, Source};
 use rdb_types::{Bytes, NoMemory, Session};
@@ -85,6 +85,17 @@ pub fn account_of(alloc: Global, events: Events) -> Account
         },
         events,
     }
+}
+
+/// Whether some session died.
+pub fn some_died(account: &Account) -> bool
+    ensures { result ≡ has_death account.now.events }
+{
+    account
+        .events
+        .as_slice()
+        .iter()
+        .any(|event| matches!(event, Event::Died(..)))
 }
 
 // All transcripts, one after another.

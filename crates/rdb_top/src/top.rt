@@ -10,24 +10,25 @@ ghost use Rattle.command_words.specs.declared.words.Scripts.{Scripts as GivenScr
 ghost use Rattle.command_words.specs.declared.words.PagePlace.{PagePlace as GivenPage};
 ghost use Rattle.command_words.specs.Words.{command_of as command_for, word_of, order_in, only_reads, AreLast};
 ghost use Rattle.script_streams.specs.Fronts.{WritesFront};
-ghost use Rattle.rdb_drive.specs.Boards.{IsSession};
+ghost use Rattle.rdb_drive.specs.Boards.{IsSession, MayDie};
 ghost use Rattle.rdb_account.specs.Events.{event_of};
-ghost use Rattle.rdb_account.specs.Legal.{IsLegal, AreWhole};
+ghost use Rattle.rdb_account.specs.Legal.{IsLegal};
 ghost use Rattle.line_cluster.specs.Sound.{FollowsScripts};
-ghost use Rattle.line_cluster.specs.Turned.{is_session};
+ghost use Rattle.line_cluster.specs.Turned.{HaveAllEnded};
+ghost use Rattle.line_drive.specs.Boards.{mortals_of};
 ghost use Rattle.line_drive.specs.Turns.{KeepsTurns};
 ghost use Rattle.line_runs.specs.Openings.{HasNoNumbers, OpensWith, said_to};
 ghost use Rattle.rmu_commands.specs.Usable.{HasRootInUse, IsUsable, IsDumped};
 ghost use Rattle.rmu_commands.specs.Written.{Verifies, Dumps, DumpsPage, IsCleanDatabase, is_verify_status, is_dump_status};
-ghost use Rattle.rdb_top.specs.Runs.{IsWhole, IsRun, OfSomeScripts, is_status, is_script_status, status_at, unopened_status, scripts_of, transcripts, sessions_of};
+ghost use Rattle.rdb_top.specs.Runs.{IsRun, IsWhole, IsWritten, has_death, OfSomeScripts, is_status, is_script_status, status_at, unopened_status, scripts_of, transcripts, sessions_of};
 
-use crate::scripts::{account_of, read_scripts, write_transcripts};
+use crate::scripts::{account_of, read_scripts, some_died, write_transcripts};
 use command_words::{Command, Scripts, command_of, order_of};
 use line_cluster::Origin;
 use line_opening::OpeningFault;
 use line_runs::{LineRun, Said, say_in_order, say_in_threads};
 use new_database::{NewFault, make_new};
-use rdb_account::Events;
+use rdb_account::{Account, Events};
 use rdb_drive::Gate;
 use rdb_outside::{Disk, Sink, Source};
 use rdb_types::{Copied, Items, Limits, NoMemory, Word};
@@ -116,9 +117,10 @@ fn run_of<R: Threads + Wait + Sync, O: Origin + Send, D: Disk + Drop + Send, G: 
     requires scripts { FollowsScripts O.opening said.scripts.items }
     requires entries { All (λ s. IsSession O.sessions s) order.now }
     requires word { said.word ≡ O.opening.word }
+    requires mortals { MayDie (G.mortals gate.now) (mortals_of O.opening O.sessions) }
     requires opens { O.told → OpensWith ⟦<ReservingStatements as Statements>⟧.stands (D.view disk) O.opening }
     ensures legal { O.told → IsLegal O.opening (map event_of result.events) }
-    ensures whole { O.told → result.is_whole ≡ true → AreWhole (is_session O.sessions) O.opening (map event_of result.events) }
+    ensures whole { O.told → result.is_whole ≡ true → HaveAllEnded O.opening O.sessions (map event_of result.events) }
     ensures order { given.has_order ≡ true → O.told → result.is_whole ≡ true → KeepsTurns O.opening O.sessions order.now result.events }
     ensures failed { result.fault ≡ Some OpeningFault.Failed → Rose (D.view disk).faults (D.view result.disk).faults }
     ensures bad { (file : File) (slot : ℕ) → result.fault ≡ Some (OpeningFault.Bad file slot) → HasNoNumbers (D.view disk) }
@@ -169,11 +171,12 @@ fn say_scripts<R: Threads + Wait + Sync, O: Origin, D: Disk + Drop + Send, G: Ga
 ) -> LineRun<D>
     requires row { command_for asked.words.now ≡ Some (Command.Rdo asked.given) }
     requires last { AreLast asked.words.now asked.given }
+    requires mortals { MayDie (G.mortals gate.now) (mortals_of O.opening asked.given.count) }
     requires count { length scripts.items ≡ asked.given.count }
     requires short { All (λ items. length items < 2 ^ 32) scripts.items }
     requires opens { O.told → OpensWith ⟦<ReservingStatements as Statements>⟧.stands (D.view disk) O.opening }
     ensures legal { O.told → IsLegal (said_to O.opening (word_of asked.words.now) scripts.items) (map event_of result.events) }
-    ensures whole { O.told → result.is_whole ≡ true → AreWhole (is_session asked.given.count) (said_to O.opening (word_of asked.words.now) scripts.items) (map event_of result.events) }
+    ensures whole { O.told → result.is_whole ≡ true → HaveAllEnded (said_to O.opening (word_of asked.words.now) scripts.items) asked.given.count (map event_of result.events) }
     ensures order { asked.given.has_order ≡ true → O.told → result.is_whole ≡ true →
         KeepsTurns (said_to O.opening (word_of asked.words.now) scripts.items) asked.given.count (order_in asked.words.now) result.events }
     ensures failed { result.fault ≡ Some OpeningFault.Failed → Rose (D.view disk).faults (D.view result.disk).faults }
@@ -194,6 +197,22 @@ fn say_scripts<R: Threads + Wait + Sync, O: Origin, D: Disk + Drop + Send, G: Ga
     }
 }
 
+// The status of a run that is whole, by that of the writing: some session died, and nothing else is to be told.
+fn status_whole(written: u8, account: &Account) -> u8
+    requires written { (written ≡ 0) ⊎ (written ≡ 5) ⊎ (written ≡ 6) }
+    ensures status { (result ≡ 0) ⊎ (result ≡ 5) ⊎ (result ≡ 6) ⊎ (result ≡ 8) }
+    ensures wrote { IsWritten result → written ≡ 0 }
+    ensures sink { result ≡ 6 → written ≡ 6 }
+    ensures died { result ≡ 8 → has_death account.now.events ≡ true }
+    ensures lived { result ≡ 0 → has_death account.now.events ≡ false }
+{
+    if written == 0 && some_died(account) {
+        8
+    } else {
+        written
+    }
+}
+
 // Writes what the sessions were answered, where all came to their ends.
 fn finish_scripts<D: Drop, K: Sink>(
     alloc: Global,
@@ -207,10 +226,12 @@ fn finish_scripts<D: Drop, K: Sink>(
     ensures events { result.events ≡ ran.events }
     ensures earlier { result.earlier ≡ [] }
     ensures whole { IsWhole result.status → ran.is_whole ≡ true }
+    ensures died { result.status ≡ 8 → has_death ran.events ≡ true }
+    ensures lived { result.status ≡ 0 → has_death ran.events ≡ false }
     ensures failed { result.status ≡ 3 → ran.fault ≡ Some OpeningFault.Failed }
     ensures bad { result.status ≡ 4 → (file : File) × (slot : ℕ) × (ran.fault ≡ Some (OpeningFault.Bad file slot)) }
     ensures sink { result.status ≡ 6 → Rose (K.faults out.old) (K.faults out.new) }
-    ensures written { K.tells out.old ≡ true → result.status ≡ 0 → K.taken out.new ≡ K.taken out.old ++ transcripts sessions ran.events }
+    ensures written { K.tells out.old ≡ true → IsWritten result.status → K.taken out.new ≡ K.taken out.old ++ transcripts sessions ran.events }
     ensures front { K.tells out.old ≡ true → WritesFront (K.taken out.old) (K.taken out.new) (transcripts sessions ran.events) }
 {
     let LineRun {
@@ -224,7 +245,7 @@ fn finish_scripts<D: Drop, K: Sink>(
         Some(fault) => status_unopened(fault),
         None => {
             if is_whole {
-                write_transcripts(alloc, &account, sessions, out)
+                status_whole(write_transcripts(alloc, &account, sessions, out), &account)
             } else {
                 5
             }
@@ -257,6 +278,7 @@ fn run_rdo<
 ) -> Finish<D>
     requires row { command_for asked.words.now ≡ Some (Command.Rdo asked.given) }
     requires last { AreLast asked.words.now asked.given }
+    requires mortals { MayDie (G.mortals gate.now) (mortals_of O.opening asked.given.count) }
     requires opens { O.told → OpensWith ⟦<ReservingStatements as Statements>⟧.stands (D.view disk) O.opening }
     ensures earlier { result.earlier ≡ [] }
     ensures status { is_script_status result.status ≡ true }
@@ -268,15 +290,17 @@ fn run_rdo<
     ensures too_long { S.tells scripts.old ≡ true → (s : ℕ) → IsSession asked.given.count s → 1048576 < length (S.left scripts.old s) →
         (result.status ≡ 2) ⊎ (result.status ≡ 5) ⊎ (result.status ≡ 10) }
     ensures unread { (result.status ≡ 2) ⊎ (result.status ≡ 10) → result.events ≡ [] }
+    ensures died { result.status ≡ 8 → has_death result.events ≡ true }
+    ensures lived { result.status ≡ 0 → has_death result.events ≡ false }
     ensures account { O.told → OfSomeScripts asked.given.count (S.tells scripts.old ≡ true) (scripts_of (S.left scripts.old) asked.given.count)
         (IsRun O.opening (word_of asked.words.now) asked.given (order_in asked.words.now) result.status result.events) }
     ensures legal { O.told → S.tells scripts.old ≡ true →
         IsLegal (said_to O.opening (word_of asked.words.now) (scripts_of (S.left scripts.old) asked.given.count)) (map event_of result.events) }
     ensures whole { O.told → S.tells scripts.old ≡ true → IsWhole result.status →
-        AreWhole (is_session asked.given.count) (said_to O.opening (word_of asked.words.now) (scripts_of (S.left scripts.old) asked.given.count)) (map event_of result.events) }
+        HaveAllEnded (said_to O.opening (word_of asked.words.now) (scripts_of (S.left scripts.old) asked.given.count)) asked.given.count (map event_of result.events) }
     ensures order { asked.given.has_order ≡ true → O.told → S.tells scripts.old ≡ true → IsWhole result.status →
         KeepsTurns (said_to O.opening (word_of asked.words.now) (scripts_of (S.left scripts.old) asked.given.count)) asked.given.count (order_in asked.words.now) result.events }
-    ensures written { K.tells out.old ≡ true → result.status ≡ 0 → K.taken out.new ≡ K.taken out.old ++ transcripts asked.given.count result.events }
+    ensures written { K.tells out.old ≡ true → IsWritten result.status → K.taken out.new ≡ K.taken out.old ++ transcripts asked.given.count result.events }
     ensures front { K.tells out.old ≡ true → WritesFront (K.taken out.old) (K.taken out.new) (transcripts asked.given.count result.events) }
 {
     match read_scripts(alloc, scripts, asked.given.count) {
@@ -328,6 +352,8 @@ where
     G: Gate + Sync,
     // The origin tells what the disk holds: an image whose lines stand for its tables.
     requires opens { O.told → OpensWith ⟦<ReservingStatements as Statements>⟧.stands (D.view disk) O.opening }
+    // The gate has a session die only where the origin lets it.
+    requires mortals { (given : GivenScripts) → command_for words.now ≡ Some (Command.Rdo given) → MayDie (G.mortals gate.now) (mortals_of O.opening given.count) }
     ensures earlier { result.earlier ≡ [] }
     ensures status { is_status result.status ≡ true }
     // The words are in no row of the table.
@@ -350,14 +376,17 @@ where
     // refused for a cause that stands. It begins with the tables for which the disk's lines stand.
     ensures legal { (given : GivenScripts) → command_for words.now ≡ Some (Command.Rdo given) → O.told → S.tells scripts.old ≡ true →
         IsLegal (said_to O.opening (word_of words.now) (scripts_of (S.left scripts.old) given.count)) (map event_of result.events) }
-    // Every session came to its script's end.
+    // Every session that lived came to its script's end, and who died was recovered.
     ensures whole { (given : GivenScripts) → command_for words.now ≡ Some (Command.Rdo given) → O.told → S.tells scripts.old ≡ true → IsWhole result.status →
-        AreWhole (is_session given.count) (said_to O.opening (word_of words.now) (scripts_of (S.left scripts.old) given.count)) (map event_of result.events) }
+        HaveAllEnded (said_to O.opening (word_of words.now) (scripts_of (S.left scripts.old) given.count)) given.count (map event_of result.events) }
+    // Some session died, or none.
+    ensures died { result.status ≡ 8 → has_death result.events ≡ true }
+    ensures lived { (given : GivenScripts) → command_for words.now ≡ Some (Command.Rdo given) → result.status ≡ 0 → has_death result.events ≡ false }
     // The events keep to the order that the words name.
     ensures order { (given : GivenScripts) → command_for words.now ≡ Some (Command.Rdo given) → given.has_order ≡ true → O.told → S.tells scripts.old ≡ true → IsWhole result.status →
         KeepsTurns (said_to O.opening (word_of words.now) (scripts_of (S.left scripts.old) given.count)) given.count (order_in words.now) result.events }
     // What was written are the transcripts in the order of the sessions, or a front of them, but for the commands that write what they read.
-    ensures written { only_reads (command_for words.now) ≡ false → K.tells out.old ≡ true → result.status ≡ 0 →
+    ensures written { only_reads (command_for words.now) ≡ false → K.tells out.old ≡ true → IsWritten result.status →
         K.taken out.new ≡ K.taken out.old ++ transcripts (sessions_of (command_for words.now)) result.events }
     ensures front { only_reads (command_for words.now) ≡ false → K.tells out.old ≡ true →
         WritesFront (K.taken out.old) (K.taken out.new) (transcripts (sessions_of (command_for words.now)) result.events) }

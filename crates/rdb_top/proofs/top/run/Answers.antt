@@ -1,7 +1,7 @@
 use Rattle.std.proofs.Common.{◌≡◌, ◌∙◌, true, Some, ap, map, subst, sym}
 use Rattle.rdb_account.specs.Events.{event_of}
-use Rattle.rdb_account.specs.Legal.{IsLegal, AreWhole}
-use Rattle.line_cluster.specs.Turned.{is_session}
+use Rattle.rdb_account.specs.Legal.{IsLegal}
+use Rattle.line_cluster.specs.Turned.{HaveAllEnded}
 use Rattle.line_drive.specs.Turns.{KeepsTurns}
 use Rattle.line_runs.specs.Openings.{said_to}
 use Rattle.command_words.specs.declared.words.Scripts.{Scripts}
@@ -17,7 +17,7 @@ returns-in-Some-Rdo-clause-legal g c given row told tells =
 
 pub returns-in-Some-Rdo-clause-whole : goal.returns-in-Some-Rdo-clause-whole
 returns-in-Some-Rdo-clause-whole g c given row told tells whole =
-    subst (λ n. AreWhole (is_session n.count) (said_to g.O.Origin.opening (word_of c.args.words.now) (scripts_of (g.S.Source.left c.args.scripts.now) n.count)) (map event_of c.run_rdo.result.events))
+    subst (λ n. HaveAllEnded (said_to g.O.Origin.opening (word_of c.args.words.now) (scripts_of (g.S.Source.left c.args.scripts.now) n.count)) n.count (map event_of c.run_rdo.result.events))
     (same-given c.in-Some-Rdo.given given _ (ap Some (sym c.in-Some-Rdo.field-0-is) ∙ c.in-Some-Rdo.ensures.row) row) (c.run_rdo.ensures.whole told tells whole)
 
 pub returns-in-Some-Rdo-clause-order : goal.returns-in-Some-Rdo-clause-order

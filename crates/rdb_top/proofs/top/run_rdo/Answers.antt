@@ -1,7 +1,7 @@
 use Rattle.std.proofs.Common.{map, subst, refl, ◌∙◌}
 use Rattle.rdb_account.specs.Events.{event_of}
-use Rattle.rdb_account.specs.Legal.{IsLegal, AreWhole}
-use Rattle.line_cluster.specs.Turned.{is_session}
+use Rattle.rdb_account.specs.Legal.{IsLegal}
+use Rattle.line_cluster.specs.Turned.{HaveAllEnded}
 use Rattle.line_drive.specs.Turns.{KeepsTurns}
 use Rattle.line_runs.specs.Openings.{said_to}
 use Rattle.command_words.specs.Words.{word_of, order_in}
@@ -16,7 +16,7 @@ returns-in-Ok-clause-legal g c told tells =
 
 pub returns-in-Ok-clause-whole : goal.returns-in-Ok-clause-whole
 returns-in-Ok-clause-whole g c told tells whole =
-    rw c.finish_scripts.ensures.events (subst (λ qs. AreWhole (is_session c.args.asked.given.count) (said_to g.O.Origin.opening (word_of c.args.asked.words.now) qs) (map event_of c.say_scripts.result.events)) (c.in-Ok.ensures.items tells)
+    rw c.finish_scripts.ensures.events (subst (λ qs. HaveAllEnded (said_to g.O.Origin.opening (word_of c.args.asked.words.now) qs) c.args.asked.given.count (map event_of c.say_scripts.result.events)) (c.in-Ok.ensures.items tells)
     (c.say_scripts.ensures.whole told (c.finish_scripts.ensures.whole whole)))
 
 pub returns-in-Ok-clause-order : goal.returns-in-Ok-clause-order
