@@ -1,5 +1,5 @@
 // A run over objects in memory.
-ghost use Rattle.std.specs.Prelude.{[]};
+ghost use Rattle.std.specs.Prelude.{◌≡◌, []};
 
 use crate::texts::words_in;
 use command_words::script_words;
@@ -30,7 +30,7 @@ pub struct Outcome {
     pub out: MemorySink,
 }
 
-/// Runs a command line past a gate.
+/// Runs a command line past a gate that has no session die.
 pub fn run_past<R: Print + AllocGlobal + Threads + Wait + Sync, G: Gate + Sync>(
     rt: &R,
     words: &[Word],
@@ -38,7 +38,9 @@ pub fn run_past<R: Print + AllocGlobal + Threads + Wait + Sync, G: Gate + Sync>(
     out: MemorySink,
     disk: MemoryDisk,
     gate: &G,
-) -> Outcome {
+) -> Outcome
+    requires calm { G.mortals gate.now ≡ [] }
+{
     let mut source = source;
     let mut out = out;
     let finish = run::<R, Brand, MemoryDisk, MemorySource, MemorySink, G>(
