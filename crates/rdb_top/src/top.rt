@@ -136,9 +136,9 @@ fn run_of<R: Threads + Wait + Sync, O: Origin + Send, D: Disk + Drop + Send, G: 
 fn named_by(alloc: Global, asked: Asked<'_>) -> Result<Named, NoMemory>
     requires row { command_for asked.words.now ≡ Some (Command.Rdo asked.given) }
     requires last { AreLast asked.words.now asked.given }
-    ensures word { IfOk result (λ named. named.word ≡ word_of asked.words.now) }
-    ensures order { IfOk result (λ named. named.order ≡ order_in asked.words.now) }
-    ensures sessions { IfOk result (λ named. All (λ s. IsSession asked.given.count s) named.order) }
+    ensures word { IfOk result (λ named. named.word ≡ word_of asked.entry.words.now) }
+    ensures order { IfOk result (λ named. named.order ≡ order_in asked.entry.words.now) }
+    ensures sessions { IfOk result (λ named. All (λ s. IsSession asked.entry.given.count s) named.order) }
 {
     let order = order_of(alloc, asked.words)?;
     let word = asked.words[asked.given.first - 1].copied(alloc)?;
@@ -175,10 +175,10 @@ fn say_scripts<R: Threads + Wait + Sync, O: Origin, D: Disk + Drop + Send, G: Ga
     requires count { length scripts.items ≡ asked.given.count }
     requires short { All (λ items. length items < 2 ^ 32) scripts.items }
     requires opens { O.told → OpensWith ⟦<ReservingStatements as Statements>⟧.stands (D.view disk) O.opening }
-    ensures legal { O.told → IsLegal (said_to O.opening (word_of asked.words.now) scripts.items) (map event_of result.events) }
-    ensures whole { O.told → result.is_whole ≡ true → HaveAllEnded (said_to O.opening (word_of asked.words.now) scripts.items) asked.given.count (map event_of result.events) }
-    ensures order { asked.given.has_order ≡ true → O.told → result.is_whole ≡ true →
-        KeepsTurns (said_to O.opening (word_of asked.words.now) scripts.items) asked.given.count (order_in asked.words.now) result.events }
+    ensures legal { O.told → IsLegal (said_to O.opening (word_of asked.entry.words.now) scripts.items) (map event_of result.events) }
+    ensures whole { O.told → result.is_whole ≡ true → HaveAllEnded (said_to O.opening (word_of asked.entry.words.now) scripts.items) asked.entry.given.count (map event_of result.events) }
+    ensures order { asked.entry.given.has_order ≡ true → O.told → result.is_whole ≡ true →
+        KeepsTurns (said_to O.opening (word_of asked.entry.words.now) scripts.items) asked.entry.given.count (order_in asked.entry.words.now) result.events }
     ensures failed { result.fault ≡ Some OpeningFault.Failed → Rose (D.view disk).faults (D.view result.disk).faults }
     ensures bad { (file : File) (slot : ℕ) → result.fault ≡ Some (OpeningFault.Bad file slot) → HasNoNumbers (D.view disk) }
 {
@@ -286,22 +286,22 @@ fn run_rdo<
     ensures device { result.status ≡ 3 → Rose (D.view disk).faults (D.view result.disk).faults }
     ensures unopened { result.status ≡ 4 → HasNoNumbers (D.view disk) }
     ensures sink { result.status ≡ 6 → Rose (K.faults out.old) (K.faults out.new) }
-    ensures long { S.tells scripts.old ≡ true → result.status ≡ 10 → (s : ℕ) × IsSession asked.given.count s × (1048576 < length (S.left scripts.old s)) }
-    ensures too_long { S.tells scripts.old ≡ true → (s : ℕ) → IsSession asked.given.count s → 1048576 < length (S.left scripts.old s) →
+    ensures long { S.tells scripts.old ≡ true → result.status ≡ 10 → (s : ℕ) × IsSession asked.entry.given.count s × (1048576 < length (S.left scripts.old s)) }
+    ensures too_long { S.tells scripts.old ≡ true → (s : ℕ) → IsSession asked.entry.given.count s → 1048576 < length (S.left scripts.old s) →
         (result.status ≡ 2) ⊎ (result.status ≡ 5) ⊎ (result.status ≡ 10) }
     ensures unread { (result.status ≡ 2) ⊎ (result.status ≡ 10) → result.events ≡ [] }
     ensures died { result.status ≡ 8 → has_death result.events ≡ true }
     ensures lived { result.status ≡ 0 → has_death result.events ≡ false }
-    ensures account { O.told → OfSomeScripts asked.given.count (S.tells scripts.old ≡ true) (scripts_of (S.left scripts.old) asked.given.count)
-        (IsRun O.opening (word_of asked.words.now) asked.given (order_in asked.words.now) result.status result.events) }
+    ensures account { O.told → OfSomeScripts asked.entry.given.count (S.tells scripts.old ≡ true) (scripts_of (S.left scripts.old) asked.entry.given.count)
+        (IsRun O.opening (word_of asked.entry.words.now) asked.entry.given (order_in asked.entry.words.now) result.status result.events) }
     ensures legal { O.told → S.tells scripts.old ≡ true →
-        IsLegal (said_to O.opening (word_of asked.words.now) (scripts_of (S.left scripts.old) asked.given.count)) (map event_of result.events) }
+        IsLegal (said_to O.opening (word_of asked.entry.words.now) (scripts_of (S.left scripts.old) asked.entry.given.count)) (map event_of result.events) }
     ensures whole { O.told → S.tells scripts.old ≡ true → IsWhole result.status →
-        HaveAllEnded (said_to O.opening (word_of asked.words.now) (scripts_of (S.left scripts.old) asked.given.count)) asked.given.count (map event_of result.events) }
-    ensures order { asked.given.has_order ≡ true → O.told → S.tells scripts.old ≡ true → IsWhole result.status →
-        KeepsTurns (said_to O.opening (word_of asked.words.now) (scripts_of (S.left scripts.old) asked.given.count)) asked.given.count (order_in asked.words.now) result.events }
-    ensures written { K.tells out.old ≡ true → IsWritten result.status → K.taken out.new ≡ K.taken out.old ++ transcripts asked.given.count result.events }
-    ensures front { K.tells out.old ≡ true → WritesFront (K.taken out.old) (K.taken out.new) (transcripts asked.given.count result.events) }
+        HaveAllEnded (said_to O.opening (word_of asked.entry.words.now) (scripts_of (S.left scripts.old) asked.entry.given.count)) asked.entry.given.count (map event_of result.events) }
+    ensures order { asked.entry.given.has_order ≡ true → O.told → S.tells scripts.old ≡ true → IsWhole result.status →
+        KeepsTurns (said_to O.opening (word_of asked.entry.words.now) (scripts_of (S.left scripts.old) asked.entry.given.count)) asked.entry.given.count (order_in asked.entry.words.now) result.events }
+    ensures written { K.tells out.old ≡ true → IsWritten result.status → K.taken out.new ≡ K.taken out.old ++ transcripts asked.entry.given.count result.events }
+    ensures front { K.tells out.old ≡ true → WritesFront (K.taken out.old) (K.taken out.new) (transcripts asked.entry.given.count result.events) }
 {
     match read_scripts(alloc, scripts, asked.given.count) {
         Err(stop) => unsaid(alloc, status_of(stop), disk),
