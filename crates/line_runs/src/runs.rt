@@ -151,13 +151,7 @@ pub fn say_in_threads<
     O: Origin + Send,
     D: Disk + Drop + Send,
     G: Gate + Sync,
->(
-    rt: &R,
-    alloc: Global,
-    disk: D,
-    said: Said,
-    gate: &G,
-) -> LineRun<D>
+>(rt: &R, alloc: Global, disk: D, said: Said, gate: &G) -> LineRun<D>
     requires sessions { length said.scripts.items ≡ O.sessions }
     requires few { O.sessions ≤ 16 }
     requires short { All (λ items. length items < 2 ^ 32) said.scripts.items }

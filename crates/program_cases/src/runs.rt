@@ -87,6 +87,7 @@ pub const NONE: Fails = Fails {
 
 /// The room of a disk for scripts: slots in each file, and calls of all runs over it.
 const SLOTS: u32 = 4096;
+
 const CALLS: u32 = 65536;
 
 /// A disk with a new database, and with room for scripts.

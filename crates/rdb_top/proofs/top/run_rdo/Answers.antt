@@ -12,17 +12,17 @@ use Rattle.rdb_top.proofs.top.run_rdo.Goals as goal
 
 pub returns-in-Ok-clause-legal : goal.returns-in-Ok-clause-legal
 returns-in-Ok-clause-legal g c told tells =
-    rw c.finish_scripts.ensures.events (subst (λ qs. IsLegal (said_to g.O.Origin.opening (word_of c.args.asked.words.now) qs) (map event_of c.say_scripts.result.events)) (c.in-Ok.ensures.items tells) (c.say_scripts.ensures.legal told))
+    rw c.finish_scripts.ensures.events (subst (λ qs. IsLegal (said_to g.O.Origin.opening (word_of c.args.asked.words.now) qs) (map event_of c.say_scripts-ran.result.events)) (c.in-Ok.ensures.items tells) (c.say_scripts-ran.ensures.legal told))
 
 pub returns-in-Ok-clause-whole : goal.returns-in-Ok-clause-whole
 returns-in-Ok-clause-whole g c told tells whole =
-    rw c.finish_scripts.ensures.events (subst (λ qs. HaveAllEnded (said_to g.O.Origin.opening (word_of c.args.asked.words.now) qs) c.args.asked.given.count (map event_of c.say_scripts.result.events)) (c.in-Ok.ensures.items tells)
-    (c.say_scripts.ensures.whole told (c.finish_scripts.ensures.whole whole)))
+    rw c.finish_scripts.ensures.events (subst (λ qs. HaveAllEnded (said_to g.O.Origin.opening (word_of c.args.asked.words.now) qs) c.args.asked.given.count (map event_of c.say_scripts-ran.result.events)) (c.in-Ok.ensures.items tells)
+    (c.say_scripts-ran.ensures.whole told (c.finish_scripts.ensures.whole whole)))
 
 pub returns-in-Ok-clause-order : goal.returns-in-Ok-clause-order
 returns-in-Ok-clause-order g c has_order told tells whole =
-    rw c.finish_scripts.ensures.events (subst (λ qs. KeepsTurns (said_to g.O.Origin.opening (word_of c.args.asked.words.now) qs) c.args.asked.given.count (order_in c.args.asked.words.now) c.say_scripts.result.events) (c.in-Ok.ensures.items tells)
-    (c.say_scripts.ensures.order has_order told (c.finish_scripts.ensures.whole whole)))
+    rw c.finish_scripts.ensures.events (subst (λ qs. KeepsTurns (said_to g.O.Origin.opening (word_of c.args.asked.words.now) qs) c.args.asked.given.count (order_in c.args.asked.words.now) c.say_scripts-ran.result.events) (c.in-Ok.ensures.items tells)
+    (c.say_scripts-ran.ensures.order has_order told (c.finish_scripts.ensures.whole whole)))
 
 pub returns-in-Ok-clause-account : goal.returns-in-Ok-clause-account
 returns-in-Ok-clause-account g c told = (
@@ -30,9 +30,9 @@ returns-in-Ok-clause-account g c told = (
   c.in-Ok.ensures.length,
   c.in-Ok.ensures.items,
   (
-    rw c.finish_scripts.ensures.events (c.say_scripts.ensures.legal told),
-    (λ whole. rw c.finish_scripts.ensures.events (c.say_scripts.ensures.whole told (c.finish_scripts.ensures.whole whole))),
-    (λ has_order whole. rw c.finish_scripts.ensures.events (c.say_scripts.ensures.order has_order told (c.finish_scripts.ensures.whole whole))),
+    rw c.finish_scripts.ensures.events (c.say_scripts-ran.ensures.legal told),
+    (λ whole. rw c.finish_scripts.ensures.events (c.say_scripts-ran.ensures.whole told (c.finish_scripts.ensures.whole whole))),
+    (λ has_order whole. rw c.finish_scripts.ensures.events (c.say_scripts-ran.ensures.order has_order told (c.finish_scripts.ensures.whole whole))),
   ),
 )
 
