@@ -6,7 +6,6 @@ use Rattle.std.proofs.lemmas.Option.{same_Some}
 use Rattle.rdb_drive.specs.Boards.{Mark, Says, Does, Other, AllOf, AllNobodys, answers}
 use Rattle.rdb_account.specs.declared.event.Event.{Event as Declared}
 use Rattle.rdb_account.specs.Events.{Event, Died, event_of}
-use Rattle.lock_tree_laws.specs.Forest.{State}
 use Rattle.session_states.specs.declared.stage.Life.{Life}
 use Rattle.session_states.specs.declared.stage.Life.TheVariants.{Alive, Dead, Gone}
 use Rattle.rdb_types.specs.declared.session.Cause.{Cause}

@@ -1,5 +1,5 @@
 -- Who rests does so in the account.
-use Rattle.std.proofs.Common.{◌≡◌, ◌≤◌, ◌-◌, ℕ, zero, suc, ◌++◌, ◌∷◌, [], List, length, Bool, true, false, not, nat_le, ◌&&◌, refl, ◌∙◌, sym, ap, subst, arith, map, Option, Some, None, slice_get, option_map, ◌==◌, ◌⊎◌, inl, inr, ◌+◌}
+use Rattle.std.proofs.Common.{◌≡◌, ◌≤◌, ◌-◌, ℕ, zero, suc, ◌++◌, ◌∷◌, [], List, length, true, false, not, nat_le, refl, ◌∙◌, sym, ap, subst, arith, map, Option, Some, None, slice_get, option_map, ◌==◌, inl, inr}
 use Rattle.std.proofs.lemmas.Bool.{false≢true, and_parts, leb-true}
 use Rattle.rdo_ast.specs.declared.syntax.Item.{Item}
 use Rattle.rdo_ast.specs.Views.{uttered_of}
@@ -12,7 +12,6 @@ use Rattle.lock_tree_laws.specs.Forest.{State, party_of, open_asks}
 use Rattle.lock_ties.proofs.Causes.{tree-waits}
 use Rattle.line_steps.specs.Members.{Member as Seen, left_of, life_of}
 use Rattle.line_steps.specs.Right.{Ground, Stands}
-use Rattle.line_store.specs.Shelves.{Shelf}
 use Rattle.line_store.specs.Seats.{Seat, outside}
 use Rattle.line_store.specs.Sights.{Sight, bare}
 use Rattle.line_view.specs.Knowledge.{Lines}
@@ -23,12 +22,10 @@ use Rattle.session_states.specs.declared.stage.Life.{Life}
 use Rattle.session_states.specs.declared.stage.Life.TheVariants.{Alive, Dead, Gone}
 use Rattle.session_states.specs.declared.stage.Member.{Member}
 use Rattle.session_states.specs.States.{seen, state_of}
-use Rattle.session_states.specs.Fits.{LifeFits, PhaseFits, WriterFits}
-use Rattle.session_states.specs.Kept.{AreKept}
+use Rattle.session_states.specs.Fits.{LifeFits}
 use Rattle.session_states.specs.Shared.{Shared}
 use Rattle.session_stands.specs.Seated.{LivesAt}
 use Rattle.session_stands.specs.Sessions.{AreSeated, IsTold, sharing, dead_in, one_dead}
-use Rattle.line_arms.specs.Going.{is_done}
 use Rattle.line_cluster.specs.Going.{is_alive_life, is_dead, is_dead_life, is_over}
 use Rattle.line_cluster.specs.Sound.{IsLeft}
 use Rattle.line_cluster.specs.Turned.{Sessions, SleepsFor, Waits, is_patient_at, HasNothingLeft, HaveAllEnded, HaveEnded, is_session}
@@ -147,12 +144,12 @@ module _ (M : Model) (o : Opening) (word : List ℕ) (sight : Sight) (locks : St
   pub all-whole : (sessions : ℕ) → length members ≡ sessions → HaveEnded members → HaveAllEnded o sessions events
   all-whole sessions count ended = record {
     whole = λ s is.
-      let parts = and_parts (is_session sessions s) (has_not_died ((place o events).life s)) is in
-      let at = member-within members s (first-of sessions s parts.0) (within s parts.0) in
-      let e = ended at.0 at.1 at.3 in
-      let st = subst (λ (t : ℕ). Stands M o (place o events) told.kept.ground t (seen at.1)) (sym at.2) (stands at.0 at.1 at.3) in
-      let all = said-all M o (place o events) told.kept.ground s at.1 (unfallen s at.1 at.1.life refl st parts.1) e.0 st in
-      (all.lives, all-said M o (place o events) told.kept.ground s (seen at.1) st all.left, all.closed);
+        let parts = and_parts (is_session sessions s) (has_not_died ((place o events).life s)) is in
+        let at = member-within members s (first-of sessions s parts.0) (within s parts.0) in
+        let e = ended at.0 at.1 at.3 in
+        let st = subst (λ (t : ℕ). Stands M o (place o events) told.kept.ground t (seen at.1)) (sym at.2) (stands at.0 at.1 at.3) in
+        let all = said-all M o (place o events) told.kept.ground s at.1 (unfallen s at.1 at.1.life refl st parts.1) e.0 st in
+        (all.lives, all-said M o (place o events) told.kept.ground s (seen at.1) st all.left, all.closed);
     recovered = told.kept.right.fit.dead ∙ (told.kept.is_ground.dead ∙ none-mourned members (λ i m found. (ended i m found).1));
   }
     where

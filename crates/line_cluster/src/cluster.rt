@@ -78,12 +78,7 @@ fn members_of(alloc: Global, scripts: Vec<ItemQueue>) -> Result<Vec<Member>, NoM
 impl<O: Origin, S: Reserves + Reaches, L: LineStore + Drop> LineCluster<O, S, L> {
     /// Sessions that have said nothing, over a store in which nobody has a transaction open. Where no memory is found the store is
     /// given back.
-    pub fn start(
-        alloc: Global,
-        word: Word,
-        store: L,
-        scripts: Vec<ItemQueue>,
-    ) -> Result<Self, L>
+    pub fn start(alloc: Global, word: Word, store: L, scripts: Vec<ItemQueue>) -> Result<Self, L>
         requires sessions { length scripts.items ≡ O.sessions }
         requires few { O.sessions ≤ 16 }
         requires scripts { FollowsScripts O.opening scripts.items }

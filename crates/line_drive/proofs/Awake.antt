@@ -1,7 +1,6 @@
 -- Where some session hasn't ended, one that hasn't ended isn't asleep.
-use Rattle.std.proofs.Common.{◌≡◌, ◌≤◌, ◌<◌, nat_lt, ℕ, zero, suc, ◌∷◌, [], ◌==◌, ◌&&◌, ◌||◌, not, Bool, true, false, List, length, refl, ◌∙◌, sym, ap, subst, arith, Option, Some, None, slice_get}
-use Rattle.std.specs.List.{list_any}
-use Rattle.std.proofs.lemmas.Bool.{false≢true, cases_Bool, and_parts}
+use Rattle.std.proofs.Common.{◌≡◌, ◌≤◌, nat_lt, ℕ, zero, suc, ◌∷◌, [], ◌==◌, ◌&&◌, ◌||◌, not, Bool, true, false, List, length, refl, ◌∙◌, sym, ap, subst, arith, Option, Some, None, slice_get}
+use Rattle.std.proofs.lemmas.Bool.{false≢true, and_parts}
 use Rattle.rdb_drive.specs.Boards.{IsSession}
 use Rattle.rdb_drive.specs.Steps.{IsAwake}
 use Rattle.rdb_account.specs.Places.{Opening}
@@ -10,29 +9,26 @@ use Rattle.lock_needs.specs.declared.party.OpenWant.{OpenWant}
 use Rattle.lock_needs.specs.declared.party.Asked.{Asked}
 use Rattle.lock_needs.specs.Party.{Party}
 use Rattle.lock_needs.specs.Wants.{sleeps_at}
-use Rattle.lock_needs.specs.Waits.{has_asked, waits_for}
+use Rattle.lock_needs.specs.Waits.{has_asked}
 use Rattle.lock_tree.specs.Sleeping.{is_queued, is_sleeping}
 use Rattle.lock_tree_laws.specs.Forest.{State, IsWhole, idle, party_of, open_asks, opened_of}
 use Rattle.lock_tree_laws.specs.LockTable.{granted_at}
 use Rattle.lock_tree_laws.specs.Order.{waits_by_needs, waits_with}
-use Rattle.lock_tree_laws.specs.Wanted.{needs_of}
 use Rattle.lock_tree_laws.proofs.AskedByNeeds.{waiter-needed}
 use Rattle.lock_tree_laws.proofs.Sleepers.{queued-blocker, sleeping-queued}
 use Rattle.lock_tree_laws.proofs.Whole.{live-of}
 use Rattle.vms_locks.specs.Table.{queues_at, WaitsIn}
-use Rattle.vms_locks.specs.Walks.{IsAcyclic}
 use Rattle.line_store.specs.Seats.{Seat}
 use Rattle.session_states.specs.declared.stage.Phase.{Phase}
 use Rattle.session_states.specs.declared.stage.Phase.TheVariants.{Outside, Closing, Writing, Reading, Over}
 use Rattle.session_states.specs.declared.stage.Life.{Life}
 use Rattle.session_states.specs.declared.stage.Life.TheVariants.{Alive, Dead, Gone}
 use Rattle.session_states.specs.declared.stage.Member.{Member}
-use Rattle.session_stands.specs.Seated.{IsSeated, LivesAt}
+use Rattle.session_stands.specs.Seated.{LivesAt}
 use Rattle.session_stands.specs.Sessions.{AreSeated, dead_in, member_at}
-use Rattle.line_arms.specs.Going.{is_done}
 use Rattle.line_cluster.specs.Going.{is_dead, is_dead_life, is_over}
 use Rattle.line_cluster.proofs.Coming.{some-dead}
-use Rattle.line_cluster.specs.Turned.{Sessions, is_patient_at}
+use Rattle.line_cluster.specs.Turned.{Sessions}
 use Rattle.line_drive.specs.Boards.{Driven, board_of, has_ended, is_patient, is_asleep, is_mourning, is_stopped}
 use Rattle.line_drive.proofs.Chains.{somebody-awake}
 

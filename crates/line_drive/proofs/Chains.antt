@@ -1,7 +1,7 @@
 -- Where waits are without a cycle and each sleeper waits for another that lives, somebody who lives is awake.
 use Rattle.std.proofs.Common.{◌≡◌, ◌≤◌, ◌<◌, ℕ, zero, suc, ◌+◌, ◌++◌, ◌∷◌, [], ◌==◌, ◌||◌, Bool, true, false, not, List, length, refl, ◌∙◌, sym, ap, subst, arith, ◌⊎◌, inl, inr}
 use Rattle.std.specs.List.{list_any, filter}
-use Rattle.std.proofs.lemmas.Bool.{false≢true, cases_Bool, eqb-true, eq-eqb}
+use Rattle.std.proofs.lemmas.Bool.{false≢true, cases_Bool, eqb-true}
 use Rattle.rdb_drive.specs.Orders.{upward}
 use Rattle.vms_locks.specs.Walks.{IsWalk, IsAcyclic}
 

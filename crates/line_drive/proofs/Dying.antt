@@ -1,29 +1,28 @@
 -- Deaths, recoveries and the end are what drivers want of them.
-use Rattle.std.proofs.Common.{◌≡◌, ◌≤◌, ◌<◌, ◌-◌, ◌+◌, ◌^◌, ℕ, zero, suc, ◌++◌, ◌∷◌, [], ◌==◌, ◌&&◌, ◌||◌, not, nat_lt, if◌then◌else◌, Bool, true, false, List, length, refl, ◌∙◌, sym, ap, subst, arith, map, Option, Some, None, slice_get, slice_set, ◌⊎◌, inl, inr}
+use Rattle.std.proofs.Common.{◌≡◌, ◌≤◌, ◌<◌, ◌-◌, ◌+◌, ℕ, zero, suc, ◌∷◌, [], ◌==◌, ◌&&◌, ◌||◌, not, nat_lt, if◌then◌else◌, Bool, true, false, List, length, refl, ◌∙◌, sym, ap, subst, arith, map, Some, slice_get, ◌⊎◌, inl, inr}
 use Rattle.std.specs.List.{AllByRecursion, Contains, filter}
 use Rattle.std.proofs.lemmas.Bool.{false≢true, and_parts}
 use Rattle.std.proofs.lemmas.List.Elements.{All-contains, All-from_recursion}
 use Rattle.rdb_types.specs.declared.session.Cause.{Cause}
 use Rattle.rdb_types.specs.declared.session.Cause.TheVariants.{Gate}
-use Rattle.rdb_account.specs.declared.event.Event.{Event as Declared}
 use Rattle.rdb_account.specs.Events.{Died, event_of}
 use Rattle.rdb_account.specs.Legal.{is_stop}
 use Rattle.rdb_account.specs.Places.{Opening, place}
-use Rattle.rdb_drive.specs.Boards.{AllEnded, AtMost, Below, Does, IsSession}
+use Rattle.rdb_drive.specs.Boards.{AllEnded, AtMost, Below, Does}
 use Rattle.rdb_drive.specs.Orders.{upward}
 use Rattle.rdb_drive.specs.Steps.{DeathOf, Goes, IsAwake, IsQuiet, RecoveryOf}
 use Rattle.rdb_drive.specs.declared.driven.Step.TheVariants as step
 use Rattle.lock_tree_laws.specs.Forest.{IsWhole}
 use Rattle.line_store.specs.Seats.{Seat}
 use Rattle.session_states.specs.declared.stage.Life.{Life}
-use Rattle.session_states.specs.declared.stage.Life.TheVariants.{Alive, Dead, Gone}
+use Rattle.session_states.specs.declared.stage.Life.TheVariants.{Dead}
 use Rattle.session_states.specs.declared.stage.Member.{Member}
-use Rattle.session_stands.specs.Sessions.{AreSeated, dead_in, member_at}
+use Rattle.session_stands.specs.Sessions.{AreSeated, member_at}
 use Rattle.line_cluster.specs.declared.sessions.Turn.TheVariants as turn
 use Rattle.line_cluster.specs.Going.{is_dead, is_dead_life, is_over}
 use Rattle.line_cluster.specs.Turned.{Sessions, DeathCame, HasNothingLeft, HaveEnded, IsAtEnd, IsDeath, IsHalt, IsRecovery, RecoveryCame, mark_of, with_life}
 use Rattle.line_cluster.proofs.Stepping.{work-alive}
-use Rattle.line_drive.specs.Boards.{Driven, board_of, has_ended, is_asleep, is_mourning, is_stopped, lives_in, lives_left, marks_of, mortals_of, steps_to_go}
+use Rattle.line_drive.specs.Boards.{Driven, board_of, has_ended, is_asleep, is_mourning, is_stopped, lives_in, marks_of, mortals_of, steps_to_go}
 use Rattle.line_drive.proofs.Awake.{awake}
 use Rattle.line_drive.proofs.Counting.{set-here}
 use Rattle.line_drive.proofs.Marks.{marks-grown}

@@ -1,5 +1,5 @@
 -- The marks of what happened.
-use Rattle.std.proofs.Common.{◌≡◌, ◌≤◌, ℕ, zero, suc, ◌+◌, ◌++◌, ◌∷◌, [], ◌==◌, Bool, true, false, List, length, refl, ◌∙◌, sym, ap, subst, arith, map, take, drop, if◌then◌else◌}
+use Rattle.std.proofs.Common.{◌≡◌, ◌≤◌, ℕ, zero, suc, ◌+◌, ◌++◌, ◌∷◌, [], ◌==◌, Bool, true, false, List, length, refl, ◌∙◌, sym, ap, arith, map, take, drop}
 use Rattle.std.proofs.lemmas.List.{map-append}
 use Rattle.rdb_account.specs.declared.event.Event.{Event as Declared}
 use Rattle.rdb_account.specs.Events.{Event, event_of}

@@ -1,7 +1,7 @@
 -- What drivers say of the order of turns, said of the events.
 use Rattle.std.proofs.Common.{◌≡◌, ℕ, ◌+◌, ◌++◌, ◌∷◌, [], List, length, ◌∙◌, sym, ap, subst, false}
 use Rattle.rdb_account.specs.Places.{Opening}
-use Rattle.rdb_drive.specs.Boards.{Mark, answers}
+use Rattle.rdb_drive.specs.Boards.{Mark}
 use Rattle.rdb_drive.specs.Orders.{AreParts, IsPart, Keeps, KeepsOrder, rounds}
 use Rattle.line_drive.specs.Boards.{Driven, board_of, marks_of, RestsBehind}
 use Rattle.line_drive.specs.Turns.{KeepsTurns}

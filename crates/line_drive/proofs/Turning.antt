@@ -1,11 +1,11 @@
 -- A turn of the sessions is a step as drivers want it.
-use Rattle.std.proofs.Common.{◌≡◌, ◌≢◌, ◌≤◌, ◌<◌, ◌-◌, ◌^◌, nat_lt, if◌then◌else◌, ℕ, zero, suc, ◌+◌, ◌++◌, ◌∷◌, [], ◌==◌, ◌&&◌, ◌||◌, not, Bool, true, false, List, length, refl, ◌∙◌, sym, ap, subst, arith, map, Option, Some, None, slice_get, slice_set, ◌⊎◌, inl, inr}
+use Rattle.std.proofs.Common.{◌≡◌, ◌≤◌, ◌<◌, ◌-◌, ◌^◌, nat_lt, if◌then◌else◌, ℕ, zero, suc, ◌+◌, ◌++◌, ◌∷◌, [], ◌==◌, ◌&&◌, ◌||◌, not, Bool, true, false, List, length, refl, ◌∙◌, sym, ap, subst, arith, map, Some, slice_get, slice_set, ◌⊎◌, inl, inr}
 use Rattle.std.proofs.lemmas.Bool.{false≢true}
 use Rattle.std.proofs.lemmas.Option.{same_Some}
 use Rattle.rdb_account.specs.declared.event.Event.{Event as Declared}
 use Rattle.rdb_account.specs.Events.{Event, event_of}
 use Rattle.rdb_account.specs.Places.{Opening, place}
-use Rattle.rdb_drive.specs.Boards.{AtMost, Below, Board, Mark, IsSession, AllOf, answers}
+use Rattle.rdb_drive.specs.Boards.{AtMost, Below, Board, IsSession}
 use Rattle.rdb_drive.specs.Steps.{StepOf, Goes, IsAwake, IsQuiet}
 use Rattle.rdb_drive.specs.declared.driven.Step.TheVariants as step
 use Rattle.rdb_types.specs.declared.session.Session.{Session}
@@ -20,8 +20,8 @@ use Rattle.session_stands.specs.Sessions.{AreSeated, dead_in, member_at}
 use Rattle.line_cluster.specs.declared.sessions.Turn.TheVariants as turn
 use Rattle.line_arms.specs.Going.{is_done}
 use Rattle.line_cluster.specs.Going.{is_dead, is_over}
-use Rattle.line_cluster.specs.Turned.{Sessions, GoesFurther, IsAnother, Grows, Came, HasNothingLeft, Rests, Waits, IsAtEnd, mark_of, is_patient_at}
-use Rattle.line_drive.specs.Boards.{Driven, board_of, has_ended, is_asleep, is_mourning, is_patient, is_stopped, lives_in, lives_left, marks_of, steps_to_go, RestsAt, RestsBehind}
+use Rattle.line_cluster.specs.Turned.{Sessions, GoesFurther, Came, HasNothingLeft, Rests, IsAtEnd, mark_of, is_patient_at}
+use Rattle.line_drive.specs.Boards.{Driven, board_of, has_ended, is_asleep, is_mourning, is_stopped, lives_in, lives_left, marks_of, steps_to_go, RestsAt, RestsBehind}
 use Rattle.line_drive.proofs.Awake.{awake, undead}
 use Rattle.line_drive.proofs.Marks.{marks-grown, length-marks, take-grown, take-all}
 

@@ -86,12 +86,7 @@ pub fn run_in_threads<
     S: Reserves + Reaches + Send,
     L: LineStore + Drop + Send,
     G: Gate + Sync,
->(
-    rt: &R,
-    cluster: LineCluster<O, S, L>,
-    sessions: u32,
-    gate: &G,
-) -> Ran<L>
+>(rt: &R, cluster: LineCluster<O, S, L>, sessions: u32, gate: &G) -> Ran<L>
 where
     S::Kept: Send,
     requires fresh { cluster.events ≡ [] }

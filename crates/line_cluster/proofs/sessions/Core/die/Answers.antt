@@ -1,4 +1,4 @@
-use Rattle.std.proofs.Common.{◌≡◌, ◌-◌, ◌∙◌, sym, ap, refl, slice_get, List, inl, inr, false}
+use Rattle.std.proofs.Common.{◌-◌, ◌∙◌, sym, ap, refl, slice_get, List, inl, inr, false}
 use Rattle.session_states.specs.declared.stage.Member.{Member}
 use Rattle.line_cluster.proofs.Coming.{death-from, looked}
 use Rattle.line_cluster.proofs.sessions.Core.die.Goals as goal

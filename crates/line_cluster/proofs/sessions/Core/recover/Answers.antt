@@ -1,5 +1,4 @@
-use Rattle.std.proofs.Common.{◌∙◌, sym, ap, refl}
-use Rattle.session_stands.specs.Sessions.{dead_in}
+use Rattle.std.proofs.Common.{◌∙◌, sym, refl}
 use Rattle.line_cluster.proofs.Coming.{halt-recovery, recovery-came-from}
 use Rattle.line_cluster.proofs.sessions.Core.recover.Goals as goal
 

@@ -1,10 +1,10 @@
-use Rattle.std.proofs.Common.{◌≡◌, ◌-◌, ◌<◌, ℕ, ◌==◌, false, true, subst, sym, ◌∙◌, ap, arith, length, drop, List}
+use Rattle.std.proofs.Common.{◌≡◌, ◌-◌, ◌<◌, ℕ, false, true, subst, sym, ◌∙◌, arith, length, drop, List}
 use Rattle.rdb_account.specs.declared.event.Event.{Event as Declared}
 use Rattle.rdb_drive.specs.Boards.{answers}
 use Rattle.rdb_drive.specs.Steps.{StepOf}
 use Rattle.rdb_drive.specs.declared.driven.Step.TheVariants as step
 use Rattle.line_drive.specs.Boards.{Driven, board_of, is_stopped, marks_of}
-use Rattle.line_drive.proofs.Counting.{count-fits, driven-on, no-fewer}
+use Rattle.line_drive.proofs.Counting.{count-fits, driven-on}
 use Rattle.line_drive.proofs.Dying.{goes-on}
 use Rattle.line_drive.proofs.Turning.{at-end, driven, froze, moved, slept, spent, stopped}
 use Rattle.line_drive.proofs.driver.LineDriver.turn.Goals as goal
@@ -50,8 +50,8 @@ invariant_of-self-in-Stopped g c =
 pub overflow_add-self : goal.overflow_add-self
 overflow_add-self g c =
     let fits = count-fits g.O.Origin.sessions c.args.s.number c.self.inside.answers c.self.inside.cluster c.turn-turn.new.self c.turn-turn.result c.answers_behind.result 18446744073709551616 c.requires.session c.self.invariant c.turn-turn.ensures.came
-        (since c.self.inside.cluster.events c.turn-turn.new.self.events c.events-before.result.now c.events.result.now c.answers_behind.result c.events-before.ensures c.events.ensures c.answers_behind.ensures)
-        (subst (λ (es : List Declared). length es < 18446744073709551616) c.events.ensures c.events.type_inv.0) in
+    (since c.self.inside.cluster.events c.turn-turn.new.self.events c.events-before.result.now c.events.result.now c.answers_behind.result c.events-before.ensures c.events.ensures c.answers_behind.ensures)
+    (subst (λ (es : List Declared). length es < 18446744073709551616) c.events.ensures c.events.type_inv.0) in
     omega (arith, fits)
 
 pub returns-in-Moved : goal.returns-in-Moved

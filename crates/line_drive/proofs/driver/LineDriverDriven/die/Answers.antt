@@ -1,6 +1,5 @@
-use Rattle.std.proofs.Common.{◌≡◌, ◌&&◌, not, true, ap, subst}
+use Rattle.std.proofs.Common.{subst}
 use Rattle.rdb_types.specs.declared.session.Cause.TheVariants.{Gate}
-use Rattle.rdb_account.specs.Legal.{is_stop}
 use Rattle.rdb_drive.specs.Steps.{DeathOf}
 use Rattle.line_drive.specs.Boards.{Driven, board_of}
 use Rattle.line_drive.proofs.Counting.{driven-dying}
