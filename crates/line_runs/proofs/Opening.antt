@@ -1,5 +1,5 @@
 -- A run opens over the store of an opened disk.
-use Rattle.std.proofs.Common.{ℕ, ◌≤◌, List, arith}
+use Rattle.std.proofs.Common.{◌≡◌, ◌≤◌, ℕ, List, Option, Some, arith}
 use Rattle.rdb_outside.specs.Disk.{Image, View}
 use Rattle.stable_lines.specs.Journal.{Journal}
 use Rattle.rdb_account.specs.Places.{Opening}
@@ -7,6 +7,7 @@ use Rattle.session_jobs.specs.Records.{Model}
 use Rattle.line_store.specs.Shelves.{Shelf}
 use Rattle.line_store.specs.Sights.{Sight}
 use Rattle.line_cluster.specs.Sound.{IsOpenedBy}
+use Rattle.line_opening.specs.declared.fault.OpeningFault.{OpeningFault}
 use Rattle.line_runs.specs.Openings.{IsOpeningOf}
 
 from-none : (m n : ℕ) → m ≤ 0 → m ≤ n
@@ -19,3 +20,6 @@ at-moment image journal moment o h = record { root = h.root; is = h.is; limits =
 -- Where one sight shows what another does, an account that opens with that opens with this.
 pub same-shown : (M : Model) (o : Opening) (word : List ℕ) (old new : Sight) → ((h : Shelf) → old.shows h → new.shows h) → IsOpenedBy M o word old → IsOpenedBy M o word new
 same-shown M o word old new shows h = record { shelf = h.shelf; shown = shows h.shelf h.shown; opened = h.opened }
+
+pub same-fault : (a b : OpeningFault) (x : Option OpeningFault) → x ≡ Some a → x ≡ Some b → a ≡ b
+same-fault a b x h k = grind arith

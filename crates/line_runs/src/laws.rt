@@ -1,5 +1,5 @@
 // What a run needs of the store that it begins with.
-ghost use Rattle.std.specs.Prelude.{ℕ, List};
+ghost use Rattle.std.specs.Prelude.{◌≡◌, ℕ, List};
 ghost use Rattle.rdb_outside.specs.Disk.{Image};
 ghost use Rattle.line_view.specs.Knowledge.{Lines};
 ghost use Rattle.stable_lines.specs.Journal.{Journal};

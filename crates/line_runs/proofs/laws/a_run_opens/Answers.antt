@@ -1,5 +1,4 @@
-use Rattle.std.proofs.Common.{◌≡◌, ◌∙◌, ◌≤◌, ℕ, true, List, is_some, refl, sym, ap, subst, arith}
-use Rattle.rdb_types.specs.declared.keys.Dbkey.{Dbkey}
+use Rattle.std.proofs.Common.{◌≡◌, ◌≤◌, ℕ, true, is_some, refl, sym, ap, subst}
 use Rattle.rdb_types.specs.declared.keys.Limits.{Limits}
 use Rattle.line_view.specs.Knowledge.{Lines, line_in}
 use Rattle.line_versions.specs.Lines.{storage_area}
