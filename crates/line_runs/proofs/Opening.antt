@@ -1,6 +1,6 @@
 -- A run opens over the store of an opened disk.
 use Rattle.std.proofs.Common.{◌≡◌, ◌≤◌, ℕ, List, Option, Some, arith}
-use Rattle.rdb_outside.specs.Disk.{Image, View}
+use Rattle.rdb_outside.specs.Disk.{Image}
 use Rattle.stable_lines.specs.Journal.{Journal}
 use Rattle.rdb_account.specs.Places.{Opening}
 use Rattle.session_jobs.specs.Records.{Model}

@@ -1,10 +1,10 @@
-use Rattle.std.proofs.Common.{sym}
+use Rattle.std.proofs.Common.{ap, sym, Err}
 use Rattle.disk_store.specs.Shown.{sight_of}
 use Rattle.line_runs.proofs.Opening.{at-moment, same-shown}
 use Rattle.line_runs.proofs.runs.begin.Goals as goal
 
 pub returns-in-Err-clause-bad : goal.returns-in-Err-clause-bad
-returns-in-Err-clause-bad g c file slot is = c.in-Err.ensures.bad file slot is
+returns-in-Err-clause-bad g c file slot is = c.in-Err.ensures.bad file slot (ap Err is)
 
 pub start-requires-clause-opened : goal.start-requires-clause-opened
 start-requires-clause-opened g c = λ told.
