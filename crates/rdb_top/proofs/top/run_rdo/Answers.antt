@@ -44,3 +44,7 @@ returns-in-Err-clause-account g c told =
       (λ tells. refl),
       (rw c.unsaid.ensures.events (nothing-said _), (λ whole. absurd (unended whole)), (λ has_order whole. absurd (unended whole))),
     )
+
+pub returns-in-Ok-clause-unopened : goal.returns-in-Ok-clause-unopened
+returns-in-Ok-clause-unopened g c is =
+    let bad = c.finish_scripts.ensures.bad is in c.say_scripts-ran.ensures.bad bad.0 bad.1 bad.2

@@ -1,11 +1,12 @@
-use Rattle.std.proofs.Common.{length, map, subst, sym}
+use Rattle.std.proofs.Common.{length, map, subst, sym, ◌∙◌}
 use Rattle.rdb_drive.specs.Boards.{MayDie}
 use Rattle.rdb_account.specs.Events.{event_of}
 use Rattle.rdb_account.specs.Legal.{IsLegal}
 use Rattle.line_cluster.specs.Turned.{HaveAllEnded}
 use Rattle.line_drive.specs.Boards.{mortals_of}
+use Rattle.line_drive.specs.Turns.{KeepsTurns}
 use Rattle.line_runs.specs.Openings.{said_to}
-use Rattle.command_words.specs.Words.{word_of}
+use Rattle.command_words.specs.Words.{order_in, word_of}
 use Rattle.rdb_top.proofs.Saying.{opens}
 use Rattle.rdb_top.proofs.top.say_scripts.Goals as goal
 
@@ -25,3 +26,10 @@ pub returns-in-Ok-clause-whole : goal.returns-in-Ok-clause-whole
 returns-in-Ok-clause-whole g c told whole =
     subst (λ n. HaveAllEnded (said_to g.O.Origin.opening (word_of c.args.asked.words.now) c.args.scripts.items) n (map event_of c.run_of.result.events)) c.requires.count
     (subst (λ w. HaveAllEnded (said_to g.O.Origin.opening w c.args.scripts.items) (length c.args.scripts.items) (map event_of c.run_of.result.events)) c.in-Ok.ensures.word (c.run_of.ensures.whole told whole))
+
+pub returns-in-Ok-clause-order : goal.returns-in-Ok-clause-order
+returns-in-Ok-clause-order g c has_order told whole =
+    subst (λ w. KeepsTurns (said_to g.O.Origin.opening w c.args.scripts.items) c.args.asked.given.count (order_in c.args.asked.words.now) c.run_of.result.events) c.in-Ok.ensures.word
+    (subst (λ n. KeepsTurns (said_to g.O.Origin.opening c.in-Ok.field-0.word c.args.scripts.items) n (order_in c.args.asked.words.now) c.run_of.result.events) c.requires.count
+    (subst (λ turns. KeepsTurns (said_to g.O.Origin.opening c.in-Ok.field-0.word c.args.scripts.items) (length c.args.scripts.items) turns c.run_of.result.events) (c.as_slice.ensures ∙ c.in-Ok.ensures.order)
+    (c.run_of.ensures.order has_order told whole)))
