@@ -1,6 +1,7 @@
 -- What drivers see of the sessions over lines.
 use Rattle.std.specs.Prelude.{◌≡◌, ℕ, ◌+◌, nat_lt, if◌then◌else◌, Bool, true, false, not, ◌&&◌, ◌||◌, ◌==◌, List, [], ◌∷◌, map, take, Option, Some, None, ◌⊎◌}
 use Rattle.std.specs.List.{filter}
+use Rattle.rdb_types.specs.declared.session.Cause.{Cause}
 use Rattle.rdb_types.specs.declared.session.Cause.TheVariants.{Gate}
 use Rattle.rdb_account.specs.declared.event.Event.{Event as Declared}
 use Rattle.rdb_account.specs.Events.{event_of}
@@ -79,3 +80,6 @@ board_of told o d = record {
 -- the sessions of so many that the gate may have die
 abbrev pub mortals_of : Opening → ℕ → List ℕ
 mortals_of o sessions = filter (λ s. o.may_die s Gate) (upward 1 sessions)
+
+abbrev pub MayNobodyDie : Opening → Type 0
+MayNobodyDie o = (s : ℕ) (c : Cause) → o.may_die s c ≡ false

@@ -1,13 +1,13 @@
 //! The sessions of a run driven to their ends.
 ghost use Rattle.std.specs.Prelude.{◌≡◌, ◌≤◌, ℕ, [], All, map, false, true};
 ghost use Rattle.rdb_account.specs.Events.{event_of};
-ghost use Rattle.rdb_account.specs.Legal.{IsLegal};
+ghost use Rattle.rdb_account.specs.Legal.{AreWhole, IsLegal};
 ghost use Rattle.rdb_drive.specs.Boards.{AllEnded, IsSession, MayDie};
 ghost use Rattle.line_store.specs.Seats.{outside};
 ghost use Rattle.line_store.specs.Sights.{bare};
 ghost use Rattle.line_cluster.specs.Sound.{IsLeft};
-ghost use Rattle.line_cluster.specs.Turned.{HaveAllEnded};
-ghost use Rattle.line_drive.specs.Boards.{board_of, mortals_of};
+ghost use Rattle.line_cluster.specs.Turned.{HaveAllEnded, is_session};
+ghost use Rattle.line_drive.specs.Boards.{MayNobodyDie, board_of, mortals_of};
 ghost use Rattle.line_drive.specs.Turns.{KeepsTurns};
 
 use crate::driver::LineDriver;
@@ -40,6 +40,7 @@ fn ran_of<O: Origin, S: Reserves + Reaches, L: LineStore + Drop>(
     ensures going { result.is_whole ≡ true → driver.sessions.halted ≡ false }
     ensures legal { O.told → IsLegal O.opening (map event_of result.events) }
     ensures whole { result.is_whole ≡ true → O.told → HaveAllEnded O.opening O.sessions (map event_of result.events) }
+    ensures calm { result.is_whole ≡ true → O.told → MayNobodyDie O.opening → AreWhole (is_session O.sessions) O.opening (map event_of result.events) }
     ensures left { result.is_whole ≡ true → O.told → IsLeft S.stands O.opening (L.sight result.store) (map event_of result.events) }
     ensures outside { result.is_whole ≡ true → (s : ℕ) → bare ((L.sight result.store).stand s) ≡ outside }
 {
@@ -69,6 +70,7 @@ pub fn run_in_order<O: Origin, S: Reserves + Reaches, L: LineStore + Drop, G: Ga
     requires entries { All (λ s. IsSession O.sessions s) order.now }
     ensures legal { O.told → IsLegal O.opening (map event_of result.events) }
     ensures whole { result.is_whole ≡ true → O.told → HaveAllEnded O.opening O.sessions (map event_of result.events) }
+    ensures calm { result.is_whole ≡ true → O.told → MayNobodyDie O.opening → AreWhole (is_session O.sessions) O.opening (map event_of result.events) }
     ensures left { result.is_whole ≡ true → O.told → IsLeft S.stands O.opening (L.sight result.store) (map event_of result.events) }
     ensures outside { result.is_whole ≡ true → (s : ℕ) → bare ((L.sight result.store).stand s) ≡ outside }
     ensures order { result.is_whole ≡ true → O.told → KeepsTurns O.opening O.sessions order.now result.events }
@@ -95,6 +97,7 @@ where
     requires mortals { MayDie (G.mortals gate.now) (mortals_of O.opening O.sessions) }
     ensures legal { O.told → IsLegal O.opening (map event_of result.events) }
     ensures whole { result.is_whole ≡ true → O.told → HaveAllEnded O.opening O.sessions (map event_of result.events) }
+    ensures calm { result.is_whole ≡ true → O.told → MayNobodyDie O.opening → AreWhole (is_session O.sessions) O.opening (map event_of result.events) }
     ensures left { result.is_whole ≡ true → O.told → IsLeft S.stands O.opening (L.sight result.store) (map event_of result.events) }
     ensures outside { result.is_whole ≡ true → (s : ℕ) → bare ((L.sight result.store).stand s) ≡ outside }
 {
