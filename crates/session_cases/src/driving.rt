@@ -19,11 +19,17 @@ const MAX_ROUNDS: u32 = 20_000;
 /// The session that says its script first.
 pub const FIRST: Session = Session { number: 4 };
 
-/// What is told of a run.
-#[derive(Clone, Copy)]
-pub struct Tells {
-    pub turns: bool,
-    pub events: bool,
+/// How a case is driven, and what is told of it.
+#[derive(Clone, Copy, PartialEq, Eq)]
+pub enum Drive {
+    /// By turns; the answers are told.
+    Turns,
+    /// By turns; what each came to is told besides.
+    Told,
+    /// By turns; the events are told besides.
+    Events,
+    /// The sessions of the order by steps in turn, until they are over.
+    Steps,
 }
 
 /// The session that a word names.
@@ -40,6 +46,7 @@ fn put_came(word: &str, came: Came, out: &mut Bytes) -> Result<(), NoMemory> {
     out.extend(b"  turn of ")?;
     out.extend(word.as_bytes())?;
     match came {
+        Came::Moved => out.extend(b": moved\n"),
         Came::Answered => out.extend(b": answered\n"),
         Came::Rests => out.extend(b": asleep\n"),
         Came::Over => out.extend(b": over\n"),
@@ -51,7 +58,7 @@ fn put_came(word: &str, came: Came, out: &mut Bytes) -> Result<(), NoMemory> {
 fn drive_entry<O: Origin>(
     world: &mut World<O>,
     word: &str,
-    tells: Tells,
+    drive: Drive,
     out: &mut Bytes,
 ) -> Result<(), NoMemory>
     requires sessions { O.sessions ≡ 4 }
@@ -65,11 +72,54 @@ fn drive_entry<O: Origin>(
     }
     if let Some(s) = session_of(word) {
         let came = world.turn(s);
-        if tells.turns {
+        if drive == Drive::Told {
             put_came(word, came, out)?;
         }
     }
     Ok(())
+}
+
+// An order of turns.
+fn drive_order<O: Origin>(
+    world: &mut World<O>,
+    order: &str,
+    drive: Drive,
+    out: &mut Bytes,
+) -> Result<(), NoMemory>
+    requires sessions { O.sessions ≡ 4 }
+    requires mortal { (t : ℕ) (cause : CauseValue) → O.opening.may_die t cause ≡ true }
+{
+    for word in order.split(',') {
+        drive_entry(world, word, drive, out)?;
+    }
+    Ok(())
+}
+
+// A step of each session of an order. False where none of them goes on.
+fn step_each<O: Origin>(world: &mut World<O>, order: &str) -> bool
+    requires sessions { O.sessions ≡ 4 }
+{
+    let mut goes_on = false;
+    for word in order.split(',') {
+        if let Some(s) = session_of(word) {
+            match world.step(s) {
+                Came::Over | Came::Stopped => {}
+                _ => goes_on = true,
+            }
+        }
+    }
+    goes_on
+}
+
+// The sessions of an order by steps in turn.
+fn drive_steps<O: Origin>(world: &mut World<O>, order: &str)
+    requires sessions { O.sessions ≡ 4 }
+{
+    for _ in 0..MAX_ROUNDS {
+        if !step_each(world, order) {
+            return;
+        }
+    }
 }
 
 // A turn of each session. False where none moves any more.
@@ -117,7 +167,7 @@ fn tell_events<O: Origin>(world: &World<O>, from: usize, out: &mut Bytes) -> Res
     for event in world.events().iter().skip(from) {
         put_event(event, out)?;
     }
-    Ok(())
+    out.extend(b"  answered\n")
 }
 
 fn tell_answers<O: Origin>(
@@ -137,7 +187,7 @@ pub fn run<O: Origin>(
     limits: Limits,
     scripts: Vec<ItemQueue>,
     order: &str,
-    tells: Tells,
+    drive: Drive,
     out: &mut Bytes,
 ) -> Result<(), NoMemory>
     requires count { length scripts.items ≡ 4 }
@@ -150,11 +200,12 @@ pub fn run<O: Origin>(
     let mut world: World<O> = World::new(alloc, limits, scripts)?;
     drive_first(&mut world);
     let first = world.events().len();
-    for word in order.split(',') {
-        drive_entry(&mut world, word, tells, out)?;
+    match drive {
+        Drive::Steps => drive_steps(&mut world, order),
+        _ => drive_order(&mut world, order, drive, out)?,
     }
     drive_rounds(&mut world, out)?;
-    if tells.events {
+    if drive == Drive::Events {
         tell_events(&world, first, out)?;
     }
     tell_answers(alloc, &world, out)

@@ -1,4 +1,5 @@
 // What happened, an event a line.
+use itoa::Buffer;
 use rdb_account::{Event, render};
 use rdb_types::{Bytes, Dbkey, Level, NoMemory, Node, Session};
 use rdo_ast::reply::{Reply, Standing};
@@ -6,18 +7,8 @@ use vms_queues::Mode;
 
 /// Adds a number.
 pub fn put_number(number: u32, out: &mut Bytes) -> Result<(), NoMemory> {
-    let mut digits = [0u8; 10];
-    let mut rest = number;
-    let mut at = 10;
-    for place in 0..10 {
-        digits[9 - place] = b'0' + (rest % 10) as u8;
-        at = 9 - place;
-        rest /= 10;
-        if rest == 0 {
-            break;
-        }
-    }
-    out.extend(&digits[at..])
+    let mut buffer = Buffer::new();
+    out.extend(buffer.format(number).as_bytes())
 }
 
 fn put_session(s: Session, out: &mut Bytes) -> Result<(), NoMemory> {

@@ -1,4 +1,4 @@
-//! Cases of sessions over a store of lines in memory, with statements worked over lines. A line of standard input that begins with a session's number, 1 to 4, is a line of its script. `run` with an order, as `run 1,1,2`, drives the sessions by turns, in that order and then in ascending order again and again; before that session 4 says its whole script. In an order `-1` has session 1 die. Below a run stands what each session was answered. `turns` does the same and tells what each turn came to, and `events` tells the events. `base` gives session 4 the script of a small relation with an index; `pages`, `snaps` and `entries` with a number set a limit of the store; and `-` begins with new sessions and limits. Each line is echoed.
+//! Cases of sessions over a store of lines in memory, with statements worked over lines. A line of standard input that begins with a session's number, 1 to 4, is a line of its script. `run` with an order, as `run 1,1,2`, drives the sessions by turns, in that order and then in ascending order again and again; before that session 4 says its whole script. In an order `-1` has session 1 die. Below a run stands what each session was answered. `turns` does the same and tells what each turn came to, and `events` tells the events. `steps 1,2` steps these sessions in turn, a step each, until they are over, and then drives all. `base` gives session 4 the script of a small relation with an index; `pages` with a number sets that limit of the store; and `-` begins with new sessions and limits. Other lines say what a case is for. Each line is echoed.
 #![tactic(auto)]
 
 mod driving;
@@ -7,7 +7,7 @@ mod world;
 
 ghost use Rattle.std.specs.Prelude.{◌<◌, ◌^◌, All, IfOk, length};
 
-use driving::{FIRST, SESSIONS, Tells, run, session_of};
+use driving::{Drive, FIRST, SESSIONS, run, session_of};
 use rdb_types::{Bytes, Limits, NoMemory, Session};
 use session_states::ItemQueue;
 use std::alloc::Global;
@@ -69,14 +69,14 @@ fn run_scripts(
     alloc: Global,
     case: &Case,
     order: &str,
-    tells: Tells,
+    drive: Drive,
     out: &mut Bytes,
 ) -> Result<(), NoMemory> {
     let queues = queues_of(alloc, case.scripts.as_slice())?;
     if queues.len() != SESSIONS as usize {
         return Ok(());
     }
-    run::<Brand>(alloc, case.limits, queues, order, tells, out)
+    run::<Brand>(alloc, case.limits, queues, order, drive, out)
 }
 
 /// What a case has so far.
@@ -94,14 +94,11 @@ fn new_case(alloc: Global) -> Result<Case, NoMemory> {
 }
 
 fn set_limit(limits: &mut Limits, word: &str, number: &str) {
-    let Ok(number) = number.parse::<u32>() else {
+    if word != "pages" {
         return;
-    };
-    match word {
-        "pages" => limits.pages = number,
-        "snaps" => limits.snaps = number,
-        "entries" => limits.entries = number,
-        _ => {}
+    }
+    if let Ok(number) = number.parse::<u32>() {
+        limits.pages = number;
     }
 }
 
@@ -110,14 +107,13 @@ fn say(alloc: Global, case: &mut Case, line: &str, out: &mut Bytes) -> Result<()
     if let Some(s) = session_of(word) {
         return add_line(&mut case.scripts, s, rest);
     }
-    let turns = word == "turns";
-    let events = word == "events";
     match word {
         "-" => *case = new_case(alloc)?,
         "base" => add_line(&mut case.scripts, FIRST, BASE)?,
-        "run" | "turns" | "events" => {
-            run_scripts(alloc, case, rest, Tells { turns, events }, out)?;
-        }
+        "run" => run_scripts(alloc, case, rest, Drive::Turns, out)?,
+        "turns" => run_scripts(alloc, case, rest, Drive::Told, out)?,
+        "events" => run_scripts(alloc, case, rest, Drive::Events, out)?,
+        "steps" => run_scripts(alloc, case, rest, Drive::Steps, out)?,
         _ => set_limit(&mut case.limits, word, rest),
     }
     Ok(())

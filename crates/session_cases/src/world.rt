@@ -20,9 +20,10 @@ const MAX_ITEMS: u32 = 20_000;
 /// A turn has so many steps at most.
 const MAX_STEPS: u32 = 100_000;
 
-/// What a turn of several steps came to.
+/// What a step, or a turn of several, came to.
 #[derive(Clone, Copy, PartialEq, Eq)]
 pub enum Came {
+    Moved,
     Answered,
     Rests,
     Over,
@@ -86,23 +87,35 @@ impl<O: Origin> World<O> {
         Ok(World { cluster })
     }
 
+    /// A step of a session, or of the recovery for which it has to wait.
+    pub fn step(&mut self, s: Session) -> Came
+        requires session { IsSession O.sessions s.number }
+    {
+        let before = self.cluster.events().len();
+        match self.cluster.turn(s) {
+            Turn::Moved => {}
+            Turn::Asleep(_) => return Came::Rests,
+            Turn::Frozen => {
+                let _turn = self.cluster.recover();
+            }
+            Turn::Ended => return Came::Over,
+            Turn::Stopped => return Came::Stopped,
+        }
+        if is_answered(self.cluster.events(), before, s) {
+            Came::Answered
+        } else {
+            Came::Moved
+        }
+    }
+
     /// A turn of a session: its steps up to an answer, or until it rests.
     pub fn turn(&mut self, s: Session) -> Came
         requires session { IsSession O.sessions s.number }
     {
         for _ in 0..MAX_STEPS {
-            let before = self.cluster.events().len();
-            match self.cluster.turn(s) {
-                Turn::Moved => {}
-                Turn::Asleep(_) => return Came::Rests,
-                Turn::Frozen => {
-                    let _turn = self.cluster.recover();
-                }
-                Turn::Ended => return Came::Over,
-                Turn::Stopped => return Came::Stopped,
-            }
-            if is_answered(self.cluster.events(), before, s) {
-                return Came::Answered;
+            match self.step(s) {
+                Came::Moved => {}
+                came => return came,
             }
         }
         Came::Stopped
