@@ -52,7 +52,7 @@ impl Statements for ReservingStatements {
     ghost lasts = { lasts };
 }
 
-// The locks of reservations, by the catalog of what is known.
+// The locks of reservations, by the catalog of what is known. Where nothing is reserved that needn't be known.
 fn locks_by_catalog(
     alloc: Global,
     known: &Known,
@@ -60,6 +60,9 @@ fn locks_by_catalog(
 ) -> Result<LockNeeds, Unnamed>
     ensures { IfOk result (λ locks. WhereItAgrees IsSoundWith (knows known.now) (λ t. AreLocksOf reserved.now t locks)) }
 {
+    if reserved.is_empty() {
+        return Ok(LockNeeds::new(alloc));
+    }
     match read_catalog(alloc, known) {
         Ok(catalog) => locks_in(alloc, &catalog.tables, reserved),
         Err(Stop::NoMemory) => Err(Unnamed::NoMemory),
