@@ -1,4 +1,3 @@
-use Rattle.std.proofs.Common.{⊥}
 use Rattle.session_cases.proofs.Opening.{opening}
 use Rattle.session_cases.proofs.run_scripts.Given as goal
 
