@@ -181,12 +181,17 @@ fn tell_answers<O: Origin>(
     Ok(())
 }
 
-/// Drives the sessions of these scripts, and tells of it.
+// The words of an order.
+fn words_of(order: &[u8]) -> &str {
+    std::str::from_utf8(order).unwrap_or("")
+}
+
+/// Drives the sessions of these scripts, and tells of it. (The order is bytes, since a call that picks what a run began with takes no text.)
 pub fn run<O: Origin>(
     alloc: Global,
     limits: Limits,
     scripts: Vec<ItemQueue>,
-    order: &str,
+    order: &[u8],
     drive: Drive,
     out: &mut Bytes,
 ) -> Result<(), NoMemory>
@@ -201,8 +206,8 @@ pub fn run<O: Origin>(
     drive_first(&mut world);
     let first = world.events().len();
     match drive {
-        Drive::Steps => drive_steps(&mut world, order),
-        _ => drive_order(&mut world, order, drive, out)?,
+        Drive::Steps => drive_steps(&mut world, words_of(order)),
+        _ => drive_order(&mut world, words_of(order), drive, out)?,
     }
     drive_rounds(&mut world, out)?;
     if drive == Drive::Events {

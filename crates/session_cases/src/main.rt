@@ -76,7 +76,7 @@ fn run_scripts(
     if queues.len() != SESSIONS as usize {
         return Ok(());
     }
-    run::<Brand>(alloc, case.limits, queues, order, drive, out)
+    run::<Brand>(alloc, case.limits, queues, order.as_bytes(), drive, out)
 }
 
 /// What a case has so far.
