@@ -1,14 +1,10 @@
 -- What the sessions of a case begin with: their scripts. Nothing is told of the store, and each may die of any cause.
-use Rattle.std.proofs.Common.{◌≡◌, ℕ, zero, suc, List, [], true, false, map, replicate, refl, ap, Option, Some, None, slice_get}
+use Rattle.std.proofs.Common.{ℕ, zero, suc, List, [], true, false, map, Option, Some, None, slice_get}
 use Rattle.rdo_ast.specs.declared.syntax.Item.{Item}
 use Rattle.rdo_ast.specs.Tree.{Uttered}
 use Rattle.rdo_ast.specs.Views.{uttered_of}
 use Rattle.rdb_meaning.specs.Contents.{no_tables}
 use Rattle.rdb_account.specs.Places.{Opening}
-use Rattle.line_store.specs.Seats.{outside}
-use Rattle.memory_store.specs.declared.seat.Seat.TheVariants as held
-use Rattle.memory_store.specs.Kept.{seat_at}
-use Rattle.line_cluster.specs.Sound.{FollowsScripts}
 
 abbrev pub uttered_in : Option (List Item) → List Uttered
 uttered_in (Some items) = map uttered_of items
@@ -30,12 +26,3 @@ opening scripts = record {
   moment = 0;
   may_die = λ s cause. true;
 }
-
-pub follows : (scripts : List (List Item)) → FollowsScripts (opening scripts) scripts
-follows scripts i items found = ap uttered_in found
-
--- no session has a transaction open where the seats are empty
-pub none-open : (n s : ℕ) → seat_at (replicate n held.Outside) s ≡ outside
-none-open zero s = refl
-none-open (suc n) zero = refl
-none-open (suc n) (suc s) = none-open n s
