@@ -189,7 +189,7 @@ impl<O: Origin> Driven for Cluster<O> {
     }
 
     fn die(&mut self, _s: Session) {
-        let _ = &self.core;
+        unreachable!()
     }
 
     fn recover_step(&mut self) -> Step<()> {

@@ -8,3 +8,4 @@ pub mod PageOwners
 pub mod Nearer
 pub mod EachMoment
 pub mod Pages
+pub mod Others

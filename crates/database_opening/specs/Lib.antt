@@ -1,3 +1,4 @@
+pub mod Others
 pub mod Owners
 pub mod Reading
 pub mod Stages

@@ -9,6 +9,7 @@ ghost use Rattle.stable_lines.specs.Journal.{Journal};
 ghost use Rattle.stable_lines.specs.Kept.{Kept};
 ghost use Rattle.line_moves.specs.Classes.{HaveTheirClasses};
 ghost use Rattle.database_opening.specs.declared.stages.OpeningStage.TheVariants.{Undoing, Restoring, Closing, Opened};
+ghost use Rattle.database_opening.specs.Others.{IsOther, KeepsFile};
 ghost use Rattle.database_opening.specs.Stages.{OpeningFacts, IsStage, steps_left};
 ghost use Rattle.database_opening.specs.Untouched.{KeepsRootAndSpaces};
 
@@ -71,6 +72,8 @@ fn undo_entries<D: Disk>(
         → HaveTheirClasses by_area (D.view disk.new).content }
     ensures untouched { IsTrue (D.view disk.old).tells
         → KeepsRootAndSpaces (D.view disk.old).content (D.view disk.new).content }
+    ensures others { IsTrue (D.view disk.old).tells → (file : File) → IsOther file
+        → KeepsFile file (D.view disk.old) (D.view disk.new) }
 {
     if entries == 0 {
         return Ok(behind(&found.counts, member));
@@ -114,6 +117,8 @@ fn close_header<D: Disk>(disk: &mut D, member: u32) -> Result<OpeningStage, Faul
         → HaveTheirClasses by_area (D.view disk.new).content }
     ensures untouched { IsTrue (D.view disk.old).tells
         → KeepsRootAndSpaces (D.view disk.old).content (D.view disk.new).content }
+    ensures others { IsTrue (D.view disk.old).tells → (file : File) → IsOther file
+        → KeepsFile file (D.view disk.old) (D.view disk.new) }
 {
     let next = close_next(disk, member)?;
     if next > 16 {
@@ -178,6 +183,10 @@ pub fn step<D: Disk>(
         → HaveTheirClasses by_area (D.view disk.new).content }
     ensures untouched { IsTrue (D.view disk.old).tells
         → KeepsRootAndSpaces (D.view disk.old).content (D.view disk.new).content }
+
+    // It writes no other file.
+    ensures others { IsTrue (D.view disk.old).tells → (file : File) → IsOther file
+        → KeepsFile file (D.view disk.old) (D.view disk.new) }
 {
     match stage {
         OpeningStage::Undoing { member, entries } => undo_entries(disk, found, member, entries),

@@ -9,6 +9,7 @@ ghost use Rattle.stable_lines.specs.Journal.{Journal};
 ghost use Rattle.stable_lines.specs.Kept.{Kept};
 ghost use Rattle.line_moves.specs.Classes.{HaveTheirClasses};
 ghost use Rattle.database_opening.specs.declared.stages.OpeningStage.TheVariants.{Opened};
+ghost use Rattle.database_opening.specs.Others.{IsOther, KeepsFile};
 ghost use Rattle.database_opening.specs.Start.{IsStart};
 ghost use Rattle.database_opening.specs.Untouched.{KeepsRootAndSpaces};
 
@@ -64,6 +65,10 @@ pub fn open_database<D: Disk>(disk: &mut D) -> Result<StoreStart, Fault>
         → HaveTheirClasses by_area (D.view disk.new).content }
     ensures untouched { IsTrue (D.view disk.old).tells
         → KeepsRootAndSpaces (D.view disk.old).content (D.view disk.new).content }
+
+    // Whatever it answers, it writes no file but areas and before-image journals: the after-image journal, what was kept of it, and backups are as they were.
+    ensures others { IsTrue (D.view disk.old).tells → (file : File) → IsOther file
+        → KeepsFile file (D.view disk.old) (D.view disk.new) }
 {
     let opening = begin(disk)?;
     let mut stage = opening.stage;

@@ -1,19 +1,16 @@
 -- A session begins to read.
-use Rattle.std.proofs.Common.{◌≡◌, ◌==◌, ℕ, Bool, true, false, List, [], Option, Some, None, inl, refl, sym, ap, subst, ◌∙◌, arith}
+use Rattle.std.proofs.Common.{◌≡◌, ◌==◌, ℕ, Bool, true, false, List, [], Some, inl, refl, sym, ap, subst, ◌∙◌, arith}
 use Rattle.std.specs.Prelude.{slice_get, if◌then◌else◌}
 use Rattle.std.proofs.lemmas.Bool.{eqb-true}
 use Rattle.std.proofs.lemmas.Option.{same_Some, none-some}
-use Rattle.rdb_types.specs.declared.keys.Dbkey.{Dbkey}
-use Rattle.rdb_page.specs.Page.{IsOwner}
 use Rattle.rdb_outside.specs.Disk.{View}
 use Rattle.line_view.specs.declared.writes.Write.{Write}
 use Rattle.line_view.specs.Knowledge.{Lines, IsInOrder, line_in}
 use Rattle.line_versions.specs.Course.{Course, Reading, begun}
-use Rattle.line_store.specs.Seats.{Seat, outside, reading, in_flight}
+use Rattle.line_store.specs.Seats.{outside, reading, in_flight}
 use Rattle.line_store.specs.Shelves.{Shelf, seen_from}
 use Rattle.line_store.specs.Calls.{Moves}
 use Rattle.line_store.specs.Sights.{bare, Does, BeginsReading}
-use Rattle.stable_lines.specs.Slots.{IsAreaFile}
 use Rattle.disk_seats.specs.Ledgers.{resting, Ledger, Commit}
 use Rattle.disk_versions.specs.Courses.{course_reading}
 use Rattle.ledger_versions.proofs.Written.{reader_begins}

@@ -5,6 +5,7 @@ use Rattle.stable_lines.specs.Slots.{area_file}
 use Rattle.member_steps.specs.declared.committing.CommitTurn.{CommitTurn}
 use Rattle.member_steps.specs.declared.committing.CommitTurn.TheVariants.{Entering, Securing, Going}
 use Rattle.line_moves.specs.Lines.{ChangedLines}
+use Rattle.line_moves.specs.Classes.{HasItsClass, HaveTheirClasses}
 use Rattle.member_steps.specs.Turns.{commit_of_plan}
 use Rattle.area_files.specs.Areas.{IsDataPage, space_page_of}
 use Rattle.space_pages.specs.Space.{owner_of}
@@ -39,7 +40,11 @@ SameSpaces v w = (file page : ℕ) → IsDataPage page → w.content (area_file 
 abbrev pub SameAreas : View → View → Type 0
 SameAreas v w = (file slot : ℕ) → w.content (area_file file) slot ≡ v.content (area_file file) slot
 
-module _ (v w : View) (g h : Ledger) (t : ℕ) (same : SameSpaces v w) (stays : StaysWith t g h) where
+-- pages keep the classes of their areas
+abbrev pub KeepClasses : View → View → Type 0
+KeepClasses v w = (classes : ℕ → ℕ) → HaveTheirClasses classes v.content → HaveTheirClasses classes w.content
+
+module _ (v w : View) (g h : Ledger) (t : ℕ) (same : SameSpaces v w) (keep : KeepClasses v w) (stays : StaysWith t g h) where
   pub rests : g.standing t ≡ resting → h.standing t ≡ resting
   rests was = elim stays.standing [ inl is ↦ is ∙ was | inr is ↦ is ∙ ap gained was ]
 
@@ -80,7 +85,7 @@ module _ (v w : View) (g h : Ledger) (t : ℕ) (same : SameSpaces v w) (stays : 
   journalled : (m : Member) → HasJournalled g t m → HasJournalled h t m
   journalled m has = record { begun = begun m has.begun; all_written = has.all_written }
 
-  commit-of : (m : Member) (at : _) → IsCommitOf g t m at → IsCommitOf h t m at
+  abbrev commit-of : (m : Member) (at : _) → IsCommitOf g t m at → IsCommitOf h t m at
   commit-of m at is = record { plan = is.plan; its = is.its; number = is.number; lines = is.lines; long = is.long; count = is.count; keys = is.keys; under_way = stays.commit (commit_of_plan is.plan at) is.its is.under_way }
 
   owned : (lines : ChangedLines) (n : ℕ) → AreOwned v.content lines n → AreOwned w.content lines n
@@ -95,7 +100,7 @@ module _ (v w : View) (g h : Ledger) (t : ℕ) (same : SameSpaces v w) (stays : 
   turns : (turn : CommitTurn) (m : Member) → TurnStands turn v g t m → TurnStands turn w h t m
   turns (Entering at) m is = entered m at is
   turns Securing m is = entered m (length m.written.lines) is
-  turns (Going at) m is = commit-of m at is
+  turns (Going at) m is = record { commit = commit-of m at is.commit; classes = is.classes; of_areas = is.of_areas; lie = keep is.commit.plan.flight.classes is.lie }
 
   recovers : (left : Recovery) (m : Member) → RecoveryStands left g t m → RecoveryStands left h t m
   recovers recovery.Ending m is = rests is
@@ -119,5 +124,8 @@ module _ (v w : View) (g h : Ledger) (t : ℕ) (same : SameSpaces v w) (stays : 
   pub stays-with : (m : Member) → StageStands m.stage v g t m → StageStands m.stage w h t m
   stays-with m is = stage-stays m.stage m is
 
+pub same-classes : (v w : View) → SameAreas v w → KeepClasses v w
+same-classes v w same classes was file number is plain = subst (λ bytes. HasItsClass classes bytes) (sym (same file (number - 1))) (was file number is plain)
+
 pub stays-there : (v w : View) (g h : Ledger) (t : ℕ) → SameAreas v w → StaysOf t g h → (m : Member) → StageStands m.stage v g t m → StageStands m.stage w h t m
-stays-there v w g h t same stays = stays-with v w g h t (λ file page is. same file (space_page_of page - 1)) (record { standing = stays.standing; going = stays.going; commit = λ c own is. stays.commit ∙ is })
+stays-there v w g h t same stays = stays-with v w g h t (λ file page is. same file (space_page_of page - 1)) (same-classes v w same) (record { standing = stays.standing; going = stays.going; commit = λ c own is. stays.commit ∙ is })

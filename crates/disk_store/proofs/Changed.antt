@@ -1,5 +1,5 @@
 -- A statement's writes are laid: what is shown behind it.
-use Rattle.std.proofs.Common.{◌≡◌, ◌≢◌, ◌≤◌, ◌<◌, ◌+◌, ◌-◌, ◌==◌, ◌⊎◌, ℕ, zero, suc, Bool, true, false, List, [], ◌∷◌, length, Option, Some, None, inl, inr, refl, sym, ap, subst, ◌∙◌, arith}
+use Rattle.std.proofs.Common.{◌≡◌, ◌≤◌, ◌<◌, ◌+◌, ◌==◌, ℕ, zero, suc, Bool, true, false, List, [], ◌∷◌, length, Option, Some, None, inl, refl, sym, ap, subst, ◌∙◌, arith}
 use Rattle.std.specs.Prelude.{slice_get, if◌then◌else◌, is_some}
 use Rattle.std.specs.FinMap.Entries.{find}
 use Rattle.std.proofs.lemmas.Bool.{false≢true}
@@ -13,17 +13,15 @@ use Rattle.line_view.specs.Knowledge.{Lines}
 use Rattle.line_store.specs.Seats.{changing, in_flight, lines_added, writes_of, Adds}
 use Rattle.line_store.specs.Shelves.{Shelf, Space}
 use Rattle.line_store.specs.Calls.{Changes, TakesSlots}
-use Rattle.line_store.specs.Sights.{bare, Does}
-use Rattle.snapshot_file.specs.Slots.{left_in}
+use Rattle.line_store.specs.Sights.{Does}
 use Rattle.line_versions.specs.Versions.{Followed}
-use Rattle.stable_lines.specs.Slots.{IsAreaFile, Undo}
 use Rattle.line_moves.specs.Lines.{ChangedLines}
 use Rattle.version_writing.specs.Slots.{SlotTable, HoldsFile, with_aside}
-use Rattle.version_writing.specs.Tables.{table_of, HoldsAll}
+use Rattle.version_writing.specs.Tables.{HoldsAll}
 use Rattle.version_writing.specs.declared.snapshot_slots.SnapshotSlots.{SnapshotSlots}
 use Rattle.version_writing.specs.declared.snapshot_slots.Wanted.{Wanted}
 use Rattle.disk_seats.specs.Ledgers.{Ledger}
-use Rattle.ledger_versions.specs.Readers.{HasVersionOf, Waiting}
+use Rattle.ledger_versions.specs.Readers.{HasVersionOf}
 use Rattle.member_memory.specs.Memory.{Memory, AreKeysOf, writes_in}
 use Rattle.member_memory.specs.Changes.{Lays}
 use Rattle.member_memory.proofs.Growing.{has-it}
@@ -31,9 +29,9 @@ use Rattle.member_memory.proofs.Laying.{lays}
 use Rattle.disk_store.specs.declared.member.Member.{Member}
 use Rattle.disk_store.specs.declared.member.MemberStage.TheVariants as stage
 use Rattle.disk_store.specs.Memory.{StoreMemory, with_member}
-use Rattle.disk_store.specs.Seats.{seat_with, stand_of}
+use Rattle.disk_store.specs.Seats.{seat_with}
 use Rattle.disk_store.specs.Standing.{HasBegun, HasJournalled, StageStands}
-use Rattle.disk_store.specs.Shown.{IsPushed, WaitPushed, WaitsAs, SpaceStands, Shown, used_in, sight_of}
+use Rattle.disk_store.specs.Shown.{IsPushed, WaitPushed, WaitsAs, Shown, used_in, sight_of}
 use Rattle.disk_store.specs.Sound.{IsSound}
 use Rattle.disk_store.specs.Changing.{LaysOver, all_of, with_asides, changing_with}
 use Rattle.disk_store.proofs.Members.{get-within}
@@ -149,7 +147,7 @@ module _ (v : View) (held : StoreMemory) (s : ℕ) (m : Member) (more : List Wri
       facts = shown.facts;
       limits = refl;
       none = λ t apart rests. rests;
-      others = λ t x apart stood. stays-there v v g g t (λ file slot. refl) (record { standing = inl refl; going = refl; commit = refl }) x stood;
+      others = λ t x apart got stood. stays-there v v g g t (λ file slot. refl) (record { standing = inl refl; going = refl; commit = refl }) x stood;
       mine = begun;
       numbered = record { number = shown.numbers.number; first = shown.numbers.first; ceiling = shown.numbers.ceiling; group = shown.numbers.group };
       kept = kept-stays held.members s held.numbers.next held.numbers.written m next was (omega arith) shown.kept;

@@ -26,7 +26,7 @@ use Rattle.disk_store.specs.declared.member.Recovery.TheVariants as recovery
 use Rattle.disk_store.specs.Dying.{going_to, recovery_at, dead_at, has_none, forgotten}
 use Rattle.disk_store.specs.Memory.{StoreMemory, with_member, at_stage}
 use Rattle.disk_store.specs.Seats.{seat_with, stand_of, stand_at}
-use Rattle.disk_store.specs.Standing.{IsCommitOf, StageStands}
+use Rattle.disk_store.specs.Standing.{IsCommitOf, IsGoing, StageStands}
 use Rattle.disk_store.specs.Shown.{Shown, sight_of}
 use Rattle.disk_store.proofs.Moving.{itself}
 use Rattle.disk_store.proofs.Kept.{kept-stays}
@@ -83,7 +83,7 @@ module _ (v : View) (held : StoreMemory) (s : ℕ) (m : Member) (was : slice_get
 
   module _ (at-turn : CommitStage) (at : m.stage ≡ stage.Committing (Going at-turn)) where
     turned : (g : Ledger) → StageStands m.stage v g s m → IsCommitOf g s m at-turn
-    turned g stands = subst (λ x. StageStands x v g s m) at stands
+    turned g stands = let going : IsGoing v g s m at-turn = subst (λ x. StageStands x v g s m) at stands in going.commit
 
     -- its group flies: it stays under way
     judged : flies at-turn ≡ true → DiesAs (at_stage (stage.Dead true recovery.Judging) m)
@@ -136,7 +136,7 @@ module _ (v : View) (held : StoreMemory) (s : ℕ) (m : Member) (was : slice_get
           facts = given_facts v g c shown.facts is.under_way grounded;
           limits = refl;
           none = λ t apart rests. beside-it t apart ∙ rests;
-          others = λ t x apart stood. stays-with v v g after t (λ file page is. refl) (stays t apart) x stood;
+          others = λ t x apart got stood. stays-with v v g after t (λ file page is. refl) (λ classes was. was) (stays t apart) x stood;
           mine = record { transaction = c.transaction; all = is.plan.all; stands = own; is_open = ap (λ k. g.base.going k) (sym is.its) ∙ old.is.is_open; number = sym is.number; count = is.count; keys = is.keys };
           numbered = record { number = shown.numbers.number; first = shown.numbers.first; ceiling = shown.numbers.ceiling; group = shown.numbers.group };
           kept = kept-stays held.members s held.numbers.next held.numbers.written m n was (omega arith) shown.kept;

@@ -126,7 +126,7 @@ module _ (v w : View) (held : StoreMemory) (s ceiling : ℕ) (m : Member) (asked
       facts = facts;
       limits = refl;
       none = λ t apart rests. ap (λ b. if b then changing [] 0 else g.standing t) apart ∙ rests;
-      others = λ t x apart stands. stays-there v w g (begun_by s g) t p.areas (stays t apart) x stands;
+      others = λ t x apart got stands. stays-there v w g (begun_by s g) t p.areas (stays t apart) x stands;
       mine = mine;
       numbered = record { number = ap (λ k. k + 1) shown.numbers.number; first = omega (arith, shown.numbers.first); ceiling = ceiling-behind; group = record { in_slot = shown.numbers.group.in_slot; numbered = shown.numbers.group.numbered } };
       kept = draws.free;

@@ -111,7 +111,7 @@ module _ (v : View) (held : StoreMemory) (s : ℕ) (m : Member) (was : slice_get
       facts = ended_facts v g s shown.facts (may g stands) (not_ending v g s shown.facts (may g stands));
       limits = refl;
       none = λ t apart rests. ap (λ b. if b then resting else g.standing t) apart ∙ rests;
-      others = λ t x apart stands. stays-there v v g (ended_by s g) t (λ file slot. refl) (stays t apart) x stands;
+      others = λ t x apart got stands. stays-there v v g (ended_by s g) t (λ file slot. refl) (stays t apart) x stands;
       mine = rests-next (ended_by s g) rests;
       numbered = record { number = shown.numbers.number; first = shown.numbers.first; ceiling = shown.numbers.ceiling; group = record { in_slot = shown.numbers.group.in_slot; numbered = shown.numbers.group.numbered } };
       kept = kept-stays held.members s held.numbers.next held.numbers.written m n was (omega (arith, free)) shown.kept;
@@ -130,9 +130,15 @@ module _ (v : View) (held : StoreMemory) (s : ℕ) (m : Member) (was : slice_get
     }
 
   -- the call of the trait that comes to this
+  pub does-end-at : (there : Seat) (R : Shelf → Shelf → Type 0) → bare (seat_with next [] []) ≡ bare there →
+      ((h g : Shelf) (start : Lines) → h.seat s ≡ seat_with m.stage (writes_in m.written.lines) start → g.clock.time ≡ v.moment → Moves s (seat_with next (writes_in m.written.lines) start) h g → R h g) →
+      Does s there R (sight_of v held) (sight_of v (with_member s n held))
+  does-end-at there R arrives as-asked =
+      does-apart v v held (record (with_member s n held) { numbers = held.numbers }) s m n was (becomes-member held held.numbers s n) plain refl (none-leaves v) ends-now (omega arith) (omega arith) there R arrives
+      (λ h shown stands c is. not_ending v shown.ledger s shown.facts (may shown.ledger stands) c is) (λ h shown stands. record { lines = refl; commit = refl }) space-same (λ h g start related moves. as-asked h g start related.seat related.time_behind moves)
+
+  -- at whatever moment
   pub does-end : (there : Seat) (R : Shelf → Shelf → Type 0) → bare (seat_with next [] []) ≡ bare there →
       ((h g : Shelf) (start : Lines) → h.seat s ≡ seat_with m.stage (writes_in m.written.lines) start → Moves s (seat_with next (writes_in m.written.lines) start) h g → R h g) →
       Does s there R (sight_of v held) (sight_of v (with_member s n held))
-  does-end there R arrives as-asked =
-      does-apart v v held (record (with_member s n held) { numbers = held.numbers }) s m n was (becomes-member held held.numbers s n) plain refl (none-leaves v) ends-now (omega arith) (omega arith) there R arrives
-      (λ h shown stands c is. not_ending v shown.ledger s shown.facts (may shown.ledger stands) c is) (λ h shown stands. record { lines = refl; commit = refl }) space-same (λ h g start related moves. as-asked h g start related.seat moves)
+  does-end there R arrives as-asked = does-end-at there R arrives (λ h g start seat time moves. as-asked h g start seat moves)

@@ -48,7 +48,7 @@ has-number (x ∷ xs) zero m t at goes same = let e : m ≡ x = sym (same_Some _
 has-number (x ∷ xs) (suc i) m t at goes same = any-later x xs t (has-number xs i m t at goes same)
 
 -- a member whose transaction goes on has this number
-record Numbered (ms : List Member) (t : ℕ) : Type 0 where
+pub record Numbered (ms : List Member) (t : ℕ) : Type 0 where
   pub place : ℕ
   pub member : Member
   pub at : slice_get ms place ≡ Some member
@@ -58,7 +58,7 @@ record Numbered (ms : List Member) (t : ℕ) : Type 0 where
 behind-one : (x : Member) (xs : List Member) (t : ℕ) → Numbered xs t → Numbered (x ∷ xs) t
 behind-one x xs t n = record { place = suc n.place; member = n.member; at = n.at; goes = n.goes; number = n.number }
 
-numbered : (ms : List Member) (t : ℕ) → list_any (is t) (numbers_going ms) ≡ true → Numbered ms t
+pub numbered : (ms : List Member) (t : ℕ) → list_any (is t) (numbers_going ms) ≡ true → Numbered ms t
 numbered [] t any = absurd (true≢false (sym any))
 numbered (x ∷ xs) t any = by (λ more. behind-one x xs t (numbered xs t more)) (goes_at x.stage) refl any
   where
@@ -105,7 +105,7 @@ module _ (v : View) (held : StoreMemory) (h : Shelf) (shown : Shown v held h) wh
   opens s m stage.Prepared x goes = begun s m x.begun
   opens s m (stage.Committing (Entering n)) x goes = begun s m x.journalled.begun
   opens s m (stage.Committing Securing) x goes = begun s m x.journalled.begun
-  opens s m (stage.Committing (Going n)) x goes = commits s m n x
+  opens s m (stage.Committing (Going n)) x goes = commits s m n x.commit
   opens s m stage.RollingBack x goes = absurd (true≢false (sym goes))
   opens s m stage.Closing x goes = absurd (true≢false (sym goes))
   opens s m stage.Reading x goes = absurd (true≢false (sym goes))

@@ -73,7 +73,7 @@ module _ (v : View) (held : StoreMemory) (h : Shelf) (shown : Shown v held h) wh
       by stage.Prepared x at = absurd (none-some _ at)
       by (stage.Committing (Entering n)) x at = absurd (none-some _ at)
       by (stage.Committing Securing) x at = absurd (none-some _ at)
-      by (stage.Committing (Going n)) x at = of_commit s m n x
+      by (stage.Committing (Going n)) x at = of_commit s m n x.commit
       by stage.RollingBack x at = absurd (none-some _ at)
       by stage.Closing x at = absurd (none-some _ at)
       by stage.Reading x at = absurd (none-some _ at)

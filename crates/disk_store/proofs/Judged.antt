@@ -28,13 +28,13 @@ use Rattle.disk_store.specs.Standing.{IsJudged, StageStands}
 use Rattle.disk_store.specs.Shown.{Shown, sight_of}
 use Rattle.disk_store.proofs.Moving.{itself}
 use Rattle.disk_store.proofs.Kept.{kept-stays}
-use Rattle.disk_store.proofs.Beside.{StaysWith, stays-with}
+use Rattle.disk_store.proofs.Beside.{StaysWith, same-classes, stays-with}
 use Rattle.disk_store.proofs.Stepping.{ComesTo, does-moves, becomes-member, space-same}
 use Rattle.disk_store.proofs.Passing.{Passes, passes-reads, reads-leave, reads-ceiling, tables-pass, slots-pass}
 
 module _ (v w : View) (held : StoreMemory) (s : ℕ) (m : Member) (commits : Bool) (was : slice_get held.members s ≡ Some m) (at : m.stage ≡ stage.Dead commits recovery.Judging) (only : OnlyReads v w)
     (keeps : IsTrue v.tells → (g : Ledger) → LedgerFacts v g → LedgerFacts w g) (stable : IsTrue v.tells → IsStable w) where
-  judged-at : (g : Ledger) → StageStands m.stage v g s m → IsJudged g s m
+  pub judged-at : (g : Ledger) → StageStands m.stage v g s m → IsJudged g s m
   judged-at g stands = subst (λ x. StageStands x v g s m) at stands
 
   module _ (h : Shelf) (shown : Shown v held h) (stands : StageStands m.stage v shown.ledger s m) where
@@ -47,17 +47,17 @@ module _ (v w : View) (held : StoreMemory) (s : ℕ) (m : Member) (commits : Boo
     abbrev c : Commit
     c = commit_of_plan j.commit.plan j.at
 
-    facts : LedgerFacts w g
+    pub facts : LedgerFacts w g
     facts = keeps shown.tells g shown.facts
 
-    its : CommitStands w g.base g.standing c
+    pub its : CommitStands w g.base g.standing c
     its = facts.commit c j.commit.under_way
 
     p : Passes v w
     p = passes-reads v w shown.tells only
 
     -- where its commit slot is, by memory
-    as-held : IsItsCommit (flying c.flight g.base) c.flight held.next.slot held.next.number m.tsn (length m.written.lines)
+    pub as-held : IsItsCommit (flying c.flight g.base) c.flight held.next.slot held.next.number m.tsn (length m.written.lines)
     as-held =
         let it = commit_of_it g.base c.member c.transaction c.place c.lines c.classes c.flight j.commit.long its.is in
         record {
@@ -68,7 +68,7 @@ module _ (v w : View) (held : StoreMemory) (s : ℕ) (m : Member) (commits : Boo
           count = ap (λ (l : ChangedLines). length l) (sym j.commit.lines) ∙ it.count;
         }
 
-    slot-is : held.next.slot + length m.written.lines ≡ c.place.slot + length c.lines
+    pub slot-is : held.next.slot + length m.written.lines ≡ c.place.slot + length c.lines
     slot-is =
         let first : held.next.slot ≡ c.place.slot = shown.numbers.group.in_slot ∙ sym its.is.in_slot in
         let count : length m.written.lines ≡ length c.lines = ap (λ (l : ChangedLines). length l) (sym j.commit.lines) in
@@ -117,7 +117,7 @@ module _ (v w : View) (held : StoreMemory) (s : ℕ) (m : Member) (commits : Boo
             facts = lost-now;
             limits = refl;
             none = λ t apart rests. beside-it t apart ∙ rests;
-            others = λ t x apart stood. stays-with v w shown.ledger after t (λ file page is. it.areas file _) (stays t apart) x stood;
+            others = λ t x apart got stood. stays-with v w shown.ledger after t (λ file page is. it.areas file _) (same-classes v w it.areas) (stays t apart) x stood;
             mine = record { transaction = (c h shown stands).transaction; all = is.plan.all; stands = own; is_open = ap (λ k. shown.ledger.base.going k) (sym is.its) ∙ old.is.is_open; number = sym is.number; count = is.count; keys = is.keys };
             numbered = record { number = shown.numbers.number; first = shown.numbers.first; ceiling = reads-ceiling v w shown.tells only held.numbers shown.numbers.ceiling; group = shown.numbers.group };
             kept = kept-stays held.members s held.numbers.next held.numbers.written m n was (omega arith) shown.kept;

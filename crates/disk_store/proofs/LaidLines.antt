@@ -1,6 +1,6 @@
 -- A memory stays sound behind writes that are laid over a session's lines.
-use Rattle.std.proofs.Common.{◌≡◌, ◌≢◌, ◌≤◌, ◌<◌, ◌+◌, ◌^◌, ◌==◌, ◌||◌, ℕ, zero, suc, Bool, true, false, if◌then◌else◌, cond, List, [], ◌∷◌, length, Option, Some, None, ◌⊎◌, inl, inr, refl, sym, ap, subst, ◌∙◌, arith}
-use Rattle.std.specs.Prelude.{slice_get, slice_set, option_map}
+use Rattle.std.proofs.Common.{◌≡◌, ◌<◌, ◌+◌, ◌^◌, ◌==◌, ◌||◌, ℕ, suc, Bool, true, false, if◌then◌else◌, List, [], ◌∷◌, length, Option, Some, None, ◌⊎◌, inl, inr, refl, sym, ap, subst, ◌∙◌, arith}
+use Rattle.std.specs.Prelude.{slice_get, option_map}
 use Rattle.std.specs.Ordering.{is_eq}
 use Rattle.std.specs.FinMap.Entries.{find}
 use Rattle.std.proofs.lemmas.Bool.{false≢true, eqb-true}
@@ -11,22 +11,20 @@ use Rattle.rdb_types.specs.declared.keys.Tsn.{Tsn}
 use Rattle.rdb_types.specs.Order.{dbkey_order}
 use Rattle.rdb_types.specs.OrderLaws.{same_dbkey}
 use Rattle.line_view.specs.declared.writes.Write.{Write}
-use Rattle.line_store.specs.Seats.{is_written, lines_added}
-use Rattle.stable_lines.specs.Slots.{IsAreaFile}
+use Rattle.line_store.specs.Seats.{is_written}
 use Rattle.version_writing.specs.Tables.{table_of}
 use Rattle.version_writing.specs.declared.snapshot_slots.Wanted.{Wanted}
 use Rattle.version_writing.specs.declared.snapshot_slots.SnapshotSlots.{SnapshotSlots}
-use Rattle.member_memory.specs.Memory.{Memory, AreKeysOf, writes_in}
-use Rattle.member_memory.specs.Changes.{Grows, blank, rewritten, rewritten_all}
+use Rattle.member_memory.specs.Memory.{Memory, AreKeysOf}
+use Rattle.member_memory.specs.Changes.{blank, rewritten}
 use Rattle.member_memory.proofs.Growing.{tied, grown-found, grown-kept}
 use Rattle.member_memory.proofs.Rewriting.{rewritten_if, rewritten_by, found-rewritten, rewritten-kept, kept-by}
 use Rattle.disk_store.specs.declared.member.Member.{Member}
 use Rattle.disk_store.specs.declared.held.Tables.{Tables}
 use Rattle.disk_store.specs.Memory.{StoreMemory, with_member}
-use Rattle.disk_store.specs.Sound.{LiesIn, IsSoundMember, WroteApart, wanted_in, aside_in, IsSound}
+use Rattle.disk_store.specs.Sound.{LiesIn, IsSoundMember, wanted_in, IsSound}
 use Rattle.disk_store.specs.Changing.{HasPlace, IsFreeFor, AreFit, LaysOver, with_asides, changing_with}
 use Rattle.disk_store.proofs.Members.{set-either}
-use Rattle.disk_store.proofs.Moving.{itself}
 use Rattle.disk_store.proofs.Sound.{sum-set}
 
 -- ---- lines lie where writes have a place

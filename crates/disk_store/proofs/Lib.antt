@@ -22,22 +22,27 @@ pub mod Kept
 pub mod Reading
 pub mod FoundLines
 pub mod LaidLines
+pub mod SlotsSound
 pub mod Changed
 pub mod Stopping
-pub mod LeftTo
-pub mod SnapWritten
-pub mod Breaking
 pub mod SpentSlots
-pub mod WaitMore
-pub mod JournalSteps
-pub mod PushSteps
 mod Going
 mod Begun
 mod Seeing
 mod EndedReading
-mod Tabled
+pub mod Tabled
 mod Taking
 pub mod PutBack
 pub mod Raising
 mod FewSteps
+mod SlotsGiven
+mod Tidied
+mod Classed
 pub mod Judged
+pub mod FirstSound
+pub mod Ordered
+pub mod LinesPut
+pub mod Landed
+pub mod CommitsKept
+pub mod Ready
+pub mod DeadStages

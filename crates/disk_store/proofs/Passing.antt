@@ -105,7 +105,7 @@ module _ (v w : View) (passes : Passes v w) where
     classes = was.classes;
     lie = λ file number is plain. subst (λ bytes. HasItsClass was.classes bytes) (sym (passes.areas file (number - 1))) (was.lie file number is plain);
     class = was.class;
-    owned = λ place area is within owner x p. was.owned place area is within owner x (passes.pending place.file (place.page - 1) x p);
+    owned = λ place area is within plain owner x p. was.owned place area is within plain owner x (passes.pending place.file (place.page - 1) x p);
   }
 
   pub slots-pass : (followed : Followed) (limit : ℕ) (slots : SnapshotSlots) → HoldsAll v.content followed limit slots → HoldsAll w.content followed limit slots
@@ -119,7 +119,7 @@ module _ (v w : View) (passes : Passes v w) where
     facts = facts;
     limits = refl;
     none = λ t apart rests. rests;
-    others = λ t x apart stands. stays-there v w shown.ledger shown.ledger t passes.areas (record { standing = inl refl; going = refl; commit = refl }) x stands;
+    others = λ t x apart got stands. stays-there v w shown.ledger shown.ledger t passes.areas (record { standing = inl refl; going = refl; commit = refl }) x stands;
     mine = mine;
     numbered = record { number = shown.numbers.number; first = shown.numbers.first; ceiling = ceiling; group = shown.numbers.group };
     kept = kept;

@@ -112,9 +112,9 @@ module _ (v w : View) (held : StoreMemory) (s : ℕ) (m : Member) (commits : Boo
       classes = shown.tables.classes;
       lie = classes shown.tells g shown.facts shown.tables.classes shown.tables.lie;
       class = shown.tables.class;
-      owned = λ place area is within owner. ⊎_elim
-          (λ here. owners shown.tells g shown.facts place area is (subst (λ (p : ℕ). IsDataPage p) (same_page place.page within.first here) plain) (shown.tables.owned place area is within owner))
-          (λ off x p. shown.tables.owned place area is within owner x (only.pending shown.tells (area_file place.file) (place.page - 1) x (λ same here. off here) p))
+      owned = λ place area is within is-plain owner. ⊎_elim
+          (λ here. owners shown.tells g shown.facts place area is (subst (λ (p : ℕ). IsDataPage p) (same_page place.page within.first here) plain) (shown.tables.owned place area is within is-plain owner))
+          (λ off x p. shown.tables.owned place area is within is-plain owner x (only.pending shown.tells (area_file place.file) (place.page - 1) x (λ same here. off here) p))
           (nat_cases (place.page - 1) slot);
     }
 
@@ -129,7 +129,7 @@ module _ (v w : View) (held : StoreMemory) (s : ℕ) (m : Member) (commits : Boo
       facts = puts.facts;
       limits = refl;
       none = λ t apart rests. ap (λ b. if b then undoing u.all rest else g.standing t) apart ∙ rests;
-      others = λ t x apart stood. stays-with v w g after t (spaces shown.tells) (stays t apart) x stood;
+      others = λ t x apart got stood. stays-with v w g after t (spaces shown.tells) (λ its lie. classes shown.tells g shown.facts its lie) (stays t apart) x stood;
       mine = reached after mine;
       numbered = record { number = shown.numbers.number; first = shown.numbers.first; ceiling = aside-ceiling v w shown.tells (area_file file) slot (λ e. cc) only held.numbers shown.numbers.ceiling; group = shown.numbers.group };
       kept = kept-stays held.members s held.numbers.next held.numbers.written m n was (omega arith) shown.kept;

@@ -136,7 +136,7 @@ module _ (v w : View) (held : StoreMemory) (s ceiling : ℕ) (m : Member) (was :
       facts = leads.facts h shown;
       limits = refl;
       none = λ t apart rests. rests;
-      others = λ t x apart stood. stays-there v w g g t p.areas (record { standing = inl refl; going = refl; commit = refl }) x stood;
+      others = λ t x apart got stood. stays-there v w g g t p.areas (record { standing = inl refl; going = refl; commit = refl }) x stood;
       mine = rests g stands;
       numbered = record { number = shown.numbers.number; first = shown.numbers.first; ceiling = it.stands; group = shown.numbers.group };
       kept = kept-now;

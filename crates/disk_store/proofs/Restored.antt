@@ -82,7 +82,7 @@ module _ (v w : View) (held : StoreMemory) (s : ℕ) (m : Member) (commits : Boo
       facts = undone_facts w g facts (stable shown.tells) s u.all u.stands;
       limits = refl;
       none = λ t apart rests. ap (λ b. if b then resting else g.standing t) apart ∙ rests;
-      others = λ t x apart stood. stays-there v w g (ended_by s g) t p.areas (stays t apart) x stood;
+      others = λ t x apart got stood. stays-there v w g (ended_by s g) t p.areas (stays t apart) x stood;
       mine = ap (λ b. if b then resting else g.standing s) (itself s);
       numbered = record { number = shown.numbers.number; first = shown.numbers.first; ceiling = reads-ceiling v w shown.tells only held.numbers shown.numbers.ceiling; group = record { in_slot = shown.numbers.group.in_slot; numbered = shown.numbers.group.numbered } };
       kept = kept-stays held.members s held.numbers.next held.numbers.written m n was (omega arith) shown.kept;

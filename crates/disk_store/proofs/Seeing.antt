@@ -1,5 +1,5 @@
 -- What a session's transaction sees, on each shelf that is shown.
-use Rattle.std.proofs.Common.{◌≡◌, ◌==◌, ◌∙◌, ℕ, Bool, true, false, cond, List, [], Option, Some, None, Result, Ok, Err, IfOk, refl, sym, ap, subst}
+use Rattle.std.proofs.Common.{◌≡◌, ◌==◌, ◌∙◌, ℕ, Bool, true, false, cond, [], Option, Some, None, Result, Ok, Err, IfOk, refl, sym, ap, subst}
 use Rattle.std.specs.Prelude.{slice_get}
 use Rattle.std.proofs.lemmas.Bool.{eqb-true}
 use Rattle.rdb_types.specs.declared.keys.Dbkey.{Dbkey}
@@ -8,7 +8,7 @@ use Rattle.rdb_outside.specs.Disk.{View, LeftNow}
 use Rattle.line_view.specs.Knowledge.{Lines, IsInOrder, line_in, lines_in}
 use Rattle.line_view.specs.Writes.{laid_all}
 use Rattle.line_versions.specs.Versions.{Start}
-use Rattle.line_store.specs.Seats.{Seat, IsAtRest, reading}
+use Rattle.line_store.specs.Seats.{IsAtRest, reading}
 use Rattle.line_store.specs.Shelves.{Shelf, seen_by, seen_from}
 use Rattle.stable_lines.specs.Slots.{IsAreaFile}
 use Rattle.line_moves.specs.declared.places.Place.{Place}

@@ -1,5 +1,5 @@
 -- A memory stays sound where one member is another, and where the tables are others.
-use Rattle.std.proofs.Common.{◌≡◌, ◌≤◌, ◌<◌, ◌+◌, ◌^◌, ◌⊎◌, inl, inr, ℕ, zero, suc, List, [], ◌∷◌, length, Some, refl, sym, ap, subst, ◌∙◌, arith}
+use Rattle.std.proofs.Common.{◌≡◌, ◌≤◌, ◌<◌, ◌+◌, ◌^◌, inl, inr, ℕ, zero, suc, List, [], ◌∷◌, length, Some, refl, sym, ap, subst, ◌∙◌, arith}
 use Rattle.std.specs.Prelude.{slice_get, slice_set, sum_by}
 use Rattle.std.specs.FinMap.Entries.{find}
 use Rattle.std.proofs.lemmas.Option.{same_Some, none-some}
@@ -13,7 +13,7 @@ use Rattle.stable_lines.specs.Slots.{IsAreaFile}
 use Rattle.line_seat.specs.Groups.{group_line}
 use Rattle.line_moves.proofs.Putting.{nat_cases}
 use Rattle.page_table.specs.declared.uses.PageUse.{PageUse}
-use Rattle.page_table.specs.Pages.{Pages, IsWithin, IsLineOf, owner_in, class_in, use_of}
+use Rattle.page_table.specs.Pages.{Pages, IsWithin, owner_in, class_in, use_of}
 use Rattle.page_table.specs.Scans.{IsNew}
 use Rattle.version_writing.specs.Tables.{table_of}
 use Rattle.member_memory.specs.Memory.{AreKeysOf}
@@ -25,7 +25,7 @@ use Rattle.disk_store.specs.Numbers.{AreAllowed, with_settled}
 use Rattle.disk_store.specs.Shown.{pages_of}
 use Rattle.disk_store.specs.Taken.{TakesIn}
 use Rattle.disk_store.specs.Sound.{LiesIn, IsSoundMember, WroteApart, wanted_in, aside_in, IsSound}
-use Rattle.disk_store.proofs.Members.{set-here, set-either}
+use Rattle.disk_store.proofs.Members.{set-either}
 
 -- ---- a sum over the members, of which one is another
 

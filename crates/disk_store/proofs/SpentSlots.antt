@@ -1,14 +1,17 @@
 -- What a push takes of the slots: no more are in use or set aside than before.
-use Rattle.std.proofs.Common.{◌≡◌, ◌≢◌, ◌≤◌, ◌+◌, ◌-◌, ◌==◌, ℕ, suc, Bool, true, false, cond, List, [], ◌∷◌, length, ⊎_elim, refl, sym, ap, subst, ◌∙◌, arith}
-use Rattle.std.specs.Prelude.{if◌then◌else◌}
+use Rattle.std.proofs.Common.{◌≡◌, ◌≢◌, ◌≤◌, ◌-◌, ◌==◌, ℕ, Bool, true, false, if◌then◌else◌, List, [], ◌∷◌, length, ⊎_elim, refl, sym, ap, subst, ◌∙◌, arith}
 use Rattle.snapshot_file.specs.Slots.{left_in}
+use Rattle.rdb_outside.specs.Disk.{View}
+use Rattle.line_versions.specs.Versions.{Followed}
 use Rattle.line_store.specs.Shelves.{Space}
 use Rattle.line_store.specs.Calls.{KeepsSpace}
 use Rattle.line_moves.proofs.Putting.{nat_cases}
 use Rattle.stable_lines.specs.Slots.{IsAreaFile}
-use Rattle.version_writing.specs.Slots.{SlotTable, Spends}
-use Rattle.version_writing.specs.Tables.{table_of}
+use Rattle.version_writing.specs.Slots.{SlotTable, HoldsFile, Spends, without_aside}
+use Rattle.version_writing.specs.Tables.{HoldsAll, table_of}
 use Rattle.version_writing.specs.declared.snapshot_slots.SnapshotSlots.{SnapshotSlots}
+use Rattle.version_writing.specs.declared.snapshot_slots.Wanted.{Wanted}
+use Rattle.disk_store.specs.ChangeSteps.{without_asides}
 use Rattle.disk_store.specs.Memory.{StoreMemory}
 use Rattle.store_shows.specs.Rooms.{HasPages}
 use Rattle.disk_store.specs.Shown.{SpaceStands, used_in, pages_of}
@@ -41,6 +44,31 @@ spends-all old new file others spends =
         (λ (same : f ≡ file). subst (λ (n : ℕ). used_in (table_of new n) ≤ used_in (table_of old n)) (sym same) (spends-one (table_of old file) (table_of new file) spends))
         (λ apart. same-used (table_of old f) (table_of new f) (others f is apart))
         (nat_cases f file)
+
+-- ---- slots that aren't set aside any more
+
+-- they hold what they held
+pub held-left : (v : View) (followed : Followed) (limit : ℕ) (wanted : Wanted) (slots : SnapshotSlots) → HoldsAll v.content followed limit slots → HoldsAll v.content followed limit (without_asides wanted slots)
+held-left v followed limit wanted slots was file is = by (file == 1) (file == 2) (was file is)
+  where
+    less : (n : ℕ) (t : SlotTable) → HoldsFile v.content followed file limit t → HoldsFile v.content followed file limit (without_aside n t)
+    less n t has = record { long = has.long; used = has.used; pusher = has.pusher }
+
+    by : (a b : Bool) → HoldsFile v.content followed file limit (if a then slots.catalog else (if b then slots.relations else slots.indexes)) →
+        HoldsFile v.content followed file limit (if a then (without_asides wanted slots).catalog else (if b then (without_asides wanted slots).relations else (without_asides wanted slots).indexes))
+    by true b has = less wanted.catalog slots.catalog has
+    by false true has = less wanted.relations slots.relations has
+    by false false has = less wanted.indexes slots.indexes has
+
+used-left : (n : ℕ) (t : SlotTable) → used_in (without_aside n t) ≤ used_in t
+used-left n t = omega arith
+
+pub fewer-left : (wanted : Wanted) (slots : SnapshotSlots) → used-all (without_asides wanted slots) ≤ used-all slots
+fewer-left wanted slots =
+    let a = used-left wanted.catalog slots.catalog in
+    let b = used-left wanted.relations slots.relations in
+    let c = used-left wanted.indexes slots.indexes in
+    omega (arith, a, b, c)
 
 -- ---- the space, where the slots are others
 

@@ -45,7 +45,7 @@ may-begin v s m is =
 
 -- ---- a session that is prepared
 
-is-prepared : (st : MemberStage) → IsPrepared (seat_with st [] []) → st ≡ stage.Prepared
+pub is-prepared : (st : MemberStage) → IsPrepared (seat_with st [] []) → st ≡ stage.Prepared
 is-prepared stage.Outside is = absurd is
 is-prepared (stage.Beginning ceiling) is = absurd is
 is-prepared stage.Writing is = absurd is
@@ -59,7 +59,7 @@ is-prepared stage.Reading is = absurd is
 is-prepared (stage.Dead commits left) is = absurd is
 
 -- the same before-images at another stage
-journalled-at : (g : Ledger) (s : ℕ) (m : Member) (next : MemberStage) → HasJournalled g s m → HasJournalled g s (at_stage next m)
+pub journalled-at : (g : Ledger) (s : ℕ) (m : Member) (next : MemberStage) → HasJournalled g s m → HasJournalled g s (at_stage next m)
 journalled-at g s m next has = record {
   begun = record { transaction = has.begun.transaction; all = has.begun.all; stable = has.begun.stable; stands = has.begun.stands; is_open = has.begun.is_open; number = has.begun.number; count = has.begun.count; keys = has.begun.keys };
   all_written = has.all_written;

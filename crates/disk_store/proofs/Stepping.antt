@@ -41,7 +41,7 @@ pub record ComesTo (v w : View) (behind : StoreMemory) (s : ℕ) (n : Member) (g
   pub facts : LedgerFacts w ledger
   pub limits : ledger.base.limits ≡ g.base.limits
   pub none : (t : ℕ) → (t == s) ≡ false → g.standing t ≡ resting → ledger.standing t ≡ resting
-  pub others : (t : ℕ) (x : Member) → (t == s) ≡ false → StageStands x.stage v g t x → StageStands x.stage w ledger t x
+  pub others : (t : ℕ) (x : Member) → (t == s) ≡ false → slice_get behind.members t ≡ Some x → StageStands x.stage v g t x → StageStands x.stage w ledger t x
   pub mine : StageStands n.stage w ledger s n
   pub numbered : NumbersStand w ledger behind.numbers behind.next
   pub kept : behind.numbers.next + kept_in behind.members ≤ behind.numbers.written
@@ -129,16 +129,16 @@ module _ (v w : View) (held behind : StoreMemory) (s : ℕ) (m n : Member) (was 
     seat-beside-here : (t : ℕ) → (t == s) ≡ false → shelf.seat t ≡ h.seat t
     seat-beside-here t apart = seat-beside to.ledger.base.lines sat.start h t apart
 
-    sits-beside : (t : ℕ) → (t == s) ≡ false → (x : Option Member) (seat : Seat) → Sits v shown.ledger t x seat → Sits w to.ledger t x seat
-    sits-beside t apart None seat sits = (sits.0, to.none t apart sits.1)
-    sits-beside t apart (Some x) seat sits = record { start = sits.start; is = sits.is; stands = to.others t x apart sits.stands }
+    sits-beside : (t : ℕ) → (t == s) ≡ false → (x : Option Member) → slice_get behind.members t ≡ x → (seat : Seat) → Sits v shown.ledger t x seat → Sits w to.ledger t x seat
+    sits-beside t apart None got seat sits = (sits.0, to.none t apart sits.1)
+    sits-beside t apart (Some x) got seat sits = record { start = sits.start; is = sits.is; stands = to.others t x apart got sits.stands }
 
     seats-stand : (t : ℕ) (b : Bool) → (t == s) ≡ b → Sits w to.ledger t (slice_get behind.members t) (shelf.seat t)
     seats-stand t true same =
         let it : SitsAs w to.ledger s n (shelf.seat s) = record { start = sat.start; is = seat-here to.ledger.base.lines sat.start h; stands = to.mine } in
         subst (λ u. Sits w to.ledger u (slice_get behind.members u) (shelf.seat u)) (sym (eqb-true t s same)) (subst (λ x. Sits w to.ledger s x (shelf.seat s)) (sym here) it)
     seats-stand t false apart =
-        subst (λ x. Sits w to.ledger t x (shelf.seat t)) (sym (beside t apart)) (subst (λ seat. Sits w to.ledger t (slice_get held.members t) seat) (sym (seat-beside-here t apart)) (sits-beside t apart _ _ (shown.seats t)))
+        subst (λ x. Sits w to.ledger t x (shelf.seat t)) (sym (beside t apart)) (subst (λ seat. Sits w to.ledger t (slice_get held.members t) seat) (sym (seat-beside-here t apart)) (sits-beside t apart (slice_get held.members t) (beside t apart) _ (shown.seats t)))
 
     steps-stand : (t : ℕ) (b : Bool) → (t == s) ≡ b → shelf.steps t ≡ steps_at behind.members t
     steps-stand t true same = subst (λ u. shelf.steps u ≡ steps_at behind.members u) (sym (eqb-true t s same)) (steps-here to.ledger.base.lines sat.start h ∙ ap steps_of (sym here))

@@ -29,7 +29,7 @@ use Rattle.disk_store.specs.Shown.{pages_of, TablesStand}
 use Rattle.disk_store.specs.Taken.{TakesIn}
 use Rattle.disk_store.proofs.Moving.{itself}
 
-some-owner : (file area : ℕ) → IsOwner file area → 1 ≤ area
+pub some-owner : (file area : ℕ) → IsOwner file area → 1 ≤ area
 some-owner file area (inl first) = omega (arith, first.1)
 some-owner file area (inr (inl second)) = omega (arith, second.1)
 some-owner file area (inr (inr third)) = omega (arith, third.1)
@@ -40,7 +40,7 @@ file-of file area (inr (inl second)) = record { first = omega (arith, second.0);
 file-of file area (inr (inr third)) = record { first = omega (arith, third.0); last = omega (arith, third.0) }
 
 -- an area lies in one file
-one-file : (a b area : ℕ) → IsOwner a area → IsOwner b area → a ≡ b
+pub one-file : (a b area : ℕ) → IsOwner a area → IsOwner b area → a ≡ b
 one-file a b area (inl x) (inl y) = x.0 ∙ sym y.0
 one-file a b area (inl x) (inr (inl y)) = absurd (omega (arith, x.1, y.1))
 one-file a b area (inl x) (inr (inr y)) = absurd (omega (arith, x.1, y.1))
@@ -54,7 +54,7 @@ one-file a b area (inr (inr x)) (inr (inr y)) = x.0 ∙ sym y.0
 zeros-owner : (file : ℕ) (x : List ℕ) → x ≡ zeros (area_file file) → owner_at x ≡ 0
 zeros-owner file x is = let n = slot_bytes (area_file file) in ap owner_at is ∙ zeros_owner (replicate n 0) (ap (λ (m : ℕ). replicate m 0) (sym (length-replicate {A = ℕ} n 0)))
 
-apart-test : (a b : ℕ) → (a ≡ b → ⊥) → (a == b) ≡ false
+pub apart-test : (a b : ℕ) → (a ≡ b → ⊥) → (a == b) ≡ false
 apart-test a b apart = by (a == b) refl
   where
     by : (t : Bool) → (a == b) ≡ t → (a == b) ≡ false
@@ -110,10 +110,10 @@ module _ (v : View) (g : Ledger) (tables : Tables) (facts : LedgerFacts v g) (st
         within-table : IsWithin (pages_of tables f) number → ⊥
         within-table within = ⊎_elim
             (λ (nobody : owner_in (pages_of tables f) number ≡ 0).
-            let for = stand.owned (record { file = f; page = number }) (area + 1) is within (inl nobody) (v.content (area_file f) (number - 1)) (now (area_file f) (number - 1)) (omega (arith, is-area, some)) in
+            let for = stand.owned (record { file = f; page = number }) (area + 1) is within page-is (inl nobody) (v.content (area_file f) (number - 1)) (now (area_file f) (number - 1)) (omega (arith, is-area, some)) in
             absurd (omega (arith, for, is-area)))
             (λ (other : owner_in (pages_of tables f) number ≢ 0).
-            let for = stand.owned (record { file = f; page = number }) (owner_in (pages_of tables f) number) is within (inr refl) (v.content (area_file f) (number - 1)) (now (area_file f) (number - 1)) (omega (arith, is-area, some)) in
+            let for = stand.owned (record { file = f; page = number }) (owner_in (pages_of tables f) number) is within page-is (inr refl) (v.content (area_file f) (number - 1)) (now (area_file f) (number - 1)) (omega (arith, is-area, some)) in
             none number (subst (λ (n : ℕ). IsWithin (pages_of tables n) number) same-file within) (ap (λ (n : ℕ). owner_in (pages_of tables n) number) (sym same-file) ∙ (sym for ∙ is-area)))
             (nat_cases (owner_in (pages_of tables f) number) 0)
 
@@ -167,13 +167,13 @@ module _ (v : View) (g : Ledger) (tables : Tables) (facts : LedgerFacts v g) (st
             (taken_behind (pages_of tables file) (pages_of kept file) file g.base.lines page area class (stand.committed file (file-of file area owner)) new.first new.free takes.here)
         by false apart = subst (λ (ps : Pages). HasCommitted ps f g.base.lines) (sym (takes.others f (eqb-false f file apart))) (stand.committed f is)
 
-    owned-behind : (place : Place) (a : ℕ) → IsAreaFile place.file → IsWithin (pages_of kept place.file) place.page
+    owned-behind : (place : Place) (a : ℕ) → IsAreaFile place.file → IsWithin (pages_of kept place.file) place.page → IsDataPage place.page
         → (owner_in (pages_of kept place.file) place.page ≡ 0) ⊎ (owner_in (pages_of kept place.file) place.page ≡ a) → IsForArea (Pending v) place a
-    owned-behind place a is within whose = by (either place.file place.page within)
+    owned-behind place a is within plain whose = by (either place.file place.page within)
       where
         by : IsTakenOne place.file place.page ⊎ IsAsBefore place.file place.page → IsForArea (Pending v) place a
-        by (inl (f, p, has)) = stand.owned place a is (record { first = within.first; last = subst (λ (n : ℕ). place.page ≤ length (pages_of tables n)) (sym f) (subst (λ (m : ℕ). m ≤ length (pages_of tables file)) (sym p) new.within) }) (inl ((λ i. owner_in (pages_of tables (f i)) (p i)) ∙ new.free))
-        by (inr (has, before)) = stand.owned place a is before (⊎_elim (λ (none : owner_in (pages_of kept place.file) place.page ≡ 0). inl (sym (ap (λ (u : PageUse). u.owner) has) ∙ none)) (λ (its : owner_in (pages_of kept place.file) place.page ≡ a). inr (sym (ap (λ (u : PageUse). u.owner) has) ∙ its)) whose)
+        by (inl (f, p, has)) = stand.owned place a is (record { first = within.first; last = subst (λ (n : ℕ). place.page ≤ length (pages_of tables n)) (sym f) (subst (λ (m : ℕ). m ≤ length (pages_of tables file)) (sym p) new.within) }) plain (inl ((λ i. owner_in (pages_of tables (f i)) (p i)) ∙ new.free))
+        by (inr (has, before)) = stand.owned place a is before plain (⊎_elim (λ (none : owner_in (pages_of kept place.file) place.page ≡ 0). inl (sym (ap (λ (u : PageUse). u.owner) has) ∙ none)) (λ (its : owner_in (pages_of kept place.file) place.page ≡ a). inr (sym (ap (λ (u : PageUse). u.owner) has) ∙ its)) whose)
 
     stand-with : (classes : ℕ → ℕ) → HaveTheirClasses classes v.content → class ≡ classes area
         → ((f p : ℕ) → IsWithin (pages_of tables f) p → IsOwner f (owner_in (pages_of tables f) p) → class_in (pages_of tables f) p ≡ classes (owner_in (pages_of tables f) p))

@@ -1,5 +1,5 @@
 -- What a store on a disk shows.
-use Rattle.std.specs.Prelude.{ℕ, ◌+◌, ◌-◌, ◌≤◌, ◌<◌, ◌≡◌, ◌⊎◌, ◌==◌, Bool, true, IsTrue, if◌then◌else◌, List, [], length, replicate, Option, Some, None, slice_get}
+use Rattle.std.specs.Prelude.{ℕ, ◌+◌, ◌-◌, ◌≤◌, ◌<◌, ◌≡◌, ◌⊎◌, ◌==◌, IsTrue, if◌then◌else◌, List, [], length, replicate, Option, Some, None, slice_get}
 use Rattle.std.specs.FinMap.Entries.{find}
 use Rattle.rdb_types.specs.declared.keys.Dbkey.{Dbkey}
 use Rattle.rdb_types.specs.declared.keys.Line.{Line}
@@ -9,6 +9,7 @@ use Rattle.rdb_outside.specs.Disk.{View, Pending}
 use Rattle.root_file.specs.declared.Root.{Root}
 use Rattle.root_file.specs.Root.{IsRoot}
 use Rattle.new_database.specs.Maker.{root_file}
+use Rattle.area_files.specs.Areas.{IsDataPage}
 use Rattle.line_view.specs.Knowledge.{Lines, IsInOrder, line_in}
 use Rattle.line_store.specs.Seats.{Seat, outside}
 use Rattle.line_store.specs.Shelves.{Space, Shelf}
@@ -77,13 +78,13 @@ pub record NumbersStand (v : View) (g : Ledger) (numbers : Numbers) (next : Next
 abbrev pub pages_of : Tables → ℕ → Pages
 pages_of tables file = if file == 1 then tables.catalog else (if file == 2 then tables.relations else (if file == 3 then tables.indexes else replicate (length tables.indexes) nobodys))
 
--- The tables have the committed lines, and of each page the area whose it is or may become, and its class.
+-- The tables have the committed lines, and of each data page the area whose it is or may become, and its class.
 pub record TablesStand (v : View) (g : Ledger) (tables : Tables) : Type 0 where
   pub committed : (file : ℕ) → IsAreaFile file → HasCommitted (pages_of tables file) file g.base.lines
   pub classes : ℕ → ℕ
   pub lie : HaveTheirClasses classes v.content
   pub class : (file page : ℕ) → IsWithin (pages_of tables file) page → IsOwner file (owner_in (pages_of tables file) page) → class_in (pages_of tables file) page ≡ classes (owner_in (pages_of tables file) page)
-  pub owned : (place : Place) (area : ℕ) → IsAreaFile place.file → IsWithin (pages_of tables place.file) place.page
+  pub owned : (place : Place) (area : ℕ) → IsAreaFile place.file → IsWithin (pages_of tables place.file) place.page → IsDataPage place.page
       → (owner_in (pages_of tables place.file) place.page ≡ 0) ⊎ (owner_in (pages_of tables place.file) place.page ≡ area) → IsForArea (Pending v) place area
 
 -- ---- versions

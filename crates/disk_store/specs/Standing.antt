@@ -3,7 +3,9 @@ use Rattle.std.specs.Prelude.{ℕ, ◌≡◌, true, List, length, Some, slice_ge
 use Rattle.rdb_outside.specs.Disk.{View}
 use Rattle.stable_lines.specs.Slots.{Undo}
 use Rattle.stable_lines.specs.Progress.{Open}
+use Rattle.line_moves.specs.Classes.{HaveTheirClasses}
 use Rattle.line_seat.specs.declared.commit.CommitStage.{CommitStage}
+use Rattle.line_seat.specs.Groups.{AreOfClasses}
 use Rattle.member_steps.specs.declared.committing.CommitTurn.{CommitTurn}
 use Rattle.member_steps.specs.declared.committing.CommitTurn.TheVariants.{Entering, Securing, Going}
 use Rattle.disk_seats.specs.Ledgers.{resting, changing, undoing, entries_of, Ledger, flies}
@@ -50,6 +52,13 @@ pub record IsCommitOf (g : Ledger) (s : ℕ) (m : Member) (at : CommitStage) : T
   pub keys : (i : ℕ) (undo : Undo) → slice_get plan.all i ≡ Some undo → slice_get m.written.keys i ≡ Some undo.key
   pub under_way : g.commit ≡ Some (commit_of_plan plan at)
 
+-- Its pages are written: each line comes with its area's class, and pages have the classes of their areas.
+pub record IsGoing (v : View) (g : Ledger) (s : ℕ) (m : Member) (at : CommitStage) : Type 0 where
+  pub commit : IsCommitOf g s m at
+  pub classes : commit.plan.classes ≡ m.classes.items
+  pub of_areas : AreOfClasses commit.plan.flight.classes m.written.lines m.classes.items
+  pub lie : HaveTheirClasses commit.plan.flight.classes v.content
+
 -- so many of its lines' pages are their areas', by the space pages
 pub record HasEntered (v : View) (g : Ledger) (s : ℕ) (m : Member) (n : ℕ) : Type 0 where
   pub journalled : HasJournalled g s m
@@ -58,7 +67,7 @@ pub record HasEntered (v : View) (g : Ledger) (s : ℕ) (m : Member) (n : ℕ) :
 abbrev pub TurnStands : CommitTurn → View → Ledger → ℕ → Member → Type 0
 TurnStands (Entering at) v g s m = HasEntered v g s m at
 TurnStands Securing v g s m = HasEntered v g s m (length m.written.lines)
-TurnStands (Going at) v g s m = IsCommitOf g s m at
+TurnStands (Going at) v g s m = IsGoing v g s m at
 
 -- the commit flies whose member died
 pub record IsJudged (g : Ledger) (s : ℕ) (m : Member) : Type 0 where

@@ -1,8 +1,9 @@
 // A session dies.
-ghost use Rattle.std.specs.Prelude.{◌≡◌, Some, slice_get};
+ghost use Rattle.std.specs.Prelude.{◌≡◌, true, Some, slice_get};
 ghost use Rattle.line_store.specs.Seats.{IsMember, IsAlive, died};
 ghost use Rattle.line_store.specs.Sights.{Does, Dies};
 ghost use Rattle.disk_store.specs.declared.member.Member.{Member as Sits};
+ghost use Rattle.disk_store.specs.Commits.{is_free};
 ghost use Rattle.disk_store.specs.Dying.{recovery_at, dead_at, has_none, forgotten};
 ghost use Rattle.disk_store.specs.Memory.{with_member};
 ghost use Rattle.disk_store.specs.Seats.{stand_at};
@@ -64,17 +65,18 @@ fn forgets(stage: MemberStage) -> bool
 }
 
 impl Held {
-    // A session's member.
-    pub(crate) fn member(&self, s: Session) -> &Member
+    /// A session's member.
+    pub fn member(&self, s: Session) -> &Member
         requires { IsMember s.number }
         ensures { slice_get self.now.members s.number ≡ Some result.now }
     {
         &self.members[s.number as usize]
     }
 
-    // A session comes to another stage, and its lines are forgotten.
+    // A session comes to another stage, at which no commit of it is prepared, under way or to be judged, and its lines are forgotten.
     pub(crate) fn forget(&mut self, s: Session, next: MemberStage)
-        requires { IsMember s.number }
+        requires member { IsMember s.number }
+        requires free { is_free next ≡ true }
         ensures { (m : Sits) × (slice_get self.old.members s.number ≡ Some m)
             × (self.new ≡ with_member s.number (forgotten next m) self.old) }
     {
@@ -90,12 +92,13 @@ pub fn die<D: Disk>(_disk: &D, held: &mut Held, s: Session)
     requires alive { IsAlive (stand_at held.old.members s.number) }
     ensures { Does s.number (died (stand_at held.old.members s.number)) (Dies s.number) (sight_of (D.view _disk.now) held.old) (sight_of (D.view _disk.now) held.new) }
 {
+    held.keeps_commits();
     let member = held.member(s);
     let stage = member.stage;
     let next = dead(stage, member.journalled);
     if forgets(stage) {
         held.forget(s, next);
     } else {
-        held.set_stage(s, next);
+        held.set_dead(s, next);
     }
 }

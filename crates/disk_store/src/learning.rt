@@ -5,8 +5,7 @@ ghost use Rattle.line_view.specs.Held.{knows};
 ghost use Rattle.line_store.specs.declared.answers.Progress.TheVariants.{Done, More};
 ghost use Rattle.line_store.specs.Seats.{IsMember, IsAtRest};
 ghost use Rattle.line_store.specs.Shelves.{Shelf, seen_by};
-ghost use Rattle.line_store.specs.Sights.{Does, IsLess, LearnsArea, LearnsLine, Reads};
-ghost use Rattle.disk_store.specs.Learning.{LearnsFirst};
+ghost use Rattle.line_store.specs.Sights.{Does, IsLess, LearnsArea, LearnsLine, LearnsSome, Reads};
 ghost use Rattle.disk_store.specs.Seats.{stand_at};
 ghost use Rattle.disk_store.specs.Shown.{sight_of};
 
@@ -58,7 +57,7 @@ pub fn learn_area<D: Disk>(
     requires member { IsMember s.number }
     requires seat { IsAtRest (stand_at held.now.members s.number) }
     ensures done { result ≡ Ok Done → LearnsArea (sight_of (D.view disk.old) held.now) s.number area known.old known.new }
-    ensures not_yet { (result ≡ Ok Done → ⊥) → LearnsFirst (sight_of (D.view disk.old) held.now) s.number area known.old known.new }
+    ensures not_yet { (result ≡ Ok Done → ⊥) → LearnsSome (sight_of (D.view disk.old) held.now) s.number area known.old known.new }
     ensures knows { (h : Shelf) → (sight_of (D.view disk.old) held.now).shows h → IsInOrder (seen_by s.number h)
         → AgreesWith (knows known.old) (seen_by s.number h)
         → AgreesWith (knows known.new) (seen_by s.number h) }

@@ -3,15 +3,20 @@
 
 mod before_images;
 mod beginning;
+mod change_moves;
 mod changing;
+mod classes;
 mod dying;
 mod endings;
 mod few;
+mod giving;
 mod held;
+mod landing;
 mod laws;
 mod learning;
 mod member;
 mod moves;
+mod opening;
 mod preparing;
 mod restoring;
 mod rolling;
@@ -35,3 +40,4 @@ pub use restoring::restore;
 pub use rolling::roll_back;
 pub use rooms::{room, take_room};
 pub use starts::{begin_reading, end_reading};
+pub use undoing::put_back;

@@ -47,7 +47,7 @@ pub enum MemberStage {
     Dead { commits: bool, recovery: Recovery },
 }
 
-/// A session as the store has it: where it is, the number of its read-write transaction, whether its header was found or made to name that since the last statement, the lines that this wrote, how many of them have a before-image, how many were pushed aside where they had to be, and the slots that are set aside for the others; and what a reader keeps from its start, which says nothing at another stage.
+/// A session as the store has it: where it is, the number of its read-write transaction, whether its header was found or made to name that since the last statement, the lines that this wrote, how many of them have a before-image, how many were pushed aside where they had to be, and the slots that are set aside for the others; what a reader keeps from its start, which says nothing at another stage; and, where a commit is prepared, the class of each line's page.
 #[derive(Drop)]
 pub struct Member {
     pub stage: MemberStage,
@@ -58,4 +58,5 @@ pub struct Member {
     pub pushed: u32,
     pub aside: Wanted,
     pub reader: Reader,
+    pub classes: Vec<u16>,
 }

@@ -7,7 +7,6 @@ ghost use Rattle.disk_store.specs.Seats.{stand_at};
 ghost use Rattle.disk_store.specs.Shown.{sight_of};
 
 use crate::{Ceiling, Held, MemberStage};
-use member_steps::CommitTurn;
 use rdb_outside::Disk;
 use rdb_types::Session;
 
@@ -36,5 +35,5 @@ pub fn commit<D: Disk>(_disk: &D, held: &mut Held, s: Session)
     requires alone { StandsAlone s.number (sight_of (D.view _disk.now) held.old) }
     ensures { Does s.number (committing []) (BeginsCommit s.number) (sight_of (D.view _disk.now) held.old) (sight_of (D.view _disk.now) held.new) }
 {
-    held.set_stage(s, MemberStage::Committing(CommitTurn::Entering(0)));
+    held.begin_commit(s);
 }

@@ -65,7 +65,7 @@ impl Held {
     }
 }
 
-/// Sets aside the room of a commit in the after-image journal: a slot for each line that was written, and one for the commit. Where there is none, nothing changes. It wants no memory.
+/// Sets aside the room of a commit in the after-image journal: a slot for each line that was written, and one for the commit. The class of each line's page is noted, which takes the memory that the commit wants. Where there is no room or no memory, nothing changes.
 pub fn prepare<D: Disk>(_disk: &D, held: &mut Held, s: Session) -> Result<(), CommitStop>
     requires member { IsMember s.number }
     requires writing { IsWriting (stand_at held.old.members s.number) }
@@ -74,7 +74,10 @@ pub fn prepare<D: Disk>(_disk: &D, held: &mut Held, s: Session) -> Result<(), Co
     ensures cause { IfErr result (λ stop. (h : Shelf) → Shown (D.view _disk.now) held.old h → MayStopCommit h s.number stop) }
 {
     if held.has_room(s) {
-        held.set_stage(s, MemberStage::Prepared);
+        let Ok(classes) = held.classes_of(s) else {
+            return Err(CommitStop::NoMemory);
+        };
+        held.set_prepared(s, classes);
         return Ok(());
     }
     Err(CommitStop::AijFull(held.limits.slots))

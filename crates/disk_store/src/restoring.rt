@@ -31,7 +31,7 @@ pub fn restore<D: Disk>(
     let Ok(()) = settle(disk) else {
         return Err(Fault::Failed);
     };
-    held.set_stage(
+    held.set_dead(
         s,
         MemberStage::Dead {
             commits,

@@ -65,7 +65,7 @@ impl Held {
     }
 
     // What a session's transaction wrote.
-    fn written(&self, s: Session) -> &MemberLines
+    pub(crate) fn written(&self, s: Session) -> &MemberLines
         requires { IsMember s.number }
         ensures { (m : Sits) × (slice_get self.now.members s.number ≡ Some m) × (result.now ≡ m.written) }
     {
@@ -127,6 +127,9 @@ pub fn take_room<D: Disk>(
     ensures taken { result ≡ Ok true → Does _s.number (stand_at held.old.members _s.number) (Takes key) (sight_of (D.view _disk.now) held.old) (sight_of (D.view _disk.now) held.new) }
     ensures refused { (result ≡ Ok true → ⊥) → Stays _s.number (sight_of (D.view _disk.now) held.old) (sight_of (D.view _disk.now) held.new) }
     ensures other { result ≡ Ok false → (h : Shelf) → Shown (D.view _disk.now) held.old h → IsTaken key h.space }
+
+    // No session is another than it was, whoever takes the page.
+    ensures members { held.new.members ≡ held.old.members }
 {
     let Some(file) = storage_area(key.area) else {
         unreachable!()

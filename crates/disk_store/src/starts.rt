@@ -1,10 +1,11 @@
 // Read-only transactions begin and end.
-ghost use Rattle.std.specs.Prelude.{◌≡◌, [], Some, map, slice_get, IfOk, OnOk, OnErr};
+ghost use Rattle.std.specs.Prelude.{◌≡◌, [], true, Some, map, slice_get, IfOk, OnOk, OnErr};
 ghost use Rattle.line_versions.specs.Versions.{Start};
 ghost use Rattle.line_store.specs.Seats.{IsMember, IsReader, outside, reading};
 ghost use Rattle.line_store.specs.Calls.{Moves};
 ghost use Rattle.line_store.specs.Sights.{Does, Stays, BeginsReading};
 ghost use Rattle.disk_store.specs.declared.member.Member.{Member as Sits};
+ghost use Rattle.disk_store.specs.Commits.{is_free};
 ghost use Rattle.disk_store.specs.Memory.{with_member};
 ghost use Rattle.disk_store.specs.Readers.{goes_at, keeping, numbers_going};
 ghost use Rattle.disk_store.specs.Seats.{stand_at};
@@ -19,7 +20,7 @@ use version_reading::Reader;
 
 impl Member {
     // Whether its read-write transaction is open on the disk.
-    fn goes_on(&self) -> bool
+    pub(crate) fn goes_on(&self) -> bool
         ensures { result ≡ goes_at self.now.stage }
     {
         match self.stage {
@@ -60,9 +61,10 @@ fn going(alloc: Global, members: &[Member]) -> Result<Vec<Tsn>, NoMemory>
 }
 
 impl Held {
-    // A session comes to another stage, and this is kept for its reader.
+    // A session comes to another stage, at which no commit of it is prepared, under way or to be judged, and this is kept for its reader.
     fn keep_start(&mut self, s: Session, next: MemberStage, reader: Reader)
-        requires { IsMember s.number }
+        requires member { IsMember s.number }
+        requires free { is_free next ≡ true }
         ensures { (m : Sits) × (slice_get self.old.members s.number ≡ Some m)
             × (self.new ≡ with_member s.number (keeping next reader m) self.old) }
     {

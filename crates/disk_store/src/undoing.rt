@@ -43,7 +43,7 @@ pub fn put_back<D: Disk>(
 {
     if left == 0 {
         let recovery = Recovery::Restoring;
-        held.set_stage(s, MemberStage::Dead { commits, recovery });
+        held.set_dead(s, MemberStage::Dead { commits, recovery });
         return Ok(Stepped::More);
     }
     let mut page = [0; 1024];
@@ -53,12 +53,12 @@ pub fn put_back<D: Disk>(
     match undo(disk, held.limits.pages, s.number, tsn, left, &mut page) {
         Ok(rest) => {
             let recovery = undoing(rest);
-            held.set_stage(s, MemberStage::Dead { commits, recovery });
+            held.set_dead(s, MemberStage::Dead { commits, recovery });
             Ok(Stepped::More)
         }
         Err(fault) => {
             let recovery = Recovery::Undoing { left: all };
-            held.set_stage(s, MemberStage::Dead { commits, recovery });
+            held.set_dead(s, MemberStage::Dead { commits, recovery });
             Err(fault)
         }
     }

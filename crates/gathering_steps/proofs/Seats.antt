@@ -1,5 +1,5 @@
 -- How a session stands at a round of needs, as memory knows it.
-use Rattle.std.proofs.Common.{◌≡◌, ℕ, ◌+◌, Bool, false, [], List, Option, Some, None, refl, sym, subst}
+use Rattle.std.proofs.Common.{◌≡◌, ℕ, ◌+◌, Bool, false, [], List, Option, Some, None, sym, subst}
 use Rattle.std.specs.Prelude.{MatchOption, slice_get}
 use Rattle.rdo_ast.specs.declared.reply.Standing.{Standing}
 use Rattle.rdo_ast.specs.declared.syntax.Item.{Item}

@@ -14,7 +14,10 @@ use Rattle.session_states.specs.declared.stage.Work.TheVariants.{Out}
 use Rattle.session_states.specs.declared.stage.Stage.TheVariants.{Working, Gathering}
 use Rattle.session_states.specs.declared.stage.Phase.{Phase}
 use Rattle.session_states.specs.Shared.{Shared}
+use Rattle.session_states.specs.States.{session}
 use Rattle.session_stands.specs.Seated.{IsSeated}
+use Rattle.session_measure.specs.Weights.{Beside}
+use Rattle.session_measure.specs.Nearer.{ComesNearer}
 use Rattle.stage_steps.specs.declared.terms.Terms.{Terms}
 use Rattle.stage_steps.specs.Turns.{Comes, at_stage}
 use Rattle.gathering_steps.specs.declared.round.Round.{Round}
@@ -27,3 +30,4 @@ gathers_at t r gather = at_stage t (Gathering r.item gather r.later r.place)
 pub record GathersFrom (M : Model) (t : Terms) (item : Item) (next : Need) (later : List Need) (y : Phase) : Type 0 where
   pub comes : (s : ℕ) (c : Shared) → IsFound M c.word t.standing (uttered_of item) (knows t.known) (Missing next later) → Comes M s c (at_stage t (Working item Out)) c y []
   pub seated : (stand : ℕ → Seat) (locks : State) (s : ℕ) → IsSeated stand locks s (at_stage t (Working item Out)) → IsSeated stand locks s y
+  pub nearer : (s : ℕ) (c : Beside) (left : List Item) (total : ℕ) → ComesNearer c c s (session left total (at_stage t (Working item Out))) (session left total y)

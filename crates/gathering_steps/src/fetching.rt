@@ -4,7 +4,6 @@ ghost use Rattle.rdo_ast.specs.Views.{uttered_of};
 ghost use Rattle.line_store.specs.Seats.{IsMember, IsWriting};
 ghost use Rattle.line_view.specs.Held.{knows};
 ghost use Rattle.session_jobs.specs.Jobs.{IsFound};
-ghost use Rattle.stage_steps.specs.Happenings.{events_of};
 ghost use Rattle.stage_steps.specs.Scenes.{ComesIn, scene};
 ghost use Rattle.stage_steps.specs.Turns.{at_stage};
 ghost use Rattle.gathering_steps.specs.Rounds.{GathersFrom, gathers_at};
@@ -42,7 +41,7 @@ pub fn fetch_gathered<S: Statements, L: LineStore>(
     requires member { IsMember s.number }
     requires seat { IsWriting ((L.sight common.old.store).stand s.number) }
     ensures { ComesIn S.stands s.number (scene common.old.word (L.sight common.old.store) common.old.tree) (gathers_at terms round (Gather.Reading need))
-        (scene common.new.word (L.sight common.new.store) common.new.tree) result.phase (events_of s.number result.happened) }
+        (scene common.new.word (L.sight common.new.store) common.new.tree) result.phase result.happened }
 {
     // (a room is lodged in, and not fetched)
     if let Need::Room(_) = need {

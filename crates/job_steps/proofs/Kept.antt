@@ -1,6 +1,7 @@
 -- What a START_TRANSACTION reserves, and the step that keeps its record.
-use Rattle.std.proofs.Common.{◌≡◌, ℕ, Bool, true, false, [], List, refl, sym, ap, subst, Option, Some, None, slice_get}
+use Rattle.std.proofs.Common.{◌≡◌, ℕ, zero, suc, Bool, true, false, [], ◌∷◌, List, sym, ap, subst, Option, Some, slice_get}
 use Rattle.std.specs.Prelude.{MatchOption}
+use Rattle.std.proofs.lemmas.Option.{none-some, same_Some}
 use Rattle.rdo_ast.specs.declared.reply.Standing.{Standing}
 use Rattle.rdo_ast.specs.declared.reply.Standing.TheVariants.{Closed}
 use Rattle.rdo_ast.specs.declared.syntax.Item.{Item}
@@ -10,17 +11,18 @@ use Rattle.rdo_ast.specs.Views.{uttered_of}
 use Rattle.rdb_types.specs.declared.node.Node.{Node}
 use Rattle.rdb_types.specs.declared.node.Level.{Level}
 use Rattle.rdb_types.specs.declared.node.Level.TheVariants.{Area}
-use Rattle.vms_queues.specs.declared.lock_mode.Mode.{Mode}
 use Rattle.lock_needs.specs.declared.need.Need.{Need}
 use Rattle.lock_needs.specs.Needs.{is_plain, is_plain_at}
 use Rattle.lock_needs.specs.Nodes.{is_on}
 use Rattle.line_steps.specs.Images.{journal_node}
-use Rattle.line_view.specs.Held.{Held, knows}
+use Rattle.line_view.specs.Held.{knows}
 use Rattle.session_jobs.specs.Records.{Model, IsOrderly}
-use Rattle.session_jobs.specs.Jobs.{IsFound, WhereItAgrees}
-use Rattle.session_jobs.specs.declared.jobs.Found.TheVariants.{Done}
+use Rattle.session_jobs.specs.Jobs.{IsFound, IsLacking, WhereItAgrees}
+use Rattle.session_jobs.specs.declared.jobs.Found.TheVariants.{Done, Missing}
 use Rattle.session_jobs.specs.declared.jobs.TxRecord.{TxRecord}
-use Rattle.reserved_locks.specs.Reserved.{AreLocksOf}
+use Rattle.line_view.specs.declared.need.Need.{Need as LineNeed}
+use Rattle.reserved_locks.specs.declared.locks.Unnamed.TheVariants.{Lacking}
+use Rattle.reserved_locks.specs.Reserved.{AreLocksOf, AreOnAreas, IsUnnamed}
 use Rattle.reserved_locks.proofs.Asked.{locks-asked}
 use Rattle.session_states.specs.declared.stage.Work.TheVariants.{Out}
 use Rattle.session_states.specs.declared.stage.Stage.TheVariants.{Working, Reserving}
@@ -32,8 +34,17 @@ use Rattle.job_steps.specs.Reserved.{IsReserved}
 
 module _ (M : Model) (orderly : IsOrderly M) where
   pub reserved-of : (t : Terms) (item : Item) (wait : Bool) (rs : List Reservation) (locks : List Need) → uttered_of item ≡ said (start_read_write wait rs) → t.standing ≡ Closed →
-      WhereItAgrees M (knows t.known) (λ u. AreLocksOf rs u locks) → IsReserved M t item locks
-  reserved-of t item wait rs locks is closed named = record { wait = wait; reserved = rs; begins = is; closed = closed; asked = locks-asked M orderly (knows t.known) rs locks named }
+      WhereItAgrees M (knows t.known) (λ u. AreLocksOf rs u locks) → AreOnAreas locks → IsReserved M t item locks
+  reserved-of t item wait rs locks is closed named areas = record { wait = wait; reserved = rs; begins = is; closed = closed; asked = locks-asked M orderly (knows t.known) rs locks named; areas = areas }
+
+  -- what isn't known of them is lacked by its job
+  pub lacks-one : (t : Terms) (item : Item) (wait : Bool) (rs : List Reservation) (need : LineNeed) → uttered_of item ≡ said (start_read_write wait rs) → t.standing ≡ Closed → IsUnnamed M (knows t.known) rs (Lacking need) →
+      WhereItAgrees M (knows t.known) (λ u. IsLacking t.standing (uttered_of item) (knows t.known) u need)
+  lacks-one t item wait rs need is closed h = λ all u stands agrees. rw (is, closed) (h wait all u stands agrees)
+
+  pub lacking-found : (word : List ℕ) (t : Terms) (item : Item) (need : LineNeed) (later : List LineNeed) → later ≡ [] → WhereItAgrees M (knows t.known) (λ u. IsLacking t.standing (uttered_of item) (knows t.known) u need) →
+      IsFound M word t.standing (uttered_of item) (knows t.known) (Missing need later)
+  lacking-found word t item need later none h = subst (λ (ns : List LineNeed). IsFound M word t.standing (uttered_of item) (knows t.known) (Missing need ns)) (sym none) (λ all u stands agrees. (h all u stands agrees, tt))
 
   pub reserved-in : (t : Terms) (item : Item) (found : Option (List Need)) (locks : List Need) → found ≡ Some locks → MatchOption found (Unit {0}) (λ ls. IsReserved M t item ls) → IsReserved M t item locks
   reserved-in t item found locks is h = subst (λ (f : Option (List Need)). MatchOption f (Unit {0}) (λ ls. IsReserved M t item ls)) is h
@@ -49,6 +60,11 @@ module _ (M : Model) (orderly : IsOrderly M) where
           (λ h left total. reserves-on M orderly s c left total t.known t.spoken t.waits item r is.wait is.reserved locks is.begins h is.asked) f
 
 -- ---- a lock on an area
+
+pub area-at : (locks : List Need) (place : ℕ) (n : Need) → AreOnAreas locks → slice_get locks place ≡ Some n → n.node.level ≡ Area
+area-at [] place n are at = absurd (none-some n at)
+area-at (m ∷ ms) zero n are at = subst (λ (x : Need). x.node.level ≡ Area) (same_Some m n at) are.0
+area-at (m ∷ ms) (suc place) n are at = area-at ms place n are.1 at
 
 pub plain-on-area : (n : Need) → n.node.level ≡ Area → is_plain n ≡ true
 plain-on-area n e = ap (λ (l : Level). is_plain_at l n.mode) e

@@ -11,19 +11,21 @@ use Rattle.rdb_account.specs.AskedFor.{reservations_ask}
 use Rattle.line_view.specs.Held.{knows}
 use Rattle.session_jobs.specs.Jobs.{WhereItAgrees}
 use Rattle.session_jobs.specs.Records.{Model}
+use Rattle.reserved_locks.specs.Reserved.{AreOnAreas}
 use Rattle.session_states.specs.declared.stage.Phase.{Phase}
 use Rattle.session_states.specs.declared.stage.Stage.TheVariants as stage
 use Rattle.stage_steps.specs.declared.terms.Terms.{Terms}
 use Rattle.stage_steps.specs.Turns.{at_stage}
 use Rattle.job_steps.specs.declared.reserving.Reserving.{Reserving}
 
--- The item begins a transaction, and its reservations ask for each of these locks over all that agrees with what is known.
+-- The item begins a transaction, and its reservations ask for each of these locks, on areas, over all that agrees with what is known.
 pub record IsReserved (M : Model) (t : Terms) (item : Item) (locks : List Need) : Type 0 where
   pub wait : Bool
   pub reserved : List Reservation
   pub begins : uttered_of item ≡ said (start_read_write wait reserved)
   pub closed : t.standing ≡ Closed
   pub asked : AllByRecursion (λ n. WhereItAgrees M (knows t.known) (λ u. reservations_ask u n reserved ≡ true)) locks
+  pub areas : AreOnAreas locks
 
 -- a read-write transaction that wants the lock at the place of its reservations
 abbrev pub reserves_at : Terms → Reserving → Phase

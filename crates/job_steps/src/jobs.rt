@@ -6,7 +6,7 @@ ghost use Rattle.line_view.specs.Held.{knows};
 ghost use Rattle.session_jobs.specs.Jobs.{IsFound};
 ghost use Rattle.session_states.specs.declared.stage.Stage.TheVariants.{Working};
 ghost use Rattle.session_states.specs.declared.stage.Work.TheVariants.{Out};
-ghost use Rattle.stage_steps.specs.Happenings.{events_of};
+ghost use Rattle.stage_steps.specs.Leaving.{OnUnworked};
 ghost use Rattle.stage_steps.specs.Scenes.{ComesIn, scene};
 ghost use Rattle.stage_steps.specs.Turns.{at_stage};
 
@@ -17,9 +17,11 @@ use rdb_types::{Copied, Session};
 use rdo_ast::syntax::Item;
 use reserved_locks::Reserves;
 use session_jobs::{Found, Job, Outcome};
-use stage_steps::{Common, Terms, Turned, forgo, quiet, take_back};
+use session_states::{Stage, Work};
+use stage_steps::{Common, Happening, Terms, Turned, forgo, quiet};
 
-/// Takes what a job came to: a record is kept till it is said, what the job lacked is wanted in turn.
+/// Takes what a job came to: a record is kept till it is said, what the job lacked is wanted in turn, and want of memory is answered.
+/// Where it was left unworked its job is due again, as it is where a line is none of its kind, which there isn't.
 pub fn take_found<S: Reserves, L: LineStore>(
     common: &mut Common<L>,
     s: Session,
@@ -30,17 +32,23 @@ pub fn take_found<S: Reserves, L: LineStore>(
     requires member { IsMember s.number }
     requires seat { IsWriting ((L.sight common.old.store).stand s.number) }
     requires found { IsFound S.stands common.old.word terms.standing (uttered_of item) (knows terms.known) found }
-    ensures { ComesIn S.stands s.number (scene common.old.word (L.sight common.old.store) common.old.tree) (at_stage terms (Working item Out))
-        (scene common.new.word (L.sight common.new.store) common.new.tree) result.phase (events_of s.number result.happened) }
+    ensures comes { ComesIn S.stands s.number (scene common.old.word (L.sight common.old.store) common.old.tree) (at_stage terms (Working item Out))
+        (scene common.new.word (L.sight common.new.store) common.new.tree) result.phase result.happened }
+    ensures unworked { OnUnworked result.happened (found ≡ Found.Unworked) }
 {
     match found {
         Found::Done(worked) => keep::<S, L>(common, s, terms, item, worked),
         Found::Missing { next, later } => quiet(gather::<S>(terms, item, next, later)),
-        found => take_back::<S, L>(common, s, terms, item, found),
+        Found::Bad(_) => quiet(terms.at(Stage::Working(item, Work::Due))),
+        Found::Unworked => Turned {
+            phase: terms.at(Stage::Working(item, Work::Due)),
+            happened: Happening::Unworked,
+        },
+        Found::NoMemory => forgo::<S, L>(common, s, terms, item),
     }
 }
 
-/// Works the job of a statement at once, and takes what it came to.
+/// Works the job of a statement at once, and takes what it came to. Where it is left unworked, that has a cause.
 pub fn compute<S: Reserves, L: LineStore>(
     common: &mut Common<L>,
     s: Session,
@@ -49,8 +57,9 @@ pub fn compute<S: Reserves, L: LineStore>(
 ) -> Turned
     requires member { IsMember s.number }
     requires seat { IsWriting ((L.sight common.old.store).stand s.number) }
-    ensures { ComesIn S.stands s.number (scene common.old.word (L.sight common.old.store) common.old.tree) (at_stage terms (Working item Out))
-        (scene common.new.word (L.sight common.new.store) common.new.tree) result.phase (events_of s.number result.happened) }
+    ensures comes { ComesIn S.stands s.number (scene common.old.word (L.sight common.old.store) common.old.tree) (at_stage terms (Working item Out))
+        (scene common.new.word (L.sight common.new.store) common.new.tree) result.phase result.happened }
+    ensures cause { OnUnworked result.happened (S.leaves common.old.word terms.standing (uttered_of item) (knows terms.known)) }
 {
     let Ok(word) = common.word.copied(common.alloc) else {
         return forgo::<S, L>(common, s, terms, item);

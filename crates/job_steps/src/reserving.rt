@@ -1,26 +1,29 @@
 //! What a START_TRANSACTION reserves is locked, one lock after another, before it is said.
-ghost use Rattle.std.specs.Prelude.{◌≡◌, true, false, slice_get, IfOk, MatchOption};
+ghost use Rattle.std.specs.Prelude.{◌≡◌, true, false, Err, slice_get, IfOk, MatchOption};
 ghost use Rattle.rdb_account.specs.Legal.{ends_by};
 ghost use Rattle.rdo_ast.specs.Views.{uttered_of};
 ghost use Rattle.line_store.specs.Seats.{IsMember, IsWriting};
 ghost use Rattle.line_view.specs.Held.{knows};
 ghost use Rattle.lock_tree_laws.specs.Forest.{opened_of};
-ghost use Rattle.session_jobs.specs.Jobs.{IsFound};
+ghost use Rattle.line_view.specs.declared.need.Need.{Need as LineNeed};
+ghost use Rattle.session_jobs.specs.Jobs.{IsFound, IsLacking, WhereItAgrees};
+ghost use Rattle.reserved_locks.specs.Reserved.{AreOnAreas};
 ghost use Rattle.session_states.specs.Fits.{WantsAtMost};
-ghost use Rattle.stage_steps.specs.Happenings.{events_of};
+ghost use Rattle.stage_steps.specs.Leaving.{OnUnworked};
 ghost use Rattle.stage_steps.specs.Scenes.{ComesIn, scene};
 ghost use Rattle.stage_steps.specs.Turns.{at_stage};
 ghost use Rattle.job_steps.specs.Reserved.{IsReserved, reserves_at};
 
+use gathering_steps::gather;
 use line_store::LineStore;
 use lock_needs::Need;
-use rdb_types::{Level, Session};
+use rdb_types::Session;
 use rdo_ast::reply::{Reply, Standing};
 use rdo_ast::syntax::{Item, Statement};
 use reserved_locks::{LockNeeds, Reserves, Unnamed};
-use session_jobs::{Found, Statements, TxRecord};
+use session_jobs::{Found, Needs, Statements, TxRecord};
 use session_states::{Laying, Stage, Work};
-use stage_steps::{Common, Happening, Terms, Turned, forgo, quiet, want};
+use stage_steps::{Common, Terms, Turned, forgo, quiet, want};
 use std::alloc::Global;
 
 /// A START_TRANSACTION that was worked, with the locks that its reservations ask for, of which those before the place are got.
@@ -63,20 +66,25 @@ fn locks_of<S: Reserves>(
     worked: &TxRecord,
 ) -> Result<Option<LockNeeds>, Unnamed>
     ensures reserved { IfOk result (λ found. MatchOption found (Unit {0}) (λ locks. IsReserved S.stands terms.now item.now locks)) }
+    ensures lacking { (need : LineNeed) → result ≡ Err (Unnamed.Lacking need) → WhereItAgrees S.stands (knows (terms.now).known) (λ t. IsLacking (terms.now).standing (uttered_of item.now) (knows (terms.now).known) t need) }
 {
     if !is_begun(terms, worked) {
         return Ok(None);
     }
     match item {
-        Item::Statement(Statement::StartReadWrite { wait: _, reserved }) => {
-            let locks = S::reserved_locks(alloc, &terms.known, reserved.as_slice())?;
-            Ok(Some(locks))
-        }
+        Item::Statement(Statement::StartReadWrite { wait: _, reserved }) if !reserved.is_empty() =>
+            {
+                match S::reserved_locks(alloc, &terms.known, reserved.as_slice()) {
+                    Ok(locks) => Ok(Some(locks)),
+                    Err(why) => Err(why),
+                }
+            }
         _ => Ok(None),
     }
 }
 
-/// Keeps the record of a statement that was worked till it is said. One that reserves has its locks wanted before.
+/// Keeps the record of a statement that was worked till it is said. One that reserves has its locks wanted before; what has to be known
+/// to name them is read first, and the job is worked again. (Where no tables have each relation, there is no such record.)
 pub(crate) fn keep<S: Reserves, L: LineStore>(
     common: &mut Common<L>,
     s: Session,
@@ -87,22 +95,24 @@ pub(crate) fn keep<S: Reserves, L: LineStore>(
     requires member { IsMember s.number }
     requires seat { IsWriting ((L.sight common.old.store).stand s.number) }
     requires found { IsFound S.stands common.old.word terms.standing (uttered_of item) (knows terms.known) (Found.Done worked) }
-    ensures { ComesIn S.stands s.number (scene common.old.word (L.sight common.old.store) common.old.tree) (at_stage terms (Stage.Working item Work.Out))
-        (scene common.new.word (L.sight common.new.store) common.new.tree) result.phase (events_of s.number result.happened) }
+    ensures comes { ComesIn S.stands s.number (scene common.old.word (L.sight common.old.store) common.old.tree) (at_stage terms (Stage.Working item Work.Out))
+        (scene common.new.word (L.sight common.new.store) common.new.tree) result.phase result.happened }
+    ensures worked { OnUnworked result.happened ⊥ }
 {
     match locks_of::<S>(common.alloc, &terms, &item, &worked) {
         Ok(Some(locks)) => quiet(terms.at(Stage::Reserving(item, worked, locks, 0))),
         Ok(None) => quiet(terms.at(Stage::Saying(item, worked, Laying::Claiming(0)))),
-        Err(Unnamed::Unknown) => Turned {
-            phase: terms.at(Stage::Working(item, Work::Due)),
-            happened: Happening::Unworked,
-        },
+        Err(Unnamed::Lacking(need)) => {
+            let later = Needs::new(common.alloc);
+            quiet(gather::<S>(terms, item, need, later))
+        }
+        Err(Unnamed::Unknown) => quiet(terms.at(Stage::Working(item, Work::Due))),
         Err(Unnamed::NoMemory) => forgo::<S, L>(common, s, terms, item),
     }
 }
 
 /// Asks for the next lock that a START_TRANSACTION reserves; once all are got it is said. Where one is refused its transaction doesn't
-/// begin, and nothing stays. A lock that isn't on an area is none that is reserved, and isn't wanted.
+/// begin, and nothing stays.
 pub fn want_reserved<S: Statements, L: LineStore>(
     common: &mut Common<L>,
     s: Session,
@@ -112,19 +122,14 @@ pub fn want_reserved<S: Statements, L: LineStore>(
     requires member { IsMember s.number }
     requires seat { IsWriting ((L.sight common.old.store).stand s.number) }
     requires statement { ends_by (uttered_of reserving.item) ≡ false }
+    requires areas { AreOnAreas reserving.locks }
     requires wants { WantsAtMost (slice_get reserving.locks reserving.place) (opened_of common.old.tree s.number) }
     ensures { ComesIn S.stands s.number (scene common.old.word (L.sight common.old.store) common.old.tree) (reserves_at terms reserving)
-        (scene common.new.word (L.sight common.new.store) common.new.tree) result.phase (events_of s.number result.happened) }
+        (scene common.new.word (L.sight common.new.store) common.new.tree) result.phase result.happened }
 {
     let Some(need) = reserving.next() else {
         let Reserving { item, worked, .. } = reserving;
         return quiet(terms.at(Stage::Saying(item, worked, Laying::Claiming(0))));
     };
-    match need.node.level {
-        Level::Area => want::<S, L>(common, s, terms, reserving.stage(), need),
-        _ => Turned {
-            phase: terms.at(reserving.stage()),
-            happened: Happening::Unworked,
-        },
-    }
+    want::<S, L>(common, s, terms, reserving.stage(), need)
 }

@@ -1,10 +1,9 @@
 -- What statements ask for is plain, and isn't the journal.
-use Rattle.std.proofs.Common.{◌≡◌, ◌==◌, ◌<◌, ◌≤◌, if◌then◌else◌, ℕ, zero, suc, arith, Bool, true, false, List, [], ◌∷◌, length, refl, sym, ap, ◌∙◌, subst, Option, Some, None, slice_get}
+use Rattle.std.proofs.Common.{◌≡◌, ◌==◌, ◌<◌, ◌≤◌, if◌then◌else◌, ℕ, zero, suc, arith, Bool, true, false, List, [], ◌∷◌, length, refl, sym, ap, ◌∙◌, Option, Some, None, slice_get}
 use Rattle.std.proofs.lemmas.Option.{none-some}
 use Rattle.rdb_types.specs.declared.keys.Dbkey.{Dbkey}
 use Rattle.rdo_ast.specs.Tree.{Uttered}
 use Rattle.vms_queues.specs.declared.lock_mode.Mode.TheVariants.{PR, EX}
-use Rattle.lock_needs.specs.declared.need.Need.{Need as LockNeed}
 use Rattle.rdb_account.specs.Events.{need}
 use Rattle.kept_apart.specs.Guards.{line_node}
 use Rattle.line_view.specs.declared.need.Need.{Need}
@@ -23,7 +22,7 @@ use Rattle.line_store.specs.Sights.{bare}
 use Rattle.session_stands.specs.Seated.{stand_of}
 use Rattle.session_stands.proofs.Seats.{writing-seat}
 use Rattle.stage_steps.specs.Asking.{IsOfStatement}
-use Rattle.session_states.specs.Locks.{lock_of, lock_for_area, lock_for_line, lock_for, lock_of_work, lock_of_gather, lock_of_write, lock_of_laying}
+use Rattle.session_states.specs.Locks.{lock_of, lock_for_area, lock_for, lock_of_work, lock_of_gather, lock_of_write, lock_of_laying}
 use Rattle.line_arms.specs.Going.{MayBeAsked}
 
 line-asked : (item : Uttered) (key : Dbkey) (b : Bool) → MayBeAsked (Some (if b then lock_for_area item 1 else need (line_node key) PR))

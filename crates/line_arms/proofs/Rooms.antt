@@ -1,5 +1,5 @@
 -- A statement that lacks a room has its job worked again.
-use Rattle.std.proofs.Common.{◌≡◌, ℕ, refl}
+use Rattle.std.proofs.Common.{refl, arith}
 use Rattle.rdb_types.specs.declared.keys.Dbkey.{Dbkey}
 use Rattle.rdo_ast.specs.declared.syntax.Item.{Item}
 use Rattle.line_view.specs.declared.need.Need.TheVariants as need
@@ -8,6 +8,7 @@ use Rattle.session_jobs.specs.Records.{Model, IsOrderly}
 use Rattle.session_states.specs.declared.stage.Work.TheVariants.{Due, Lacking, Lodging}
 use Rattle.session_states.specs.declared.stage.Stage.TheVariants.{Working}
 use Rattle.session_states.proofs.Resting.{rests-by}
+use Rattle.session_measure.proofs.Nearer.{nearer-in-round}
 use Rattle.stage_steps.specs.declared.terms.Terms.{Terms}
 use Rattle.stage_steps.specs.Scenes.{PassesOn}
 use Rattle.stage_steps.specs.Turns.{at_stage}
@@ -19,6 +20,7 @@ module _ (M : Model) (orderly : IsOrderly M) (t : Terms) (item : Item) (room : R
     comes = λ s c left total. rests-by M orderly s c left total (at_stage t (Working item (Lacking (need.Room room)))) (at_stage t (Working item Due)) refl
         (λ o p g f. record { desk = f.fits.phase.desk; spoken = f.fits.phase.spoken; waits = f.fits.phase.waits; stage = (f.fits.phase.stage.0, tt); wants = f.fits.phase.wants; journal = f.fits.phase.journal; ends = tt; claims = tt });
     seated = λ stand locks s f. rests-at stand locks s _ f.seat f.wants f.needs f.statement;
+    nearer = λ s b left total. nearer-in-round s b b _ _ refl refl refl refl (omega arith) left total;
   }
 
   pub lodges-again : (key : Dbkey) → PassesOn M (at_stage t (Working item (Lodging room key))) (at_stage t (Working item Due))
@@ -26,4 +28,5 @@ module _ (M : Model) (orderly : IsOrderly M) (t : Terms) (item : Item) (room : R
     comes = λ s c left total. rests-by M orderly s c left total (at_stage t (Working item (Lodging room key))) (at_stage t (Working item Due)) refl
         (λ o p g f. record { desk = f.fits.phase.desk; spoken = f.fits.phase.spoken; waits = f.fits.phase.waits; stage = (f.fits.phase.stage.0, tt); wants = f.fits.phase.wants; journal = f.fits.phase.journal; ends = tt; claims = tt });
     seated = λ stand locks s f. rests-at stand locks s _ f.seat f.wants f.needs f.statement;
+    nearer = λ s b left total. nearer-in-round s b b _ _ refl refl refl refl (omega arith) left total;
   }

@@ -2,7 +2,6 @@
 ghost use Rattle.std.specs.Prelude.{◌≡◌};
 ghost use Rattle.line_store.specs.Seats.{IsMember};
 ghost use Rattle.session_stands.specs.Seated.{IsSeated};
-ghost use Rattle.stage_steps.specs.Happenings.{events_of};
 ghost use Rattle.stage_steps.specs.Scenes.{ComesIn, scene};
 ghost use Rattle.stage_steps.specs.Turns.{at_stage};
 ghost use Rattle.line_arms.specs.Going.{IsAmong};
@@ -34,7 +33,7 @@ pub(crate) fn go_on_ending<S: Statements, L: LineStore>(
     requires seated { IsSeated (L.sight common.old.store).stand common.old.tree s.number (at_stage terms (Stage.Ending end)) }
     requires among { IsAmong (L.sight common.old.store).stand common.old.tree s.number }
     ensures { ComesIn S.stands s.number (scene common.old.word (L.sight common.old.store) common.old.tree) (at_stage terms (Stage.Ending end))
-        (scene common.new.word (L.sight common.new.store) common.new.tree) result.phase (events_of s.number result.happened) }
+        (scene common.new.word (L.sight common.new.store) common.new.tree) result.phase result.happened }
 {
     match end {
         End::Preparing => prepare::<S, L>(common, s, terms),
@@ -56,7 +55,7 @@ fn begin_commit<S: Statements, L: LineStore>(
     requires seated { IsSeated (L.sight common.old.store).stand common.old.tree s.number (at_stage terms (Stage.Ending End.Ready)) }
     requires among { IsAmong (L.sight common.old.store).stand common.old.tree s.number }
     ensures { ComesIn S.stands s.number (scene common.old.word (L.sight common.old.store) common.old.tree) (at_stage terms (Stage.Ending End.Ready))
-        (scene common.new.word (L.sight common.new.store) common.new.tree) result.phase (events_of s.number result.happened) }
+        (scene common.new.word (L.sight common.new.store) common.new.tree) result.phase result.happened }
 {
     // (so what it has got is apart from what others have got)
     let _mode = common.tree.mode_of(s.number, JOURNAL);

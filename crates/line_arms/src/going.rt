@@ -2,13 +2,14 @@
 ghost use Rattle.std.specs.Prelude.{◌≡◌, [], false};
 ghost use Rattle.line_store.specs.Seats.{IsMember};
 ghost use Rattle.session_stands.specs.Seated.{IsSeated};
-ghost use Rattle.stage_steps.specs.Happenings.{events_of, handed_back};
+ghost use Rattle.session_measure.specs.Nearer.{AreRounds};
+ghost use Rattle.stage_steps.specs.Happenings.{handed_back};
 ghost use Rattle.stage_steps.specs.Scenes.{scene};
 ghost use Rattle.line_arms.specs.Going.{GoesOn, IsAmong, is_done};
 
+use crate::Allotment;
 use crate::reading::go_on_reading;
 use crate::writing::go_on_writing;
-use given_rooms::Rooms;
 use line_store::LineStore;
 use rdb_types::Session;
 use reached_changes::Reaches;
@@ -16,27 +17,28 @@ use reserved_locks::Reserves;
 use session_states::{ItemQueue, Phase};
 use stage_steps::{Common, Turned, put_away, start};
 
-/// One step of a session that has something left to do, with the rooms that its statement was given. An item that is handed back isn't in
-/// what is left.
+/// One step of a session that has something left to do, with what its statement is allotted. An item that is handed back isn't in what
+/// is left.
 pub fn go_on<S: Reserves + Reaches, L: LineStore>(
     common: &mut Common<L>,
     s: Session,
     left: &mut ItemQueue,
-    rooms: &mut Rooms,
+    allotment: &mut Allotment,
     phase: Phase,
 ) -> Turned
     requires member { IsMember s.number }
     requires seated { IsSeated (L.sight common.old.store).stand common.old.tree s.number phase }
     requires among { IsAmong (L.sight common.old.store).stand common.old.tree s.number }
     requires going { is_done left.old phase ≡ false }
-    ensures { handed_back result.happened ≡ [] → GoesOn S.stands s.number (scene common.old.word (L.sight common.old.store) common.old.tree) left.old phase
-        (scene common.new.word (L.sight common.new.store) common.new.tree) left.new result.phase (events_of s.number result.happened) }
+    ensures goes { handed_back result.happened ≡ [] → GoesOn S.stands s.number (scene common.old.word (L.sight common.old.store) common.old.tree) left.old phase
+        (scene common.new.word (L.sight common.new.store) common.new.tree) left.new result.phase result.happened }
+    ensures rounds { AreRounds phase result.phase allotment.old.rounds allotment.new.rounds }
 {
     match phase {
-        Phase::Outside => start_next::<S, L>(common, s, left, rooms),
+        Phase::Outside => start_next::<S, L>(common, s, left, allotment),
         Phase::Closing => put_away::<S, L>(&mut common.store, s),
-        Phase::Writing(writer) => go_on_writing::<S, L>(common, s, left, rooms, writer),
-        Phase::Reading(reader) => go_on_reading::<S, L>(common, s, left, reader),
+        Phase::Writing(writer) => go_on_writing::<S, L>(common, s, left, allotment, writer),
+        Phase::Reading(reader) => go_on_reading::<S, L>(common, s, left, allotment, reader),
         Phase::Over => unreachable!(),
     }
 }
@@ -46,17 +48,17 @@ fn start_next<S: Reserves + Reaches, L: LineStore>(
     common: &mut Common<L>,
     s: Session,
     left: &mut ItemQueue,
-    rooms: &mut Rooms,
+    allotment: &mut Allotment,
 ) -> Turned
     requires member { IsMember s.number }
     requires seated { IsSeated (L.sight common.old.store).stand common.old.tree s.number Phase.Outside }
     requires going { is_done left.old Phase.Outside ≡ false }
     ensures { handed_back result.happened ≡ [] → GoesOn S.stands s.number (scene common.old.word (L.sight common.old.store) common.old.tree) left.old Phase.Outside
-        (scene common.new.word (L.sight common.new.store) common.new.tree) left.new result.phase (events_of s.number result.happened) }
+        (scene common.new.word (L.sight common.new.store) common.new.tree) left.new result.phase result.happened }
 {
     let Some(item) = left.pop() else {
         unreachable!();
     };
-    *rooms = Rooms::new(common.alloc);
+    *allotment = Allotment::new(common.alloc);
     start::<S, L>(common.alloc, &common.word, &mut common.store, s, item)
 }

@@ -2,6 +2,7 @@
 //! memory has the session.
 #![tactic(auto)]
 
+mod allotment;
 mod ending;
 mod gathering;
 mod going;
@@ -9,4 +10,5 @@ mod reading;
 mod working;
 mod writing;
 
+pub use allotment::Allotment;
 pub use going::go_on;

@@ -1,21 +1,23 @@
 //! A read-only transaction, by its stage.
-ghost use Rattle.std.specs.Prelude.{◌≡◌};
+ghost use Rattle.std.specs.Prelude.{◌≡◌, []};
 ghost use Rattle.line_store.specs.Seats.{IsMember};
 ghost use Rattle.session_states.specs.declared.stage.Phase.TheVariants.{Reading};
 ghost use Rattle.session_stands.specs.Seated.{IsSeated};
-ghost use Rattle.stage_steps.specs.Happenings.{events_of};
+ghost use Rattle.session_measure.specs.Nearer.{AreRounds};
+ghost use Rattle.stage_steps.specs.Happenings.{handed_back};
 ghost use Rattle.stage_steps.specs.Scenes.{ComesIn, scene};
 ghost use Rattle.stage_steps.specs.Turns.{reads_at};
 ghost use Rattle.line_arms.specs.Going.{GoesOn};
 
+use crate::Allotment;
 use line_store::LineStore;
 use rdb_types::Session;
 use rdo_ast::syntax::Item;
 use session_jobs::Statements;
 use session_states::{ItemQueue, Reader, ReaderStage, ReaderWork};
 use stage_steps::{
-    Common, ReaderTerms, Turned, compute_reading, fetch_reading, hand_out_reading, leave_reading,
-    quiet, take_up_reading,
+    Common, ReaderTerms, Turned, compute_reading, fetch_reading, forgo_reading, hand_out_reading,
+    leave_reading, quiet, take_up_reading,
 };
 
 /// One step of a read-only transaction.
@@ -23,12 +25,14 @@ pub(crate) fn go_on_reading<S: Statements, L: LineStore>(
     common: &mut Common<L>,
     s: Session,
     left: &mut ItemQueue,
+    allotment: &mut Allotment,
     reader: Reader,
 ) -> Turned
     requires member { IsMember s.number }
     requires seated { IsSeated (L.sight common.old.store).stand common.old.tree s.number (Reading reader) }
-    ensures { GoesOn S.stands s.number (scene common.old.word (L.sight common.old.store) common.old.tree) left.old (Reading reader)
-        (scene common.new.word (L.sight common.new.store) common.new.tree) left.new result.phase (events_of s.number result.happened) }
+    ensures goes { handed_back result.happened ≡ [] → GoesOn S.stands s.number (scene common.old.word (L.sight common.old.store) common.old.tree) left.old (Reading reader)
+        (scene common.new.word (L.sight common.new.store) common.new.tree) left.new result.phase result.happened }
+    ensures rounds { AreRounds (Reading reader) result.phase allotment.old.rounds allotment.new.rounds }
 {
     let Reader {
         standing,
@@ -42,8 +46,10 @@ pub(crate) fn go_on_reading<S: Statements, L: LineStore>(
         spoken,
     };
     match stage {
-        ReaderStage::Between => read_next::<S, L>(common, s, left, terms),
-        ReaderStage::Working(item, work) => look::<S, L>(common, s, terms, item, work),
+        ReaderStage::Between => read_next::<S, L>(common, s, left, allotment, terms),
+        ReaderStage::Working(item, work) => {
+            look::<S, L>(common, s, terms, allotment, item, work)
+        }
     }
 }
 
@@ -52,15 +58,19 @@ fn read_next<S: Statements, L: LineStore>(
     common: &mut Common<L>,
     s: Session,
     left: &mut ItemQueue,
+    allotment: &mut Allotment,
     terms: ReaderTerms,
 ) -> Turned
     requires member { IsMember s.number }
     requires seated { IsSeated (L.sight common.old.store).stand common.old.tree s.number (reads_at terms ReaderStage.Between) }
-    ensures { GoesOn S.stands s.number (scene common.old.word (L.sight common.old.store) common.old.tree) left.old (reads_at terms ReaderStage.Between)
-        (scene common.new.word (L.sight common.new.store) common.new.tree) left.new result.phase (events_of s.number result.happened) }
+    ensures { handed_back result.happened ≡ [] → GoesOn S.stands s.number (scene common.old.word (L.sight common.old.store) common.old.tree) left.old (reads_at terms ReaderStage.Between)
+        (scene common.new.word (L.sight common.new.store) common.new.tree) left.new result.phase result.happened }
 {
     match left.pop() {
-        Some(item) => take_up_reading::<S, L>(&mut common.store, s, terms, item),
+        Some(item) => {
+            *allotment = Allotment::new(common.alloc);
+            take_up_reading::<S, L>(&mut common.store, s, terms, item)
+        }
         None => leave_reading::<S, L>(&mut common.store, s, terms),
     }
 }
@@ -70,16 +80,24 @@ fn look<S: Statements, L: LineStore>(
     common: &mut Common<L>,
     s: Session,
     terms: ReaderTerms,
+    allotment: &mut Allotment,
     item: Item,
     work: ReaderWork,
 ) -> Turned
     requires member { IsMember s.number }
     requires seated { IsSeated (L.sight common.old.store).stand common.old.tree s.number (reads_at terms (ReaderStage.Working item work)) }
-    ensures { ComesIn S.stands s.number (scene common.old.word (L.sight common.old.store) common.old.tree) (reads_at terms (ReaderStage.Working item work))
-        (scene common.new.word (L.sight common.new.store) common.new.tree) result.phase (events_of s.number result.happened) }
+    ensures comes { ComesIn S.stands s.number (scene common.old.word (L.sight common.old.store) common.old.tree) (reads_at terms (ReaderStage.Working item work))
+        (scene common.new.word (L.sight common.new.store) common.new.tree) result.phase result.happened }
+    ensures rounds { AreRounds (reads_at terms (ReaderStage.Working item work)) result.phase allotment.old.rounds allotment.new.rounds }
 {
     match work {
-        ReaderWork::Due => quiet(hand_out_reading::<S>(terms, item)),
+        ReaderWork::Due => {
+            if allotment.rounds == 0 {
+                return forgo_reading::<S, L>(common.alloc, &mut common.store, s, terms, item);
+            }
+            allotment.rounds -= 1;
+            quiet(hand_out_reading::<S>(terms, item))
+        }
         ReaderWork::Out => {
             let store = &mut common.store;
             compute_reading::<S, L>(common.alloc, &common.word, store, s, terms, item)

@@ -7,12 +7,13 @@ ghost use Rattle.line_view.specs.declared.need.Room.{Room as RoomValue};
 ghost use Rattle.session_states.specs.declared.stage.Work.TheVariants.{Lacking, Lodging};
 ghost use Rattle.session_states.specs.Locks.{lock_of};
 ghost use Rattle.session_stands.specs.Seated.{IsSeated};
+ghost use Rattle.session_measure.specs.Nearer.{AreRounds};
 ghost use Rattle.stage_steps.specs.Asking.{IsOfStatement};
-ghost use Rattle.stage_steps.specs.Happenings.{events_of};
 ghost use Rattle.stage_steps.specs.Scenes.{ComesIn, PassesOn, scene};
 ghost use Rattle.stage_steps.specs.Turns.{at_stage};
 ghost use Rattle.line_arms.specs.Going.{MayBeAsked};
 
+use crate::Allotment;
 use job_steps::compute;
 use line_store::LineStore;
 use line_view::Need;
@@ -21,24 +22,26 @@ use rdo_ast::syntax::Item;
 use reserved_locks::Reserves;
 use session_jobs::Statements;
 use session_states::{Phase, Stage, Work, lock_of};
-use stage_steps::{Common, Terms, Turned, fetch_locked, hand_out, open, quiet, want};
+use stage_steps::{Common, Terms, Turned, fetch_locked, forgo, hand_out, open, quiet, want};
 
 /// One step of a statement's work.
 pub(crate) fn go_on_working<S: Reserves, L: LineStore>(
     common: &mut Common<L>,
     s: Session,
     terms: Terms,
+    allotment: &mut Allotment,
     item: Item,
     work: Work,
 ) -> Turned
     requires member { IsMember s.number }
     requires seated { IsSeated (L.sight common.old.store).stand common.old.tree s.number (at_stage terms (Stage.Working item work)) }
-    ensures { ComesIn S.stands s.number (scene common.old.word (L.sight common.old.store) common.old.tree) (at_stage terms (Stage.Working item work))
-        (scene common.new.word (L.sight common.new.store) common.new.tree) result.phase (events_of s.number result.happened) }
+    ensures comes { ComesIn S.stands s.number (scene common.old.word (L.sight common.old.store) common.old.tree) (at_stage terms (Stage.Working item work))
+        (scene common.new.word (L.sight common.new.store) common.new.tree) result.phase result.happened }
+    ensures rounds { AreRounds (at_stage terms (Stage.Working item work)) result.phase allotment.old.rounds allotment.new.rounds }
 {
     match work {
         Work::Opening => open::<S, L>(&mut common.store, s, terms, item),
-        Work::Due => quiet(hand_out::<S>(terms, item)),
+        Work::Due => hand_out_once::<S, L>(common, s, terms, allotment, item),
         Work::Out => compute::<S, L>(common, s, terms, item),
         Work::Fetching(need) => fetch_locked::<S, L>(common, s, terms, item, need),
         Work::Lacking(Need::Room(_)) => quiet(hand_in::<S>(terms, item)),
@@ -47,6 +50,27 @@ pub(crate) fn go_on_working<S: Reserves, L: LineStore>(
             want_lock::<S, L>(common, s, terms, Stage::Working(item, work))
         }
     }
+}
+
+// The job of a statement is handed out, and it has one round fewer. Once it has none it is refused for want of memory.
+fn hand_out_once<S: Statements, L: LineStore>(
+    common: &mut Common<L>,
+    s: Session,
+    terms: Terms,
+    allotment: &mut Allotment,
+    item: Item,
+) -> Turned
+    requires member { IsMember s.number }
+    requires seated { IsSeated (L.sight common.old.store).stand common.old.tree s.number (at_stage terms (Stage.Working item Work.Due)) }
+    ensures comes { ComesIn S.stands s.number (scene common.old.word (L.sight common.old.store) common.old.tree) (at_stage terms (Stage.Working item Work.Due))
+        (scene common.new.word (L.sight common.new.store) common.new.tree) result.phase result.happened }
+    ensures rounds { AreRounds (at_stage terms (Stage.Working item Work.Due)) result.phase allotment.old.rounds allotment.new.rounds }
+{
+    if allotment.rounds == 0 {
+        return forgo::<S, L>(common, s, terms, item);
+    }
+    allotment.rounds -= 1;
+    quiet(hand_out::<S>(terms, item))
 }
 
 /// Asks for the lock that the stage of a statement wants.
@@ -62,7 +86,7 @@ pub(crate) fn want_lock<S: Statements, L: LineStore>(
     requires wants { lock_of stage ≡ None → ⊥ }
     requires asked { MayBeAsked (lock_of stage) }
     ensures { ComesIn S.stands s.number (scene common.old.word (L.sight common.old.store) common.old.tree) (at_stage terms stage)
-        (scene common.new.word (L.sight common.new.store) common.new.tree) result.phase (events_of s.number result.happened) }
+        (scene common.new.word (L.sight common.new.store) common.new.tree) result.phase result.happened }
 {
     let Some(need) = lock_of(&stage) else {
         unreachable!();

@@ -3,16 +3,16 @@ ghost use Rattle.std.specs.Prelude.{◌≡◌};
 ghost use Rattle.line_store.specs.Seats.{IsMember};
 ghost use Rattle.session_states.specs.declared.stage.Phase.TheVariants.{Writing};
 ghost use Rattle.session_stands.specs.Seated.{IsSeated};
-ghost use Rattle.stage_steps.specs.Happenings.{events_of};
+ghost use Rattle.session_measure.specs.Nearer.{AreRounds};
 ghost use Rattle.stage_steps.specs.Scenes.{ComesIn, scene};
 ghost use Rattle.stage_steps.specs.Turns.{at_stage};
 ghost use Rattle.line_arms.specs.Going.{GoesOn, IsAmong};
 
+use crate::Allotment;
 use crate::ending::go_on_ending;
 use crate::gathering::go_on_gathering;
 use crate::working::{go_on_working, want_lock};
 use gathering_steps::Round;
-use given_rooms::Rooms;
 use job_steps::{Reserving, want_reserved};
 use line_store::LineStore;
 use rdb_types::Session;
@@ -28,14 +28,15 @@ pub(crate) fn go_on_writing<S: Reserves + Reaches, L: LineStore>(
     common: &mut Common<L>,
     s: Session,
     left: &mut ItemQueue,
-    rooms: &mut Rooms,
+    allotment: &mut Allotment,
     writer: Writer,
 ) -> Turned
     requires member { IsMember s.number }
     requires seated { IsSeated (L.sight common.old.store).stand common.old.tree s.number (Writing writer) }
     requires among { IsAmong (L.sight common.old.store).stand common.old.tree s.number }
-    ensures { GoesOn S.stands s.number (scene common.old.word (L.sight common.old.store) common.old.tree) left.old (Writing writer)
-        (scene common.new.word (L.sight common.new.store) common.new.tree) left.new result.phase (events_of s.number result.happened) }
+    ensures goes { GoesOn S.stands s.number (scene common.old.word (L.sight common.old.store) common.old.tree) left.old (Writing writer)
+        (scene common.new.word (L.sight common.new.store) common.new.tree) left.new result.phase result.happened }
+    ensures rounds { AreRounds (Writing writer) result.phase allotment.old.rounds allotment.new.rounds }
 {
     let Writer {
         standing,
@@ -51,8 +52,8 @@ pub(crate) fn go_on_writing<S: Reserves + Reaches, L: LineStore>(
         waits,
     };
     match stage {
-        Stage::Between => take_next::<S, L>(common, s, left, rooms, terms),
-        stage => go_on_stage::<S, L>(common, s, terms, rooms, stage),
+        Stage::Between => take_next::<S, L>(common, s, left, allotment, terms),
+        stage => go_on_stage::<S, L>(common, s, terms, allotment, stage),
     }
 }
 
@@ -61,22 +62,25 @@ fn go_on_stage<S: Reserves + Reaches, L: LineStore>(
     common: &mut Common<L>,
     s: Session,
     terms: Terms,
-    rooms: &mut Rooms,
+    allotment: &mut Allotment,
     stage: Stage,
 ) -> Turned
     requires member { IsMember s.number }
     requires seated { IsSeated (L.sight common.old.store).stand common.old.tree s.number (at_stage terms stage) }
     requires among { IsAmong (L.sight common.old.store).stand common.old.tree s.number }
     requires under { stage ≡ Stage.Between → ⊥ }
-    ensures { ComesIn S.stands s.number (scene common.old.word (L.sight common.old.store) common.old.tree) (at_stage terms stage)
-        (scene common.new.word (L.sight common.new.store) common.new.tree) result.phase (events_of s.number result.happened) }
+    ensures comes { ComesIn S.stands s.number (scene common.old.word (L.sight common.old.store) common.old.tree) (at_stage terms stage)
+        (scene common.new.word (L.sight common.new.store) common.new.tree) result.phase result.happened }
+    ensures rounds { AreRounds (at_stage terms stage) result.phase allotment.old.rounds allotment.new.rounds }
 {
     match stage {
         Stage::Between => unreachable!(),
-        Stage::Working(item, work) => go_on_working::<S, L>(common, s, terms, item, work),
+        Stage::Working(item, work) => {
+            go_on_working::<S, L>(common, s, terms, allotment, item, work)
+        }
         Stage::Gathering(item, gather, later, place) => {
             let round = Round { item, later, place };
-            go_on_gathering::<S, L>(common, s, terms, rooms, round, gather)
+            go_on_gathering::<S, L>(common, s, terms, &mut allotment.rooms, round, gather)
         }
         Stage::Reserving(item, worked, locks, place) => {
             let reserving = Reserving {
@@ -99,17 +103,17 @@ fn take_next<S: Statements, L: LineStore>(
     common: &mut Common<L>,
     s: Session,
     left: &mut ItemQueue,
-    rooms: &mut Rooms,
+    allotment: &mut Allotment,
     terms: Terms,
 ) -> Turned
     requires member { IsMember s.number }
     requires seated { IsSeated (L.sight common.old.store).stand common.old.tree s.number (at_stage terms Stage.Between) }
     ensures { GoesOn S.stands s.number (scene common.old.word (L.sight common.old.store) common.old.tree) left.old (at_stage terms Stage.Between)
-        (scene common.new.word (L.sight common.new.store) common.new.tree) left.new result.phase (events_of s.number result.happened) }
+        (scene common.new.word (L.sight common.new.store) common.new.tree) left.new result.phase result.happened }
 {
     match left.pop() {
         Some(item) => {
-            *rooms = Rooms::new(common.alloc);
+            *allotment = Allotment::new(common.alloc);
             quiet(take_up::<S, L>(&mut common.store, s, terms, item))
         }
         None => quiet(leave::<S, L>(&mut common.store, s, terms)),
@@ -128,7 +132,7 @@ fn go_on_saying<S: Statements, L: LineStore>(
     requires member { IsMember s.number }
     requires seated { IsSeated (L.sight common.old.store).stand common.old.tree s.number (at_stage terms (Stage.Saying item worked laying)) }
     ensures { ComesIn S.stands s.number (scene common.old.word (L.sight common.old.store) common.old.tree) (at_stage terms (Stage.Saying item worked laying))
-        (scene common.new.word (L.sight common.new.store) common.new.tree) result.phase (events_of s.number result.happened) }
+        (scene common.new.word (L.sight common.new.store) common.new.tree) result.phase result.happened }
 {
     match laying {
         Laying::Changing => change::<S, L>(&mut common.store, s, terms, item, worked),

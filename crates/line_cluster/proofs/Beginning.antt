@@ -1,22 +1,21 @@
 -- Sessions that have said nothing are sound.
-use Rattle.std.proofs.Common.{◌≡◌, ◌≤◌, ◌+◌, ℕ, zero, suc, ◌∷◌, [], List, length, map, refl, ◌∙◌, sym, ap, subst, arith, Option, Some, None, option_map, slice_get}
+use Rattle.std.proofs.Common.{◌≡◌, ◌≤◌, ℕ, zero, suc, ◌∷◌, [], List, length, map, refl, ◌∙◌, sym, ap, subst, arith, Some, None, slice_get}
 use Rattle.std.proofs.lemmas.Option.{none-some, same_Some}
 use Rattle.rdo_ast.specs.declared.syntax.Item.{Item}
 use Rattle.rdo_ast.specs.Views.{uttered_of}
 use Rattle.rdb_account.specs.Places.{Opening}
-use Rattle.line_store.specs.Seats.{Seat, outside}
-use Rattle.line_store.specs.Sights.{Sight, Agrees, bare}
+use Rattle.line_store.specs.Seats.{outside}
+use Rattle.line_store.specs.Sights.{Agrees, bare}
 use Rattle.session_jobs.specs.Records.{Model, IsOrderly}
 use Rattle.session_states.specs.declared.stage.Member.{Member}
 use Rattle.session_states.specs.declared.stage.Phase.TheVariants.{Outside}
 use Rattle.session_states.specs.declared.stage.Life.TheVariants.{Alive}
-use Rattle.session_states.specs.Kept.{IsFresh, AreKept, IsOpened}
+use Rattle.session_states.specs.Kept.{AreKept}
 use Rattle.session_states.proofs.Opened.{opened}
-use Rattle.session_stands.specs.Sessions.{AreSeated, IsTold, dead_in, sharing}
+use Rattle.session_stands.specs.Sessions.{IsTold, dead_in, sharing}
 use Rattle.session_stands.proofs.Seating.{began}
 use Rattle.session_stands.proofs.Seats.{outside-seat}
 use Rattle.stage_steps.specs.Scenes.{Scene}
-use Rattle.line_cluster.specs.declared.sessions.Halt.{Halt}
 use Rattle.rdb_account.specs.Events.{event_of}
 use Rattle.rdb_account.specs.declared.event.Event.{Event as Declared}
 use Rattle.line_cluster.specs.Sound.{IsSound, AreSound, FollowsScripts, IsOpenedBy, fresh_member}

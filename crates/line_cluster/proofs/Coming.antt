@@ -1,23 +1,29 @@
 -- What a turn comes to.
-use Rattle.std.proofs.Common.{◌≡◌, ◌≤◌, ◌<◌, ◌-◌, ℕ, zero, suc, ◌+◌, ◌++◌, ◌∷◌, [], List, true, false, refl, ◌∙◌, sym, ap, subst, arith, map, Option, Some, None, slice_get, slice_set, append-nil, inl, inr, ◌⊎◌, Bool, is_some, IfSome}
+use Rattle.std.proofs.Common.{◌≡◌, ◌≤◌, ◌<◌, ◌-◌, ℕ, zero, suc, ◌+◌, ◌++◌, ◌∷◌, [], List, true, false, refl, ◌∙◌, sym, ap, subst, arith, map, Option, Some, None, slice_get, slice_set, append-nil, append_assoc, inl, inr, ◌⊎◌, Bool, is_some, IfSome, Result, Ok, Err}
 use Rattle.std.proofs.lemmas.Bool.{false≢true}
-use Rattle.std.proofs.lemmas.Option.{none-some, same_Some}
+use Rattle.std.proofs.lemmas.List.{map-append}
+use Rattle.std.proofs.lemmas.Option.{same_Some}
+use Rattle.rdb_drive.specs.Boards.{Mark, Says, Does, Other, AllOf, AllNobodys, answers}
 use Rattle.rdb_account.specs.declared.event.Event.{Event as Declared}
-use Rattle.rdb_account.specs.Events.{Event, event_of}
-use Rattle.lock_tree_laws.specs.Forest.{State}
+use Rattle.rdb_account.specs.Events.{Event, Died, event_of}
 use Rattle.session_states.specs.declared.stage.Life.{Life}
 use Rattle.session_states.specs.declared.stage.Life.TheVariants.{Alive, Dead, Gone}
+use Rattle.rdb_types.specs.declared.session.Cause.{Cause}
 use Rattle.session_states.specs.declared.stage.Member.{Member}
 use Rattle.session_stands.specs.Sessions.{dead_in, one_dead}
-use Rattle.line_cluster.specs.Going.{IsDeadAt, is_dead_life, is_over}
+use Rattle.line_cluster.specs.Going.{IsDeadAt, is_alive_life, is_dead_life, is_over}
 use Rattle.rdb_account.specs.Places.{Opening}
+use Rattle.line_store.specs.declared.answers.Fault.{Fault}
+use Rattle.stage_steps.specs.declared.dying.Recovery.{Recovery}
+use Rattle.stage_steps.specs.declared.dying.Recovery.TheVariants.{More, Done}
+use Rattle.stage_steps.specs.Deaths.{life_behind, recovery_events}
 use Rattle.stage_steps.specs.declared.happening.Happening.{Happening}
 use Rattle.stage_steps.specs.Happenings.{events_of}
-use Rattle.line_cluster.specs.declared.sessions.Halt.{Halt}
 use Rattle.line_cluster.specs.declared.sessions.Turn.{Turn}
 use Rattle.line_cluster.specs.declared.sessions.Turn.TheVariants as turn
-use Rattle.line_cluster.specs.Turned.{Sessions, Came, GoesFurther, GoesOn, Grows, IsAnother, Rests}
-use Rattle.line_cluster.proofs.Marks.{IsOf, step-marks}
+use Rattle.line_cluster.specs.Turned.{Sessions, Came, GoesFurther, GoesOn, Grows, GrowsQuietly, IsAnother, IsDeath, IsHalt, IsRecovery, RecoveryCame, Rests, mark_of, with_life}
+use Rattle.line_cluster.proofs.Marks.{IsOf, all-append, answers-append, step-marks}
+use Rattle.line_cluster.proofs.Places.{set-same}
 
 -- nothing happened
 pub still : (s : ℕ) (c d : Sessions) → d.members ≡ c.members → d.events ≡ c.events → GoesFurther s c d
@@ -88,10 +94,116 @@ went s at old new m n h is found going lives put grown = record {
   events = grows s old.events new.events (events_of s h) grown (step-marks s h);
 }
 
-pub none-from : (h : Option Halt) → is_some h ≡ false → h ≡ None
+pub none-from : {A : Type 0} (h : Option A) → is_some h ≡ false → h ≡ None
 none-from None e = refl
 none-from (Some x) e = absurd (false≢true (sym e))
 
 -- who is found is the one that was looked at
 pub looked : (ms : List Member) (i : ℕ) (m n : Member) (b : Bool) → slice_get ms i ≡ Some m → is_over m m.life ≡ b → slice_get ms i ≡ Some n → is_over n n.life ≡ b
 looked ms i m n b found is there = subst (λ (x : Member). is_over x x.life ≡ b) (same_Some m n (sym found ∙ there)) is
+
+-- ---- and a notice was served
+
+nobodys-of : (s : ℕ) (ms : List Mark) → AllNobodys ms → AllOf s ms × (answers ms ≡ 0)
+nobodys-of s [] h = (tt, refl)
+nobodys-of s (Says t ∷ ms) h = absurd h.0
+nobodys-of s (Does t ∷ ms) h = absurd h.0
+nobodys-of s (Other ∷ ms) h = let more = nobodys-of s ms h.1 in let none = more.1 in ((tt, more.0), omega (arith, none))
+
+pub went-served : (s : ℕ) (old mid new : Sessions) → GoesFurther s old mid → new.members ≡ mid.members → GrowsQuietly mid.events new.events → GoesFurther s old new
+went-served s old mid new g same quiet =
+    let marks : map mark_of ((g.events).more ++ quiet.more) ≡ map mark_of (g.events).more ++ map mark_of quiet.more = map-append mark_of (g.events).more quiet.more in
+    let none = nobodys-of s (map mark_of quiet.more) quiet.nobodys in
+    record {
+      members = subst (λ (ms : List Member). (ms ≡ old.members) ⊎ IsAnother s old.members ms) (sym same) g.members;
+      events = record {
+        more = (g.events).more ++ quiet.more;
+        grown = quiet.grown ∙ (ap (λ (es : List Event). es ++ quiet.more) (g.events).grown ∙ append_assoc (map event_of old.events) (g.events).more quiet.more);
+        of_s = subst (λ (xs : List Mark). AllOf s xs) (sym marks) (all-append s (map mark_of (g.events).more) (map mark_of quiet.more) (g.events).of_s none.0);
+        one = subst (λ (xs : List Mark). answers xs ≤ 1) (sym marks) (let both = answers-append (map mark_of (g.events).more) (map mark_of quiet.more) in let one = (g.events).one in let zero_ = none.1 in omega (arith, both, one, zero_));
+      };
+    }
+
+pub came-by : (s : ℕ) (old new : Sessions) (t : Turn) → GoesOn t → GoesFurther s old new → (t ≡ turn.Stopped → new.halted ≡ true) → Came s old new t
+came-by s old new turn.Moved on g halted = g
+came-by s old new turn.Stopped on g halted = (halted refl, g)
+came-by s old new (turn.Asleep u) on g halted = absurd on
+came-by s old new turn.Frozen on g halted = absurd on
+came-by s old new turn.Ended on g halted = absurd on
+
+-- ---- deaths
+
+pub has-died : (s at : ℕ) (cause : Cause) (old new : Sessions) (m : Member) → old.halted ≡ false → at ≡ s - 1 → slice_get old.members at ≡ Some m → is_over m m.life ≡ false →
+    new.members ≡ slice_set old.members at (with_life Dead m) → map event_of new.events ≡ map event_of old.events ++ Died s cause ∷ [] → IsDeath s cause old new
+has-died s at cause old new m going is found unfinished put grown = record {
+  going = going;
+  before = m;
+  found = subst (λ (i : ℕ). slice_get old.members i ≡ Some m) is found;
+  unfinished = unfinished;
+  is = subst (λ (i : ℕ). new.members ≡ slice_set old.members i (with_life Dead m)) is put;
+  grown = grown;
+}
+
+-- no step of a recovery gives life back
+lives-not : (r : Result Recovery Fault) → is_alive_life (life_behind r) ≡ false
+lives-not (Ok (Done committed moment)) = refl
+lives-not (Ok More) = refl
+lives-not (Err fault) = refl
+
+nobodys-marks : (s : ℕ) (r : Result Recovery Fault) → AllNobodys (map mark_of (recovery_events s r))
+nobodys-marks s (Ok (Done committed moment)) = (tt, tt)
+nobodys-marks s (Ok More) = tt
+nobodys-marks s (Err fault) = tt
+
+pub has-recovered-on : (at : ℕ) (old new : Sessions) (m : Member) (r : Result Recovery Fault) → slice_get old.members at ≡ Some m → m.life ≡ Dead → new.members ≡ slice_set old.members at (with_life (life_behind r) m) →
+    map event_of new.events ≡ map event_of old.events ++ recovery_events (at + 1) r → IsRecovery old new
+has-recovered-on at old new m r found died put grown = record {
+  at = at;
+  before = m;
+  found = found;
+  died = died;
+  life = life_behind r;
+  dead = lives-not r;
+  is = put;
+  more = recovery_events (at + 1) r;
+  grown = grown;
+  nobodys = nobodys-marks (at + 1) r;
+}
+
+-- who was put back as it was
+pub put-back : (ms : List Member) (at : ℕ) (m : Member) → slice_get ms at ≡ Some m → m.life ≡ Dead → slice_set ms at (with_life Dead m) ≡ ms
+put-back ms at m found died = set-same ms at (with_life Dead m) (found ∙ ap (λ (l : Life). Some (with_life l m)) died)
+
+pub death-from : (s : ℕ) (cause : Cause) (old then new : Sessions) → then.members ≡ old.members → then.events ≡ old.events → then.halted ≡ old.halted → IsDeath s cause then new → IsDeath s cause old new
+death-from s cause old then new members events halted d = record {
+  going = sym halted ∙ d.going;
+  before = d.before;
+  found = subst (λ (ms : List Member). slice_get ms (s - 1) ≡ Some d.before) members d.found;
+  unfinished = d.unfinished;
+  is = d.is ∙ ap (λ (ms : List Member). slice_set ms (s - 1) (with_life Dead d.before)) members;
+  grown = d.grown ∙ ap (λ (es : List Declared). map event_of es ++ Died s cause ∷ []) events;
+}
+
+recovery-from : (old then new : Sessions) → then.members ≡ old.members → then.events ≡ old.events → IsRecovery then new → IsRecovery old new
+recovery-from old then new members events r = record {
+  at = r.at;
+  before = r.before;
+  found = subst (λ (ms : List Member). slice_get ms r.at ≡ Some r.before) members r.found;
+  died = r.died;
+  life = r.life;
+  dead = r.dead;
+  is = r.is ∙ ap (λ (ms : List Member). slice_set ms r.at (with_life r.life r.before)) members;
+  more = r.more;
+  grown = r.grown ∙ ap (λ (es : List Declared). map event_of es ++ r.more) events;
+  nobodys = r.nobodys;
+}
+
+pub recovery-came-from : (old then new : Sessions) (t : Turn) → then.members ≡ old.members → then.events ≡ old.events → GoesOn t → RecoveryCame then new t → RecoveryCame old new t
+recovery-came-from old then new turn.Moved members events on r = recovery-from old then new members events r
+recovery-came-from old then new turn.Stopped members events on h = record { halted = h.halted; members = h.members ∙ members; events = h.events ∙ events }
+recovery-came-from old then new (turn.Asleep u) members events on r = absurd on
+recovery-came-from old then new turn.Frozen members events on r = absurd on
+recovery-came-from old then new turn.Ended members events on r = absurd on
+
+pub halt-recovery : (old new : Sessions) (t : Turn) → t ≡ turn.Stopped → IsHalt old new → RecoveryCame old new t
+halt-recovery old new t is h = subst (λ (u : Turn). RecoveryCame old new u) (sym is) h

@@ -14,7 +14,7 @@ use Rattle.line_store.proofs.InTurn.{does-as}
 use Rattle.session_jobs.specs.Records.{Model, IsOrderly}
 use Rattle.session_states.specs.declared.stage.Phase.{Phase}
 use Rattle.session_states.specs.declared.stage.Life.{Life}
-use Rattle.session_states.specs.declared.stage.Life.TheVariants.{Alive, Dead, Gone}
+use Rattle.session_states.specs.declared.stage.Life.TheVariants.{Alive, Dead}
 use Rattle.session_states.specs.declared.stage.Member.{Member}
 use Rattle.session_states.specs.declared.stage.Work.TheVariants.{Opening as OpeningIt, Due, Out, Lacking, Housing, Fetching, Lodging}
 use Rattle.session_states.specs.declared.stage.Laying.TheVariants.{Claiming, Changing}
@@ -25,7 +25,7 @@ use Rattle.session_states.specs.declared.stage.Phase.TheVariants.{Outside, Closi
 use Rattle.session_states.specs.States.{commits_in, session, dead_session, gone_session}
 use Rattle.session_states.specs.Steps.{Fall}
 use Rattle.session_stands.specs.Seated.{stand_of, IsStandOf, HasFallen, LivesAt}
-use Rattle.session_stands.specs.Sessions.{AreSeated, IsTold, dead_in, one_dead, sharing}
+use Rattle.session_stands.specs.Sessions.{AreSeated, IsTold, dead_in, one_dead}
 use Rattle.session_stands.proofs.Seating.{seated}
 use Rattle.session_stands.proofs.Seats.{dead-seat}
 use Rattle.session_stands.proofs.Telling.{falls}
@@ -40,15 +40,15 @@ use Rattle.line_cluster.proofs.Stepping.{session-of, seated-at, is-dead}
 use Rattle.line_cluster.specs.Going.{IsDeadAt, is_dead}
 
 -- how many are dead where one has another life
-dead-moved : (ms : List Member) (i : ℕ) (m n : Member) → slice_get ms i ≡ Some m → dead_in (slice_set ms i n) + one_dead m.life ≡ dead_in ms + one_dead n.life
+pub dead-moved : (ms : List Member) (i : ℕ) (m n : Member) → slice_get ms i ≡ Some m → dead_in (slice_set ms i n) + one_dead m.life ≡ dead_in ms + one_dead n.life
 dead-moved [] i m n found = absurd (none-some m found)
 dead-moved (x ∷ xs) zero m n found = let e : one_dead x.life ≡ one_dead m.life = ap (λ (y : Member). one_dead y.life) (same_Some x m found) in omega (arith, e)
 dead-moved (x ∷ xs) (suc i) m n found = let rest = dead-moved xs i m n found in omega (arith, rest)
 
 module _ (M : Model) (orderly : IsOrderly M) (told : Type 0) (o : Opening) (c d : Scene) (members : List Member) (events : List Event) (i : ℕ) (was : IsSound M told o c members events None) where
   -- one comes to another life
-  module _ (es : List Event) (m n : Member) (halt : Option Halt) (found : slice_get members i ≡ Some m) (same : n.phase ≡ m.phase)
-      (goes : Goes (suc i) m.phase m.life m.phase n.life (λ h g. Fall M o (suc i) (on_shelf c h (dead_in members)) m (on_shelf d g (dead_in (slice_set members i n))) n es) c d) where
+  module _ (N : Type 0) (es : List Event) (m n : Member) (halt : Option Halt) (found : slice_get members i ≡ Some m) (same : n.phase ≡ m.phase)
+      (goes : Goes (suc i) m.phase m.life m.phase n.life (λ h g. Fall M o (suc i) (on_shelf c h (dead_in members)) m (on_shelf d g (dead_in (slice_set members i n))) n es) N c d) where
     tells : told → IsTold M o d.word d.sight d.locks (slice_set members i n) (events ++ es)
     tells t = falls M orderly o c.word d.word c.sight d.sight c.locks d.locks members events es i m n (d.sight.stand (suc i)) found goes.does (was.kept refl t)
 
@@ -65,9 +65,10 @@ module _ (M : Model) (orderly : IsOrderly M) (told : Type 0) (o : Opening) (c d 
         IsSound M told o d (slice_set members i (dead_session left total x)) (events ++ Died (suc i) cause ∷ []) halt
     dies found cause may g =
         let more : dead_in (slice_set members i (dead_session left total x)) ≡ dead_in members + 1 = (let e = dead-moved members i (session left total x) (dead_session left total x) found in omega (arith, e)) in
-        fallen (Died (suc i) cause ∷ []) (session left total x) (dead_session left total x) halt found refl (record {
+        fallen _ (Died (suc i) cause ∷ []) (session left total x) (dead_session left total x) halt found refl (record {
           lives = g.lives;
           parties = g.parties;
+          nearer = g.nearer;
           does = does-as (suc i) (d.sight.stand (suc i))
               (λ h k. (p : Opening) (dead : ℕ) (ls : List Item) (n : ℕ) (a : Cause) → (p.may_die (suc i) a && not (is_stop a)) ≡ true → Fall M p (suc i) (on_shelf c h dead) (session ls n x) (on_shelf d k (dead + 1)) (dead_session ls n x) (Died (suc i) a ∷ []))
               (λ h k. Fall M o (suc i) (on_shelf c h (dead_in members)) (session left total x) (on_shelf d k (dead_in (slice_set members i (dead_session left total x)))) (dead_session left total x) (Died (suc i) cause ∷ []))
@@ -94,9 +95,10 @@ module _ (M : Model) (orderly : IsOrderly M) (told : Type 0) (o : Opening) (c d 
     pub recovers : slice_get members i ≡ Some (dead_session left total x) → (result : Result Recovery Fault) → RecoversIn M (suc i) x c d result →
         IsSound M told o d (slice_set members i (recovered_by result left total x)) (events ++ recovery_events (suc i) result) halt
     recovers found result g =
-        fallen (recovery_events (suc i) result) (dead_session left total x) (recovered_by result left total x) halt found (phase-of-behind result) (record {
+        fallen _ (recovery_events (suc i) result) (dead_session left total x) (recovered_by result left total x) halt found (phase-of-behind result) (record {
           lives = λ f. subst (λ (l : Life). LivesAt d.sight.stand d.locks (suc i) x l) (sym (life-of-behind result)) (g.lives f);
           parties = g.parties;
+          nearer = g.nearer;
           does = does-as (suc i) (d.sight.stand (suc i))
               (λ h k. (p : Opening) (dead : ℕ) (ls : List Item) (n : ℕ) → Fall M p (suc i) (on_shelf c h dead) (dead_session ls n x) (on_shelf d k (dead_behind result dead)) (recovered_by result ls n x) (recovery_events (suc i) result))
               (λ h k. Fall M o (suc i) (on_shelf c h (dead_in members)) (dead_session left total x) (on_shelf d k (dead_in (slice_set members i (recovered_by result left total x)))) (recovered_by result left total x) (recovery_events (suc i) result))

@@ -5,3 +5,5 @@ pub mod Places
 pub mod Marks
 pub mod Coming
 pub mod Resting
+pub mod Measured
+pub mod Nearing

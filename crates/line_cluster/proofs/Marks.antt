@@ -1,12 +1,12 @@
 -- What a step adds to the account is of its session, with one answer at most.
-use Rattle.std.proofs.Common.{◌≡◌, ◌≤◌, ℕ, ◌+◌, ◌++◌, ◌∷◌, [], List, refl, ◌∙◌, ap, subst, arith, map, Option, Some, None}
+use Rattle.std.proofs.Common.{◌≡◌, ◌≤◌, ℕ, ◌+◌, ◌++◌, ◌∷◌, [], List, refl, arith, map, Option, Some, None}
 use Rattle.std.proofs.lemmas.List.{map-append}
 use Rattle.rdb_types.specs.declared.node.Node.{Node}
 use Rattle.lock_needs.specs.declared.need.Need.{Need}
 use Rattle.lock_ties.specs.Ties.{wanted_at}
 use Rattle.lock_tree.specs.declared.notice.Demotion.{Demotion}
 use Rattle.rdb_account.specs.Events.{Event}
-use Rattle.rdb_drive.specs.Boards.{Mark, Says, Does, Other, AllOf, answers, answers_of}
+use Rattle.rdb_drive.specs.Boards.{Mark, AllOf, AllNobodys, answers}
 use Rattle.stage_steps.specs.declared.happening.Asking.{Asking}
 use Rattle.stage_steps.specs.declared.happening.Happening.{Happening}
 use Rattle.stage_steps.specs.declared.happening.Happening.TheVariants.{Quiet, Began, Answered, Unstarted, Asleep, Noticed, Got, Refused, RefusedStart, Committed, RolledBack, Left, Failed, Unlaid, Unworked, Unanswered}
@@ -17,11 +17,11 @@ use Rattle.line_cluster.specs.Turned.{mark_of}
 abbrev pub IsOf : ℕ → List Event → Type 0
 IsOf s es = AllOf s (map mark_of es) × (answers (map mark_of es) ≤ 1)
 
-all-append : (s : ℕ) (xs ys : List Mark) → AllOf s xs → AllOf s ys → AllOf s (xs ++ ys)
+pub all-append : (s : ℕ) (xs ys : List Mark) → AllOf s xs → AllOf s ys → AllOf s (xs ++ ys)
 all-append s [] ys a b = b
 all-append s (x ∷ xs) ys a b = (a.0, all-append s xs ys a.1 b)
 
-answers-append : (xs ys : List Mark) → answers (xs ++ ys) ≡ answers xs + answers ys
+pub answers-append : (xs ys : List Mark) → answers (xs ++ ys) ≡ answers xs + answers ys
 answers-append [] ys = omega arith
 answers-append (x ∷ xs) ys = let more = answers-append xs ys in omega (arith, more)
 
@@ -60,6 +60,6 @@ step-marks s Unworked = (tt, omega arith)
 step-marks s (Unanswered item) = (tt, omega arith)
 
 -- a lock that comes down is nobody's event
-pub notice-marks : (s t : ℕ) (node : Node) (d : Option Demotion) → IsOf s (demoted_by t node d)
-notice-marks s t node None = (tt, omega arith)
-notice-marks s t node (Some d) = ((tt, tt), omega arith)
+pub notice-marks : (t : ℕ) (node : Node) (d : Option Demotion) → AllNobodys (map mark_of (demoted_by t node d))
+notice-marks t node None = tt
+notice-marks t node (Some d) = (tt, tt)

@@ -1,34 +1,34 @@
 -- Who rests does so in the account.
-use Rattle.std.proofs.Common.{◌≡◌, ◌≤◌, ◌-◌, ℕ, zero, suc, ◌++◌, ◌∷◌, [], List, length, Bool, true, false, not, nat_le, ◌&&◌, refl, ◌∙◌, sym, ap, subst, arith, map, Option, Some, None, slice_get, option_map, ◌==◌, ◌⊎◌}
+use Rattle.std.proofs.Common.{◌≡◌, ◌≤◌, ◌-◌, ℕ, zero, suc, ◌++◌, ◌∷◌, [], List, length, true, false, not, nat_le, refl, ◌∙◌, sym, ap, subst, arith, map, Option, Some, None, slice_get, option_map, ◌==◌, inl, inr}
 use Rattle.std.proofs.lemmas.Bool.{false≢true, and_parts, leb-true}
 use Rattle.rdo_ast.specs.declared.syntax.Item.{Item}
-use Rattle.rdo_ast.specs.Tree.{Uttered}
 use Rattle.rdo_ast.specs.Views.{uttered_of}
 use Rattle.rdb_account.specs.Events.{Event}
 use Rattle.rdb_account.specs.Places.{Opening, Place, place, next_item}
-use Rattle.rdb_account.specs.Legal.{AreWhole, has_not_died}
+use Rattle.rdb_account.specs.Legal.{has_not_died}
 use Rattle.rdb_account.specs.Lawful.{is_nowait}
 use Rattle.lock_tree.specs.Sleeping.{IsBlockedBy}
 use Rattle.lock_tree_laws.specs.Forest.{State, party_of, open_asks}
 use Rattle.lock_ties.proofs.Causes.{tree-waits}
-use Rattle.line_steps.specs.Members.{Member as Seen, left_of}
+use Rattle.line_steps.specs.Members.{Member as Seen, left_of, life_of}
 use Rattle.line_steps.specs.Right.{Ground, Stands}
-use Rattle.line_store.specs.Shelves.{Shelf}
-use Rattle.line_store.specs.Sights.{Sight}
+use Rattle.line_store.specs.Seats.{Seat, outside}
+use Rattle.line_store.specs.Sights.{Sight, bare}
+use Rattle.line_view.specs.Knowledge.{Lines}
 use Rattle.session_jobs.specs.Records.{Model}
 use Rattle.session_states.specs.declared.stage.Phase.{Phase}
 use Rattle.session_states.specs.declared.stage.Phase.TheVariants.{Outside, Closing, Writing, Reading, Over}
 use Rattle.session_states.specs.declared.stage.Life.{Life}
 use Rattle.session_states.specs.declared.stage.Life.TheVariants.{Alive, Dead, Gone}
 use Rattle.session_states.specs.declared.stage.Member.{Member}
-use Rattle.session_states.specs.States.{seen}
-use Rattle.session_states.specs.Fits.{LifeFits, PhaseFits, WriterFits}
-use Rattle.session_states.specs.Kept.{AreKept}
+use Rattle.session_states.specs.States.{seen, state_of}
+use Rattle.session_states.specs.Fits.{LifeFits}
 use Rattle.session_states.specs.Shared.{Shared}
-use Rattle.session_stands.specs.Sessions.{IsTold, sharing, dead_in}
-use Rattle.line_arms.specs.Going.{is_done}
-use Rattle.line_cluster.specs.Going.{is_over}
-use Rattle.line_cluster.specs.Turned.{Sessions, SleepsFor, Waits, is_patient_at, HaveEnded, is_session}
+use Rattle.session_stands.specs.Seated.{LivesAt}
+use Rattle.session_stands.specs.Sessions.{AreSeated, IsTold, sharing, dead_in, one_dead}
+use Rattle.line_cluster.specs.Going.{is_alive_life, is_dead, is_dead_life, is_over}
+use Rattle.line_cluster.specs.Sound.{IsLeft}
+use Rattle.line_cluster.specs.Turned.{Sessions, SleepsFor, Waits, is_patient_at, HasNothingLeft, HaveAllEnded, HaveEnded, is_session}
 
 -- ---- who waits
 
@@ -96,8 +96,27 @@ module _ (M : Model) (o : Opening) (p : Place) (g : Ground) (s : ℕ) where
   none-next : (m : Seen) → Stands M o p g s m → left_of m ≡ [] → next_item o p s ≡ None
   none-next m st none = rw st.script (rw st.count (none-behind st.answered (left_of m) none))
 
+  -- who is dead has died in the account
+  has-died : (m : Member) (l : Life) → m.life ≡ l → is_alive_life l ≡ false → Stands M o p g s (seen m) → has_not_died (p.life s) ≡ false
+  has-died m Alive is none st = absurd (false≢true (sym none))
+  has-died m Dead is none st = ap has_not_died (st.lives ∙ ap (λ (l : Life). life_of (state_of m.phase l)) is)
+  has-died m Gone is none st = ap has_not_died (st.lives ∙ ap (λ (l : Life). life_of (state_of m.phase l)) is)
+
   all-said : (m : Seen) → Stands M o p g s m → left_of m ≡ [] → p.said s ≡ length (o.script s)
   all-said m st none = st.count ∙ sym (ap length st.script ∙ length-all st.answered (left_of m) none)
+
+-- where none of them is dead, none awaits its recovery
+not-one : (l : Life) → is_dead_life l ≡ false → one_dead l ≡ 0
+not-one Alive h = refl
+not-one Dead h = absurd (false≢true (sym h))
+not-one Gone h = refl
+
+none-mourned : (ms : List Member) → ((i : ℕ) (m : Member) → slice_get ms i ≡ Some m → is_dead m ≡ false) → dead_in ms ≡ 0
+none-mourned [] h = refl
+none-mourned (m ∷ ms) h =
+    let one : one_dead m.life ≡ 0 = not-one m.life (h 0 m refl) in
+    let more : dead_in ms ≡ 0 = none-mourned ms (λ i n found. h (suc i) n found) in
+    omega (arith, one, more)
 
 map-get : {A B : Type 0} (f : A → B) (xs : List A) (i : ℕ) (x : A) → slice_get xs i ≡ Some x → slice_get (map f xs) i ≡ Some (f x)
 map-get f [] i x h = cc h
@@ -108,20 +127,37 @@ module _ (M : Model) (o : Opening) (word : List ℕ) (sight : Sight) (locks : St
   stands : (i : ℕ) (m : Member) → slice_get members i ≡ Some m → Stands M o (place o events) told.kept.ground (suc i) (seen m)
   stands i m found = told.kept.right.each i (seen m) (map-get seen members i m found)
 
-  pub over-rests : (i : ℕ) (m : Member) → slice_get members i ≡ Some m → m.life ≡ Alive → is_over m m.life ≡ true → next_item o (place o events) (suc i) ≡ None
+  over-rests : (i : ℕ) (m : Member) → slice_get members i ≡ Some m → m.life ≡ Alive → is_over m m.life ≡ true → next_item o (place o events) (suc i) ≡ None
   over-rests i m found alive over =
       let st = stands i m found in
       none-next M o (place o events) told.kept.ground (suc i) (seen m) st (said-all M o (place o events) told.kept.ground (suc i) m alive over st).left
 
-  -- they have said their scripts to the ends
-  pub all-whole : (sessions : ℕ) → length members ≡ sessions → HaveEnded members → AreWhole (is_session sessions) o events
-  all-whole sessions count ended s is =
-      let at = member-within members s (first-of sessions s is) (within s is) in
-      let e = ended at.0 at.1 at.3 in
-      let st = subst (λ (t : ℕ). Stands M o (place o events) told.kept.ground t (seen at.1)) (sym at.2) (stands at.0 at.1 at.3) in
-      let all = said-all M o (place o events) told.kept.ground s at.1 e.0 e.1 st in
-      (all.lives, all-said M o (place o events) told.kept.ground s (seen at.1) st all.left, all.closed)
+  pub over-left : (i : ℕ) (m : Member) → slice_get members i ≡ Some m → is_over m m.life ≡ true → HasNothingLeft o (place o events) (suc i)
+  over-left i m found over = by m.life refl
     where
+      by : (l : Life) → m.life ≡ l → HasNothingLeft o (place o events) (suc i)
+      by Alive is = inl (over-rests i m found is over)
+      by Dead is = inr (has-died M o (place o events) told.kept.ground (suc i) m Dead is refl (stands i m found))
+      by Gone is = inr (has-died M o (place o events) told.kept.ground (suc i) m Gone is refl (stands i m found))
+
+  -- those that haven't died have said their scripts to the ends
+  pub all-whole : (sessions : ℕ) → length members ≡ sessions → HaveEnded members → HaveAllEnded o sessions events
+  all-whole sessions count ended = record {
+    whole = λ s is.
+        let parts = and_parts (is_session sessions s) (has_not_died ((place o events).life s)) is in
+        let at = member-within members s (first-of sessions s parts.0) (within s parts.0) in
+        let e = ended at.0 at.1 at.3 in
+        let st = subst (λ (t : ℕ). Stands M o (place o events) told.kept.ground t (seen at.1)) (sym at.2) (stands at.0 at.1 at.3) in
+        let all = said-all M o (place o events) told.kept.ground s at.1 (unfallen s at.1 at.1.life refl st parts.1) e.0 st in
+        (all.lives, all-said M o (place o events) told.kept.ground s (seen at.1) st all.left, all.closed);
+    recovered = told.kept.right.fit.dead ∙ (told.kept.is_ground.dead ∙ none-mourned members (λ i m found. (ended i m found).1));
+  }
+    where
+      unfallen : (s : ℕ) (m : Member) (l : Life) → m.life ≡ l → Stands M o (place o events) told.kept.ground s (seen m) → has_not_died ((place o events).life s) ≡ true → m.life ≡ Alive
+      unfallen s m Alive is st lives = is
+      unfallen s m Dead is st lives = absurd (false≢true (sym (has-died M o (place o events) told.kept.ground s m Dead is refl st) ∙ lives))
+      unfallen s m Gone is st lives = absurd (false≢true (sym (has-died M o (place o events) told.kept.ground s m Gone is refl st) ∙ lives))
+
       below : (a b : ℕ) → nat_le a b ≡ true → a ≤ b
       below a b h = leb-true a b h
 
@@ -138,13 +174,40 @@ module _ (M : Model) (o : Opening) (word : List ℕ) (sight : Sight) (locks : St
 numbered : (s : ℕ) → 1 ≤ s → suc (s - 1) ≡ s
 numbered s h = omega arith
 
-pub over-rests-at : (M : Model) (o : Opening) (word : List ℕ) (sight : Sight) (locks : State) (members : List Member) (events : List Event) (s : ℕ) (m : Member) → IsTold M o word sight locks members events → 1 ≤ s →
-    slice_get members (s - 1) ≡ Some m → m.life ≡ Alive → is_over m m.life ≡ true → next_item o (place o events) s ≡ None
-over-rests-at M o word sight locks members events s m told first found alive over =
-    subst (λ (t : ℕ). next_item o (place o events) t ≡ None) (numbered s first) (over-rests M o word sight locks members events told (s - 1) m found alive over)
+pub over-left-at : (M : Model) (o : Opening) (word : List ℕ) (sight : Sight) (locks : State) (members : List Member) (events : List Event) (s : ℕ) (m : Member) → IsTold M o word sight locks members events → 1 ≤ s →
+    slice_get members (s - 1) ≡ Some m → is_over m m.life ≡ true → HasNothingLeft o (place o events) s
+over-left-at M o word sight locks members events s m told first found over =
+    subst (λ (t : ℕ). HasNothingLeft o (place o events) t) (numbered s first) (over-left M o word sight locks members events told (s - 1) m found over)
 
 pub asleep-rests-at : (M : Model) (o : Opening) (word : List ℕ) (sight : Sight) (locks : State) (members : List Member) (events : List Event) (s t : ℕ) (c : Sessions) → IsTold M o word sight locks members events → 1 ≤ s →
-    Waits s t (record { members = members; events = c.events; locks = locks; halted = c.halted }) → SleepsFor (place o events) s t
+    Waits s t (record { members = members; events = c.events; measure = c.measure; locks = locks; halted = c.halted }) → SleepsFor (place o events) s t
 asleep-rests-at M o word sight locks members events s t c told first w =
     subst (λ (u : ℕ). SleepsFor (place o events) u t) (numbered s first)
     (asleep-rests M o word sight locks members events (s - 1) t w.member told w.found w.lives w.patient (subst (λ (u : ℕ). IsBlockedBy locks u t) (sym (numbered s first)) w.blocked))
+
+-- ---- what is left
+
+pub left-behind : (M : Model) (o : Opening) (word : List ℕ) (sight : Sight) (locks : State) (members : List Member) (events : List Event) → IsTold M o word sight locks members events → IsLeft M o sight events
+left-behind M o word sight locks members events told = record {
+  shelf = told.shelf;
+  shown = told.shown;
+  stands = subst (λ (all : Lines). M all (place o events).tables) told.kept.is_ground.now told.kept.right.fit.stands;
+}
+
+module _ (stand : ℕ → Seat) (locks : State) (s : ℕ) (left : List Item) (total : ℕ) where
+  ended-outside : (x : Phase) (l : Life) → is_dead_life l ≡ false → is_over (record { left = left; total = total; phase = x; life = l }) l ≡ true → LivesAt stand locks s x l → bare (stand s) ≡ outside
+  ended-outside Outside Alive undead over k = k.seat
+  ended-outside Over Alive undead over k = k.seat
+  ended-outside Closing Alive undead over k = absurd (false≢true over)
+  ended-outside (Writing w) Alive undead over k = absurd (false≢true over)
+  ended-outside (Reading r) Alive undead over k = absurd (false≢true over)
+  ended-outside x Dead undead over k = absurd (false≢true (sym undead))
+  ended-outside x Gone undead over k = k.seat
+
+pub all-outside : (stand : ℕ → Seat) (locks : State) (members : List Member) → AreSeated stand locks members → HaveEnded members → (s : ℕ) → bare (stand s) ≡ outside
+all-outside stand locks members k ended zero = k.outsiders zero refl
+all-outside stand locks members k ended (suc i) = by (slice_get members i) refl
+  where
+    by : (found : Option Member) → slice_get members i ≡ found → bare (stand (suc i)) ≡ outside
+    by None e = k.outsiders (suc i) e
+    by (Some m) e = let end = ended i m e in ended-outside stand locks (suc i) m.left m.total m.phase m.life end.1 end.0 (k.each (suc i) m e)

@@ -1,5 +1,5 @@
 -- One session steps, and all of them stay sound.
-use Rattle.std.proofs.Common.{◌≡◌, ◌≤◌, ◌-◌, ℕ, zero, suc, true, false, arith, ◌++◌, ◌∷◌, [], List, refl, ◌∙◌, sym, ap, subst, Option, Some, None, slice_get, slice_set, append-nil}
+use Rattle.std.proofs.Common.{◌≡◌, ◌≤◌, ◌-◌, ℕ, suc, true, false, ◌++◌, ◌∷◌, [], List, refl, ◌∙◌, sym, ap, subst, Option, Some, None, slice_get, slice_set, append-nil}
 use Rattle.std.proofs.lemmas.Bool.{false≢true}
 use Rattle.rdo_ast.specs.declared.syntax.Item.{Item}
 use Rattle.rdb_account.specs.Events.{Event}
@@ -29,11 +29,13 @@ use Rattle.session_stands.proofs.Telling.{steps}
 use Rattle.stage_steps.specs.declared.happening.Happening.{Happening}
 use Rattle.stage_steps.specs.declared.happening.Happening.TheVariants.{Quiet, Began, Answered, Unstarted, Asleep, Noticed, Got, Refused, RefusedStart, Committed, RolledBack, Left, Failed, Unlaid, Unworked, Unanswered}
 use Rattle.stage_steps.specs.Happenings.{events_of, handed_back}
-use Rattle.stage_steps.specs.Scenes.{Scene, scene, on_shelf}
+use Rattle.stage_steps.specs.Scenes.{Scene, Goes, scene, on_shelf}
 use Rattle.stage_steps.specs.Turns.{Comes}
 use Rattle.line_cluster.specs.declared.sessions.Halt.{Halt}
 use Rattle.line_arms.specs.Going.{GoesOn, IsAmong, is_done}
-use Rattle.line_cluster.specs.Going.{IsWriterAt, writes_at, is_over, is_alive, is_alive_life, is_dead, is_dead_life}
+use Rattle.line_cluster.specs.Going.{IsWriterAt, writes_at, is_over, is_dead, is_dead_life}
+use Rattle.line_cluster.specs.declared.behind.Notice.{Notice}
+use Rattle.line_cluster.specs.Behind.{IsNoticed, is_moving}
 use Rattle.line_cluster.proofs.Places.{suc-less, set-same}
 use Rattle.line_cluster.specs.Sound.{IsSound}
 
@@ -62,32 +64,36 @@ among c members s k = record { rest = λ t other. keep-to c.sight.stand c.locks 
 
 module _ (M : Model) (orderly : IsOrderly M) (told : Type 0) (o : Opening) (c d : Scene) (members : List Member) (events : List Event) (i : ℕ) (left rest : List Item) (total : ℕ) (x y : Phase)
     (lives : dead_in members ≡ 0) (found : slice_get members i ≡ Some (session left total x)) (was : IsSound M told o c members events None) where
-  sits : (es : List Event) → GoesOn M (suc i) c left x d rest y es → AreSeated d.sight.stand d.locks (slice_set members i (session rest total y))
-  sits es g = seated c.sight.stand d.sight.stand c.locks d.locks members i (session left total x) (session rest total y) (was.seated refl) found g.does.others g.parties
+  -- it goes on with these events
+  abbrev GoesWith : List Event → Type 0 → Type 0
+  GoesWith es N = Goes (suc i) x Alive y Alive (λ h g. (dead n : ℕ) → Step M (suc i) (on_shelf c h dead) (session left n x) (on_shelf d g dead) (session rest n y) es) N c d
+
+  sits : (N : Type 0) (es : List Event) → GoesWith es N → AreSeated d.sight.stand d.locks (slice_set members i (session rest total y))
+  sits N es g = seated c.sight.stand d.sight.stand c.locks d.locks members i (session left total x) (session rest total y) (was.seated refl) found g.does.others g.parties
       (g.lives ((was.seated refl).each (suc i) (session left total x) found))
 
-  tells : (es : List Event) → GoesOn M (suc i) c left x d rest y es → told → IsTold M o d.word d.sight d.locks (slice_set members i (session rest total y)) (events ++ es)
-  tells es g t = steps M orderly o c.word d.word c.sight d.sight c.locks d.locks members events es i (session left total x) (session rest total y) (d.sight.stand (suc i)) found lives refl refl
+  tells : (N : Type 0) (es : List Event) → GoesWith es N → told → IsTold M o d.word d.sight d.locks (slice_set members i (session rest total y)) (events ++ es)
+  tells N es g t = steps M orderly o c.word d.word c.sight d.sight c.locks d.locks members events es i (session left total x) (session rest total y) (d.sight.stand (suc i)) found lives refl refl
       (does-as (suc i) (d.sight.stand (suc i)) (λ h k. (dead n : ℕ) → Step M (suc i) (on_shelf c h dead) (session left n x) (on_shelf d k dead) (session rest n y) es)
       (λ h k. (dead : ℕ) → Step M (suc i) (sharing c.word h c.locks dead) (session left total x) (sharing d.word k d.locks dead) (session rest total y) es)
       c.sight d.sight (λ h k shown then all dead. all dead total) g.does)
       (was.kept refl t)
 
   -- the session went on
-  pub moved : (es : List Event) (halt : Option Halt) → GoesOn M (suc i) c left x d rest y es → IsSound M told o d (slice_set members i (session rest total y)) (events ++ es) halt
-  moved es halt g = record {
-    legal = λ t. (tells es g t).kept.right.legal;
-    seated = λ none. sits es g;
-    kept = λ none t. tells es g t;
+  pub moved : (N : Type 0) (es : List Event) (halt : Option Halt) → GoesWith es N → IsSound M told o d (slice_set members i (session rest total y)) (events ++ es) halt
+  moved N es halt g = record {
+    legal = λ t. (tells N es g t).kept.right.legal;
+    seated = λ none. sits N es g;
+    kept = λ none t. tells N es g t;
   }
 
   -- or its item was handed back, and no session goes on
-  pub stepped : (h : Happening) (halt : Option Halt) → (handed_back h ≡ [] → GoesOn M (suc i) c left x d rest y (events_of (suc i) h)) → (halt ≡ None → handed_back h ≡ []) →
+  pub stepped : (h : Happening) (halt : Option Halt) → (handed_back h ≡ [] → GoesOn M (suc i) c left x d rest y h) → (halt ≡ None → handed_back h ≡ []) →
       IsSound M told o d (slice_set members i (session rest total y)) (events ++ events_of (suc i) h) halt
   stepped h halt goes going = by (handed_back h) refl
     where
       by : (back : List Item) → handed_back h ≡ back → IsSound M told o d (slice_set members i (session rest total y)) (events ++ events_of (suc i) h) halt
-      by [] e = moved (events_of (suc i) h) halt (goes e)
+      by [] e = moved _ (events_of (suc i) h) halt (goes e)
       by (item ∷ more) e = record {
         legal = λ t. subst (λ (es : List Event). IsLegal o es) (sym (append-nil events) ∙ ap (λ es. events ++ es) (sym (back-quiet (suc i) h item more e))) (was.legal t);
         seated = λ none. cc (sym e ∙ going none);
@@ -133,14 +139,37 @@ served M orderly told o word sight locks behind members events more es s old hal
     subst (λ (xs : List Event). IsSound M told o (scene word sight behind) members xs halt) (sym more-is)
     (subst (λ (ms : List Member). IsSound M told o (scene word sight behind) ms (events ++ es) halt) (set-same members is.at (session left total (Writing w)) found)
     (moved M orderly told o (scene word sight locks) (scene word sight behind) members events is.at left left total (Writing w) (Writing w) lives found
-    (subst (λ (x : Option Halt). IsSound M told o (scene word sight locks) members events x) none was) es halt (record {
+    (subst (λ (x : Option Halt). IsSound M told o (scene word sight locks) members events x) none was) (Unit {0}) es halt (record {
       lives = seated-on sight.stand locks behind (suc is.at) (Writing w) parties;
       parties = λ u other. ap (λ (ps : Parties). party_of ps u) parties;
+      nearer = tt;
       does = does-nothing (suc is.at) (λ h g. (dead n : ℕ) → Step M (suc is.at) (on_shelf (scene word sight locks) h dead) (session left n (Writing w)) (on_shelf (scene word sight behind) g dead) (session left n (Writing w)) es) sight
           (λ h shown dead n. all (sharing word h locks dead) w left n);
     })))
 
 -- ---- as the code has it
+
+-- what moves hands nothing back
+pub moving-keeps : (h : Happening) → is_moving h ≡ true → handed_back h ≡ []
+moving-keeps Quiet is = refl
+moving-keeps (Began kind) is = refl
+moving-keeps (Answered a) is = refl
+moving-keeps (Unstarted a) is = refl
+moving-keeps (Asleep t x) is = refl
+moving-keeps (Noticed t n mode x) is = refl
+moving-keeps (Got x) is = refl
+moving-keeps (Refused x a) is = refl
+moving-keeps (RefusedStart x a) is = refl
+moving-keeps (Committed moment) is = refl
+moving-keeps RolledBack is = refl
+moving-keeps Left is = refl
+moving-keeps (Failed fault) is = absurd (false≢true is)
+moving-keeps (Unlaid stop) is = absurd (false≢true is)
+moving-keeps Unworked is = absurd (false≢true is)
+moving-keeps (Unanswered i) is = absurd (false≢true is)
+
+pub noticed-keeps : (n : Notice) (h : Happening) → IsNoticed n h → handed_back h ≡ []
+noticed-keeps n h is = ap handed_back is.is
 
 over-alive : (m : Member) (l : Life) → is_over m l ≡ false → l ≡ Alive
 over-alive m Alive h = refl
@@ -149,14 +178,6 @@ over-alive m Gone h = absurd (false≢true (sym h))
 
 pub work-alive : (m : Member) → is_over m m.life ≡ false → m.life ≡ Alive
 work-alive m h = over-alive m m.life h
-
-alive-true : (l : Life) → is_alive_life l ≡ true → l ≡ Alive
-alive-true Alive h = refl
-alive-true Dead h = absurd (false≢true h)
-alive-true Gone h = absurd (false≢true h)
-
-pub is-alive : (m : Member) → is_alive m ≡ true → m.life ≡ Alive
-is-alive m h = alive-true m.life h
 
 dead-true : (l : Life) → is_dead_life l ≡ true → l ≡ Dead
 dead-true Alive h = absurd (false≢true h)
@@ -180,7 +201,7 @@ seated-at stand locks members s at m first is found alive k =
 
 pub turned : (M : Model) (orderly : IsOrderly M) (told : Type 0) (o : Opening) (c d : Scene) (members put : List Member) (events more : List Event) (s at : ℕ) (m : Member) (rest : List Item) (y : Phase) (h : Happening) (old halt : Option Halt) →
     1 ≤ s → at ≡ s - 1 → old ≡ None → dead_in members ≡ 0 → slice_get members at ≡ Some m → m.life ≡ Alive → IsSound M told o c members events old →
-    (handed_back h ≡ [] → GoesOn M s c m.left m.phase d rest y (events_of s h)) → (halt ≡ None → handed_back h ≡ []) →
+    (handed_back h ≡ [] → GoesOn M s c m.left m.phase d rest y h) → (halt ≡ None → handed_back h ≡ []) →
     put ≡ slice_set members at (record { left = rest; total = m.total; phase = y; life = m.life }) → more ≡ events ++ events_of s h → IsSound M told o d put more halt
 turned M orderly told o c d members put events more s at m rest y h old halt first is none lives found alive was goes going put-is more-is =
     let e : s ≡ suc at = sym (ap suc is ∙ suc-less s first) in
@@ -189,4 +210,4 @@ turned M orderly told o c d members put events more s at m rest y h old halt fir
     let events-at : events ++ events_of (suc at) h ≡ more = ap (λ (t : ℕ). events ++ events_of t h) (sym e) ∙ sym more-is in
     subst (λ (ms : List Member). IsSound M told o d ms more halt) put-at (subst (λ (es : List Event). IsSound M told o d (slice_set members at (session rest m.total y)) es halt) events-at
     (stepped M orderly told o c d members events at m.left rest m.total m.phase y lives (found ∙ ap Some (session-of m alive)) (subst (λ (x : Option Halt). IsSound M told o c members events x) none was) h halt
-    (λ back. subst (λ (t : ℕ). GoesOn M t c m.left m.phase d rest y (events_of t h)) e (goes back)) going))
+    (λ back. subst (λ (t : ℕ). GoesOn M t c m.left m.phase d rest y h) e (goes back)) going))

@@ -25,9 +25,6 @@ is_alive_life Alive = true
 is_alive_life Dead = false
 is_alive_life Gone = false
 
-abbrev pub is_alive : Member → Bool
-is_alive m = is_alive_life m.life
-
 -- a session died that stands at this place
 pub record IsDeadAt (members : List Member) (at : ℕ) : Type 0 where
   pub member : Member

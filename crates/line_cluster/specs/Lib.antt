@@ -1,3 +1,5 @@
 pub mod Going
 pub mod Sound
 pub mod Turned
+pub mod Measured
+pub mod Behind

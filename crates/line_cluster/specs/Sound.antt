@@ -1,12 +1,11 @@
 -- What is true of the sessions of a run at every moment.
-use Rattle.std.specs.Prelude.{◌≡◌, ◌≤◌, ◌-◌, ◌==◌, ◌&&◌, ℕ, suc, Bool, true, false, List, [], length, map, Option, Some, None, is_some, slice_get}
+use Rattle.std.specs.Prelude.{◌≡◌, ◌≤◌, ℕ, suc, List, [], length, map, Option, Some, None, slice_get}
 use Rattle.rdo_ast.specs.declared.syntax.Item.{Item}
 use Rattle.rdo_ast.specs.Views.{uttered_of}
-use Rattle.rdb_account.specs.Events.{Event, event_of}
-use Rattle.rdb_account.specs.Places.{Opening}
+use Rattle.rdb_account.specs.Events.{Event}
+use Rattle.rdb_account.specs.Places.{Opening, place}
 use Rattle.rdb_account.specs.Legal.{IsLegal}
 use Rattle.lock_tree_laws.specs.Forest.{State}
-use Rattle.line_store.specs.Seats.{Seat}
 use Rattle.line_store.specs.Shelves.{Shelf}
 use Rattle.line_store.specs.Sights.{Sight}
 use Rattle.session_jobs.specs.Records.{Model}
@@ -39,6 +38,12 @@ pub record IsOpenedBy (M : Model) (o : Opening) (word : List ℕ) (sight : Sight
   pub shelf : Shelf
   pub shown : sight.shows shelf
   pub opened : (locks : State) → locks.parties ≡ [] → locks.trail ≡ [] → IsOpened M o (sharing word shelf locks 0)
+
+-- the store shows a shelf whose committed lines stand for the tables behind all commits of the account
+pub record IsLeft (M : Model) (o : Opening) (sight : Sight) (events : List Event) : Type 0 where
+  pub shelf : Shelf
+  pub shown : sight.shows shelf
+  pub stands : M shelf.now (place o events).tables
 
 abbrev pub fresh_member : List Item → Member
 fresh_member script = session script (length script) Outside

@@ -1,31 +1,48 @@
 -- What a turn of a session comes to, as who drives sessions sees it.
-use Rattle.std.specs.Prelude.{◌≡◌, ◌≤◌, ◌<◌, ◌-◌, ◌⊎◌, ◌&&◌, nat_le, ℕ, Bool, true, false, List, ◌++◌, map, Option, Some, None, is_some, slice_get, slice_set}
-use Rattle.rdb_drive.specs.Boards.{Mark, Says, Does, Other, AllOf, answers}
+use Rattle.std.specs.Prelude.{◌≡◌, ◌≤◌, ◌<◌, ◌-◌, ◌⊎◌, ◌&&◌, nat_le, ℕ, zero, suc, Bool, true, false, List, [], ◌∷◌, ◌++◌, map, Option, Some, None, is_some, slice_get, slice_set}
+use Rattle.rdb_types.specs.declared.session.Cause.{Cause}
+use Rattle.rdb_drive.specs.Boards.{Mark, Says, Does, Other, AllOf, AllNobodys, Less, answers}
 use Rattle.rdb_account.specs.declared.event.Event.{Event as Declared}
 use Rattle.rdb_account.specs.Events.{Event, Began, Wanted, Got, Demoted, Said, Committed, RolledBack, Died, Recovered, event_of}
 use Rattle.rdb_account.specs.Places.{Opening, Place, place, next_item}
 use Rattle.rdb_account.specs.Lawful.{waits, is_nowait}
-use Rattle.lock_tree.specs.Sleeping.{IsBlockedBy}
+use Rattle.rdb_account.specs.Legal.{AreWhole, has_not_died}
+use Rattle.lock_tree.specs.Sleeping.{IsBlockedBy, is_sleeping}
 use Rattle.lock_tree_laws.specs.Forest.{State}
+use Rattle.line_store.specs.Sights.{Sight}
 use Rattle.session_states.specs.declared.stage.Phase.{Phase}
 use Rattle.session_states.specs.declared.stage.Phase.TheVariants.{Writing}
-use Rattle.session_states.specs.declared.stage.Life.TheVariants.{Alive}
+use Rattle.session_states.specs.declared.stage.Life.{Life}
+use Rattle.session_states.specs.declared.stage.Life.TheVariants.{Alive, Dead}
 use Rattle.session_states.specs.declared.stage.Member.{Member}
 use Rattle.session_stands.specs.Sessions.{dead_in}
+use Rattle.line_arms.specs.declared.allotment.Allotment.{Allotment}
+use Rattle.line_cluster.specs.Measured.{measure_by}
 use Rattle.line_cluster.specs.declared.sessions.Halt.{Halt}
 use Rattle.line_cluster.specs.declared.sessions.Turn.{Turn}
 use Rattle.line_cluster.specs.declared.sessions.Turn.TheVariants as turn
-use Rattle.line_cluster.specs.Going.{is_over}
+use Rattle.line_cluster.specs.Going.{is_alive_life, is_dead, is_over}
 
--- the sessions as contracts see them: each with what it has left, what happened, the locks, and whether no session goes on
+-- the sessions as contracts see them: each with what it has left, what happened, what falls, the locks, and whether no session goes on
 pub record Sessions : Type 0 where
   pub members : List Member
   pub events : List Declared
+  -- what all of them have before them
+  pub measure : List ℕ
   pub locks : State
   pub halted : Bool
 
-abbrev pub sessions : List Member → List Declared → State → Option Halt → Sessions
-sessions members events locks halt = record { members = members; events = events; locks = locks; halted = is_some halt }
+-- how often the job of its statement may still be handed out
+abbrev pub rounds_of : Option Allotment → ℕ
+rounds_of None = 0
+rounds_of (Some a) = a.rounds
+
+abbrev pub rounds_at : List Allotment → ℕ → ℕ
+rounds_at each zero = 0
+rounds_at each (suc at) = rounds_of (slice_get each at)
+
+abbrev pub sessions : List Member → List Declared → List Allotment → Sight → State → Option Halt → Sessions
+sessions members events each sight locks halt = record { members = members; events = events; measure = measure_by (is_some halt) members (rounds_at each) (record { locks = locks; steps = sight.steps }); locks = locks; halted = is_some halt }
 
 -- ---- the account as drivers read it
 
@@ -44,6 +61,10 @@ mark_of (Recovered s committed moment) = Other
 -- s waits for t, and its transaction isn't one under NOWAIT
 abbrev pub SleepsFor : Place → ℕ → ℕ → Type 0
 SleepsFor p s t = (waits p s t ≡ true) × (is_nowait (p.transaction s) ≡ false)
+
+-- s has said its whole script, or has died
+abbrev pub HasNothingLeft : Opening → Place → ℕ → Type 0
+HasNothingLeft o p s = (next_item o p s ≡ None) ⊎ (has_not_died (p.life s) ≡ false)
 
 -- ---- a turn
 
@@ -68,13 +89,20 @@ pub record Grows (s : ℕ) (old new : List Declared) : Type 0 where
   pub of_s : AllOf s (map mark_of more)
   pub one : answers (map mark_of more) ≤ 1
 
+-- what happened is of nobody
+pub record GrowsQuietly (old new : List Declared) : Type 0 where
+  pub more : List Event
+  pub grown : map event_of new ≡ map event_of old ++ more
+  pub nobodys : AllNobodys (map mark_of more)
+
 pub record GoesFurther (s : ℕ) (old new : Sessions) : Type 0 where
   pub members : (new.members ≡ old.members) ⊎ IsAnother s old.members new.members
   pub events : Grows s old.events new.events
 
--- session s waits, and for whom
+-- session s waits, and for whom. None that died awaits its recovery
 pub record Waits (s t : ℕ) (c : Sessions) : Type 0 where
   pub going : c.halted ≡ false
+  pub mourns_none : dead_in c.members ≡ 0
   pub member : Member
   pub found : slice_get c.members (s - 1) ≡ Some member
   pub lives : member.life ≡ Alive
@@ -91,8 +119,16 @@ abbrev pub Came : ℕ → Sessions → Sessions → Turn → Type 0
 Came s old new turn.Moved = GoesFurther s old new
 Came s old new (turn.Asleep t) = (new ≡ old) × Waits s t.number old
 Came s old new turn.Frozen = (new ≡ old) × (0 < dead_in old.members)
-Came s old new turn.Ended = (new ≡ old) × IsAtEnd s old
+Came s old new turn.Ended = (new ≡ old) × IsAtEnd s old × (dead_in old.members ≡ 0)
 Came s old new turn.Stopped = (new.halted ≡ true) × GoesFurther s old new
+
+-- ---- what falls
+
+-- where its want wasn't queued before, all sessions have less before them
+abbrev pub IsNearer : ℕ → Sessions → Sessions → Type 0
+IsNearer s old new = is_sleeping old.locks s ≡ false → Less new.measure old.measure
+
+-- ---- who goes on
 
 -- the session doesn't rest
 abbrev pub GoesOn : Turn → Type 0
@@ -102,17 +138,73 @@ GoesOn turn.Frozen = ⊥
 GoesOn turn.Ended = ⊥
 GoesOn turn.Stopped = Unit {0}
 
--- each lives and has nothing left to do
-abbrev pub HaveEnded : List Member → Type 0
-HaveEnded members = (i : ℕ) (m : Member) → slice_get members i ≡ Some m → (m.life ≡ Alive) × (is_over m m.life ≡ true)
-
-abbrev pub is_session : ℕ → ℕ → Bool
-is_session sessions s = nat_le 1 s && nat_le s sessions
-
--- Who sleeps waits in the account for the session that is named; who lives and has ended has said its whole script.
+-- Who sleeps waits in the account for the session that is named.
 abbrev pub Rests : Opening → ℕ → Sessions → Turn → Type 0
 Rests o s c turn.Moved = Unit {0}
 Rests o s c (turn.Asleep t) = SleepsFor (place o (map event_of c.events)) s t.number
 Rests o s c turn.Frozen = Unit {0}
-Rests o s c turn.Ended = (m : Member) → slice_get c.members (s - 1) ≡ Some m → m.life ≡ Alive → next_item o (place o (map event_of c.events)) s ≡ None
+Rests o s c turn.Ended = Unit {0}
 Rests o s c turn.Stopped = Unit {0}
+
+-- ---- deaths
+
+-- no session goes on from then on, and nothing else changed
+pub record IsHalt (old new : Sessions) : Type 0 where
+  pub halted : new.halted ≡ true
+  pub members : new.members ≡ old.members
+  pub events : new.events ≡ old.events
+
+abbrev pub with_life : Life → Member → Member
+with_life l m = record { left = m.left; total = m.total; phase = m.phase; life = l }
+
+-- session s, which had something left to do, is dead
+pub record IsDeath (s : ℕ) (cause : Cause) (old new : Sessions) : Type 0 where
+  pub going : old.halted ≡ false
+  pub before : Member
+  pub found : slice_get old.members (s - 1) ≡ Some before
+  pub unfinished : is_over before before.life ≡ false
+  pub is : new.members ≡ slice_set old.members (s - 1) (with_life Dead before)
+  pub grown : map event_of new.events ≡ map event_of old.events ++ Died s cause ∷ []
+
+-- what a death comes to: nothing, where s has nothing left to do
+abbrev pub DeathCame : ℕ → Cause → Sessions → Sessions → Type 0
+DeathCame s cause old new = ((new ≡ old) × IsAtEnd s old) ⊎ (IsHalt old new ⊎ IsDeath s cause old new)
+
+-- one that died goes on in its recovery, or is recovered. What happened is nobody's
+pub record IsRecovery (old new : Sessions) : Type 0 where
+  pub at : ℕ
+  pub before : Member
+  pub found : slice_get old.members at ≡ Some before
+  pub died : before.life ≡ Dead
+  pub life : Life
+  pub dead : is_alive_life life ≡ false
+  pub is : new.members ≡ slice_set old.members at (with_life life before)
+  pub more : List Event
+  pub grown : map event_of new.events ≡ map event_of old.events ++ more
+  pub nobodys : AllNobodys (map mark_of more)
+
+-- what a step of a recovery comes to
+abbrev pub RecoveryCame : Sessions → Sessions → Turn → Type 0
+RecoveryCame old new turn.Moved = IsRecovery old new
+RecoveryCame old new (turn.Asleep t) = ⊥
+RecoveryCame old new turn.Frozen = ⊥
+RecoveryCame old new turn.Ended = (new ≡ old) × (dead_in old.members ≡ 0)
+RecoveryCame old new turn.Stopped = IsHalt old new
+
+-- ---- the end
+
+-- each has nothing left to do, and none awaits its recovery
+abbrev pub HaveEnded : List Member → Type 0
+HaveEnded members = (i : ℕ) (m : Member) → slice_get members i ≡ Some m → (is_over m m.life ≡ true) × (is_dead m ≡ false)
+
+abbrev pub is_session : ℕ → ℕ → Bool
+is_session sessions s = nat_le 1 s && nat_le s sessions
+
+-- those of so many sessions that haven't died
+abbrev pub has_lived : ℕ → Place → ℕ → Bool
+has_lived sessions p s = is_session sessions s && has_not_died (p.life s)
+
+-- Those that haven't died have said their scripts to the ends, and have no transaction open. Who died is recovered.
+pub record HaveAllEnded (o : Opening) (sessions : ℕ) (events : List Event) : Type 0 where
+  pub whole : AreWhole (has_lived sessions (place o events)) o events
+  pub recovered : (place o events).frozen ≡ 0

@@ -1,16 +1,17 @@
 //! The sessions of a run, of one origin.
-ghost use Rattle.std.specs.Prelude.{◌≡◌, ◌≤◌, ◌<◌, ◌^◌, ◌&&◌, ℕ, All, [], length, map, not, false, true, IfOk};
+ghost use Rattle.std.specs.Prelude.{◌≡◌, ◌≤◌, ◌<◌, ◌^◌, ◌&&◌, ℕ, All, [], length, map, not, false, true, IfOk, IfErr};
 ghost use Rattle.rdb_account.specs.Events.{event_of};
-ghost use Rattle.rdb_account.specs.Legal.{AreWhole, IsLegal, is_stop};
+ghost use Rattle.rdb_account.specs.Legal.{IsLegal, is_stop};
+ghost use Rattle.rdb_account.specs.Places.{place};
 ghost use Rattle.line_store.specs.Seats.{Seat, outside};
+ghost use Rattle.line_store.specs.Sights.{bare};
 ghost use Rattle.lock_tree_laws.specs.Forest.{IsWhole};
 ghost use Rattle.session_stands.specs.Sessions.{AreSeated};
-ghost use Rattle.line_cluster.specs.Sound.{FollowsScripts, IsOpenedBy, IsSession, fresh_member};
-ghost use Rattle.line_cluster.specs.Turned.{Came, HaveEnded, Rests, is_session};
+ghost use Rattle.line_cluster.specs.Sound.{FollowsScripts, IsLeft, IsOpenedBy, IsSession, fresh_member};
+ghost use Rattle.line_cluster.specs.Turned.{Came, DeathCame, HasNothingLeft, HaveAllEnded, HaveEnded, IsAtEnd, IsNearer, RecoveryCame, Rests};
 
-use crate::lent::SessionRooms;
+use crate::allotments::Allotments;
 use crate::members::takes_item;
-use crate::notes::Notes;
 use crate::origin::Origin;
 use crate::sessions::{Core, Turn};
 use line_store::LineStore;
@@ -31,6 +32,13 @@ pub struct LineCluster<O: Origin, S: Statements, L: LineStore + Drop> {
     core: Core<O, S, L>,
 }
 
+/// What a run leaves: its events, and its store.
+#[derive(Drop)]
+pub struct Finished<L> {
+    pub events: Events,
+    pub store: L,
+}
+
 impl<O: Origin, S: Statements, L: LineStore + Drop> Model for LineCluster<O, S, L> {
     ghost use Rattle.std.specs.Prelude.{map};
     ghost use Rattle.std.specs.Coded.{codes};
@@ -44,7 +52,7 @@ impl<O: Origin, S: Statements, L: LineStore + Drop> Model for LineCluster<O, S, 
 
     ghost coded = { Prim.hlevel (codes, action_type.the_row.coded) };
 
-    ghost view = { λ c. sessions c.core.members.items c.core.events.items c.core.common.tree c.core.halt };
+    ghost view = { λ c. sessions c.core.members.items c.core.events.items c.core.allotments (L.sight c.core.common.store) c.core.common.tree c.core.halt };
 
     ghost invariant = { λ c. AreSound S.stands O.told O.opening O.sessions (scene c.core.common.word (L.sight c.core.common.store) c.core.common.tree) c.core.members.items (map event_of c.core.events.items) c.core.halt };
 }
@@ -68,13 +76,9 @@ fn members_of(alloc: Global, scripts: Vec<ItemQueue>) -> Result<Vec<Member>, NoM
 }
 
 impl<O: Origin, S: Reserves + Reaches, L: LineStore + Drop> LineCluster<O, S, L> {
-    /// Sessions that have said nothing, over a store in which nobody has a transaction open.
-    pub fn start(
-        alloc: Global,
-        word: Word,
-        store: L,
-        scripts: Vec<ItemQueue>,
-    ) -> Result<Self, NoMemory>
+    /// Sessions that have said nothing, over a store in which nobody has a transaction open. Where no memory is found the store is
+    /// given back.
+    pub fn start(alloc: Global, word: Word, store: L, scripts: Vec<ItemQueue>) -> Result<Self, L>
         requires sessions { length scripts.items ≡ O.sessions }
         requires few { O.sessions ≤ 16 }
         requires scripts { FollowsScripts O.opening scripts.items }
@@ -84,9 +88,14 @@ impl<O: Origin, S: Reserves + Reaches, L: LineStore + Drop> LineCluster<O, S, L>
         ensures events { IfOk result (λ c. c.events ≡ []) }
         ensures members { IfOk result (λ c. c.members ≡ map fresh_member scripts.items) }
         ensures going { IfOk result (λ c. c.halted ≡ false) }
+        ensures back { IfErr result (λ it. it ≡ store) }
     {
-        let members = members_of(alloc, scripts)?;
-        let rooms = SessionRooms::new(alloc)?;
+        let Ok(members) = members_of(alloc, scripts) else {
+            return Err(store);
+        };
+        let Ok(allotments) = Allotments::new(alloc) else {
+            return Err(store);
+        };
         Ok(LineCluster {
             core: Core {
                 common: Common {
@@ -96,8 +105,7 @@ impl<O: Origin, S: Reserves + Reaches, L: LineStore + Drop> LineCluster<O, S, L>
                     tree: Tree::new(alloc),
                 },
                 members,
-                notes: Notes::new(),
-                rooms,
+                allotments,
                 events: Vec::new(alloc),
                 halt: None,
                 of: PhantomData,
@@ -109,21 +117,25 @@ impl<O: Origin, S: Reserves + Reaches, L: LineStore + Drop> LineCluster<O, S, L>
     pub fn turn(&mut self, s: Session) -> Turn
         requires session { IsSession O.sessions s.number }
         ensures came { Came s.number self.old self.new result }
+        ensures nearer { result ≡ Turn.Moved → IsNearer s.number self.old self.new }
         ensures rests { O.told → Rests O.opening s.number self.old result }
     {
         self.core.turn(s)
     }
 
-    /// A session dies where it stands.
+    /// A session dies where it stands, unless it has nothing left to do.
     pub fn die(&mut self, s: Session, cause: Cause)
         requires session { IsSession O.sessions s.number }
         requires mortal { (O.opening.may_die s.number cause && not (is_stop cause)) ≡ true }
+        ensures came { DeathCame s.number cause self.old self.new }
     {
         self.core.die(s, cause);
     }
 
     /// A step of the recovery of the first session that died.
-    pub fn recover(&mut self) -> Turn {
+    pub fn recover(&mut self) -> Turn
+        ensures came { RecoveryCame self.old self.new result }
+    {
         self.core.recover()
     }
 
@@ -154,17 +166,23 @@ impl<O: Origin, S: Reserves + Reaches, L: LineStore + Drop> LineCluster<O, S, L>
         ensures count { length self.now.members ≡ O.sessions }
         ensures seated { self.now.halted ≡ false → (stand : ℕ → Seat) × AreSeated stand self.now.locks self.now.members }
         ensures locks { IsWhole self.now.locks }
-        ensures whole { O.told → self.now.halted ≡ false → HaveEnded self.now.members → AreWhole (is_session O.sessions) O.opening (map event_of self.now.events) }
+        ensures over { O.told → self.now.halted ≡ false → (s : ℕ) → 1 ≤ s → IsAtEnd s self.now → HasNothingLeft O.opening (place O.opening (map event_of self.now.events)) s }
+        ensures whole { O.told → self.now.halted ≡ false → HaveEnded self.now.members → HaveAllEnded O.opening O.sessions (map event_of self.now.events) }
     {
         // (so the tree is whole)
         let _blocker = self.core.common.tree.blocker(1);
     }
 
-    /// The events of the run.
-    pub fn into_events(self) -> Events
-        ensures { result ≡ self.events }
+    /// The run is over.
+    pub fn end(self) -> Finished<L>
+        ensures events { result.events ≡ self.events }
+        ensures left { O.told → self.halted ≡ false → IsLeft S.stands O.opening (L.sight result.store) (map event_of self.events) }
+        ensures outside { self.halted ≡ false → HaveEnded self.members → (s : ℕ) → bare ((L.sight result.store).stand s) ≡ outside }
     {
         let LineCluster { core } = self;
-        Items::from_vec(core.events)
+        Finished {
+            events: Items::from_vec(core.events),
+            store: core.common.store,
+        }
     }
 }

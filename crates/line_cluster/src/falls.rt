@@ -8,10 +8,11 @@ ghost use Rattle.session_states.specs.declared.stage.Member.{Member as MemberVal
 ghost use Rattle.session_stands.specs.Sessions.{dead_in};
 ghost use Rattle.stage_steps.specs.Deaths.{life_behind as life_behind_it};
 ghost use Rattle.stage_steps.specs.Scenes.{scene};
-ghost use Rattle.line_cluster.specs.Going.{IsDeadAt, is_dead as is_dead_at, is_alive as is_alive_at};
+ghost use Rattle.line_cluster.specs.Going.{IsDeadAt, is_dead as is_dead_at, is_over as is_over_at};
 ghost use Rattle.line_cluster.specs.Sound.{IsSound, IsOneOf};
+ghost use Rattle.line_cluster.specs.Turned.{DeathCame, GoesOn, IsDeath, RecoveryCame, sessions};
 
-use crate::members::{put_member, take_member};
+use crate::members::{is_over, member_at, put_member, take_member};
 use crate::origin::Origin;
 use crate::sessions::{Core, Halt, Turn};
 use line_account::{record_death, record_recovery, reserve_step};
@@ -26,12 +27,6 @@ fn is_dead(member: &Member) -> bool
     ensures { result ≡ is_dead_at member.now }
 {
     matches!(member.life, Life::Dead)
-}
-
-fn is_alive(member: &Member) -> bool
-    ensures { result ≡ is_alive_at member.now }
-{
-    matches!(member.life, Life::Alive)
 }
 
 /// The place of the first session that died and awaits its recovery.
@@ -58,16 +53,20 @@ fn life_behind(step: &Result<Recovery, Fault>) -> Life
 }
 
 impl<O: Origin, S: Reserves + Reaches, L: LineStore> Core<O, S, L> {
-    /// A session dies where it stands. Nothing changes where it has died before, nor behind a halt.
+    /// A session dies where it stands. Nothing changes where it has nothing left to do, nor behind a halt.
     pub fn die(&mut self, s: Session, cause: Cause)
         requires one { IsOneOf self.old.members.items s.number }
         requires mortal { (O.opening.may_die s.number cause && not (is_stop cause)) ≡ true }
         requires sound { IsSound S.stands O.told O.opening (scene self.old.common.word (L.sight self.old.common.store) self.old.common.tree) self.old.members.items (map event_of self.old.events.items) self.old.halt }
         ensures sound { IsSound S.stands O.told O.opening (scene self.new.common.word (L.sight self.new.common.store) self.new.common.tree) self.new.members.items (map event_of self.new.events.items) self.new.halt }
         ensures count { length self.new.members.items ≡ length self.old.members.items }
+        ensures came { DeathCame s.number cause (sessions self.old.members.items self.old.events.items self.old.allotments (L.sight self.old.common.store) self.old.common.tree self.old.halt) (sessions self.new.members.items self.new.events.items self.new.allotments (L.sight self.new.common.store) self.new.common.tree self.new.halt) }
     {
+        if self.halt.is_some() {
+            return;
+        }
         let at = s.number as usize - 1;
-        if self.halt.is_some() || !is_alive(&self.members[at]) {
+        if is_over(member_at(&self.members, at)) {
             return;
         }
         if reserve_step(&mut self.events).is_err() {
@@ -84,9 +83,10 @@ impl<O: Origin, S: Reserves + Reaches, L: LineStore> Core<O, S, L> {
         requires sound { IsSound S.stands O.told O.opening (scene self.old.common.word (L.sight self.old.common.store) self.old.common.tree) self.old.members.items (map event_of self.old.events.items) self.old.halt }
         requires going { self.old.halt ≡ None }
         requires room { vec_len self.old.events + 6 ≤ vec_capacity self.old.events }
-        requires alive { (m : MemberValue) → slice_get self.old.members.items at ≡ Some m → is_alive_at m ≡ true }
+        requires unfinished { (m : MemberValue) → slice_get self.old.members.items at ≡ Some m → is_over_at m m.life ≡ false }
         ensures sound { IsSound S.stands O.told O.opening (scene self.new.common.word (L.sight self.new.common.store) self.new.common.tree) self.new.members.items (map event_of self.new.events.items) self.new.halt }
         ensures count { length self.new.members.items ≡ length self.old.members.items }
+        ensures came { IsDeath s.number cause (sessions self.old.members.items self.old.events.items self.old.allotments (L.sight self.old.common.store) self.old.common.tree self.old.halt) (sessions self.new.members.items self.new.events.items self.new.allotments (L.sight self.new.common.store) self.new.common.tree self.new.halt) }
     {
         let Member {
             left,
@@ -111,6 +111,7 @@ impl<O: Origin, S: Reserves + Reaches, L: LineStore> Core<O, S, L> {
         requires sound { IsSound S.stands O.told O.opening (scene self.old.common.word (L.sight self.old.common.store) self.old.common.tree) self.old.members.items (map event_of self.old.events.items) self.old.halt }
         ensures sound { IsSound S.stands O.told O.opening (scene self.new.common.word (L.sight self.new.common.store) self.new.common.tree) self.new.members.items (map event_of self.new.events.items) self.new.halt }
         ensures count { length self.new.members.items ≡ length self.old.members.items }
+        ensures came { RecoveryCame (sessions self.old.members.items self.old.events.items self.old.allotments (L.sight self.old.common.store) self.old.common.tree self.old.halt) (sessions self.new.members.items self.new.events.items self.new.allotments (L.sight self.new.common.store) self.new.common.tree self.new.halt) result }
     {
         if self.halt.is_some() {
             return Turn::Stopped;
@@ -132,6 +133,8 @@ impl<O: Origin, S: Reserves + Reaches, L: LineStore> Core<O, S, L> {
         requires dead { IsDeadAt self.old.members.items at }
         ensures sound { IsSound S.stands O.told O.opening (scene self.new.common.word (L.sight self.new.common.store) self.new.common.tree) self.new.members.items (map event_of self.new.events.items) self.new.halt }
         ensures count { length self.new.members.items ≡ length self.old.members.items }
+        ensures came { RecoveryCame (sessions self.old.members.items self.old.events.items self.old.allotments (L.sight self.old.common.store) self.old.common.tree self.old.halt) (sessions self.new.members.items self.new.events.items self.new.allotments (L.sight self.new.common.store) self.new.common.tree self.new.halt) result }
+        ensures on { GoesOn result }
     {
         let _count = self.members.len();
         let s = Session {

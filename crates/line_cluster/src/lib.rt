@@ -2,15 +2,15 @@
 //! the account, and its type keeps what is true of them all.
 #![tactic(auto)]
 
+mod allotments;
+mod behind;
 mod cluster;
 mod falls;
-mod lent;
 mod members;
-mod notes;
 mod origin;
 mod sessions;
 mod turning;
 
-pub use cluster::LineCluster;
+pub use cluster::{Finished, LineCluster};
 pub use origin::Origin;
 pub use sessions::{Core, Halt, Turn};

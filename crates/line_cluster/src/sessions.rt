@@ -1,6 +1,5 @@
 //! What all sessions share, and the sessions.
-use crate::lent::SessionRooms;
-use crate::notes::Notes;
+use crate::allotments::Allotments;
 use crate::origin::Origin;
 use line_store::{Fault, LineStore};
 use rdb_account::Event;
@@ -42,8 +41,7 @@ pub enum Turn {
 pub struct Core<O: Origin, S: Statements, L: LineStore> {
     pub common: Common<L>,
     pub members: Vec<Member>,
-    pub notes: Notes,
-    pub rooms: SessionRooms,
+    pub allotments: Allotments,
     pub events: Vec<Event>,
     /// Why no session goes on, once that is so.
     pub halt: Option<Halt>,

@@ -1,4 +1,4 @@
-ghost use Rattle.std.specs.Prelude.{◌≡◌, ◌⊎◌, ℕ, ◌≤◌, List, [], Contains, length};
+ghost use Rattle.std.specs.Prelude.{◌≡◌, ℕ, List, Contains};
 ghost use Rattle.rdb_drive.specs.Boards.{Board, IsSession, answers_by};
 ghost use Rattle.rdb_drive.specs.Steps.{StepOf, RecoveryOf, DeathOf};
 
@@ -80,12 +80,11 @@ pub trait Driven {
         requires { IsSession sessions s.number }
         ensures { StepOf sessions s.number (board self.old) (board self.new) result };
 
-    /// The session dies here. Nothing changes where it has ended or is dead, nor where no session may die.
+    /// The session dies here. Nothing changes where it has ended or is dead.
     fn die(&mut self, s: Session)
         requires session { IsSession sessions s.number }
-        requires mortal { (mortals ≡ []) ⊎ Contains mortals s.number }
-        ensures death { Contains mortals s.number → DeathOf sessions s.number (board self.old) (board self.new) }
-        ensures nobody { mortals ≡ [] → self.new ≡ self.old };
+        requires mortal { Contains mortals s.number }
+        ensures { DeathOf sessions s.number (board self.old) (board self.new) };
 
     /// A step of the recovery of a dead session.
     fn recover_step(&mut self) -> Step<Self::Piece>

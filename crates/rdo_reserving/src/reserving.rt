@@ -1,8 +1,8 @@
-ghost use Rattle.std.specs.Prelude.{IfOk};
+ghost use Rattle.std.specs.Prelude.{◌≢◌, [], IfOk, IfErr};
 ghost use Rattle.line_view.specs.Held.{knows};
 ghost use Rattle.sound_maps.specs.Maps.{IsSoundWith};
 ghost use Rattle.session_jobs.specs.Jobs.{WhereItAgrees};
-ghost use Rattle.reserved_locks.specs.Reserved.{AreLocksOf};
+ghost use Rattle.reserved_locks.specs.Reserved.{AreLocksOf, AreOnAreas, IsUnnamed};
 
 use crate::reaching::reached_by_catalog;
 use catalog::read_catalog;
@@ -52,21 +52,27 @@ impl Statements for ReservingStatements {
     ghost lasts = { lasts };
 }
 
-// The locks of reservations, by the catalog of what is known. Where nothing is reserved that needn't be known.
+// The locks of reservations, by the catalog of what is known.
 fn locks_by_catalog(
     alloc: Global,
     known: &Known,
     reserved: &[Reservation],
 ) -> Result<LockNeeds, Unnamed>
-    ensures { IfOk result (λ locks. WhereItAgrees IsSoundWith (knows known.now) (λ t. AreLocksOf reserved.now t locks)) }
+    requires { reserved.now ≢ [] }
+    ensures locks { IfOk result (λ locks. WhereItAgrees IsSoundWith (knows known.now) (λ t. AreLocksOf reserved.now t locks)) }
+    ensures areas { IfOk result AreOnAreas }
+    ensures cause { IfErr result (IsUnnamed IsSoundWith (knows known.now) reserved.now) }
 {
-    if reserved.is_empty() {
-        return Ok(LockNeeds::new(alloc));
-    }
-    match read_catalog(alloc, known) {
-        Ok(catalog) => locks_in(alloc, &catalog.tables, reserved),
-        Err(Stop::NoMemory) => Err(Unnamed::NoMemory),
-        Err(_) => Err(Unnamed::Unknown),
+    let catalog = match read_catalog(alloc, known) {
+        Ok(catalog) => catalog,
+        Err(Stop::Missing(need)) => return Err(Unnamed::Lacking(need)),
+        Err(Stop::Bad(_)) => return Err(Unnamed::Unknown),
+        Err(Stop::NoMemory) => return Err(Unnamed::NoMemory),
+    };
+    match locks_in(alloc, &catalog.tables, reserved) {
+        Ok(Some(locks)) => Ok(locks),
+        Ok(None) => Err(Unnamed::Unknown),
+        Err(_) => Err(Unnamed::NoMemory),
     }
 }
 

@@ -1,5 +1,5 @@
 -- The lock of each reservation is one for which the reservations ask.
-use Rattle.std.proofs.Common.{◌≡◌, ◌∷◌, [], ◌&&◌, Bool, true, List, map, refl, ap, subst, Option, Some, None}
+use Rattle.std.proofs.Common.{◌≡◌, ◌∷◌, [], ◌&&◌, ◌∙◌, ℕ, zero, suc, Bool, true, List, map, refl, sym, ap, subst, Option, Some, None, slice_get}
 use Rattle.std.specs.List.{list_any, AllByRecursion}
 use Rattle.std.proofs.lemmas.Bool.{and_from, or_left, or_right}
 use Rattle.std.proofs.lemmas.Option.{none-some, same_Some}
@@ -55,6 +55,15 @@ need-self n = and_from (same_node n.node n.node) (is_mode n.mode n) (same_node-r
 is-for : (x : Reservation) (r : Option Relation) (n : Need) → lock_for x r ≡ Some n → is_reserved n x r ≡ true
 is-for x None n h = absurd (none-some n h)
 is-for x (Some r) n h = subst (λ (m : Need). is_need (area_node r.area) (reserved_mode x.share x.writes) m ≡ true) (same_Some (need (area_node r.area) (reserved_mode x.share x.writes)) n h) (need-self (need (area_node r.area) (reserved_mode x.share x.writes)))
+
+-- ---- a relation that isn't there
+
+pub none-without : (t : Tables) (rs : List Reservation) (locks : List Need) (i : ℕ) (x : Reservation) → slice_get rs i ≡ Some x → relation_named x.relation t ≡ None → AreLocksOf rs t locks → ⊥
+none-without t [] locks i x at none are = none-some x at
+none-without t (y ∷ ys) [] i x at none are = none-same (lock_in t y) (map (lock_in t) ys) (sym are)
+none-without t (y ∷ ys) (n ∷ ns) zero x at none are =
+    none-some n (sym (ap (lock_in t) (same_Some y x at) ∙ ap (lock_for x) none) ∙ head-same (lock_in t y) (some_need n) (map (lock_in t) ys) (map some_need ns) are)
+none-without t (y ∷ ys) (n ∷ ns) (suc i) x at none are = none-without t ys ns i x at none (tail-same (lock_in t y) (some_need n) (map (lock_in t) ys) (map some_need ns) are)
 
 -- ---- all of them
 

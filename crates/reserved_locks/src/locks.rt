@@ -1,13 +1,15 @@
 // The locks of reservations, by tables.
-ghost use Rattle.std.specs.Prelude.{◌≡◌, IfOk};
+ghost use Rattle.std.specs.Prelude.{◌≡◌, List, Ok, None, IfOk, IfSome};
 ghost use Rattle.rdb_account.specs.Events.{need as need_of};
 ghost use Rattle.rdb_account.specs.AskedFor.{area_node as node_of, reserved_mode as mode_of};
-ghost use Rattle.reserved_locks.specs.Reserved.{AreLocksOf};
+ghost use Rattle.lock_needs.specs.declared.need.Need.{Need as NeedValue};
+ghost use Rattle.reserved_locks.specs.Reserved.{AreLocksOf, AreOnAreas};
 
 use crate::LockNeeds;
+use line_view::Need as LineNeed;
 use lock_needs::Need;
 use rdb_meaning::Tables;
-use rdb_types::{Level, Node};
+use rdb_types::{Level, NoMemory, Node};
 use rdo_ast::syntax::{Reservation, Share};
 use std::alloc::Global;
 use vms_queues::Mode;
@@ -15,7 +17,9 @@ use vms_queues::Mode;
 /// Why the locks of reservations can't be named.
 #[derive(Clone, Copy, Debug, PartialEq, Eq)]
 pub enum Unnamed {
-    /// What is known doesn't tell of each relation.
+    /// What is known lacks this, which they ask for.
+    Lacking(LineNeed),
+    /// No tables with which what is known agrees have each relation.
     Unknown,
     NoMemory,
 }
@@ -51,19 +55,17 @@ pub fn locks_in(
     alloc: Global,
     tables: &Tables,
     reserved: &[Reservation],
-) -> Result<LockNeeds, Unnamed>
-    ensures { IfOk result (λ locks. AreLocksOf reserved.now tables.now locks) }
+) -> Result<Option<LockNeeds>, NoMemory>
+    ensures locks { IfOk result (λ found. IfSome found (AreLocksOf reserved.now tables.now)) }
+    ensures areas { IfOk result (λ found. IfSome found AreOnAreas) }
+    ensures unnamed { result ≡ Ok None → (locks : List NeedValue) → AreLocksOf reserved.now tables.now locks → ⊥ }
 {
     let mut locks = LockNeeds::new(alloc);
     for reservation in reserved {
         match tables.relation(&reservation.relation) {
-            Some(relation) => {
-                if locks.push(lock_on(relation.area, reservation)).is_err() {
-                    return Err(Unnamed::NoMemory);
-                }
-            }
-            None => return Err(Unnamed::Unknown),
+            Some(relation) => locks.push(lock_on(relation.area, reservation))?,
+            None => return Ok(None),
         }
     }
-    Ok(locks)
+    Ok(Some(locks))
 }

@@ -11,10 +11,10 @@ pub type LockNeeds = Items<Need>;
 
 /// Who works statements, and names the locks of what a START_TRANSACTION reserves.
 pub trait Reserves: Statements {
-    ghost use Rattle.std.specs.Prelude.{IfOk};
+    ghost use Rattle.std.specs.Prelude.{◌≢◌, [], IfOk, IfErr};
     ghost use Rattle.line_view.specs.Held.{knows};
     ghost use Rattle.session_jobs.specs.Jobs.{WhereItAgrees};
-    ghost use Rattle.reserved_locks.specs.Reserved.{AreLocksOf};
+    ghost use Rattle.reserved_locks.specs.Reserved.{AreLocksOf, AreOnAreas, IsUnnamed};
 
     /// The lock of each reservation, over all that agrees with what is known. It is asked once the record of the START_TRANSACTION is
     /// known to be done, so that each relation is there.
@@ -23,5 +23,8 @@ pub trait Reserves: Statements {
         known: &Known,
         reserved: &[Reservation],
     ) -> Result<LockNeeds, Unnamed>
-        ensures { IfOk result (λ locks. WhereItAgrees Self.stands (knows known.now) (λ t. AreLocksOf reserved.now t locks)) };
+        requires { reserved.now ≢ [] }
+        ensures locks { IfOk result (λ locks. WhereItAgrees Self.stands (knows known.now) (λ t. AreLocksOf reserved.now t locks)) }
+        ensures areas { IfOk result AreOnAreas }
+        ensures cause { IfErr result (IsUnnamed Self.stands (knows known.now) reserved.now) };
 }

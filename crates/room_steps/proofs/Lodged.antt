@@ -1,34 +1,30 @@
 -- A room's line is read, its page is taken, and the rooms are known.
-use Rattle.std.proofs.Common.{◌≡◌, ◌≤◌, ℕ, ◌+◌, Bool, [], List, refl, sym, ap, subst, ◌∙◌, arith, inl, inr, Some, slice_get}
+use Rattle.std.proofs.Common.{◌≡◌, ℕ, ◌+◌, Bool, [], List, refl, arith, Some, slice_get}
 use Rattle.std.proofs.lemmas.Bool.{and_parts}
 use Rattle.rdb_types.specs.declared.keys.Dbkey.{Dbkey}
 use Rattle.rdo_ast.specs.declared.reply.Standing.{Standing}
 use Rattle.rdo_ast.specs.declared.syntax.Item.{Item}
-use Rattle.lock_needs.specs.declared.need.Need.{Need as LockNeed}
 use Rattle.line_view.specs.declared.need.Need.{Need}
 use Rattle.line_view.specs.declared.need.Need.TheVariants as need
 use Rattle.line_view.specs.declared.need.Room.{Room}
-use Rattle.line_view.specs.Held.{Held, knows}
-use Rattle.line_view.specs.Knowledge.{Lines, IsInOrder, Agrees}
-use Rattle.kept_apart.specs.Alike.{IsGuarded}
-use Rattle.line_store.specs.Shelves.{Space, Shelf, seen_by}
+use Rattle.line_view.specs.Held.{Held}
+use Rattle.line_store.specs.Shelves.{Space, Shelf}
 use Rattle.line_store.specs.Calls.{KeepsOthers, KeepsSpace, Moves}
 use Rattle.line_store.specs.Rooms.{Takes}
 use Rattle.store_counts.specs.Counts.{TakesAt, is_on_line, written_of}
-use Rattle.store_counts.proofs.Kept.{counted-same, counted-takes}
+use Rattle.store_counts.proofs.Kept.{counted-takes}
 use Rattle.store_counts.proofs.Rooms.{takes-page, takes-nothing}
 use Rattle.session_jobs.specs.Records.{Model, IsOrderly}
-use Rattle.stepped_jobs.specs.Needs.{IsLocked}
 use Rattle.stepped_jobs.specs.More.{KnowsMore}
-use Rattle.session_states.specs.declared.stage.Gather.TheVariants.{Locking, Reading, Lodging as LodgingOf}
-use Rattle.session_states.specs.declared.stage.Work.TheVariants.{Due, Fetching, Lodging}
+use Rattle.session_states.specs.declared.stage.Gather.TheVariants.{Locking, Lodging as LodgingOf}
+use Rattle.session_states.specs.declared.stage.Work.TheVariants.{Due, Lodging}
 use Rattle.session_states.specs.declared.stage.Stage.TheVariants.{Working, Gathering}
 use Rattle.session_states.specs.declared.stage.Phase.TheVariants.{Writing}
 use Rattle.session_states.specs.States.{session, writer}
 use Rattle.session_states.specs.Shared.{Shared, with_shelf}
 use Rattle.session_states.specs.Fits.{Learns}
 use Rattle.session_states.specs.Steps.{Step}
-use Rattle.session_states.proofs.Gathering.{drops-read, drops-lodging, reads-on, reads-more-of-it, lodges-more, lodges-on}
+use Rattle.session_states.proofs.Gathering.{drops-lodging, lodges-more, lodges-on}
 use Rattle.session_states.proofs.InTurn.{steps-on}
 use Rattle.session_states.proofs.Working.{reads}
 

@@ -7,7 +7,6 @@ ghost use Rattle.lock_tree_laws.specs.Forest.{opened_of};
 ghost use Rattle.line_store.specs.Rooms.{IsFull};
 ghost use Rattle.line_store.specs.Seats.{IsMember, IsWriting};
 ghost use Rattle.line_store.specs.Shelves.{Shelf};
-ghost use Rattle.stage_steps.specs.Happenings.{events_of};
 ghost use Rattle.stage_steps.specs.Scenes.{ComesIn, scene};
 ghost use Rattle.stage_steps.specs.Turns.{at_stage};
 ghost use Rattle.gathering_steps.specs.Rounds.{gathers_at};
@@ -50,7 +49,7 @@ fn refuse_full<S: Reaches, L: LineStore>(
     requires seat { IsWriting ((L.sight common.old.store).stand s.number) }
     requires full { (h : Shelf) → (L.sight common.old.store).shows h → IsFull h s.number room.area limit }
     ensures { ComesIn S.stands s.number (scene common.old.word (L.sight common.old.store) common.old.tree) (at_stage terms (Stage.Working item (Work.Lacking (Need.Room room))))
-        (scene common.new.word (L.sight common.new.store) common.new.tree) result.phase (events_of s.number result.happened) }
+        (scene common.new.word (L.sight common.new.store) common.new.tree) result.phase result.happened }
 {
     if !terms.spoken {
         return unworked(terms, item, room);
@@ -77,7 +76,7 @@ pub fn house<S: Reaches, L: LineStore>(
     requires statement { ends_by (uttered_of round.item) ≡ false }
     requires closed { opened_of common.old.tree s.number ≡ None }
     ensures { ComesIn S.stands s.number (scene common.old.word (L.sight common.old.store) common.old.tree) (gathers_at terms round (Gather.Locking (Need.Room room)))
-        (scene common.new.word (L.sight common.new.store) common.new.tree) result.phase (events_of s.number result.happened) }
+        (scene common.new.word (L.sight common.new.store) common.new.tree) result.phase result.happened }
 {
     match name_line(&common.store, &common.tree, s, rooms, room) {
         Named::Line(key) => {

@@ -5,9 +5,9 @@ ghost use Rattle.rdb_types.specs.declared.keys.Dbkey.{Dbkey as Key};
 ghost use Rattle.line_view.specs.declared.need.Room.{Room as RoomValue};
 ghost use Rattle.session_states.specs.declared.stage.Gather.TheVariants.{Lodging};
 ghost use Rattle.line_store.specs.Seats.{IsMember, IsWriting};
-ghost use Rattle.stage_steps.specs.Happenings.{events_of};
 ghost use Rattle.stage_steps.specs.Scenes.{ComesIn, scene};
 ghost use Rattle.gathering_steps.specs.Rounds.{gathers_at};
+ghost use Rattle.room_steps.specs.Lodgings.{NearerFrom};
 
 use crate::given::{Given, is_of_pages};
 use gathering_steps::Round;
@@ -30,8 +30,9 @@ fn let_go<S: Statements, L: LineStore>(
 ) -> Turned
     requires member { IsMember s.number }
     requires seat { IsWriting ((L.sight common.old.store).stand s.number) }
-    ensures { (room : RoomValue) (key : Key) → ComesIn S.stands s.number (scene common.old.word (L.sight common.old.store) common.old.tree) (gathers_at terms round (Lodging room key))
-        (scene common.new.word (L.sight common.new.store) common.new.tree) result.phase (events_of s.number result.happened) }
+    ensures comes { (room : RoomValue) (key : Key) → ComesIn S.stands s.number (scene common.old.word (L.sight common.old.store) common.old.tree) (gathers_at terms round (Lodging room key))
+        (scene common.new.word (L.sight common.new.store) common.new.tree) result.phase result.happened }
+    ensures nearer { NearerFrom s.number round result.phase result.happened }
 {
     let mut terms = terms;
     match rooms.learn(&mut terms.known) {
@@ -53,8 +54,9 @@ fn take_on<S: Statements, L: LineStore>(
     requires seat { IsWriting ((L.sight common.old.store).stand s.number) }
     requires area { (file : ℕ) × IsOwner file given.key.area }
     requires class { IsClass given.room.class }
-    ensures { ComesIn S.stands s.number (scene common.old.word (L.sight common.old.store) common.old.tree) (gathers_at terms round (Lodging given.room given.key))
-        (scene common.new.word (L.sight common.new.store) common.new.tree) result.phase (events_of s.number result.happened) }
+    ensures comes { ComesIn S.stands s.number (scene common.old.word (L.sight common.old.store) common.old.tree) (gathers_at terms round (Lodging given.room given.key))
+        (scene common.new.word (L.sight common.new.store) common.new.tree) result.phase result.happened }
+    ensures nearer { NearerFrom s.number round result.phase result.happened }
 {
     let Some(next) = round.next() else {
         return let_go::<S, L>(common, s, terms, rooms, round);
@@ -82,8 +84,9 @@ fn take_last<S: Statements, L: LineStore>(
     requires seat { IsWriting ((L.sight common.old.store).stand s.number) }
     requires area { (file : ℕ) × IsOwner file given.key.area }
     requires class { IsClass given.room.class }
-    ensures { ComesIn S.stands s.number (scene common.old.word (L.sight common.old.store) common.old.tree) (gathers_at terms round (Lodging given.room given.key))
-        (scene common.new.word (L.sight common.new.store) common.new.tree) result.phase (events_of s.number result.happened) }
+    ensures comes { ComesIn S.stands s.number (scene common.old.word (L.sight common.old.store) common.old.tree) (gathers_at terms round (Lodging given.room given.key))
+        (scene common.new.word (L.sight common.new.store) common.new.tree) result.phase result.happened }
+    ensures nearer { NearerFrom s.number round result.phase result.happened }
 {
     let mut terms = terms;
     if rooms.learn(&mut terms.known).is_err() {
@@ -111,8 +114,9 @@ fn settle<S: Statements, L: LineStore>(
 ) -> Turned
     requires member { IsMember s.number }
     requires seat { IsWriting ((L.sight common.old.store).stand s.number) }
-    ensures { ComesIn S.stands s.number (scene common.old.word (L.sight common.old.store) common.old.tree) (gathers_at terms round (Lodging given.room given.key))
-        (scene common.new.word (L.sight common.new.store) common.new.tree) result.phase (events_of s.number result.happened) }
+    ensures comes { ComesIn S.stands s.number (scene common.old.word (L.sight common.old.store) common.old.tree) (gathers_at terms round (Lodging given.room given.key))
+        (scene common.new.word (L.sight common.new.store) common.new.tree) result.phase result.happened }
+    ensures nearer { NearerFrom s.number round result.phase result.happened }
 {
     let is_absent = matches!(terms.known.line(given.key), Seen::Absent);
     if !is_absent || !is_of_pages(given.key.area, given.room.class) {
@@ -140,7 +144,7 @@ pub fn lodge<S: Statements, L: LineStore>(
     requires member { IsMember s.number }
     requires seat { IsWriting ((L.sight common.old.store).stand s.number) }
     ensures { ComesIn S.stands s.number (scene common.old.word (L.sight common.old.store) common.old.tree) (gathers_at terms round (Lodging given.room given.key))
-        (scene common.new.word (L.sight common.new.store) common.new.tree) result.phase (events_of s.number result.happened) }
+        (scene common.new.word (L.sight common.new.store) common.new.tree) result.phase result.happened }
 {
     let mut terms = terms;
     match fetch(

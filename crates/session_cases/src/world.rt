@@ -89,8 +89,10 @@ impl<O: Origin> World<O> {
     {
         let word = Word::from_slice(alloc, b"PERS")?;
         let store = MemoryStore::new(alloc, limits)?;
-        let cluster = LineCluster::start(alloc, word, store, scripts)?;
-        Ok(World { cluster })
+        match LineCluster::start(alloc, word, store, scripts) {
+            Ok(cluster) => Ok(World { cluster }),
+            Err(_store) => Err(NoMemory {}),
+        }
     }
 
     /// A step of a session, or of the recovery for which it has to wait.

@@ -1,5 +1,5 @@
 -- A session comes nearer, by the first of its numbers that changes.
-use Rattle.std.proofs.Common.{◌≡◌, ◌<◌, ◌+◌, ◌⊎◌, ℕ, ◌∷◌, [], List, Bool, true, false, length, refl, sym, ap, subst, ◌∙◌, inl, inr, arith}
+use Rattle.std.proofs.Common.{◌≡◌, ◌<◌, ◌+◌, ◌⊎◌, ◌&&◌, ℕ, ◌∷◌, [], List, Bool, true, false, length, refl, sym, ap, subst, ◌∙◌, inl, inr, arith}
 use Rattle.std.proofs.lemmas.Bool.{false≢true}
 use Rattle.rdo_ast.specs.declared.syntax.Item.{Item}
 use Rattle.lock_tree_laws.specs.Forest.{opened_of}
@@ -8,28 +8,30 @@ use Rattle.session_states.specs.declared.stage.Phase.{Phase}
 use Rattle.session_states.specs.declared.stage.Member.{Member}
 use Rattle.session_states.specs.States.{session, dead_session, gone_session}
 use Rattle.session_measure.specs.Weights.{Beside, Falls, weight, life_left, items_in, items_left, rank, round_left, places_left, unopened}
-use Rattle.session_measure.specs.Nearer.{takes_next, has_out, RoundsBy, AreRounds, ComesNearer, StaysNear}
+use Rattle.session_measure.specs.Nearer.{takes_next, has_due, has_out, RoundsBy, AreRounds, ComesNearer, StaysNear}
 use Rattle.session_measure.proofs.Falling.{by-life, by-items, by-rank, by-rounds, by-round, by-place}
 
 -- ---- rounds
 
 -- no item is taken up, and no job is handed out
 pub same-rounds : (x y : Phase) (k l : ℕ) → takes_next x ≡ false → has_out y ≡ false → AreRounds x y k l → l ≡ k
-same-rounds x y k l e f r = by (takes_next x) (has_out y) e f r
+same-rounds x y k l e f r = by (takes_next x) (has_due x) (has_out y) e f r
   where
-    by : (takes out : Bool) → takes ≡ false → out ≡ false → RoundsBy takes out k l → l ≡ k
-    by true out e f r = absurd (false≢true (sym e))
-    by false true e f r = absurd (false≢true (sym f))
-    by false false e f r = r
+    by : (takes due out : Bool) → takes ≡ false → out ≡ false → RoundsBy takes (due && out) k l → l ≡ k
+    by true due out e f r = absurd (false≢true (sym e))
+    by false due true e f r = absurd (false≢true (sym f))
+    by false true false e f r = r
+    by false false false e f r = r
 
--- a job is handed out
-fewer-rounds : (x y : Phase) (k l : ℕ) → takes_next x ≡ false → has_out y ≡ true → AreRounds x y k l → l < k
-fewer-rounds x y k l e f r = by (takes_next x) (has_out y) e f r
+-- a job that was due is handed out
+fewer-rounds : (x y : Phase) (k l : ℕ) → takes_next x ≡ false → has_due x ≡ true → has_out y ≡ true → AreRounds x y k l → l < k
+fewer-rounds x y k l e f g r = by (takes_next x) (has_due x) (has_out y) e f g r
   where
-    by : (takes out : Bool) → takes ≡ false → out ≡ true → RoundsBy takes out k l → l < k
-    by true out e f r = absurd (false≢true (sym e))
-    by false true e f r = r
-    by false false e f r = absurd (false≢true f)
+    by : (takes due out : Bool) → takes ≡ false → due ≡ true → out ≡ true → RoundsBy takes (due && out) k l → l < k
+    by true due out e f g r = absurd (false≢true (sym e))
+    by false false out e f g r = absurd (false≢true f)
+    by false true false e f g r = absurd (false≢true g)
+    by false true true e f g r = r
 
 -- ---- nothing of the script is taken up
 
@@ -45,8 +47,8 @@ module _ (s : ℕ) (c d : Beside) (x y : Phase) where
   nearer-by-rank e h left total = record { nears = λ k l r. inl (by-rank k l s c d (session left total x) (session left total y) refl (same-items left e) h) }
 
   -- a job is handed out
-  pub nearer-handed-out : items_in y ≡ items_in x → rank y ≡ rank x → takes_next x ≡ false → has_out y ≡ true → (left : List Item) (total : ℕ) → ComesNearer c d s (session left total x) (session left total y)
-  nearer-handed-out e f g h left total = record { nears = λ k l r. inl (by-rounds k l s c d (session left total x) (session left total y) refl (same-items left e) f (fewer-rounds x y k l g h r)) }
+  pub nearer-handed-out : items_in y ≡ items_in x → rank y ≡ rank x → takes_next x ≡ false → has_due x ≡ true → has_out y ≡ true → (left : List Item) (total : ℕ) → ComesNearer c d s (session left total x) (session left total y)
+  nearer-handed-out e f g due h left total = record { nears = λ k l r. inl (by-rounds k l s c d (session left total x) (session left total y) refl (same-items left e) f (fewer-rounds x y k l g due h r)) }
 
   module _ (e : items_in y ≡ items_in x) (f : rank y ≡ rank x) (none : takes_next x ≡ false) (kept : has_out y ≡ false) where
     -- a round comes nearer to its end

@@ -1,7 +1,7 @@
 -- When a step brings a session nearer to its end.
-use Rattle.std.specs.Prelude.{◌≡◌, ◌<◌, ◌⊎◌, ℕ, Bool, true, false}
+use Rattle.std.specs.Prelude.{◌≡◌, ◌<◌, ◌⊎◌, ◌&&◌, ℕ, Bool, true, false}
 use Rattle.lock_tree_laws.specs.Progress.{Falls as LocksFall, NeverRises}
-use Rattle.session_states.specs.declared.stage.Work.TheVariants.{Out}
+use Rattle.session_states.specs.declared.stage.Work.TheVariants.{Due, Out}
 use Rattle.session_states.specs.declared.stage.Stage.{Stage}
 use Rattle.session_states.specs.declared.stage.Stage.TheVariants.{Between, Working}
 use Rattle.session_states.specs.declared.stage.ReaderWork.TheVariants as work
@@ -29,6 +29,20 @@ takes_next (Writing w) = is_between w.stage
 takes_next (Reading r) = is_reader_between r.stage
 takes_next x = false
 
+-- the job of the statement is due
+abbrev pub is_due : Stage → Bool
+is_due (Working item Due) = true
+is_due stage = false
+
+abbrev pub is_reader_due : ReaderStage → Bool
+is_reader_due (look.Working item work.Due) = true
+is_reader_due stage = false
+
+abbrev pub has_due : Phase → Bool
+has_due (Writing w) = is_due w.stage
+has_due (Reading r) = is_reader_due r.stage
+has_due x = false
+
 -- the job of the statement is handed out
 abbrev pub is_out : Stage → Bool
 is_out (Working item Out) = true
@@ -43,14 +57,14 @@ has_out (Writing w) = is_out w.stage
 has_out (Reading r) = is_reader_out r.stage
 has_out x = false
 
-abbrev pub RoundsBy : (takes out : Bool) → ℕ → ℕ → Type 0
-RoundsBy true out k l = Unit {0}
+abbrev pub RoundsBy : (takes hands : Bool) → ℕ → ℕ → Type 0
+RoundsBy true hands k l = Unit {0}
 RoundsBy false true k l = l < k
 RoundsBy false false k l = l ≡ k
 
--- Of so many rounds before a step from x to y, so many are left behind it: one fewer at least where the job is handed out, else as many. Where the next item is taken up it is given any number.
+-- Of so many rounds before a step from x to y, so many are left behind it: one fewer at least where the job that was due is handed out, else as many. Where the next item is taken up it is given any number.
 abbrev pub AreRounds : Phase → Phase → ℕ → ℕ → Type 0
-AreRounds x y = RoundsBy (takes_next x) (has_out y)
+AreRounds x y = RoundsBy (takes_next x) (has_due x && has_out y)
 
 -- ---- nearer
 

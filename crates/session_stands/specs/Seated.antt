@@ -7,6 +7,7 @@ use Rattle.lock_tree_laws.specs.Forest.{State, opened_of}
 use Rattle.lock_tree_laws.specs.Wanted.{needs_of}
 use Rattle.line_steps.specs.Images.{journal_node}
 use Rattle.journal_waits.specs.Holders.{WantsExclusively}
+use Rattle.reserved_locks.specs.Reserved.{AreOnAreas}
 use Rattle.line_store.specs.Seats.{Seat, outside, beginning, writing, changing, prepared, committing, rolling_back, reading, dead, done_at}
 use Rattle.line_store.specs.Sights.{bare}
 use Rattle.session_states.specs.declared.stage.Work.TheVariants.{Opening}
@@ -51,16 +52,16 @@ abbrev pub NeedsFit : Phase → List Need → Type 0
 NeedsFit (Writing w) needs = HasJournal (has_journal w.stage) needs
 NeedsFit _ needs = needs ≡ []
 
--- the statement of a stage doesn't end its transaction
-abbrev pub ends_none : Stage → Type 0
-ends_none (Working item work) = ends_by (uttered_of item) ≡ false
-ends_none (Gathering item gather later place) = ends_by (uttered_of item) ≡ false
-ends_none (Reserving item r locks place) = ends_by (uttered_of item) ≡ false
-ends_none (Saying item r laying) = ends_by (uttered_of item) ≡ false
-ends_none stage = Unit {0}
+-- the statement of a stage doesn't end its transaction, and what it reserves are areas
+abbrev pub StatementFitsAt : Stage → Type 0
+StatementFitsAt (Working item work) = ends_by (uttered_of item) ≡ false
+StatementFitsAt (Gathering item gather later place) = ends_by (uttered_of item) ≡ false
+StatementFitsAt (Reserving item r locks place) = (ends_by (uttered_of item) ≡ false) × AreOnAreas locks
+StatementFitsAt (Saying item r laying) = ends_by (uttered_of item) ≡ false
+StatementFitsAt stage = Unit {0}
 
 abbrev pub StatementFits : Phase → Type 0
-StatementFits (Writing w) = ends_none w.stage
+StatementFits (Writing w) = StatementFitsAt w.stage
 StatementFits _ = Unit {0}
 
 -- Session s, which lives, stands in memory and with the tree of locks as its phase has it. What it wants of the journal, it wants for itself.

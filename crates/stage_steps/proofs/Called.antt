@@ -44,7 +44,7 @@ use Rattle.session_states.specs.Steps.{Step}
 use Rattle.session_states.proofs.Asking.{asks-on, gets-on}
 use Rattle.session_states.proofs.Refusing.{refuses-on, asks-waits}
 use Rattle.session_states.proofs.Starting.{start-refuses-on}
-use Rattle.session_stands.specs.Seated.{IsSeated, stand_of, ends_none}
+use Rattle.session_stands.specs.Seated.{IsSeated, stand_of, StatementFitsAt}
 use Rattle.stage_steps.specs.declared.calling.Called.{Called}
 use Rattle.stage_steps.specs.Asking.{IsCalled, IsOfStatement, IsReplyTo}
 use Rattle.stage_steps.specs.Happenings.{asked_by}
@@ -155,13 +155,13 @@ got-stage (Saying item r (Claiming place)) of idle = (refl, refl, refl)
 got-stage (Saying item r Changing) of idle = absurd (false≢true idle)
 got-stage (Ending end) of idle = absurd of
 
-got-ends : (stage : Stage) → IsOfStatement stage → ends_none (got stage)
-got-ends Between of = absurd of
-got-ends (Working item work) of = of
-got-ends (Gathering item gather later place) of = of
-got-ends (Reserving item r locks place) of = of
-got-ends (Saying item r laying) of = of
-got-ends (Ending end) of = absurd of
+got-statement : (stage : Stage) → IsOfStatement stage → StatementFitsAt stage → StatementFitsAt (got stage)
+got-statement Between of is = absurd of
+got-statement (Working item work) of is = is
+got-statement (Gathering item gather later place) of is = is
+got-statement (Reserving item r locks place) of is = is
+got-statement (Saying item r laying) of is = is
+got-statement (Ending end) of is = absurd of
 
 off-exclusive : (w : OpenWant) → is_on journal_node w.need.node ≡ false → WantsExclusively journal_node (Some w)
 off-exclusive w h = rw h refl
@@ -176,7 +176,7 @@ module _ (stand : ℕ → Seat) (s : ℕ) (n : Need) (wait : Bool) (old new : St
       let plain = got-stage stage of idle in
       rests-at stand new s (writer standing known spoken waits (got stage)) (at ∙ sym plain.0) (ap (λ (p : Party). p.opened) a.0)
       (subst (λ (b : Bool). HasJournal b (needs_of new s)) (sym plain.2) (subst (HasJournal false) (sym (ap (λ (p : Party). p.needs) a.0)) (got-beside (needs_of old s) n off (subst (λ (b : Bool). HasJournal b (needs_of old s)) plain.1 f.needs))))
-      (got-ends stage of)
+      (got-statement stage of f.statement)
 
   -- the want is open, and was asked for
   asked-seat : (w : OpenWant) → lock_of stage ≡ Some n → is_on journal_node n.node ≡ false → IsWanting new s (needs_of old s) w → w.need ≡ n → IsSeated stand old s was → IsSeated stand new s was

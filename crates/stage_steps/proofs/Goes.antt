@@ -15,7 +15,6 @@ use Rattle.session_states.specs.declared.stage.Life.{Life}
 use Rattle.session_states.specs.declared.stage.Life.TheVariants.{Alive}
 use Rattle.session_stands.specs.Seated.{LivesAt}
 use Rattle.stage_steps.specs.declared.happening.Happening.{Happening}
-use Rattle.stage_steps.specs.Happenings.{events_of}
 use Rattle.stage_steps.specs.Scenes.{Scene, Goes, ComesIn, scene}
 use Rattle.stage_steps.proofs.Seated.{sits-on}
 
@@ -25,16 +24,17 @@ there s seat R old new d = record { mine = refl; others = d.others; steps = d.st
 
 module _ (s : ℕ) (x : Phase) (from : Life) (y : Phase) (to : Life) (R Q : Shelf → Shelf → Type 0) (seat : Seat) (old new : Scene) where
   -- by one call
-  pub goes : (bare (new.sight.stand s) ≡ bare seat → LivesAt old.sight.stand old.locks s x from → LivesAt new.sight.stand new.locks s y to) → KeepsParties s old.locks.parties new.locks.parties →
-      ((h g : Shelf) → old.sight.shows h → new.sight.shows g → R h g → Q h g) → Does s seat R old.sight new.sight → Goes s x from y to Q old new
-  goes lives parties all d = record { lives = lives d.mine; parties = parties; does = there s seat Q old.sight new.sight (does-as s seat R Q old.sight new.sight all d) }
+  pub goes : {N : Type 0} → (bare (new.sight.stand s) ≡ bare seat → LivesAt old.sight.stand old.locks s x from → LivesAt new.sight.stand new.locks s y to) → KeepsParties s old.locks.parties new.locks.parties → N →
+      ((h g : Shelf) → old.sight.shows h → new.sight.shows g → R h g → Q h g) → Does s seat R old.sight new.sight → Goes s x from y to Q N old new
+  goes lives parties nearer all d = record { lives = lives d.mine; parties = parties; nearer = nearer; does = there s seat Q old.sight new.sight (does-as s seat R Q old.sight new.sight all d) }
 
 -- without a call
-pub goes-still : (s : ℕ) (x : Phase) (from : Life) (y : Phase) (to : Life) (Q : Shelf → Shelf → Type 0) (old new : Scene) → new.sight ≡ old.sight →
-    (LivesAt old.sight.stand old.locks s x from → LivesAt old.sight.stand new.locks s y to) → KeepsParties s old.locks.parties new.locks.parties → ((h : Shelf) → old.sight.shows h → Q h h) → Goes s x from y to Q old new
-goes-still s x from y to Q old new same lives parties all = record {
+pub goes-still : (s : ℕ) (x : Phase) (from : Life) (y : Phase) (to : Life) (Q : Shelf → Shelf → Type 0) {N : Type 0} (old new : Scene) → new.sight ≡ old.sight →
+    (LivesAt old.sight.stand old.locks s x from → LivesAt old.sight.stand new.locks s y to) → KeepsParties s old.locks.parties new.locks.parties → N → ((h : Shelf) → old.sight.shows h → Q h h) → Goes s x from y to Q N old new
+goes-still s x from y to Q old new same lives parties nearer all = record {
   lives = λ f. subst (λ (v : Sight). LivesAt v.stand new.locks s y to) (sym same) (lives f);
   parties = parties;
+  nearer = nearer;
   does = subst (λ (v : Sight). Does s (v.stand s) Q old.sight v) (sym same) (does-nothing s Q old.sight all);
 }
 
@@ -80,16 +80,16 @@ prepared-flight (dead commits ws) = refl
 -- ---- other names
 
 -- the phase and what happened by other names
-pub comes-as : (M : Model) (s : ℕ) (old new : Scene) (x y z : Phase) (h k : Happening) → z ≡ y → k ≡ h → ComesIn M s old x new y (events_of s h) → ComesIn M s old x new z (events_of s k)
+pub comes-as : (M : Model) (s : ℕ) (old new : Scene) (x y z : Phase) (h k : Happening) → z ≡ y → k ≡ h → ComesIn M s old x new y h → ComesIn M s old x new z k
 comes-as M s old new x y z h k e f step =
-    subst (λ (u : Phase). ComesIn M s old x new u (events_of s k)) (sym e) (subst (λ (v : Happening). ComesIn M s old x new y (events_of s v)) (sym f) step)
+    subst (λ (u : Phase). ComesIn M s old x new u k) (sym e) (subst (λ (v : Happening). ComesIn M s old x new y v) (sym f) step)
 
 -- ---- calls that left all as it was
 
 -- the store refused, and its session goes on from where it stands, in the phase in which it was
-pub goes-staying : (s : ℕ) (x : Phase) (word : List ℕ) (locks : State) (a b : Sight) (Q : Shelf → Shelf → Type 0) → Does s (a.stand s) IsSame a b → ((h : Shelf) → Q h h) → Goes s x Alive x Alive Q (scene word a locks) (scene word b locks)
-goes-staying s x word locks a b Q d all =
-    goes s x Alive x Alive IsSame Q (a.stand s) (scene word a locks) (scene word b locks) (λ e f. sits-on a.stand b.stand locks s x e f) (λ u other. refl)
+pub goes-staying : (s : ℕ) (x : Phase) (word : List ℕ) (locks : State) (a b : Sight) (Q : Shelf → Shelf → Type 0) {N : Type 0} → Does s (a.stand s) IsSame a b → N → ((h : Shelf) → Q h h) → Goes s x Alive x Alive Q N (scene word a locks) (scene word b locks)
+goes-staying s x word locks a b Q d nearer all =
+    goes s x Alive x Alive IsSame Q (a.stand s) (scene word a locks) (scene word b locks) (λ e f. sits-on a.stand b.stand locks s x e f) (λ u other. refl) nearer
     (λ h g shown told same. subst (λ (k : Shelf). Q h k) (sym same) (all h)) d
 
 -- ---- one call behind another, in one step
@@ -99,20 +99,22 @@ abbrev Shown : Sight → Sight → (Shelf → Shelf → Type 0) → Shelf → Sh
 Shown a b R h m = a.shows h × b.shows m × R h m
 
 module _ (s : ℕ) (x y z : Phase) (to : Life) (word : List ℕ) (locks : State) (a b : Sight) (new : Scene) where
-  pub goes-behind : (R Q P : Shelf → Shelf → Type 0) (first : Seat) (seat : Shelf → Seat) → (bare (b.stand s) ≡ bare first → LivesAt a.stand locks s x Alive → LivesAt b.stand locks s y Alive) →
+  pub goes-behind : {N L : Type 0} (R Q P : Shelf → Shelf → Type 0) (first : Seat) (seat : Shelf → Seat) → (bare (b.stand s) ≡ bare first → LivesAt a.stand locks s x Alive → LivesAt b.stand locks s y Alive) →
       ((h m : Shelf) → R h m → Moves s (seat h) h m) → ((h : Shelf) → in_flight (seat h) ≡ in_flight (h.seat s)) → ((h m g : Shelf) → a.shows h → b.shows m → R h m → Q m g → P h g) →
-      Does s first R a b → Goes s y Alive z to Q (scene word b locks) new → Goes s x Alive z to P (scene word a locks) new
-  goes-behind R Q P first seat sits moves same both one two = record {
+      Does s first R a b → Goes s y Alive z to Q N (scene word b locks) new → L → Goes s x Alive z to P L (scene word a locks) new
+  goes-behind R Q P first seat sits moves same both one two nearer = record {
     lives = λ f. two.lives (sits one.mine f);
     parties = two.parties;
+    nearer = nearer;
     does = does-behind s first (new.sight.stand s) (Shown a b R) Q P seat a b new.sight (λ h m r. moves h m r.2) same (λ h m g r q. both h m g r.0 r.1 r.2 q)
         (does-as s first R (Shown a b R) a b (λ h m shown told r. (shown, told, r)) one) two.does;
   }
 
 -- the first call left all as it was
-pub goes-behind-none : (s : ℕ) (x z : Phase) (to : Life) (word : List ℕ) (locks : State) (a b : Sight) (new : Scene) (Q : Shelf → Shelf → Type 0) → Does s (a.stand s) IsSame a b → Goes s x Alive z to Q (scene word b locks) new → Goes s x Alive z to Q (scene word a locks) new
-goes-behind-none s x z to word locks a b new Q one two = record {
+pub goes-behind-none : (s : ℕ) (x z : Phase) (to : Life) (word : List ℕ) (locks : State) (a b : Sight) (new : Scene) (Q : Shelf → Shelf → Type 0) {N L : Type 0} → Does s (a.stand s) IsSame a b → Goes s x Alive z to Q N (scene word b locks) new → L → Goes s x Alive z to Q L (scene word a locks) new
+goes-behind-none s x z to word locks a b new Q one two nearer = record {
   lives = λ f. two.lives (sits-on a.stand b.stand locks s x one.mine f);
   parties = two.parties;
+  nearer = nearer;
   does = does-behind-none s (a.stand s) (new.sight.stand s) Q a b new.sight one two.does;
 }

@@ -10,6 +10,7 @@ pub mod Firsts
 pub mod Unchanged
 pub mod Asked
 pub mod Called
+pub mod Nearer
 pub mod Preparing
 pub mod Serves
 pub mod Falls

@@ -27,7 +27,7 @@ use Rattle.session_states.specs.Fits.{WantsAtMost}
 use Rattle.session_states.specs.Locks.{lock_of, has_journal, HasJournal}
 use Rattle.session_states.specs.States.{commits_at, commits_in, is_at_rest}
 use Rattle.session_states.proofs.Journal.{has-behind}
-use Rattle.session_stands.specs.Seated.{IsSeated, IsStandOf, stand_of, ends_none}
+use Rattle.session_stands.specs.Seated.{IsSeated, IsStandOf, stand_of, StatementFitsAt}
 
 -- ---- seats
 
@@ -237,7 +237,7 @@ got-beside needs n off none = has-behind false needs n off none
 -- ---- how it stands
 
 -- a read-write transaction with no want open
-pub rests-at : (stand : ℕ → Seat) (locks : State) (s : ℕ) (w : Writer) → bare (stand s) ≡ stand_of w.stage → opened_of locks s ≡ None → HasJournal (has_journal w.stage) (needs_of locks s) → ends_none w.stage → IsSeated stand locks s (Writing w)
+pub rests-at : (stand : ℕ → Seat) (locks : State) (s : ℕ) (w : Writer) → bare (stand s) ≡ stand_of w.stage → opened_of locks s ≡ None → HasJournal (has_journal w.stage) (needs_of locks s) → StatementFitsAt w.stage → IsSeated stand locks s (Writing w)
 rests-at stand locks s w at ended needs statement = record {
   seat = at;
   wants = wants-none (lock_of w.stage) (opened_of locks s) ended;

@@ -1,11 +1,11 @@
 -- The store works for a session, in scenes.
-use Rattle.std.proofs.Common.{◌≡◌, ℕ, Bool, [], List, Ok, true, refl, subst}
+use Rattle.std.proofs.Common.{◌≡◌, ℕ, Bool, [], List, Ok, true, false, refl, subst}
 use Rattle.std.specs.Prelude.{is_some}
 use Rattle.std.proofs.lemmas.Bool.{false≢true}
 use Rattle.line_store.specs.Seats.{Seat, outside, beginning, writing, changing, prepared, committing, rolling_back, closing, reading, dead, done_at, is_committing, IsAlive, IsUnderWay}
 use Rattle.line_store.specs.Shelves.{Shelf}
 use Rattle.line_store.specs.Calls.{Moves, GoesOn, Fails, IsDone, IsCommitted}
-use Rattle.line_store.specs.Sights.{Sight, Does, Steps, seat_or, stepped_to}
+use Rattle.line_store.specs.Sights.{Sight, Does, Steps, IsLess, seat_or, stepped_to}
 use Rattle.line_store.specs.declared.answers.Fault.{Fault}
 use Rattle.line_store.specs.declared.answers.Progress.{Progress}
 use Rattle.line_store.specs.declared.answers.Progress.TheVariants as progress
@@ -17,9 +17,12 @@ use Rattle.session_jobs.specs.Records.{Model, IsOrderly}
 use Rattle.session_states.specs.declared.stage.Phase.{Phase}
 use Rattle.session_states.specs.declared.stage.Life.TheVariants.{Alive}
 use Rattle.session_states.proofs.Parting.{goes-on}
-use Rattle.stage_steps.specs.Scenes.{ComesIn, scene}
+use Rattle.session_measure.specs.Nearer.{takes_next, has_out}
+use Rattle.session_measure.proofs.Nearer.{nearer-by-steps}
+use Rattle.stage_steps.specs.declared.happening.Happening.TheVariants.{Quiet, Failed}
+use Rattle.stage_steps.specs.Scenes.{Goes, ComesIn, scene, beside}
 use Rattle.stage_steps.specs.Stores.{HasGoneOn, worked_to}
-use Rattle.stage_steps.specs.Turns.{shared}
+use Rattle.stage_steps.specs.Turns.{shared, Comes}
 use Rattle.stage_steps.proofs.Goes.{goes}
 use Rattle.stage_steps.proofs.Seated.{sits-on}
 
@@ -80,15 +83,16 @@ when-recovered s seat a b x committed m e d = subst (λ (y : Stepped). Does s (s
 -- ---- the phase stands
 
 module _ (M : Model) (orderly : IsOrderly M) (s : ℕ) (word : List ℕ) (locks : State) (a b : Sight) (x : Phase) where
-  on-move : (R : Shelf → Shelf → Type 0) → ((h g : Shelf) → R h g → Moves s (h.seat s) h g) → Does s (a.stand s) R a b → ComesIn M s (scene word a locks) x (scene word b locks) x []
-  on-move R moves d =
-      goes s x Alive x Alive R _ (a.stand s) (scene word a locks) (scene word b locks) (λ e f. sits-on a.stand b.stand locks s x e f) (λ u other. refl)
+  on-move : {N : Type 0} (R : Shelf → Shelf → Type 0) → ((h g : Shelf) → R h g → Moves s (h.seat s) h g) → N → Does s (a.stand s) R a b →
+      Goes s x Alive x Alive (λ h g. (dead : ℕ) → Comes M s (shared word h locks dead) x (shared word g locks dead) x []) N (scene word a locks) (scene word b locks)
+  on-move R moves nearer d =
+      goes s x Alive x Alive R _ (a.stand s) (scene word a locks) (scene word b locks) (λ e f. sits-on a.stand b.stand locks s x e f) (λ u other. refl) nearer
       (λ h g shown told r dead left total. goes-on M orderly s (shared word h locks dead) g left total x (moves h g r)) d
 
-  -- the store has more to do
-  pub on-more : Does s (a.stand s) (GoesOn s) a b → ComesIn M s (scene word a locks) x (scene word b locks) x []
-  on-more d = on-move (GoesOn s) (λ h g r. r.moves) d
+  -- the store has more to do, and fewer steps for it
+  pub on-more : takes_next x ≡ false → has_out x ≡ false → IsLess s a b → Does s (a.stand s) (GoesOn s) a b → ComesIn M s (scene word a locks) x (scene word b locks) x Quiet
+  on-more none kept fewer d = on-move (GoesOn s) (λ h g r. r.moves) (nearer-by-steps s (beside (scene word a locks)) (beside (scene word b locks)) x x refl refl none kept refl refl refl fewer) d
 
   -- a device call failed
-  pub on-fault : (fault : Fault) → Does s (a.stand s) (Fails s fault) a b → ComesIn M s (scene word a locks) x (scene word b locks) x []
-  on-fault fault d = on-move (Fails s fault) (λ h g r. r.moves) d
+  pub on-fault : (fault : Fault) → Does s (a.stand s) (Fails s fault) a b → ComesIn M s (scene word a locks) x (scene word b locks) x (Failed fault)
+  on-fault fault d = on-move (Fails s fault) (λ h g r. r.moves) (λ left total. tt) d

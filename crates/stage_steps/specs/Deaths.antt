@@ -13,7 +13,9 @@ use Rattle.session_states.specs.declared.stage.Life.TheVariants.{Alive, Dead, Go
 use Rattle.session_states.specs.declared.stage.Member.{Member}
 use Rattle.session_states.specs.States.{session, dead_session, gone_session}
 use Rattle.session_states.specs.Steps.{Fall}
-use Rattle.stage_steps.specs.Scenes.{Scene, Goes, on_shelf}
+use Rattle.session_measure.specs.Weights.{Falls}
+use Rattle.stage_steps.specs.Nearer.{NearerRecovered}
+use Rattle.stage_steps.specs.Scenes.{Scene, Goes, on_shelf, beside}
 use Rattle.stage_steps.specs.declared.dying.Recovery.{Recovery}
 use Rattle.stage_steps.specs.declared.dying.Recovery.TheVariants.{More, Done}
 
@@ -22,6 +24,7 @@ abbrev pub DiesIn : Model → ℕ → Phase → Scene → Scene → Type 0
 DiesIn M s x old new = Goes s x Alive x Dead
     (λ h g. (o : Opening) (dead : ℕ) (left : List Item) (total : ℕ) (cause : Cause) → (o.may_die s cause && not (is_stop cause)) ≡ true →
     Fall M o s (on_shelf old h dead) (session left total x) (on_shelf new g (dead + 1)) (dead_session left total x) (Died s cause ∷ []))
+    ((left : List Item) (total k l : ℕ) → Falls k l (beside old) (beside new) s (session left total x) (dead_session left total x))
     old new
 
 -- the session behind a step of its recovery
@@ -51,4 +54,5 @@ abbrev pub RecoversIn : Model → ℕ → Phase → Scene → Scene → Result R
 RecoversIn M s x old new result = Goes s x Dead x (life_behind result)
     (λ h g. (o : Opening) (dead : ℕ) (left : List Item) (total : ℕ) →
     Fall M o s (on_shelf old h dead) (dead_session left total x) (on_shelf new g (dead_behind result dead)) (recovered_by result left total x) (recovery_events s result))
+    ((left : List Item) (total : ℕ) → NearerRecovered s result (beside old) (beside new) left total x)
     old new

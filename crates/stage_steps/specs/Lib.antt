@@ -1,4 +1,5 @@
 pub mod Happenings
+pub mod Nearer
 pub mod Turns
 pub mod Scenes
 pub mod Stores

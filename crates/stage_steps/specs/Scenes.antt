@@ -1,7 +1,6 @@
 -- What a step of a stage is where the store shows what it holds.
-use Rattle.std.specs.Prelude.{ℕ, List, []}
+use Rattle.std.specs.Prelude.{ℕ, List, [], ◌∷◌, ◌++◌}
 use Rattle.rdo_ast.specs.declared.syntax.Item.{Item}
-use Rattle.rdb_account.specs.Events.{Event}
 use Rattle.lock_tree_laws.specs.Forest.{State, KeepsParties}
 use Rattle.line_store.specs.Seats.{Seat}
 use Rattle.line_store.specs.Shelves.{Shelf}
@@ -11,7 +10,13 @@ use Rattle.session_states.specs.declared.stage.Phase.{Phase}
 use Rattle.session_states.specs.declared.stage.Life.{Life}
 use Rattle.session_states.specs.declared.stage.Life.TheVariants.{Alive}
 use Rattle.session_states.specs.Shared.{Shared}
+use Rattle.session_states.specs.States.{session}
 use Rattle.session_stands.specs.Seated.{IsSeated, LivesAt}
+use Rattle.session_measure.specs.Weights.{Beside}
+use Rattle.session_measure.specs.Nearer.{ComesNearer}
+use Rattle.stage_steps.specs.declared.happening.Happening.{Happening}
+use Rattle.stage_steps.specs.Happenings.{events_of, handed_back}
+use Rattle.stage_steps.specs.Nearer.{Nearer}
 use Rattle.stage_steps.specs.Turns.{shared, Comes, TakesUp, Ends}
 
 -- what all sessions share, as the store shows it
@@ -27,23 +32,33 @@ scene word sight locks = record { word = word; sight = sight; locks = locks }
 abbrev pub on_shelf : Scene → Shelf → (dead : ℕ) → Shared
 on_shelf c shelf dead = shared c.word shelf c.locks dead
 
--- Session s goes from one phase and life to another: as memory knows it, it stands so behind the step where it stood so before; what others have and want stays; and from each shelf that was shown to one behind it R is so.
-pub record Goes (s : ℕ) (x : Phase) (from : Life) (y : Phase) (to : Life) (R : Shelf → Shelf → Type 0) (old new : Scene) : Type 0 where
+-- what the measure of a session looks at beside it
+abbrev pub beside : Scene → Beside
+beside c = record { locks = c.locks; steps = c.sight.steps }
+
+-- Session s goes from one phase and life to another: as memory knows it, it stands so behind the step where it stood so before; what others have and want stays; N tells that it comes nearer to its end; and from each shelf that was shown to one behind it R is so.
+pub record Goes (s : ℕ) (x : Phase) (from : Life) (y : Phase) (to : Life) (R : Shelf → Shelf → Type 0) (N : Type 0) (old new : Scene) : Type 0 where
   pub lives : LivesAt old.sight.stand old.locks s x from → LivesAt new.sight.stand new.locks s y to
   pub parties : KeepsParties s old.locks.parties new.locks.parties
+  pub nearer : N
   pub does : Does s (new.sight.stand s) R old.sight new.sight
 
--- a step over each shelf that is shown, whoever is dead
-abbrev pub ComesIn : Model → ℕ → Scene → Phase → Scene → Phase → List Event → Type 0
-ComesIn M s old x new y es = Goes s x Alive y Alive (λ h g. (dead : ℕ) → Comes M s (on_shelf old h dead) x (on_shelf new g dead) y es) old new
+-- a step over each shelf that is shown, whoever is dead, in which this happens
+abbrev pub ComesIn : Model → ℕ → Scene → Phase → Scene → Phase → Happening → Type 0
+ComesIn M s old x new y e = Goes s x Alive y Alive (λ h g. (dead : ℕ) → Comes M s (on_shelf old h dead) x (on_shelf new g dead) y (events_of s e))
+    ((left : List Item) (total : ℕ) → Nearer s e (beside old) (beside new) (session left total x) (session left total y)) old new
 
-abbrev pub TakesUpIn : Model → ℕ → Item → Scene → Phase → Scene → Phase → List Item → List Event → Type 0
-TakesUpIn M s item old x new y back es = Goes s x Alive y Alive (λ h g. (dead : ℕ) → TakesUp M s item (on_shelf old h dead) x (on_shelf new g dead) y back es) old new
+-- the next item is taken up, which may be handed back
+abbrev pub TakesUpIn : Model → ℕ → Item → Scene → Phase → Scene → Phase → Happening → Type 0
+TakesUpIn M s item old x new y e = Goes s x Alive y Alive (λ h g. (dead : ℕ) → TakesUp M s item (on_shelf old h dead) x (on_shelf new g dead) y (handed_back e) (events_of s e))
+    ((left : List Item) (total : ℕ) → Nearer s e (beside old) (beside new) (session (item ∷ left) total x) (session (handed_back e ++ left) total y)) old new
 
-abbrev pub EndsIn : Model → ℕ → Scene → Phase → Scene → Phase → List Event → Type 0
-EndsIn M s old x new y es = Goes s x Alive y Alive (λ h g. (dead : ℕ) → Ends M s (on_shelf old h dead) x (on_shelf new g dead) y es) old new
+abbrev pub EndsIn : Model → ℕ → Scene → Phase → Scene → Phase → Happening → Type 0
+EndsIn M s old x new y e = Goes s x Alive y Alive (λ h g. (dead : ℕ) → Ends M s (on_shelf old h dead) x (on_shelf new g dead) y (events_of s e))
+    ((total : ℕ) → Nearer s e (beside old) (beside new) (session [] total x) (session [] total y)) old new
 
 -- A step of nothing but the phase, by any session: neither store nor locks are called.
 pub record PassesOn (M : Model) (x y : Phase) : Type 0 where
   pub comes : (s : ℕ) (c : Shared) → Comes M s c x c y []
   pub seated : (stand : ℕ → Seat) (locks : State) (s : ℕ) → IsSeated stand locks s x → IsSeated stand locks s y
+  pub nearer : (s : ℕ) (c : Beside) (left : List Item) (total : ℕ) → ComesNearer c c s (session left total x) (session left total y)

@@ -56,10 +56,10 @@ pub fn call(tree: &mut Tree, s: Session, need: Need, wait: bool) -> Result<Calle
 {
     let before = count_asked(tree, s);
     // (what the tree promises at any time: it was and is whole, and what is got is apart from what others have got)
-    let _ = tree.holds(s.number, need);
+    let _ = tree.blocker(s.number);
     let answer = tree.want(s.number, need, wait)?;
     let nodes = asked_behind(tree, s, before, need.node);
-    let _ = tree.holds(s.number, need);
+    let _ = tree.blocker(s.number);
     let _ = tree.mode_of(s.number, need.node);
     Ok(Called {
         answer,

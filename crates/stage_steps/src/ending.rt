@@ -7,7 +7,6 @@ ghost use Rattle.line_store.specs.Sights.{StandsAlone};
 ghost use Rattle.lock_needs.specs.Waits.{converts_at};
 ghost use Rattle.lock_tree_laws.specs.Forest.{State, opened_of};
 ghost use Rattle.lock_tree_laws.specs.Wanted.{needs_of};
-ghost use Rattle.stage_steps.specs.Happenings.{events_of};
 ghost use Rattle.stage_steps.specs.Scenes.{ComesIn, EndsIn, scene};
 ghost use Rattle.stage_steps.specs.Turns.{at_stage};
 
@@ -29,7 +28,7 @@ use session_states::{End, Phase, Stage};
 pub fn leave<S: Statements, L: LineStore>(store: &mut L, s: Session, terms: Terms) -> Phase
     requires member { IsMember s.number }
     requires seat { IsWriting ((L.sight store.old).stand s.number) }
-    ensures { (word : List ℕ) (locks : State) → EndsIn S.stands s.number (scene word (L.sight store.old) locks) (at_stage terms Stage.Between) (scene word (L.sight store.new) locks) result [] }
+    ensures { (word : List ℕ) (locks : State) → EndsIn S.stands s.number (scene word (L.sight store.old) locks) (at_stage terms Stage.Between) (scene word (L.sight store.new) locks) result Happening.Quiet }
 {
     store.roll_back(s);
     terms.at(Stage::Ending(End::Leaving))
@@ -48,7 +47,7 @@ pub fn prepare<S: Statements, L: LineStore>(
     requires without { converts_at (needs_of common.old.tree s.number) journal_node ≡ false }
     requires rest { OthersKeepTo common.old.tree s.number journal_node }
     ensures { ComesIn S.stands s.number (scene common.old.word (L.sight common.old.store) common.old.tree) (at_stage terms (Stage.Ending End.Preparing))
-        (scene common.new.word (L.sight common.new.store) common.new.tree) result.phase (events_of s.number result.happened) }
+        (scene common.new.word (L.sight common.new.store) common.new.tree) result.phase result.happened }
 {
     match common.store.prepare(s) {
         Ok(()) => want_journal::<S, L>(common, s, terms),
@@ -67,7 +66,7 @@ pub fn commit<S: Statements, L: LineStore>(store: &mut L, s: Session, terms: Ter
     requires member { IsMember s.number }
     requires prepared { IsPrepared ((L.sight store.old).stand s.number) }
     requires alone { StandsAlone s.number (L.sight store.old) }
-    ensures { (word : List ℕ) (locks : State) → ComesIn S.stands s.number (scene word (L.sight store.old) locks) (at_stage terms (Stage.Ending End.Ready)) (scene word (L.sight store.new) locks) result [] }
+    ensures { (word : List ℕ) (locks : State) → ComesIn S.stands s.number (scene word (L.sight store.old) locks) (at_stage terms (Stage.Ending End.Ready)) (scene word (L.sight store.new) locks) result Happening.Quiet }
 {
     store.commit(s);
     terms.at(Stage::Ending(End::Committing))
@@ -78,7 +77,7 @@ pub fn land<S: Statements, L: LineStore>(common: &mut Common<L>, s: Session, ter
     requires member { IsMember s.number }
     requires committing { is_committing ((L.sight common.old.store).stand s.number) ≡ true }
     ensures { ComesIn S.stands s.number (scene common.old.word (L.sight common.old.store) common.old.tree) (at_stage terms (Stage.Ending End.Committing))
-        (scene common.new.word (L.sight common.new.store) common.new.tree) result.phase (events_of s.number result.happened) }
+        (scene common.new.word (L.sight common.new.store) common.new.tree) result.phase result.happened }
 {
     match common.store.step(s) {
         Ok(Stepped::Committed(moment)) => {
@@ -103,7 +102,7 @@ pub fn roll_back<S: Statements, L: LineStore>(
     requires member { IsMember s.number }
     requires rolling_back { is_some (done_at ((L.sight common.old.store).stand s.number)) ≡ true }
     ensures { ComesIn S.stands s.number (scene common.old.word (L.sight common.old.store) common.old.tree) (at_stage terms (Stage.Ending End.RollingBack))
-        (scene common.new.word (L.sight common.new.store) common.new.tree) result.phase (events_of s.number result.happened) }
+        (scene common.new.word (L.sight common.new.store) common.new.tree) result.phase result.happened }
 {
     match work_on(&mut common.store, s) {
         Ok(Progress::Done) => {
@@ -127,7 +126,7 @@ pub fn go_away<S: Statements, L: LineStore>(
     requires member { IsMember s.number }
     requires rolling_back { is_some (done_at ((L.sight common.old.store).stand s.number)) ≡ true }
     ensures { ComesIn S.stands s.number (scene common.old.word (L.sight common.old.store) common.old.tree) (at_stage terms (Stage.Ending End.Leaving))
-        (scene common.new.word (L.sight common.new.store) common.new.tree) result.phase (events_of s.number result.happened) }
+        (scene common.new.word (L.sight common.new.store) common.new.tree) result.phase result.happened }
 {
     match work_on(&mut common.store, s) {
         Ok(Progress::Done) => {

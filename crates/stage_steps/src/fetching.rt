@@ -1,6 +1,5 @@
 //! What the job of a statement lacked is read, once it is locked.
 ghost use Rattle.line_store.specs.Seats.{IsMember, IsWriting};
-ghost use Rattle.stage_steps.specs.Happenings.{events_of};
 ghost use Rattle.stage_steps.specs.Scenes.{ComesIn, scene};
 ghost use Rattle.stage_steps.specs.Turns.{at_stage};
 
@@ -27,7 +26,7 @@ pub fn fetch_locked<S: Statements, L: LineStore>(
     requires member { IsMember s.number }
     requires seat { IsWriting ((L.sight common.old.store).stand s.number) }
     ensures { ComesIn S.stands s.number (scene common.old.word (L.sight common.old.store) common.old.tree) (at_stage terms (Stage.Working item (Work.Fetching need)))
-        (scene common.new.word (L.sight common.new.store) common.new.tree) result.phase (events_of s.number result.happened) }
+        (scene common.new.word (L.sight common.new.store) common.new.tree) result.phase result.happened }
 {
     // (a room is lodged in, and not fetched)
     if let Need::Room(_) = need {

@@ -9,7 +9,6 @@ ghost use Rattle.line_store.specs.Sights.{Does, Prepares};
 ghost use Rattle.lock_needs.specs.Waits.{converts_at};
 ghost use Rattle.lock_tree_laws.specs.Forest.{opened_of};
 ghost use Rattle.lock_tree_laws.specs.Wanted.{IsOf, needs_of};
-ghost use Rattle.stage_steps.specs.Happenings.{events_of};
 ghost use Rattle.stage_steps.specs.Scenes.{ComesIn, scene};
 ghost use Rattle.stage_steps.specs.Turns.{at_stage};
 
@@ -53,10 +52,10 @@ pub fn want_journal<S: Statements, L: LineStore>(
     requires without { converts_at (needs_of common.old.tree s.number) journal_node ≡ false }
     requires rest { OthersKeepTo common.old.tree s.number journal_node }
     ensures comes { ComesIn S.stands s.number (scene common.old.word (L.sight common.old.store) common.old.tree) (at_stage terms (Stage.Ending End.Journal))
-        (scene common.new.word (L.sight common.new.store) common.new.tree) result.phase (events_of s.number result.happened) }
+        (scene common.new.word (L.sight common.new.store) common.new.tree) result.phase result.happened }
     ensures behind { (before : L) → opened_of common.old.tree s.number ≡ None → ((h : Shelf) → (L.sight before).shows h → IsWriting (h.seat s.number)) → Does s.number (prepared []) (Prepares s.number) (L.sight before) (L.sight common.old.store) →
         ComesIn S.stands s.number (scene common.old.word (L.sight before) common.old.tree) (at_stage terms (Stage.Ending End.Preparing))
-        (scene common.new.word (L.sight common.new.store) common.new.tree) result.phase (events_of s.number result.happened) }
+        (scene common.new.word (L.sight common.new.store) common.new.tree) result.phase result.happened }
 {
     let Ok(called) = call(&mut common.tree, s, JOURNAL, true) else {
         common.store.give_back(s);

@@ -39,4 +39,4 @@ pub use serving::serve;
 pub use storing::work_on;
 pub use terms::{ReaderTerms, Terms};
 pub use wanting::want;
-pub use working::{compute, forgo, hand_out, open, take_back, take_up};
+pub use working::{forgo, hand_out, open, take_up};

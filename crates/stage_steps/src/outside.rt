@@ -1,12 +1,16 @@
 //! A session that has no transaction open.
-ghost use Rattle.std.specs.Prelude.{◌≡◌, ℕ, List, [], true, None, Some};
+ghost use Rattle.std.specs.Prelude.{◌≡◌, ◌∷◌, ◌++◌, ℕ, List, [], true, None, Some};
 ghost use Rattle.rdo_ast.specs.Views.{uttered_of};
 ghost use Rattle.rdb_account.specs.Places.{begins, is_writer};
 ghost use Rattle.line_store.specs.Seats.{outside, done_at, IsMember};
 ghost use Rattle.lock_tree_laws.specs.Forest.{State};
+ghost use Rattle.rdo_ast.specs.declared.syntax.Item.{Item as ItemValue};
 ghost use Rattle.session_states.specs.Shared.{Shared};
+ghost use Rattle.session_states.specs.States.{session};
+ghost use Rattle.session_measure.specs.Weights.{Beside};
 ghost use Rattle.stage_steps.specs.Happenings.{events_of, handed_back};
 ghost use Rattle.stage_steps.specs.Leaving.{IsLeftFor};
+ghost use Rattle.stage_steps.specs.Nearer.{Nearer};
 ghost use Rattle.stage_steps.specs.Scenes.{ComesIn, TakesUpIn, scene};
 ghost use Rattle.stage_steps.specs.Turns.{TakesUp};
 
@@ -27,6 +31,7 @@ fn answer_outside<S: Statements>(alloc: Global, word: &Word, item: Item) -> Happ
     requires { begins (uttered_of item) ≡ None }
     ensures says { (s : ℕ) (c : Shared) → c.word ≡ word.now → TakesUp S.stands s item c Phase.Outside c Phase.Outside (handed_back result) (events_of s result) }
     ensures cause { IsLeftFor S.leaves word.now item result }
+    ensures nearer { (s : ℕ) (c d : Beside) (left : List ItemValue) (total : ℕ) → Nearer s result c d (session (item ∷ left) total Phase.Outside) (session (handed_back result ++ left) total Phase.Outside) }
 {
     let Ok(word) = word.copied(alloc) else {
         return Happening::Answered(refused(alloc, item, Reply::NoMemory));
@@ -64,7 +69,7 @@ fn begin_writing<S: Statements, L: LineStore>(
     requires seat { (L.sight store.old).stand s.number ≡ outside }
     requires kind { begins (uttered_of item) ≡ Some kind }
     requires writes { is_writer kind ≡ true }
-    ensures begins { (word : List ℕ) (locks : State) → TakesUpIn S.stands s.number item (scene word (L.sight store.old) locks) Phase.Outside (scene word (L.sight store.new) locks) result.phase (handed_back result.happened) (events_of s.number result.happened) }
+    ensures begins { (word : List ℕ) (locks : State) → TakesUpIn S.stands s.number item (scene word (L.sight store.old) locks) Phase.Outside (scene word (L.sight store.new) locks) result.phase result.happened }
     ensures cause { (word : List ℕ) → IsLeftFor S.leaves word item result.happened }
 {
     store.begin(s);
@@ -90,7 +95,7 @@ fn begin_reading<S: Statements, L: LineStore>(
     requires member { IsMember s.number }
     requires seat { (L.sight store.old).stand s.number ≡ outside }
     requires kind { begins (uttered_of item) ≡ Some Standing.ReadOnly }
-    ensures begins { (word : List ℕ) (locks : State) → TakesUpIn S.stands s.number item (scene word (L.sight store.old) locks) Phase.Outside (scene word (L.sight store.new) locks) result.phase (handed_back result.happened) (events_of s.number result.happened) }
+    ensures begins { (word : List ℕ) (locks : State) → TakesUpIn S.stands s.number item (scene word (L.sight store.old) locks) Phase.Outside (scene word (L.sight store.new) locks) result.phase result.happened }
     ensures cause { (word : List ℕ) → IsLeftFor S.leaves word item result.happened }
 {
     match store.begin_reading(s) {
@@ -121,7 +126,7 @@ pub fn start<S: Statements, L: LineStore>(
 ) -> Turned
     requires member { IsMember s.number }
     requires seat { (L.sight store.old).stand s.number ≡ outside }
-    ensures starts { (locks : State) → TakesUpIn S.stands s.number item (scene word.now (L.sight store.old) locks) Phase.Outside (scene word.now (L.sight store.new) locks) result.phase (handed_back result.happened) (events_of s.number result.happened) }
+    ensures starts { (locks : State) → TakesUpIn S.stands s.number item (scene word.now (L.sight store.old) locks) Phase.Outside (scene word.now (L.sight store.new) locks) result.phase result.happened }
     ensures cause { IsLeftFor S.leaves word.now item result.happened }
 {
     match kind_begun(alloc, &item) {
@@ -147,7 +152,7 @@ pub fn start<S: Statements, L: LineStore>(
 pub fn put_away<S: Statements, L: LineStore>(store: &mut L, s: Session) -> Turned
     requires member { IsMember s.number }
     requires closing { done_at ((L.sight store.old).stand s.number) ≡ Some outside }
-    ensures { (word : List ℕ) (locks : State) → ComesIn S.stands s.number (scene word (L.sight store.old) locks) Phase.Closing (scene word (L.sight store.new) locks) result.phase (events_of s.number result.happened) }
+    ensures { (word : List ℕ) (locks : State) → ComesIn S.stands s.number (scene word (L.sight store.old) locks) Phase.Closing (scene word (L.sight store.new) locks) result.phase result.happened }
 {
     match work_on(store, s) {
         Ok(Progress::Done) => quiet(Phase::Outside),

@@ -5,10 +5,16 @@ ghost use Rattle.line_store.specs.Seats.{IsMember, IsReader};
 ghost use Rattle.line_view.specs.Held.{knows};
 ghost use Rattle.session_jobs.specs.Jobs.{IsFound};
 ghost use Rattle.lock_tree_laws.specs.Forest.{State};
+ghost use Rattle.rdo_ast.specs.declared.syntax.Item.{Item as ItemValue};
 ghost use Rattle.session_states.specs.Shared.{Shared};
+ghost use Rattle.session_states.specs.States.{session};
+ghost use Rattle.session_states.specs.declared.stage.Phase.{Phase as PhaseValue};
+ghost use Rattle.session_measure.specs.Weights.{Beside, items_in};
+ghost use Rattle.session_measure.specs.Nearer.{has_out};
 ghost use Rattle.session_states.specs.declared.stage.ReaderWork.{ReaderWork as ReaderWorkValue};
 ghost use Rattle.stage_steps.specs.Happenings.{events_of};
 ghost use Rattle.stage_steps.specs.Leaving.{OnUnworked};
+ghost use Rattle.stage_steps.specs.Nearer.{Nearer};
 ghost use Rattle.stage_steps.specs.Scenes.{ComesIn, EndsIn, PassesOn, TakesUpIn, scene};
 ghost use Rattle.stage_steps.specs.Turns.{Comes, reads_at};
 
@@ -34,7 +40,7 @@ pub fn take_up_reading<S: Statements, L: LineStore>(
 ) -> Turned
     requires member { IsMember s.number }
     requires seat { IsReader ((L.sight store.old).stand s.number) }
-    ensures { (word : List ℕ) (locks : State) → TakesUpIn S.stands s.number item (scene word (L.sight store.old) locks) (reads_at terms ReaderStage.Between) (scene word (L.sight store.new) locks) result.phase [] (events_of s.number result.happened) }
+    ensures { (word : List ℕ) (locks : State) → TakesUpIn S.stands s.number item (scene word (L.sight store.old) locks) (reads_at terms ReaderStage.Between) (scene word (L.sight store.new) locks) result.phase result.happened }
 {
     match end_of(&item) {
         End::Nothing => quiet(terms.at(ReaderStage::Working(item, ReaderWork::Due))),
@@ -64,7 +70,7 @@ pub fn leave_reading<S: Statements, L: LineStore>(
 ) -> Turned
     requires member { IsMember s.number }
     requires seat { IsReader ((L.sight store.old).stand s.number) }
-    ensures { (word : List ℕ) (locks : State) → EndsIn S.stands s.number (scene word (L.sight store.old) locks) (reads_at _terms ReaderStage.Between) (scene word (L.sight store.new) locks) result.phase (events_of s.number result.happened) }
+    ensures { (word : List ℕ) (locks : State) → EndsIn S.stands s.number (scene word (L.sight store.old) locks) (reads_at _terms ReaderStage.Between) (scene word (L.sight store.new) locks) result.phase result.happened }
 {
     store.end_reading(s);
     Turned {
@@ -75,7 +81,8 @@ pub fn leave_reading<S: Statements, L: LineStore>(
 
 /// The job of a statement is handed out.
 pub fn hand_out_reading<S: Statements>(terms: ReaderTerms, item: Item) -> Phase
-    ensures { PassesOn S.stands (reads_at terms (ReaderStage.Working item ReaderWork.Due)) result }
+    ensures passes { PassesOn S.stands (reads_at terms (ReaderStage.Working item ReaderWork.Due)) result }
+    ensures out { result ≡ reads_at terms (ReaderStage.Working item ReaderWork.Out) }
 {
     terms.at(ReaderStage::Working(item, ReaderWork::Out))
 }
@@ -102,8 +109,10 @@ pub fn forgo_reading<S: Statements, L: LineStore>(
 ) -> Turned
     requires member { IsMember s.number }
     requires seat { IsReader ((L.sight store.old).stand s.number) }
-    ensures forgoes { (word : List ℕ) (locks : State) (work : ReaderWorkValue) → ComesIn S.stands s.number (scene word (L.sight store.old) locks) (reads_at terms (ReaderStage.Working item work)) (scene word (L.sight store.new) locks) result.phase (events_of s.number result.happened) }
+    ensures forgoes { (word : List ℕ) (locks : State) (work : ReaderWorkValue) → ComesIn S.stands s.number (scene word (L.sight store.old) locks) (reads_at terms (ReaderStage.Working item work)) (scene word (L.sight store.new) locks) result.phase result.happened }
     ensures worked { OnUnworked result.happened ⊥ }
+    ensures rests { has_out result.phase ≡ false }
+    ensures nearer { (c d : Beside) (x : PhaseValue) (left : List ItemValue) (total : ℕ) → items_in x ≡ 1 → Nearer s.number result.happened c d (session left total x) (session left total result.phase) }
 {
     if goes_on(terms.spoken, &item) {
         return Turned {
@@ -124,6 +133,7 @@ fn say_reading<S: Statements>(terms: ReaderTerms, item: Item, worked: TxRecord) 
     ensures says { (s : ℕ) (c : Shared) → IsFound S.stands c.word terms.standing (uttered_of item) (knows terms.known) (Found.Done worked) →
         Comes S.stands s c (reads_at terms (ReaderStage.Working item ReaderWork.Out)) c result.phase (events_of s result.happened) }
     ensures phase { result.phase ≡ reads_at (record { standing = Standing.ReadOnly; known = terms.known; spoken = true }) ReaderStage.Between }
+    ensures nearer { (s : ℕ) (c d : Beside) (x : PhaseValue) (left : List ItemValue) (total : ℕ) → items_in x ≡ 1 → Nearer s result.happened c d (session left total x) (session left total result.phase) }
 {
     Turned {
         phase: spoken(terms),
@@ -146,7 +156,7 @@ pub fn compute_reading<S: Statements, L: LineStore>(
 ) -> Turned
     requires member { IsMember s.number }
     requires seat { IsReader ((L.sight store.old).stand s.number) }
-    ensures comes { (locks : State) → ComesIn S.stands s.number (scene word.now (L.sight store.old) locks) (reads_at terms (ReaderStage.Working item ReaderWork.Out)) (scene word.now (L.sight store.new) locks) result.phase (events_of s.number result.happened) }
+    ensures comes { (locks : State) → ComesIn S.stands s.number (scene word.now (L.sight store.old) locks) (reads_at terms (ReaderStage.Working item ReaderWork.Out)) (scene word.now (L.sight store.new) locks) result.phase result.happened }
     ensures cause { OnUnworked result.happened (S.leaves word.now terms.standing (uttered_of item) (knows terms.known)) }
 {
     let Ok(word) = word.copied(alloc) else {
@@ -191,7 +201,7 @@ pub fn fetch_reading<S: Statements, L: LineStore>(
 ) -> Turned
     requires member { IsMember s.number }
     requires seat { IsReader ((L.sight store.old).stand s.number) }
-    ensures { (word : List ℕ) (locks : State) → ComesIn S.stands s.number (scene word (L.sight store.old) locks) (reads_at terms (ReaderStage.Working item (ReaderWork.Fetching need))) (scene word (L.sight store.new) locks) result.phase (events_of s.number result.happened) }
+    ensures { (word : List ℕ) (locks : State) → ComesIn S.stands s.number (scene word (L.sight store.old) locks) (reads_at terms (ReaderStage.Working item (ReaderWork.Fetching need))) (scene word (L.sight store.new) locks) result.phase result.happened }
 {
     // (readers write on no room)
     if let Need::Room(_) = need {

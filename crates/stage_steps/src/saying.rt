@@ -6,7 +6,6 @@ ghost use Rattle.session_limits.specs.Some.{WriteSome};
 ghost use Rattle.session_states.specs.Locks.{lock_of};
 ghost use Rattle.session_states.specs.Turns.{said_writer};
 ghost use Rattle.lock_tree_laws.specs.Forest.{State};
-ghost use Rattle.stage_steps.specs.Happenings.{events_of};
 ghost use Rattle.stage_steps.specs.Scenes.{ComesIn, scene};
 ghost use Rattle.stage_steps.specs.Turns.{at_stage};
 
@@ -38,7 +37,7 @@ fn refuse_start<S: Statements, L: LineStore>(
     requires undone { (terms.spoken || is_done_reply worked.reply) ≡ false }
     ensures { (place : ℕ) →
         ComesIn S.stands s.number (scene common.old.word (L.sight common.old.store) common.old.tree) (at_stage terms (Stage.Saying item worked (Laying.Claiming place)))
-        (scene common.new.word (L.sight common.new.store) common.new.tree) result.phase (events_of s.number result.happened) }
+        (scene common.new.word (L.sight common.new.store) common.new.tree) result.phase result.happened }
 {
     common.store.roll_back(s);
     common.tree.release_all(s.number);
@@ -99,7 +98,7 @@ pub fn lay<S: Statements, L: LineStore>(
     requires seat { IsWriting ((L.sight common.old.store).stand s.number) }
     requires locked { lock_of (Stage.Saying item worked (Laying.Claiming place)) ≡ None }
     ensures { ComesIn S.stands s.number (scene common.old.word (L.sight common.old.store) common.old.tree) (at_stage terms (Stage.Saying item worked (Laying.Claiming place)))
-        (scene common.new.word (L.sight common.new.store) common.new.tree) result.phase (events_of s.number result.happened) }
+        (scene common.new.word (L.sight common.new.store) common.new.tree) result.phase result.happened }
 {
     if !stands(terms.spoken, &worked.reply) {
         return refuse_start::<S, L>(common, s, terms, item, worked);
@@ -135,7 +134,7 @@ pub fn change<S: Statements, L: LineStore>(
 ) -> Turned
     requires member { IsMember s.number }
     requires changing { is_some (done_at ((L.sight store.old).stand s.number)) ≡ true }
-    ensures { (word : List ℕ) (locks : State) → ComesIn S.stands s.number (scene word (L.sight store.old) locks) (at_stage terms (Stage.Saying item worked Laying.Changing)) (scene word (L.sight store.new) locks) result.phase (events_of s.number result.happened) }
+    ensures { (word : List ℕ) (locks : State) → ComesIn S.stands s.number (scene word (L.sight store.old) locks) (at_stage terms (Stage.Saying item worked Laying.Changing)) (scene word (L.sight store.new) locks) result.phase result.happened }
 {
     match work_on(store, s) {
         Ok(Progress::Done) => say(terms, item, worked),

@@ -1,7 +1,8 @@
 // What the store does for a session, a step at a time.
-ghost use Rattle.std.specs.Prelude.{◌≡◌, true, is_some};
+ghost use Rattle.std.specs.Prelude.{◌≡◌, true, is_some, Ok};
 ghost use Rattle.line_store.specs.Seats.{done_at, IsMember};
-ghost use Rattle.line_store.specs.Sights.{Does};
+ghost use Rattle.line_store.specs.Sights.{Does, IsLess};
+ghost use Rattle.line_store.specs.declared.answers.Progress.TheVariants.{More};
 ghost use Rattle.stage_steps.specs.Stores.{HasGoneOn, worked_to};
 
 use line_store::{Fault, LineStore, Progress, Stepped};
@@ -13,7 +14,8 @@ use rdb_types::Session;
 pub fn work_on<L: LineStore>(store: &mut L, s: Session) -> Result<Progress, Fault>
     requires member { IsMember s.number }
     requires under_way { is_some (done_at ((L.sight store.old).stand s.number)) ≡ true }
-    ensures { Does s.number (worked_to ((L.sight store.old).stand s.number) result) (HasGoneOn s.number result) (L.sight store.old) (L.sight store.new) }
+    ensures does { Does s.number (worked_to ((L.sight store.old).stand s.number) result) (HasGoneOn s.number result) (L.sight store.old) (L.sight store.new) }
+    ensures less { result ≡ Ok More → IsLess s.number (L.sight store.old) (L.sight store.new) }
 {
     match store.step(s) {
         Ok(Stepped::Done) => Ok(Progress::Done),

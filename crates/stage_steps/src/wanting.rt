@@ -14,7 +14,6 @@ ghost use Rattle.session_states.specs.declared.stage.Stage.{Stage as StageValue}
 ghost use Rattle.lock_needs.specs.declared.need.Need.{Need as NeedValue};
 ghost use Rattle.lock_tree_laws.specs.declared.answer.Want.{Want as WantValue};
 ghost use Rattle.stage_steps.specs.Asking.{IsCalled, IsOfStatement, IsReplyTo};
-ghost use Rattle.stage_steps.specs.Happenings.{events_of};
 ghost use Rattle.stage_steps.specs.Scenes.{ComesIn, scene};
 ghost use Rattle.stage_steps.specs.Turns.{at_stage};
 
@@ -74,7 +73,7 @@ fn refuse<S: Statements, L: LineStore>(
     ensures { (locks : State) (stage : StageValue) (n : NeedValue) (answer : WantValue) → lock_of stage ≡ Some n → item_of stage ≡ Some (uttered_of item) →
         IsCalled s.number n terms.waits locks common.old.tree (record { answer = answer; asking = asking }) → IsReplyTo (uttered_of item) answer reply →
         ComesIn S.stands s.number (scene common.old.word (L.sight common.old.store) locks) (at_stage terms stage)
-        (scene common.new.word (L.sight common.new.store) common.new.tree) result.phase (events_of s.number result.happened) }
+        (scene common.new.word (L.sight common.new.store) common.new.tree) result.phase result.happened }
 {
     let answer = refused(common.alloc, item, reply);
     if terms.spoken {
@@ -107,7 +106,7 @@ pub fn want<S: Statements, L: LineStore>(
     requires beside { is_on journal_node need.node ≡ false }
     requires same { IsOf need (opened_of common.old.tree s.number) }
     ensures { ComesIn S.stands s.number (scene common.old.word (L.sight common.old.store) common.old.tree) (at_stage terms stage)
-        (scene common.new.word (L.sight common.new.store) common.new.tree) result.phase (events_of s.number result.happened) }
+        (scene common.new.word (L.sight common.new.store) common.new.tree) result.phase result.happened }
 {
     let Ok(called) = call(&mut common.tree, s, need, terms.waits) else {
         return forgo::<S, L>(common, s, terms, item_in(stage));

@@ -1,15 +1,17 @@
 //! A statement of a read-write transaction: it is taken up, and its job is worked.
-ghost use Rattle.std.specs.Prelude.{◌≡◌, ℕ, List, [], true, Some};
+ghost use Rattle.std.specs.Prelude.{◌≡◌, ℕ, List, [], true, false, Some};
 ghost use Rattle.rdo_ast.specs.Views.{uttered_of};
 ghost use Rattle.line_store.specs.Seats.{beginning, IsMember, IsWriting};
-ghost use Rattle.line_view.specs.Held.{knows};
 ghost use Rattle.session_states.specs.declared.stage.Stage.{Stage as StageValue};
 ghost use Rattle.lock_tree_laws.specs.Forest.{State};
 ghost use Rattle.lock_tree_laws.specs.Room.{IsAsBefore};
-ghost use Rattle.session_jobs.specs.Jobs.{IsFound};
-ghost use Rattle.session_states.specs.States.{item_of, is_at_rest};
-ghost use Rattle.stage_steps.specs.Happenings.{events_of};
+ghost use Rattle.session_states.specs.declared.stage.Phase.{Phase as PhaseValue};
+ghost use Rattle.rdo_ast.specs.declared.syntax.Item.{Item as ItemValue};
+ghost use Rattle.session_states.specs.States.{item_of, is_at_rest, session};
+ghost use Rattle.session_measure.specs.Weights.{Beside, items_in};
+ghost use Rattle.session_measure.specs.Nearer.{has_out};
 ghost use Rattle.stage_steps.specs.Leaving.{OnUnworked};
+ghost use Rattle.stage_steps.specs.Nearer.{Nearer};
 ghost use Rattle.stage_steps.specs.Scenes.{ComesIn, PassesOn, TakesUpIn, scene};
 ghost use Rattle.stage_steps.specs.Turns.{at_stage};
 
@@ -19,11 +21,11 @@ use crate::items::{End, end_of, refused};
 use crate::storing::work_on;
 use crate::terms::Terms;
 use line_store::{LineStore, Progress};
-use rdb_types::{Copied, Session};
+use rdb_types::Session;
 use rdo_ast::reply::Reply;
 use rdo_ast::syntax::Item;
-use session_jobs::{Found, Job, Outcome, Statements};
-use session_states::{End as EndStage, Laying, Phase, Stage, Work};
+use session_jobs::Statements;
+use session_states::{End as EndStage, Phase, Stage, Work};
 
 /// Takes up the next item. A ROLLBACK has the store undo.
 pub fn take_up<S: Statements, L: LineStore>(
@@ -34,7 +36,7 @@ pub fn take_up<S: Statements, L: LineStore>(
 ) -> Phase
     requires member { IsMember s.number }
     requires seat { IsWriting ((L.sight store.old).stand s.number) }
-    ensures { (word : List ℕ) (locks : State) → TakesUpIn S.stands s.number item (scene word (L.sight store.old) locks) (at_stage terms Stage.Between) (scene word (L.sight store.new) locks) result [] [] }
+    ensures { (word : List ℕ) (locks : State) → TakesUpIn S.stands s.number item (scene word (L.sight store.old) locks) (at_stage terms Stage.Between) (scene word (L.sight store.new) locks) result Happening.Quiet }
 {
     match end_of(&item) {
         End::Nothing => terms.at(Stage::Working(item, Work::Due)),
@@ -55,7 +57,7 @@ pub fn open<S: Statements, L: LineStore>(
 ) -> Turned
     requires member { IsMember s.number }
     requires opening { (L.sight store.old).stand s.number ≡ beginning }
-    ensures { (word : List ℕ) (locks : State) → ComesIn S.stands s.number (scene word (L.sight store.old) locks) (at_stage terms (Stage.Working item Work.Opening)) (scene word (L.sight store.new) locks) result.phase (events_of s.number result.happened) }
+    ensures { (word : List ℕ) (locks : State) → ComesIn S.stands s.number (scene word (L.sight store.old) locks) (at_stage terms (Stage.Working item Work.Opening)) (scene word (L.sight store.new) locks) result.phase result.happened }
 {
     match work_on(store, s) {
         Ok(Progress::Done) => quiet(terms.at(Stage::Working(item, Work::Due))),
@@ -66,7 +68,8 @@ pub fn open<S: Statements, L: LineStore>(
 
 /// The job of a statement is handed out.
 pub fn hand_out<S: Statements>(terms: Terms, item: Item) -> Phase
-    ensures { PassesOn S.stands (at_stage terms (Stage.Working item Work.Due)) result }
+    ensures passes { PassesOn S.stands (at_stage terms (Stage.Working item Work.Due)) result }
+    ensures out { result ≡ at_stage terms (Stage.Working item Work.Out) }
 {
     terms.at(Stage::Working(item, Work::Out))
 }
@@ -83,8 +86,10 @@ pub fn forgo<S: Statements, L: LineStore>(
     requires seat { IsWriting ((L.sight common.old.store).stand s.number) }
     ensures forgoes { (locks : State) (stage : StageValue) → IsAsBefore locks common.old.tree → is_at_rest stage ≡ true → item_of stage ≡ Some (uttered_of item) →
         ComesIn S.stands s.number (scene common.old.word (L.sight common.old.store) locks) (at_stage terms stage)
-        (scene common.new.word (L.sight common.new.store) common.new.tree) result.phase (events_of s.number result.happened) }
+        (scene common.new.word (L.sight common.new.store) common.new.tree) result.phase result.happened }
     ensures worked { OnUnworked result.happened ⊥ }
+    ensures rests { has_out result.phase ≡ false }
+    ensures nearer { (c d : Beside) (x : PhaseValue) (left : List ItemValue) (total : ℕ) → items_in x ≡ 1 → Nearer s.number result.happened c d (session left total x) (session left total result.phase) }
 {
     let answer = refused(common.alloc, item, Reply::NoMemory);
     if terms.spoken {
@@ -100,68 +105,4 @@ pub fn forgo<S: Statements, L: LineStore>(
         phase: Phase::Closing,
         happened: Happening::Unstarted(answer),
     }
-}
-
-/// Takes what a job came to: its record is kept till it is said, what it lacks is wanted, and want of memory is answered. Where it was
-/// left unworked the stage stands, and its job is due again.
-pub fn take_back<S: Statements, L: LineStore>(
-    common: &mut Common<L>,
-    s: Session,
-    terms: Terms,
-    item: Item,
-    found: Found,
-) -> Turned
-    requires member { IsMember s.number }
-    requires seat { IsWriting ((L.sight common.old.store).stand s.number) }
-    requires found { IsFound S.stands common.old.word terms.standing (uttered_of item) (knows terms.known) found }
-    ensures comes { ComesIn S.stands s.number (scene common.old.word (L.sight common.old.store) common.old.tree) (at_stage terms (Stage.Working item Work.Out))
-        (scene common.new.word (L.sight common.new.store) common.new.tree) result.phase (events_of s.number result.happened) }
-    ensures unworked { OnUnworked result.happened (found ≡ Found.Unworked) }
-{
-    match found {
-        Found::Done(worked) => quiet(terms.at(Stage::Saying(item, worked, Laying::Claiming(0)))),
-        Found::Missing { next, later: _ } => {
-            quiet(terms.at(Stage::Working(item, Work::Lacking(next))))
-        }
-        // There is no such line.
-        Found::Bad(_) => quiet(terms.at(Stage::Working(item, Work::Due))),
-        Found::Unworked => Turned {
-            phase: terms.at(Stage::Working(item, Work::Due)),
-            happened: Happening::Unworked,
-        },
-        Found::NoMemory => forgo::<S, L>(common, s, terms, item),
-    }
-}
-
-/// Works the job of a statement at once, and takes what it came to. Where it is left unworked, that has a cause.
-pub fn compute<S: Statements, L: LineStore>(
-    common: &mut Common<L>,
-    s: Session,
-    terms: Terms,
-    item: Item,
-) -> Turned
-    requires member { IsMember s.number }
-    requires seat { IsWriting ((L.sight common.old.store).stand s.number) }
-    ensures comes { ComesIn S.stands s.number (scene common.old.word (L.sight common.old.store) common.old.tree) (at_stage terms (Stage.Working item Work.Out))
-        (scene common.new.word (L.sight common.new.store) common.new.tree) result.phase (events_of s.number result.happened) }
-    ensures cause { OnUnworked result.happened (S.leaves common.old.word terms.standing (uttered_of item) (knows terms.known)) }
-{
-    let Ok(word) = common.word.copied(common.alloc) else {
-        return forgo::<S, L>(common, s, terms, item);
-    };
-    let job = Job {
-        alloc: common.alloc,
-        word,
-        standing: terms.standing,
-        item,
-        known: terms.known,
-    };
-    let (job, _, found) = Outcome::<S>::of(job, S::nothing()).into_parts();
-    let back = Terms {
-        standing: job.standing,
-        known: job.known,
-        spoken: terms.spoken,
-        waits: terms.waits,
-    };
-    take_back::<S, L>(common, s, back, job.item, found)
 }

@@ -1,26 +1,22 @@
 //! Cases of a store of lines in memory as text. Each line of standard input makes a call for a session; it is echoed on standard output, and below it stands what the call answers. A line that begins with `-` begins with an empty store.
 #![tactic(auto)]
 
-mod answer;
-mod desk;
-mod place;
-mod words;
-
-use desk::Desk;
+use memory_store::MemoryStore;
 use rdb_types::{Limits, NoMemory};
 use std::alloc::Global;
 use std::process::ExitCode;
-use words::say;
+use store_desk::{Desk, say};
 
 /// Four pages may be taken in an area.
-fn new_desk(alloc: Global) -> Result<Desk, NoMemory> {
+fn new_desk(alloc: Global) -> Result<Desk<MemoryStore>, NoMemory> {
     let limits = Limits {
         pages: 4,
         snaps: 8,
         entries: 8,
         slots: 8,
     };
-    Desk::new(alloc, limits)
+    let store = MemoryStore::new(alloc, limits)?;
+    Ok(Desk::new(store))
 }
 
 fn main(rt: HostRuntime) -> ExitCode {

@@ -74,6 +74,7 @@ pub record GivesBack (old new : SlotTable) (tsn : ℕ) : Type 0 where
   pub others : (chain : ℕ) → 1 ≤ chain → (pusher_at old.pushers chain).number ≢ tsn → (is_free new.slots chain ≡ is_free old.slots chain) × (pusher_at new.pushers chain ≡ pusher_at old.pushers chain)
   pub long : length new.slots ≡ length old.slots
   pub aside : new.aside ≡ old.aside
+  pub left : left_in old.slots ≤ left_in new.slots
 
 -- ---- pushing
 

@@ -115,6 +115,7 @@ impl FileSlots {
             × (pusher_at self.new.pushers other ≡ pusher_at self.old.pushers other) }
         ensures long { length self.new.slots ≡ length self.old.slots }
         ensures aside { self.new.aside ≡ self.old.aside }
+        ensures left { left_in self.old.slots ≤ left_in self.new.slots }
     {
         let pusher = self.pushers[chain as usize - 1];
         if pusher.number == tsn.number {

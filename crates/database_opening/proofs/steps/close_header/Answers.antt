@@ -6,6 +6,7 @@ use Rattle.line_opening.proofs.Standing.{written_stands}
 use Rattle.database_opening.proofs.Undone.{leaves_kept}
 use Rattle.database_opening.proofs.Closed.{some_number, closed_on, all_closed}
 use Rattle.database_opening.proofs.Pages.{classes_beside, untouched_beside}
+use Rattle.database_opening.proofs.Others.{header_apart}
 use Rattle.database_opening.proofs.steps.close_header.Goals as goal
 
 pub returns-in_err-next-clause-bad : goal.returns-in_err-next-clause-bad
@@ -119,3 +120,15 @@ returns-clause-classes g c = let v = g.D.Disk.view in let old = v c.args.disk.no
 pub returns-clause-untouched : goal.returns-clause-untouched
 returns-clause-untouched g c = let v = g.D.Disk.view in let old = v c.args.disk.now in let new = v c.close_next.new.disk in
     λ t. untouched_beside old new c.close_next.ensures.writes.0 c.close_next.ensures.writes.1 t
+
+pub returns-in_err-next-clause-others : goal.returns-in_err-next-clause-others
+returns-in_err-next-clause-others g c = let v = g.D.Disk.view in let writes = c.close_next.ensures.writes in
+    header_apart (v c.args.disk.now) (v c.close_next.new.disk) writes.0 0 writes.1
+
+pub returns-then-next-gt16-clause-others : goal.returns-then-next-gt16-clause-others
+returns-then-next-gt16-clause-others g c = let v = g.D.Disk.view in let writes = c.close_next.ensures.writes in
+    header_apart (v c.args.disk.now) (v c.close_next.new.disk) writes.0 0 writes.1
+
+pub returns-clause-others : goal.returns-clause-others
+returns-clause-others g c = let v = g.D.Disk.view in let writes = c.close_next.ensures.writes in
+    header_apart (v c.args.disk.now) (v c.close_next.new.disk) writes.0 0 writes.1

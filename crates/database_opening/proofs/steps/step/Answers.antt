@@ -9,6 +9,7 @@ use Rattle.database_opening.proofs.Counts.{both_ok}
 use Rattle.database_opening.proofs.Undone.{leaves_kept}
 use Rattle.database_opening.proofs.Closed.{restored, ended}
 use Rattle.database_opening.proofs.Pages.{classes_read, untouched_read}
+use Rattle.database_opening.proofs.Others.{file_unused, file_read}
 use Rattle.database_opening.proofs.steps.step.Goals as goal
 
 pub undo_entries-requires : goal.undo_entries-requires
@@ -126,3 +127,14 @@ returns-in-Ending-clause-untouched g c = let v = g.D.Disk.view in λ t.
 
 pub returns-in-Opened-clause-untouched : goal.returns-in-Opened-clause-untouched
 returns-in-Opened-clause-untouched g c = λ t. record { root = refl; spaces = λ file page is space. refl }
+
+pub returns-in-Restoring-clause-others : goal.returns-in-Restoring-clause-others
+returns-in-Restoring-clause-others g c = let v = g.D.Disk.view in λ t file other.
+    file_read (v c.args.disk.now) (v c.go_on_stable.new.disk) c.go_on_stable.ensures.reads t file
+
+pub returns-in-Ending-clause-others : goal.returns-in-Ending-clause-others
+returns-in-Ending-clause-others g c = let v = g.D.Disk.view in λ t file other.
+    file_read (v c.args.disk.now) (v c.go_on_stable-in-Ending.new.disk) c.go_on_stable-in-Ending.ensures.reads t file
+
+pub returns-in-Opened-clause-others : goal.returns-in-Opened-clause-others
+returns-in-Opened-clause-others g c = λ t file other. file_unused (g.D.Disk.view c.args.disk.now) t file

@@ -6,6 +6,7 @@ use Rattle.database_opening.specs.declared.stages.OpeningStage.{OpeningStage}
 use Rattle.database_opening.specs.declared.stages.OpeningStage.TheVariants.{Undoing}
 use Rattle.database_opening.proofs.Undone.{there, may, its_tsn, fewer_left, next_member, all_undone, leaves_kept}
 use Rattle.database_opening.proofs.Pages.{page_untouched}
+use Rattle.database_opening.proofs.Others.{file_unused, page_apart}
 use Rattle.database_opening.proofs.steps.undo_entries.Goals as goal
 
 cases : (a b : ℕ) → (a ≤ b) ⊎ (b < a)
@@ -88,3 +89,14 @@ returns-clause-classes g c = let read = c.args.found.now in λ t classes lines j
 pub returns-clause-untouched : goal.returns-clause-untouched
 returns-clause-untouched g c = let v = g.D.Disk.view in let old = v c.args.disk.now in let new = v c.undo_next.new.disk in let writes = c.undo_next.ensures.writes in
     λ t. page_untouched old new writes.0 writes.1 writes.2 writes.3 t
+
+pub returns-then-entries-eq0-clause-others : goal.returns-then-entries-eq0-clause-others
+returns-then-entries-eq0-clause-others g c = λ t file other. file_unused (g.D.Disk.view c.args.disk.now) t file
+
+pub returns-in_err-rest-clause-others : goal.returns-in_err-rest-clause-others
+returns-in_err-rest-clause-others g c = let v = g.D.Disk.view in let writes = c.undo_next.ensures.writes in
+    page_apart (v c.args.disk.now) (v c.undo_next.new.disk) writes.0 writes.1 writes.3
+
+pub returns-clause-others : goal.returns-clause-others
+returns-clause-others g c = let v = g.D.Disk.view in let writes = c.undo_next.ensures.writes in
+    page_apart (v c.args.disk.now) (v c.undo_next.new.disk) writes.0 writes.1 writes.3

@@ -5,6 +5,7 @@ use Rattle.database_opening.specs.declared.stages.OpeningStage.{OpeningStage}
 use Rattle.database_opening.specs.declared.stages.OpeningStage.TheVariants.{Opened}
 use Rattle.database_opening.proofs.EachMoment.{left_by_reads, left_by_step}
 use Rattle.database_opening.proofs.Pages.{classes_read, untouched_read, untouched_on}
+use Rattle.database_opening.proofs.Others.{file_read, file_on}
 use Rattle.database_opening.proofs.whole.open_database.Goals as goal
 
 pub returns-in_err-opening-clause-stands : goal.returns-in_err-opening-clause-stands
@@ -23,6 +24,7 @@ steps-init g c = let v = g.D.Disk.view in let old = v c.args.disk.now in let new
       facts = λ t classes lines journal kept. c.in_ok-opening.ensures.found t classes lines journal kept;
       classes = λ t classes lines journal kept by_area lie. classes_read old new c.begin.ensures.reads t by_area lie;
       untouched = λ t. untouched_read old new c.begin.ensures.reads t;
+      others = λ t file other. file_read old new c.begin.ensures.reads t file;
       leaves = λ t classes lines journal kept. left_by_reads classes lines journal old new c.begin.ensures.reads t;
     }
 
@@ -78,9 +80,21 @@ steps-preserved g c = let v = g.D.Disk.view in let old = v c.args.disk.now in le
       facts = λ t classes lines journal kept. c.in_ok-stage.ensures.goes_on (still_tells old mid so_far.told t) classes lines journal (so_far.facts t classes lines journal kept);
       classes = λ t classes lines journal kept by_area lie. c.step.ensures.classes (still_tells old mid so_far.told t) classes lines journal (so_far.facts t classes lines journal kept) by_area (so_far.classes t classes lines journal kept by_area lie);
       untouched = λ t. untouched_on old.content mid.content new.content (so_far.untouched t) (c.step.ensures.untouched (still_tells old mid so_far.told t));
+      others = λ t file other. file_on old mid new file (so_far.others t file other) (c.step.ensures.others (still_tells old mid so_far.told t) file other);
       leaves = λ t classes lines journal kept. left_by_step classes lines journal old mid new (so_far.leaves t classes lines journal kept)
           (c.step.ensures.stands (still_tells old mid so_far.told t) classes lines journal (so_far.facts t classes lines journal kept));
     }
 
 pub steps-smaller : goal.steps-smaller
 steps-smaller g c = c.in_ok-stage.ensures.nearer (λ over. c.is_over.ensures.no (search rules) over)
+
+pub returns-in_err-opening-clause-others : goal.returns-in_err-opening-clause-others
+returns-in_err-opening-clause-others g c = let v = g.D.Disk.view in λ t file other.
+    file_read (v c.args.disk.now) (v c.begin.new.disk) c.begin.ensures.reads t file
+
+pub returns-in_err-stage-clause-others : goal.returns-in_err-stage-clause-others
+returns-in_err-stage-clause-others g c = let v = g.D.Disk.view in let old = v c.args.disk.now in let mid = v c.steps.disk in let so_far = c.steps.invariant in
+    λ t file other. file_on old mid (v c.step.new.disk) file (so_far.others t file other) (c.step.ensures.others (still_tells old mid so_far.told t) file other)
+
+pub returns-clause-others : goal.returns-clause-others
+returns-clause-others g c = λ t file other. c.steps.invariant.others t file other

@@ -1,28 +1,27 @@
-use Rattle.std.proofs.Common.{[], refl, sym, ap, subst, ◌∙◌}
-use Rattle.line_store.specs.Seats.{IsWriting, prepared, prepared_by}
-use Rattle.line_store.specs.Calls.{Moves, MayStopCommit}
+use Rattle.std.proofs.Common.{[], refl, sym, ap, subst}
+use Rattle.line_store.specs.Seats.{IsWriting, prepared}
+use Rattle.line_store.specs.Calls.{MayStopCommit}
 use Rattle.line_store.specs.declared.answers.CommitStop.TheVariants.{AijFull}
 use Rattle.line_store.specs.Sights.{Does, Prepares}
-use Rattle.member_memory.specs.Memory.{writes_in}
 use Rattle.disk_store.specs.declared.member.Member.{Member}
-use Rattle.disk_store.specs.declared.member.MemberStage.TheVariants as stage
 use Rattle.disk_store.specs.Memory.{StoreMemory}
 use Rattle.disk_store.specs.Seats.{seat_with, stand_of}
 use Rattle.disk_store.specs.Shown.{sight_of}
-use Rattle.disk_store.proofs.Moving.{does-move}
-use Rattle.disk_store.proofs.Stages.{may-prepare, prepared-now}
+use Rattle.disk_store.proofs.Ready.{does-ready}
 use Rattle.disk_store.proofs.JournalRoom.{no-room}
 use Rattle.disk_store.proofs.preparing.prepare.Goals as goal
+
+pub set_prepared-requires-clause-room : goal.set_prepared-requires-clause-room
+set_prepared-requires-clause-room g c m is = c.if-has_room.ensures.fits refl m is
 
 pub returns-then-has_room-clause-ok : goal.returns-then-has_room-clause-ok
 returns-then-has_room-clause-ok g c =
     let v = g.D.Disk.view c.args._disk.now in
     let s = c.args.s.number in
-    let m : Member = c.set_stage.ensures.comes.0 in
-    let was = c.set_stage.ensures.comes.1 in
-    let is : IsWriting (seat_with m.stage [] []) = subst (λ x. IsWriting (stand_of x)) was c.requires.writing in
-    let does = does-move v c.args.held.now s m stage.Prepared c.set_stage.ensures.within was (may-prepare v s m is) (prepared []) (Prepares s) refl (λ h g start at moves. subst (λ seat. Moves s seat h g) (sym (ap prepared_by at ∙ prepared-now m (writes_in m.written.lines) start is)) moves) in
-    subst (λ held. Does s (prepared []) (Prepares s) (sight_of v c.args.held.now) (sight_of v held)) (sym c.set_stage.ensures.comes.2) does
+    let comes = c.set_prepared.ensures.comes in
+    let m : Member = comes.0 in
+    let is : IsWriting (seat_with m.stage [] []) = subst (λ x. IsWriting (stand_of x)) comes.1 c.requires.writing in
+    subst (λ held. Does s (prepared []) (Prepares s) (sight_of v c.args.held.now) (sight_of v held)) (sym comes.4) (does-ready v c.args.held.now s m comes.2 comes.1 is _ comes.3)
 
 pub returns-clause-cause : goal.returns-clause-cause
 returns-clause-cause g c h shown = subst (λ n. MayStopCommit h c.args.s.number (AijFull n)) (sym (ap (λ (x : StoreMemory). x.limits.slots) c.held.view_is)) (no-room (g.D.Disk.view c.args._disk.now) c.args.held.now h c.args.s.number shown c.requires.writing (λ m is. c.if-has_room.ensures.full refl m is))

@@ -11,7 +11,13 @@ use Rattle.disk_store.proofs.Members.{set-here}
 use Rattle.disk_store.proofs.Failing.{does-fail}
 use Rattle.disk_store.proofs.Closing.{one-member}
 use Rattle.disk_store.proofs.Restored.{keeps-read, does-restore}
+use Rattle.disk_store.specs.Commits.{is_flying}
 use Rattle.disk_store.proofs.restoring.restore.Goals as goal
+
+pub set_dead-requires-clause-flies : goal.set_dead-requires-clause-flies
+set_dead-requires-clause-flies g c flies x is =
+    let at = c.requires.died in
+    ap (λ (y : Member). is_flying y.stage) (one-member c.args.held.now.members c.args.s.number x at.member is at.is) ∙ (ap is_flying at.at ∙ flies)
 
 pub returns-in_default-clause-comes : goal.returns-in_default-clause-comes
 returns-in_default-clause-comes g c =
@@ -27,7 +33,7 @@ returns-clause-comes g c =
     let s = c.args.s.number in
     let held = c.args.held.now in
     let at = c.requires.died in
-    let comes = c.set_stage.ensures.comes in
+    let comes = c.set_dead.ensures.comes in
     let same : comes.0 ≡ at.member = one-member held.members s comes.0 at.member comes.1 at.is in
     subst (λ new. Does s (stand_at held.members s) (λ h k. GoesOn s h k) (sight_of v held) (sight_of w new))
     (sym (comes.2 ∙ ap (λ (x : Member). with_member s (at_stage (stage.Dead c.args.commits recovery.Ending) x) held) same))
@@ -38,8 +44,8 @@ returns-clause-less g c more =
     let s = c.args.s.number in
     let held = c.args.held.now in
     let at = c.requires.died in
-    let comes = c.set_stage.ensures.comes in
+    let comes = c.set_dead.ensures.comes in
     let next = at_stage (stage.Dead c.args.commits recovery.Ending) comes.0 in
-    let behind : steps_at c.set_stage.new.self.members s ≡ 1 = ap (λ (x : StoreMemory). steps_at x.members s) comes.2 ∙ ap steps_of (set-here held.members s next c.set_stage.ensures.within) in
+    let behind : steps_at c.set_dead.new.self.members s ≡ 1 = ap (λ (x : StoreMemory). steps_at x.members s) comes.2 ∙ ap steps_of (set-here held.members s next c.set_dead.ensures.within) in
     let before : steps_at held.members s ≡ 2 = ap steps_of at.is ∙ ap (λ x. steps_in x at.member) at.at in
     omega (arith, behind, before)

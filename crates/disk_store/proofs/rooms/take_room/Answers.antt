@@ -47,3 +47,6 @@ returns-clause-taken g c is =
     c.class_for-its.ensures in
     subst (λ (x : StoreMemory). Does s (stand_at held.members s) (Takes c.args.key) (sight_of v held) (sight_of v x)) (sym c.take_page.ensures.1)
     (takes-page v held s file c.class_for-its.result c.args.key owner kept new takes stand)
+
+pub returns-clause-members : goal.returns-clause-members
+returns-clause-members g c = ap (λ (k : StoreMemory). k.members) c.take_page.ensures.1

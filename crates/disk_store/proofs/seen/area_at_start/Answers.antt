@@ -1,4 +1,4 @@
-use Rattle.std.proofs.Common.{◌≡◌, ◌∙◌, sym, ap, subst, arith}
+use Rattle.std.proofs.Common.{◌∙◌, sym, ap, subst, arith}
 use Rattle.committed_tables.specs.Tables.{WereUsed}
 use Rattle.page_table.specs.Pages.{Pages}
 use Rattle.reader_lines.specs.Readers.{IsReader}

@@ -1,4 +1,4 @@
-use Rattle.std.proofs.Common.{◌≡◌, ◌∙◌, ap, subst}
+use Rattle.std.proofs.Common.{◌∙◌, ap, subst}
 use Rattle.line_view.specs.Knowledge.{Lines, lines_in}
 use Rattle.line_store.specs.Seats.{IsAtRest}
 use Rattle.disk_store.specs.declared.member.Member.{Member}

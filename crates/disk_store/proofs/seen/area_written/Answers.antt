@@ -1,4 +1,4 @@
-use Rattle.std.proofs.Common.{◌≡◌, ◌∙◌, List, sym, ap, subst, arith}
+use Rattle.std.proofs.Common.{◌∙◌, List, sym, ap, subst, arith}
 use Rattle.committed_lines.specs.Seen.{AreSeen}
 use Rattle.committed_tables.specs.Tables.{WereUsed}
 use Rattle.page_table.specs.Pages.{Pages}

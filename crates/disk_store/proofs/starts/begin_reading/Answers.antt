@@ -1,5 +1,5 @@
 use Rattle.std.proofs.Common.{◌≡◌, [], sym, ap, subst, ◌∙◌}
-use Rattle.line_store.specs.Seats.{outside, reading}
+use Rattle.line_store.specs.Seats.{reading}
 use Rattle.line_store.specs.Sights.{Does, BeginsReading}
 use Rattle.line_versions.specs.Versions.{Start}
 use Rattle.disk_store.specs.declared.member.Member.{Member}

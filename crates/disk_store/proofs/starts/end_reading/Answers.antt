@@ -1,4 +1,4 @@
-use Rattle.std.proofs.Common.{◌≡◌, sym, subst, ap}
+use Rattle.std.proofs.Common.{sym, subst}
 use Rattle.line_store.specs.Seats.{outside, IsReader}
 use Rattle.line_store.specs.Calls.{Moves}
 use Rattle.line_store.specs.Sights.{Does}

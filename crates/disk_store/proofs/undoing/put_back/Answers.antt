@@ -1,4 +1,5 @@
-use Rattle.std.proofs.Common.{◌≡◌, ◌+◌, ℕ, Err, sym, subst, ap, ◌∙◌, arith}
+use Rattle.std.proofs.Common.{◌≡◌, ◌+◌, ℕ, Bool, true, List, Some, Err, sym, subst, ap, ◌∙◌, arith}
+use Rattle.std.specs.Prelude.{slice_get}
 use Rattle.rdb_types.specs.declared.keys.Limits.{Limits}
 use Rattle.line_store.specs.Calls.{GoesOn, Fails}
 use Rattle.line_store.specs.Sights.{Does}
@@ -8,14 +9,32 @@ use Rattle.disk_store.specs.declared.member.Member.{Member}
 use Rattle.disk_store.specs.declared.member.MemberStage.TheVariants as stage
 use Rattle.disk_store.specs.declared.member.Recovery.{Recovery}
 use Rattle.disk_store.specs.declared.member.Recovery.TheVariants as recovery
+use Rattle.disk_store.specs.Commits.{is_flying, IsReady}
 use Rattle.disk_store.specs.Dying.{undoing_with}
 use Rattle.disk_store.specs.Memory.{StoreMemory, with_member, at_stage}
-use Rattle.disk_store.specs.Seats.{stand_at, steps_at, steps_of, steps_in, recovery_left}
+use Rattle.disk_store.specs.Seats.{stand_at, IsAtStage, steps_at, steps_of, steps_in, recovery_left}
 use Rattle.disk_store.specs.Shown.{sight_of}
 use Rattle.disk_store.proofs.Members.{set-here}
+use Rattle.disk_store.proofs.DeadStages.{undoing-ready}
 use Rattle.disk_store.proofs.Closing.{one-member}
 use Rattle.disk_store.proofs.PutBack.{undone-with, does-back, does-none-left, fewer-left, cause-of}
 use Rattle.disk_store.proofs.undoing.put_back.Goals as goal
+
+-- it was dead before
+flies-still : (members : List Member) (s : ℕ) (commits : Bool) (left : Recovery) → IsAtStage members s (stage.Dead commits left) → commits ≡ true → (m : Member) → slice_get members s ≡ Some m → is_flying m.stage ≡ true
+flies-still members s commits left at flies m is = ap (λ (x : Member). is_flying x.stage) (one-member members s m at.member is at.is) ∙ (ap is_flying at.at ∙ flies)
+
+pub set_dead-requires-clause-flies : goal.set_dead-requires-clause-flies
+set_dead-requires-clause-flies g c flies m is = flies-still c.args.held.now.members c.args.s.number c.args.commits (recovery.Undoing c.args.left) c.requires.died flies m is
+
+pub set_dead-requires-in-Ok-clause-flies : goal.set_dead-requires-in-Ok-clause-flies
+set_dead-requires-in-Ok-clause-flies g c flies m is = flies-still c.args.held.now.members c.args.s.number c.args.commits (recovery.Undoing c.args.left) c.requires.died flies m is
+
+pub set_dead-requires-in-Err-clause-flies : goal.set_dead-requires-in-Err-clause-flies
+set_dead-requires-in-Err-clause-flies g c flies m is = flies-still c.args.held.now.members c.args.s.number c.args.commits (recovery.Undoing c.args.left) c.requires.died flies m is
+
+pub set_dead-requires-in-Ok-clause-ready : goal.set_dead-requires-in-Ok-clause-ready
+set_dead-requires-in-Ok-clause-ready g c m is = subst (λ (r : Recovery). IsReady (stage.Dead c.args.commits r) c.args.held.now.tables (at_stage (stage.Dead c.args.commits r) m)) (sym c.undoing-recovery.ensures) (undoing-ready c.args.commits c.in-Ok.rest c.args.held.now.tables _)
 
 pub returns-then-left-eq0-clause-comes : goal.returns-then-left-eq0-clause-comes
 returns-then-left-eq0-clause-comes g c =
@@ -23,7 +42,7 @@ returns-then-left-eq0-clause-comes g c =
     let s = c.args.s.number in
     let held = c.args.held.now in
     let at = c.requires.died in
-    let comes = c.set_stage.ensures.comes in
+    let comes = c.set_dead.ensures.comes in
     let same : comes.0 ≡ at.member = one-member held.members s comes.0 at.member comes.1 at.is in
     subst (λ new. Does s (stand_at held.members s) (λ h k. GoesOn s h k) (sight_of v held) (sight_of v new))
     (sym (comes.2 ∙ ap (λ (x : Member). with_member s (at_stage (stage.Dead c.args.commits recovery.Restoring) x) held) same))
@@ -34,9 +53,9 @@ returns-then-left-eq0-clause-less g c more =
     let s = c.args.s.number in
     let held = c.args.held.now in
     let at = c.requires.died in
-    let comes = c.set_stage.ensures.comes in
+    let comes = c.set_dead.ensures.comes in
     let next = at_stage (stage.Dead c.args.commits recovery.Restoring) comes.0 in
-    let behind : steps_at c.set_stage.new.self.members s ≡ 2 = ap (λ (x : StoreMemory). steps_at x.members s) comes.2 ∙ ap steps_of (set-here held.members s next c.set_stage.ensures.within) in
+    let behind : steps_at c.set_dead.new.self.members s ≡ 2 = ap (λ (x : StoreMemory). steps_at x.members s) comes.2 ∙ ap steps_of (set-here held.members s next c.set_dead.ensures.within) in
     let before : steps_at held.members s ≡ c.args.left + 3 = ap steps_of at.is ∙ ap (λ x. steps_in x at.member) at.at in
     omega (arith, behind, before)
 
@@ -48,7 +67,7 @@ returns-in-Ok-clause-comes g c =
     let held = c.args.held.now in
     let at = c.requires.died in
     let mine : c.member-member.result.now ≡ at.member = one-member held.members s c.member-member.result.now at.member c.member-member.ensures at.is in
-    let comes = c.set_stage-in-Ok.ensures.comes in
+    let comes = c.set_dead-in-Ok.ensures.comes in
     let same : comes.0 ≡ at.member = one-member held.members s comes.0 at.member comes.1 at.is in
     let writes = c.undo.ensures.writes in
     subst (λ new. Does s (stand_at held.members s) (λ h k. GoesOn s h k) (sight_of v held) (sight_of w new))
@@ -66,10 +85,10 @@ returns-in-Ok-clause-less g c more =
     let s = c.args.s.number in
     let held = c.args.held.now in
     let at = c.requires.died in
-    let comes = c.set_stage-in-Ok.ensures.comes in
+    let comes = c.set_dead-in-Ok.ensures.comes in
     let next = at_stage (stage.Dead c.args.commits c.undoing-recovery.result) comes.0 in
-    let behind : steps_at c.set_stage-in-Ok.new.self.members s ≡ recovery_left (undoing_with c.in-Ok.rest) next =
-    ap (λ (x : StoreMemory). steps_at x.members s) comes.2 ∙ ap steps_of (set-here held.members s next c.set_stage-in-Ok.ensures.within) ∙ ap (λ (r : Recovery). recovery_left r next) c.undoing-recovery.ensures in
+    let behind : steps_at c.set_dead-in-Ok.new.self.members s ≡ recovery_left (undoing_with c.in-Ok.rest) next =
+    ap (λ (x : StoreMemory). steps_at x.members s) comes.2 ∙ ap steps_of (set-here held.members s next c.set_dead-in-Ok.ensures.within) ∙ ap (λ (r : Recovery). recovery_left r next) c.undoing-recovery.ensures in
     let before : steps_at held.members s ≡ c.args.left + 3 = ap steps_of at.is ∙ ap (λ x. steps_in x at.member) at.at in
     let fewer = fewer-left c.in-Ok.rest c.args.left next c.in-Ok.ensures.fewer in
     omega (arith, behind, before, fewer)
@@ -83,7 +102,7 @@ returns-in-Err-clause-comes g c =
     let at = c.requires.died in
     let mine : c.member-member.result.now ≡ at.member = one-member held.members s c.member-member.result.now at.member c.member-member.ensures at.is in
     let all : c.member-member.result.now.journalled ≡ at.member.journalled = ap (λ (x : Member). x.journalled) mine in
-    let comes = c.set_stage-in-Err.ensures.comes in
+    let comes = c.set_dead-in-Err.ensures.comes in
     let same : comes.0 ≡ at.member = one-member held.members s comes.0 at.member comes.1 at.is in
     let writes = c.undo.ensures.writes in
     subst (λ new. Does s (stand_at held.members s) (λ h k. Fails s c.in-Err.fault h k) (sight_of v held) (sight_of w new))

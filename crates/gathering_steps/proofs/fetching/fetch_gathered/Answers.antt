@@ -1,31 +1,33 @@
 use Rattle.session_states.specs.declared.stage.Stage.{Stage}
 use Rattle.session_states.specs.declared.stage.Life.TheVariants.{Alive}
-use Rattle.std.proofs.Common.{refl, ap, ◌∙◌, ◌+◌, []}
+use Rattle.std.proofs.Common.{refl, ap, ◌∙◌, [], Ok, arith}
 use Rattle.session_states.specs.declared.stage.Gather.TheVariants.{Reading}
-use Rattle.session_states.specs.declared.stage.Work.TheVariants.{Due}
-use Rattle.session_states.specs.declared.stage.Stage.TheVariants.{Working, Gathering}
+use Rattle.session_states.specs.declared.stage.Stage.TheVariants.{Gathering}
 use Rattle.session_states.specs.States.{session}
 use Rattle.session_states.proofs.InTurn.{steps-on}
+use Rattle.session_states.proofs.Resting.{rests-by}
+use Rattle.session_measure.proofs.Nearer.{nearer-in-round, nearer-by-steps}
 use Rattle.stage_steps.specs.Turns.{at_stage, shared}
-use Rattle.stage_steps.proofs.Goes.{goes, goes-behind, comes-as}
+use Rattle.stage_steps.proofs.Goes.{goes, goes-still, goes-behind, comes-as}
 use Rattle.stage_steps.proofs.Resting.{as-before}
 use Rattle.stage_steps.proofs.Seated.{rests-at}
 use Rattle.stage_steps.proofs.Read.{was-read, was-more, was-forgone, was-fault}
-use Rattle.gathering_steps.proofs.Gathered.{gathered-last, gathered-more, gathered-behind}
+use Rattle.gathering_steps.proofs.Gathered.{gathered-more, gathered-behind}
+use Rattle.gathering_steps.proofs.Nearer.{nearer-behind}
 use Rattle.gathering_steps.proofs.Seats.{behind-seat}
 use Rattle.gathering_steps.proofs.fetching.fetch_gathered.Goals as goal
 
 pub returns-in-Ok-Done : goal.returns-in-Ok-Done
 returns-in-Ok-Done g c =
     comes-as g.S.Statements.stands c.args.s.number _ _ _ _ _ _ _ (c.quiet-in-Ok-Done.ensures.phase ∙ c.at-in-Ok-Done.ensures) c.quiet-in-Ok-Done.ensures.happened
-    (goes c.args.s.number _ Alive _ Alive _ _ _ _ _ (λ e f. behind-seat _ _ c.args.s.number c.args.terms.standing c.fetch.new.known c.args.terms.spoken c.args.terms.waits c.args.round.item (e ∙ f.seat) f.wants f.needs f.statement c.args.round.later c.args.round.place c.behind.result c.behind.ensures) (λ u other. refl)
+    (goes c.args.s.number _ Alive _ Alive _ _ _ _ _ (λ e f. behind-seat _ _ c.args.s.number c.args.terms.standing c.fetch.new.known c.args.terms.spoken c.args.terms.waits c.args.round.item (e ∙ f.seat) f.wants f.needs f.statement c.args.round.later c.args.round.place c.behind.result c.behind.ensures) (λ u other. refl) (λ left total. nearer-behind c.args.s.number _ _ c.args.terms (record { standing = c.args.terms.standing; known = c.fetch.new.known; spoken = c.args.terms.spoken; waits = c.args.terms.waits }) c.args.round.item c.args.round.later c.args.round.place left total c.args.need c.behind.result c.behind.ensures)
     (λ h k shown told r dead left total. gathered-behind g.S.Statements.stands g.met.S.Statements.orderly c.args.s.number (shared c.args.common.now.word h c.args.common.now.tree dead) left total c.args.terms.standing c.args.terms.known c.fetch.new.known c.args.terms.spoken c.args.terms.waits c.args.round.item k c.args.need c.args.round.later c.args.round.place (was-read c.args.s.number h k _ c.in-Ok-Done.field-0-is r) (record { agrees = c.fetch.ensures.agrees h shown; guarded = c.fetch.ensures.guarded }) c.fetch.ensures.more c.behind.result c.behind.ensures)
     c.in-Ok-Done.ensures.read)
 
 pub returns-in-Ok-More : goal.returns-in-Ok-More
 returns-in-Ok-More g c =
     comes-as g.S.Statements.stands c.args.s.number _ _ _ _ _ _ _ (c.quiet-in-Ok-More.ensures.phase ∙ c.at-in-Ok-More-2.ensures ∙ ap (λ (x : Stage). at_stage (record { standing = c.args.terms.standing; known = c.fetch.new.known; spoken = c.args.terms.spoken; waits = c.args.terms.waits }) x) c.at-in-Ok-More.ensures) c.quiet-in-Ok-More.ensures.happened
-    (goes c.args.s.number _ Alive _ Alive _ _ _ _ _ (λ e f. rests-at _ _ c.args.s.number _ (e ∙ f.seat) f.wants f.needs f.statement) (λ u other. refl)
+    (goes c.args.s.number _ Alive _ Alive _ _ _ _ _ (λ e f. rests-at _ _ c.args.s.number _ (e ∙ f.seat) f.wants f.needs f.statement) (λ u other. refl) (nearer-by-steps c.args.s.number _ _ _ _ refl refl refl refl refl refl refl (c.fetch.ensures.less (c.in-Ok-More.is ∙ ap Ok c.in-Ok-More.field-0-is)))
     (λ h k shown told r dead left total. gathered-more g.S.Statements.stands g.met.S.Statements.orderly c.args.s.number (shared c.args.common.now.word h c.args.common.now.tree dead) left total c.args.terms.standing c.args.terms.known c.fetch.new.known c.args.terms.spoken c.args.terms.waits c.args.round.item k c.args.need c.args.round.later c.args.round.place (was-more c.args.s.number h k _ c.in-Ok-More.field-0-is r) (record { agrees = c.fetch.ensures.agrees h shown; guarded = c.fetch.ensures.guarded }) c.fetch.ensures.more)
     c.in-Ok-More.ensures.read)
 
@@ -38,11 +40,18 @@ returns-in-Err-NoMemory g c =
     (λ h m r. was-forgone c.args.s.number h m _ c.in-Err-NoMemory.field-0-is r) (λ h. refl)
     (λ h m k shown told r q dead left total. steps-on g.S.Statements.stands g.met.S.Statements.orderly c.args.s.number (shared c.args.common.now.word h c.args.common.now.tree dead) (shared c.args.common.now.word m c.args.common.now.tree dead) _ (session left total x) (session left total y) _ [] _ refl
     (gathered-more g.S.Statements.stands g.met.S.Statements.orderly c.args.s.number (shared c.args.common.now.word h c.args.common.now.tree dead) left total c.args.terms.standing c.args.terms.known c.fetch.new.known c.args.terms.spoken c.args.terms.waits c.args.round.item m c.args.need c.args.round.later c.args.round.place (was-forgone c.args.s.number h m _ c.in-Err-NoMemory.field-0-is r) (record { agrees = c.fetch.ensures.agrees h shown; guarded = c.fetch.ensures.guarded }) c.fetch.ensures.more) (q dead left total))
-    c.in-Err-NoMemory.ensures.read (c.forgo.ensures.forgoes c.args.common.now.tree (Gathering c.args.round.item (Reading c.args.need) c.args.round.later c.args.round.place) (as-before c.args.common.now.tree) refl refl)
+    c.in-Err-NoMemory.ensures.read (c.forgo.ensures.forgoes c.args.common.now.tree (Gathering c.args.round.item (Reading c.args.need) c.args.round.later c.args.round.place) (as-before c.args.common.now.tree) refl refl) (λ left total. c.forgo.ensures.nearer _ _ _ left total refl)
 
 pub returns-in-Err-Fault : goal.returns-in-Err-Fault
 returns-in-Err-Fault g c =
     comes-as g.S.Statements.stands c.args.s.number _ _ _ _ _ _ _ (c.failed.ensures.phase ∙ c.at-in-Err-Fault-2.ensures ∙ ap (λ (x : Stage). at_stage (record { standing = c.args.terms.standing; known = c.fetch.new.known; spoken = c.args.terms.spoken; waits = c.args.terms.waits }) x) c.at-in-Err-Fault.ensures) c.failed.ensures.happened
-    (goes c.args.s.number _ Alive _ Alive _ _ _ _ _ (λ e f. rests-at _ _ c.args.s.number _ (e ∙ f.seat) f.wants f.needs f.statement) (λ u other. refl)
+    (goes c.args.s.number _ Alive _ Alive _ _ _ _ _ (λ e f. rests-at _ _ c.args.s.number _ (e ∙ f.seat) f.wants f.needs f.statement) (λ u other. refl) (λ left total. tt)
     (λ h k shown told r dead left total. gathered-more g.S.Statements.stands g.met.S.Statements.orderly c.args.s.number (shared c.args.common.now.word h c.args.common.now.tree dead) left total c.args.terms.standing c.args.terms.known c.fetch.new.known c.args.terms.spoken c.args.terms.waits c.args.round.item k c.args.need c.args.round.later c.args.round.place (was-fault c.args.s.number h k _ c.in-Err-Fault.fault c.in-Err-Fault.field-0-is r) (record { agrees = c.fetch.ensures.agrees h shown; guarded = c.fetch.ensures.guarded }) c.fetch.ensures.more)
     c.in-Err-Fault.ensures.read)
+
+pub returns-in-Room : goal.returns-in-Room
+returns-in-Room g c =
+    comes-as g.S.Statements.stands c.args.s.number _ _ _ _ _ _ _ (c.quiet.ensures.phase ∙ c.at.ensures) c.quiet.ensures.happened
+    (goes-still c.args.s.number _ Alive _ Alive _ _ _ refl (λ f. rests-at _ _ c.args.s.number _ f.seat f.wants f.needs f.statement) (λ u other. refl) (nearer-in-round c.args.s.number _ _ _ _ refl refl refl refl (omega arith))
+    (λ h shown dead left total. rests-by g.S.Statements.stands g.met.S.Statements.orderly c.args.s.number (shared c.args.common.now.word h c.args.common.now.tree dead) left total _ _ refl
+    (λ o p g1 f. record { desk = f.fits.phase.desk; spoken = f.fits.phase.spoken; waits = f.fits.phase.waits; stage = (f.fits.phase.stage.0, tt); wants = f.fits.phase.wants; journal = f.fits.phase.journal; ends = tt; claims = tt })))

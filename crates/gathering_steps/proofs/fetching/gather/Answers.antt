@@ -1,9 +1,9 @@
-use Rattle.std.proofs.Common.{◌≡◌, ◌∙◌, ap, sym, subst, []}
+use Rattle.std.proofs.Common.{◌∙◌, ap, sym, subst, refl, arith}
 use Rattle.session_states.specs.declared.stage.Gather.TheVariants.{Locking}
 use Rattle.session_states.specs.declared.stage.Stage.{Stage}
-use Rattle.session_states.specs.declared.stage.Stage.TheVariants.{Gathering}
 use Rattle.session_states.specs.declared.stage.Phase.{Phase}
 use Rattle.session_states.proofs.Gathering.{gathers-on}
+use Rattle.session_measure.proofs.Nearer.{nearer-in-round}
 use Rattle.stage_steps.specs.Turns.{at_stage}
 use Rattle.gathering_steps.specs.Rounds.{GathersFrom}
 use Rattle.gathering_steps.proofs.Seats.{gathering-seat}
@@ -15,4 +15,5 @@ returns g c =
     (record {
       comes = λ s d found left total. gathers-on g.S.Statements.stands g.met.S.Statements.orderly s d left total c.args.terms.standing c.args.terms.known c.args.terms.spoken c.args.terms.waits c.args.item c.args.next c.args.later found;
       seated = λ stand locks s f. gathering-seat stand locks s c.args.terms.standing c.args.terms.known c.args.terms.spoken c.args.terms.waits c.args.item f.seat f.wants f.needs f.statement (Locking c.args.next) c.args.later 0;
+      nearer = λ s b left total. nearer-in-round s b b _ _ refl refl refl refl (omega arith) left total;
     })

@@ -4,14 +4,13 @@ use Rattle.session_states.specs.declared.stage.Stage.TheVariants.{Working}
 use Rattle.session_jobs.specs.declared.jobs.Job.{Job}
 use Rattle.stage_steps.specs.Turns.{at_stage}
 use Rattle.stage_steps.specs.Scenes.{ComesIn, scene}
-use Rattle.stage_steps.specs.Happenings.{events_of}
 use Rattle.stage_steps.proofs.Resting.{as-before}
 use Rattle.job_steps.proofs.jobs.compute.Goals as goal
 
-pub returns-in_default : goal.returns-in_default
-returns-in_default g c =
+pub returns-in_default-clause-comes : goal.returns-in_default-clause-comes
+returns-in_default-clause-comes g c =
     c.forgo.ensures.forgoes c.args.common.now.tree (Working c.args.item Out) (as-before c.args.common.now.tree) refl refl
 
-pub returns : goal.returns
-returns g c =
-    subst (λ (j : Job). ComesIn g.S.Statements.stands c.args.s.number (scene c.args.common.now.word (g.L.LineStore.sight c.args.common.now.store) c.args.common.now.tree) (at_stage (record { standing = j.standing; known = j.known; spoken = c.args.terms.spoken; waits = c.args.terms.waits }) (Working j.item Out)) (scene c.take_found.new.common.word (g.L.LineStore.sight c.take_found.new.common.store) c.take_found.new.common.tree) c.take_found.result.phase (events_of c.args.s.number c.take_found.result.happened)) (c.into_parts-job.ensures.job ∙ c.of.ensures) c.take_found.ensures
+pub returns-clause-comes : goal.returns-clause-comes
+returns-clause-comes g c =
+    subst (λ (j : Job). ComesIn g.S.Statements.stands c.args.s.number (scene c.args.common.now.word (g.L.LineStore.sight c.args.common.now.store) c.args.common.now.tree) (at_stage (record { standing = j.standing; known = j.known; spoken = c.args.terms.spoken; waits = c.args.terms.waits }) (Working j.item Out)) (scene c.take_found.new.common.word (g.L.LineStore.sight c.take_found.new.common.store) c.take_found.new.common.tree) c.take_found.result.phase c.take_found.result.happened) (c.into_parts-job.ensures.job ∙ c.of.ensures) c.take_found.ensures.comes

@@ -1,16 +1,33 @@
-use Rattle.std.proofs.Common.{refl, subst}
+use Rattle.std.proofs.Common.{refl, ◌∙◌, subst, arith}
 use Rattle.rdo_ast.specs.Views.{uttered_of}
 use Rattle.line_view.specs.Held.{knows}
 use Rattle.session_jobs.specs.Jobs.{IsFound}
 use Rattle.session_jobs.specs.declared.jobs.Found.{Found}
 use Rattle.session_states.specs.declared.stage.Life.TheVariants.{Alive}
+use Rattle.session_states.specs.declared.stage.Work.TheVariants.{Out}
+use Rattle.session_states.specs.declared.stage.Stage.TheVariants.{Working}
+use Rattle.session_states.proofs.Working.{never-bad}
+use Rattle.session_states.proofs.Resting.{rests-by}
+use Rattle.session_measure.proofs.Nearer.{nearer-in-round}
 use Rattle.stage_steps.specs.Turns.{shared}
 use Rattle.stage_steps.proofs.Goes.{goes-still, comes-as}
+use Rattle.stage_steps.proofs.Resting.{as-before}
+use Rattle.stage_steps.proofs.Seated.{rests-at}
 use Rattle.job_steps.proofs.jobs.take_found.Goals as goal
 
-pub returns-in-Missing : goal.returns-in-Missing
-returns-in-Missing g c =
+pub returns-in-Missing-clause-comes : goal.returns-in-Missing-clause-comes
+returns-in-Missing-clause-comes g c =
     comes-as g.S.Statements.stands c.args.s.number _ _ _ _ _ _ _ c.quiet.ensures.phase c.quiet.ensures.happened
-    (goes-still c.args.s.number _ Alive _ Alive _ _ _ refl (λ f. c.gather.ensures.seated _ _ c.args.s.number f) (λ u other. refl)
+    (goes-still c.args.s.number _ Alive _ Alive _ _ _ refl (λ f. c.gather.ensures.seated _ _ c.args.s.number f) (λ u other. refl) (λ left total. c.gather.ensures.nearer c.args.s.number _ left total)
     (λ h shown dead left total. c.gather.ensures.comes c.args.s.number (shared c.args.common.now.word h c.args.common.now.tree dead)
     (subst (λ (f : Found). IsFound g.S.Statements.stands c.args.common.now.word c.args.terms.standing (uttered_of c.args.item) (knows c.args.terms.known) f) c.in-Missing.is c.requires.found) left total))
+
+pub returns-in-Bad-clause-comes : goal.returns-in-Bad-clause-comes
+returns-in-Bad-clause-comes g c =
+    comes-as g.S.Statements.stands c.args.s.number _ _ _ _ _ _ _ (c.quiet-in-Bad.ensures.phase ∙ c.at.ensures) c.quiet-in-Bad.ensures.happened
+    (goes-still c.args.s.number _ Alive _ Alive _ _ _ refl (λ f. rests-at _ _ c.args.s.number _ f.seat f.wants f.needs f.statement) (λ u other. refl) (nearer-in-round c.args.s.number _ _ _ _ refl refl refl refl (omega arith))
+    (λ h shown dead left total. rests-by g.S.Statements.stands g.met.S.Statements.orderly c.args.s.number (shared c.args.common.now.word h c.args.common.now.tree dead) left total _ _ refl (λ o p g1 f. absurd (never-bad g.S.Statements.stands g.met.S.Statements.orderly c.args.s.number (shared c.args.common.now.word h c.args.common.now.tree dead) left total c.args.terms.standing c.args.terms.known c.args.terms.spoken c.args.terms.waits c.args.item c.in-Bad.field-0 (subst (λ (f : Found). IsFound g.S.Statements.stands c.args.common.now.word c.args.terms.standing (uttered_of c.args.item) (knows c.args.terms.known) f) c.in-Bad.is c.requires.found) o p g1 f))))
+
+pub returns-in-NoMemory-clause-comes : goal.returns-in-NoMemory-clause-comes
+returns-in-NoMemory-clause-comes g c =
+    c.forgo.ensures.forgoes c.args.common.now.tree (Working c.args.item Out) (as-before c.args.common.now.tree) refl refl

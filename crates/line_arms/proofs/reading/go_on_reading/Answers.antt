@@ -1,5 +1,8 @@
-use Rattle.line_arms.proofs.Arms.{reads-on}
+use Rattle.line_arms.proofs.Arms.{reads-on, reads-between}
 use Rattle.line_arms.proofs.reading.go_on_reading.Goals as goal
 
-pub returns-in-Working : goal.returns-in-Working
-returns-in-Working g c = reads-on _ _ _ _ c.args.reader _ _ _ _ c.in-Working.is c.look.ensures
+pub returns-in-Working-clause-goes : goal.returns-in-Working-clause-goes
+returns-in-Working-clause-goes g c = λ none. reads-on _ _ _ _ c.args.reader _ _ _ _ c.in-Working.is c.look.ensures.comes
+
+pub returns-in-Between-clause-goes : goal.returns-in-Between-clause-goes
+returns-in-Between-clause-goes g c = λ none. reads-between _ _ _ _ c.args.reader _ _ _ _ _ c.in-Between.is (c.read_next.ensures none)

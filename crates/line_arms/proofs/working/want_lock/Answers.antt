@@ -1,4 +1,4 @@
-use Rattle.std.proofs.Common.{◌∙◌, sym, subst, Option, Some}
+use Rattle.std.proofs.Common.{◌∙◌, sym, subst, Option}
 use Rattle.lock_needs.specs.declared.need.Need.{Need}
 use Rattle.line_arms.specs.Going.{MayBeAsked}
 use Rattle.line_arms.proofs.Asked.{writing-statement}

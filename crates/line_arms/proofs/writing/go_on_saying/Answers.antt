@@ -1,4 +1,4 @@
-use Rattle.std.proofs.Common.{◌<◌, ◌≤◌, ◌∙◌, subst}
+use Rattle.std.proofs.Common.{◌<◌, ◌≤◌, subst}
 use Rattle.session_states.specs.declared.stage.Laying.TheVariants.{Claiming}
 use Rattle.line_arms.proofs.Asked.{laying-asked, within-asked, past-asked}
 use Rattle.line_arms.proofs.writing.go_on_saying.Goals as goal
@@ -14,3 +14,9 @@ lay-requires-clause-locked g c = past-asked c.args.worked.writes c.in-Claiming.p
 
 pub returns-in-Changing : goal.returns-in-Changing
 returns-in-Changing g c = rw c.in-Changing.is (c.change.ensures c.args.common.now.word c.args.common.now.tree)
+
+pub returns-then-place-len : goal.returns-then-place-len
+returns-then-place-len g c = rw c.in-Claiming.is c.want_lock.ensures
+
+pub returns-else-place-len : goal.returns-else-place-len
+returns-else-place-len g c = rw c.in-Claiming.is c.lay.ensures

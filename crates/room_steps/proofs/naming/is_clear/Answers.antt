@@ -1,4 +1,4 @@
-use Rattle.std.proofs.Common.{inl, inr, ◌∙◌, sym, ap, refl, rules}
+use Rattle.std.proofs.Common.{inl, inr, rules}
 use Rattle.lock_tree_laws.specs.Forest.{party_of}
 use Rattle.room_steps.specs.Naming.{is_clear_of as is_clear_at}
 use Rattle.room_steps.proofs.Clear.{one-more}

@@ -1,4 +1,3 @@
-use Rattle.std.proofs.Common.{◌≡◌, ◌≤◌, ℕ}
 use Rattle.lock_tree_laws.specs.Forest.{party_of}
 use Rattle.room_steps.specs.Naming.{is_clear_of as is_clear_at}
 use Rattle.room_steps.proofs.Clear.{IsBelow}

@@ -1,6 +1,10 @@
-use Rattle.std.proofs.Common.{refl}
+use Rattle.std.proofs.Common.{refl, ap, Ok, ◌∙◌}
 use Rattle.session_states.specs.declared.stage.Life.TheVariants.{Dead, Gone}
 use Rattle.session_states.proofs.Dying.{recovers-more}
+use Rattle.session_states.specs.States.{dead_session}
+use Rattle.session_measure.proofs.Falling.{by-steps}
+use Rattle.session_measure.proofs.Nearer.{nearer-recovered}
+use Rattle.stage_steps.specs.Scenes.{beside, scene}
 use Rattle.stage_steps.specs.Turns.{shared}
 use Rattle.stage_steps.proofs.Goes.{goes}
 use Rattle.stage_steps.proofs.Resting.{as-before, released}
@@ -13,16 +17,16 @@ pub returns-in-Ok-Recovered : goal.returns-in-Ok-Recovered
 returns-in-Ok-Recovered g c x =
     let rests = released c.args.s.number c.args.common.now.tree c.args.common.now.tree c.release_all.new.self (as-before c.args.common.now.tree) c.release_all.ensures.others c.release_all.ensures.idle c.release_all.ensures.trail in
     let none = idle-party c.release_all.new.self c.args.s.number c.release_all.ensures.idle in
-    goes c.args.s.number x Dead x Gone _ _ _ _ _ (λ e f. record { seat = e; wants = none.0; needs = none.1 }) rests.others
+    goes c.args.s.number x Dead x Gone _ _ _ _ _ (λ e f. record { seat = e; wants = none.0; needs = none.1 }) rests.others (nearer-recovered c.args.s.number (beside (scene c.args.common.now.word (g.L.LineStore.sight c.args.common.now.store) c.args.common.now.tree)) (beside (scene c.args.common.now.word (g.L.LineStore.sight c.step.new.self) c.release_all.new.self)) x)
     (λ h k shown told r o dead left total. recovers-as g.S.Statements.stands g.met.S.Statements.orderly o c.args.s.number (shared c.args.common.now.word h c.args.common.now.tree dead) k c.release_all.new.self left total x c.in-Ok-Recovered.is_committed c.in-Ok-Recovered.moment r rests)
     (when-recovered c.args.s.number _ _ _ _ c.in-Ok-Recovered.is_committed c.in-Ok-Recovered.moment c.in-Ok-Recovered.field-0-is c.in-Ok-Recovered.ensures.comes)
 
 pub returns-in-Ok-More : goal.returns-in-Ok-More
 returns-in-Ok-More g c x =
-    goes c.args.s.number x Dead x Dead _ _ _ _ _ (λ e f. falls-on _ _ _ c.args.s.number x e f) (λ u other. refl)
+    goes c.args.s.number x Dead x Dead _ _ _ _ _ (λ e f. falls-on _ _ _ c.args.s.number x e f) (λ u other. refl) (λ left total k. by-steps k c.args.s.number (beside (scene c.args.common.now.word (g.L.LineStore.sight c.args.common.now.store) c.args.common.now.tree)) (beside (scene c.args.common.now.word (g.L.LineStore.sight c.step.new.self) c.args.common.now.tree)) (dead_session left total x) refl (c.step.ensures.less (c.in-Ok-More.is ∙ ap Ok c.in-Ok-More.field-0-is)))
     (λ h k shown told r o dead left total. recovers-more g.S.Statements.stands g.met.S.Statements.orderly o c.args.s.number (shared c.args.common.now.word h c.args.common.now.tree dead) k left total x r.moves) (when-goes-on c.args.s.number _ _ _ _ c.in-Ok-More.field-0-is c.in-Ok-More.ensures.comes)
 
 pub returns-in-Err : goal.returns-in-Err
 returns-in-Err g c x =
-    goes c.args.s.number x Dead x Dead _ _ _ _ _ (λ e f. falls-on _ _ _ c.args.s.number x e f) (λ u other. refl)
+    goes c.args.s.number x Dead x Dead _ _ _ _ _ (λ e f. falls-on _ _ _ c.args.s.number x e f) (λ u other. refl) (λ left total. tt)
     (λ h k shown told r o dead left total. recovers-more g.S.Statements.stands g.met.S.Statements.orderly o c.args.s.number (shared c.args.common.now.word h c.args.common.now.tree dead) k left total x r.moves) c.in-Err.ensures.comes

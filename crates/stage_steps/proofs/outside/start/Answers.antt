@@ -2,6 +2,7 @@ use Rattle.session_states.specs.declared.stage.Life.TheVariants.{Alive}
 use Rattle.session_states.specs.declared.stage.Phase.TheVariants.{Outside}
 use Rattle.session_states.proofs.Outside.{forgoes-outside}
 use Rattle.std.proofs.Common.{refl}
+use Rattle.session_measure.proofs.Nearer.{nearer-said}
 use Rattle.stage_steps.specs.Turns.{shared}
 use Rattle.stage_steps.proofs.Goes.{goes-still}
 use Rattle.stage_steps.proofs.outside.start.Goals as goal
@@ -14,11 +15,11 @@ returns-else-writes-clause-starts g c locks = c.begin_reading.ensures.begins c.a
 
 pub returns-in-Ok-None-clause-starts : goal.returns-in-Ok-None-clause-starts
 returns-in-Ok-None-clause-starts g c locks =
-    goes-still c.args.s.number Outside Alive Outside Alive _ _ _ refl (λ f. f) (λ u other. refl) (λ h shown dead left total. c.answer_outside.ensures.says c.args.s.number (shared c.args.word.now h locks dead) refl left total)
+    goes-still c.args.s.number Outside Alive Outside Alive _ _ _ refl (λ f. f) (λ u other. refl) (c.answer_outside.ensures.nearer c.args.s.number _ _) (λ h shown dead left total. c.answer_outside.ensures.says c.args.s.number (shared c.args.word.now h locks dead) refl left total)
 
 pub returns-in-Err-clause-starts : goal.returns-in-Err-clause-starts
 returns-in-Err-clause-starts g c locks =
-    rw c.refused.ensures (goes-still c.args.s.number Outside Alive Outside Alive _ _ _ refl (λ f. f) (λ u other. refl) (λ h shown dead left total. forgoes-outside g.S.Statements.stands g.met.S.Statements.orderly c.args.s.number (shared c.args.word.now h locks dead) c.args.item left total))
+    rw c.refused.ensures (goes-still c.args.s.number Outside Alive Outside Alive _ _ _ refl (λ f. f) (λ u other. refl) (nearer-said c.args.s.number _ _ _ _ c.args.item refl) (λ h shown dead left total. forgoes-outside g.S.Statements.stands g.met.S.Statements.orderly c.args.s.number (shared c.args.word.now h locks dead) c.args.item left total))
 
 pub returns-then-writes-clause-cause : goal.returns-then-writes-clause-cause
 returns-then-writes-clause-cause g c = c.begin_writing.ensures.cause c.args.word.now

@@ -1,13 +1,12 @@
-use Rattle.std.proofs.Common.{◌≡◌, ◌<◌, Some, [], refl, sym, ap, ◌∙◌, arith}
+use Rattle.std.proofs.Common.{◌≡◌, Some, refl, sym, ap, ◌∙◌, arith}
 use Rattle.std.specs.Prelude.{slice_get}
 use Rattle.member_memory.specs.Memory.{Memory}
 use Rattle.disk_store.specs.declared.member.Member.{Member}
-use Rattle.disk_store.specs.declared.member.MemberStage.TheVariants as stage
-use Rattle.disk_store.specs.Dying.{forgotten}
-use Rattle.disk_store.specs.Memory.{StoreMemory, at_stage, begun_with, drawn, with_member, with_number}
+use Rattle.disk_store.specs.Memory.{StoreMemory, begun_with, drawn, with_member, with_number}
 use Rattle.disk_store.specs.Sound.{IsSound}
 use Rattle.disk_store.proofs.Members.{lent-there, set-long}
-use Rattle.disk_store.proofs.Sound.{sound-member, sound-with, sound-as, sound-empty, keeps-lines, loses-lines}
+use Rattle.disk_store.proofs.Sound.{sound-with, sound-empty, loses-lines}
+use Rattle.disk_store.proofs.CommitsKept.{free-kept, numbers-kept}
 use Rattle.disk_store.proofs.held.Held.draw_number.Goals as goal
 
 pub invariant_of-self : goal.invariant_of-self
@@ -24,7 +23,7 @@ invariant_of-self c =
     let below = c.requires.below in
     let first = sound.first in
     let last = sound.last in
-    (set-long i.members.items s n ∙ c.self.invariant.0, sound-with h s m n is sound (sound-empty h.tables n first (omega (arith, next, ceiling, below, last)) c.new.ensures) (loses-lines m n (ap (λ (w : Memory). w.lines) c.new.ensures) refl) (drawn i.numbers) (omega (arith, first)) last (record { limited = sound.allowed.limited; applied = sound.allowed.applied; written = sound.allowed.written }))
+    (set-long i.members.items s n ∙ c.self.invariant.0, sound-with h s m n is sound (sound-empty h.tables n first (omega (arith, next, ceiling, below, last)) c.new.ensures) (loses-lines m n (ap (λ (w : Memory). w.lines) c.new.ensures) refl) (drawn i.numbers) (omega (arith, first)) last (record { limited = sound.allowed.limited; applied = sound.allowed.applied; written = sound.allowed.written }), numbers-kept (with_member s n h) (drawn i.numbers) (free-kept h s m n c.requires.member is refl c.self.invariant.2))
 
 pub returns : goal.returns
 returns c =

@@ -1,13 +1,13 @@
-use Rattle.std.proofs.Common.{◌≡◌, ◌<◌, Some, [], refl, sym, ap, ◌∙◌, arith}
+use Rattle.std.proofs.Common.{◌≡◌, Some, refl, sym, ap, ◌∙◌, arith}
 use Rattle.std.specs.Prelude.{slice_get}
 use Rattle.member_memory.specs.Memory.{Memory}
 use Rattle.disk_store.specs.declared.member.Member.{Member}
-use Rattle.disk_store.specs.declared.member.MemberStage.TheVariants as stage
 use Rattle.disk_store.specs.Dying.{forgotten}
-use Rattle.disk_store.specs.Memory.{StoreMemory, at_stage, begun_with, drawn, with_member, with_number}
+use Rattle.disk_store.specs.Memory.{StoreMemory, with_member}
 use Rattle.disk_store.specs.Sound.{IsSound}
 use Rattle.disk_store.proofs.Members.{lent-there, set-long}
-use Rattle.disk_store.proofs.Sound.{sound-member, sound-with, sound-as, sound-empty, keeps-lines, loses-lines}
+use Rattle.disk_store.proofs.Sound.{sound-member, sound-empty, loses-lines}
+use Rattle.disk_store.proofs.CommitsKept.{free-kept}
 use Rattle.disk_store.proofs.held.Held.forget.Goals as goal
 
 pub invariant_of-self : goal.invariant_of-self
@@ -15,19 +15,19 @@ invariant_of-self c =
     let i = c.self.inside in
     let s = c.args.s.number in
     let m : Member = c.index_mut-member.result.now in
-    let is : slice_get i.members.items s ≡ Some m = lent-there i.members.items s m (omega (arith, c.self.invariant.0, c.requires.last)) c.index_mut-member.ensures.value in
+    let is : slice_get i.members.items s ≡ Some m = lent-there i.members.items s m (omega (arith, c.self.invariant.0, c.requires.member.last)) c.index_mut-member.ensures.value in
     let h : StoreMemory = record { limits = i.limits; numbers = i.numbers; next = i.next; tables = i.tables; slots = i.slots; members = i.members.items } in
     let sound : IsSound h = c.self.invariant.1 in
     let n : Member = record m { stage = c.args.next; written = c.new.result } in
     let old = sound.each s m is in
-    (set-long i.members.items s n ∙ c.self.invariant.0, sound-member h s m n is sound (sound-empty h.tables n old.first old.last c.new.ensures) (loses-lines m n (ap (λ (w : Memory). w.lines) c.new.ensures) refl))
+    (set-long i.members.items s n ∙ c.self.invariant.0, sound-member h s m n is sound (sound-empty h.tables n old.first old.last c.new.ensures) (loses-lines m n (ap (λ (w : Memory). w.lines) c.new.ensures) refl), free-kept h s m n c.requires.member is c.requires.free c.self.invariant.2)
 
 pub returns : goal.returns
 returns c =
     let i = c.self.inside in
     let s = c.args.s.number in
     let m : Member = c.index_mut-member.result.now in
-    let is : slice_get i.members.items s ≡ Some m = lent-there i.members.items s m (omega (arith, c.self.invariant.0, c.requires.last)) c.index_mut-member.ensures.value in
+    let is : slice_get i.members.items s ≡ Some m = lent-there i.members.items s m (omega (arith, c.self.invariant.0, c.requires.member.last)) c.index_mut-member.ensures.value in
     let h : StoreMemory = record { limits = i.limits; numbers = i.numbers; next = i.next; tables = i.tables; slots = i.slots; members = i.members.items } in
     let sound : IsSound h = c.self.invariant.1 in (
       m,

@@ -1,4 +1,4 @@
-use Rattle.std.proofs.Common.{◌≡◌, ◌<◌, Some, refl, sym, ap, ◌∙◌, arith}
+use Rattle.std.proofs.Common.{◌≡◌, Some, refl, sym, ap, ◌∙◌, arith}
 use Rattle.std.specs.Prelude.{slice_get}
 use Rattle.disk_store.specs.declared.member.Member.{Member}
 use Rattle.disk_store.specs.Memory.{StoreMemory, with_member}
@@ -6,6 +6,7 @@ use Rattle.disk_store.specs.Readers.{keeping}
 use Rattle.disk_store.specs.Sound.{IsSound}
 use Rattle.disk_store.proofs.Members.{lent-there, set-long}
 use Rattle.disk_store.proofs.Sound.{sound-member, sound-as, keeps-lines}
+use Rattle.disk_store.proofs.CommitsKept.{free-kept}
 use Rattle.disk_store.proofs.held.Held.keep_start.Goals as goal
 
 pub invariant_of-self : goal.invariant_of-self
@@ -13,16 +14,16 @@ invariant_of-self c =
     let i = c.self.inside in
     let s = c.args.s.number in
     let m : Member = c.index_mut-member.result.now in
-    let is : slice_get i.members.items s ≡ Some m = lent-there i.members.items s m (omega (arith, c.self.invariant.0, c.requires.last)) c.index_mut-member.ensures.value in
+    let is : slice_get i.members.items s ≡ Some m = lent-there i.members.items s m (omega (arith, c.self.invariant.0, c.requires.member.last)) c.index_mut-member.ensures.value in
     let h : StoreMemory = record { limits = i.limits; numbers = i.numbers; next = i.next; tables = i.tables; slots = i.slots; members = i.members.items } in
     let sound : IsSound h = c.self.invariant.1 in
     let n : Member = keeping c.args.next c.args.reader m in
-    (set-long i.members.items s n ∙ c.self.invariant.0, sound-member h s m n is sound (sound-as h.tables m n refl refl (sound.each s m is)) (keeps-lines m n refl refl))
+    (set-long i.members.items s n ∙ c.self.invariant.0, sound-member h s m n is sound (sound-as h.tables m n refl refl (sound.each s m is)) (keeps-lines m n refl refl), free-kept h s m n c.requires.member is c.requires.free c.self.invariant.2)
 
 pub returns : goal.returns
 returns c =
     let i = c.self.inside in
     let s = c.args.s.number in
     let m : Member = c.index_mut-member.result.now in
-    let is : slice_get i.members.items s ≡ Some m = lent-there i.members.items s m (omega (arith, c.self.invariant.0, c.requires.last)) c.index_mut-member.ensures.value in
+    let is : slice_get i.members.items s ≡ Some m = lent-there i.members.items s m (omega (arith, c.self.invariant.0, c.requires.member.last)) c.index_mut-member.ensures.value in
     (m, ap (λ (h : StoreMemory). slice_get h.members s) (sym c.self.view_is) ∙ is, ap (λ (h : StoreMemory). with_member s (keeping c.args.next c.args.reader m) h) c.self.view_is)

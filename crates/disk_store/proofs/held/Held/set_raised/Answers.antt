@@ -1,13 +1,14 @@
-use Rattle.std.proofs.Common.{◌≡◌, ◌<◌, Some, refl, sym, ap, ◌∙◌, arith}
+use Rattle.std.proofs.Common.{◌≡◌, Some, refl, sym, ap, ◌∙◌, arith}
 use Rattle.std.specs.Prelude.{slice_get}
 use Rattle.disk_store.specs.declared.member.Ceiling.TheVariants.{Raised}
 use Rattle.disk_store.specs.declared.member.Member.{Member}
 use Rattle.disk_store.specs.declared.member.MemberStage.TheVariants as stage
-use Rattle.disk_store.specs.Memory.{StoreMemory, at_stage}
+use Rattle.disk_store.specs.Memory.{StoreMemory, with_member, at_stage}
 use Rattle.disk_store.specs.Numbers.{raised_to, with_raised}
 use Rattle.disk_store.specs.Sound.{IsSound}
 use Rattle.disk_store.proofs.Members.{lent-there, set-long}
 use Rattle.disk_store.proofs.Sound.{sound-with, sound-as, keeps-lines}
+use Rattle.disk_store.proofs.CommitsKept.{free-kept, numbers-kept}
 use Rattle.disk_store.proofs.held.Held.set_raised.Goals as goal
 
 pub invariant_of-self : goal.invariant_of-self
@@ -19,7 +20,7 @@ invariant_of-self c =
     let h : StoreMemory = record { limits = i.limits; numbers = i.numbers; next = i.next; tables = i.tables; slots = i.slots; members = i.members.items } in
     let sound : IsSound h = c.self.invariant.1 in
     let n : Member = at_stage (stage.Beginning Raised) m in
-    (set-long i.members.items s n ∙ c.self.invariant.0, sound-with h s m n is sound (sound-as h.tables m n refl refl (sound.each s m is)) (keeps-lines m n refl refl) (raised_to c.args.ceiling i.numbers) sound.first sound.last (record { limited = sound.allowed.limited; applied = sound.allowed.applied; written = c.requires.allowed }))
+    (set-long i.members.items s n ∙ c.self.invariant.0, sound-with h s m n is sound (sound-as h.tables m n refl refl (sound.each s m is)) (keeps-lines m n refl refl) (raised_to c.args.ceiling i.numbers) sound.first sound.last (record { limited = sound.allowed.limited; applied = sound.allowed.applied; written = c.requires.allowed }), numbers-kept (with_member s n h) (raised_to c.args.ceiling i.numbers) (free-kept h s m n c.requires.member is refl c.self.invariant.2))
 
 pub returns-clause-comes : goal.returns-clause-comes
 returns-clause-comes c =

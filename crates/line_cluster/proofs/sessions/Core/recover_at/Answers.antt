@@ -1,9 +1,11 @@
-use Rattle.std.proofs.Common.{◌∙◌, ◌+◌, ◌++◌, sym, ap, map, Result, slice_set, append-nil}
+use Rattle.std.proofs.Common.{◌∙◌, ◌+◌, ◌++◌, sym, ap, refl, map, Result, slice_set, append-nil}
 use Rattle.rdb_account.specs.Events.{event_of}
 use Rattle.line_store.specs.declared.answers.Fault.{Fault}
 use Rattle.session_states.specs.declared.stage.Life.{Life}
 use Rattle.stage_steps.specs.declared.dying.Recovery.{Recovery}
-use Rattle.stage_steps.specs.Deaths.{recovery_events}
+use Rattle.stage_steps.specs.Deaths.{life_behind, recovery_events}
+use Rattle.line_cluster.specs.Turned.{with_life}
+use Rattle.line_cluster.proofs.Coming.{has-recovered-on, put-back}
 use Rattle.line_cluster.proofs.Falling.{has-recovered, dead-stands, died-at}
 use Rattle.line_cluster.proofs.sessions.Core.recover_at.Goals as goal
 
@@ -21,3 +23,19 @@ returns-in-Err-clause-sound g c =
     has-recovered g.S.Statements.stands g.met.S.Statements.orderly g.O.Origin.told g.O.Origin.opening _ _ _ _ _ _ c.args.at c.take_member-left.result c.recover-step.result _ _ c.requires.going c.take_member-left.ensures.taken (died-at c.args.self.now.members.items c.args.at c.take_member-left.result c.requires.dead c.take_member-left.ensures.taken) c.requires.sound (c.recover-step.ensures c.take_member-left.result.phase)
     (c.put_member.ensures ∙ (c.take_member-left.ensures.rest _ ∙ ap (λ (l : Life). slice_set c.args.self.now.members.items c.args.at (record { left = c.take_member-left.result.left; total = c.take_member-left.result.total; phase = c.take_member-left.result.phase; life = l })) c.life_behind.ensures))
     (sym (append-nil _) ∙ ap (λ (r : Result Recovery Fault). map event_of c.args.self.now.events.items ++ recovery_events (c.args.at + 1) r) (sym c.in-Err.is))
+
+pub returns-in-Ok-clause-came : goal.returns-in-Ok-clause-came
+returns-in-Ok-clause-came g c =
+    has-recovered-on c.args.at _ _ c.take_member-left.result c.recover-step.result c.take_member-left.ensures.taken (died-at c.args.self.now.members.items c.args.at c.take_member-left.result c.requires.dead c.take_member-left.ensures.taken)
+    (c.put_member.ensures ∙ (c.take_member-left.ensures.rest _ ∙ ap (λ (l : Life). slice_set c.args.self.now.members.items c.args.at (with_life l c.take_member-left.result)) c.life_behind.ensures))
+    (c.record_recovery.ensures ∙ ap (λ (r : Result Recovery Fault). map event_of c.args.self.now.events.items ++ recovery_events (c.args.at + 1) r) (sym c.in-Ok.is))
+
+pub returns-in-Err-clause-came : goal.returns-in-Err-clause-came
+returns-in-Err-clause-came g c = record {
+  halted = refl;
+  members =
+      c.put_member.ensures ∙ (c.take_member-left.ensures.rest _
+      ∙ (ap (λ (l : Life). slice_set c.args.self.now.members.items c.args.at (with_life l c.take_member-left.result)) (c.life_behind.ensures ∙ ap life_behind c.in-Err.is)
+      ∙ put-back c.args.self.now.members.items c.args.at c.take_member-left.result c.take_member-left.ensures.taken (died-at c.args.self.now.members.items c.args.at c.take_member-left.result c.requires.dead c.take_member-left.ensures.taken)));
+  events = refl;
+}

@@ -1,13 +1,27 @@
-use Rattle.std.proofs.Common.{sym, append-nil, refl}
+use Rattle.std.proofs.Common.{sym, ◌∙◌, ◌++◌, ap, map, append-nil}
+use Rattle.rdb_account.specs.Events.{event_of}
+use Rattle.stage_steps.specs.Notices.{demoted_by}
 use Rattle.line_cluster.proofs.Stepping.{served}
-use Rattle.line_cluster.proofs.Coming.{came-from}
+use Rattle.line_cluster.proofs.Nearing.{spare-writes}
 use Rattle.line_cluster.proofs.sessions.Core.serve_notice.Goals as goal
 
-pub stop-requires : goal.stop-requires
-stop-requires g c = record { sound = served g.S.Statements.stands g.met.S.Statements.orderly g.O.Origin.told g.O.Origin.opening _ _ _ _ _ _ _ _ _ _ _ c.requires.going c.requires.lives (c.has_writer.ensures c.if-not-has_writer.false) c.requires.sound c.serve.ensures.parties c.in-Err.ensures.err (sym (append-nil _)) }
+pub returns-then-is_err-clause-writer : goal.returns-then-is_err-clause-writer
+returns-then-is_err-clause-writer g c = spare-writes (g.L.LineStore.sight c.args.self.now.common.store).stand c.args.self.now.common.tree c.args.self.now.members.items (c.requires.sound.seated c.requires.going) c.blocker.ensures.whole c.requires.lives c.args.notice.to.number c.args.notice.node c.requires.due
+
+pub returns-in-Ok-clause-writer : goal.returns-in-Ok-clause-writer
+returns-in-Ok-clause-writer g c = spare-writes (g.L.LineStore.sight c.args.self.now.common.store).stand c.args.self.now.common.tree c.args.self.now.members.items (c.requires.sound.seated c.requires.going) c.blocker.ensures.whole c.requires.lives c.args.notice.to.number c.args.notice.node c.requires.due
+
+pub returns-in-Err-clause-writer : goal.returns-in-Err-clause-writer
+returns-in-Err-clause-writer g c = spare-writes (g.L.LineStore.sight c.args.self.now.common.store).stand c.args.self.now.common.tree c.args.self.now.members.items (c.requires.sound.seated c.requires.going) c.blocker.ensures.whole c.requires.lives c.args.notice.to.number c.args.notice.node c.requires.due
+
+pub stop-requires-in-Err : goal.stop-requires-in-Err
+stop-requires-in-Err g c = record {
+  sound = served g.S.Statements.stands g.met.S.Statements.orderly g.O.Origin.told g.O.Origin.opening _ _ _ _ _ _ _ _ _ _ _ c.requires.going c.requires.lives
+      (spare-writes (g.L.LineStore.sight c.args.self.now.common.store).stand c.args.self.now.common.tree c.args.self.now.members.items (c.requires.sound.seated c.requires.going) c.blocker.ensures.whole c.requires.lives c.args.notice.to.number c.args.notice.node c.requires.due)
+      c.requires.sound c.serve.ensures.parties c.in-Err.ensures.err (ap (λ es. map event_of es) c.reserve_step.ensures.same ∙ sym (append-nil _));
+}
 
 pub returns-in-Ok-clause-sound : goal.returns-in-Ok-clause-sound
-returns-in-Ok-clause-sound g c = served g.S.Statements.stands g.met.S.Statements.orderly g.O.Origin.told g.O.Origin.opening _ _ _ _ _ _ _ _ _ _ _ c.requires.going c.requires.lives (c.has_writer.ensures c.if-not-has_writer.false) c.requires.sound c.serve.ensures.parties c.in-Ok.ensures.served c.record_demotion.ensures
-
-pub returns-in-Err-clause-came : goal.returns-in-Err-clause-came
-returns-in-Err-clause-came g c = came-from c.args.s.number _ _ _ c.stop.result refl refl c.stop.ensures.on (c.stop.ensures.came c.args.s.number)
+returns-in-Ok-clause-sound g c = served g.S.Statements.stands g.met.S.Statements.orderly g.O.Origin.told g.O.Origin.opening _ _ _ _ _ _ _ _ _ _ _ c.requires.going c.requires.lives
+    (spare-writes (g.L.LineStore.sight c.args.self.now.common.store).stand c.args.self.now.common.tree c.args.self.now.members.items (c.requires.sound.seated c.requires.going) c.blocker.ensures.whole c.requires.lives c.args.notice.to.number c.args.notice.node c.requires.due)
+    c.requires.sound c.serve.ensures.parties c.in-Ok.ensures.served (c.record_demotion.ensures ∙ ap (λ es. map event_of es ++ demoted_by c.args.notice.to.number c.args.notice.node c.in-Ok.demotion) c.reserve_step.ensures.same)

@@ -1,7 +1,14 @@
-use Rattle.std.proofs.Common.{◌∙◌, refl}
-use Rattle.stage_steps.specs.Scenes.{scene}
-use Rattle.line_cluster.proofs.Coming.{went}
-use Rattle.line_cluster.proofs.Stepping.{among, seated-at, work-alive, going-on, turned}
+use Rattle.std.proofs.Common.{◌∙◌, ℕ, List, refl, sym, ap, subst, is_some}
+use Rattle.line_store.specs.Sights.{Sight}
+use Rattle.session_states.specs.declared.stage.Member.{Member}
+use Rattle.rdb_drive.specs.Boards.{Less}
+use Rattle.stage_steps.specs.Scenes.{Scene, beside, scene}
+use Rattle.line_arms.specs.declared.allotment.Allotment.{Allotment}
+use Rattle.line_cluster.specs.Measured.{measure_by}
+use Rattle.line_cluster.specs.Turned.{Sessions, sessions, rounds_at}
+use Rattle.line_cluster.proofs.Coming.{went, went-served, came-by}
+use Rattle.line_cluster.proofs.Nearing.{lives-on, turned-nearer, served-nearer, is-due}
+use Rattle.line_cluster.proofs.Stepping.{among, seated-at, work-alive, going-on, moving-keeps, noticed-keeps, turned}
 use Rattle.line_cluster.proofs.sessions.Core.step.Goals as goal
 
 pub go_on-turned-requires-clause-seated : goal.go_on-turned-requires-clause-seated
@@ -13,26 +20,81 @@ go_on-turned-requires-clause-among g c = among (scene c.args.self.now.common.wor
 pub go_on-turned-requires-clause-going : goal.go_on-turned-requires-clause-going
 go_on-turned-requires-clause-going g c = going-on c.take_member-left.result (work-alive c.take_member-left.result (c.requires.work c.take_member-left.result c.take_member-left.ensures.taken)) (c.requires.work c.take_member-left.result c.take_member-left.ensures.taken)
 
-pub returns-in-None-clause-sound : goal.returns-in-None-clause-sound
-returns-in-None-clause-sound g c =
+pub returns-in-Nothing-clause-sound : goal.returns-in-Nothing-clause-sound
+returns-in-Nothing-clause-sound g c =
     turned g.S.Statements.stands g.met.S.Statements.orderly g.O.Origin.told g.O.Origin.opening _ _ _ _ _ _ c.args.s.number c.args.at c.take_member-left.result _ _ _ _ _ c.requires.one.first c.requires.at c.requires.going c.requires.lives c.take_member-left.ensures.taken
-    (work-alive c.take_member-left.result (c.requires.work c.take_member-left.result c.take_member-left.ensures.taken)) c.requires.sound c.go_on-turned.ensures (λ none. c.settle.ensures.going c.in-None.is)
-    (c.put_member.ensures ∙ c.take_member-left.ensures.rest _) c.settle.ensures.events
+    (work-alive c.take_member-left.result (c.requires.work c.take_member-left.result c.take_member-left.ensures.taken)) c.requires.sound c.go_on-turned.ensures.goes (λ none. moving-keeps _ (c.behind_of-then.ensures.nothing c.in-Nothing.is)) (c.put_member.ensures ∙ c.take_member-left.ensures.rest _) c.record.ensures
 
-pub returns-in-Some-clause-sound : goal.returns-in-Some-clause-sound
-returns-in-Some-clause-sound g c =
+pub returns-in-Stop-clause-sound : goal.returns-in-Stop-clause-sound
+returns-in-Stop-clause-sound g c =
     turned g.S.Statements.stands g.met.S.Statements.orderly g.O.Origin.told g.O.Origin.opening _ _ _ _ _ _ c.args.s.number c.args.at c.take_member-left.result _ _ _ _ _ c.requires.one.first c.requires.at c.requires.going c.requires.lives c.take_member-left.ensures.taken
-    (work-alive c.take_member-left.result (c.requires.work c.take_member-left.result c.take_member-left.ensures.taken)) c.requires.sound c.go_on-turned.ensures (λ none. cc none)
-    (c.put_member.ensures ∙ c.take_member-left.ensures.rest _) c.settle.ensures.events
+    (work-alive c.take_member-left.result (c.requires.work c.take_member-left.result c.take_member-left.ensures.taken)) c.requires.sound c.go_on-turned.ensures.goes (λ none. cc none) (c.put_member.ensures ∙ c.take_member-left.ensures.rest _) c.record.ensures
 
-pub returns-in-None-clause-came : goal.returns-in-None-clause-came
-returns-in-None-clause-came g c =
+pub serve_notice-requires-clause-sound : goal.serve_notice-requires-clause-sound
+serve_notice-requires-clause-sound g c =
+    turned g.S.Statements.stands g.met.S.Statements.orderly g.O.Origin.told g.O.Origin.opening _ _ _ _ _ _ c.args.s.number c.args.at c.take_member-left.result _ _ _ _ _ c.requires.one.first c.requires.at c.requires.going c.requires.lives c.take_member-left.ensures.taken
+    (work-alive c.take_member-left.result (c.requires.work c.take_member-left.result c.take_member-left.ensures.taken)) c.requires.sound c.go_on-turned.ensures.goes (λ none. noticed-keeps _ _ (c.behind_of-then.ensures.serve c.in-Serve.notice c.in-Serve.is)) (c.put_member.ensures ∙ c.take_member-left.ensures.rest _) c.record.ensures
+
+pub serve_notice-requires-clause-lives : goal.serve_notice-requires-clause-lives
+serve_notice-requires-clause-lives g c = lives-on _ _ c.args.at c.take_member-left.result _ _ c.take_member-left.ensures.taken (c.put_member.ensures ∙ c.take_member-left.ensures.rest _) c.requires.lives
+
+pub returns-in-Nothing-clause-came : goal.returns-in-Nothing-clause-came
+returns-in-Nothing-clause-came g c =
     went c.args.s.number c.args.at _ _ c.take_member-left.result _ c.go_on-turned.result.happened c.requires.at c.take_member-left.ensures.taken (c.requires.work c.take_member-left.result c.take_member-left.ensures.taken) refl
-    (c.put_member.ensures ∙ c.take_member-left.ensures.rest _) c.settle.ensures.events
+    (c.put_member.ensures ∙ c.take_member-left.ensures.rest _) c.record.ensures
 
-pub returns-in-Some-clause-came : goal.returns-in-Some-clause-came
-returns-in-Some-clause-came g c = (
+pub returns-in-Stop-clause-came : goal.returns-in-Stop-clause-came
+returns-in-Stop-clause-came g c = (
   refl,
   went c.args.s.number c.args.at _ _ c.take_member-left.result _ c.go_on-turned.result.happened c.requires.at c.take_member-left.ensures.taken (c.requires.work c.take_member-left.result c.take_member-left.ensures.taken) refl
-      (c.put_member.ensures ∙ c.take_member-left.ensures.rest _) c.settle.ensures.events,
+      (c.put_member.ensures ∙ c.take_member-left.ensures.rest _) c.record.ensures,
 )
+
+pub serve_notice-requires-clause-due : goal.serve_notice-requires-clause-due
+serve_notice-requires-clause-due g c =
+    let sight = g.L.LineStore.sight in
+    let was : Scene = scene c.args.self.now.common.word (sight c.args.self.now.common.store) c.args.self.now.common.tree in
+    let is : Scene = scene c.go_on-turned.new.common.word (sight c.go_on-turned.new.common.store) c.go_on-turned.new.common.tree in
+    is-due g.S.Statements.stands c.args.s.number c.args.at was is c.args.self.now.members.items c.put_member.new.members.items c.args.self.now.allotments c.put.new.self c.take_member-left.result c.go_on-turned.new.left c.go_on-turned.result.phase c.go_on-turned.result.happened c.take-allotment.result c.go_on-turned.new.allotment c.args.self.now.halt
+    c.requires.one.first c.requires.at c.requires.going (work-alive c.take_member-left.result (c.requires.work c.take_member-left.result c.take_member-left.ensures.taken)) c.take_member-left.ensures.taken c.take-allotment.ensures.taken c.go_on-turned.ensures.rounds
+    (c.go_on-turned.ensures.goes (noticed-keeps _ _ (c.behind_of-then.ensures.serve c.in-Serve.notice c.in-Serve.is))) (c.put_member.ensures ∙ c.take_member-left.ensures.rest _) (c.put.ensures ∙ c.take-allotment.ensures.rest _)
+    c.in-Serve.notice (c.behind_of-then.ensures.serve c.in-Serve.notice c.in-Serve.is)
+
+pub returns-in-Nothing-clause-nearer : goal.returns-in-Nothing-clause-nearer
+returns-in-Nothing-clause-nearer g c = λ moved awake.
+    let sight = g.L.LineStore.sight in
+    let was : Scene = scene c.args.self.now.common.word (sight c.args.self.now.common.store) c.args.self.now.common.tree in
+    let is : Scene = scene c.go_on-turned.new.common.word (sight c.go_on-turned.new.common.store) c.go_on-turned.new.common.tree in
+    turned-nearer g.S.Statements.stands c.args.s.number c.args.at was is c.args.self.now.members.items c.put_member.new.members.items c.args.self.now.allotments c.put.new.self c.take_member-left.result c.go_on-turned.new.left c.go_on-turned.result.phase c.go_on-turned.result.happened c.take-allotment.result c.go_on-turned.new.allotment c.args.self.now.halt
+    c.requires.one.first c.requires.at c.requires.going (work-alive c.take_member-left.result (c.requires.work c.take_member-left.result c.take_member-left.ensures.taken)) c.take_member-left.ensures.taken c.take-allotment.ensures.taken c.go_on-turned.ensures.rounds
+    (c.go_on-turned.ensures.goes (moving-keeps _ (c.behind_of-then.ensures.nothing c.in-Nothing.is))) (c.put_member.ensures ∙ c.take_member-left.ensures.rest _) (c.put.ensures ∙ c.take-allotment.ensures.rest _)
+    c.args.self.now.halt c.requires.going (c.behind_of-then.ensures.nothing c.in-Nothing.is) awake
+
+pub returns-in-Serve-clause-came : goal.returns-in-Serve-clause-came
+returns-in-Serve-clause-came g c =
+    let old : Sessions = sessions c.args.self.now.members.items c.args.self.now.events.items c.args.self.now.allotments (g.L.LineStore.sight c.args.self.now.common.store) c.args.self.now.common.tree c.args.self.now.halt in
+    let mid : Sessions = sessions c.put_member.new.members.items c.record.new.events.items c.put.new.self (g.L.LineStore.sight c.go_on-turned.new.common.store) c.go_on-turned.new.common.tree c.args.self.now.halt in
+    came-by c.args.s.number _ _ c.serve_notice.result c.serve_notice.ensures.on
+    (went-served c.args.s.number old mid _
+    (went c.args.s.number c.args.at old mid c.take_member-left.result _ c.go_on-turned.result.happened c.requires.at c.take_member-left.ensures.taken (c.requires.work c.take_member-left.result c.take_member-left.ensures.taken) refl
+    (c.put_member.ensures ∙ c.take_member-left.ensures.rest _) c.record.ensures)
+    c.serve_notice.ensures.members c.serve_notice.ensures.events)
+    c.serve_notice.ensures.halted
+
+pub returns-in-Serve-clause-nearer : goal.returns-in-Serve-clause-nearer
+returns-in-Serve-clause-nearer g c = λ moved awake.
+    let sight = g.L.LineStore.sight in
+    let was : Scene = scene c.args.self.now.common.word (sight c.args.self.now.common.store) c.args.self.now.common.tree in
+    let is : Scene = scene c.go_on-turned.new.common.word (sight c.go_on-turned.new.common.store) c.go_on-turned.new.common.tree in
+    let served = c.serve_notice.ensures.falls moved in
+    let before : List ℕ = measure_by (is_some c.args.self.now.halt) c.args.self.now.members.items (rounds_at c.args.self.now.allotments) (beside was) in
+    let halt = c.serve_notice.new.self.halt in
+    let tree = c.serve_notice.new.self.common.tree in
+    let then : Sight = sight c.serve_notice.new.self.common.store in
+    subst (λ (xs : List Member). Less (measure_by (is_some halt) xs (rounds_at c.serve_notice.new.self.allotments) (record { locks = tree; steps = then.steps })) before) (sym c.serve_notice.ensures.members)
+    (subst (λ (xs : List Allotment). Less (measure_by (is_some halt) c.put_member.new.members.items (rounds_at xs) (record { locks = tree; steps = then.steps })) before) (sym c.serve_notice.ensures.allotments)
+    (subst (λ (v : Sight). Less (measure_by (is_some halt) c.put_member.new.members.items (rounds_at c.put.new.self) (record { locks = tree; steps = v.steps })) before) (sym (ap sight c.serve_notice.ensures.store))
+    (served-nearer g.S.Statements.stands c.args.s.number c.args.at was is c.args.self.now.members.items c.put_member.new.members.items c.args.self.now.allotments c.put.new.self c.take_member-left.result c.go_on-turned.new.left c.go_on-turned.result.phase c.go_on-turned.result.happened c.take-allotment.result c.go_on-turned.new.allotment c.args.self.now.halt
+    c.requires.one.first c.requires.at c.requires.going (work-alive c.take_member-left.result (c.requires.work c.take_member-left.result c.take_member-left.ensures.taken)) c.take_member-left.ensures.taken c.take-allotment.ensures.taken c.go_on-turned.ensures.rounds
+    (c.go_on-turned.ensures.goes (noticed-keeps _ _ (c.behind_of-then.ensures.serve c.in-Serve.notice c.in-Serve.is))) (c.put_member.ensures ∙ c.take_member-left.ensures.rest _) (c.put.ensures ∙ c.take-allotment.ensures.rest _)
+    halt tree c.in-Serve.notice served.0 (c.behind_of-then.ensures.serve c.in-Serve.notice c.in-Serve.is) c.serve_notice.ensures.parties c.serve_notice.ensures.writer served.1)))

@@ -1,23 +1,17 @@
-use Rattle.std.proofs.Common.{◌≡◌, ◌-◌, ℕ, suc, sym, ◌∙◌, ap, subst, refl, IfSome, slice_get, false, true, List}
-use Rattle.rdb_account.specs.Places.{place, next_item}
-use Rattle.rdb_account.specs.Events.{event_of}
+use Rattle.std.proofs.Common.{◌-◌, sym, ◌∙◌, ap, refl, slice_get, false, true, List}
 use Rattle.session_states.specs.declared.stage.Member.{Member}
+use Rattle.session_stands.specs.Sessions.{dead_in}
 use Rattle.line_cluster.specs.Turned.{sessions}
 use Rattle.line_cluster.proofs.Coming.{came-from, looked, none-from, on-rests, some-found}
 use Rattle.line_cluster.proofs.Places.{suc-less}
-use Rattle.line_cluster.proofs.Resting.{asleep-rests-at, over-rests-at}
+use Rattle.line_cluster.proofs.Resting.{asleep-rests-at}
 use Rattle.line_cluster.proofs.sessions.Core.turn.Goals as goal
 
 pub returns-then-is_some-2-clause-came : goal.returns-then-is_some-2-clause-came
 returns-then-is_some-2-clause-came g c = (refl, some-found c.args.self.now.members.items c.deref.result.now c.first_dead.result c.deref.ensures.value c.first_dead.ensures.dead (sym c.is_some-2.ensures ∙ c.if-is_some-2.true))
 
 pub returns-then-is_over-clause-came : goal.returns-then-is_over-clause-came
-returns-then-is_over-clause-came g c = (refl, record { member = c.member_at.result.now; found = (ap (λ (ms : List Member). slice_get ms (c.args.s.number - 1)) (sym c.deref-2.ensures.value) ∙ c.member_at.ensures); over = sym c.is_over.ensures ∙ c.if-is_over.true })
-
-pub returns-then-is_over-clause-rests : goal.returns-then-is_over-clause-rests
-returns-then-is_over-clause-rests g c = λ told m found alive.
-    over-rests-at g.S.Statements.stands g.O.Origin.opening _ _ _ _ _ c.args.s.number m (c.requires.sound.kept (none-from _ (sym c.is_some.ensures ∙ c.if-is_some.false)) told) c.requires.one.first found alive
-    (looked c.args.self.now.members.items (c.args.s.number - 1) c.member_at.result.now m true (ap (λ (ms : List Member). slice_get ms (c.args.s.number - 1)) (sym c.deref-2.ensures.value) ∙ c.member_at.ensures) (sym c.is_over.ensures ∙ c.if-is_over.true) found)
+returns-then-is_over-clause-came g c = (refl, record { member = c.member_at.result.now; found = (ap (λ (ms : List Member). slice_get ms (c.args.s.number - 1)) (sym c.deref-2.ensures.value) ∙ c.member_at.ensures); over = sym c.is_over.ensures ∙ c.if-is_over.true }, ap dead_in (sym c.deref.ensures.value) ∙ c.first_dead.ensures.none (none-from c.first_dead.result (sym c.is_some-2.ensures ∙ c.if-is_some-2.false)))
 
 pub blocker-requires-clause-lives : goal.blocker-requires-clause-lives
 blocker-requires-clause-lives g c = λ m found. looked c.args.self.now.members.items (c.args.s.number - 1) c.member_at.result.now m false (ap (λ (ms : List Member). slice_get ms (c.args.s.number - 1)) (sym c.deref-2.ensures.value) ∙ c.member_at.ensures) (sym c.is_over.ensures ∙ c.if-is_over.false) found
@@ -26,16 +20,13 @@ pub step-requires-clause-work : goal.step-requires-clause-work
 step-requires-clause-work g c = λ m found. looked c.args.self.now.members.items (c.args.s.number - 1) c.member_at.result.now m false (ap (λ (ms : List Member). slice_get ms (c.args.s.number - 1)) (sym c.deref-2.ensures.value) ∙ c.member_at.ensures) (sym c.is_over.ensures ∙ c.if-is_over.false) found
 
 pub returns-in-Some-clause-rests : goal.returns-in-Some-clause-rests
-returns-in-Some-clause-rests g c = λ told. asleep-rests-at g.S.Statements.stands g.O.Origin.opening _ _ _ _ _ c.args.s.number c.in-Some.other.number (sessions c.args.self.now.members.items c.args.self.now.events.items c.args.self.now.common.tree c.args.self.now.halt) (c.requires.sound.kept (none-from _ (sym c.is_some.ensures ∙ c.if-is_some.false)) told) c.requires.one.first c.in-Some.ensures
+returns-in-Some-clause-rests g c = λ told. asleep-rests-at g.S.Statements.stands g.O.Origin.opening _ _ _ _ _ c.args.s.number c.in-Some.other.number (sessions c.args.self.now.members.items c.args.self.now.events.items c.args.self.now.allotments (g.L.LineStore.sight c.args.self.now.common.store) c.args.self.now.common.tree c.args.self.now.halt) (c.requires.sound.kept (none-from _ (sym c.is_some.ensures ∙ c.if-is_some.false)) told) c.requires.one.first c.in-Some.ensures
 
 pub returns-then-is_err-clause-came : goal.returns-then-is_err-clause-came
 returns-then-is_err-clause-came g c = came-from c.args.s.number _ _ _ c.stop.result refl c.reserve_step.ensures.same c.stop.ensures.on (c.stop.ensures.came c.args.s.number)
 
 pub returns-then-is_err-clause-rests : goal.returns-then-is_err-clause-rests
-returns-then-is_err-clause-rests g c = λ told. on-rests g.O.Origin.opening c.args.s.number (sessions c.args.self.now.members.items c.args.self.now.events.items c.args.self.now.common.tree c.args.self.now.halt) c.stop.result c.stop.ensures.on
+returns-then-is_err-clause-rests g c = λ told. on-rests g.O.Origin.opening c.args.s.number (sessions c.args.self.now.members.items c.args.self.now.events.items c.args.self.now.allotments (g.L.LineStore.sight c.args.self.now.common.store) c.args.self.now.common.tree c.args.self.now.halt) c.stop.result c.stop.ensures.on
 
-pub returns-in-Some-due-clause-rests : goal.returns-in-Some-due-clause-rests
-returns-in-Some-due-clause-rests g c = λ told. on-rests g.O.Origin.opening c.args.s.number (sessions c.args.self.now.members.items c.args.self.now.events.items c.args.self.now.common.tree c.args.self.now.halt) c.serve_notice.result c.serve_notice.ensures.on
-
-pub returns-in-None-clause-rests : goal.returns-in-None-clause-rests
-returns-in-None-clause-rests g c = λ told. on-rests g.O.Origin.opening c.args.s.number (sessions c.args.self.now.members.items c.args.self.now.events.items c.args.self.now.common.tree c.args.self.now.halt) c.step.result c.step.ensures.on
+pub returns-clause-rests : goal.returns-clause-rests
+returns-clause-rests g c = λ told. on-rests g.O.Origin.opening c.args.s.number (sessions c.args.self.now.members.items c.args.self.now.events.items c.args.self.now.allotments (g.L.LineStore.sight c.args.self.now.common.store) c.args.self.now.common.tree c.args.self.now.halt) c.step.result c.step.ensures.on

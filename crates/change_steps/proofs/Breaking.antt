@@ -1,0 +1,120 @@
+-- A step of a change that fails: the transaction can only end.
+use Rattle.std.proofs.Common.{◌≡◌, ◌≤◌, ◌+◌, ◌==◌, ◌⊎◌, ℕ, false, IsTrue, List, [], Some, None, inl, refl, sym, ap, subst, ◌∙◌, arith}
+use Rattle.std.specs.Prelude.{slice_get, if◌then◌else◌}
+use Rattle.std.proofs.lemmas.Option.{none-some}
+use Rattle.rdb_outside.specs.Disk.{View, LeavesOnly, IsPending}
+use Rattle.line_view.specs.declared.writes.Write.{Write}
+use Rattle.line_view.specs.Knowledge.{Lines}
+use Rattle.line_store.specs.Seats.{in_flight}
+use Rattle.line_store.specs.Shelves.{Shelf, Space}
+use Rattle.line_store.specs.Calls.{Moves, Fails, HasCause, KeepsSpace}
+use Rattle.line_store.specs.Sights.{bare, Does}
+use Rattle.line_store.specs.declared.answers.Fault.{Fault}
+use Rattle.version_writing.specs.Tables.{HoldsAll}
+use Rattle.disk_seats.specs.Ledgers.{broken, entries_of, Ledger, stands_as}
+use Rattle.disk_seats.specs.Members.{MayEnd, LedgerFacts}
+use Rattle.disk_seats.proofs.MemberCalls.{broken_behind}
+use Rattle.stable_lines.specs.Slots.{ruj_file}
+use Rattle.line_moves.specs.Calls.{OnlyWrites}
+use Rattle.ledger_versions.specs.Readers.{ReaderFacts}
+use Rattle.ledger_versions.proofs.Restanding.{restands, keeps_others}
+use Rattle.member_memory.specs.Memory.{writes_in}
+use Rattle.disk_store.specs.declared.member.Member.{Member}
+use Rattle.disk_store.specs.declared.member.MemberStage.TheVariants as stage
+use Rattle.disk_store.specs.Memory.{StoreMemory}
+use Rattle.disk_store.specs.Numbers.{kept_in}
+use Rattle.disk_store.specs.Seats.{seat_with, stand_of, stand_at}
+use Rattle.disk_store.specs.Standing.{HasBegun, IsBroken, StageStands}
+use Rattle.disk_store.specs.Shown.{NumbersStand, TablesStand, WaitsAs, HaveStarts, Shown, sight_of}
+use Rattle.disk_store.proofs.Moving.{itself}
+use Rattle.disk_store.proofs.Beside.{SameAreas, StaysOf, stays-there}
+use Rattle.disk_store.proofs.Stepping.{ComesTo, Becomes, does-step}
+use Rattle.disk_store.proofs.Passing.{none-leaves}
+
+-- what stays shown behind a device call of a session that changes
+pub record StaysShown (v w : View) (held behind : StoreMemory) (h : Shelf) (shown : Shown v held h) : Type 0 where
+  pub areas : SameAreas v w
+  pub numbered : NumbersStand w shown.ledger behind.numbers behind.next
+  pub kept : behind.numbers.next + kept_in behind.members ≤ behind.numbers.written
+  pub tabled : TablesStand w shown.ledger behind.tables
+  pub used : HaveStarts behind.tables shown.versions.course
+  pub readers : ReaderFacts w shown.ledger behind.limits.snaps shown.versions.course shown.versions.waiting
+  pub slots : HoldsAll w.content shown.versions.course.followed behind.limits.snaps behind.slots
+
+-- nothing is written
+only-none : (w : View) (s : ℕ) → OnlyWrites (ruj_file s) 1 w w
+only-none w s = record { told = refl; later = omega arith; no_fewer = omega arith; pending = λ t f i x other p. p; content = λ t f i other. refl; leaves = λ t. none-leaves w t }
+
+-- who changes may be taken for broken
+pub taken-broken : (w : View) (g : Ledger) (s : ℕ) (m : Member) → IsTrue w.tells → HasBegun g s m → LedgerFacts w g → LedgerFacts w (stands_as s broken g)
+taken-broken w g s m t has facts = broken_behind w w g s t facts has.transaction has.all has.stable 1 has.stands has.is_open (omega arith) (only-none w s) facts.facts
+
+module _ (v w : View) (held behind : StoreMemory) (s : ℕ) (m n : Member) (was : slice_get held.members s ≡ Some m) (at : m.stage ≡ stage.Changing) (becomes : Becomes held behind s n) (breaks : n.stage ≡ stage.Broken) (number : n.tsn ≡ m.tsn) (same : n.written ≡ m.written) (told : w.tells ≡ v.tells)
+    (leaves : IsTrue v.tells → LeavesOnly v w (λ image. IsPending v image ⊎ IsPending w image)) (later : v.moment ≤ w.moment) (no-fewer : v.faults ≤ w.faults)
+    (facts : (h : Shelf) (shown : Shown v held h) → HasBegun shown.ledger s m → LedgerFacts w (stands_as s broken shown.ledger))
+    (stays : (h : Shelf) (shown : Shown v held h) → StaysShown v w held behind h shown)
+    (keeps-space : (space : Space) → KeepsSpace space (becomes.space_of space)) where
+  module _ (h : Shelf) (shown : Shown v held h) (stands : StageStands m.stage v shown.ledger s m) where
+    abbrev g : Ledger
+    g = shown.ledger
+
+    has : HasBegun g s m
+    has = subst (λ x. StageStands x v g s m) at stands
+
+    abbrev after : Ledger
+    after = stands_as s broken g
+
+    kept : StaysShown v w held behind h shown
+    kept = stays h shown
+
+    here : after.standing s ≡ broken
+    here = ap (λ b. if b then broken else g.standing s) (itself s)
+
+    there : (t : ℕ) → (t == s) ≡ false → StaysOf t g after
+    there t apart = record { standing = inl (ap (λ b. if b then broken else g.standing t) apart); going = refl; commit = refl }
+
+    mine : IsBroken after s n
+    mine = record {
+      transaction = has.transaction;
+      is_open = has.is_open;
+      number = number ∙ has.number;
+      may_end = subst MayEnd (sym here) tt;
+      keys = λ i undo got. absurd (none-some undo (ap (λ x. slice_get (entries_of x) i) (sym here) ∙ got));
+    }
+
+    abbrev to-broken : ComesTo v w behind s n g shown.versions.course shown.versions.waiting
+    to-broken = record {
+      ledger = after;
+      facts = facts h shown has;
+      limits = refl;
+      none = λ t apart rests. ap (λ b. if b then broken else g.standing t) apart ∙ rests;
+      others = λ t x apart got stood. stays-there v w g after t kept.areas (there t apart) x stood;
+      mine = subst (λ x. StageStands x w after s n) (sym breaks) mine;
+      numbered = record { number = kept.numbered.number; first = kept.numbered.first; ceiling = kept.numbered.ceiling; group = kept.numbered.group };
+      kept = kept.kept;
+      tabled = record { committed = kept.tabled.committed; classes = kept.tabled.classes; lie = kept.tabled.lie; class = kept.tabled.class; owned = kept.tabled.owned };
+      course_behind = shown.versions.course;
+      waiting_behind = shown.versions.waiting;
+      readers = restands w behind.limits.snaps shown.versions.course shown.versions.waiting g after.standing g.commit g.history g.moments (keeps_others s broken g.standing (λ bad. bad)) kept.readers.its kept.readers.put kept.readers;
+      slots = kept.slots;
+      waits = subst (λ x. WaitsAs x shown.versions.waiting s n) (sym breaks) tt;
+      waits_beside = λ t apart. refl;
+      reads = λ t. refl;
+      used = kept.used;
+    }
+
+  still : (ws : List Write) (start : Lines) → in_flight (seat_with m.stage ws start) ≡ None
+  still ws start = ap (λ x. in_flight (seat_with x ws start)) at
+
+  -- it stays in its seat
+  seated : (start : Lines) → seat_with n.stage (writes_in n.written.lines) start ≡ seat_with m.stage (writes_in m.written.lines) start
+  seated start = ap (λ x. seat_with x (writes_in n.written.lines) start) breaks ∙ ap (λ w. seat_with stage.Changing (writes_in w.lines) start) same ∙ ap (λ x. seat_with x (writes_in m.written.lines) start) (sym at)
+
+  pub does-break : (fault : Fault) → HasCause fault (record { time = v.moment; faults = v.faults }) (record { time = w.moment; faults = w.faults }) → Does s (stand_at held.members s) (λ h g. Fails s fault h g) (sight_of v held) (sight_of w behind)
+  does-break fault cause = subst (λ x. Does s (stand_of x) (λ h g. Fails s fault h g) (sight_of v held) (sight_of w behind)) (sym was)
+      (does-step v w held behind s m n was becomes (λ e. let bad : stage.Broken ≡ stage.Reading = sym breaks ∙ e in cc) told leaves to-broken later no-fewer (stand_of (Some m)) (λ h g. Fails s fault h g) (ap (λ x. bare (seat_with x [] [])) breaks ∙ sym (ap (λ x. bare (seat_with x [] [])) at))
+      still (λ h shown stands. record { lines = refl; commit = refl }) keeps-space
+      (λ h g start related moves. record {
+        moves = subst (λ seat. Moves s seat h g) (seated start ∙ sym related.seat) moves;
+        cause = subst (λ c. HasCause fault h.clock c) (λ i. record { time = sym related.time_behind i; faults = sym related.faults_behind i }) (subst (λ c. HasCause fault c (record { time = w.moment; faults = w.faults })) (λ i. record { time = sym related.shown.lines.time i; faults = sym related.shown.lines.faults i }) cause);
+      }))

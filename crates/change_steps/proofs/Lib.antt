@@ -1,0 +1,11 @@
+mod LeftTo
+mod SnapWritten
+mod Breaking
+mod JournalSteps
+mod WaitMore
+mod PushSteps
+mod PushFaults
+mod ReadFaults
+mod ChangeCalls
+mod NextPushed
+mod ChangeEnds

@@ -1,0 +1,36 @@
+use Rattle.std.proofs.Common.{◌≡◌, Err, sym, ap, subst, ◌∙◌, arith}
+use Rattle.std.proofs.lemmas.Option.{same_Some}
+use Rattle.rdb_outside.specs.Moments.{each_slot}
+use Rattle.line_store.specs.Calls.{Fails}
+use Rattle.line_store.specs.Sights.{Does}
+use Rattle.disk_store.specs.declared.member.Member.{Member}
+use Rattle.disk_store.specs.declared.member.MemberStage.TheVariants as stage
+use Rattle.disk_store.specs.Memory.{StoreMemory}
+use Rattle.disk_store.specs.Seats.{stand_at}
+use Rattle.disk_store.specs.Shown.{sight_of}
+use Rattle.change_steps.proofs.ChangeCalls.{fault-cause}
+use Rattle.change_steps.proofs.PushFaults.{does-push-fail}
+use Rattle.change_steps.proofs.NextPushed.{does-next-push, next-pushed-less}
+use Rattle.change_steps.proofs.pushing.push_key.Goals as goal
+
+pub returns-in-Err-clause-comes : goal.returns-in-Err-clause-comes
+returns-in-Err-clause-comes g c =
+    let v = g.D.Disk.view c.args.disk.now in
+    let w = g.D.Disk.view c.push_next.new.disk in
+    let s = c.args.s.number in
+    let held : StoreMemory = c.args.held.now in
+    let off = c.in-Err.ensures.breaks in
+    let at : off.member.stage ≡ stage.Changing = subst (λ (x : Member). x.stage ≡ stage.Changing) (same_Some c.requires.changes.member off.member (sym c.requires.changes.is ∙ off.was)) c.requires.changes.at in
+    subst (λ (new : StoreMemory). Does s (stand_at held.members s) (λ h k. Fails s c.in-Err.fault h k) (sight_of v held) (sight_of w new)) (sym off.is)
+    (does-push-fail v w held s off.member off.was at c.args.key off.chain off.slots off.takes c.in-Err.fault
+    (fault-cause c.in-Err.fault (record { time = v.moment; faults = v.faults }) (record { time = w.moment; faults = w.faults }) (λ e. c.in-Err.ensures.failed (ap Err e))))
+
+pub returns-clause-comes : goal.returns-clause-comes
+returns-clause-comes g c =
+    let v = g.D.Disk.view c.args.disk.now in
+    does-next-push v (g.D.Disk.view c.push_next.new.disk) c.args.held.now c.push_next.new.self c.args.s.number c.args.key c.requires.changes c.requires.next c.in_default.ensures.pushed c.sound.ensures
+    (λ tells. each_slot v v.content (g.met.D.Disk.content_left c.args.disk.now v.moment tells (omega arith)))
+
+pub returns-clause-less : goal.returns-clause-less
+returns-clause-less g c more =
+    next-pushed-less (g.D.Disk.view c.args.disk.now) (g.D.Disk.view c.push_next.new.disk) c.args.held.now c.push_next.new.self c.args.s.number c.args.key c.requires.changes c.requires.next c.in_default.ensures.pushed

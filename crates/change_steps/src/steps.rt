@@ -1,0 +1,63 @@
+// The steps of a change.
+ghost use Rattle.std.specs.Prelude.{◌≡◌, Ok, Err};
+ghost use Rattle.line_store.specs.Seats.{IsMember};
+ghost use Rattle.line_store.specs.Sights.{Does, IsLess, MayAnswer, Steps, stepped_to};
+ghost use Rattle.line_store.specs.declared.answers.Stepped.TheVariants as stepped;
+ghost use Rattle.stable_lines.specs.Slots.{ruj_file as journal_named};
+ghost use Rattle.disk_store.specs.declared.member.MemberStage.TheVariants as stage;
+ghost use Rattle.disk_store.specs.ChangeSteps.{ThroughAt};
+ghost use Rattle.disk_store.specs.Seats.{IsAtStage, stand_at};
+ghost use Rattle.disk_store.specs.Shown.{sight_of};
+
+use crate::journalling::journal_key;
+use crate::pushing::push_or_pass;
+use disk_store::Held;
+use line_moves::ruj_file;
+use line_store::{Fault, Stepped};
+use rdb_outside::Disk;
+use rdb_types::Session;
+
+// Nothing is left of the change, and the slots that it didn't take are given back.
+fn end_change<D: Disk>(_disk: &D, held: &mut Held, s: Session)
+    requires member { IsMember s.number }
+    requires through { ThroughAt held.old.members s.number }
+    ensures { Does s.number (stepped_to (stand_at held.old.members s.number) (Ok stepped.Done))
+        (Steps s.number (Ok stepped.Done)) (sight_of (D.view _disk.now) held.old) (sight_of (D.view _disk.now) held.new) }
+{
+    held.sound();
+    held.end_change(s);
+}
+
+/// A step of a change: the header of the session's journal, the before-image of a line that its transaction wrote for the first time, or that line as it stood, for readers. One write at most, without a barrier, and behind the last line none. Behind a fault the transaction can only die.
+pub fn change_step<D: Disk>(disk: &mut D, held: &mut Held, s: Session) -> Result<Stepped, Fault>
+    requires member { IsMember s.number }
+    requires changes { IsAtStage held.old.members s.number stage.Changing }
+    ensures answers { MayAnswer (stand_at held.old.members s.number) result }
+    ensures comes { Does s.number (stepped_to (stand_at held.old.members s.number) result)
+        (Steps s.number result) (sight_of (D.view disk.old) held.old) (sight_of (D.view disk.new) held.new) }
+    ensures less { result ≡ Ok stepped.More → IsLess s.number (sight_of (D.view disk.old) held.old) (sight_of (D.view disk.new) held.new) }
+{
+    let member = held.member(s);
+    let count = member.written.keys().len() as u32;
+    let journalled = member.journalled;
+    let pushed = member.pushed;
+    if journalled < count {
+        return journal_key(disk, held, s);
+    }
+    if pushed < count {
+        return push_or_pass(disk, held, s);
+    }
+    end_change(disk, held, s);
+    Ok(Stepped::Done)
+}
+
+/// A session whose change failed doesn't go on.
+pub fn broken_step<D: Disk>(_disk: &D, _held: &Held, s: Session) -> Result<Stepped, Fault>
+    requires broken { IsAtStage _held.now.members s.number stage.Broken }
+    ensures answers { MayAnswer (stand_at _held.now.members s.number) result }
+    ensures comes { Does s.number (stepped_to (stand_at _held.now.members s.number) result)
+        (Steps s.number result) (sight_of (D.view _disk.now) _held.now) (sight_of (D.view _disk.now) _held.now) }
+    ensures answer { result ≡ Err (Fault.Bad (journal_named s.number) 0) }
+{
+    Err(Fault::Bad(ruj_file(s.number), 0))
+}

@@ -1,0 +1,10 @@
+pub mod Holding
+pub mod Orders
+pub mod OnPages
+pub mod Oks
+pub mod Runs
+pub mod Growing
+pub mod Lines
+pub mod Popped
+pub mod Passing
+pub mod Others

@@ -1,0 +1,7 @@
+//! The store of lines on a disk as sessions ask for it.
+#![tactic(auto)]
+
+mod stepping;
+mod store;
+
+pub use store::DiskStore;

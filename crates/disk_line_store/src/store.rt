@@ -1,0 +1,170 @@
+// A store of lines on a disk, as sessions ask for it.
+ghost use Rattle.std.specs.Prelude.{◌≡◌, ◌↔◌, ◌<◌, ◌^◌, ℕ};
+ghost use Rattle.line_view.specs.Knowledge.{Lines};
+ghost use Rattle.line_store.specs.Seats.{outside};
+ghost use Rattle.line_store.specs.Shelves.{Shelf};
+ghost use Rattle.store_shows.specs.Shows.{Leaves};
+ghost use Rattle.disk_store.specs.Seats.{stand_at, steps_at};
+ghost use Rattle.disk_store.specs.Shown.{Shown};
+
+use crate::stepping::step;
+use area_files::AreaFull;
+use commit_steps::is_at_barrier;
+use disk_store::{
+    Held, begin, begin_reading, change, commit, die, end_reading, give_back, learn_area,
+    learn_line, prepare, roll_back, room, steps_are_few, take_room,
+};
+use line_store::{ChangeStop, CommitStop, Fault, LineStore, Progress, ReadStop, Stepped};
+use line_view::{Known, Write};
+use rdb_outside::Disk;
+use rdb_types::{Dbkey, Moment, NoMemory, Session};
+
+/// A store of lines on a disk: the disk, and what is kept in memory beside it. What is left to do for a session is a number that a loop can count to.
+#[derive(Drop)]
+pub struct DiskStore<D: Disk + Drop> {
+    disk: D,
+    held: Held,
+    ghost few: { (s : ℕ) → steps_at held.members s < 2 ^ 64 },
+}
+
+impl<D: Disk + Drop> DiskStore<D> {
+    /// The store of an opened database, in which no session has a transaction.
+    pub fn new(disk: D, held: Held) -> DiskStore<D>
+        requires { (s : ℕ) → stand_at held.members s ≡ outside }
+        ensures outside { (s : ℕ) → (⟦<DiskStore<D> as LineStore>⟧.sight result).stand s ≡ outside }
+
+        // It shows what the disk and the memory do, and a crash leaves what one of the disk may leave.
+        ensures shows { (h : Shelf) → (⟦<DiskStore<D> as LineStore>⟧.sight result).shows h ↔ Shown (D.view disk) held h }
+        ensures left { (t : ℕ) (lines : Lines) → (⟦<DiskStore<D> as LineStore>⟧.sight result).left t lines → Leaves (D.view disk) t lines }
+    {
+        DiskStore { disk, held }
+    }
+
+    /// The disk, of which all calls are the store's.
+    pub fn disk(&self) -> &D {
+        &self.disk
+    }
+
+    /// The store ends, and its disk is free.
+    pub fn into_disk(self) -> D {
+        self.disk
+    }
+}
+
+impl<D: Disk + Drop> LineStore for DiskStore<D> {
+    ghost use Rattle.std.proofs.Common.{sym};
+    ghost use Rattle.disk_store.specs.Shown.{sight_of};
+    ghost use Rattle.disk_store.proofs.Agreeing.{agreeing, standing};
+
+    ghost sight = { λ store. sight_of (D.view store.disk) store.held };
+
+    ghost agrees = { λ store. agreeing (D.view store.disk) store.held };
+
+    ghost counts = { λ store. record { same = λ h shown s. sym (shown.steps s); few = store.few } };
+
+    ghost stands = { λ store. standing (D.view store.disk) store.held };
+
+    fn begin(&mut self, s: Session) {
+        let held = &mut self.held;
+        begin(&self.disk, held, s);
+        steps_are_few(held, s);
+    }
+
+    fn begin_reading(&mut self, s: Session) -> Result<(), NoMemory> {
+        let held = &mut self.held;
+        let begun = begin_reading(&self.disk, held, s);
+        steps_are_few(held, s);
+        begun
+    }
+
+    fn end_reading(&mut self, s: Session) {
+        let held = &mut self.held;
+        end_reading(&self.disk, held, s);
+        steps_are_few(held, s);
+    }
+
+    fn learn_line(
+        &mut self,
+        s: Session,
+        key: Dbkey,
+        known: &mut Known,
+    ) -> Result<Progress, ReadStop> {
+        learn_line(&mut self.disk, &self.held, s, key, known)
+    }
+
+    fn learn_area(
+        &mut self,
+        s: Session,
+        area: u32,
+        known: &mut Known,
+    ) -> Result<Progress, ReadStop> {
+        learn_area(&mut self.disk, &self.held, s, area, known)
+    }
+
+    fn room(
+        &self,
+        s: Session,
+        area: u32,
+        class: u16,
+        from: Option<Dbkey>,
+    ) -> Result<Dbkey, AreaFull> {
+        room(&self.disk, &self.held, s, area, class, from)
+    }
+
+    fn take_room(&mut self, s: Session, key: Dbkey, class: u16) -> Result<bool, NoMemory> {
+        take_room(&self.disk, &mut self.held, s, key, class)
+    }
+
+    fn change(&mut self, s: Session, writes: &[Write]) -> Result<(), ChangeStop> {
+        let held = &mut self.held;
+        let changed = change(&self.disk, held, s, writes);
+        steps_are_few(held, s);
+        changed
+    }
+
+    fn prepare(&mut self, s: Session) -> Result<(), CommitStop> {
+        let held = &mut self.held;
+        let prepared = prepare(&self.disk, held, s);
+        steps_are_few(held, s);
+        prepared
+    }
+
+    fn give_back(&mut self, s: Session) {
+        let held = &mut self.held;
+        give_back(&self.disk, held, s);
+        steps_are_few(held, s);
+    }
+
+    fn commit(&mut self, s: Session) {
+        let held = &mut self.held;
+        commit(&self.disk, held, s);
+        steps_are_few(held, s);
+    }
+
+    fn roll_back(&mut self, s: Session) {
+        let held = &mut self.held;
+        roll_back(&self.disk, held, s);
+        steps_are_few(held, s);
+    }
+
+    fn die(&mut self, s: Session) {
+        let held = &mut self.held;
+        die(&self.disk, held, s);
+        steps_are_few(held, s);
+    }
+
+    fn step(&mut self, s: Session) -> Result<Stepped, Fault> {
+        let held = &mut self.held;
+        let stepped = step(&mut self.disk, held, s);
+        steps_are_few(held, s);
+        stepped
+    }
+
+    fn is_at_barrier(&self, s: Session) -> bool {
+        is_at_barrier(&self.held, s)
+    }
+
+    fn moment(&self) -> Moment {
+        self.disk.moment()
+    }
+}

@@ -1,0 +1,2 @@
+//! Items of scripts and events of accounts may cross threads.
+#![tactic(auto)]

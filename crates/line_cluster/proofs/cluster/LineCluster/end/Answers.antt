@@ -1,0 +1,19 @@
+use Rattle.std.proofs.Common.{◌≡◌, ℕ, false, map, subst}
+use Rattle.rdb_account.specs.Events.{event_of}
+use Rattle.line_store.specs.Seats.{outside}
+use Rattle.line_store.specs.Sights.{bare}
+use Rattle.line_cluster.specs.Sound.{IsLeft}
+use Rattle.line_cluster.specs.Turned.{Sessions, HaveEnded}
+use Rattle.line_cluster.proofs.Coming.{none-from}
+use Rattle.line_cluster.proofs.Resting.{all-outside, left-behind}
+use Rattle.line_cluster.proofs.cluster.LineCluster.end.Goals as goal
+
+pub returns-clause-left : goal.returns-clause-left
+returns-clause-left g c =
+    subst (λ (v : Sessions). g.O.Origin.told → v.halted ≡ false → IsLeft g.S.Statements.stands g.O.Origin.opening (g.L.LineStore.sight c.self.inside.core.common.store) (map event_of v.events)) c.self.view_is
+    (λ told going. left-behind g.S.Statements.stands g.O.Origin.opening _ _ _ _ _ (c.self.invariant.sound.kept (none-from c.self.inside.core.halt going) told))
+
+pub returns-clause-outside : goal.returns-clause-outside
+returns-clause-outside g c =
+    subst (λ (v : Sessions). v.halted ≡ false → HaveEnded v.members → (s : ℕ) → bare ((g.L.LineStore.sight c.self.inside.core.common.store).stand s) ≡ outside) c.self.view_is
+    (λ going ended. all-outside (g.L.LineStore.sight c.self.inside.core.common.store).stand c.self.inside.core.common.tree c.self.inside.core.members.items (c.self.invariant.sound.seated (none-from c.self.inside.core.halt going)) ended)

@@ -1,0 +1,43 @@
+//! What is done behind a step.
+ghost use Rattle.std.specs.Prelude.{◌≡◌, true};
+ghost use Rattle.line_cluster.specs.Behind.{IsNoticed, is_moving};
+ghost use Rattle.line_cluster.specs.declared.behind.Notice.{Notice as NoticeValue};
+
+use crate::sessions::Halt;
+use rdb_types::{Node, Session};
+use stage_steps::Happening;
+use vms_queues::Mode;
+
+/// A notice that a session's want found due: a lock of this session at the node is stronger than it has to be.
+#[derive(Clone, Copy)]
+pub struct Notice {
+    pub to: Session,
+    pub node: Node,
+    pub mode: Mode,
+}
+
+/// What is done behind a step.
+#[derive(Clone, Copy)]
+pub enum Behind {
+    Nothing,
+    Serve(Notice),
+    Stop(Halt),
+}
+
+/// What is done once this happened.
+pub(crate) fn behind_of(happened: &Happening) -> Behind
+    ensures nothing { result ≡ Behind.Nothing → is_moving happened.now ≡ true }
+    ensures serve { (notice : NoticeValue) → result ≡ Behind.Serve notice → IsNoticed notice happened.now }
+{
+    match happened {
+        Happening::Noticed(to, node, mode, _) => Behind::Serve(Notice {
+            to: Session { number: *to },
+            node: *node,
+            mode: *mode,
+        }),
+        Happening::Failed(fault) => Behind::Stop(Halt::Device(*fault)),
+        Happening::Unlaid(key) => Behind::Stop(Halt::Unlaid(*key)),
+        Happening::Unworked | Happening::Unanswered(_) => Behind::Stop(Halt::Unworked),
+        _ => Behind::Nothing,
+    }
+}

@@ -1,0 +1,90 @@
+use Rattle.std.proofs.Common.{◌≡◌, ◌-◌, ◌<◌, ℕ, false, true, subst, sym, ◌∙◌, arith, length, drop, List}
+use Rattle.rdb_account.specs.declared.event.Event.{Event as Declared}
+use Rattle.rdb_drive.specs.Boards.{answers}
+use Rattle.rdb_drive.specs.Steps.{StepOf}
+use Rattle.rdb_drive.specs.declared.driven.Step.TheVariants as step
+use Rattle.line_drive.specs.Boards.{Driven, board_of, is_stopped, marks_of}
+use Rattle.line_drive.proofs.Counting.{count-fits, driven-on}
+use Rattle.line_drive.proofs.Dying.{goes-on}
+use Rattle.line_drive.proofs.Turning.{at-end, driven, froze, moved, slept, spent, stopped}
+use Rattle.line_drive.proofs.driver.LineDriver.turn.Goals as goal
+
+one-less : (n : ℕ) → 0 < n → n - 1 < n
+one-less n h = omega arith
+
+pub returns-then-stops : goal.returns-then-stops
+returns-then-stops g c = record {
+  step = subst (λ (v : Driven). StepOf {P = Unit {0}} g.O.Origin.sessions c.args.s.number (board_of g.O.Origin.told g.O.Origin.opening v) (board_of g.O.Origin.told g.O.Origin.opening v) step.Stopped) c.self.view_is
+      (spent g.O.Origin.told g.O.Origin.opening g.O.Origin.sessions c.args.s.number (driven c.self.inside.cluster c.self.inside.turns) (subst (λ (v : Driven). is_stopped v ≡ true) (sym c.self.view_is) (sym c.is_stopped-stops.ensures ∙ c.if-stops.true)) c.facts.ensures.count c.facts.ensures.seated c.facts.ensures.locks);
+}
+
+-- the answers behind those before
+since : (old new before now : List Declared) (n : ℕ) → before ≡ old → now ≡ new → n ≡ answers (marks_of (drop (length before) now)) → n ≡ answers (marks_of (drop (length old) new))
+since old new before now n e f h = subst (λ (es : List Declared). n ≡ answers (marks_of (drop (length es) new))) e (subst (λ (es : List Declared). n ≡ answers (marks_of (drop (length before) es))) f h)
+
+pub invariant_of-self : goal.invariant_of-self
+invariant_of-self g c =
+    driven-on g.O.Origin.sessions c.args.s.number c.self.inside.answers c.self.inside.cluster c.turn-turn.new.self c.turn-turn.result c.answers_behind.result c.requires.session c.self.invariant c.turn-turn.ensures.came
+    (since c.self.inside.cluster.events c.turn-turn.new.self.events c.events-before.result.now c.events.result.now c.answers_behind.result c.events-before.ensures c.events.ensures c.answers_behind.ensures)
+
+pub invariant_of-self-in-Asleep : goal.invariant_of-self-in-Asleep
+invariant_of-self-in-Asleep g c =
+    driven-on g.O.Origin.sessions c.args.s.number c.self.inside.answers c.self.inside.cluster c.turn-turn.new.self c.turn-turn.result c.answers_behind.result c.requires.session c.self.invariant c.turn-turn.ensures.came
+    (since c.self.inside.cluster.events c.turn-turn.new.self.events c.events-before.result.now c.events.result.now c.answers_behind.result c.events-before.ensures c.events.ensures c.answers_behind.ensures)
+
+pub invariant_of-self-in-Frozen : goal.invariant_of-self-in-Frozen
+invariant_of-self-in-Frozen g c =
+    driven-on g.O.Origin.sessions c.args.s.number c.self.inside.answers c.self.inside.cluster c.turn-turn.new.self c.turn-turn.result c.answers_behind.result c.requires.session c.self.invariant c.turn-turn.ensures.came
+    (since c.self.inside.cluster.events c.turn-turn.new.self.events c.events-before.result.now c.events.result.now c.answers_behind.result c.events-before.ensures c.events.ensures c.answers_behind.ensures)
+
+pub invariant_of-self-in-Ended : goal.invariant_of-self-in-Ended
+invariant_of-self-in-Ended g c =
+    driven-on g.O.Origin.sessions c.args.s.number c.self.inside.answers c.self.inside.cluster c.turn-turn.new.self c.turn-turn.result c.answers_behind.result c.requires.session c.self.invariant c.turn-turn.ensures.came
+    (since c.self.inside.cluster.events c.turn-turn.new.self.events c.events-before.result.now c.events.result.now c.answers_behind.result c.events-before.ensures c.events.ensures c.answers_behind.ensures)
+
+pub invariant_of-self-in-Stopped : goal.invariant_of-self-in-Stopped
+invariant_of-self-in-Stopped g c =
+    driven-on g.O.Origin.sessions c.args.s.number c.self.inside.answers c.self.inside.cluster c.turn-turn.new.self c.turn-turn.result c.answers_behind.result c.requires.session c.self.invariant c.turn-turn.ensures.came
+    (since c.self.inside.cluster.events c.turn-turn.new.self.events c.events-before.result.now c.events.result.now c.answers_behind.result c.events-before.ensures c.events.ensures c.answers_behind.ensures)
+
+pub overflow_add-self : goal.overflow_add-self
+overflow_add-self g c =
+    let fits = count-fits g.O.Origin.sessions c.args.s.number c.self.inside.answers c.self.inside.cluster c.turn-turn.new.self c.turn-turn.result c.answers_behind.result 18446744073709551616 c.requires.session c.self.invariant c.turn-turn.ensures.came
+    (since c.self.inside.cluster.events c.turn-turn.new.self.events c.events-before.result.now c.events.result.now c.answers_behind.result c.events-before.ensures c.events.ensures c.answers_behind.ensures)
+    (subst (λ (es : List Declared). length es < 18446744073709551616) c.events.ensures c.events.type_inv.0) in
+    omega (arith, fits)
+
+pub returns-in-Moved : goal.returns-in-Moved
+returns-in-Moved g c = record {
+  step = subst (λ (v : Driven). StepOf {P = Unit {0}} g.O.Origin.sessions c.args.s.number (board_of g.O.Origin.told g.O.Origin.opening v) (board_of g.O.Origin.told g.O.Origin.opening (driven c.turn-turn.new.self (c.self.inside.turns - 1))) step.Moved) c.self.view_is
+      (moved g.O.Origin.told g.O.Origin.opening g.O.Origin.sessions c.args.s.number c.self.inside.cluster c.turn-turn.new.self c.requires.session (goes-on (driven c.self.inside.cluster c.self.inside.turns) (subst (λ (v : Driven). is_stopped v ≡ false) (sym c.self.view_is) (sym c.is_stopped-stops.ensures ∙ c.if-stops.false))).going c.self.invariant.few c.facts-2.ensures.count c.facts-2.ensures.seated c.facts-2.ensures.locks
+      c.self.inside.turns (c.self.inside.turns - 1) (one-less c.self.inside.turns (goes-on (driven c.self.inside.cluster c.self.inside.turns) (subst (λ (v : Driven). is_stopped v ≡ false) (sym c.self.view_is) (sym c.is_stopped-stops.ensures ∙ c.if-stops.false))).some) c.in-Moved.ensures.came);
+}
+
+pub returns-in-Stopped : goal.returns-in-Stopped
+returns-in-Stopped g c = record {
+  step = subst (λ (v : Driven). StepOf {P = Unit {0}} g.O.Origin.sessions c.args.s.number (board_of g.O.Origin.told g.O.Origin.opening v) (board_of g.O.Origin.told g.O.Origin.opening (driven c.turn-turn.new.self c.self.inside.turns)) step.Stopped) c.self.view_is
+      (stopped g.O.Origin.told g.O.Origin.opening g.O.Origin.sessions c.args.s.number c.self.inside.cluster c.turn-turn.new.self c.requires.session (goes-on (driven c.self.inside.cluster c.self.inside.turns) (subst (λ (v : Driven). is_stopped v ≡ false) (sym c.self.view_is) (sym c.is_stopped-stops.ensures ∙ c.if-stops.false))).going c.self.invariant.few c.facts-2.ensures.count c.facts-2.ensures.seated c.facts-2.ensures.locks
+      c.self.inside.turns c.in-Stopped.ensures.came);
+}
+
+pub returns-in-Frozen : goal.returns-in-Frozen
+returns-in-Frozen g c = record {
+  step = subst (λ (v : Driven). StepOf {P = Unit {0}} g.O.Origin.sessions c.args.s.number (board_of g.O.Origin.told g.O.Origin.opening v) (board_of g.O.Origin.told g.O.Origin.opening (driven c.turn-turn.new.self c.self.inside.turns)) step.Frozen) c.self.view_is
+      (froze g.O.Origin.told g.O.Origin.opening g.O.Origin.sessions c.args.s.number c.self.inside.cluster c.turn-turn.new.self c.requires.session (goes-on (driven c.self.inside.cluster c.self.inside.turns) (subst (λ (v : Driven). is_stopped v ≡ false) (sym c.self.view_is) (sym c.is_stopped-stops.ensures ∙ c.if-stops.false))).going c.self.invariant.few c.facts-2.ensures.count c.facts-2.ensures.seated c.facts-2.ensures.locks
+      c.self.inside.turns c.in-Frozen.ensures.came);
+}
+
+pub returns-in-Ended : goal.returns-in-Ended
+returns-in-Ended g c = record {
+  step = subst (λ (v : Driven). StepOf {P = Unit {0}} g.O.Origin.sessions c.args.s.number (board_of g.O.Origin.told g.O.Origin.opening v) (board_of g.O.Origin.told g.O.Origin.opening (driven c.turn-turn.new.self c.self.inside.turns)) step.Ended) c.self.view_is
+      (at-end g.O.Origin.told g.O.Origin.opening g.O.Origin.sessions c.args.s.number c.self.inside.cluster c.turn-turn.new.self c.requires.session (goes-on (driven c.self.inside.cluster c.self.inside.turns) (subst (λ (v : Driven). is_stopped v ≡ false) (sym c.self.view_is) (sym c.is_stopped-stops.ensures ∙ c.if-stops.false))).going c.self.invariant.few c.facts-2.ensures.count c.facts-2.ensures.seated c.facts-2.ensures.locks
+      c.self.inside.turns c.in-Ended.ensures.came (λ told going e. c.facts-2.ensures.over told going c.args.s.number c.requires.session.0 e));
+}
+
+pub returns-in-Asleep : goal.returns-in-Asleep
+returns-in-Asleep g c = record {
+  step = subst (λ (v : Driven). StepOf {P = Unit {0}} g.O.Origin.sessions c.args.s.number (board_of g.O.Origin.told g.O.Origin.opening v) (board_of g.O.Origin.told g.O.Origin.opening (driven c.turn-turn.new.self c.self.inside.turns)) step.Asleep) c.self.view_is
+      (slept g.O.Origin.told g.O.Origin.opening g.O.Origin.sessions c.args.s.number c.self.inside.cluster c.turn-turn.new.self c.requires.session (goes-on (driven c.self.inside.cluster c.self.inside.turns) (subst (λ (v : Driven). is_stopped v ≡ false) (sym c.self.view_is) (sym c.is_stopped-stops.ensures ∙ c.if-stops.false))).going c.self.invariant.few c.facts-2.ensures.count c.facts-2.ensures.seated c.facts-2.ensures.locks
+      c.self.inside.turns c.in-Asleep.field-0 (goes-on (driven c.self.inside.cluster c.self.inside.turns) (subst (λ (v : Driven). is_stopped v ≡ false) (sym c.self.view_is) (sym c.is_stopped-stops.ensures ∙ c.if-stops.false))).some c.in-Asleep.ensures.came c.in-Asleep.ensures.rests);
+}

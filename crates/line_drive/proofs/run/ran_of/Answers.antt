@@ -1,0 +1,36 @@
+use Rattle.std.proofs.Common.{map, subst, sym, ◌∙◌}
+use Rattle.std.proofs.lemmas.Bool.{false≢true}
+use Rattle.rdb_account.specs.Events.{event_of}
+use Rattle.rdb_account.specs.Legal.{IsLegal}
+use Rattle.line_cluster.specs.Sound.{IsLeft}
+use Rattle.line_cluster.specs.Turned.{HaveAllEnded}
+use Rattle.line_drive.proofs.Dying.{not-true}
+use Rattle.line_drive.proofs.run.ran_of.Goals.{then-has_ended, else-has_ended}
+use Rattle.line_drive.proofs.run.ran_of.Goals as goal
+
+pub returns-clause-ended : goal.returns-clause-ended
+returns-clause-ended g c whole = elim c.if-has_ended.branch [
+  | then-has_ended w ↦ w.if-has_ended.true
+  | else-has_ended w ↦ absurd (false≢true (sym w.if-has_ended.false ∙ (sym w.is_whole-is ∙ whole)))
+]
+
+pub returns-clause-going : goal.returns-clause-going
+returns-clause-going g c whole = elim c.if-has_ended.branch [
+  | then-has_ended w ↦ sym w.is_halted.ensures ∙ not-true w.is_halted.result (sym w.is_whole-is ∙ whole)
+  | else-has_ended w ↦ absurd (false≢true (sym w.if-has_ended.false ∙ (sym w.is_whole-is ∙ whole)))
+]
+
+pub returns-clause-legal : goal.returns-clause-legal
+returns-clause-legal g c told = subst (λ es. IsLegal g.O.Origin.opening (map event_of es)) (sym c.end-events.ensures.events) (c.facts.ensures.legal told)
+
+pub returns-clause-whole : goal.returns-clause-whole
+returns-clause-whole g c whole told =
+    subst (λ es. HaveAllEnded g.O.Origin.opening g.O.Origin.sessions (map event_of es)) (sym c.end-events.ensures.events)
+    (c.facts.ensures.whole told (returns-clause-going g c whole) (c.requires.ended (returns-clause-ended g c whole)))
+
+pub returns-clause-left : goal.returns-clause-left
+returns-clause-left g c whole told =
+    subst (λ es. IsLeft g.S.Statements.stands g.O.Origin.opening (g.L.LineStore.sight c.end-events.result.store) (map event_of es)) (sym c.end-events.ensures.events) (c.end-events.ensures.left told (returns-clause-going g c whole))
+
+pub returns-clause-outside : goal.returns-clause-outside
+returns-clause-outside g c whole = c.end-events.ensures.outside (returns-clause-going g c whole) (c.requires.ended (returns-clause-ended g c whole))

@@ -1,0 +1,81 @@
+-- What drivers see of the sessions over lines.
+use Rattle.std.specs.Prelude.{◌≡◌, ℕ, ◌+◌, nat_lt, if◌then◌else◌, Bool, true, false, not, ◌&&◌, ◌||◌, ◌==◌, List, [], ◌∷◌, map, take, Option, Some, None, ◌⊎◌}
+use Rattle.std.specs.List.{filter}
+use Rattle.rdb_types.specs.declared.session.Cause.TheVariants.{Gate}
+use Rattle.rdb_account.specs.declared.event.Event.{Event as Declared}
+use Rattle.rdb_account.specs.Events.{event_of}
+use Rattle.rdb_account.specs.Places.{Opening, Place, place}
+use Rattle.rdb_drive.specs.Boards.{Board, Mark}
+use Rattle.rdb_drive.specs.Orders.{upward}
+use Rattle.lock_tree.specs.Sleeping.{is_sleeping}
+use Rattle.session_states.specs.declared.stage.Life.{Life}
+use Rattle.session_states.specs.declared.stage.Life.TheVariants.{Alive, Dead, Gone}
+use Rattle.session_states.specs.declared.stage.Member.{Member}
+use Rattle.session_stands.specs.Sessions.{dead_in, member_at}
+use Rattle.line_cluster.specs.Going.{is_dead, is_over}
+use Rattle.line_cluster.specs.Turned.{Sessions, SleepsFor, HasNothingLeft, mark_of, is_patient_at}
+
+abbrev pub marks_of : List Declared → List Mark
+marks_of events = map (λ e. mark_of (event_of e)) events
+
+-- s waits for some session, or has said its whole script, or has died
+abbrev pub RestsAt : Opening → Place → ℕ → Type 0
+RestsAt o p s = ((t : ℕ) × SleepsFor p s t) ⊎ HasNothingLeft o p s
+
+-- behind so many of the events
+abbrev pub RestsBehind : Opening → List Declared → ℕ → ℕ → Type 0
+RestsBehind o events n s = RestsAt o (place o (take n (map event_of events))) s
+
+-- who died has ended once it is recovered
+abbrev pub has_ended : Option Member → Bool
+has_ended None = true
+has_ended (Some m) = is_over m m.life && not (is_dead m)
+
+abbrev pub is_patient : Option Member → Bool
+is_patient None = false
+is_patient (Some m) = is_patient_at m.phase
+
+-- who lives may die and be recovered
+abbrev pub steps_to_go : Life → ℕ
+steps_to_go Alive = 2
+steps_to_go Dead = 1
+steps_to_go Gone = 0
+
+abbrev pub lives_in : List Member → ℕ
+lives_in [] = 0
+lives_in (m ∷ ms) = steps_to_go m.life + lives_in ms
+
+-- the sessions, and how many turns more may move
+pub record Driven : Type 0 where
+  pub sessions : Sessions
+  pub turns : ℕ
+
+-- how much may still come of deaths and of a halt
+abbrev pub lives_left : Sessions → ℕ
+lives_left c = if c.halted then 0 else 1 + lives_in c.members
+
+abbrev pub is_mourning : Sessions → Bool
+is_mourning c = nat_lt 0 (dead_in c.members)
+
+abbrev pub is_stopped : Driven → Bool
+is_stopped d = d.sessions.halted || (d.turns == 0)
+
+-- its want is queued, and it waits for that
+abbrev pub is_asleep : Sessions → ℕ → Bool
+is_asleep c s = is_patient (member_at c.members s) && is_sleeping c.locks s
+
+-- Where the opening told what the store holds, and no halt came, who rests does so in the account. Nobody sleeps while one that died awaits its recovery.
+abbrev pub board_of : (told : Type 0) → Opening → Driven → Board
+board_of told o d = record {
+  measure = d.turns ∷ lives_left d.sessions ∷ [];
+  marks = marks_of d.sessions.events;
+  rests = λ n s. told → d.sessions.halted ≡ false → RestsBehind o d.sessions.events n s;
+  asleep = λ s. not (is_stopped d || is_mourning d.sessions) && is_asleep d.sessions s;
+  ended = λ s. has_ended (member_at d.sessions.members s);
+  mourns = is_mourning d.sessions;
+  stopped = is_stopped d;
+}
+
+-- the sessions of so many that the gate may have die
+abbrev pub mortals_of : Opening → ℕ → List ℕ
+mortals_of o sessions = filter (λ s. o.may_die s Gate) (upward 1 sessions)

@@ -1,0 +1,22 @@
+-- What is true of driven sessions, and what events tell of an order of turns.
+use Rattle.std.specs.Prelude.{◌≡◌, ◌≤◌, ℕ, List, ◌++◌, Some, slice_get}
+use Rattle.rdb_account.specs.declared.event.Event.{Event as Declared}
+use Rattle.rdb_account.specs.Places.{Opening}
+use Rattle.rdb_drive.specs.Boards.{IsSession, answers_by}
+use Rattle.rdb_drive.specs.Orders.{AreParts, rounds}
+use Rattle.line_cluster.specs.Turned.{Sessions}
+use Rattle.line_drive.specs.Boards.{RestsBehind, marks_of}
+
+-- in the place of each session's number stands how many answers it was given
+abbrev pub AreCounted : ℕ → List ℕ → List Declared → Type 0
+AreCounted sessions counts events = (s : ℕ) → IsSession sessions s → slice_get counts s ≡ Some (answers_by s (marks_of events))
+
+-- The answers of the sessions are counted.
+pub record IsDriven (sessions : ℕ) (counts : List ℕ) (c : Sessions) : Type 0 where
+  pub few : sessions ≤ 16
+  pub counted : AreCounted sessions counts c.events
+
+-- the events keep to the order, and then to all sessions in ascending order, again and again
+pub record KeepsTurns (o : Opening) (sessions : ℕ) (order : List ℕ) (events : List Declared) : Type 0 where
+  pub times : ℕ
+  pub parts : AreParts (RestsBehind o events) 0 (order ++ rounds sessions times) (marks_of events)

@@ -1,0 +1,7 @@
+pub mod Free
+pub mod Fresh
+pub mod TakenPages
+pub mod First
+pub mod Behind
+pub mod Moments
+pub mod ThreeTables

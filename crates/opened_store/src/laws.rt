@@ -1,0 +1,27 @@
+// What can be opened.
+ghost use Rattle.std.specs.Prelude.{ℕ};
+ghost use Rattle.rdb_types.specs.declared.keys.Limits.{Limits};
+ghost use Rattle.rdb_outside.specs.Disk.{Image, LeftNow};
+ghost use Rattle.new_database.specs.New.{IsNewDatabase};
+ghost use Rattle.line_view.specs.Knowledge.{Lines};
+ghost use Rattle.line_store.specs.Shelves.{Shelf};
+ghost use Rattle.line_store.specs.Calls.{MayStand};
+ghost use Rattle.line_moves.specs.Classes.{HaveTheirClasses};
+ghost use Rattle.member_steps.specs.Standing.{HasLines};
+ghost use Rattle.disk_store.specs.Shown.{Shown};
+
+use disk_store::Held;
+use rdb_outside::Disk;
+
+/// In a new database pages have the classes of their areas, whatever those are: nobody owns a page. (It is kept with no lines, as `new_is_kept` has it, so it opens as a store without lines.)
+pub fn a_new_database_opens()
+    ensures { (limits : Limits) (image : Image) → IsNewDatabase limits image
+        → (by_area : ℕ → ℕ) → HaveTheirClasses by_area image }
+{}
+
+/// Whatever a crash leaves of a store, opening can start from it. It stands for the committed lines, or for those with the commit that is under way.
+pub fn a_crash_leaves_what_opens<D: Disk>(disk: &D, held: &Held)
+    ensures { (h : Shelf) → Shown (D.view disk.now) held.now h
+        → (image : Image) → LeftNow (D.view disk.now) image
+        → (lines : Lines) × HasLines image lines × MayStand h lines }
+{}

@@ -1,0 +1,9 @@
+//! A database is opened, and is a store of lines behind that.
+#![tactic(auto)]
+
+mod laws;
+mod opening;
+mod tables;
+
+pub use laws::{a_crash_leaves_what_opens, a_new_database_opens};
+pub use opening::open;

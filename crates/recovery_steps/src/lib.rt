@@ -1,0 +1,8 @@
+//! The steps of the recovery of a session that died, of a store of lines on a disk.
+#![tactic(auto)]
+
+mod judging;
+mod recovering;
+
+pub use judging::judge;
+pub use recovering::recover;

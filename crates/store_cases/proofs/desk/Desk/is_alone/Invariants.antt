@@ -1,7 +1,0 @@
-use Rattle.std.proofs.Common.{◌≡◌, ◌≤◌, ◌<◌, ◌==◌, ℕ, false, None}
-use Rattle.line_store.specs.Seats.{in_flight}
-use Rattle.store_cases.specs.Places.{seat_in, place_of}
-use Rattle.store_cases.proofs.desk.Desk.is_alone.Given as goal
-
-abbrev pub invariant-loop-t : goal.invariant-loop-t
-invariant-loop-t l = (u : ℕ) → 1 ≤ u → u < l.t → (u == l.s.number) ≡ false → in_flight (seat_in (place_of l.self.places u)) ≡ None
