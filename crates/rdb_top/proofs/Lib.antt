@@ -2,3 +2,5 @@ mod Upward
 mod Givens
 mod Reading
 mod Unsaid
+mod Fewness
+mod Saying

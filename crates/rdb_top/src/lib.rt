@@ -4,4 +4,4 @@
 mod scripts;
 mod top;
 
-pub use top::{Accounts, Finish, run};
+pub use top::{Finish, run};
