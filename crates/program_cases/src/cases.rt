@@ -1,10 +1,10 @@
 // What lines of the cases say.
+use crate::following::{tell_anew, tell_crashes, tell_runs};
 use crate::keeping::run_made;
 use crate::making::{tell_again, tell_stopped};
 use crate::meeting::tell_meeting;
-use crate::runs::{Fails, NONE, Outcome, new_database, run_failing, run_on};
-use crate::texts::{add_text, script_of, scripts_in, tell_written, words_in};
-use rdb_outside::{MemoryDisk, MemorySink, MemorySource};
+use crate::runs::{Fails, NONE, run_failing, tell};
+use crate::texts::{add_text, script_of, scripts_in, words_in};
 use rdb_types::NoMemory;
 use std::alloc::Global;
 use std::sync::Wait;
@@ -24,14 +24,6 @@ impl World {
         Ok(World {
             head: Vec::new(alloc),
         })
-    }
-}
-
-fn tell<R: Print + AllocGlobal + Threads + Wait + Sync>(rt: &R, outcome: &Outcome) {
-    tell_written(rt, outcome.out.written());
-    let status = outcome.status;
-    if status != 0 {
-        let _ = println!(rt; "  status {status}");
     }
 }
 
@@ -59,46 +51,6 @@ fn say_text<R: Print + AllocGlobal + Threads + Wait + Sync>(
     scripts.push(script)?;
     let words = words_in(alloc, "RDO PERS s1")?;
     tell(rt, &run_failing(rt, words.as_slice(), scripts, NONE)?);
-    Ok(())
-}
-
-// A script by one session, over what is on the disk.
-fn say_over<R: Print + AllocGlobal + Threads + Wait + Sync>(
-    rt: &R,
-    script: Vec<u8>,
-    disk: MemoryDisk,
-) -> Result<MemoryDisk, NoMemory> {
-    let alloc = rt.alloc();
-    let words = words_in(alloc, "RDO PERS s1")?;
-    let mut scripts = Vec::new(alloc);
-    scripts.push(script)?;
-    let source = MemorySource::new(alloc, scripts, &[])?;
-    let out = MemorySink::new(alloc, 65536, &[])?;
-    let outcome = run_on(rt, words.as_slice(), source, out, disk);
-    tell(rt, &outcome);
-    Ok(outcome.disk)
-}
-
-// The scripts behind the bars, each by a run of its own: one sees what those before it committed.
-fn run_after_run<R: Print + AllocGlobal + Threads + Wait + Sync>(
-    rt: &R,
-    line: &str,
-) -> Result<(), NoMemory> {
-    let mut disk = new_database(rt)?;
-    for script in scripts_in(rt.alloc(), line)? {
-        disk = say_over(rt, script, disk)?;
-    }
-    Ok(())
-}
-
-// A script over a disk of zeros.
-fn run_over_none<R: Print + AllocGlobal + Threads + Wait + Sync>(
-    rt: &R,
-    text: &str,
-) -> Result<(), NoMemory> {
-    let script = script_of(rt.alloc(), text)?;
-    let disk = MemoryDisk::new(rt.alloc(), 4, 256, &[])?;
-    let _left = say_over(rt, script, disk)?;
     Ok(())
 }
 
@@ -186,8 +138,9 @@ pub fn say<R: Print + AllocGlobal + Threads + Wait + Sync>(
         }
         "say" => say_text(rt, world.head.as_slice(), rest),
         "run" => run(rt, rest, NONE),
-        "runs" => run_after_run(rt, rest),
-        "run-over-none" => run_over_none(rt, rest),
+        "runs" => tell_runs(rt, world.head.as_slice(), rest),
+        "anew" => tell_anew(rt, rest),
+        "crashes" => tell_crashes(rt, world.head.as_slice(), rest),
         "run-long" => run_long(rt, rest),
         "say-chain" => say_chain(rt, rest),
         "failing-source" | "failing-sink" | "failing-disk" => failing(rt, about, rest),

@@ -54,7 +54,7 @@ pub fn tell_meeting<R: Print + AllocGlobal + Threads + Wait + Sync>(
     let words = words_in(alloc, line)?;
     let source = MemorySource::new(alloc, scripts_in(alloc, line)?, &[])?;
     let out = MemorySink::new(alloc, 64, &[])?;
-    let disk = new_database(rt)?;
+    let disk = new_database(rt, 0)?;
     let done = run_past(rt, words.as_slice(), source, out, disk, &gate);
     tell_written(rt, done.out.written());
     let (status, seen) = (done.status, gate.seen.load(Ordering::SeqCst));

@@ -1,12 +1,13 @@
 // A run over objects in memory.
 ghost use Rattle.std.specs.Prelude.{◌≡◌, []};
 
-use crate::texts::words_in;
+use crate::texts::{tell_written, words_in};
 use command_words::script_words;
 use rdb_drive::{Act, Gate, Point};
 use rdb_outside::{MemoryDisk, MemorySink, MemorySource};
 use rdb_top::run;
 use rdb_types::{NoMemory, Session, Word};
+use std::alloc::Global;
 use std::marker::Brand;
 use std::sync::Wait;
 use std::thread::Threads;
@@ -90,15 +91,29 @@ const SLOTS: u32 = 4096;
 
 const CALLS: u32 = 65536;
 
-/// A disk with a new database, and with room for scripts.
+/// A NEW that is done makes so many calls.
+const NEW_CALLS: u32 = 27;
+
+/// A disk of zeros, with room for a database and for scripts. The call with this number fails, 0 for none.
+pub fn wide_disk(alloc: Global, fails: u32) -> Result<MemoryDisk, NoMemory> {
+    MemoryDisk::new(alloc, SLOTS, CALLS, &[fails])
+}
+
+/// A disk with a new database, and with room for scripts. The call with this number behind those of NEW fails, 0 for none.
 pub fn new_database<R: Print + AllocGlobal + Threads + Wait + Sync>(
     rt: &R,
+    fails: u32,
 ) -> Result<MemoryDisk, NoMemory> {
     let alloc = rt.alloc();
     let words = words_in(alloc, "NEW --PAGES=1000 PERS")?;
     let source = MemorySource::new(alloc, Vec::new(alloc), &[])?;
     let out = MemorySink::new(alloc, 0, &[])?;
-    let disk = MemoryDisk::new(alloc, SLOTS, CALLS, &[])?;
+    let fails = if fails == 0 {
+        0
+    } else {
+        fails.saturating_add(NEW_CALLS)
+    };
+    let disk = wide_disk(alloc, fails)?;
     Ok(run_on(rt, words.as_slice(), source, out, disk).disk)
 }
 
@@ -114,9 +129,18 @@ pub fn run_failing<R: Print + AllocGlobal + Threads + Wait + Sync>(
     let out = MemorySink::new(alloc, 65536, &[fails.sink])?;
     let (_, said) = script_words(words);
     let disk = if said > 0 {
-        new_database(rt)?
+        new_database(rt, fails.disk)?
     } else {
         MemoryDisk::new(alloc, 4, 256, &[fails.disk])?
     };
     Ok(run_on(rt, words, source, out, disk))
+}
+
+/// Tells what a run wrote, and its status where that isn't 0.
+pub fn tell<R: Print>(rt: &R, outcome: &Outcome) {
+    tell_written(rt, outcome.out.written());
+    let status = outcome.status;
+    if status != 0 {
+        let _ = println!(rt; "  status {status}");
+    }
 }
