@@ -5,7 +5,7 @@ ghost use Rattle.rdb_outside.specs.Causes.{Rose};
 ghost use Rattle.rdb_account.specs.Events.{event_of};
 ghost use Rattle.rdb_account.specs.Legal.{IsLegal};
 ghost use Rattle.rdb_drive.specs.Boards.{IsSession, MayDie};
-ghost use Rattle.line_cluster.specs.Sound.{FollowsScripts};
+ghost use Rattle.line_cluster.specs.Sound.{FollowsScripts, MayFail};
 ghost use Rattle.line_cluster.specs.Turned.{HaveAllEnded};
 ghost use Rattle.line_drive.specs.Boards.{mortals_of};
 ghost use Rattle.line_drive.specs.Turns.{KeepsTurns};
@@ -65,6 +65,7 @@ fn begin<O: Origin, D: Disk + Drop>(
     requires few { O.sessions ≤ 16 }
     requires short { All (λ items. length items < 2 ^ 32) said.scripts.items }
     requires scripts { FollowsScripts O.opening said.scripts.items }
+    requires mortal { MayFail O.opening }
     requires word { said.word ≡ O.opening.word }
     requires opens { O.told → OpensWith ⟦<ReservingStatements as Statements>⟧.stands (D.view disk) O.opening }
     ensures events { IfOk result (λ c. c.events ≡ []) }
@@ -127,6 +128,7 @@ pub fn say_in_order<O: Origin, D: Disk + Drop, G: Gate>(
     requires few { O.sessions ≤ 16 }
     requires short { All (λ items. length items < 2 ^ 32) said.scripts.items }
     requires scripts { FollowsScripts O.opening said.scripts.items }
+    requires mortal { MayFail O.opening }
     requires entries { All (λ s. IsSession O.sessions s) order.now }
     requires word { said.word ≡ O.opening.word }
     requires mortals { MayDie (G.mortals gate.now) (mortals_of O.opening O.sessions) }
@@ -156,6 +158,7 @@ pub fn say_in_threads<
     requires few { O.sessions ≤ 16 }
     requires short { All (λ items. length items < 2 ^ 32) said.scripts.items }
     requires scripts { FollowsScripts O.opening said.scripts.items }
+    requires mortal { MayFail O.opening }
     requires word { said.word ≡ O.opening.word }
     requires mortals { MayDie (G.mortals gate.now) (mortals_of O.opening O.sessions) }
     requires opens { O.told → OpensWith ⟦<ReservingStatements as Statements>⟧.stands (D.view disk) O.opening }

@@ -1,5 +1,5 @@
 // What lines of the cases say.
-use crate::following::{tell_anew, tell_crashes, tell_runs};
+use crate::following::{tell_anew, tell_crashes, tell_deaths, tell_runs};
 use crate::keeping::run_made;
 use crate::making::{tell_again, tell_stopped};
 use crate::meeting::tell_meeting;
@@ -140,6 +140,7 @@ pub fn say<R: Print + AllocGlobal + Threads + Wait + Sync>(
         "run" => run(rt, rest, NONE),
         "runs" => tell_runs(rt, world.head.as_slice(), rest),
         "anew" => tell_anew(rt, rest),
+        "deaths" => tell_deaths(rt, world.head.as_slice(), rest),
         "crashes" => tell_crashes(rt, world.head.as_slice(), rest),
         "run-long" => run_long(rt, rest),
         "say-chain" => say_chain(rt, rest),

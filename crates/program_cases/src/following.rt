@@ -9,6 +9,9 @@ use rdb_types::{Moment, NoMemory};
 use std::sync::Wait;
 use std::thread::Threads;
 
+/// More steps than a session of the cases has.
+const MOST_STEPS: u32 = 10_000;
+
 // A run over what is on the disk.
 fn run_over<R: Print + AllocGlobal + Threads + Wait + Sync>(
     rt: &R,
@@ -73,22 +76,20 @@ pub fn tell_anew<R: Print + AllocGlobal + Threads + Wait + Sync>(
     tell_each(rt, line, disk)
 }
 
-// What a run writes over what a crash left, told where it is other than the last such run wrote.
-fn tell_left<R: Print + AllocGlobal + Threads + Wait + Sync>(
+// Tells what a run wrote where it is other than what the last one wrote.
+fn tell_other<R: Print + AllocGlobal>(
     rt: &R,
-    run: &str,
-    left: MemoryDisk,
+    outcome: &Outcome,
     last: Vec<u8>,
 ) -> Result<Vec<u8>, NoMemory> {
-    let outcome = run_over(rt, run, left)?;
     if outcome.out.written() == last.as_slice() {
         return Ok(last);
     }
-    tell(rt, &outcome);
+    tell(rt, outcome);
     Ok(Vec::from_slice(rt.alloc(), outcome.out.written())?)
 }
 
-// The same with none of the writes that aren't stable, with each second one, and with all.
+// What a run writes over what a crash at a moment leaves, with none of the writes that aren't stable, with each second one, and with all.
 fn tell_picks<R: Print + AllocGlobal + Threads + Wait + Sync>(
     rt: &R,
     run: &str,
@@ -100,8 +101,8 @@ fn tell_picks<R: Print + AllocGlobal + Threads + Wait + Sync>(
 {
     let mut last = last;
     for pick in [0, 0x5555_5555, u32::MAX] {
-        let left = disk.after(moment, pick)?;
-        last = tell_left(rt, run, left, last)?;
+        let outcome = run_over(rt, run, disk.after(moment, pick)?)?;
+        last = tell_other(rt, &outcome, last)?;
     }
     Ok(last)
 }
@@ -119,6 +120,26 @@ pub fn tell_crashes<R: Print + AllocGlobal + Threads + Wait + Sync>(
     let mut last = Vec::new(rt.alloc());
     for number in first..=disk.moment().number {
         last = tell_picks(rt, then, &disk, Moment { number }, last)?;
+    }
+    Ok(())
+}
+
+/// Says the head to a new database and the scripts over it, once for each step of the first session, before which it dies.
+pub fn tell_deaths<R: Print + AllocGlobal + Threads + Wait + Sync>(
+    rt: &R,
+    head: &[u8],
+    line: &str,
+) -> Result<(), NoMemory> {
+    let mut last = Vec::new(rt.alloc());
+    for step in 1..MOST_STEPS {
+        let run = format!(in rt.alloc(); "RDO --DIE=1:{step} {line}")?;
+        let disk = behind_head(rt, head)?;
+        let outcome = run_over(rt, run.as_str(), disk)?;
+        if outcome.status != 8 {
+            tell(rt, &outcome);
+            return Ok(());
+        }
+        last = tell_other(rt, &outcome, last)?;
     }
     Ok(())
 }

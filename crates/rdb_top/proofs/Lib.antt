@@ -4,3 +4,4 @@ mod Reading
 mod Unsaid
 mod Fewness
 mod Saying
+mod Deaths

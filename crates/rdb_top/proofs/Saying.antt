@@ -1,14 +1,16 @@
 -- What an account opens with, where scripts are said to a database.
-use Rattle.std.proofs.Common.{ℕ, List}
+use Rattle.std.proofs.Common.{ℕ, List, Option}
 use Rattle.rdo_ast.specs.declared.syntax.Item.{Item}
 use Rattle.rdb_outside.specs.Disk.{View}
 use Rattle.rdb_account.specs.Places.{Opening}
 use Rattle.session_jobs.specs.Records.{Model}
 use Rattle.line_runs.specs.Openings.{OpensWith, said_to}
+use Rattle.command_words.specs.declared.deaths.Death.{Death}
+use Rattle.rdb_top.specs.Deaths.{letting}
 
--- Neither the word nor the scripts are of the disk.
-pub opens : (M : Model) (v : View) (o : Opening) (word : List ℕ) (scripts : List (List Item)) → OpensWith M v o → OpensWith M v (said_to o word scripts)
-opens M v o word scripts h = record {
+-- Neither the word nor the scripts are of the disk, nor who may die.
+pub opens : (M : Model) (v : View) (death : Option Death) (o : Opening) (word : List ℕ) (scripts : List (List Item)) → OpensWith M v o → OpensWith M v (said_to (letting death o) word scripts)
+opens M v death o word scripts h = record {
   tells = h.tells;
   classes = h.classes;
   lines = h.lines;

@@ -18,6 +18,7 @@ use Rattle.line_runs.specs.Openings.{said_to}
 use Rattle.command_words.specs.declared.words.Scripts.{Scripts}
 use Rattle.command_words.specs.declared.words.Command.{Command}
 use Rattle.command_words.specs.declared.words.Command.TheVariants.{New, Rdo, Verify, Dump, DumpPage}
+use Rattle.rdb_top.specs.Deaths.{letting}
 use Rattle.script_streams.specs.declared.read.ReadStop.{ReadStop}
 use Rattle.script_streams.specs.declared.read.ReadStop.TheVariants.{Failed, OutOfMemory, TooLong}
 
@@ -64,9 +65,9 @@ has_death events = list_any is_death events
 -- the account of a run of these scripts' items is legal, whole where every session that lived said its items, and keeps to the order where there is one
 abbrev pub IsRun : Opening → List ℕ → Scripts → List ℕ → ℕ → List Event → List (List Item) → Type 0
 IsRun o word given order status events scripts =
-    IsLegal (said_to o word scripts) (map event_of events)
-    × (IsWhole status → HaveAllEnded (said_to o word scripts) given.count (map event_of events))
-    × (given.has_order ≡ true → IsWhole status → KeepsTurns (said_to o word scripts) given.count order events)
+    IsLegal (said_to (letting given.death o) word scripts) (map event_of events)
+    × (IsWhole status → HaveAllEnded (said_to (letting given.death o) word scripts) given.count (map event_of events))
+    × (given.has_order ≡ true → IsWhole status → KeepsTurns (said_to (letting given.death o) word scripts) given.count order events)
 
 -- there are so many scripts of which it holds: where the source tells them, its own
 abbrev pub OfSomeScripts : ℕ → Type 0 → List (List Item) → (List (List Item) → Type 0) → Type 0

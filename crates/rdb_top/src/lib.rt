@@ -1,6 +1,7 @@
 //! The top call: a command, by its words, over a disk, scripts and an output.
 #![tactic(auto)]
 
+mod dying;
 mod scripts;
 mod top;
 

@@ -13,7 +13,7 @@ ghost use Rattle.script_streams.specs.Fronts.{WritesFront};
 ghost use Rattle.rdb_drive.specs.Boards.{IsSession, MayDie};
 ghost use Rattle.rdb_account.specs.Events.{event_of};
 ghost use Rattle.rdb_account.specs.Legal.{IsLegal};
-ghost use Rattle.line_cluster.specs.Sound.{FollowsScripts};
+ghost use Rattle.line_cluster.specs.Sound.{FollowsScripts, MayFail};
 ghost use Rattle.line_cluster.specs.Turned.{HaveAllEnded};
 ghost use Rattle.line_drive.specs.Boards.{mortals_of};
 ghost use Rattle.line_drive.specs.Turns.{KeepsTurns};
@@ -21,7 +21,9 @@ ghost use Rattle.line_runs.specs.Openings.{HasNoNumbers, OpensWith, said_to};
 ghost use Rattle.rmu_commands.specs.Usable.{HasRootInUse, IsUsable, IsDumped};
 ghost use Rattle.rmu_commands.specs.Written.{Verifies, Dumps, DumpsPage, IsCleanDatabase, is_verify_status, is_dump_status};
 ghost use Rattle.rdb_top.specs.Runs.{IsRun, IsWhole, IsWritten, has_death, OfSomeScripts, is_status, is_script_status, status_at, unopened_status, scripts_of, transcripts, sessions_of};
+ghost use Rattle.rdb_top.specs.Deaths.{letting};
 
+use crate::dying::Dying;
 use crate::scripts::{account_of, read_scripts, some_died, write_transcripts};
 use command_words::{Command, Scripts, command_of, order_of};
 use line_cluster::Origin;
@@ -115,6 +117,7 @@ fn run_of<R: Threads + Wait + Sync, O: Origin + Send, D: Disk + Drop + Send, G: 
     requires few { O.sessions ≤ 16 }
     requires short { All (λ items. length items < 2 ^ 32) said.scripts.items }
     requires scripts { FollowsScripts O.opening said.scripts.items }
+    requires mortal { MayFail O.opening }
     requires entries { All (λ s. IsSession O.sessions s) order.now }
     requires word { said.word ≡ O.opening.word }
     requires mortals { MayDie (G.mortals gate.now) (mortals_of O.opening O.sessions) }
@@ -171,28 +174,29 @@ fn say_scripts<R: Threads + Wait + Sync, O: Origin, D: Disk + Drop + Send, G: Ga
 ) -> LineRun<D>
     requires row { command_for asked.words.now ≡ Some (Command.Rdo asked.given) }
     requires last { AreLast asked.words.now asked.given }
+    requires mortal { MayFail O.opening }
     requires mortals { MayDie (G.mortals gate.now) (mortals_of O.opening asked.given.count) }
     requires count { length scripts.items ≡ asked.given.count }
     requires short { All (λ items. length items < 2 ^ 32) scripts.items }
     requires opens { O.told → OpensWith ⟦<ReservingStatements as Statements>⟧.stands (D.view disk) O.opening }
-    ensures legal { O.told → IsLegal (said_to O.opening (word_of asked.entry.words.now) scripts.items) (map event_of result.events) }
-    ensures whole { O.told → result.is_whole ≡ true → HaveAllEnded (said_to O.opening (word_of asked.entry.words.now) scripts.items) asked.entry.given.count (map event_of result.events) }
+    ensures legal { O.told → IsLegal (said_to (letting asked.entry.given.death O.opening) (word_of asked.entry.words.now) scripts.items) (map event_of result.events) }
+    ensures whole { O.told → result.is_whole ≡ true → HaveAllEnded (said_to (letting asked.entry.given.death O.opening) (word_of asked.entry.words.now) scripts.items) asked.entry.given.count (map event_of result.events) }
     ensures order { asked.entry.given.has_order ≡ true → O.told → result.is_whole ≡ true →
-        KeepsTurns (said_to O.opening (word_of asked.entry.words.now) scripts.items) asked.entry.given.count (order_in asked.entry.words.now) result.events }
+        KeepsTurns (said_to (letting asked.entry.given.death O.opening) (word_of asked.entry.words.now) scripts.items) asked.entry.given.count (order_in asked.entry.words.now) result.events }
     ensures failed { result.fault ≡ Some OpeningFault.Failed → Rose (D.view disk).faults (D.view result.disk).faults }
     ensures bad { (file : File) (slot : ℕ) → result.fault ≡ Some (OpeningFault.Bad file slot) → HasNoNumbers (D.view disk) }
 {
     let given = asked.given;
     match named_by(alloc, asked) {
         Err(_) => unopened(alloc, disk),
-        Ok(Named { word, order }) => run_of::<R, Brand, D, G>(
+        Ok(Named { word, order }) => run_of::<R, Brand, D, Dying<'_, G>>(
             rt,
             alloc,
             disk,
             Said { word, scripts },
             given,
             order.as_slice(),
-            gate,
+            &Dying::of(given.death, gate),
         ),
     }
 }
@@ -278,6 +282,7 @@ fn run_rdo<
 ) -> Finish<D>
     requires row { command_for asked.words.now ≡ Some (Command.Rdo asked.given) }
     requires last { AreLast asked.words.now asked.given }
+    requires mortal { MayFail O.opening }
     requires mortals { MayDie (G.mortals gate.now) (mortals_of O.opening asked.given.count) }
     requires opens { O.told → OpensWith ⟦<ReservingStatements as Statements>⟧.stands (D.view disk) O.opening }
     ensures earlier { result.earlier ≡ [] }
@@ -295,11 +300,11 @@ fn run_rdo<
     ensures account { O.told → OfSomeScripts asked.entry.given.count (S.tells scripts.old ≡ true) (scripts_of (S.left scripts.old) asked.entry.given.count)
         (IsRun O.opening (word_of asked.entry.words.now) asked.entry.given (order_in asked.entry.words.now) result.status result.events) }
     ensures legal { O.told → S.tells scripts.old ≡ true →
-        IsLegal (said_to O.opening (word_of asked.entry.words.now) (scripts_of (S.left scripts.old) asked.entry.given.count)) (map event_of result.events) }
+        IsLegal (said_to (letting asked.entry.given.death O.opening) (word_of asked.entry.words.now) (scripts_of (S.left scripts.old) asked.entry.given.count)) (map event_of result.events) }
     ensures whole { O.told → S.tells scripts.old ≡ true → IsWhole result.status →
-        HaveAllEnded (said_to O.opening (word_of asked.entry.words.now) (scripts_of (S.left scripts.old) asked.entry.given.count)) asked.entry.given.count (map event_of result.events) }
+        HaveAllEnded (said_to (letting asked.entry.given.death O.opening) (word_of asked.entry.words.now) (scripts_of (S.left scripts.old) asked.entry.given.count)) asked.entry.given.count (map event_of result.events) }
     ensures order { asked.entry.given.has_order ≡ true → O.told → S.tells scripts.old ≡ true → IsWhole result.status →
-        KeepsTurns (said_to O.opening (word_of asked.entry.words.now) (scripts_of (S.left scripts.old) asked.entry.given.count)) asked.entry.given.count (order_in asked.entry.words.now) result.events }
+        KeepsTurns (said_to (letting asked.entry.given.death O.opening) (word_of asked.entry.words.now) (scripts_of (S.left scripts.old) asked.entry.given.count)) asked.entry.given.count (order_in asked.entry.words.now) result.events }
     ensures written { K.tells out.old ≡ true → IsWritten result.status → K.taken out.new ≡ K.taken out.old ++ transcripts asked.entry.given.count result.events }
     ensures front { K.tells out.old ≡ true → WritesFront (K.taken out.old) (K.taken out.new) (transcripts asked.entry.given.count result.events) }
 {
@@ -353,6 +358,7 @@ where
     // The origin tells what the disk holds: an image whose lines stand for its tables.
     requires opens { O.told → OpensWith ⟦<ReservingStatements as Statements>⟧.stands (D.view disk) O.opening }
     // The gate has a session die only where the origin lets it.
+    requires mortal { MayFail O.opening }
     requires mortals { (given : GivenScripts) → command_for words.now ≡ Some (Command.Rdo given) → MayDie (G.mortals gate.now) (mortals_of O.opening given.count) }
     ensures earlier { result.earlier ≡ [] }
     ensures status { is_status result.status ≡ true }
@@ -375,16 +381,16 @@ where
     // The account is legal: it says the scripts' items, each answered as one thread in the order of the commits answers it, or
     // refused for a cause that stands. It begins with the tables for which the disk's lines stand.
     ensures legal { (given : GivenScripts) → command_for words.now ≡ Some (Command.Rdo given) → O.told → S.tells scripts.old ≡ true →
-        IsLegal (said_to O.opening (word_of words.now) (scripts_of (S.left scripts.old) given.count)) (map event_of result.events) }
+        IsLegal (said_to (letting given.death O.opening) (word_of words.now) (scripts_of (S.left scripts.old) given.count)) (map event_of result.events) }
     // Every session that lived came to its script's end, and who died was recovered.
     ensures whole { (given : GivenScripts) → command_for words.now ≡ Some (Command.Rdo given) → O.told → S.tells scripts.old ≡ true → IsWhole result.status →
-        HaveAllEnded (said_to O.opening (word_of words.now) (scripts_of (S.left scripts.old) given.count)) given.count (map event_of result.events) }
+        HaveAllEnded (said_to (letting given.death O.opening) (word_of words.now) (scripts_of (S.left scripts.old) given.count)) given.count (map event_of result.events) }
     // Some session died, or none.
     ensures died { result.status ≡ 8 → has_death result.events ≡ true }
     ensures lived { (given : GivenScripts) → command_for words.now ≡ Some (Command.Rdo given) → result.status ≡ 0 → has_death result.events ≡ false }
     // The events keep to the order that the words name.
     ensures order { (given : GivenScripts) → command_for words.now ≡ Some (Command.Rdo given) → given.has_order ≡ true → O.told → S.tells scripts.old ≡ true → IsWhole result.status →
-        KeepsTurns (said_to O.opening (word_of words.now) (scripts_of (S.left scripts.old) given.count)) given.count (order_in words.now) result.events }
+        KeepsTurns (said_to (letting given.death O.opening) (word_of words.now) (scripts_of (S.left scripts.old) given.count)) given.count (order_in words.now) result.events }
     // What was written are the transcripts in the order of the sessions, or a front of them, but for the commands that write what they read.
     ensures written { only_reads (command_for words.now) ≡ false → K.tells out.old ≡ true → IsWritten result.status →
         K.taken out.new ≡ K.taken out.old ++ transcripts (sessions_of (command_for words.now)) result.events }

@@ -1,5 +1,5 @@
 -- Nothing is told of files.
-use Rattle.std.proofs.Common.{⊥, [], false}
+use Rattle.std.proofs.Common.{⊥, [], false, true}
 use Rattle.rdb_meaning.specs.Contents.{no_tables}
 use Rattle.rdb.proofs.status_of.Given as goal
 
@@ -13,7 +13,7 @@ ghosts-run g a = record {
     has_owner = λ file page. false;
     group_slots = 0;
     moment = 0;
-    may_die = λ s cause. false;
+    may_die = λ s cause. true;
   };
   sessions = 0;
   told = ⊥;

@@ -6,23 +6,24 @@ use Rattle.line_drive.specs.Turns.{KeepsTurns}
 use Rattle.line_runs.specs.Openings.{said_to}
 use Rattle.command_words.specs.declared.words.Scripts.{Scripts}
 use Rattle.command_words.specs.Words.{word_of, order_in}
+use Rattle.rdb_top.specs.Deaths.{letting}
 use Rattle.rdb_top.specs.Runs.{scripts_of, IsRun, OfSomeScripts}
 use Rattle.rdb_top.proofs.Givens.{same-given}
 use Rattle.rdb_top.proofs.top.run.Goals as goal
 
 pub returns-in-Some-Rdo-clause-legal : goal.returns-in-Some-Rdo-clause-legal
 returns-in-Some-Rdo-clause-legal g c given row told tells =
-    subst (λ n. IsLegal (said_to g.O.Origin.opening (word_of c.args.words.now) (scripts_of (g.S.Source.left c.args.scripts.now) n.count)) (map event_of c.run_rdo.result.events))
+    subst (λ n. IsLegal (said_to (letting n.death g.O.Origin.opening) (word_of c.args.words.now) (scripts_of (g.S.Source.left c.args.scripts.now) n.count)) (map event_of c.run_rdo.result.events))
     (same-given c.in-Some-Rdo.given given _ (ap Some (sym c.in-Some-Rdo.field-0-is) ∙ c.in-Some-Rdo.ensures.row) row) (c.run_rdo.ensures.legal told tells)
 
 pub returns-in-Some-Rdo-clause-whole : goal.returns-in-Some-Rdo-clause-whole
 returns-in-Some-Rdo-clause-whole g c given row told tells whole =
-    subst (λ n. HaveAllEnded (said_to g.O.Origin.opening (word_of c.args.words.now) (scripts_of (g.S.Source.left c.args.scripts.now) n.count)) n.count (map event_of c.run_rdo.result.events))
+    subst (λ n. HaveAllEnded (said_to (letting n.death g.O.Origin.opening) (word_of c.args.words.now) (scripts_of (g.S.Source.left c.args.scripts.now) n.count)) n.count (map event_of c.run_rdo.result.events))
     (same-given c.in-Some-Rdo.given given _ (ap Some (sym c.in-Some-Rdo.field-0-is) ∙ c.in-Some-Rdo.ensures.row) row) (c.run_rdo.ensures.whole told tells whole)
 
 pub returns-in-Some-Rdo-clause-order : goal.returns-in-Some-Rdo-clause-order
 returns-in-Some-Rdo-clause-order g c given row has_order told tells whole =
-    subst (λ n. KeepsTurns (said_to g.O.Origin.opening (word_of c.args.words.now) (scripts_of (g.S.Source.left c.args.scripts.now) n.count)) n.count (order_in c.args.words.now) c.run_rdo.result.events)
+    subst (λ n. KeepsTurns (said_to (letting n.death g.O.Origin.opening) (word_of c.args.words.now) (scripts_of (g.S.Source.left c.args.scripts.now) n.count)) n.count (order_in c.args.words.now) c.run_rdo.result.events)
     (same-given c.in-Some-Rdo.given given _ (ap Some (sym c.in-Some-Rdo.field-0-is) ∙ c.in-Some-Rdo.ensures.row) row)
     (c.run_rdo.ensures.order (ap (λ (n : Scripts). n.has_order) (same-given c.in-Some-Rdo.given given _ (ap Some (sym c.in-Some-Rdo.field-0-is) ∙ c.in-Some-Rdo.ensures.row) row) ∙ has_order) told tells whole)
 

@@ -5,6 +5,7 @@ use Rattle.line_cluster.specs.Turned.{HaveAllEnded}
 use Rattle.line_drive.specs.Turns.{KeepsTurns}
 use Rattle.line_runs.specs.Openings.{said_to}
 use Rattle.command_words.specs.Words.{word_of, order_in}
+use Rattle.rdb_top.specs.Deaths.{letting}
 use Rattle.rdb_top.specs.Runs.{scripts_of, IsWhole}
 use Rattle.rdb_top.proofs.Unsaid.{nothing-said, stop-is-no-end}
 use Rattle.rdb_top.proofs.Upward.{scripts-length}
@@ -12,16 +13,16 @@ use Rattle.rdb_top.proofs.top.run_rdo.Goals as goal
 
 pub returns-in-Ok-clause-legal : goal.returns-in-Ok-clause-legal
 returns-in-Ok-clause-legal g c told tells =
-    rw c.finish_scripts.ensures.events (subst (λ qs. IsLegal (said_to g.O.Origin.opening (word_of c.args.asked.words.now) qs) (map event_of c.say_scripts-ran.result.events)) (c.in-Ok.ensures.items tells) (c.say_scripts-ran.ensures.legal told))
+    rw c.finish_scripts.ensures.events (subst (λ qs. IsLegal (said_to (letting c.args.asked.given.death g.O.Origin.opening) (word_of c.args.asked.words.now) qs) (map event_of c.say_scripts-ran.result.events)) (c.in-Ok.ensures.items tells) (c.say_scripts-ran.ensures.legal told))
 
 pub returns-in-Ok-clause-whole : goal.returns-in-Ok-clause-whole
 returns-in-Ok-clause-whole g c told tells whole =
-    rw c.finish_scripts.ensures.events (subst (λ qs. HaveAllEnded (said_to g.O.Origin.opening (word_of c.args.asked.words.now) qs) c.args.asked.given.count (map event_of c.say_scripts-ran.result.events)) (c.in-Ok.ensures.items tells)
+    rw c.finish_scripts.ensures.events (subst (λ qs. HaveAllEnded (said_to (letting c.args.asked.given.death g.O.Origin.opening) (word_of c.args.asked.words.now) qs) c.args.asked.given.count (map event_of c.say_scripts-ran.result.events)) (c.in-Ok.ensures.items tells)
     (c.say_scripts-ran.ensures.whole told (c.finish_scripts.ensures.whole whole)))
 
 pub returns-in-Ok-clause-order : goal.returns-in-Ok-clause-order
 returns-in-Ok-clause-order g c has_order told tells whole =
-    rw c.finish_scripts.ensures.events (subst (λ qs. KeepsTurns (said_to g.O.Origin.opening (word_of c.args.asked.words.now) qs) c.args.asked.given.count (order_in c.args.asked.words.now) c.say_scripts-ran.result.events) (c.in-Ok.ensures.items tells)
+    rw c.finish_scripts.ensures.events (subst (λ qs. KeepsTurns (said_to (letting c.args.asked.given.death g.O.Origin.opening) (word_of c.args.asked.words.now) qs) c.args.asked.given.count (order_in c.args.asked.words.now) c.say_scripts-ran.result.events) (c.in-Ok.ensures.items tells)
     (c.say_scripts-ran.ensures.order has_order told (c.finish_scripts.ensures.whole whole)))
 
 pub returns-in-Ok-clause-account : goal.returns-in-Ok-clause-account

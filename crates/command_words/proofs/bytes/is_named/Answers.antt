@@ -2,7 +2,7 @@ use Rattle.std.proofs.Common.{◌≡◌, Some, None, sym, ap, ◌∙◌}
 use Rattle.std.specs.Option.{option_copied}
 use Rattle.command_words.specs.Bytes.{behind}
 use Rattle.command_words.proofs.Named.{ends_there, named, none_left, some_left}
-use Rattle.command_words.proofs.words.is_named.Goals as goal
+use Rattle.command_words.proofs.bytes.is_named.Goals as goal
 
 pub returns-in-None : goal.returns-in-None
 returns-in-None c =
