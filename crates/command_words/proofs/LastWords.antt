@@ -3,8 +3,7 @@ use Rattle.std.proofs.Common.{◌≡◌, ◌≤◌, ◌+◌, ◌-◌, ◌&&◌, 
 use Rattle.std.proofs.lemmas.Bool.{and_parts}
 use Rattle.std.proofs.lemmas.Bool.Decides.{nat_tests}
 use Rattle.std.proofs.lemmas.Grind.{common_steps}
-use Rattle.std.specs.List.{slice_split}
-use Rattle.command_words.specs.Deaths.{death_of, death_by, death_in, point_of}
+use Rattle.command_words.specs.Deaths.{behind_colon, death_by, death_in, death_of, point_of}
 use Rattle.command_words.specs.Options.{number_in, are_number}
 use Rattle.command_words.specs.Bytes.{digits_from}
 use Rattle.command_words.specs.Orders.{is_order}
@@ -67,11 +66,9 @@ death-of sessions word None at e = tt
 death-of sessions word (Some n) None e = tt
 death-of sessions word (Some n) (Some at) e = some-number 1 sessions word n e
 
-death-by : (sessions : ℕ) (parts : List (List ℕ)) → MayBeOf sessions (death_by sessions parts)
-death-by sessions [] = tt
-death-by sessions (s ∷ []) = tt
-death-by sessions (s ∷ p ∷ []) = death-of sessions s (number_in 1 sessions s) (point_of p) refl
-death-by sessions (s ∷ p ∷ q ∷ more) = tt
+death-by : (sessions : ℕ) (text : List ℕ) (rest : Option (List ℕ)) → MayBeOf sessions (death_by sessions text rest)
+death-by sessions text None = tt
+death-by sessions text (Some p) = death-of sessions (take (length text - length p - 1) text) (number_in 1 sessions (take (length text - length p - 1) text)) (point_of p) refl
 
 dies : (t s : Scripts) (found : Option Death) → dying t found ≡ Some s → MayBeOf t.count found → (s.first ≡ t.first) × (s.count ≡ t.count) × (s.has_order ≡ t.has_order) × MayBeOf s.count s.death
 dies t s None e h = cc
@@ -80,21 +77,21 @@ dies t s (Some death) e h = by (record t { death = Some death }) refl e
     by : (u : Scripts) → record t { death = Some death } ≡ u → Some u ≡ Some s → (s.first ≡ t.first) × (s.count ≡ t.count) × (s.has_order ≡ t.has_order) × MayBeOf s.count s.death
     by u is same =
         let here : u ≡ s = cc in
-        subst (λ (x : Scripts). (x.first ≡ t.first) × (x.count ≡ t.count) × (x.has_order ≡ t.has_order) × MayBeOf x.count x.death) (is ∙ here) (refl, (refl, (refl, h)))
+        subst (λ (x : Scripts). (x.first ≡ t.first) × (x.count ≡ t.count) × (x.has_order ≡ t.has_order) × MayBeOf x.count x.death) (is ∙ here) (refl, refl, refl, h)
 
 -- where they stand with a death
 died : (first : ℕ) (has_order : Bool) (ds : List (List ℕ)) (text : List ℕ) (found : Option Scripts) (s : Scripts) → ((t : Scripts) → found ≡ Some t → ArePlaced first has_order ds t) → with_death text found ≡ Some s → ArePlaced first has_order ds s
 died first has_order ds text None s all e = cc
 died first has_order ds text (Some t) s all e =
     let p = all t refl in
-    let d = dies t s (death_in t.count text) e (death-by t.count (slice_split (λ b. b == 58) text)) in
+    let d = dies t s (death_in t.count text) e (death-by t.count text (behind_colon text)) in
     record {
       at = d.0 ∙ p.at;
-      some = subst (λ (n : ℕ). 1 ≤ n) (sym d.1.0) p.some;
-      few = subst (λ (n : ℕ). n ≤ 16) (sym d.1.0) p.few;
-      order = d.1.1.0 ∙ p.order;
-      death = d.1.1.1;
-      all = subst (λ (n : ℕ). 1 + n ≡ length ds) (sym d.1.0) p.all;
+      some = subst (λ (n : ℕ). 1 ≤ n) (sym d.1) p.some;
+      few = subst (λ (n : ℕ). n ≤ 16) (sym d.1) p.few;
+      order = d.2 ∙ p.order;
+      death = d.3;
+      all = subst (λ (n : ℕ). 1 + n ≡ length ds) (sym d.1) p.all;
     }
 
 at_front : (ws : List (List ℕ)) → get_or ws 0 [] ≡ first_word ws
@@ -117,20 +114,20 @@ behind-order c o order (w ∷ ws) s t e = by (death_text w) refl e
 
 behind-death : (c o : List ℕ) (text : List ℕ) (ws : List (List ℕ)) (t s : Scripts) → order_text o ≡ None → death_text o ≡ Some text → behind_death ws ≡ Some t →
     (s.first ≡ t.first) × (s.count ≡ t.count) × (s.has_order ≡ t.has_order) × MayBeOf s.count s.death → AreLast (c ∷ o ∷ ws) s
-behind-death c o text [] t s no is e same = cc
-behind-death c o text (w ∷ ws) t s no is e same = by (order_text w) refl e
+behind-death c o text [] t s none is e same = cc
+behind-death c o text (w ∷ ws) t s none is e same = by (order_text w) refl e
   where
     by : (d : Option (List ℕ)) → order_text w ≡ d → elim d [ None ↦ scripts_at 3 false (w ∷ ws) | Some order ↦ with_order order (scripts_at 4 true ws) ] ≡ Some t → AreLast (c ∷ o ∷ w ∷ ws) s
     by None there e =
         let p = placed 3 false (w ∷ ws) t e in
         let at : s.first ≡ 3 = same.0 ∙ p.at in
-        let count = same.1.0 in
-        record { some = subst (λ (n : ℕ). 1 ≤ n) (sym count) p.some; few = subst (λ (n : ℕ). n ≤ 16) (sym count) p.few; behind_database = omega (arith, at); last = omega (arith, at, count, p.all); database = rw (at, no, is, there); order = rw (same.1.1.0, p.order, no, is, there); death = same.1.1.1 }
+        let count = same.1 in
+        record { some = subst (λ (n : ℕ). 1 ≤ n) (sym count) p.some; few = subst (λ (n : ℕ). n ≤ 16) (sym count) p.few; behind_database = omega (arith, at); last = omega (arith, at, count, p.all); database = rw (at, none, is, there); order = rw (same.2, p.order, none, is, there); death = same.3 }
     by (Some order) there e =
         let p = placed 4 true ws t (ordered order (scripts_at 4 true ws) t e) in
         let at : s.first ≡ 4 = same.0 ∙ p.at in
-        let count = same.1.0 in
-        record { some = subst (λ (n : ℕ). 1 ≤ n) (sym count) p.some; few = subst (λ (n : ℕ). n ≤ 16) (sym count) p.few; behind_database = omega (arith, at); last = omega (arith, at, count, p.all); database = rw (at, no, is, there) (at_front ws); order = rw (same.1.1.0, p.order, no, is, there); death = same.1.1.1 }
+        let count = same.1 in
+        record { some = subst (λ (n : ℕ). 1 ≤ n) (sym count) p.some; few = subst (λ (n : ℕ). n ≤ 16) (sym count) p.few; behind_database = omega (arith, at); last = omega (arith, at, count, p.all); database = rw (at, none, is, there) (at_front ws); order = rw (same.2, p.order, none, is, there); death = same.3 }
 
 last_words : (c w : List ℕ) (ws : List (List ℕ)) (o d : Option (List ℕ)) (s : Scripts) → order_text w ≡ o → death_text w ≡ d → rdo_from o d ws (w ∷ ws) ≡ Some s → AreLast (c ∷ w ∷ ws) s
 last_words c w ws (Some order) d s t k e = behind-order c w order ws s t (ordered order (behind_order ws) s e)
@@ -138,7 +135,7 @@ last_words c w ws None (Some text) s t k e = by (behind_death ws) refl e
   where
     by : (found : Option Scripts) → behind_death ws ≡ found → with_death text found ≡ Some s → AreLast (c ∷ w ∷ ws) s
     by None is e = cc
-    by (Some u) is e = behind-death c w text ws u s t k is (dies u s (death_in u.count text) e (death-by u.count (slice_split (λ b. b == 58) text)))
+    by (Some u) is e = behind-death c w text ws u s t k is (dies u s (death_in u.count text) e (death-by u.count text (behind_colon text)))
 last_words c w ws None None s t k e =
     let p = placed 2 false (w ∷ ws) s e in
     record { some = p.some; few = p.few; behind_database = omega (arith, p.at); last = omega (arith, p.at, p.all); database = rw (p.at, t, k); order = rw (p.order, t, k); death = p.death }

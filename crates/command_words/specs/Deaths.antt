@@ -1,6 +1,5 @@
 -- The death that `--DIE` names.
-use Rattle.std.specs.Prelude.{ℕ, ◌==◌, List, [], ◌∷◌, codes, Option, Some, None, if◌then◌else◌}
-use Rattle.std.specs.List.{slice_split}
+use Rattle.std.specs.Prelude.{ℕ, ◌-◌, ◌==◌, List, [], ◌∷◌, length, take, codes, Option, Some, None, if◌then◌else◌}
 use Rattle.command_words.specs.Bytes.{is_command}
 use Rattle.command_words.specs.Options.{number_in}
 use Rattle.command_words.specs.declared.deaths.Death.{Death}
@@ -20,12 +19,15 @@ death_of None at = None
 death_of (Some s) None = None
 death_of (Some s) (Some at) = Some (record { session = s; at = at })
 
-abbrev pub death_by : ℕ → List (List ℕ) → Option Death
-death_by sessions [] = None
-death_by sessions (s ∷ []) = None
-death_by sessions (s ∷ p ∷ []) = death_of (number_in 1 sessions s) (point_of p)
-death_by sessions (s ∷ p ∷ q ∷ more) = None
+-- what stands behind the first colon
+abbrev pub behind_colon : List ℕ → Option (List ℕ)
+behind_colon [] = None
+behind_colon (b ∷ bs) = if b == 58 then Some bs else behind_colon bs
+
+abbrev pub death_by : ℕ → List ℕ → Option (List ℕ) → Option Death
+death_by sessions text None = None
+death_by sessions text (Some p) = death_of (number_in 1 sessions (take (length text - length p - 1) text)) (point_of p)
 
 -- one of so many sessions, a colon and where it dies
 abbrev pub death_in : ℕ → List ℕ → Option Death
-death_in sessions text = death_by sessions (slice_split (λ b. b == 58) text)
+death_in sessions text = death_by sessions text (behind_colon text)

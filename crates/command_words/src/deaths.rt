@@ -1,7 +1,8 @@
 //! The death that `--DIE` names.
-ghost use Rattle.std.specs.Prelude.{◌≡◌};
+ghost use Rattle.std.specs.Prelude.{◌≡◌, ◌<◌, length, IfSome};
+ghost use Rattle.std.specs.Option.{option_copied};
 ghost use Rattle.command_words.specs.Options.{number_in as number_of_range};
-ghost use Rattle.command_words.specs.Deaths.{point_of as point_for, death_by as death_for, death_in as death_said};
+ghost use Rattle.command_words.specs.Deaths.{point_of as point_for, behind_colon as behind_colon_of, death_in as death_said};
 
 use crate::bytes::{are_digits, is_named, number_of};
 use crate::options::number_in;
@@ -53,14 +54,27 @@ fn point_of(text: &[u8]) -> Option<DeathPoint>
     }
 }
 
+// What stands behind the first colon.
+fn behind_colon<'a>(text: &'a [u8]) -> Option<&'a [u8]>
+    ensures value { option_copied result ≡ behind_colon_of text.now }
+    ensures shorter { IfSome result (λ rest. length rest.now < length text.now) }
+{
+    let mut rest = text;
+    while let [b, more @ ..] = rest {
+        if *b == b':' {
+            return Some(more);
+        }
+        rest = more;
+    }
+    None
+}
+
 /// One of so many sessions, a colon and where it dies.
 pub fn death_in(sessions: u32, text: &[u8]) -> Option<Death>
     ensures { result ≡ death_said sessions text.now }
 {
-    let mut parts = text.split(|b| *b == b':');
-    let (Some(session), Some(at), None) = (parts.next(), parts.next(), parts.next()) else {
-        return None;
-    };
+    let at = behind_colon(text)?;
+    let session = &text[..text.len() - at.len() - 1];
     match (number_in(1, sessions, session), point_of(at)) {
         (Some(session), Some(at)) => Some(Death { session, at }),
         _ => None,
