@@ -1,5 +1,6 @@
 -- What is true of the sessions of a run at every moment.
-use Rattle.std.specs.Prelude.{◌≡◌, ◌≤◌, ℕ, suc, List, [], length, map, Option, Some, None, slice_get}
+use Rattle.std.specs.Prelude.{◌≡◌, ◌≤◌, ℕ, suc, true, List, [], length, map, Option, Some, None, slice_get}
+use Rattle.rdb_types.specs.declared.session.Cause.TheVariants.{Device}
 use Rattle.rdo_ast.specs.declared.syntax.Item.{Item}
 use Rattle.rdo_ast.specs.Views.{uttered_of}
 use Rattle.rdb_account.specs.Events.{Event}
@@ -48,11 +49,16 @@ pub record IsLeft (M : Model) (o : Opening) (sight : Sight) (events : List Event
 abbrev pub fresh_member : List Item → Member
 fresh_member script = session script (length script) Outside
 
+-- any session may die of a device call that fails
+abbrev pub MayFail : Opening → Type 0
+MayFail o = (s : ℕ) → o.may_die s Device ≡ true
+
 -- they are sound, and so many: no more than the tree of locks has owners
 pub record AreSound (M : Model) (told : Type 0) (o : Opening) (sessions : ℕ) (c : Scene) (members : List Member) (events : List Event) (halt : Option Halt) : Type 0 where
   pub sound : IsSound M told o c members events halt
   pub count : length members ≡ sessions
   pub few : sessions ≤ 16
+  pub mortal : MayFail o
 
 abbrev pub IsSession : ℕ → ℕ → Type 0
 IsSession sessions s = (1 ≤ s) × (s ≤ sessions)
