@@ -18,7 +18,7 @@ use Rattle.session_stands.proofs.Seats.{outside-seat}
 use Rattle.stage_steps.specs.Scenes.{Scene}
 use Rattle.rdb_account.specs.Events.{event_of}
 use Rattle.rdb_account.specs.declared.event.Event.{Event as Declared}
-use Rattle.line_cluster.specs.Sound.{IsSound, AreSound, FollowsScripts, IsOpenedBy, fresh_member}
+use Rattle.line_cluster.specs.Sound.{IsSound, AreSound, FollowsScripts, IsOpenedBy, MayFail, fresh_member}
 
 map-got : {A B : Type 0} (f : A → B) (xs : List A) (i : ℕ) (y : B) → slice_get (map f xs) i ≡ Some y → (x : A) × (slice_get xs i ≡ Some x) × (f x ≡ y)
 map-got f [] i y h = absurd (none-some y h)
@@ -60,11 +60,12 @@ begins M orderly told o c scripts agrees away parties trail follows opens = reco
     }
 
 pub starts : (M : Model) (orderly : IsOrderly M) (told : Type 0) (o : Opening) (sessions : ℕ) (c : Scene) (scripts : List (List Item)) (members : List Member) (events : List Declared) → Agrees c.sight → ((s : ℕ) → c.sight.stand s ≡ outside) →
-    c.locks.parties ≡ [] → c.locks.trail ≡ [] → FollowsScripts o scripts → (told → IsOpenedBy M o c.word c.sight) → members ≡ map fresh_member scripts → events ≡ [] → length scripts ≡ sessions → sessions ≤ 16 →
+    c.locks.parties ≡ [] → c.locks.trail ≡ [] → FollowsScripts o scripts → (told → IsOpenedBy M o c.word c.sight) → members ≡ map fresh_member scripts → events ≡ [] → length scripts ≡ sessions → sessions ≤ 16 → MayFail o →
     AreSound M told o sessions c members (map event_of events) None
-starts M orderly told o sessions c scripts members events agrees away parties trail follows opens are none count few = record {
+starts M orderly told o sessions c scripts members events agrees away parties trail follows opens are none count few mortal = record {
   sound = subst (λ (ms : List Member). IsSound M told o c ms (map event_of events) None) (sym are) (subst (λ (es : List Declared). IsSound M told o c (map fresh_member scripts) (map event_of es) None) (sym none)
       (begins M orderly told o c scripts agrees away parties trail follows opens));
   count = ap length are ∙ (as-long fresh_member scripts ∙ count);
   few = few;
+  mortal = mortal;
 }

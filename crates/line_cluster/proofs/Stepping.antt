@@ -1,6 +1,7 @@
 -- One session steps, and all of them stay sound.
 use Rattle.std.proofs.Common.{◌≡◌, ◌≤◌, ◌-◌, ℕ, suc, true, false, ◌++◌, ◌∷◌, [], List, refl, ◌∙◌, sym, ap, subst, Option, Some, None, slice_get, slice_set, append-nil}
 use Rattle.std.proofs.lemmas.Bool.{false≢true}
+use Rattle.std.proofs.lemmas.Option.{same_Some}
 use Rattle.rdo_ast.specs.declared.syntax.Item.{Item}
 use Rattle.rdb_account.specs.Events.{Event}
 use Rattle.rdb_account.specs.Places.{Opening}
@@ -37,6 +38,7 @@ use Rattle.line_cluster.specs.Going.{IsWriterAt, writes_at, is_over, is_dead, is
 use Rattle.line_cluster.specs.declared.behind.Notice.{Notice}
 use Rattle.line_cluster.specs.Behind.{IsNoticed, is_moving}
 use Rattle.line_cluster.proofs.Places.{suc-less, set-same}
+use Rattle.line_cluster.proofs.Measured.{set-found}
 use Rattle.line_cluster.specs.Sound.{IsSound}
 
 -- what is handed back is no event
@@ -211,3 +213,8 @@ turned M orderly told o c d members put events more s at m rest y h old halt fir
     subst (λ (ms : List Member). IsSound M told o d ms more halt) put-at (subst (λ (es : List Event). IsSound M told o d (slice_set members at (session rest m.total y)) es halt) events-at
     (stepped M orderly told o c d members events at m.left rest m.total m.phase y lives (found ∙ ap Some (session-of m alive)) (subst (λ (x : Option Halt). IsSound M told o c members events x) none was) h halt
     (λ back. subst (λ (t : ℕ). GoesOn M t c m.left m.phase d rest y h) e (goes back)) going))
+
+-- who was put back lives
+pub put-lives : (members put : List Member) (at : ℕ) (m n : Member) → slice_get members at ≡ Some m → put ≡ slice_set members at n → n.life ≡ Alive → (x : Member) → slice_get put at ≡ Some x → x.life ≡ Alive
+put-lives members put at m n found put-is lives x there =
+    ap (λ (y : Member). y.life) (sym (same_Some n x (sym (set-found at members m n found) ∙ (ap (λ (ms : List Member). slice_get ms at) (sym put-is) ∙ there)))) ∙ lives

@@ -4,12 +4,12 @@ ghost use Rattle.session_measure.specs.Weights.{places_in, places_left};
 ghost use Rattle.line_cluster.specs.Measured.{IsBounded};
 ghost use Rattle.line_cluster.specs.Turned.{sessions};
 
+use crate::origin::Origin;
 use crate::sessions::Core;
 use line_store::LineStore;
 use rdb_types::Session;
 use session_jobs::Statements;
 use session_states::{Member, Phase, Stage};
-use crate::origin::Origin;
 
 // So much of a stage is done one after another.
 fn count_places(stage: &Stage)

@@ -27,7 +27,7 @@ use rdb_types::{Cause, Session};
 use reached_changes::Reaches;
 use reserved_locks::Reserves;
 use session_states::Member;
-use stage_steps::{Turned, serve};
+use stage_steps::serve;
 use std::mem::forget;
 
 impl<O: Origin, S: Reserves + Reaches, L: LineStore> Core<O, S, L> {
@@ -113,6 +113,7 @@ impl<O: Origin, S: Reserves + Reaches, L: LineStore> Core<O, S, L> {
         ensures falls { result ≡ Turn.Moved → (self.new.halt ≡ None) × LocksFall notice.to.number self.old.common.tree self.new.common.tree }
         ensures halted { result ≡ Turn.Stopped → is_some self.new.halt ≡ true }
         ensures on { GoesOn result }
+        ensures survives { result ≡ Turn.Died → ⊥ }
     {
         // (so the tree is whole)
         let _ = self.common.tree.blocker(s.number);
@@ -154,36 +155,31 @@ impl<O: Origin, S: Reserves + Reaches, L: LineStore> Core<O, S, L> {
         } = take_member(&mut self.members, at, self.common.alloc);
         let mut left = left;
         let mut allotment = self.allotments.take(s, self.common.alloc);
-        let Turned { phase, happened } =
-            go_on::<S, L>(&mut self.common, s, &mut left, &mut allotment, phase);
+        let turned = go_on::<S, L>(&mut self.common, s, &mut left, &mut allotment, phase);
         self.allotments.put(s, allotment);
         let behind = Member {
             left,
             total,
-            phase,
+            phase: turned.phase,
             life,
         };
         put_member(&mut self.members, at, behind);
-        match behind_of(&happened) {
-            Behind::Die => {
-                // (a fault owns nothing)
-                forget(happened);
-                self.fall(s, at, Cause::Device);
-                Turn::Died
-            }
-            Behind::Nothing => {
-                record(&mut self.events, self.common.alloc, s, happened);
-                Turn::Moved
-            }
-            Behind::Serve(notice) => {
-                record(&mut self.events, self.common.alloc, s, happened);
-                self.serve_notice(s, notice)
-            }
+        let then = behind_of(&turned.happened);
+        if let Behind::Die = then {
+            // (a fault owns nothing)
+            forget(turned.happened);
+            self.fall(s, at, Cause::Device);
+            return Turn::Died;
+        }
+        record(&mut self.events, self.common.alloc, s, turned.happened);
+        match then {
+            Behind::Nothing => Turn::Moved,
+            Behind::Serve(notice) => self.serve_notice(s, notice),
             Behind::Stop(halt) => {
-                record(&mut self.events, self.common.alloc, s, happened);
                 self.halt = Some(halt);
                 Turn::Stopped
             }
+            Behind::Die => unreachable!(),
         }
     }
 }

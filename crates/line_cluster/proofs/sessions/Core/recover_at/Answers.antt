@@ -4,9 +4,11 @@ use Rattle.line_store.specs.declared.answers.Fault.{Fault}
 use Rattle.session_states.specs.declared.stage.Life.{Life}
 use Rattle.stage_steps.specs.declared.dying.Recovery.{Recovery}
 use Rattle.stage_steps.specs.Deaths.{life_behind, recovery_events}
+use Rattle.stage_steps.specs.Scenes.{scene}
 use Rattle.line_cluster.specs.Turned.{with_life}
 use Rattle.line_cluster.proofs.Coming.{has-recovered-on, put-back}
 use Rattle.line_cluster.proofs.Falling.{has-recovered, dead-stands, died-at}
+use Rattle.line_cluster.proofs.Nearing.{recovered-nearer}
 use Rattle.line_cluster.proofs.sessions.Core.recover_at.Goals as goal
 
 pub recover-step-requires-clause-died : goal.recover-step-requires-clause-died
@@ -39,3 +41,10 @@ returns-in-Err-clause-came g c = record {
       ∙ put-back c.args.self.now.members.items c.args.at c.take_member-left.result c.take_member-left.ensures.taken (died-at c.args.self.now.members.items c.args.at c.take_member-left.result c.requires.dead c.take_member-left.ensures.taken)));
   events = refl;
 }
+
+pub returns-in-Ok-clause-nearer : goal.returns-in-Ok-clause-nearer
+returns-in-Ok-clause-nearer g c = λ moved.
+    recovered-nearer g.S.Statements.stands (scene c.args.self.now.common.word (g.L.LineStore.sight c.args.self.now.common.store) c.args.self.now.common.tree) (scene c.recover-step.new.common.word (g.L.LineStore.sight c.recover-step.new.common.store) c.recover-step.new.common.tree)
+    c.args.self.now.members.items c.args.self.now.allotments c.args.at c.take_member-left.result (died-at c.args.self.now.members.items c.args.at c.take_member-left.result c.requires.dead c.take_member-left.ensures.taken) c.take_member-left.ensures.taken c.put_member.new.members.items c.recover-step.result c.in-Ok.step c.args.self.now.halt c.requires.going c.in-Ok.is
+    (c.recover-step.ensures c.take_member-left.result.phase)
+    (c.put_member.ensures ∙ (c.take_member-left.ensures.rest _ ∙ ap (λ (l : Life). slice_set c.args.self.now.members.items c.args.at (with_life l c.take_member-left.result)) c.life_behind.ensures))
