@@ -1,5 +1,5 @@
 -- Sessions that have said nothing are sound.
-use Rattle.std.proofs.Common.{◌≡◌, ◌≤◌, ℕ, zero, suc, ◌∷◌, [], List, length, map, refl, ◌∙◌, sym, ap, subst, arith, Some, None, slice_get}
+use Rattle.std.proofs.Common.{◌≡◌, ◌≤◌, ℕ, zero, suc, ◌∷◌, [], List, length, map, refl, ◌∙◌, sym, ap, subst, arith, Some, None, slice_get, inl}
 use Rattle.std.proofs.lemmas.Option.{none-some, same_Some}
 use Rattle.rdo_ast.specs.declared.syntax.Item.{Item}
 use Rattle.rdo_ast.specs.Views.{uttered_of}
@@ -18,6 +18,7 @@ use Rattle.session_stands.proofs.Seats.{outside-seat}
 use Rattle.stage_steps.specs.Scenes.{Scene}
 use Rattle.rdb_account.specs.Events.{event_of}
 use Rattle.rdb_account.specs.declared.event.Event.{Event as Declared}
+use Rattle.line_cluster.proofs.Stepping.{told-images}
 use Rattle.line_cluster.specs.Sound.{IsSound, AreSound, FollowsScripts, IsOpenedBy, MayFail, fresh_member}
 
 map-got : {A B : Type 0} (f : A → B) (xs : List A) (i : ℕ) (y : B) → slice_get (map f xs) i ≡ Some y → (x : A) × (slice_get xs i ≡ Some x) × (f x ≡ y)
@@ -39,6 +40,7 @@ begins M orderly told o c scripts agrees away parties trail follows opens = reco
   legal = λ t. (tells t).kept.right.legal;
   seated = λ none. began c.sight.stand c.locks (map fresh_member scripts) parties (λ s. ap bare (away s)) fresh-phase;
   kept = λ none t. tells t;
+  images = λ t. told-images M o c.word c.sight c.locks (map fresh_member scripts) [] (tells t);
 }
   where
     fresh-phase : (i : ℕ) (m : Member) → slice_get (map fresh_member scripts) i ≡ Some m → (m.phase ≡ Outside) × (m.life ≡ Alive)
@@ -57,6 +59,12 @@ begins M orderly told o c scripts agrees away parties trail follows opens = reco
             total = as-long uttered_of at.0;
             seat = outside-seat (is.shelf.seat (suc i)) (sym (agrees is.shelf is.shown (suc i)) ∙ ap bare (away (suc i)));
           }));
+      images = record {
+        opened = (is.opened c.locks parties trail).past;
+        opening = λ lines l. record { before = []; behind = []; is = refl; enough = omega arith; stood = record { tables = o.tables; stands = is.left lines l; among = inl refl } };
+        past = λ k x found. absurd (none-some x found);
+        each = λ k x found. absurd (none-some x found);
+      };
     }
 
 pub starts : (M : Model) (orderly : IsOrderly M) (told : Type 0) (o : Opening) (sessions : ℕ) (c : Scene) (scripts : List (List Item)) (members : List Member) (events : List Declared) → Agrees c.sight → ((s : ℕ) → c.sight.stand s ≡ outside) →

@@ -6,9 +6,11 @@ use Rattle.rdo_ast.specs.Views.{uttered_of}
 use Rattle.rdb_account.specs.Events.{Event}
 use Rattle.rdb_account.specs.Places.{Opening, place}
 use Rattle.rdb_account.specs.Legal.{IsLegal}
+use Rattle.line_view.specs.Knowledge.{Lines}
 use Rattle.lock_tree_laws.specs.Forest.{State}
 use Rattle.line_store.specs.Shelves.{Shelf}
 use Rattle.line_store.specs.Sights.{Sight}
+use Rattle.line_steps.specs.Images.{AreLeft}
 use Rattle.session_jobs.specs.Records.{Model}
 use Rattle.session_states.specs.declared.stage.Phase.TheVariants.{Outside}
 use Rattle.session_states.specs.declared.stage.Member.{Member}
@@ -18,11 +20,18 @@ use Rattle.session_stands.specs.Sessions.{AreSeated, IsTold, sharing}
 use Rattle.stage_steps.specs.Scenes.{Scene}
 use Rattle.line_cluster.specs.declared.sessions.Halt.{Halt}
 
--- Where the opening told what the store holds, the account is legal. As long as no halt has come, each session stands where its phase has it, and what is shown is kept.
+-- The store shows a shelf at whose moment each map of lines that a crash since the opening might have left, and since each commit of the account, stands for what was committed then, or more.
+pub record HasImages (M : Model) (o : Opening) (sight : Sight) (events : List Event) : Type 0 where
+  pub shelf : Shelf
+  pub shown : sight.shows shelf
+  pub images : AreLeft M o events sight.left shelf.clock.time
+
+-- Where the opening told what the store holds, the account is legal, and a crash leaves what was committed. As long as no halt has come, each session stands where its phase has it, and what is shown is kept.
 pub record IsSound (M : Model) (told : Type 0) (o : Opening) (c : Scene) (members : List Member) (events : List Event) (halt : Option Halt) : Type 0 where
   pub legal : told → IsLegal o events
   pub seated : halt ≡ None → AreSeated c.sight.stand c.locks members
   pub kept : halt ≡ None → told → IsTold M o c.word c.sight c.locks members events
+  pub images : told → HasImages M o c.sight events
 
 -- session s is one of these
 pub record IsOneOf (members : List Member) (s : ℕ) : Type 0 where
@@ -34,11 +43,12 @@ pub record IsOneOf (members : List Member) (s : ℕ) : Type 0 where
 abbrev pub FollowsScripts : Opening → List (List Item) → Type 0
 FollowsScripts o scripts = (i : ℕ) (items : List Item) → slice_get scripts i ≡ Some items → o.script (suc i) ≡ map uttered_of items
 
--- a shelf is shown as an account opens
+-- a shelf is shown as an account opens, and what a crash since its moment might have left stands for its tables
 pub record IsOpenedBy (M : Model) (o : Opening) (word : List ℕ) (sight : Sight) : Type 0 where
   pub shelf : Shelf
   pub shown : sight.shows shelf
   pub opened : (locks : State) → locks.parties ≡ [] → locks.trail ≡ [] → IsOpened M o (sharing word shelf locks 0)
+  pub left : (lines : Lines) → sight.left o.moment lines → M lines o.tables
 
 -- the store shows a shelf whose committed lines stand for the tables behind all commits of the account
 pub record IsLeft (M : Model) (o : Opening) (sight : Sight) (events : List Event) : Type 0 where

@@ -9,7 +9,7 @@ ghost use Rattle.line_store.specs.Sights.{bare};
 ghost use Rattle.lock_tree_laws.specs.Forest.{IsWhole};
 ghost use Rattle.session_stands.specs.Sessions.{AreSeated};
 ghost use Rattle.line_cluster.specs.Measured.{IsBounded};
-ghost use Rattle.line_cluster.specs.Sound.{FollowsScripts, IsLeft, IsOpenedBy, IsSession, MayFail, fresh_member};
+ghost use Rattle.line_cluster.specs.Sound.{FollowsScripts, HasImages, IsLeft, IsOpenedBy, IsSession, MayFail, fresh_member};
 ghost use Rattle.line_cluster.specs.Turned.{Came, DeathCame, HasNothingLeft, HaveAllEnded, HaveEnded, IsAtEnd, RecoveryCame, Rests};
 
 use crate::allotments::Allotments;
@@ -195,6 +195,7 @@ impl<O: Origin, S: Reserves + Reaches, L: LineStore + Drop> LineCluster<O, S, L>
     pub fn end(self) -> Finished<L>
         ensures events { result.events ≡ self.events }
         ensures left { O.told → self.halted ≡ false → IsLeft S.stands O.opening (L.sight result.store) (map event_of self.events) }
+        ensures images { O.told → HasImages S.stands O.opening (L.sight result.store) (map event_of self.events) }
         ensures outside { self.halted ≡ false → HaveEnded self.members → (s : ℕ) → bare ((L.sight result.store).stand s) ≡ outside }
     {
         let LineCluster { core } = self;

@@ -6,7 +6,7 @@ ghost use Rattle.rdb_drive.specs.Boards.{IsSession, AllEnded, answers};
 ghost use Rattle.rdb_drive.specs.Steps.{StepOf};
 ghost use Rattle.line_store.specs.Seats.{outside};
 ghost use Rattle.line_store.specs.Sights.{bare};
-ghost use Rattle.line_cluster.specs.Sound.{IsLeft};
+ghost use Rattle.line_cluster.specs.Sound.{HasImages, IsLeft};
 ghost use Rattle.line_cluster.specs.Turned.{HaveAllEnded};
 ghost use Rattle.line_drive.specs.Boards.{board_of, is_stopped as is_stopped_at, marks_of};
 
@@ -127,6 +127,7 @@ impl<O: Origin, S: Reserves + Reaches, L: LineStore + Drop> LineDriver<O, S, L> 
     pub fn end(self) -> Finished<L>
         ensures events { result.events ≡ self.sessions.events }
         ensures left { O.told → self.sessions.halted ≡ false → IsLeft S.stands O.opening (L.sight result.store) (map event_of self.sessions.events) }
+        ensures images { O.told → HasImages S.stands O.opening (L.sight result.store) (map event_of self.sessions.events) }
         ensures outside { self.sessions.halted ≡ false → AllEnded O.sessions (board_of O.told O.opening self) → (s : ℕ) → bare ((L.sight result.store).stand s) ≡ outside }
     {
         let LineDriver {

@@ -5,7 +5,7 @@ ghost use Rattle.rdb_account.specs.Legal.{IsLegal};
 ghost use Rattle.rdb_drive.specs.Boards.{AllEnded, IsSession, MayDie};
 ghost use Rattle.line_store.specs.Seats.{outside};
 ghost use Rattle.line_store.specs.Sights.{bare};
-ghost use Rattle.line_cluster.specs.Sound.{IsLeft};
+ghost use Rattle.line_cluster.specs.Sound.{HasImages, IsLeft};
 ghost use Rattle.line_cluster.specs.Turned.{HaveAllEnded};
 ghost use Rattle.line_drive.specs.Boards.{board_of, mortals_of};
 ghost use Rattle.line_drive.specs.Turns.{KeepsTurns};
@@ -41,6 +41,7 @@ fn ran_of<O: Origin, S: Reserves + Reaches, L: LineStore + Drop>(
     ensures legal { O.told → IsLegal O.opening (map event_of result.events) }
     ensures whole { result.is_whole ≡ true → O.told → HaveAllEnded O.opening O.sessions (map event_of result.events) }
     ensures left { result.is_whole ≡ true → O.told → IsLeft S.stands O.opening (L.sight result.store) (map event_of result.events) }
+    ensures images { O.told → HasImages S.stands O.opening (L.sight result.store) (map event_of result.events) }
     ensures outside { result.is_whole ≡ true → (s : ℕ) → bare ((L.sight result.store).stand s) ≡ outside }
 {
     driver.facts();
@@ -70,6 +71,7 @@ pub fn run_in_order<O: Origin, S: Reserves + Reaches, L: LineStore + Drop, G: Ga
     ensures legal { O.told → IsLegal O.opening (map event_of result.events) }
     ensures whole { result.is_whole ≡ true → O.told → HaveAllEnded O.opening O.sessions (map event_of result.events) }
     ensures left { result.is_whole ≡ true → O.told → IsLeft S.stands O.opening (L.sight result.store) (map event_of result.events) }
+    ensures images { O.told → HasImages S.stands O.opening (L.sight result.store) (map event_of result.events) }
     ensures outside { result.is_whole ≡ true → (s : ℕ) → bare ((L.sight result.store).stand s) ≡ outside }
     ensures order { result.is_whole ≡ true → O.told → KeepsTurns O.opening O.sessions order.now result.events }
 {
@@ -96,6 +98,7 @@ where
     ensures legal { O.told → IsLegal O.opening (map event_of result.events) }
     ensures whole { result.is_whole ≡ true → O.told → HaveAllEnded O.opening O.sessions (map event_of result.events) }
     ensures left { result.is_whole ≡ true → O.told → IsLeft S.stands O.opening (L.sight result.store) (map event_of result.events) }
+    ensures images { O.told → HasImages S.stands O.opening (L.sight result.store) (map event_of result.events) }
     ensures outside { result.is_whole ≡ true → (s : ℕ) → bare ((L.sight result.store).stand s) ≡ outside }
 {
     let shared = Mutex::new(LineDriver::new(cluster));

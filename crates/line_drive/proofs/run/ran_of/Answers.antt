@@ -2,7 +2,7 @@ use Rattle.std.proofs.Common.{map, subst, sym, ◌∙◌}
 use Rattle.std.proofs.lemmas.Bool.{false≢true}
 use Rattle.rdb_account.specs.Events.{event_of}
 use Rattle.rdb_account.specs.Legal.{IsLegal}
-use Rattle.line_cluster.specs.Sound.{IsLeft}
+use Rattle.line_cluster.specs.Sound.{HasImages, IsLeft}
 use Rattle.line_cluster.specs.Turned.{HaveAllEnded}
 use Rattle.line_drive.proofs.Dying.{not-true}
 use Rattle.line_drive.proofs.run.ran_of.Goals.{then-has_ended, else-has_ended}
@@ -31,6 +31,10 @@ returns-clause-whole g c whole told =
 pub returns-clause-left : goal.returns-clause-left
 returns-clause-left g c whole told =
     subst (λ es. IsLeft g.S.Statements.stands g.O.Origin.opening (g.L.LineStore.sight c.end-events.result.store) (map event_of es)) (sym c.end-events.ensures.events) (c.end-events.ensures.left told (returns-clause-going g c whole))
+
+pub returns-clause-images : goal.returns-clause-images
+returns-clause-images g c told =
+    subst (λ es. HasImages g.S.Statements.stands g.O.Origin.opening (g.L.LineStore.sight c.end-events.result.store) (map event_of es)) (sym c.end-events.ensures.events) (c.end-events.ensures.images told)
 
 pub returns-clause-outside : goal.returns-clause-outside
 returns-clause-outside g c whole = c.end-events.ensures.outside (returns-clause-going g c whole) (c.requires.ended (returns-clause-ended g c whole))

@@ -26,18 +26,18 @@ go_on-turned-requires-clause-going g c = going-on c.take_member-left.result (wor
 
 pub returns-in-Nothing-clause-sound : goal.returns-in-Nothing-clause-sound
 returns-in-Nothing-clause-sound g c =
-    turned g.S.Statements.stands g.met.S.Statements.orderly g.O.Origin.told g.O.Origin.opening _ _ _ _ _ _ c.args.s.number c.args.at c.take_member-left.result _ _ _ _ _ c.requires.one.first c.requires.at c.requires.going c.requires.lives c.take_member-left.ensures.taken
-    (work-alive c.take_member-left.result (c.requires.work c.take_member-left.result c.take_member-left.ensures.taken)) c.requires.sound c.go_on-turned.ensures.goes (λ none. moving-keeps _ (c.behind_of-then.ensures.nothing c.in-Nothing.is)) (c.put_member.ensures ∙ c.take_member-left.ensures.rest _) c.record.ensures
+    turned g.S.Statements.stands g.met.S.Statements.orderly g.O.Origin.told g.O.Origin.opening _ _ (g.L.LineStore.stands c.go_on-turned.new.common.store) _ _ _ _ c.args.s.number c.args.at c.take_member-left.result _ _ _ _ _ c.requires.one.first c.requires.at c.requires.going c.requires.lives c.take_member-left.ensures.taken
+    (work-alive c.take_member-left.result (c.requires.work c.take_member-left.result c.take_member-left.ensures.taken)) c.requires.sound c.go_on-turned.ensures.goes c.go_on-turned.ensures.some (λ none. moving-keeps _ (c.behind_of-then.ensures.nothing c.in-Nothing.is)) (c.put_member.ensures ∙ c.take_member-left.ensures.rest _) c.record.ensures
 
 pub returns-in-Stop-clause-sound : goal.returns-in-Stop-clause-sound
 returns-in-Stop-clause-sound g c =
-    turned g.S.Statements.stands g.met.S.Statements.orderly g.O.Origin.told g.O.Origin.opening _ _ _ _ _ _ c.args.s.number c.args.at c.take_member-left.result _ _ _ _ _ c.requires.one.first c.requires.at c.requires.going c.requires.lives c.take_member-left.ensures.taken
-    (work-alive c.take_member-left.result (c.requires.work c.take_member-left.result c.take_member-left.ensures.taken)) c.requires.sound c.go_on-turned.ensures.goes (λ none. cc none) (c.put_member.ensures ∙ c.take_member-left.ensures.rest _) c.record.ensures
+    turned g.S.Statements.stands g.met.S.Statements.orderly g.O.Origin.told g.O.Origin.opening _ _ (g.L.LineStore.stands c.go_on-turned.new.common.store) _ _ _ _ c.args.s.number c.args.at c.take_member-left.result _ _ _ _ _ c.requires.one.first c.requires.at c.requires.going c.requires.lives c.take_member-left.ensures.taken
+    (work-alive c.take_member-left.result (c.requires.work c.take_member-left.result c.take_member-left.ensures.taken)) c.requires.sound c.go_on-turned.ensures.goes c.go_on-turned.ensures.some (λ none. cc none) (c.put_member.ensures ∙ c.take_member-left.ensures.rest _) c.record.ensures
 
 pub serve_notice-requires-clause-sound : goal.serve_notice-requires-clause-sound
 serve_notice-requires-clause-sound g c =
-    turned g.S.Statements.stands g.met.S.Statements.orderly g.O.Origin.told g.O.Origin.opening _ _ _ _ _ _ c.args.s.number c.args.at c.take_member-left.result _ _ _ _ _ c.requires.one.first c.requires.at c.requires.going c.requires.lives c.take_member-left.ensures.taken
-    (work-alive c.take_member-left.result (c.requires.work c.take_member-left.result c.take_member-left.ensures.taken)) c.requires.sound c.go_on-turned.ensures.goes (λ none. noticed-keeps _ _ (c.behind_of-then.ensures.serve c.in-Serve.notice c.in-Serve.is)) (c.put_member.ensures ∙ c.take_member-left.ensures.rest _) c.record.ensures
+    turned g.S.Statements.stands g.met.S.Statements.orderly g.O.Origin.told g.O.Origin.opening _ _ (g.L.LineStore.stands c.go_on-turned.new.common.store) _ _ _ _ c.args.s.number c.args.at c.take_member-left.result _ _ _ _ _ c.requires.one.first c.requires.at c.requires.going c.requires.lives c.take_member-left.ensures.taken
+    (work-alive c.take_member-left.result (c.requires.work c.take_member-left.result c.take_member-left.ensures.taken)) c.requires.sound c.go_on-turned.ensures.goes c.go_on-turned.ensures.some (λ none. noticed-keeps _ _ (c.behind_of-then.ensures.serve c.in-Serve.notice c.in-Serve.is)) (c.put_member.ensures ∙ c.take_member-left.ensures.rest _) c.record.ensures
 
 pub serve_notice-requires-clause-lives : goal.serve_notice-requires-clause-lives
 serve_notice-requires-clause-lives g c = lives-on _ _ c.args.at c.take_member-left.result _ _ c.take_member-left.ensures.taken (c.put_member.ensures ∙ c.take_member-left.ensures.rest _) c.requires.lives
@@ -106,8 +106,8 @@ returns-in-Serve-clause-nearer g c = λ moved.
 pub fall-requires-clause-sound : goal.fall-requires-clause-sound
 fall-requires-clause-sound g c =
     let failed = c.behind_of-then.ensures.die c.in-Die.is in
-    turned g.S.Statements.stands g.met.S.Statements.orderly g.O.Origin.told g.O.Origin.opening _ _ _ _ _ _ c.args.s.number c.args.at c.take_member-left.result _ _ _ _ _ c.requires.one.first c.requires.at c.requires.going c.requires.lives c.take_member-left.ensures.taken
-    (work-alive c.take_member-left.result (c.requires.work c.take_member-left.result c.take_member-left.ensures.taken)) c.requires.sound c.go_on-turned.ensures.goes (λ none. ap handed_back failed) (c.put_member.ensures ∙ c.take_member-left.ensures.rest _)
+    turned g.S.Statements.stands g.met.S.Statements.orderly g.O.Origin.told g.O.Origin.opening _ _ (g.L.LineStore.stands c.go_on-turned.new.common.store) _ _ _ _ c.args.s.number c.args.at c.take_member-left.result _ _ _ _ _ c.requires.one.first c.requires.at c.requires.going c.requires.lives c.take_member-left.ensures.taken
+    (work-alive c.take_member-left.result (c.requires.work c.take_member-left.result c.take_member-left.ensures.taken)) c.requires.sound c.go_on-turned.ensures.goes c.go_on-turned.ensures.some (λ none. ap handed_back failed) (c.put_member.ensures ∙ c.take_member-left.ensures.rest _)
     (sym (append-nil (map event_of c.args.self.now.events.items)) ∙ ap (λ (h : Happening). map event_of c.args.self.now.events.items ++ events_of c.args.s.number h) (sym failed))
 
 pub fall-requires-clause-lives : goal.fall-requires-clause-lives

@@ -3,7 +3,7 @@ use Rattle.rdb_account.specs.Events.{event_of}
 use Rattle.rdb_drive.specs.Boards.{AllEnded}
 use Rattle.line_store.specs.Seats.{outside}
 use Rattle.line_store.specs.Sights.{bare}
-use Rattle.line_cluster.specs.Sound.{IsLeft}
+use Rattle.line_cluster.specs.Sound.{HasImages, IsLeft}
 use Rattle.line_drive.specs.Boards.{Driven, board_of}
 use Rattle.line_drive.proofs.Dying.{all-ended}
 use Rattle.line_drive.proofs.Turning.{driven}
@@ -12,6 +12,10 @@ use Rattle.line_drive.proofs.driver.LineDriver.end.Goals as goal
 pub returns-clause-left : goal.returns-clause-left
 returns-clause-left g c =
     subst (λ (v : Driven). g.O.Origin.told → v.sessions.halted ≡ false → IsLeft g.S.Statements.stands g.O.Origin.opening (g.L.LineStore.sight c.end.result.store) (map event_of v.sessions.events)) c.self.view_is c.end.ensures.left
+
+pub returns-clause-images : goal.returns-clause-images
+returns-clause-images g c =
+    subst (λ (v : Driven). g.O.Origin.told → HasImages g.S.Statements.stands g.O.Origin.opening (g.L.LineStore.sight c.end.result.store) (map event_of v.sessions.events)) c.self.view_is c.end.ensures.images
 
 pub returns-clause-outside : goal.returns-clause-outside
 returns-clause-outside g c =
