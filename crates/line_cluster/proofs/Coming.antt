@@ -227,13 +227,13 @@ recovery-from old then new members events r = record {
   nobodys = r.nobodys;
 }
 
-pub recovery-came-from : (old then new : Sessions) (t : Turn) → then.members ≡ old.members → then.events ≡ old.events → GoesOn t → RecoveryCame then new t → RecoveryCame old new t
-recovery-came-from old then new turn.Moved members events on r = recovery-from old then new members events r
-recovery-came-from old then new turn.Stopped members events on h = record { halted = h.halted; members = h.members ∙ members; events = h.events ∙ events }
-recovery-came-from old then new (turn.Asleep u) members events on r = absurd on
-recovery-came-from old then new turn.Died members events on r = absurd r
-recovery-came-from old then new turn.Frozen members events on r = absurd on
-recovery-came-from old then new turn.Ended members events on r = absurd on
+pub recovery-came-from : (old then new : Sessions) (t : Turn) → old.halted ≡ false → then.members ≡ old.members → then.events ≡ old.events → GoesOn t → RecoveryCame then new t → RecoveryCame old new t
+recovery-came-from old then new turn.Moved going members events on r = recovery-from old then new members events r
+recovery-came-from old then new turn.Stopped going members events on h = record { halted = h.halted; members = h.members ∙ members; events = h.events ∙ events; rests = λ stopped. absurd (false≢true (sym going ∙ stopped)) }
+recovery-came-from old then new (turn.Asleep u) going members events on r = absurd on
+recovery-came-from old then new turn.Died going members events on r = absurd r
+recovery-came-from old then new turn.Frozen going members events on r = absurd on
+recovery-came-from old then new turn.Ended going members events on r = absurd on
 
 pub halt-recovery : (old new : Sessions) (t : Turn) → t ≡ turn.Stopped → IsHalt old new → RecoveryCame old new t
 halt-recovery old new t is h = subst (λ (u : Turn). RecoveryCame old new u) (sym is) h

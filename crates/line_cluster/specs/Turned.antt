@@ -150,11 +150,12 @@ Rests o s c turn.Stopped = Unit {0}
 
 -- ---- deaths
 
--- no session goes on from then on, and nothing else changed
+-- no session goes on from then on, and nothing else changed, nor anything where none went on before
 pub record IsHalt (old new : Sessions) : Type 0 where
   pub halted : new.halted ≡ true
   pub members : new.members ≡ old.members
   pub events : new.events ≡ old.events
+  pub rests : old.halted ≡ true → new ≡ old
 
 abbrev pub with_life : Life → Member → Member
 with_life l m = record { left = m.left; total = m.total; phase = m.phase; life = l }

@@ -164,13 +164,6 @@ impl<O: Origin, S: Reserves + Reaches, L: LineStore + Drop> LineCluster<O, S, L>
         self.core.halt
     }
 
-    /// What falls with each turn that moves can't fall for ever.
-    pub fn bounds(&self)
-        ensures { IsBounded self.now.measure }
-    {
-        self.core.count();
-    }
-
     /// What happened so far.
     pub fn events(&self) -> &[Event]
         ensures { result.now ≡ self.now.events }
@@ -184,11 +177,13 @@ impl<O: Origin, S: Reserves + Reaches, L: LineStore + Drop> LineCluster<O, S, L>
         ensures count { length self.now.members ≡ O.sessions }
         ensures seated { self.now.halted ≡ false → (stand : ℕ → Seat) × AreSeated stand self.now.locks self.now.members }
         ensures locks { IsWhole self.now.locks }
+        ensures bounds { IsBounded self.now.measure }
         ensures over { O.told → self.now.halted ≡ false → (s : ℕ) → 1 ≤ s → IsAtEnd s self.now → HasNothingLeft O.opening (place O.opening (map event_of self.now.events)) s }
         ensures whole { O.told → self.now.halted ≡ false → HaveEnded self.now.members → HaveAllEnded O.opening O.sessions (map event_of self.now.events) }
     {
         // (so the tree is whole)
         let _blocker = self.core.common.tree.blocker(1);
+        self.core.count();
     }
 
     /// The run is over.

@@ -1,4 +1,4 @@
-use Rattle.std.proofs.Common.{map, subst, sym, ◌∙◌}
+use Rattle.std.proofs.Common.{◌≡◌, Bool, true, false, not, ap, map, refl, subst, sym, ◌∙◌}
 use Rattle.std.proofs.lemmas.Bool.{false≢true}
 use Rattle.rdb_account.specs.Events.{event_of}
 use Rattle.rdb_account.specs.Legal.{IsLegal}
@@ -16,8 +16,18 @@ returns-clause-ended g c whole = elim c.if-has_ended.branch [
 
 pub returns-clause-going : goal.returns-clause-going
 returns-clause-going g c whole = elim c.if-has_ended.branch [
-  | then-has_ended w ↦ sym w.is_halted.ensures ∙ not-true w.is_halted.result (sym w.is_whole-is ∙ whole)
+  | then-has_ended w ↦ sym c.halt-halt.ensures ∙ (sym w.is_some.ensures ∙ not-true w.is_some.result (sym w.is_whole-is ∙ whole))
   | else-has_ended w ↦ absurd (false≢true (sym w.if-has_ended.false ∙ (sym w.is_whole-is ∙ whole)))
+]
+
+not-not : (b : Bool) → b ≡ not (not b)
+not-not true = refl
+not-not false = refl
+
+pub returns-clause-halt : goal.returns-clause-halt
+returns-clause-halt g c = elim c.if-has_ended.branch [
+  | then-has_ended w ↦ sym w.is_some.ensures ∙ (not-not w.is_some.result ∙ ap not (sym w.is_whole-is))
+  | else-has_ended w ↦ (c.halt-halt.ensures ∙ c.requires.stopped w.if-has_ended.false) ∙ ap not (sym (w.is_whole-is ∙ w.if-has_ended.false))
 ]
 
 pub returns-clause-legal : goal.returns-clause-legal

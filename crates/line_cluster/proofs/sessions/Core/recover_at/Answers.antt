@@ -1,4 +1,5 @@
-use Rattle.std.proofs.Common.{◌∙◌, ◌+◌, ◌++◌, sym, ap, refl, map, Result, slice_set, append-nil}
+use Rattle.std.proofs.Common.{◌∙◌, ◌+◌, ◌++◌, sym, ap, refl, map, Result, is_some, slice_set, append-nil}
+use Rattle.std.proofs.lemmas.Bool.{false≢true}
 use Rattle.rdb_account.specs.Events.{event_of}
 use Rattle.line_store.specs.declared.answers.Fault.{Fault}
 use Rattle.session_states.specs.declared.stage.Life.{Life}
@@ -40,6 +41,7 @@ returns-in-Err-clause-came g c = record {
       ∙ (ap (λ (l : Life). slice_set c.args.self.now.members.items c.args.at (with_life l c.take_member-left.result)) (c.life_behind.ensures ∙ ap life_behind c.in-Err.is)
       ∙ put-back c.args.self.now.members.items c.args.at c.take_member-left.result c.take_member-left.ensures.taken (died-at c.args.self.now.members.items c.args.at c.take_member-left.result c.requires.dead c.take_member-left.ensures.taken)));
   events = refl;
+  rests = λ stopped. absurd (false≢true (sym (ap is_some c.requires.going) ∙ stopped));
 }
 
 pub returns-in-Ok-clause-nearer : goal.returns-in-Ok-clause-nearer
