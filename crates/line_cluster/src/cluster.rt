@@ -150,6 +150,11 @@ impl<O: Origin, S: Reserves + Reaches, L: LineStore + Drop> LineCluster<O, S, L>
         takes_item(&self.core.members[s.number as usize - 1])
     }
 
+    /// Whether a session's next step is the barrier that makes its commit stable.
+    pub fn is_at_barrier(&self, s: Session) -> bool {
+        self.core.common.store.is_at_barrier(s)
+    }
+
     /// Whether no session goes on.
     pub fn is_halted(&self) -> bool
         ensures { result ≡ self.now.halted }

@@ -145,6 +145,9 @@ impl<O: Origin, S: Reserves + Reaches, L: LineStore + Drop> Driven for LineDrive
             let number = self.answers[s.number as usize].wrapping_add(1);
             return Point::Statement(number.min(u32::MAX as u64) as u32);
         }
+        if self.cluster.is_at_barrier(s) {
+            return Point::Barrier;
+        }
         Point::Other
     }
 
