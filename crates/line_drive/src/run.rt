@@ -1,14 +1,14 @@
 //! The sessions of a run driven to their ends.
 ghost use Rattle.std.specs.Prelude.{◌≡◌, ◌≤◌, ℕ, [], All, map, false, is_some, not, true};
 ghost use Rattle.rdb_account.specs.Events.{event_of};
-ghost use Rattle.rdb_account.specs.Legal.{IsLegal};
+ghost use Rattle.rdb_account.specs.Legal.{AreWhole, IsLegal};
 ghost use Rattle.rdb_drive.specs.Boards.{AllEnded, IsSession, MayDie};
 ghost use Rattle.line_store.specs.Seats.{outside};
 ghost use Rattle.line_store.specs.Sights.{bare};
 ghost use Rattle.line_cluster.specs.Sound.{HasImages, IsLeft};
-ghost use Rattle.line_cluster.specs.Turned.{HaveAllEnded};
+ghost use Rattle.line_cluster.specs.Turned.{HaveAllEnded, is_session};
 ghost use Rattle.line_drive.specs.Boards.{board_of, mortals_of};
-ghost use Rattle.line_drive.specs.Turns.{KeepsTurns};
+ghost use Rattle.line_drive.specs.Turns.{KeepsTurns, has_deaths};
 
 use crate::driver::LineDriver;
 use line_cluster::{Finished, Halt, LineCluster, Origin};
@@ -44,6 +44,7 @@ fn ran_of<O: Origin, S: Reserves + Reaches, L: LineStore + Drop>(
     ensures halt { is_some result.halt ≡ not result.is_whole }
     ensures legal { O.told → IsLegal O.opening (map event_of result.events) }
     ensures whole { result.is_whole ≡ true → O.told → HaveAllEnded O.opening O.sessions (map event_of result.events) }
+    ensures unharmed { result.is_whole ≡ true → O.told → has_deaths (map event_of result.events) ≡ false → AreWhole (is_session O.sessions) O.opening (map event_of result.events) }
     ensures left { result.is_whole ≡ true → O.told → IsLeft S.stands O.opening (L.sight result.store) (map event_of result.events) }
     ensures images { O.told → HasImages S.stands O.opening (L.sight result.store) (map event_of result.events) }
     ensures outside { result.is_whole ≡ true → (s : ℕ) → bare ((L.sight result.store).stand s) ≡ outside }
@@ -77,6 +78,7 @@ pub fn run_in_order<O: Origin, S: Reserves + Reaches, L: LineStore + Drop, G: Ga
     ensures legal { O.told → IsLegal O.opening (map event_of result.events) }
     ensures halt { is_some result.halt ≡ not result.is_whole }
     ensures whole { result.is_whole ≡ true → O.told → HaveAllEnded O.opening O.sessions (map event_of result.events) }
+    ensures unharmed { result.is_whole ≡ true → O.told → has_deaths (map event_of result.events) ≡ false → AreWhole (is_session O.sessions) O.opening (map event_of result.events) }
     ensures left { result.is_whole ≡ true → O.told → IsLeft S.stands O.opening (L.sight result.store) (map event_of result.events) }
     ensures images { O.told → HasImages S.stands O.opening (L.sight result.store) (map event_of result.events) }
     ensures outside { result.is_whole ≡ true → (s : ℕ) → bare ((L.sight result.store).stand s) ≡ outside }
@@ -105,6 +107,7 @@ where
     ensures legal { O.told → IsLegal O.opening (map event_of result.events) }
     ensures halt { is_some result.halt ≡ not result.is_whole }
     ensures whole { result.is_whole ≡ true → O.told → HaveAllEnded O.opening O.sessions (map event_of result.events) }
+    ensures unharmed { result.is_whole ≡ true → O.told → has_deaths (map event_of result.events) ≡ false → AreWhole (is_session O.sessions) O.opening (map event_of result.events) }
     ensures left { result.is_whole ≡ true → O.told → IsLeft S.stands O.opening (L.sight result.store) (map event_of result.events) }
     ensures images { O.told → HasImages S.stands O.opening (L.sight result.store) (map event_of result.events) }
     ensures outside { result.is_whole ≡ true → (s : ℕ) → bare ((L.sight result.store).stand s) ≡ outside }

@@ -1,10 +1,12 @@
 use Rattle.std.proofs.Common.{◌≡◌, Bool, true, false, not, ap, map, refl, subst, sym, ◌∙◌}
 use Rattle.std.proofs.lemmas.Bool.{false≢true}
 use Rattle.rdb_account.specs.Events.{event_of}
-use Rattle.rdb_account.specs.Legal.{IsLegal}
+use Rattle.rdb_account.specs.Legal.{AreWhole, IsLegal}
 use Rattle.line_cluster.specs.Sound.{HasImages, IsLeft}
-use Rattle.line_cluster.specs.Turned.{HaveAllEnded}
+use Rattle.line_cluster.specs.Turned.{HaveAllEnded, is_session}
+use Rattle.line_drive.specs.Turns.{has_deaths}
 use Rattle.line_drive.proofs.Dying.{not-true}
+use Rattle.line_drive.proofs.Unharmed.{nobody-died}
 use Rattle.line_drive.proofs.run.ran_of.Goals.{then-has_ended, else-has_ended}
 use Rattle.line_drive.proofs.run.ran_of.Goals as goal
 
@@ -37,6 +39,11 @@ pub returns-clause-whole : goal.returns-clause-whole
 returns-clause-whole g c whole told =
     subst (λ es. HaveAllEnded g.O.Origin.opening g.O.Origin.sessions (map event_of es)) (sym c.end-events.ensures.events)
     (c.facts.ensures.whole told (returns-clause-going g c whole) (c.requires.ended (returns-clause-ended g c whole)))
+
+pub returns-clause-unharmed : goal.returns-clause-unharmed
+returns-clause-unharmed g c whole told =
+    subst (λ es. has_deaths (map event_of es) ≡ false → AreWhole (is_session g.O.Origin.sessions) g.O.Origin.opening (map event_of es)) (sym c.end-events.ensures.events)
+    (λ none. nobody-died g.O.Origin.opening g.O.Origin.sessions _ (c.facts.ensures.legal told) none (c.facts.ensures.whole told (returns-clause-going g c whole) (c.requires.ended (returns-clause-ended g c whole))))
 
 pub returns-clause-left : goal.returns-clause-left
 returns-clause-left g c whole told =
