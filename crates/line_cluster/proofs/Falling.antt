@@ -61,7 +61,7 @@ module _ (M : Model) (orderly : IsOrderly M) (told : Type 0) (o : Opening) (c d 
       legal = λ t. (tells t).kept.right.legal;
       seated = λ none. sits;
       kept = λ none t. tells t;
-      images = λ t. told-images M o d.word d.sight d.locks (slice_set members i n) (events ++ es) (tells t);
+      images = λ t. told-images M orderly o d.word d.sight stands d.locks (slice_set members i n) (events ++ es) sits (tells t);
     }
 
   module _ (left : List Item) (total : ℕ) (x : Phase) (halt : Option Halt) where

@@ -26,6 +26,7 @@ use Rattle.session_states.specs.Fits.{WantsAtMost}
 use Rattle.session_stands.specs.Seated.{lock_in, NeedsFit, IsSeated, LivesAt}
 use Rattle.session_stands.specs.Sessions.{AreSeated, IsTold, dead_in, sharing}
 use Rattle.session_stands.proofs.Seating.{seated, keep-to, flies-all}
+use Rattle.session_stands.proofs.InFlight.{stand-now}
 use Rattle.session_stands.proofs.Telling.{steps}
 use Rattle.stage_steps.specs.declared.happening.Happening.{Happening}
 use Rattle.stage_steps.specs.declared.happening.Happening.TheVariants.{Quiet, Began, Answered, Unstarted, Asleep, Noticed, Got, Refused, RefusedStart, Committed, RolledBack, Left, Failed, Unlaid, Unworked, Unanswered}
@@ -42,8 +43,13 @@ use Rattle.line_cluster.proofs.Measured.{set-found}
 use Rattle.line_cluster.specs.Sound.{HasImages, IsSound}
 
 -- what a crash leaves, of what is told
-pub told-images : (M : Model) (o : Opening) (word : List ℕ) (sight : Sight) (locks : State) (members : List Member) (events : List Event) → IsTold M o word sight locks members events → HasImages M o sight events
-told-images M o word sight locks members events k = record { shelf = k.shelf; shown = k.shown; images = k.images }
+pub told-images : (M : Model) → IsOrderly M → (o : Opening) (word : List ℕ) (sight : Sight) → Stands sight → (locks : State) (members : List Member) (events : List Event) → AreSeated sight.stand locks members → IsTold M o word sight locks members events → HasImages M o sight events
+told-images M orderly o word sight stands locks members events sits k = record {
+  shelf = k.shelf;
+  shown = k.shown;
+  now = λ lines l. stand-now M o (sharing word k.shelf locks (dead_in members)) members events k.kept sight.stand sits orderly lines (stands k.shelf k.shown lines l);
+  since = k.images;
+}
 
 -- what is handed back is no event
 back-quiet : (s : ℕ) (h : Happening) (item : Item) (more : List Item) → handed_back h ≡ item ∷ more → events_of s h ≡ []
@@ -91,7 +97,7 @@ module _ (M : Model) (orderly : IsOrderly M) (told : Type 0) (o : Opening) (c d 
     legal = λ t. (tells N es g t).kept.right.legal;
     seated = λ none. sits N es g;
     kept = λ none t. tells N es g t;
-    images = λ t. told-images M o d.word d.sight d.locks (slice_set members i (session rest total y)) (events ++ es) (tells N es g t);
+    images = λ t. told-images M orderly o d.word d.sight stands d.locks (slice_set members i (session rest total y)) (events ++ es) (sits N es g) (tells N es g t);
   }
 
 module _ (M : Model) (orderly : IsOrderly M) (told : Type 0) (o : Opening) (c d : Scene) (stands : Stands d.sight) (members : List Member) (events : List Event) (i : ℕ) (left rest : List Item) (total : ℕ) (x y : Phase)
@@ -107,7 +113,8 @@ module _ (M : Model) (orderly : IsOrderly M) (told : Type 0) (o : Opening) (c d 
         legal = λ t. subst (λ (es : List Event). IsLegal o es) (sym (append-nil events) ∙ ap (λ es. events ++ es) (sym (back-quiet (suc i) h item more e))) (was.legal t);
         seated = λ none. cc (sym e ∙ going none);
         kept = λ none. cc (sym e ∙ going none);
-        images = λ t. told-images M o d.word d.sight d.locks (slice_set members i (session some.0 total y)) (events ++ events_of (suc i) h)
+        images = λ t. told-images M orderly o d.word d.sight stands d.locks (slice_set members i (session some.0 total y)) (events ++ events_of (suc i) h)
+            (sits M orderly told o c d stands members events i left some.0 total x y lives found was _ (events_of (suc i) h) some.1)
             (tells M orderly told o c d stands members events i left some.0 total x y lives found was _ (events_of (suc i) h) some.1 t);
       }
 

@@ -10,7 +10,7 @@ use Rattle.line_view.specs.Knowledge.{Lines}
 use Rattle.lock_tree_laws.specs.Forest.{State}
 use Rattle.line_store.specs.Shelves.{Shelf}
 use Rattle.line_store.specs.Sights.{Sight}
-use Rattle.line_steps.specs.Images.{AreLeft}
+use Rattle.line_steps.specs.Images.{AreLeft, IsNow}
 use Rattle.session_jobs.specs.Records.{Model}
 use Rattle.session_states.specs.declared.stage.Phase.TheVariants.{Outside}
 use Rattle.session_states.specs.declared.stage.Member.{Member}
@@ -20,11 +20,12 @@ use Rattle.session_stands.specs.Sessions.{AreSeated, IsTold, sharing}
 use Rattle.stage_steps.specs.Scenes.{Scene}
 use Rattle.line_cluster.specs.declared.sessions.Halt.{Halt}
 
--- The store shows a shelf at whose moment each map of lines that a crash since the opening might have left, and since each commit of the account, stands for what was committed then, or more.
+-- The store shows a shelf at whose moment each map of lines that a crash may leave stands for what the account has committed, or for that with the one in flight; and each that a crash might have left since the sessions began, or since a commit, for what was committed then, or more.
 pub record HasImages (M : Model) (o : Opening) (sight : Sight) (events : List Event) : Type 0 where
   pub shelf : Shelf
   pub shown : sight.shows shelf
-  pub images : AreLeft M o events sight.left shelf.clock.time
+  pub now : (lines : Lines) → sight.left shelf.clock.time lines → IsNow M o (place o events) lines
+  pub since : AreLeft M o events sight.left shelf.clock.time
 
 -- Where the opening told what the store holds, the account is legal, and a crash leaves what was committed. As long as no halt has come, each session stands where its phase has it, and what is shown is kept.
 pub record IsSound (M : Model) (told : Type 0) (o : Opening) (c : Scene) (members : List Member) (events : List Event) (halt : Option Halt) : Type 0 where
@@ -43,12 +44,11 @@ pub record IsOneOf (members : List Member) (s : ℕ) : Type 0 where
 abbrev pub FollowsScripts : Opening → List (List Item) → Type 0
 FollowsScripts o scripts = (i : ℕ) (items : List Item) → slice_get scripts i ≡ Some items → o.script (suc i) ≡ map uttered_of items
 
--- a shelf is shown as an account opens, and what a crash since its moment might have left stands for its tables
+-- a shelf is shown as an account opens
 pub record IsOpenedBy (M : Model) (o : Opening) (word : List ℕ) (sight : Sight) : Type 0 where
   pub shelf : Shelf
   pub shown : sight.shows shelf
   pub opened : (locks : State) → locks.parties ≡ [] → locks.trail ≡ [] → IsOpened M o (sharing word shelf locks 0)
-  pub left : (lines : Lines) → sight.left o.moment lines → M lines o.tables
 
 -- the store shows a shelf whose committed lines stand for the tables behind all commits of the account
 pub record IsLeft (M : Model) (o : Opening) (sight : Sight) (events : List Event) : Type 0 where
