@@ -4,7 +4,7 @@ use Rattle.std.specs.List.{AllByRecursion}
 use Rattle.std.proofs.lemmas.Option.{none-some, same_Some}
 use Rattle.rdo_ast.specs.Tree.{Uttered}
 use Rattle.rdb_account.specs.Events.{Event, Began, Wanted, Got, Demoted, Said, Committed, RolledBack, Died, Recovered}
-use Rattle.rdb_account.specs.Places.{Opening, Place, Transaction, Commit, Due, nothing, commit_reply, rollback_reply, rolls_back, after, place_from, changed, ended, committed_by, behind_roll_back, recovered_by, next_item, is_writer}
+use Rattle.rdb_account.specs.Places.{Opening, Place, Transaction, Commit, Due, nothing, commit_reply, rollback_reply, rolls_back, after, place_from, changed, ended, committed_by, behind_roll_back, recovered_by, next_item, is_writer, retold}
 use Rattle.session_states.specs.Steps.{IsAt, AreAt}
 
 -- there are more, each of this moment
@@ -34,7 +34,7 @@ changed-none s f (Some x) p = refl
 changed-none s f None p = refl
 
 committed-as : (word : List ℕ) (s m time : ℕ) (x : Transaction) (w : Bool) (p : Place) → is_writer x.kind ≡ w → m ≡ time → Adds time p.commits (committed_by word s m (Some x) p).commits
-committed-as word s m time x true p e h = record { more = _ ∷ []; is = rw e refl; at = (h, tt) }
+committed-as word s m time x true p e h = record { more = record { moment = m; tables = (retold word p.tables x.lines).tables } ∷ []; is = rw e refl; at = (h, tt) }
 committed-as word s m time x false p e h = none-more time p.commits _ (rw e refl)
 
 committed-adds : (word : List ℕ) (s m time : ℕ) (x : Option Transaction) (p : Place) → m ≡ time → Adds time p.commits (committed_by word s m x p).commits

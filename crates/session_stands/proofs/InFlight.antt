@@ -1,5 +1,5 @@
 -- Whose commit is under way on a shelf commits what its transaction wrote, and has the journal.
-use Rattle.std.proofs.Common.{◌≡◌, ℕ, zero, suc, Bool, true, false, List, [], refl, ◌∙◌, sym, ap, subst, map, Option, Some, None, slice_get, option_map}
+use Rattle.std.proofs.Common.{◌≡◌, ◌∷◌, ℕ, zero, suc, Bool, true, false, List, [], refl, ◌∙◌, sym, ap, subst, map, Option, Some, None, slice_get, option_map}
 use Rattle.std.proofs.lemmas.Bool.{false≢true}
 use Rattle.std.proofs.lemmas.Option.{none-some, same_Some}
 use Rattle.rdo_ast.specs.declared.reply.Standing.{Standing}
@@ -121,7 +121,7 @@ map-get (y ∷ ys) zero m h = ap (λ x. Some (seen x)) (same_Some y m h)
 map-get (y ∷ ys) (suc i) m h = map-get ys i m h
 
 module _ (M : Model) (o : Opening) (c : Shared) (members : List Member) (events : List Event) (k : AreKept M o c members events) (stand : ℕ → Seat) (seated : AreSeated stand c.locks members) where
-  p : Place
+  abbrev p : Place
   p = place o events
 
   flying : (s : ℕ) (ws : List Write) → in_flight (c.shelf.seat s) ≡ Some ws → IsCommitting M o p k.ground s ws
