@@ -4,6 +4,7 @@ ghost use Rattle.session_measure.specs.Weights.{places_in, places_left};
 ghost use Rattle.line_cluster.specs.Measured.{IsBounded};
 ghost use Rattle.line_cluster.specs.Turned.{sessions};
 
+use crate::members::member_at;
 use crate::origin::Origin;
 use crate::sessions::Core;
 use line_store::LineStore;
@@ -50,7 +51,7 @@ impl<O: Origin, S: Statements, L: LineStore> Core<O, S, L> {
             let s = Session {
                 number: at as u32 + 1,
             };
-            count_session(&self.members[at]);
+            count_session(member_at(&self.members, at));
             let _rounds = self.allotments.rounds(s);
             let _needs = self.common.tree.count_needs(s.number);
         }

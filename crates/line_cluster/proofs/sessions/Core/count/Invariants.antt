@@ -5,4 +5,4 @@ use Rattle.line_cluster.proofs.Bounds.{IsCounted}
 use Rattle.line_cluster.proofs.sessions.Core.count.Given as goal
 
 abbrev pub invariant-loop-at : goal.invariant-loop-at
-invariant-loop-at g l = (i : ℕ) (m : Member) → i < l.at → slice_get l.self.members.items i ≡ Some m → IsCounted (rounds_at l.self.allotments (suc i)) l.self.common.tree (suc i) m
+invariant-loop-at g l = (i : ℕ) → i < l.at → (m : Member) → slice_get l.self.members.items i ≡ Some m → IsCounted (rounds_at l.self.allotments (suc i)) l.self.common.tree (suc i) m
