@@ -23,7 +23,7 @@ use Rattle.line_store.specs.Sights.{Sight, bare}
 use Rattle.session_jobs.specs.Records.{Model}
 use Rattle.session_stands.proofs.Seats.{outside-seat}
 use Rattle.line_cluster.specs.Sound.{HasImages, IsLeft}
-use Rattle.line_runs.specs.Prefix.{IsPrefix, IsWhole, HoldsPrefix}
+use Rattle.line_runs.specs.Prefix.{IsPrefix, HoldsAll, HoldsPrefix}
 
 -- opening can start from each image that a crash may leave
 opens : (v : View) (held : StoreMemory) (h : Shelf) → Shown v held h → (image : Image) → LeftNow v image → (lines : Lines) × HasLines image lines
@@ -50,8 +50,8 @@ module _ (M : Model) (o : Opening) (v : View) (events : List Event) (held : Stor
     opening = λ image l lines is. has.since.opening lines (record { image = image; left = l; stands = is });
   }
 
-  pub is-whole : IsLeft M o (sight_of v held) events → ((s : ℕ) → bare ((sight_of v held).stand s) ≡ outside) → IsWhole M o v events
-  is-whole it rests = λ image l.
+  pub holds-all : IsLeft M o (sight_of v held) events → ((s : ℕ) → bare ((sight_of v held).stand s) ≡ outside) → HoldsAll M o v events
+  holds-all it rests = λ image l.
       let has = opens v held it.shelf it.shown image l in
       (has.0, has.1, still has.0 (standing v held it.shelf it.shown has.0 (leaves-now v held it.shelf it.shown image has.0 l has.1)))
     where

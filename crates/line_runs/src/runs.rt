@@ -13,7 +13,7 @@ ghost use Rattle.line_cluster.specs.Turned.{HaveAllEnded};
 ghost use Rattle.line_drive.specs.Boards.{mortals_of};
 ghost use Rattle.line_drive.specs.Turns.{KeepsTurns};
 ghost use Rattle.line_runs.specs.Openings.{HasNoNumbers, OpensWith};
-ghost use Rattle.line_runs.specs.Prefix.{HoldsPrefix, IsWhole};
+ghost use Rattle.line_runs.specs.Prefix.{HoldsPrefix, HoldsAll};
 
 use crate::laws::a_run_opens;
 use disk_line_store::DiskStore;
@@ -113,7 +113,7 @@ fn ended<D: Disk + Drop>(ran: Ran<DiskStore<D>>) -> LineRun<D>
     ensures is_whole { result.is_whole ≡ ran.is_whole }
     ensures fault { result.fault ≡ None }
     ensures images { (o : Opening) (events : List Event) → HasImages ⟦<ReservingStatements as Statements>⟧.stands o (⟦<DiskStore<D> as LineStore>⟧.sight ran.store) events → HoldsPrefix ⟦<ReservingStatements as Statements>⟧.stands o (D.view result.disk) events }
-    ensures left { (o : Opening) (events : List Event) → IsLeft ⟦<ReservingStatements as Statements>⟧.stands o (⟦<DiskStore<D> as LineStore>⟧.sight ran.store) events → ((s : ℕ) → bare ((⟦<DiskStore<D> as LineStore>⟧.sight ran.store).stand s) ≡ outside) → IsWhole ⟦<ReservingStatements as Statements>⟧.stands o (D.view result.disk) events }
+    ensures left { (o : Opening) (events : List Event) → IsLeft ⟦<ReservingStatements as Statements>⟧.stands o (⟦<DiskStore<D> as LineStore>⟧.sight ran.store) events → ((s : ℕ) → bare ((⟦<DiskStore<D> as LineStore>⟧.sight ran.store).stand s) ≡ outside) → HoldsAll ⟦<ReservingStatements as Statements>⟧.stands o (D.view result.disk) events }
 {
     LineRun {
         disk: ran.store.into_disk(),
@@ -144,7 +144,7 @@ pub fn say_in_order<O: Origin, D: Disk + Drop, G: Gate>(
     ensures whole { O.told → result.is_whole ≡ true → HaveAllEnded O.opening O.sessions (map event_of result.events) }
     ensures order { O.told → result.is_whole ≡ true → KeepsTurns O.opening O.sessions order.now result.events }
     ensures images { O.told → result.fault ≡ None → HoldsPrefix ⟦<ReservingStatements as Statements>⟧.stands O.opening (D.view result.disk) (map event_of result.events) }
-    ensures left { O.told → result.is_whole ≡ true → IsWhole ⟦<ReservingStatements as Statements>⟧.stands O.opening (D.view result.disk) (map event_of result.events) }
+    ensures left { O.told → result.is_whole ≡ true → HoldsAll ⟦<ReservingStatements as Statements>⟧.stands O.opening (D.view result.disk) (map event_of result.events) }
     ensures failed { result.fault ≡ Some OpeningFault.Failed → Rose (D.view disk).faults (D.view result.disk).faults }
     ensures bad { (file : File) (slot : ℕ) → result.fault ≡ Some (OpeningFault.Bad file slot) → HasNoNumbers (D.view disk) }
     ensures unsaid { (result.fault ≡ None → ⊥) → result.events ≡ [] }
@@ -174,7 +174,7 @@ pub fn say_in_threads<
     ensures legal { O.told → IsLegal O.opening (map event_of result.events) }
     ensures whole { O.told → result.is_whole ≡ true → HaveAllEnded O.opening O.sessions (map event_of result.events) }
     ensures images { O.told → result.fault ≡ None → HoldsPrefix ⟦<ReservingStatements as Statements>⟧.stands O.opening (D.view result.disk) (map event_of result.events) }
-    ensures left { O.told → result.is_whole ≡ true → IsWhole ⟦<ReservingStatements as Statements>⟧.stands O.opening (D.view result.disk) (map event_of result.events) }
+    ensures left { O.told → result.is_whole ≡ true → HoldsAll ⟦<ReservingStatements as Statements>⟧.stands O.opening (D.view result.disk) (map event_of result.events) }
     ensures failed { result.fault ≡ Some OpeningFault.Failed → Rose (D.view disk).faults (D.view result.disk).faults }
     ensures bad { (file : File) (slot : ℕ) → result.fault ≡ Some (OpeningFault.Bad file slot) → HasNoNumbers (D.view disk) }
     ensures unsaid { (result.fault ≡ None → ⊥) → result.events ≡ [] }
