@@ -36,8 +36,8 @@ fn give_unwanted(slots: &mut SnapshotSlots, members: &[Member], tsn: Tsn)
 }
 
 impl Held {
-    // Gives back the slots that are set aside for a session, and those that its transaction pushed into where no member wants them. The time grows as the slots of the snapshot files.
-    pub(crate) fn give_slots(&mut self, s: Session)
+    /// Gives back the slots that are set aside for a session, and those that its transaction pushed into where no member wants them. The time grows as the slots of the snapshot files.
+    pub fn give_slots(&mut self, s: Session)
         requires member { IsMember s.number }
         requires outside { IsAtStage self.old.members s.number Outside }
         ensures { GivesSlots s.number self.old self.new }

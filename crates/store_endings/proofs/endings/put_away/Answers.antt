@@ -10,9 +10,9 @@ use Rattle.disk_store.specs.Seats.{stand_at}
 use Rattle.disk_store.specs.Shown.{sight_of}
 use Rattle.disk_store.proofs.Failing.{does-fail}
 use Rattle.disk_store.proofs.Closing.{ended-at, ended-plain, ended-rests, keeps-it, does-close, one-member}
-use Rattle.disk_store.proofs.SlotsGiven.{does-give, forgotten-outside, no-slots, stands-outside}
-use Rattle.disk_store.proofs.Tidied.{done-still}
-use Rattle.disk_store.proofs.endings.put_away.Goals as goal
+use Rattle.store_endings.proofs.SlotsGiven.{does-give, forgotten-outside, no-slots, stands-outside}
+use Rattle.store_endings.proofs.Tidied.{done-still}
+use Rattle.store_endings.proofs.endings.put_away.Goals as goal
 
 pub returns-in_default-clause-comes : goal.returns-in_default-clause-comes
 returns-in_default-clause-comes g c =

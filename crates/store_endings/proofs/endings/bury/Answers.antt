@@ -11,9 +11,9 @@ use Rattle.disk_store.specs.Seats.{stand_of, seat_with}
 use Rattle.disk_store.specs.Shown.{sight_of}
 use Rattle.disk_store.proofs.Failing.{does-fail}
 use Rattle.disk_store.proofs.Closing.{keeps-it, does-bury, dead-rests, one-member}
-use Rattle.disk_store.proofs.SlotsGiven.{does-give, forgotten-outside, no-slots, stands-outside}
-use Rattle.disk_store.proofs.Tidied.{undone-still}
-use Rattle.disk_store.proofs.endings.bury.Goals as goal
+use Rattle.store_endings.proofs.SlotsGiven.{does-give, forgotten-outside, no-slots, stands-outside}
+use Rattle.store_endings.proofs.Tidied.{undone-still}
+use Rattle.store_endings.proofs.endings.bury.Goals as goal
 
 pub returns-in_default-clause-comes : goal.returns-in_default-clause-comes
 returns-in_default-clause-comes g c =

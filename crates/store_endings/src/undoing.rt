@@ -9,7 +9,7 @@ ghost use Rattle.disk_store.specs.Dying.{undoing_with};
 ghost use Rattle.disk_store.specs.Seats.{stand_at, IsAtStage};
 ghost use Rattle.disk_store.specs.Shown.{sight_of};
 
-use crate::{Held, MemberStage, Recovery};
+use disk_store::{Held, MemberStage, Recovery};
 use disk_seats::undo;
 use line_store::{Fault, Stepped};
 use rdb_outside::Disk;
@@ -50,7 +50,8 @@ pub fn put_back<D: Disk>(
     let member = held.member(s);
     let tsn = member.tsn;
     let all = member.journalled;
-    match undo(disk, held.limits.pages, s.number, tsn, left, &mut page) {
+    let limits = held.limits();
+    match undo(disk, limits.pages, s.number, tsn, left, &mut page) {
         Ok(rest) => {
             let recovery = undoing(rest);
             held.set_dead(s, MemberStage::Dead { commits, recovery });

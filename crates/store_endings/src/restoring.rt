@@ -8,7 +8,7 @@ ghost use Rattle.disk_store.specs.declared.member.Recovery.TheVariants as recove
 ghost use Rattle.disk_store.specs.Seats.{stand_at, IsAtStage};
 ghost use Rattle.disk_store.specs.Shown.{sight_of};
 
-use crate::{Held, MemberStage, Recovery};
+use disk_store::{Held, MemberStage, Recovery};
 use disk_seats::settle;
 use line_store::{Fault, Stepped};
 use rdb_outside::Disk;

@@ -10,7 +10,7 @@ use Rattle.disk_store.specs.Standing.{StageStands}
 use Rattle.disk_store.specs.Shown.{sight_of}
 use Rattle.disk_store.proofs.EndingOpen.{does-end}
 use Rattle.disk_store.proofs.Stages.{is-writing, rolled-now, may-end-begun}
-use Rattle.disk_store.proofs.rolling.roll_back.Goals as goal
+use Rattle.store_endings.proofs.rolling.roll_back.Goals as goal
 
 pub returns : goal.returns
 returns g c =

@@ -1,17 +1,13 @@
 // A session dies.
-ghost use Rattle.std.specs.Prelude.{◌≡◌, true, Some, slice_get};
+ghost use Rattle.std.specs.Prelude.{◌≡◌};
 ghost use Rattle.line_store.specs.Seats.{IsMember, IsAlive, died};
 ghost use Rattle.line_store.specs.Sights.{Does, Dies};
-ghost use Rattle.disk_store.specs.declared.member.Member.{Member as Sits};
-ghost use Rattle.disk_store.specs.Commits.{is_free};
-ghost use Rattle.disk_store.specs.Dying.{recovery_at, dead_at, has_none, forgotten};
-ghost use Rattle.disk_store.specs.Memory.{with_member};
+ghost use Rattle.disk_store.specs.Dying.{recovery_at, dead_at, has_none};
 ghost use Rattle.disk_store.specs.Seats.{stand_at};
 ghost use Rattle.disk_store.specs.Shown.{sight_of};
 
-use crate::{Held, Member, MemberStage, Recovery};
+use disk_store::{Held, MemberStage, Recovery};
 use line_seat::CommitStage;
-use member_memory::MemberLines;
 use member_steps::CommitTurn;
 use rdb_outside::Disk;
 use rdb_types::Session;
@@ -61,28 +57,6 @@ fn forgets(stage: MemberStage) -> bool
         MemberStage::Closing => true,
         MemberStage::Reading => true,
         _ => false,
-    }
-}
-
-impl Held {
-    /// A session's member.
-    pub fn member(&self, s: Session) -> &Member
-        requires { IsMember s.number }
-        ensures { slice_get self.now.members s.number ≡ Some result.now }
-    {
-        &self.members[s.number as usize]
-    }
-
-    // A session comes to another stage, at which no commit of it is prepared, under way or to be judged, and its lines are forgotten.
-    pub(crate) fn forget(&mut self, s: Session, next: MemberStage)
-        requires member { IsMember s.number }
-        requires free { is_free next ≡ true }
-        ensures { (m : Sits) × (slice_get self.old.members s.number ≡ Some m)
-            × (self.new ≡ with_member s.number (forgotten next m) self.old) }
-    {
-        let member = &mut self.members[s.number as usize];
-        member.stage = next;
-        member.written = MemberLines::new(self.alloc);
     }
 }
 

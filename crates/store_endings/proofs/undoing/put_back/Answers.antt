@@ -17,8 +17,8 @@ use Rattle.disk_store.specs.Shown.{sight_of}
 use Rattle.disk_store.proofs.Members.{set-here}
 use Rattle.disk_store.proofs.DeadStages.{undoing-ready}
 use Rattle.disk_store.proofs.Closing.{one-member}
-use Rattle.disk_store.proofs.PutBack.{undone-with, does-back, does-none-left, fewer-left, cause-of}
-use Rattle.disk_store.proofs.undoing.put_back.Goals as goal
+use Rattle.store_endings.proofs.PutBack.{undone-with, does-back, does-none-left, fewer-left, cause-of}
+use Rattle.store_endings.proofs.undoing.put_back.Goals as goal
 
 -- it was dead before
 flies-still : (members : List Member) (s : ℕ) (commits : Bool) (left : Recovery) → IsAtStage members s (stage.Dead commits left) → commits ≡ true → (m : Member) → slice_get members s ≡ Some m → is_flying m.stage ≡ true
@@ -75,7 +75,7 @@ returns-in-Ok-clause-comes g c =
     (does-back v w held s at.member c.args.commits c.args.left c.in-Ok.rest (undoing_with c.in-Ok.rest) at.is at.at (λ ledger u. undone-with ledger s _ c.in-Ok.rest u) writes.0 writes.1 writes.2 writes.3
     (λ t ledger facts limits u.
     let tsn = ap (λ (x : Member). x.tsn) mine ∙ u.number in
-    let pages = ap (λ (x : StoreMemory). x.limits.pages) c.held.view_is ∙ ap (λ (l : Limits). l.pages) (sym limits) in
+    let pages = ap (λ (l : Limits). l.pages) (c.limits-limits.ensures ∙ sym limits) in
     record { lines = c.undo.ensures.restores t ledger u.transaction u.all facts u.stands u.is_open tsn pages; facts = c.in-Ok.ensures.undone t ledger u.transaction u.all facts u.stands u.is_open tsn pages })
     c.undo.ensures.classes c.undo.ensures.owners (λ h k. GoesOn s h k)
     (λ h k moves before behind faults faults-behind. record { moves = moves; less = let fewer = fewer-left c.in-Ok.rest c.args.left (at_stage (stage.Dead c.args.commits (undoing_with c.in-Ok.rest)) at.member) c.in-Ok.ensures.fewer in omega (arith, before, behind, fewer) }))
@@ -110,7 +110,7 @@ returns-in-Err-clause-comes g c =
     (does-back v w held s at.member c.args.commits c.args.left at.member.journalled (recovery.Undoing at.member.journalled) at.is at.at (λ ledger u. u) writes.0 writes.1 writes.2 writes.3
     (λ t ledger facts limits u.
     let tsn = ap (λ (x : Member). x.tsn) mine ∙ u.number in
-    let pages = ap (λ (x : StoreMemory). x.limits.pages) c.held.view_is ∙ ap (λ (l : Limits). l.pages) (sym limits) in
+    let pages = ap (λ (l : Limits). l.pages) (c.limits-limits.ensures ∙ sym limits) in
     record {
       lines = c.undo.ensures.restores t ledger u.transaction u.all facts u.stands u.is_open tsn pages;
       facts = subst (λ (k : ℕ). LedgerFacts w (stands_as s (undoing u.all k) ledger)) (sym u.count) (c.undo.ensures.keeps t ledger u.transaction u.all facts u.stands u.is_open tsn pages);

@@ -12,7 +12,7 @@ use Rattle.disk_store.proofs.Failing.{does-fail}
 use Rattle.disk_store.proofs.Closing.{one-member}
 use Rattle.disk_store.proofs.Restored.{keeps-read, does-restore}
 use Rattle.disk_store.specs.Commits.{is_flying}
-use Rattle.disk_store.proofs.restoring.restore.Goals as goal
+use Rattle.store_endings.proofs.restoring.restore.Goals as goal
 
 pub set_dead-requires-clause-flies : goal.set_dead-requires-clause-flies
 set_dead-requires-clause-flies g c flies x is =

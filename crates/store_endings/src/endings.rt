@@ -9,7 +9,7 @@ ghost use Rattle.disk_store.specs.Giving.{HasNoSlots};
 ghost use Rattle.disk_store.specs.Seats.{stand_at, IsAtStage};
 ghost use Rattle.disk_store.specs.Shown.{sight_of};
 
-use crate::{Held, MemberStage};
+use disk_store::{Held, MemberStage};
 use disk_seats::close;
 use line_store::{Fault, Stepped};
 use rdb_outside::Disk;

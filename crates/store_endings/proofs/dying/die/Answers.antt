@@ -7,10 +7,10 @@ use Rattle.disk_store.specs.Memory.{with_member, at_stage}
 use Rattle.disk_store.specs.Seats.{stand_of, stand_at}
 use Rattle.disk_store.specs.Shown.{sight_of}
 use Rattle.disk_store.proofs.Closing.{one-member}
-use Rattle.disk_store.proofs.Deaths.{dies-forgotten, dies-kept}
+use Rattle.store_endings.proofs.Deaths.{dies-forgotten, dies-kept}
 use Rattle.disk_store.specs.Commits.{is_free, is_flying, IsReady}
 use Rattle.disk_store.proofs.DeadStages.{dead-is, dead-flies, dead-free, dead-ready}
-use Rattle.disk_store.proofs.dying.die.Goals as goal
+use Rattle.store_endings.proofs.dying.die.Goals as goal
 
 pub forget-requires-clause-free : goal.forget-requires-clause-free
 forget-requires-clause-free g c =

@@ -5,7 +5,7 @@ ghost use Rattle.line_store.specs.Sights.{Does, RollsBack};
 ghost use Rattle.disk_store.specs.Seats.{stand_at};
 ghost use Rattle.disk_store.specs.Shown.{sight_of};
 
-use crate::{Held, MemberStage};
+use disk_store::{Held, MemberStage};
 use rdb_outside::Disk;
 use rdb_types::Session;
 
