@@ -8,8 +8,8 @@ ghost use Rattle.disk_store.specs.declared.member.Recovery.TheVariants as recove
 ghost use Rattle.disk_store.specs.Seats.{stand_at, IsAtStage};
 ghost use Rattle.disk_store.specs.Shown.{sight_of};
 
-use disk_store::{Held, MemberStage, Recovery};
 use disk_seats::settle;
+use disk_store::{Held, MemberStage, Recovery};
 use line_store::{Fault, Stepped};
 use rdb_outside::Disk;
 use rdb_types::Session;

@@ -9,8 +9,8 @@ ghost use Rattle.disk_store.specs.Dying.{undoing_with};
 ghost use Rattle.disk_store.specs.Seats.{stand_at, IsAtStage};
 ghost use Rattle.disk_store.specs.Shown.{sight_of};
 
-use disk_store::{Held, MemberStage, Recovery};
 use disk_seats::undo;
+use disk_store::{Held, MemberStage, Recovery};
 use line_store::{Fault, Stepped};
 use rdb_outside::Disk;
 use rdb_types::Session;
