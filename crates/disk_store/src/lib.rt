@@ -30,4 +30,4 @@ pub use member::{Ceiling, Member, MemberStage, Recovery};
 pub use moves::{begin, commit, give_back};
 pub use preparing::prepare;
 pub use rooms::{room, take_room};
-pub use starts::{begin_reading, end_reading};
+pub use starts::{begin_reading, leave_reading};

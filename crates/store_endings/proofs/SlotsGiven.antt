@@ -1,5 +1,5 @@
 -- Slots are given back behind the end of a session's transaction: what is shown behind it.
-use Rattle.std.proofs.Common.{◌≡◌, ◌≢◌, ◌≤◌, ◌==◌, ℕ, Bool, true, false, not, List, [], length, Some, None, inl, inr, ⊎_elim, refl, sym, ap, subst, ◌∙◌, arith}
+use Rattle.std.proofs.Common.{◌≡◌, ◌≢◌, ◌≤◌, ◌==◌, ◌&&◌, ℕ, Bool, true, false, not, List, [], length, Some, None, inl, inr, ⊎_elim, refl, sym, ap, subst, ◌∙◌, arith}
 use Rattle.std.specs.Prelude.{slice_get, slice_set}
 use Rattle.std.proofs.lemmas.Bool.{true≢false, false≢true, eq-eqb, eqb-true, and_parts}
 use Rattle.std.proofs.lemmas.Option.{same_Some}
@@ -11,6 +11,7 @@ use Rattle.line_store.specs.Shelves.{Shelf}
 use Rattle.line_store.specs.Calls.{Moves}
 use Rattle.line_store.specs.Sights.{bare, Does}
 use Rattle.snapshot_file.specs.declared.entry.SnapEntry.{SnapEntry}
+use Rattle.snapshot_file.specs.Slots.{is_free}
 use Rattle.line_versions.specs.Versions.{sees}
 use Rattle.line_versions.specs.Files.{entries_in}
 use Rattle.line_versions.specs.Course.{Course, MayBeGiven, Reading}
@@ -18,6 +19,7 @@ use Rattle.stable_lines.specs.Slots.{IsAreaFile}
 use Rattle.disk_versions.specs.Courses.{course_given}
 use Rattle.version_writing.specs.Slots.{SlotTable, GivesBack, HoldsFile, pusher_at}
 use Rattle.version_writing.specs.Tables.{HoldsAll, table_of}
+use Rattle.version_writing.specs.Wanting.{IsInUse, Sifts}
 use Rattle.version_writing.specs.declared.snapshot_slots.SnapshotSlots.{SnapshotSlots}
 use Rattle.disk_seats.specs.Ledgers.{Ledger}
 use Rattle.ledger_versions.proofs.Written.{slots_given}
@@ -25,7 +27,7 @@ use Rattle.member_memory.specs.Memory.{writes_in}
 use Rattle.disk_store.specs.declared.member.Member.{Member}
 use Rattle.disk_store.specs.declared.member.MemberStage.TheVariants as stage
 use Rattle.disk_store.specs.ChangeSteps.{without_asides}
-use Rattle.disk_store.specs.Giving.{GivesSlots, GivesUnwanted, HasNoSlots, IsUnwanted, IsUnwantedBy, MayGive, StaysStill, without_slots}
+use Rattle.disk_store.specs.Giving.{GivesSlots, GivesUnwanted, HasAllWanted, HasNoSlots, IsUnwanted, IsUnwantedBy, MayGive, SiftsAll, SiftsSlots, StaysStill, without_slots}
 use Rattle.disk_store.specs.Memory.{StoreMemory, with_member}
 use Rattle.disk_store.specs.Dying.{forgotten}
 use Rattle.disk_store.specs.Seats.{IsAtStage, seat_with, stand_at, stand_of}
@@ -56,7 +58,7 @@ all-fewer tsn old new back =
 
 -- ---- nobody wants what the transaction pushed aside
 
-module _ (v : View) (held : StoreMemory) (tsn : ℕ) (mid : SnapshotSlots) (given : GivesUnwanted tsn held.members held.slots mid) (h : Shelf) (shown : Shown v held h) where
+module _ (v : View) (held : StoreMemory) (tsn : ℕ) (unwanted : IsUnwanted tsn held.members) (h : Shelf) (shown : Shown v held h) where
   abbrev course : Course
   course = shown.versions.course
 
@@ -65,7 +67,7 @@ module _ (v : View) (held : StoreMemory) (tsn : ℕ) (mid : SnapshotSlots) (give
   ended false is = is
   ended true is =
       let one = numbered held.members tsn ((are-active v held h shown).all tsn is) in
-      absurd ((given.unwanted one.place one.member one.at).0 one.goes one.number)
+      absurd ((unwanted one.place one.member one.at).0 one.goes one.number)
 
   -- and each reader sees it
   seen : (r : ℕ) (x : Reading) → course.reader r ≡ Some x → sees x.start tsn ≡ true
@@ -74,24 +76,81 @@ module _ (v : View) (held : StoreMemory) (tsn : ℕ) (mid : SnapshotSlots) (give
       let sat : SitsAs v shown.ledger r at.member (h.seat r) = subst (λ o. Sits v shown.ledger r o (h.seat r)) at.is (shown.seats r) in
       let reading : IsReading course r at.member sat.start = shown.versions.reading r at.member sat.start at.is at.at (sat.is ∙ ap (λ st. seat_with st (writes_in at.member.written.lines) sat.start) at.at) in
       let same : reading.reading ≡ x = same_Some _ _ (sym reading.goes ∙ goes) in
-      ap (λ (y : Reading). sees y.start tsn) (sym same) ∙ (ap (λ k. sees k tsn) (sym reading.kept) ∙ (given.unwanted r at.member at.is).1 at.at)
+      ap (λ (y : Reading). sees y.start tsn) (sym same) ∙ (ap (λ k. sees k tsn) (sym reading.kept) ∙ (unwanted r at.member at.is).1 at.at)
 
-  pub may-give : (file chain : ℕ) (e : SnapEntry) → pushed-by held.slots tsn file chain ≡ true → course.followed file chain ≡ true → entries_in v.content file chain e → MayBeGiven course e
+  pub past : (e : SnapEntry) → e.pusher.number ≡ tsn → MayBeGiven course e
+  past e number = record { ended = ap course.going number ∙ ended (course.going tsn) refl; seen = λ r x goes. ap (λ k. sees x.start k) number ∙ seen r x goes }
+
+module _ (v : View) (held : StoreMemory) (tsn : ℕ) (mid : SnapshotSlots) (given : GivesUnwanted tsn held.members held.slots mid) (h : Shelf) (shown : Shown v held h) where
+  abbrev its-course : Course
+  its-course = shown.versions.course
+
+  pub may-give : (file chain : ℕ) (e : SnapEntry) → pushed-by held.slots tsn file chain ≡ true → its-course.followed file chain ≡ true → entries_in v.content file chain e → MayBeGiven its-course e
   may-give file chain e is follows stands =
-      let number = its v held.limits.snaps held.slots course tsn shown.versions.slots shown.versions.readers.versions.files file chain e is follows stands in
-      record { ended = ap course.going number ∙ ended (course.going tsn) refl; seen = λ r x goes. ap (λ k. sees x.start k) number ∙ seen r x goes }
+      past v held tsn given.unwanted h shown e (its v held.limits.snaps held.slots its-course tsn shown.versions.slots shown.versions.readers.versions.files file chain e is follows stands)
 
   not-its : (file chain : ℕ) → not (pushed-by held.slots tsn file chain) ≡ true → (pusher_at (table_of held.slots file).pushers chain).number ≢ tsn
   not-its file chain off same = true≢false (sym (ap not (sym (eq-eqb _ tsn same)) ∙ off))
 
-  pub still-holds : HoldsAll v.content (course_given (pushed-by held.slots tsn) course).followed held.limits.snaps mid
+  pub still-holds : HoldsAll v.content (course_given (pushed-by held.slots tsn) its-course).followed held.limits.snaps mid
   still-holds file is =
-      let old : HoldsFile v.content course.followed file held.limits.snaps (table_of held.slots file) = shown.versions.slots file is in
+      let old : HoldsFile v.content its-course.followed file held.limits.snaps (table_of held.slots file) = shown.versions.slots file is in
       let back = given.back file is in
       record {
         long = back.long ∙ old.long;
         used = λ chain first follows. let both = and_parts _ _ follows in (back.others chain first (not-its file chain both.1)).0 ∙ old.used chain first both.0;
         pusher = λ chain e follows stands. let both = and_parts _ _ follows in (back.others chain stands.number (not-its file chain both.1)).1 ∙ old.pusher chain e both.0 stands;
+      }
+
+-- ---- all that nobody wants
+
+-- the slots that are free
+abbrev free-now : SnapshotSlots → ℕ → ℕ → Bool
+free-now slots = λ file chain. is_free (table_of slots file).slots chain
+
+sifted-fewer : (members : List Member) (old new : SlotTable) → Sifts (λ tsn. IsUnwanted tsn members) old new → used_in new ≤ used_in old
+sifted-fewer members old new sifts = let may = sifts.may in omega (arith, may.long, may.aside, may.left)
+
+sifted-less : (members : List Member) (old new : SnapshotSlots) → SiftsAll members old new → used-all new ≤ used-all old
+sifted-less members old new all =
+    let a = sifted-fewer members old.catalog new.catalog (all 1 (record { first = omega arith; last = omega arith })) in
+    let b = sifted-fewer members old.relations new.relations (all 2 (record { first = omega arith; last = omega arith })) in
+    let c = sifted-fewer members old.indexes new.indexes (all 3 (record { first = omega arith; last = omega arith })) in
+    omega (arith, a, b, c)
+
+module _ (v : View) (held : StoreMemory) (mid : SnapshotSlots) (all : SiftsAll held.members held.slots mid) (h : Shelf) (shown : Shown v held h) where
+  abbrev of-course : Course
+  of-course = shown.versions.course
+
+  abbrev Stays : ℕ → ℕ → Type 0
+  Stays file chain = (is_free (table_of mid file).slots chain ≡ is_free (table_of held.slots file).slots chain) × (pusher_at (table_of mid file).pushers chain ≡ pusher_at (table_of held.slots file).pushers chain)
+
+  abbrev IsGiven : ℕ → ℕ → Type 0
+  IsGiven file chain = (is_free (table_of mid file).slots chain ≡ true) × IsUnwanted (pusher_at (table_of held.slots file).pushers chain).number held.members
+
+  may-sift : (file chain : ℕ) (e : SnapEntry) → free-now mid file chain ≡ true → of-course.followed file chain ≡ true → entries_in v.content file chain e → MayBeGiven of-course e
+  may-sift file chain e free follows stands =
+      let is : IsAreaFile file = shown.versions.readers.versions.files file chain follows in
+      let old : HoldsFile v.content of-course.followed file held.limits.snaps (table_of held.slots file) = shown.versions.slots file is in
+      ⊎_elim
+      (λ (stays : Stays file chain). absurd (true≢false (sym free ∙ (stays.0 ∙ old.used chain stands.number follows))))
+      (λ (given : IsGiven file chain). past v held (pusher_at (table_of held.slots file).pushers chain).number given.1 h shown e (ap (λ t. t.number) (sym (old.pusher chain e follows stands))))
+      ((all file is).may.each chain stands.number)
+
+  still-used : (b free : Bool) → (b && not free) ≡ true → free ≡ false
+  still-used b free follows = grind arith
+
+  sifted-holds : HoldsAll v.content (course_given (free-now mid) of-course).followed held.limits.snaps mid
+  sifted-holds file is =
+      let old : HoldsFile v.content of-course.followed file held.limits.snaps (table_of held.slots file) = shown.versions.slots file is in
+      let sifts = all file is in
+      record {
+        long = sifts.may.long ∙ old.long;
+        used = λ chain first follows. still-used (of-course.followed file chain) (free-now mid file chain) follows;
+        pusher = λ chain e follows stands. ⊎_elim
+            (λ (stays : Stays file chain). stays.1 ∙ old.pusher chain e (and_parts _ _ follows).0 stands)
+            (λ (given : IsGiven file chain). absurd (true≢false (sym given.0 ∙ still-used (of-course.followed file chain) (free-now mid file chain) follows)))
+            (sifts.may.each chain stands.number);
       }
 
 -- ---- what is shown
@@ -206,3 +265,25 @@ no-slots held after s gives =
           (λ (given : GivesUnwanted m.tsn.number held.members held.slots gives.mid). gone m.tsn.number held m gives.mid given file is chain first last)
           gives.gives;
     })
+
+-- ---- behind a reader
+
+pub does-sift : (v : View) (held after : StoreMemory) (s : ℕ) → IsAtStage held.members s stage.Outside → SiftsSlots s held after → Does s outside (StaysStill s) (sight_of v held) (sight_of v after)
+does-sift v held after s at sifts =
+    let m : Member = sifts.member in
+    let out : m.stage ≡ stage.Outside = subst (λ (x : Member). x.stage ≡ stage.Outside) (same_Some at.member m (sym at.is ∙ sifts.was)) at.at in
+    subst (λ (x : StoreMemory). Does s outside (StaysStill s) (sight_of v held) (sight_of v x)) (sym sifts.is)
+    (does-still v held s m sifts.was out sifts.mid (free-now sifts.mid) (sifted-less held.members held.slots sifts.mid sifts.sifts) (may-sift v held sifts.mid sifts.sifts) (sifted-holds v held sifts.mid sifts.sifts))
+
+module _ (held : StoreMemory) (s : ℕ) (m : Member) (was : slice_get held.members s ≡ Some m) (mid : SnapshotSlots) (all : SiftsAll held.members held.slots mid) where
+  abbrev IsWantedIn : ℕ → Type 0
+  IsWantedIn f = (chain : ℕ) → IsInUse (table_of (without_asides m.aside mid) f).slots chain → IsUnwanted (pusher_at (table_of (without_asides m.aside mid) f).pushers chain).number (slice_set held.members s (without_slots m)) → ⊥
+
+  wanted-all : (file : ℕ) → IsAreaFile file → IsWantedIn file
+  wanted-all = each-file IsWantedIn
+      (λ chain use off. (all 1 (record { first = omega arith; last = omega arith })).wanted chain use (unwanted-before _ held.members s m was off))
+      (λ chain use off. (all 2 (record { first = omega arith; last = omega arith })).wanted chain use (unwanted-before _ held.members s m was off))
+      (λ chain use off. (all 3 (record { first = omega arith; last = omega arith })).wanted chain use (unwanted-before _ held.members s m was off))
+
+pub all-wanted : (held after : StoreMemory) (s : ℕ) → SiftsSlots s held after → HasAllWanted after
+all-wanted held after s sifts = subst HasAllWanted (sym sifts.is) (wanted-all held s sifts.member sifts.was sifts.mid sifts.sifts)

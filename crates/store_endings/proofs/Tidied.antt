@@ -40,3 +40,10 @@ module _ (s : ℕ) (there : Seat) (a b c : Sight) (out : b.stand s ≡ outside) 
       (λ h m undone. undone.moves) (λ h. refl)
       (λ h m g undone stays. record { commits = undone.commits; writes = undone.writes; was = undone.was; moves = moves-in-turn s outside outside h m g undone.moves (subst (λ x. Moves s x m g) undone.moves.mine stays.0); at = undone.at ∙ sym stays.1 })
       first then)
+
+  pub moved-still : Does s there (λ h g. Moves s outside h g) a b → Does s there (λ h g. Moves s outside h g) a c
+  moved-still first = does-there s outside there (λ h g. Moves s outside h g) a c (arrives first.mine)
+      (does-behind-move s there outside (λ h g. Moves s outside h g) (StaysStill s) (λ h g. Moves s outside h g) (λ h. outside) a b c
+      (λ h m moves. moves) (λ h. refl)
+      (λ h m g moves stays. moves-in-turn s outside outside h m g moves (subst (λ x. Moves s x m g) moves.mine stays.0))
+      first then)

@@ -3,12 +3,14 @@
 
 mod dying;
 mod endings;
+mod reading;
 mod restoring;
 mod rolling;
 mod undoing;
 
 pub use dying::die;
 pub use endings::{bury, put_away};
+pub use reading::end_reading;
 pub use restoring::restore;
 pub use rolling::roll_back;
 pub use undoing::put_back;
