@@ -281,9 +281,9 @@ module _ (held : StoreMemory) (s : ℕ) (m : Member) (was : slice_get held.membe
 
   wanted-all : (file : ℕ) → IsAreaFile file → IsWantedIn file
   wanted-all = each-file IsWantedIn
-      (λ chain use off. (all 1 (record { first = omega arith; last = omega arith })).wanted chain use (unwanted-before _ held.members s m was off))
-      (λ chain use off. (all 2 (record { first = omega arith; last = omega arith })).wanted chain use (unwanted-before _ held.members s m was off))
-      (λ chain use off. (all 3 (record { first = omega arith; last = omega arith })).wanted chain use (unwanted-before _ held.members s m was off))
+      (λ chain busy off. (all 1 (record { first = omega arith; last = omega arith })).wanted chain busy (unwanted-before _ held.members s m was off))
+      (λ chain busy off. (all 2 (record { first = omega arith; last = omega arith })).wanted chain busy (unwanted-before _ held.members s m was off))
+      (λ chain busy off. (all 3 (record { first = omega arith; last = omega arith })).wanted chain busy (unwanted-before _ held.members s m was off))
 
 pub all-wanted : (held after : StoreMemory) (s : ℕ) → SiftsSlots s held after → HasAllWanted after
 all-wanted held after s sifts = subst HasAllWanted (sym sifts.is) (wanted-all held s sifts.member sifts.was sifts.mid sifts.sifts)

@@ -62,7 +62,7 @@ taken-none slots taken long free = record {
   long = long;
   few = let all = all-left slots free in omega (arith, all);
   used = λ i less. absurd (omega (arith, less));
-  has = λ chain use. absurd (true≢false (sym (free chain use.first use.last) ∙ use.used));
+  has = λ chain busy. absurd (true≢false (sym (free chain busy.first busy.last) ∙ busy.used));
   once = λ i k less other same. absurd (omega (arith, less));
 }
 
@@ -96,10 +96,10 @@ module _ (old new : List Bool) (taken : List ℕ) (count chain : ℕ) (is : AreT
       (nat_cases i count)
 
   has-more : (c : ℕ) → IsInUse new c → (i : ℕ) × (i < count + 1) × (slice_index more i ≡ c)
-  has-more c use = ⊎_elim
+  has-more c busy = ⊎_elim
       (λ (same : c ≡ chain). (count, (let r : count < count + 1 = omega arith in r), here ∙ sym same))
       (λ (apart : c ≢ chain).
-      let found = is.has c (record { first = use.first; last = (let w = use.last in let l = takes.limit in omega (arith, w, l)); used = sym (takes.others c apart) ∙ use.used }) in
+      let found = is.has c (record { first = busy.first; last = (let w = busy.last in let l = takes.limit in omega (arith, w, l)); used = sym (takes.others c apart) ∙ busy.used }) in
       let less = found.1 in
       (found.0, (let r : found.0 < count + 1 = omega (arith, less) in r), beside found.0 (λ same. omega (arith, same, less)) ∙ found.2))
       (nat_cases c chain)
@@ -107,13 +107,13 @@ module _ (old new : List Bool) (taken : List ℕ) (count chain : ℕ) (is : AreT
   once-more : (i k : ℕ) → i < count + 1 → k < count + 1 → slice_index more i ≡ slice_index more k → i ≡ k
   once-more i k less also same = ⊎_elim
       (λ (at : i ≡ count). ⊎_elim
-          (λ (so : k ≡ count). at ∙ sym so)
-          (λ (apart : k ≢ count). absurd (other k (omega (arith, also, apart)) (sym (beside k apart) ∙ sym same ∙ ap (λ j. slice_index more j) at ∙ here)))
-          (nat_cases k count))
+      (λ (so : k ≡ count). at ∙ sym so)
+      (λ (apart : k ≢ count). absurd (other k (omega (arith, also, apart)) (sym (beside k apart) ∙ sym same ∙ ap (λ j. slice_index more j) at ∙ here)))
+      (nat_cases k count))
       (λ (off : i ≢ count). ⊎_elim
-          (λ (so : k ≡ count). absurd (other i (omega (arith, less, off)) (sym (beside i off) ∙ same ∙ ap (λ j. slice_index more j) so ∙ here)))
-          (λ (apart : k ≢ count). is.once i k (omega (arith, less, off)) (omega (arith, also, apart)) (sym (beside i off) ∙ same ∙ beside k apart))
-          (nat_cases k count))
+      (λ (so : k ≡ count). absurd (other i (omega (arith, less, off)) (sym (beside i off) ∙ same ∙ ap (λ j. slice_index more j) so ∙ here)))
+      (λ (apart : k ≢ count). is.once i k (omega (arith, less, off)) (omega (arith, also, apart)) (sym (beside i off) ∙ same ∙ beside k apart))
+      (nat_cases k count))
       (nat_cases i count)
 
   pub taken-more : AreTaken new more (count + 1)
@@ -160,9 +160,9 @@ module _ (old new : List Bool) (taken : List ℕ) (n place : ℕ) (is : AreTaken
       (nat_cases i place)
 
   has-less : (c : ℕ) → IsInUse new c → (i : ℕ) × (i < n) × (slice_index fewer i ≡ c)
-  has-less c use =
-      let apart : c ≢ slot = λ same. true≢false (sym gives.returned ∙ (ap (λ k. is_free new k) (sym same) ∙ use.used)) in
-      let found = is.has c (record { first = use.first; last = (let w = use.last in let l = gives.limit in omega (arith, w, l)); used = sym (gives.others c apart) ∙ use.used }) in
+  has-less c busy =
+      let apart : c ≢ slot = λ same. true≢false (sym gives.returned ∙ (ap (λ k. is_free new k) (sym same) ∙ busy.used)) in
+      let found = is.has c (record { first = busy.first; last = (let w = busy.last in let l = gives.limit in omega (arith, w, l)); used = sym (gives.others c apart) ∙ busy.used }) in
       let less = found.1 in
       let off : found.0 ≢ place = λ same. apart (sym found.2 ∙ ap (λ k. slice_index taken k) same) in
       ⊎_elim
@@ -173,13 +173,13 @@ module _ (old new : List Bool) (taken : List ℕ) (n place : ℕ) (is : AreTaken
   once-less : (i k : ℕ) → i < n → k < n → slice_index fewer i ≡ slice_index fewer k → i ≡ k
   once-less i k less also same = ⊎_elim
       (λ (at : i ≡ place). ⊎_elim
-          (λ (so : k ≡ place). at ∙ sym so)
-          (λ (apart : k ≢ place). let bad : n ≡ k = is.once n k (omega arith) (omega (arith, also)) (sym moved ∙ ap (λ j. slice_index fewer j) (sym at) ∙ same ∙ kept-place k apart) in absurd (omega (arith, bad, also)))
-          (nat_cases k place))
+      (λ (so : k ≡ place). at ∙ sym so)
+      (λ (apart : k ≢ place). let bad : n ≡ k = is.once n k (omega arith) (omega (arith, also)) (sym moved ∙ ap (λ j. slice_index fewer j) (sym at) ∙ same ∙ kept-place k apart) in absurd (omega (arith, bad, also)))
+      (nat_cases k place))
       (λ (off : i ≢ place). ⊎_elim
-          (λ (so : k ≡ place). let bad : i ≡ n = is.once i n (omega (arith, less)) (omega arith) (sym (kept-place i off) ∙ same ∙ ap (λ j. slice_index fewer j) so ∙ moved) in absurd (omega (arith, bad, less)))
-          (λ (apart : k ≢ place). is.once i k (omega (arith, less)) (omega (arith, also)) (sym (kept-place i off) ∙ same ∙ kept-place k apart))
-          (nat_cases k place))
+      (λ (so : k ≡ place). let bad : i ≡ n = is.once i n (omega (arith, less)) (omega arith) (sym (kept-place i off) ∙ same ∙ ap (λ j. slice_index fewer j) so ∙ moved) in absurd (omega (arith, bad, less)))
+      (λ (apart : k ≢ place). is.once i k (omega (arith, less)) (omega (arith, also)) (sym (kept-place i off) ∙ same ∙ kept-place k apart))
+      (nat_cases k place))
       (nat_cases i place)
 
   pub taken-less : AreTaken new fewer n
@@ -197,7 +197,7 @@ pub may-none : (Unwanted : ℕ → Type 0) (table : SlotTable) → OnlyGives Unw
 may-none Unwanted table = record { each = λ chain some. inl (refl, refl); long = refl; aside = refl; left = omega arith }
 
 pub may-more : (Unwanted : ℕ → Type 0) (first mid last : SlotTable) (chain : ℕ) → OnlyGives Unwanted first mid → IsInUse mid.slots chain → GivesOne mid last chain → Unwanted (pusher_at mid.pushers chain).number → OnlyGives Unwanted first last
-may-more Unwanted first mid last chain may use gives off = record {
+may-more Unwanted first mid last chain may busy gives off = record {
   each = λ c some. ⊎_elim
       (λ (same : c ≡ chain).
       let free : is_free last.slots c ≡ true = ap (λ k. is_free last.slots k) same ∙ gives.free in
@@ -215,7 +215,7 @@ may-more Unwanted first mid last chain may use gives off = record {
       (nat_cases c chain);
   long = gives.long ∙ may.long;
   aside = gives.aside ∙ may.aside;
-  left = (let before = may.left in let more = one-more mid last chain use.first use.last use.used gives in omega (arith, before, more));
+  left = (let before = may.left in let more = one-more mid last chain busy.first busy.last busy.used gives in omega (arith, before, more));
 }
 
 -- what one transaction pushed is all that isn't wanted

@@ -122,5 +122,7 @@ impl FileSlots {
         ensures { GivesBack self.old self.new tsn.number }
     {
         self.give_unwanted(&[AllBut { tsn }]);
+        // (so each free slot is nobody's)
+        let _ = &self.stock;
     }
 }
