@@ -30,7 +30,7 @@ pub fn a_crash_leaves_what_opens<D: Disk>(disk: &D, held: &Held)
         → (lines : Lines) × HasLines image lines × MayStand h lines }
 {}
 
-/// Opening reads no slot of a snapshot file: an image is kept, whatever they hold. So a crash may leave in them what it likes, and no barrier has to make them stable.
+/// An opening needs no slot of a snapshot file: an image is kept, whatever they hold.
 pub fn snapshot_slots_are_left_out()
     ensures { (classes : ℕ → ℕ) (lines : Lines) (journal : Journal) (image other : Image)
         → ((file : FileId) (slot : ℕ) → file.kind ≢ Snap → other file slot ≡ image file slot)

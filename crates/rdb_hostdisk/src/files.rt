@@ -103,11 +103,6 @@ fn is_made_by_new(kind: FileKind) -> bool {
     matches!(kind, FileKind::Area | FileKind::Snap | FileKind::Ruj)
 }
 
-// Whether an opening reads slots of the file.
-fn is_read_at_opening(kind: FileKind) -> bool {
-    !matches!(kind, FileKind::Snap)
-}
-
 impl HostFile {
     fn new(kind: FileKind, name: String) -> HostFile {
         HostFile {
@@ -394,11 +389,9 @@ impl HostFiles {
         Ok(())
     }
 
-    /// Snapshot files are left out, but where files were made: no opening reads a slot of theirs.
     fn settle_written(&mut self) -> io::Result<()> {
-        let has_new = self.has_new;
         for entry in self.files.iter_mut() {
-            if entry.is_dirty && (has_new || is_read_at_opening(entry.kind)) {
+            if entry.is_dirty {
                 if let Some(file) = &entry.open {
                     file.sync_data()?;
                 }

@@ -108,6 +108,11 @@ module _ (v : View) (held : StoreMemory) (tsn : ℕ) (mid : SnapshotSlots) (give
 abbrev free-now : SnapshotSlots → ℕ → ℕ → Bool
 free-now slots = λ file chain. is_free (table_of slots file).slots chain
 
+not-free : (b free : Bool) → (b && not free) ≡ true → free ≡ false
+not-free b false follows = refl
+not-free true true follows = absurd (false≢true follows)
+not-free false true follows = absurd (false≢true follows)
+
 sifted-fewer : (members : List Member) (old new : SlotTable) → Sifts (λ tsn. IsUnwanted tsn members) old new → used_in new ≤ used_in old
 sifted-fewer members old new sifts = let may = sifts.may in omega (arith, may.long, may.aside, may.left)
 
@@ -137,19 +142,16 @@ module _ (v : View) (held : StoreMemory) (mid : SnapshotSlots) (all : SiftsAll h
       (λ (given : IsGiven file chain). past v held (pusher_at (table_of held.slots file).pushers chain).number given.1 h shown e (ap (λ t. t.number) (sym (old.pusher chain e follows stands))))
       ((all file is).may.each chain stands.number)
 
-  still-used : (b free : Bool) → (b && not free) ≡ true → free ≡ false
-  still-used b free follows = grind arith
-
   sifted-holds : HoldsAll v.content (course_given (free-now mid) of-course).followed held.limits.snaps mid
   sifted-holds file is =
       let old : HoldsFile v.content of-course.followed file held.limits.snaps (table_of held.slots file) = shown.versions.slots file is in
       let sifts = all file is in
       record {
         long = sifts.may.long ∙ old.long;
-        used = λ chain first follows. still-used (of-course.followed file chain) (free-now mid file chain) follows;
+        used = λ chain first follows. not-free (of-course.followed file chain) (free-now mid file chain) follows;
         pusher = λ chain e follows stands. ⊎_elim
             (λ (stays : Stays file chain). stays.1 ∙ old.pusher chain e (and_parts _ _ follows).0 stands)
-            (λ (given : IsGiven file chain). absurd (true≢false (sym given.0 ∙ still-used (of-course.followed file chain) (free-now mid file chain) follows)))
+            (λ (given : IsGiven file chain). absurd (true≢false (sym given.0 ∙ not-free (of-course.followed file chain) (free-now mid file chain) follows)))
             (sifts.may.each chain stands.number);
       }
 
