@@ -52,7 +52,7 @@ module _ (image snaps : Image) where
 
   line-is : (groups : List Group) (key : Dbkey) (line : Line) → LineIs image groups key line → LineIs mixed groups key line
   line-is groups key line was = elim was [
-      as_it_stands ended same ↦ as_it_stands ended same
+    | as_it_stands ended same ↦ as_it_stands ended same
     | put_back member at its ↦ put_back member (open-at groups _ member at) (before member _ key line its)
     | not_found member at none same ↦ not_found member (open-at groups _ member at) none same
   ]
@@ -83,7 +83,7 @@ module _ (image snaps : Image) where
     commits = was.commits;
     stands = stands-for j.groups lines was.stands;
     class = was.class;
-    undone = λ key member open. undone j.groups was.root.ceiling key member (was.undone key member (bears j.groups key member open));
+    undone = λ key member bearing. undone j.groups was.root.ceiling key member (was.undone key member (bears j.groups key member bearing));
     alone = was.alone;
     well_formed = well-formed was.root.limits.pages was.well_formed;
     below = below j.groups was.root.ceiling was.below;
