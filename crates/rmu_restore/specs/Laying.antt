@@ -17,11 +17,15 @@ use Rattle.stable_lines.specs.Slots.{ruj_file, area_file, file_of, slot_of, IsMe
 use Rattle.stable_lines.specs.Kept.{IsWellFormed}
 use Rattle.backup_file.specs.declared.line.BackupLine.{BackupLine}
 use Rattle.backup_file.specs.Whole.{lines_in, HasPage, SharePages}
-use Rattle.guarded_lines.specs.Laying.{IsOfArea, page_of}
+use Rattle.guarded_lines.specs.Laying.{IsArea, IsOfArea, page_of}
 
--- an area file, or a before-image journal
+-- a before-image journal
+abbrev pub IsJournal : FileId → Type 0
+IsJournal file = file.kind ≡ Ruj
+
+-- the files that a restore writes, beside the root
 abbrev pub IsWritten : FileId → Type 0
-IsWritten file = (file.kind ≡ Area) ⊎ (file.kind ≡ Ruj)
+IsWritten file = IsArea file ⊎ IsJournal file
 
 -- neither of these, nor the root
 pub record IsOther (file : FileId) : Type 0 where

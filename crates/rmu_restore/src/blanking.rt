@@ -3,8 +3,9 @@ ghost use Rattle.std.specs.Prelude.{◌≡◌, ◌≤◌, ◌<◌, ℕ, OnOk, Is
 ghost use Rattle.rdb_outside.specs.Causes.{Rose};
 ghost use Rattle.rdb_outside.specs.Disk.{zeros};
 ghost use Rattle.stable_lines.specs.Slots.{area_file as area_named, ruj_file as ruj_named};
+ghost use Rattle.guarded_lines.specs.Laying.{IsArea};
 ghost use Rattle.guarded_root.specs.Guarded.{RunsBehind};
-ghost use Rattle.rmu_restore.specs.Laying.{IsWritten, IsBlank};
+ghost use Rattle.rmu_restore.specs.Laying.{IsJournal, IsWritten, IsBlank};
 
 use guarded_root::sweep;
 use line_moves::{area_file, ruj_file};
@@ -16,7 +17,7 @@ fn blank_areas<D: Disk>(disk: &mut D) -> Result<(), Failed>
     ensures blank { OnOk result (IsTrue (D.view disk.old).tells
         → (file slot : ℕ) → 1 ≤ file → file < 4
         → (D.view disk.new).content (area_named file) slot ≡ zeros (area_named file)) }
-    ensures runs { RunsBehind IsWritten (D.view disk.old) (D.view disk.new) }
+    ensures runs { RunsBehind IsArea (D.view disk.old) (D.view disk.new) }
 {
     let blank = [0; 1024];
     for file in 1..4 {
@@ -31,9 +32,7 @@ fn blank_journals<D: Disk>(disk: &mut D) -> Result<(), Failed>
     ensures blank { OnOk result (IsTrue (D.view disk.old).tells
         → (member slot : ℕ) → 1 ≤ member → member < 17
         → (D.view disk.new).content (ruj_named member) slot ≡ zeros (ruj_named member)) }
-    ensures areas { IsTrue (D.view disk.old).tells → (file slot : ℕ)
-        → (D.view disk.new).content (area_named file) slot ≡ (D.view disk.old).content (area_named file) slot }
-    ensures runs { RunsBehind IsWritten (D.view disk.old) (D.view disk.new) }
+    ensures runs { RunsBehind IsJournal (D.view disk.old) (D.view disk.new) }
 {
     let blank = [0; 512];
     for member in 1..17 {
