@@ -10,7 +10,7 @@ use rdb_page::lines_of;
 use std::collections::BTreeSet;
 
 /// A page of an area file.
-#[derive(Clone, Copy, Debug, PartialEq, Eq, PartialOrd, Ord)]
+#[derive(Clone, Copy, PartialEq, Eq, PartialOrd, Ord)]
 pub struct FilePage {
     pub file: u32,
     pub page: u32,
@@ -35,7 +35,7 @@ pub(crate) fn page_for(pages: u32, line: &BackupLine) -> Option<FilePage>
 }
 
 /// What came of adding a page.
-#[derive(Clone, Copy, Debug, PartialEq, Eq)]
+#[derive(Clone, Copy)]
 pub(crate) enum PageTurn {
     New,
     Known,

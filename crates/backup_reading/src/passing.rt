@@ -39,7 +39,7 @@ pub(crate) fn none_passed(alloc: Global) -> Passed
 }
 
 // Where a line stands by the one before.
-#[derive(Clone, Copy, Debug, PartialEq, Eq)]
+#[derive(Clone, Copy)]
 enum Passage {
     SamePage,
     OtherPage,
@@ -90,7 +90,7 @@ fn passage_of(last: Option<LastLine>, line: &BackupLine) -> Passage
 }
 
 /// What came of a line.
-#[derive(Clone, Copy, Debug, PartialEq, Eq)]
+#[derive(Clone, Copy)]
 pub(crate) enum LineTurn {
     Goes,
     Refused,
