@@ -21,7 +21,7 @@ use Rattle.guarded_lines.specs.Laying.{IsArea}
 use Rattle.guarded_root.specs.Guarded.{IsInState, IsGuarded, BeforeOrIn, IsEndOf, InOrEnd, RunsBehind}
 use Rattle.rmu_restore.specs.declared.restoring.Plan.{Plan}
 use Rattle.rmu_restore.specs.Laying.{IsJournal, IsWritten, IsOther, IsBlank, HasLaid, AreUpTo}
-use Rattle.rmu_restore.specs.Restored.{IsSource, IsPlanned, IsRestored, WithinRestore}
+use Rattle.rmu_restore.specs.Restored.{IsSource, IsPlanned, IsRestored, WithinRestore, as_before, unfinished, restored}
 use Rattle.rmu_restore.proofs.Blank.{blank_laid}
 use Rattle.rmu_restore.proofs.Ended.{is_restored}
 

@@ -17,7 +17,7 @@ use Rattle.ruj_journal.specs.declared.entry.RujEntry.{RujEntry}
 use Rattle.ruj_journal.specs.Entry.{IsEntry}
 use Rattle.aij_journal.specs.Header.{IsHeader}
 use Rattle.journal_scan.specs.Standing.{what_stands}
-use Rattle.line_versions.specs.Lines.{shown}
+use Rattle.line_versions.specs.Lines.{storage_area, shown}
 use Rattle.line_view.specs.Knowledge.{line_in}
 use Rattle.new_database.specs.Maker.{root_file, aij_file}
 use Rattle.stable_lines.specs.Slots.{ruj_file, area_file, file_of, slot_of, owner_at, IsMember, line_on, line_at, named}
@@ -67,7 +67,7 @@ module _ (former : Image) (number : ℕ) (classes : ℕ → ℕ) (head : BackupH
   none_named m is = named_none _ (slot_bytes (ruj_file m)) (ruj m 0 is)
 
   line_is : (key : Dbkey) → line_at image key ≡ line_at content key
-  line_is key = ap (λ (b : List ℕ). line_on key b) (area _ (slot_of key))
+  line_is key = ap (λ (b : List ℕ). line_on key b) (area (storage_area key.area) (slot_of key))
 
   some_ceiling : 1 ≤ plan.root.ceiling
   some_ceiling = ended.is.allowed.ceiling.0
@@ -90,7 +90,7 @@ module _ (former : Image) (number : ℕ) (classes : ℕ → ℕ) (head : BackupH
       let found = some_found lines key bytes got in
       let of = laid.on_pages found.index found.line found.is in
       let there : FitsClass (image (file_of found.line.key) (slot_of found.line.key)) (classes found.line.key.area) found.line.image = record {
-        same = ap (λ (b : List ℕ). class_at b) (area _ (slot_of found.line.key)) ∙ of.class ∙ source.class found.index found.line found.is;
+        same = ap (λ (b : List ℕ). class_at b) (area (storage_area found.line.key.area) (slot_of found.line.key)) ∙ of.class ∙ source.class found.index found.line found.is;
         fits = subst (λ (n : ℕ). length found.line.image ≤ n) (source.class found.index found.line found.is) (source.backup.stores.each found.index found.line found.is).allowed.image;
       } in
       subst (λ (b : List ℕ). FitsClass (image (file_of key) (slot_of key)) (classes key.area) b) found.bytes_are

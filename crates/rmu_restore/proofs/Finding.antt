@@ -37,7 +37,7 @@ pub record IsFound (lines : List BackupLine) (key : Dbkey) (bytes : List ℕ) : 
   pub bytes_are : line.image ≡ bytes
 
 pub some_found : (lines : List BackupLine) (key : Dbkey) (bytes : List ℕ) → find dbkey_order key (lines_in lines) ≡ Some bytes → IsFound lines key bytes
-some_found [] key bytes found = let bad : ⊥ = cc in absurd bad
+some_found [] key bytes found = let bad : None ≡ Some bytes = found in absurd (cc)
 some_found (l ∷ ls) key bytes found = by (is_eq (dbkey_order key l.key)) refl
   where
     some_back : (x y : List ℕ) → Some x ≡ Some y → x ≡ y

@@ -1,12 +1,12 @@
-use Rattle.std.proofs.Common.{rules, ◌≡◌, ◌+◌, ◌≤◌, ◌<◌, ℕ, List, sym, subst, arith}
+use Rattle.std.proofs.Common.{rules, refl, sym, subst, arith}
 use Rattle.rdb_outside.specs.Disk.{Image}
 use Rattle.rdb_outside.specs.Runs.{then_reads}
 use Rattle.line_opening.proofs.Passed.{image_same}
 use Rattle.line_moves.proofs.Runs.{still_tells}
 use Rattle.new_database.specs.Maker.{root_file}
-use Rattle.root_file.specs.declared.Root.{Root}
 use Rattle.root_file.specs.Root.{IsRoot}
 use Rattle.stable_lines.specs.Journal.{IsJournalOf}
+use Rattle.rmu_restore.specs.declared.restoring.Plan.{Plan}
 use Rattle.rmu_restore.proofs.Planned.{is_planned}
 use Rattle.rmu_restore.proofs.restoring.plan_restore.Goals as goal
 
@@ -34,8 +34,9 @@ pub returns-clause-planned : goal.returns-clause-planned
 returns-clause-planned g c = let v = g.D.Disk.view in let old = v c.args.disk.now in let one = v c.read_backup.new.disk in let mid = v c.old_ceiling.new.disk in
     let reads = then_reads old one mid c.read_backup.ensures.reads c.old_ceiling.ensures.reads in
     λ t classes head lines journal source.
-    let second = c.greater-ceiling.ensures.second in let first = c.greater-ceiling.ensures.first in let inner = c.greater.ensures.first in let last = c.greater.ensures.second in
-    is_planned old.content c.args.number classes head lines journal c.in_ok-backup.backup _ c.in_ok-old.old c.in_ok-greatest.greatest source (c.in_ok-backup.ensures.found t)
+    let second = c.greater-ceiling.ensures.second in let first = c.greater-ceiling.ensures.first in let inner = c.greater.ensures.first in let last = c.greater.ensures.second in let ceiling = c.root_of.ensures.ceiling in
+    let plan : Plan = record { root = c.root_of.result; lines = c.in_ok-backup.backup.head.lines } in
+    is_planned old.content c.args.number classes head lines journal c.in_ok-backup.backup plan c.in_ok-old.old c.in_ok-greatest.greatest source (c.in_ok-backup.ensures.found t)
     (λ root is. c.in_ok-old.ensures.ceiling (still_tells old one c.read_backup.ensures.reads.told t) root (subst (λ (m : Image). IsRoot (m root_file 0) root) (sym (image_same old one c.read_backup.ensures.reads t)) is))
     (c.in_ok-greatest.ensures.greatest (still_tells old mid reads.told t) journal (subst (λ (m : Image). IsJournalOf m journal) (sym (image_same old mid reads t)) source.journal))
-    c.root_of.ensures.state c.root_of.ensures.limits c.root_of.ensures.applied refl ?
+    c.root_of.ensures.state c.root_of.ensures.limits c.root_of.ensures.applied refl (record { drawn = omega (arith, first, ceiling); backup_is = omega (arith, second, inner, ceiling); groups_are = omega (arith, second, last, ceiling) })
