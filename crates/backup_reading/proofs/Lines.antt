@@ -125,8 +125,8 @@ module _ (pages : ℕ) (lines : List BackupLine) (line : BackupLine) (passed : P
     pub same_page_passed : new.pages ≡ passed.pages → IsOnSame passed.last line → ArePassed pages (lines ++ line ∷ []) new
     same_page_passed same beside = passed_more
         (λ i a file got owns owns_it at. let to_end = was.fit.share i end.count a end.line file got end.is owns (subst (λ (n : ℕ). IsOwner file n) area owns_it) (at ∙ number) in (to_end.0 ∙ sym area, to_end.1 ∙ class))
-        (λ q is. subst (λ pages. has pages q) (sym same) (⊎_elim (λ old. was.used q old) (λ it. was.used q (record { index = end.count; line = end.line; is = end.is; on = subst (IsPageOf end.line) (sym it) on_end })) (used_either q is)))
-        (λ q is. used_old q (was.only q (subst (λ pages. has pages q) same is)))
+        (λ q is. subst (λ (s : BTreeSet FilePage). has s q) (sym same) (⊎_elim (λ old. was.used q old) (λ it. was.used q (record { index = end.count; line = end.line; is = end.is; on = subst (IsPageOf end.line) (sym it) on_end })) (used_either q is)))
+        (λ q is. used_old q (was.only q (subst (λ (s : BTreeSet FilePage). has s q) same is)))
       where
         end : EndsWith lines beside.of
         end = ends lines passed.last beside.of was.last beside.is
@@ -144,11 +144,11 @@ module _ (pages : ℕ) (lines : List BackupLine) (line : BackupLine) (passed : P
         on_end = record { owner = subst (λ (n : ℕ). IsOwner page.file n) area on.owner; number = on.number ∙ number }
 
     -- on a page that was new
-    pub new_page_passed : has new.pages page → ((q : FilePage) → has passed.pages q → has new.pages q) → ((q : FilePage) → has new.pages q → has passed.pages q ⊎ (q ≡ page)) → (has passed.pages page → ⊥) → ArePassed pages (lines ++ line ∷ []) new
-    new_page_passed added kept only fresh = passed_more
+    pub new_page_passed : (pages_now : BTreeSet FilePage) → new.pages ≡ pages_now → has pages_now page → ((q : FilePage) → has passed.pages q → has pages_now q) → ((q : FilePage) → has pages_now q → has passed.pages q ⊎ (q ≡ page)) → (has passed.pages page → ⊥) → ArePassed pages (lines ++ line ∷ []) new
+    new_page_passed pages_now same added kept only fresh = passed_more
         (λ i a file got owns owns_it at. absurd (fresh (was.used page (record { index = i; line = a; is = got; on = record { owner = subst (λ (f : ℕ). IsOwner f a.key.area) (one_file file page.file line.key.area owns_it on.owner) owns; number = on.number ∙ sym at } }))))
-        (λ q is. ⊎_elim (λ old. kept q (was.used q old)) (λ it. subst (λ (p : FilePage). has new.pages p) (sym it) added) (used_either q is))
-        (λ q is. ⊎_elim (λ old. used_old q (was.only q old)) (λ it. subst (IsUsed (lines ++ line ∷ [])) (sym it) used_new) (only q is))
+        (λ q is. subst (λ (s : BTreeSet FilePage). has s q) (sym same) (⊎_elim (λ old. kept q (was.used q old)) (λ it. subst (λ (p : FilePage). has pages_now p) (sym it) added) (used_either q is)))
+        (λ q is. ⊎_elim (λ old. used_old q (was.only q old)) (λ it. subst (IsUsed (lines ++ line ∷ [])) (sym it) used_new) (only q (subst (λ (s : BTreeSet FilePage). has s q) same is)))
 
   -- ---- the line is refused
 

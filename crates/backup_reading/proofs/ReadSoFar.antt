@@ -19,11 +19,11 @@ use Rattle.backup_reading.specs.Passing.{AreFitting, ArePassed, GoesOn}
 use Rattle.backup_reading.specs.Reading.{IsBackupOf, IsRead, ReadsLines}
 
 -- So many lines were read, and passed.
-pub record ReadsTo (image : Image) (tells : Type 0) (number pages count : ℕ) (passed : Passed) : Type 0 where
+pub record ReadsTo (image : Image) (tells : Type 0) (number pages count : ℕ) (state : Passed) : Type 0 where
   pub lines : List BackupLine
   pub long : length lines ≡ count
   pub each : tells → AreLines (slots_of image (file_of number)) lines
-  pub passed : ArePassed pages lines passed
+  pub passed : ArePassed pages lines state
 
 pub reads_none : (image : Image) (tells : Type 0) (number pages : ℕ) (passed : Passed) → ArePassed pages [] passed → ReadsTo image tells number pages 0 passed
 reads_none image tells number pages passed none = record { lines = []; long = refl; each = λ t i l got. absurd (nothing i l got); passed = none }

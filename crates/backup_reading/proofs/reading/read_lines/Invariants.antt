@@ -9,5 +9,6 @@ invariant-loop-index g l =
     record {
       reads : OnlyReads before (g.D.Disk.view l.disk);
       so_far : ReadsTo before.content (IsTrue before.tells) l.number l.head.limits.pages l.index l.passed;
+      most : l.index ≤ l.head.lines;
       few : l.passed.greatest < 2 ^ 62;
     }
