@@ -1,0 +1,145 @@
+//! Cases of sessions over a store of lines in memory, with statements worked over lines. A line of standard input that begins with a session's number, 1 to 4, is a line of its script. `run` with an order, as `run 1,1,2`, drives the sessions by turns, in that order and then in ascending order again and again; before that session 4 says its whole script. In an order `-1` has session 1 die. Below a run stands what each session was answered. `turns` does the same and tells what each turn came to, and `events` tells the events. `steps 1,2` steps these sessions in turn, a step each, until they are over, and then drives all. `base` gives session 4 the script of a small relation with an index; `pages` with a number sets that limit of the store; and `-` begins with new sessions and limits. Other lines say what a case is for. Each line is echoed.
+#![tactic(auto)]
+
+mod driving;
+mod events;
+mod world;
+
+ghost use Rattle.std.specs.Prelude.{◌<◌, ◌^◌, All, IfOk, length};
+
+use driving::{Drive, FIRST, SESSIONS, run, session_of};
+use rdb_types::{Bytes, Limits, NoMemory, Session};
+use session_states::ItemQueue;
+use std::alloc::Global;
+use std::marker::Brand;
+use std::process::ExitCode;
+use world::items_of;
+
+const BASE: &str = "START_TRANSACTION READ_WRITE
+DEFINE RELATION T.
+ K DATATYPE IS SIGNED LONGWORD.
+ V DATATYPE IS SIGNED QUADWORD.
+END T RELATION.
+DEFINE INDEX TK FOR T DUPLICATES ARE NOT ALLOWED.
+ K.
+END TK INDEX.
+STORE E IN T USING E.K = 1; E.V = 10; END_STORE
+STORE E IN T USING E.K = 2; E.V = 20; END_STORE
+COMMIT
+";
+
+/// The limits of a store of which no case says otherwise.
+const LIMITS: Limits = Limits {
+    pages: 1000,
+    snaps: 1000,
+    entries: 1000,
+    slots: 1000,
+};
+
+fn new_scripts(alloc: Global) -> Result<Vec<Bytes>, NoMemory> {
+    let mut scripts = Vec::new(alloc);
+    for _ in 0..SESSIONS {
+        scripts.push(Bytes::new(alloc))?;
+    }
+    Ok(scripts)
+}
+
+fn add_line(scripts: &mut Vec<Bytes>, s: Session, text: &str) -> Result<(), NoMemory> {
+    match scripts.get_mut((s.number as usize).saturating_sub(1)) {
+        Some(script) => {
+            script.extend(text.as_bytes())?;
+            script.push(b'\n')
+        }
+        None => Ok(()),
+    }
+}
+
+fn queues_of(alloc: Global, scripts: &[Bytes]) -> Result<Vec<ItemQueue>, NoMemory>
+    ensures { IfOk result (λ queues. All (λ items. length items < 2 ^ 32) queues.items) }
+{
+    let mut queues = Vec::new(alloc);
+    for text in scripts {
+        queues.push(items_of(alloc, text.as_slice())?)?;
+    }
+    Ok(queues)
+}
+
+// Nothing is told of the store, and any session may die.
+fn run_scripts(
+    alloc: Global,
+    case: &Case,
+    order: &str,
+    drive: Drive,
+    out: &mut Bytes,
+) -> Result<(), NoMemory> {
+    let queues = queues_of(alloc, case.scripts.as_slice())?;
+    if queues.len() != SESSIONS as usize {
+        return Ok(());
+    }
+    run::<Brand>(alloc, case.limits, queues, order.as_bytes(), drive, out)
+}
+
+/// What a case has so far.
+#[derive(Drop)]
+struct Case {
+    scripts: Vec<Bytes>,
+    limits: Limits,
+}
+
+fn new_case(alloc: Global) -> Result<Case, NoMemory> {
+    Ok(Case {
+        scripts: new_scripts(alloc)?,
+        limits: LIMITS,
+    })
+}
+
+fn set_limit(limits: &mut Limits, word: &str, number: &str) {
+    if word != "pages" {
+        return;
+    }
+    if let Ok(number) = number.parse::<u32>() {
+        limits.pages = number;
+    }
+}
+
+fn say(alloc: Global, case: &mut Case, line: &str, out: &mut Bytes) -> Result<(), NoMemory> {
+    let (word, rest) = line.split_once(' ').unwrap_or((line, ""));
+    if let Some(s) = session_of(word) {
+        return add_line(&mut case.scripts, s, rest);
+    }
+    match word {
+        "-" => *case = new_case(alloc)?,
+        "base" => add_line(&mut case.scripts, FIRST, BASE)?,
+        "run" => run_scripts(alloc, case, rest, Drive::Turns, out)?,
+        "turns" => run_scripts(alloc, case, rest, Drive::Told, out)?,
+        "events" => run_scripts(alloc, case, rest, Drive::Events, out)?,
+        "steps" => run_scripts(alloc, case, rest, Drive::Steps, out)?,
+        _ => set_limit(&mut case.limits, word, rest),
+    }
+    Ok(())
+}
+
+fn tell<R: Print>(rt: &R, out: &Bytes) {
+    if let Ok(text) = std::str::from_utf8(out.as_slice()) {
+        let _ = print!(rt; "{text}");
+    }
+}
+
+fn main(rt: HostRuntime) -> ExitCode {
+    let Ok(mut case) = new_case(rt.alloc()) else {
+        return ExitCode::from(5);
+    };
+    for line in rt.lines(rt.alloc()) {
+        let Ok(line) = line else {
+            return ExitCode::from(3);
+        };
+        let text = line.as_str();
+        let _ = println!(rt; "{text}");
+        let mut out = Bytes::new(rt.alloc());
+        let Ok(()) = say(rt.alloc(), &mut case, text, &mut out) else {
+            return ExitCode::from(5);
+        };
+        tell(&rt, &out);
+    }
+    ExitCode::from(0)
+}
