@@ -1,19 +1,16 @@
 //! Cases of sessions over a store of lines in memory, with statements worked over lines. A line of standard input that begins with a session's number, 1 to 4, is a line of its script. `run` with an order, as `run 1,1,2`, drives the sessions by turns, in that order and then in ascending order again and again; before that session 4 says its whole script. In an order `-1` has session 1 die. Below a run stands what each session was answered. `turns` does the same and tells what each turn came to, and `events` tells the events. `steps 1,2` steps these sessions in turn, a step each, until they are over, and then drives all. `base` gives session 4 the script of a small relation with an index; `pages` with a number sets that limit of the store; and `-` begins with new sessions and limits. Other lines say what a case is for. Each line is echoed.
 #![tactic(auto)]
 
-mod driving;
-mod events;
-mod world;
+mod stores;
 
 ghost use Rattle.std.specs.Prelude.{◌<◌, ◌^◌, All, IfOk, length};
 
-use driving::{Drive, FIRST, SESSIONS, run, session_of};
 use rdb_types::{Bytes, Limits, NoMemory, Session};
+use session_desk::{Drive, FIRST, SESSIONS, items_of, session_of};
 use session_states::ItemQueue;
 use std::alloc::Global;
-use std::marker::Brand;
 use std::process::ExitCode;
-use world::items_of;
+use stores::{run_in_memory, run_on_disk};
 
 const BASE: &str = "START_TRANSACTION READ_WRITE
 DEFINE RELATION T.
@@ -64,7 +61,36 @@ fn queues_of(alloc: Global, scripts: &[Bytes]) -> Result<Vec<ItemQueue>, NoMemor
     Ok(queues)
 }
 
-// Nothing is told of the store, and any session may die.
+/// What a case has so far.
+#[derive(Drop)]
+struct Case {
+    scripts: Vec<Bytes>,
+    limits: Limits,
+    /// Whether its store stands on a disk in memory.
+    is_on_disk: bool,
+}
+
+fn new_case(alloc: Global) -> Result<Case, NoMemory> {
+    Ok(Case {
+        scripts: new_scripts(alloc)?,
+        limits: LIMITS,
+        is_on_disk: false,
+    })
+}
+
+fn set_limit(limits: &mut Limits, word: &str, number: &str) {
+    let Ok(number) = number.parse::<u32>() else {
+        return;
+    };
+    match word {
+        "pages" => limits.pages = number,
+        "snaps" => limits.snaps = number,
+        "entries" => limits.entries = number,
+        "slots" => limits.slots = number,
+        _ => {}
+    }
+}
+
 fn run_scripts(
     alloc: Global,
     case: &Case,
@@ -76,30 +102,10 @@ fn run_scripts(
     if queues.len() != SESSIONS as usize {
         return Ok(());
     }
-    run::<Brand>(alloc, case.limits, queues, order.as_bytes(), drive, out)
-}
-
-/// What a case has so far.
-#[derive(Drop)]
-struct Case {
-    scripts: Vec<Bytes>,
-    limits: Limits,
-}
-
-fn new_case(alloc: Global) -> Result<Case, NoMemory> {
-    Ok(Case {
-        scripts: new_scripts(alloc)?,
-        limits: LIMITS,
-    })
-}
-
-fn set_limit(limits: &mut Limits, word: &str, number: &str) {
-    if word != "pages" {
-        return;
+    if case.is_on_disk {
+        return run_on_disk(alloc, case.limits, queues, order, drive, out);
     }
-    if let Ok(number) = number.parse::<u32>() {
-        limits.pages = number;
-    }
+    run_in_memory(alloc, case.limits, queues, order, drive, out)
 }
 
 fn say(alloc: Global, case: &mut Case, line: &str, out: &mut Bytes) -> Result<(), NoMemory> {
@@ -109,6 +115,7 @@ fn say(alloc: Global, case: &mut Case, line: &str, out: &mut Bytes) -> Result<()
     }
     match word {
         "-" => *case = new_case(alloc)?,
+        "disk" => case.is_on_disk = true,
         "base" => add_line(&mut case.scripts, FIRST, BASE)?,
         "run" => run_scripts(alloc, case, rest, Drive::Turns, out)?,
         "turns" => run_scripts(alloc, case, rest, Drive::Told, out)?,

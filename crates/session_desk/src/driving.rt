@@ -1,12 +1,17 @@
 // A case is driven: session 4 first, then an order of turns, and then all again and again.
 ghost use Rattle.std.specs.Prelude.{◌≡◌, ◌≤◌, ◌<◌, ◌^◌, All, ℕ, true, length, IfSome};
 ghost use Rattle.rdb_types.specs.declared.session.Cause.{Cause as CauseValue};
+ghost use Rattle.line_store.specs.Seats.{outside};
 ghost use Rattle.line_cluster.specs.Sound.{FollowsScripts};
 
 use crate::events::put_event;
+use crate::retelling::retell;
 use crate::world::{Came, World};
 use line_cluster::Origin;
-use rdb_types::{Bytes, Limits, NoMemory, Session};
+use line_store::LineStore;
+use rdb_types::{Bytes, NoMemory, Session};
+use reached_changes::Reaches;
+use reserved_locks::Reserves;
 use session_states::ItemQueue;
 use std::alloc::Global;
 
@@ -55,8 +60,8 @@ fn put_came(word: &str, came: Came, out: &mut Bytes) -> Result<(), NoMemory> {
 }
 
 // One entry of an order.
-fn drive_entry<O: Origin>(
-    world: &mut World<O>,
+fn drive_entry<O: Origin, S: Reserves + Reaches, L: LineStore + Drop>(
+    world: &mut World<O, S, L>,
     word: &str,
     drive: Drive,
     out: &mut Bytes,
@@ -70,6 +75,12 @@ fn drive_entry<O: Origin>(
         }
         return Ok(());
     }
+    if let Some(steps) = word.strip_prefix(".") {
+        if let Some(s) = session_of(steps) {
+            let _came = world.step(s);
+        }
+        return Ok(());
+    }
     if let Some(s) = session_of(word) {
         let came = world.turn(s);
         if drive == Drive::Told {
@@ -80,8 +91,8 @@ fn drive_entry<O: Origin>(
 }
 
 // An order of turns.
-fn drive_order<O: Origin>(
-    world: &mut World<O>,
+fn drive_order<O: Origin, S: Reserves + Reaches, L: LineStore + Drop>(
+    world: &mut World<O, S, L>,
     order: &str,
     drive: Drive,
     out: &mut Bytes,
@@ -96,7 +107,7 @@ fn drive_order<O: Origin>(
 }
 
 // A step of each session of an order. False where none of them goes on.
-fn step_each<O: Origin>(world: &mut World<O>, order: &str) -> bool
+fn step_each<O: Origin, S: Reserves + Reaches, L: LineStore + Drop>(world: &mut World<O, S, L>, order: &str) -> bool
     requires sessions { O.sessions ≡ 4 }
 {
     let mut goes_on = false;
@@ -112,7 +123,7 @@ fn step_each<O: Origin>(world: &mut World<O>, order: &str) -> bool
 }
 
 // The sessions of an order by steps in turn.
-fn drive_steps<O: Origin>(world: &mut World<O>, order: &str)
+fn drive_steps<O: Origin, S: Reserves + Reaches, L: LineStore + Drop>(world: &mut World<O, S, L>, order: &str)
     requires sessions { O.sessions ≡ 4 }
 {
     for _ in 0..MAX_ROUNDS {
@@ -123,7 +134,7 @@ fn drive_steps<O: Origin>(world: &mut World<O>, order: &str)
 }
 
 // A turn of each session. False where none moves any more.
-fn go_round<O: Origin>(world: &mut World<O>, out: &mut Bytes) -> Result<bool, NoMemory>
+fn go_round<O: Origin, S: Reserves + Reaches, L: LineStore + Drop>(world: &mut World<O, S, L>, out: &mut Bytes) -> Result<bool, NoMemory>
     requires sessions { O.sessions ≡ 4 }
 {
     let mut are_over = true;
@@ -140,7 +151,7 @@ fn go_round<O: Origin>(world: &mut World<O>, out: &mut Bytes) -> Result<bool, No
     Ok(!are_over)
 }
 
-fn drive_rounds<O: Origin>(world: &mut World<O>, out: &mut Bytes) -> Result<(), NoMemory>
+fn drive_rounds<O: Origin, S: Reserves + Reaches, L: LineStore + Drop>(world: &mut World<O, S, L>, out: &mut Bytes) -> Result<(), NoMemory>
     requires sessions { O.sessions ≡ 4 }
 {
     for _ in 0..MAX_ROUNDS {
@@ -152,7 +163,7 @@ fn drive_rounds<O: Origin>(world: &mut World<O>, out: &mut Bytes) -> Result<(), 
 }
 
 // The first script is said whole.
-fn drive_first<O: Origin>(world: &mut World<O>)
+fn drive_first<O: Origin, S: Reserves + Reaches, L: LineStore + Drop>(world: &mut World<O, S, L>)
     requires sessions { O.sessions ≡ 4 }
 {
     for _ in 0..MAX_ROUNDS {
@@ -163,16 +174,16 @@ fn drive_first<O: Origin>(world: &mut World<O>)
     }
 }
 
-fn tell_events<O: Origin>(world: &World<O>, from: usize, out: &mut Bytes) -> Result<(), NoMemory> {
+fn tell_events<O: Origin, S: Reserves + Reaches, L: LineStore + Drop>(world: &World<O, S, L>, from: usize, out: &mut Bytes) -> Result<(), NoMemory> {
     for event in world.events().iter().skip(from) {
         put_event(event, out)?;
     }
     out.extend(b"  answered\n")
 }
 
-fn tell_answers<O: Origin>(
+fn tell_answers<O: Origin, S: Reserves + Reaches, L: LineStore + Drop>(
     alloc: Global,
-    world: &World<O>,
+    world: &World<O, S, L>,
     out: &mut Bytes,
 ) -> Result<(), NoMemory> {
     for number in 1..5u32 {
@@ -187,14 +198,15 @@ fn words_of(order: &[u8]) -> &str {
 }
 
 /// Drives the sessions of these scripts, and tells of it. (The order is bytes, since a call that picks what a run began with takes no text.)
-pub fn run<O: Origin>(
+pub fn run<O: Origin, S: Reserves + Reaches, L: LineStore + Drop>(
     alloc: Global,
-    limits: Limits,
+    store: L,
     scripts: Vec<ItemQueue>,
     order: &[u8],
     drive: Drive,
     out: &mut Bytes,
 ) -> Result<(), NoMemory>
+    requires outside { (s : ℕ) → (L.sight store).stand s ≡ outside }
     requires count { length scripts.items ≡ 4 }
     requires sessions { O.sessions ≡ 4 }
     requires scripts { FollowsScripts O.opening scripts.items }
@@ -202,7 +214,7 @@ pub fn run<O: Origin>(
     requires untold { O.told → ⊥ }
     requires mortal { (t : ℕ) (cause : CauseValue) → O.opening.may_die t cause ≡ true }
 {
-    let mut world: World<O> = World::new(alloc, limits, scripts)?;
+    let mut world: World<O, S, L> = World::new(alloc, store, scripts)?;
     drive_first(&mut world);
     let first = world.events().len();
     match drive {
@@ -210,6 +222,7 @@ pub fn run<O: Origin>(
         _ => drive_order(&mut world, words_of(order), drive, out)?,
     }
     drive_rounds(&mut world, out)?;
+    retell(alloc, world.events(), out)?;
     if drive == Drive::Events {
         tell_events(&world, first, out)?;
     }

@@ -1,24 +1,19 @@
-// Sessions over a store in memory, each with its script.
-ghost use Rattle.std.specs.Prelude.{◌≡◌, ◌≤◌, ◌<◌, ◌^◌, All, ℕ, true, length, IfOk};
+// Sessions over a store, each with its script.
+ghost use Rattle.std.specs.Prelude.{◌≡◌, ◌≤◌, ◌<◌, ◌^◌, All, ℕ, true, length};
 ghost use Rattle.rdb_types.specs.declared.session.Cause.{Cause as CauseValue};
+ghost use Rattle.line_store.specs.Seats.{outside};
 ghost use Rattle.line_cluster.specs.Sound.{FollowsScripts, IsSession};
 
 use crate::events::put_number;
 use line_cluster::{LineCluster, Origin, Turn};
-use memory_store::MemoryStore;
+use line_store::LineStore;
 use rdb_account::{Event, render};
-use rdb_types::{Bytes, Cause, Limits, NoMemory, Session, Word};
+use rdb_types::{Bytes, Cause, NoMemory, Session, Word};
 use rdo_ast::reply::Reply;
-use rdo_parser::Script;
-use rdo_reserving::ReservingStatements;
+use reached_changes::Reaches;
+use reserved_locks::Reserves;
 use session_states::ItemQueue;
 use std::alloc::Global;
-
-/// A script has so many bytes at most; of a longer one nothing is said.
-const MAX_TEXT: usize = 1_048_576;
-
-/// A script has so many items at most.
-const MAX_ITEMS: u32 = 20_000;
 
 /// A turn has so many steps at most.
 const MAX_STEPS: u32 = 100_000;
@@ -31,24 +26,6 @@ pub enum Came {
     Rests,
     Over,
     Stopped,
-}
-
-/// The items of a script.
-pub fn items_of(alloc: Global, text: &[u8]) -> Result<ItemQueue, NoMemory>
-    ensures { IfOk result (λ items. length items ≤ 20000) }
-{
-    let mut queue = ItemQueue::new(alloc);
-    if MAX_TEXT < text.len() {
-        return Ok(queue);
-    }
-    let mut script = Script::new(text);
-    for _ in 0..MAX_ITEMS {
-        let Some(item) = script.next_item(alloc)? else {
-            return Ok(queue);
-        };
-        queue.push(item)?;
-    }
-    Ok(queue)
 }
 
 // The lines of a reply, each behind the session's number.
@@ -69,18 +46,20 @@ fn is_answered(events: &[Event], from: usize, s: Session) -> bool {
     let Some(more) = events.get(from..) else {
         return false;
     };
-    more.iter().any(|event| matches!(event, Event::Said(of, _, _, _) if *of == s))
+    more.iter()
+        .any(|event| matches!(event, Event::Said(of, _, _, _) if *of == s))
 }
 
 /// The sessions of a case.
 #[derive(Drop)]
-pub struct World<O: Origin> {
-    cluster: LineCluster<O, ReservingStatements, MemoryStore>,
+pub struct World<O: Origin, S: Reserves + Reaches, L: LineStore + Drop> {
+    cluster: LineCluster<O, S, L>,
 }
 
-impl<O: Origin> World<O> {
-    /// Sessions of these scripts, over an empty store of which nothing is told.
-    pub fn new(alloc: Global, limits: Limits, scripts: Vec<ItemQueue>) -> Result<World<O>, NoMemory>
+impl<O: Origin, S: Reserves + Reaches, L: LineStore + Drop> World<O, S, L> {
+    /// Sessions of these scripts, over a store of which nothing is told.
+    pub fn new(alloc: Global, store: L, scripts: Vec<ItemQueue>) -> Result<World<O, S, L>, NoMemory>
+        requires outside { (s : ℕ) → (L.sight store).stand s ≡ outside }
         requires sessions { length scripts.items ≡ O.sessions }
         requires few { O.sessions ≤ 16 }
         requires scripts { FollowsScripts O.opening scripts.items }
@@ -88,7 +67,6 @@ impl<O: Origin> World<O> {
         requires untold { O.told → ⊥ }
     {
         let word = Word::from_slice(alloc, b"PERS")?;
-        let store = MemoryStore::new(alloc, limits)?;
         match LineCluster::start(alloc, word, store, scripts) {
             Ok(cluster) => Ok(World { cluster }),
             Err(_store) => Err(NoMemory {}),
