@@ -27,10 +27,10 @@ COMMIT
 
 /// The limits of a store of which no case says otherwise.
 const LIMITS: Limits = Limits {
-    pages: 1000,
-    snaps: 1000,
-    entries: 1000,
-    slots: 1000,
+    pages: 128,
+    snaps: 256,
+    entries: 256,
+    slots: 500,
 };
 
 fn new_scripts(alloc: Global) -> Result<Vec<Bytes>, NoMemory> {
