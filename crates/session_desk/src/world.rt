@@ -2,7 +2,7 @@
 ghost use Rattle.std.specs.Prelude.{◌≡◌, ◌≤◌, ◌<◌, ◌^◌, All, ℕ, true, length};
 ghost use Rattle.rdb_types.specs.declared.session.Cause.{Cause as CauseValue};
 ghost use Rattle.line_store.specs.Seats.{outside};
-ghost use Rattle.line_cluster.specs.Sound.{FollowsScripts, IsSession};
+ghost use Rattle.line_cluster.specs.Sound.{FollowsScripts, IsSession, MayFail};
 
 use crate::events::put_number;
 use line_cluster::{LineCluster, Origin, Turn};
@@ -64,6 +64,7 @@ impl<O: Origin, S: Reserves + Reaches, L: LineStore + Drop> World<O, S, L> {
         requires few { O.sessions ≤ 16 }
         requires scripts { FollowsScripts O.opening scripts.items }
         requires short { All (λ items. length items < 2 ^ 32) scripts.items }
+        requires mortal { MayFail O.opening }
         requires untold { O.told → ⊥ }
     {
         let word = Word::from_slice(alloc, b"PERS")?;
@@ -79,7 +80,7 @@ impl<O: Origin, S: Reserves + Reaches, L: LineStore + Drop> World<O, S, L> {
     {
         let before = self.cluster.events().len();
         match self.cluster.turn(s) {
-            Turn::Moved => {}
+            Turn::Moved | Turn::Died => {}
             Turn::Asleep(_) => return Came::Rests,
             Turn::Frozen => {
                 let _turn = self.cluster.recover();
