@@ -1,4 +1,4 @@
-//! Cases of sessions over a store of lines in memory, with statements worked over lines. A line of standard input that begins with a session's number, 1 to 4, is a line of its script. `run` with an order, as `run 1,1,2`, drives the sessions by turns, in that order and then in ascending order again and again; before that session 4 says its whole script. In an order `-1` has session 1 die. Below a run stands what each session was answered. `turns` does the same and tells what each turn came to, and `events` tells the events. `steps 1,2` steps these sessions in turn, a step each, until they are over, and then drives all. `base` gives session 4 the script of a small relation with an index; `pages` with a number sets that limit of the store; and `-` begins with new sessions and limits. Other lines say what a case is for. Each line is echoed.
+//! Cases of sessions over a store of lines in memory, or on a disk in memory, with statements worked over lines. README.md has the words of their lines; each line is echoed.
 #![tactic(auto)]
 
 mod stores;
@@ -10,7 +10,7 @@ use session_desk::{Drive, FIRST, SESSIONS, items_of, session_of};
 use session_states::ItemQueue;
 use std::alloc::Global;
 use std::process::ExitCode;
-use stores::{run_in_memory, run_on_disk};
+use stores::{DiskPlan, run_in_memory, run_on_disk};
 
 const BASE: &str = "START_TRANSACTION READ_WRITE
 DEFINE RELATION T.
@@ -68,6 +68,8 @@ struct Case {
     limits: Limits,
     /// Whether its store stands on a disk in memory.
     is_on_disk: bool,
+    /// The device call of its sessions that fails.
+    fails: Option<u32>,
 }
 
 fn new_case(alloc: Global) -> Result<Case, NoMemory> {
@@ -75,18 +77,20 @@ fn new_case(alloc: Global) -> Result<Case, NoMemory> {
         scripts: new_scripts(alloc)?,
         limits: LIMITS,
         is_on_disk: false,
+        fails: None,
     })
 }
 
-fn set_limit(limits: &mut Limits, word: &str, number: &str) {
+fn set_number(case: &mut Case, word: &str, number: &str) {
     let Ok(number) = number.parse::<u32>() else {
         return;
     };
     match word {
-        "pages" => limits.pages = number,
-        "snaps" => limits.snaps = number,
-        "entries" => limits.entries = number,
-        "slots" => limits.slots = number,
+        "pages" => case.limits.pages = number,
+        "snaps" => case.limits.snaps = number,
+        "entries" => case.limits.entries = number,
+        "slots" => case.limits.slots = number,
+        "fails" => case.fails = Some(number),
         _ => {}
     }
 }
@@ -103,7 +107,11 @@ fn run_scripts(
         return Ok(());
     }
     if case.is_on_disk {
-        return run_on_disk(alloc, case.limits, queues, order, drive, out);
+        let plan = DiskPlan {
+            limits: case.limits,
+            fails: case.fails,
+        };
+        return run_on_disk(alloc, plan, queues, order, drive, out);
     }
     run_in_memory(alloc, case.limits, queues, order, drive, out)
 }
@@ -121,7 +129,7 @@ fn say(alloc: Global, case: &mut Case, line: &str, out: &mut Bytes) -> Result<()
         "turns" => run_scripts(alloc, case, rest, Drive::Told, out)?,
         "events" => run_scripts(alloc, case, rest, Drive::Events, out)?,
         "steps" => run_scripts(alloc, case, rest, Drive::Steps, out)?,
-        _ => set_limit(&mut case.limits, word, rest),
+        _ => set_number(case, word, rest),
     }
     Ok(())
 }

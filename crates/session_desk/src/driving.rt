@@ -4,7 +4,7 @@ ghost use Rattle.rdb_types.specs.declared.session.Cause.{Cause as CauseValue};
 ghost use Rattle.line_store.specs.Seats.{outside};
 ghost use Rattle.line_cluster.specs.Sound.{FollowsScripts};
 
-use crate::events::put_event;
+use crate::events::{put_event, put_number};
 use crate::retelling::retell;
 use crate::world::{Came, World};
 use line_cluster::Origin;
@@ -178,7 +178,13 @@ fn tell_events<O: Origin, S: Reserves + Reaches, L: LineStore + Drop>(world: &Wo
     for event in world.events().iter().skip(from) {
         put_event(event, out)?;
     }
-    out.extend(b"  answered\n")
+    Ok(())
+}
+
+fn put_count(count: u32, out: &mut Bytes) -> Result<(), NoMemory> {
+    out.extend(b"  told again ")?;
+    put_number(count, out)?;
+    out.extend(b", answered\n")
 }
 
 fn tell_answers<O: Origin, S: Reserves + Reaches, L: LineStore + Drop>(
@@ -222,9 +228,10 @@ pub fn run<O: Origin, S: Reserves + Reaches, L: LineStore + Drop>(
         _ => drive_order(&mut world, words_of(order), drive, out)?,
     }
     drive_rounds(&mut world, out)?;
-    retell(alloc, world.events(), out)?;
+    let count = retell(alloc, world.events(), out)?;
     if drive == Drive::Events {
         tell_events(&world, first, out)?;
+        put_count(count, out)?;
     }
     tell_answers(alloc, &world, out)
 }

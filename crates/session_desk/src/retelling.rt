@@ -27,6 +27,8 @@ struct Telling<'a> {
     events: &'a [Event],
     committed: Tables,
     starts: Vec<Option<Start>>,
+    /// So many replies were compared.
+    count: u32,
 }
 
 // Whether a reply stands in place of what an item means, for a lock, a limit or memory.
@@ -78,7 +80,7 @@ fn no_tables(alloc: Global) -> Tables {
 impl<'a> Telling<'a> {
     // One event of a transaction told again over its tables, in this standing. The standing behind it.
     fn tell_event(
-        &self,
+        &mut self,
         tables: &mut Tables,
         standing: Standing,
         s: Session,
@@ -100,12 +102,13 @@ impl<'a> Telling<'a> {
             keys.as_slice(),
         )?;
         compare(self.alloc, s, reply, &told.reply, out)?;
+        self.count = self.count.saturating_add(1);
         Ok(told.standing)
     }
 
     // A transaction told again over these tables: the events between two places.
     fn tell(
-        &self,
+        &mut self,
         tables: &mut Tables,
         s: Session,
         from: usize,
@@ -174,8 +177,8 @@ impl<'a> Telling<'a> {
     }
 }
 
-/// Tells of each reply that isn't what its item means there. It begins with no tables.
-pub fn retell(alloc: Global, events: &[Event], out: &mut Bytes) -> Result<(), NoMemory> {
+/// Tells of each reply that isn't what its item means there, and answers how many were compared. It begins with no tables.
+pub fn retell(alloc: Global, events: &[Event], out: &mut Bytes) -> Result<u32, NoMemory> {
     let mut starts = Vec::new(alloc);
     for _ in 0..NUMBERED {
         starts.push(None)?;
@@ -186,9 +189,10 @@ pub fn retell(alloc: Global, events: &[Event], out: &mut Bytes) -> Result<(), No
         events,
         committed: no_tables(alloc),
         starts,
+        count: 0,
     };
     for (place, event) in events.iter().enumerate() {
         telling.follow(place, event, out)?;
     }
-    Ok(())
+    Ok(telling.count)
 }
