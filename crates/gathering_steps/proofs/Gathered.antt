@@ -28,7 +28,7 @@ module _ (M : Model) (orderly : IsOrderly M) (s : ℕ) (c : Shared) (left : List
     -- the last need is read
     pub gathered-last : Step M s c (session left total (Writing (writer standing known spoken waits (Gathering item (Reading n) later place)))) (with_shelf g c) (session left total (Writing (writer standing new spoken waits (Working item Due)))) []
     gathered-last =
-        steps-on M orderly s c c (with_shelf g c) (session left total (Writing (writer standing known spoken waits (Gathering item (Reading n) later place)))) (session left total (Writing (writer standing known spoken waits (Working item (Fetching n))))) (session left total (Writing (writer standing new spoken waits (Working item Due)))) [] [] refl
+        steps-on M orderly s c c (with_shelf g c) (session left total (Writing (writer standing known spoken waits (Gathering item (Reading n) later place)))) (session left total (Writing (writer standing known spoken waits (Working item (Fetching n))))) (session left total (Writing (writer standing new spoken waits (Working item Due)))) [] [] refl tt
         (drops-read M orderly s c left total standing known spoken waits item n later place)
         (reads M orderly s c g left total standing known new spoken waits item (Fetching n) Due n
         (λ got h. h) (λ got h. tt) (λ ws seat h. h) (λ ws seat h. h) (λ p h. tt) (λ o p h counted. counted-same o p s c.shelf g counted moves.others moves.now moves.space moves.mine) refl moves.others moves.now moves.mine learns)

@@ -36,6 +36,13 @@ module _ (M : Model) (s : ℕ) (old new : Scene) (x y : Phase) where
       (λ h g f dead total. subst (λ (b : List Item). Step M s (on_shelf old h dead) (session (item ∷ left) total x) (on_shelf new g dead) (session (b ++ left) total y) (events_of s e)) none (f dead left total))
       (λ n total. subst (λ (b : List Item). Nearer s e (beside old) (beside new) (session (item ∷ left) total x) (session (b ++ left) total y)) none (n left total)) t)
 
+  -- it was taken up, and may be handed back
+  pub takes-up : (e : Happening) (item : Item) (left all : List Item) → all ≡ item ∷ left → TakesUpIn M s item old x new y e → GoesOn M s old all x new (handed_back e ++ left) y e
+  takes-up e item left all is t = subst (λ (ls : List Item). GoesOn M s old ls x new (handed_back e ++ left) y e) (sym is)
+      (goes-as s x y (λ h g. (dead : ℕ) (ls : List Item) (total : ℕ) → Step M s (on_shelf old h dead) (session (item ∷ ls) total x) (on_shelf new g dead) (session (handed_back e ++ ls) total y) (events_of s e))
+      (λ h g. (dead total : ℕ) → Step M s (on_shelf old h dead) (session (item ∷ left) total x) (on_shelf new g dead) (session (handed_back e ++ left) total y) (events_of s e)) old new
+      (λ h g f dead total. f dead left total) (λ n total. n left total) t)
+
   -- it was at its end
   pub ends : (e : Happening) (left rest : List Item) → left ≡ [] → rest ≡ [] → EndsIn M s old x new y e → GoesOn M s old left x new rest y e
   ends e left rest f g t = subst (λ (ls : List Item). GoesOn M s old ls x new rest y e) (sym f) (subst (λ (ls : List Item). GoesOn M s old [] x new ls y e) (sym g)

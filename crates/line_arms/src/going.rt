@@ -1,5 +1,6 @@
 //! One step of a session that lives, by its phase.
-ghost use Rattle.std.specs.Prelude.{◌≡◌, [], false};
+ghost use Rattle.std.specs.Prelude.{◌≡◌, List, [], false};
+ghost use Rattle.rdo_ast.specs.declared.syntax.Item.{Item as ItemValue};
 ghost use Rattle.line_store.specs.Seats.{IsMember};
 ghost use Rattle.session_stands.specs.Seated.{IsSeated};
 ghost use Rattle.session_measure.specs.Nearer.{AreRounds};
@@ -18,7 +19,7 @@ use session_states::{ItemQueue, Phase};
 use stage_steps::{Common, Turned, put_away, start};
 
 /// One step of a session that has something left to do, with what its statement is allotted. An item that is handed back isn't in what
-/// is left.
+/// is left; it goes on also then, with some rest of its script.
 pub fn go_on<S: Reserves + Reaches, L: LineStore>(
     common: &mut Common<L>,
     s: Session,
@@ -32,6 +33,8 @@ pub fn go_on<S: Reserves + Reaches, L: LineStore>(
     requires going { is_done left.old phase ≡ false }
     ensures goes { handed_back result.happened ≡ [] → GoesOn S.stands s.number (scene common.old.word (L.sight common.old.store) common.old.tree) left.old phase
         (scene common.new.word (L.sight common.new.store) common.new.tree) left.new result.phase result.happened }
+    ensures some { (rest : List ItemValue) × GoesOn S.stands s.number (scene common.old.word (L.sight common.old.store) common.old.tree) left.old phase
+        (scene common.new.word (L.sight common.new.store) common.new.tree) rest result.phase result.happened }
     ensures rounds { AreRounds phase result.phase allotment.old.rounds allotment.new.rounds }
 {
     match phase {
@@ -53,8 +56,10 @@ fn start_next<S: Reserves + Reaches, L: LineStore>(
     requires member { IsMember s.number }
     requires seated { IsSeated (L.sight common.old.store).stand common.old.tree s.number Phase.Outside }
     requires going { is_done left.old Phase.Outside ≡ false }
-    ensures { handed_back result.happened ≡ [] → GoesOn S.stands s.number (scene common.old.word (L.sight common.old.store) common.old.tree) left.old Phase.Outside
+    ensures goes { handed_back result.happened ≡ [] → GoesOn S.stands s.number (scene common.old.word (L.sight common.old.store) common.old.tree) left.old Phase.Outside
         (scene common.new.word (L.sight common.new.store) common.new.tree) left.new result.phase result.happened }
+    ensures some { (rest : List ItemValue) × GoesOn S.stands s.number (scene common.old.word (L.sight common.old.store) common.old.tree) left.old Phase.Outside
+        (scene common.new.word (L.sight common.new.store) common.new.tree) rest result.phase result.happened }
 {
     let Some(item) = left.pop() else {
         unreachable!();

@@ -1,5 +1,6 @@
 //! A read-only transaction, by its stage.
-ghost use Rattle.std.specs.Prelude.{◌≡◌, []};
+ghost use Rattle.std.specs.Prelude.{◌≡◌, List, []};
+ghost use Rattle.rdo_ast.specs.declared.syntax.Item.{Item as ItemValue};
 ghost use Rattle.line_store.specs.Seats.{IsMember};
 ghost use Rattle.session_states.specs.declared.stage.Phase.TheVariants.{Reading};
 ghost use Rattle.session_stands.specs.Seated.{IsSeated};
@@ -32,6 +33,8 @@ pub(crate) fn go_on_reading<S: Statements, L: LineStore>(
     requires seated { IsSeated (L.sight common.old.store).stand common.old.tree s.number (Reading reader) }
     ensures goes { handed_back result.happened ≡ [] → GoesOn S.stands s.number (scene common.old.word (L.sight common.old.store) common.old.tree) left.old (Reading reader)
         (scene common.new.word (L.sight common.new.store) common.new.tree) left.new result.phase result.happened }
+    ensures some { (rest : List ItemValue) × GoesOn S.stands s.number (scene common.old.word (L.sight common.old.store) common.old.tree) left.old (Reading reader)
+        (scene common.new.word (L.sight common.new.store) common.new.tree) rest result.phase result.happened }
     ensures rounds { AreRounds (Reading reader) result.phase allotment.old.rounds allotment.new.rounds }
 {
     let Reader {
@@ -63,8 +66,10 @@ fn read_next<S: Statements, L: LineStore>(
 ) -> Turned
     requires member { IsMember s.number }
     requires seated { IsSeated (L.sight common.old.store).stand common.old.tree s.number (reads_at terms ReaderStage.Between) }
-    ensures { handed_back result.happened ≡ [] → GoesOn S.stands s.number (scene common.old.word (L.sight common.old.store) common.old.tree) left.old (reads_at terms ReaderStage.Between)
+    ensures goes { handed_back result.happened ≡ [] → GoesOn S.stands s.number (scene common.old.word (L.sight common.old.store) common.old.tree) left.old (reads_at terms ReaderStage.Between)
         (scene common.new.word (L.sight common.new.store) common.new.tree) left.new result.phase result.happened }
+    ensures some { (rest : List ItemValue) × GoesOn S.stands s.number (scene common.old.word (L.sight common.old.store) common.old.tree) left.old (reads_at terms ReaderStage.Between)
+        (scene common.new.word (L.sight common.new.store) common.new.tree) rest result.phase result.happened }
 {
     match left.pop() {
         Some(item) => {

@@ -1,24 +1,28 @@
 -- Sessions that have said nothing are sound.
-use Rattle.std.proofs.Common.{◌≡◌, ◌≤◌, ℕ, zero, suc, ◌∷◌, [], List, length, map, refl, ◌∙◌, sym, ap, subst, arith, Some, None, slice_get}
+use Rattle.std.proofs.Common.{◌≡◌, ◌≤◌, ℕ, zero, suc, ◌∷◌, [], List, length, map, refl, ◌∙◌, sym, ap, subst, arith, Some, None, slice_get, inl, inr}
 use Rattle.std.proofs.lemmas.Option.{none-some, same_Some}
 use Rattle.rdo_ast.specs.declared.syntax.Item.{Item}
 use Rattle.rdo_ast.specs.Views.{uttered_of}
 use Rattle.rdb_account.specs.Places.{Opening}
-use Rattle.line_store.specs.Seats.{outside}
-use Rattle.line_store.specs.Sights.{Agrees, bare}
+use Rattle.line_view.specs.Knowledge.{Lines}
+use Rattle.line_store.specs.Seats.{outside, in_flight}
+use Rattle.line_store.specs.Shelves.{Shelf}
+use Rattle.line_store.specs.Calls.{MayStand}
+use Rattle.line_store.specs.Sights.{Agrees, Stands, bare}
 use Rattle.session_jobs.specs.Records.{Model, IsOrderly}
 use Rattle.session_states.specs.declared.stage.Member.{Member}
 use Rattle.session_states.specs.declared.stage.Phase.TheVariants.{Outside}
 use Rattle.session_states.specs.declared.stage.Life.TheVariants.{Alive}
 use Rattle.session_states.specs.Kept.{AreKept}
 use Rattle.session_states.proofs.Opened.{opened}
-use Rattle.session_stands.specs.Sessions.{IsTold, dead_in, sharing}
+use Rattle.session_stands.specs.Sessions.{AreSeated, IsTold, dead_in, sharing}
 use Rattle.session_stands.proofs.Seating.{began}
 use Rattle.session_stands.proofs.Seats.{outside-seat}
 use Rattle.stage_steps.specs.Scenes.{Scene}
 use Rattle.rdb_account.specs.Events.{event_of}
 use Rattle.rdb_account.specs.declared.event.Event.{Event as Declared}
-use Rattle.line_cluster.specs.Sound.{IsSound, AreSound, FollowsScripts, IsOpenedBy, fresh_member}
+use Rattle.line_cluster.proofs.Stepping.{told-images}
+use Rattle.line_cluster.specs.Sound.{IsSound, AreSound, FollowsScripts, IsOpenedBy, MayFail, fresh_member}
 
 map-got : {A B : Type 0} (f : A → B) (xs : List A) (i : ℕ) (y : B) → slice_get (map f xs) i ≡ Some y → (x : A) × (slice_get xs i ≡ Some x) × (f x ≡ y)
 map-got f [] i y h = absurd (none-some y h)
@@ -33,16 +37,25 @@ none-dead : (scripts : List (List Item)) → dead_in (map fresh_member scripts) 
 none-dead [] = refl
 none-dead (items ∷ more) = let e = none-dead more in omega (arith, e)
 
-pub begins : (M : Model) (orderly : IsOrderly M) (told : Type 0) (o : Opening) (c : Scene) (scripts : List (List Item)) → Agrees c.sight → ((s : ℕ) → c.sight.stand s ≡ outside) → c.locks.parties ≡ [] → c.locks.trail ≡ [] →
+pub begins : (M : Model) (orderly : IsOrderly M) (told : Type 0) (o : Opening) (c : Scene) (scripts : List (List Item)) → Agrees c.sight → Stands c.sight → ((s : ℕ) → c.sight.stand s ≡ outside) → c.locks.parties ≡ [] → c.locks.trail ≡ [] →
     FollowsScripts o scripts → (told → IsOpenedBy M o c.word c.sight) → IsSound M told o c (map fresh_member scripts) [] None
-begins M orderly told o c scripts agrees away parties trail follows opens = record {
+begins M orderly told o c scripts agrees stands away parties trail follows opens = record {
   legal = λ t. (tells t).kept.right.legal;
-  seated = λ none. began c.sight.stand c.locks (map fresh_member scripts) parties (λ s. ap bare (away s)) fresh-phase;
+  seated = λ none. sits;
   kept = λ none t. tells t;
+  images = λ t. told-images M orderly o c.word c.sight stands c.locks (map fresh_member scripts) [] sits (tells t);
 }
   where
     fresh-phase : (i : ℕ) (m : Member) → slice_get (map fresh_member scripts) i ≡ Some m → (m.phase ≡ Outside) × (m.life ≡ Alive)
     fresh-phase i m h = let at = map-got fresh_member scripts i m h in (sym (ap (λ (y : Member). y.phase) at.2), sym (ap (λ (y : Member). y.life) at.2))
+
+    sits : AreSeated c.sight.stand c.locks (map fresh_member scripts)
+    sits = began c.sight.stand c.locks (map fresh_member scripts) parties (λ s. ap bare (away s)) fresh-phase
+
+    -- nobody's commit is under way
+    now : (h : Shelf) → c.sight.shows h → M h.now o.tables → (lines : Lines) → MayStand h lines → M lines o.tables
+    now h shown m lines (inl is) = subst (λ (x : Lines). M x o.tables) (sym is) m
+    now h shown m lines (inr (s, ws, flies, is)) = absurd (none-some ws (sym (ap in_flight (outside-seat (h.seat s) (sym (agrees h shown s) ∙ ap bare (away s)))) ∙ flies))
 
     tells : told → IsTold M o c.word c.sight c.locks (map fresh_member scripts) []
     tells t = let is : IsOpenedBy M o c.word c.sight = opens t in record {
@@ -57,14 +70,30 @@ begins M orderly told o c scripts agrees away parties trail follows opens = reco
             total = as-long uttered_of at.0;
             seat = outside-seat (is.shelf.seat (suc i)) (sym (agrees is.shelf is.shown (suc i)) ∙ ap bare (away (suc i)));
           }));
+      images = record {
+        began = is.shelf.clock.time;
+        opened = (is.opened c.locks parties trail).past;
+        going = omega arith;
+        opening = λ lines l. record {
+          before = [];
+          behind = [];
+          is = refl;
+          enough = omega arith;
+          stood = record { tables = o.tables; stands = now is.shelf is.shown (is.opened c.locks parties trail).stands lines (stands is.shelf is.shown lines l); among = inl refl };
+        };
+        later = λ k x found. absurd (none-some x found);
+        past = λ k x found. absurd (none-some x found);
+        each = λ k x found. absurd (none-some x found);
+      };
     }
 
-pub starts : (M : Model) (orderly : IsOrderly M) (told : Type 0) (o : Opening) (sessions : ℕ) (c : Scene) (scripts : List (List Item)) (members : List Member) (events : List Declared) → Agrees c.sight → ((s : ℕ) → c.sight.stand s ≡ outside) →
-    c.locks.parties ≡ [] → c.locks.trail ≡ [] → FollowsScripts o scripts → (told → IsOpenedBy M o c.word c.sight) → members ≡ map fresh_member scripts → events ≡ [] → length scripts ≡ sessions → sessions ≤ 16 →
+pub starts : (M : Model) (orderly : IsOrderly M) (told : Type 0) (o : Opening) (sessions : ℕ) (c : Scene) (scripts : List (List Item)) (members : List Member) (events : List Declared) → Agrees c.sight → Stands c.sight → ((s : ℕ) → c.sight.stand s ≡ outside) →
+    c.locks.parties ≡ [] → c.locks.trail ≡ [] → FollowsScripts o scripts → (told → IsOpenedBy M o c.word c.sight) → members ≡ map fresh_member scripts → events ≡ [] → length scripts ≡ sessions → sessions ≤ 16 → MayFail o →
     AreSound M told o sessions c members (map event_of events) None
-starts M orderly told o sessions c scripts members events agrees away parties trail follows opens are none count few = record {
+starts M orderly told o sessions c scripts members events agrees stands away parties trail follows opens are none count few mortal = record {
   sound = subst (λ (ms : List Member). IsSound M told o c ms (map event_of events) None) (sym are) (subst (λ (es : List Declared). IsSound M told o c (map fresh_member scripts) (map event_of es) None) (sym none)
-      (begins M orderly told o c scripts agrees away parties trail follows opens));
+      (begins M orderly told o c scripts agrees stands away parties trail follows opens));
   count = ap length are ∙ (as-long fresh_member scripts ∙ count);
   few = few;
+  mortal = mortal;
 }

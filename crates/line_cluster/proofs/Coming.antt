@@ -9,6 +9,7 @@ use Rattle.rdb_account.specs.Events.{Event, Died, event_of}
 use Rattle.session_states.specs.declared.stage.Life.{Life}
 use Rattle.session_states.specs.declared.stage.Life.TheVariants.{Alive, Dead, Gone}
 use Rattle.rdb_types.specs.declared.session.Cause.{Cause}
+use Rattle.rdb_types.specs.declared.session.Cause.TheVariants.{Device}
 use Rattle.session_states.specs.declared.stage.Member.{Member}
 use Rattle.session_stands.specs.Sessions.{dead_in, one_dead}
 use Rattle.line_cluster.specs.Going.{IsDeadAt, is_alive_life, is_dead_life, is_over}
@@ -21,9 +22,9 @@ use Rattle.stage_steps.specs.declared.happening.Happening.{Happening}
 use Rattle.stage_steps.specs.Happenings.{events_of}
 use Rattle.line_cluster.specs.declared.sessions.Turn.{Turn}
 use Rattle.line_cluster.specs.declared.sessions.Turn.TheVariants as turn
-use Rattle.line_cluster.specs.Turned.{Sessions, Came, GoesFurther, GoesOn, Grows, GrowsQuietly, IsAnother, IsDeath, IsHalt, IsRecovery, RecoveryCame, Rests, mark_of, with_life}
+use Rattle.line_cluster.specs.Turned.{Sessions, Came, GoesFurther, GoesOn, Grows, GrowsQuietly, HasFallen, IsAnother, IsDeath, IsHalt, IsRecovery, RecoveryCame, Rests, mark_of, with_life}
 use Rattle.line_cluster.proofs.Marks.{IsOf, all-append, answers-append, step-marks}
-use Rattle.line_cluster.proofs.Places.{set-same}
+use Rattle.line_cluster.proofs.Places.{set-same, set-set}
 
 -- nothing happened
 pub still : (s : ℕ) (c d : Sessions) → d.members ≡ c.members → d.events ≡ c.events → GoesFurther s c d
@@ -65,9 +66,21 @@ came-from s old then new t e f on came = by t on came
       events = subst (λ (es : List Declared). Grows s es new.events) f g.events;
     }
 
+    fell : HasFallen s then new → HasFallen s old new
+    fell g = record {
+      before = g.before;
+      found = subst (λ (ms : List Member). slice_get ms (s - 1) ≡ Some g.before) e g.found;
+      going = g.going;
+      behind = g.behind;
+      died = g.died;
+      is = subst (λ (ms : List Member). new.members ≡ slice_set ms (s - 1) g.behind) e g.is;
+      grown = subst (λ (es : List Declared). map event_of new.events ≡ map event_of es ++ Died s Device ∷ []) f g.grown;
+    }
+
     by : (t : Turn) → GoesOn t → Came s then new t → Came s old new t
     by turn.Moved on g = further g
     by turn.Stopped on g = (g.0, further g.1)
+    by turn.Died on g = fell g
     by (turn.Asleep u) on g = absurd on
     by turn.Frozen on g = absurd on
     by turn.Ended on g = absurd on
@@ -75,6 +88,7 @@ came-from s old then new t e f on came = by t on came
 pub on-rests : (o : Opening) (s : ℕ) (c : Sessions) (t : Turn) → GoesOn t → Rests o s c t
 on-rests o s c turn.Moved on = tt
 on-rests o s c turn.Stopped on = tt
+on-rests o s c turn.Died on = tt
 on-rests o s c (turn.Asleep u) on = absurd on
 on-rests o s c turn.Frozen on = absurd on
 on-rests o s c turn.Ended on = absurd on
@@ -124,14 +138,29 @@ went-served s old mid new g same quiet =
       };
     }
 
-pub came-by : (s : ℕ) (old new : Sessions) (t : Turn) → GoesOn t → GoesFurther s old new → (t ≡ turn.Stopped → new.halted ≡ true) → Came s old new t
-came-by s old new turn.Moved on g halted = g
-came-by s old new turn.Stopped on g halted = (halted refl, g)
-came-by s old new (turn.Asleep u) on g halted = absurd on
-came-by s old new turn.Frozen on g halted = absurd on
-came-by s old new turn.Ended on g halted = absurd on
+pub came-by : (s : ℕ) (old new : Sessions) (t : Turn) → GoesOn t → (t ≡ turn.Died → ⊥) → GoesFurther s old new → (t ≡ turn.Stopped → new.halted ≡ true) → Came s old new t
+came-by s old new turn.Moved on lives g halted = g
+came-by s old new turn.Stopped on lives g halted = (halted refl, g)
+came-by s old new (turn.Asleep u) on lives g halted = absurd on
+came-by s old new turn.Died on lives g halted = absurd (lives refl)
+came-by s old new turn.Frozen on lives g halted = absurd on
+came-by s old new turn.Ended on lives g halted = absurd on
 
 -- ---- deaths
+
+-- a session took a step in which a device call failed
+pub fell : (s at : ℕ) (old new : Sessions) (put : List Member) (m n : Member) → at ≡ s - 1 → slice_get old.members at ≡ Some m → is_over m m.life ≡ false → put ≡ slice_set old.members at n →
+    new.members ≡ slice_set put at (with_life Dead n) → map event_of new.events ≡ map event_of old.events ++ Died s Device ∷ [] → HasFallen s old new
+fell s at old new put m n is found going put-is died grown = record {
+  before = m;
+  found = subst (λ (i : ℕ). slice_get old.members i ≡ Some m) is found;
+  going = going;
+  behind = with_life Dead n;
+  died = refl;
+  is = subst (λ (i : ℕ). new.members ≡ slice_set old.members i (with_life Dead n)) is
+      (died ∙ (ap (λ (ms : List Member). slice_set ms at (with_life Dead n)) put-is ∙ set-set old.members at n (with_life Dead n)));
+  grown = grown;
+}
 
 pub has-died : (s at : ℕ) (cause : Cause) (old new : Sessions) (m : Member) → old.halted ≡ false → at ≡ s - 1 → slice_get old.members at ≡ Some m → is_over m m.life ≡ false →
     new.members ≡ slice_set old.members at (with_life Dead m) → map event_of new.events ≡ map event_of old.events ++ Died s cause ∷ [] → IsDeath s cause old new
@@ -198,12 +227,13 @@ recovery-from old then new members events r = record {
   nobodys = r.nobodys;
 }
 
-pub recovery-came-from : (old then new : Sessions) (t : Turn) → then.members ≡ old.members → then.events ≡ old.events → GoesOn t → RecoveryCame then new t → RecoveryCame old new t
-recovery-came-from old then new turn.Moved members events on r = recovery-from old then new members events r
-recovery-came-from old then new turn.Stopped members events on h = record { halted = h.halted; members = h.members ∙ members; events = h.events ∙ events }
-recovery-came-from old then new (turn.Asleep u) members events on r = absurd on
-recovery-came-from old then new turn.Frozen members events on r = absurd on
-recovery-came-from old then new turn.Ended members events on r = absurd on
+pub recovery-came-from : (old then new : Sessions) (t : Turn) → old.halted ≡ false → then.members ≡ old.members → then.events ≡ old.events → GoesOn t → RecoveryCame then new t → RecoveryCame old new t
+recovery-came-from old then new turn.Moved going members events on r = recovery-from old then new members events r
+recovery-came-from old then new turn.Stopped going members events on h = record { halted = h.halted; members = h.members ∙ members; events = h.events ∙ events; rests = λ stopped. absurd (false≢true (sym going ∙ stopped)) }
+recovery-came-from old then new (turn.Asleep u) going members events on r = absurd on
+recovery-came-from old then new turn.Died going members events on r = absurd r
+recovery-came-from old then new turn.Frozen going members events on r = absurd on
+recovery-came-from old then new turn.Ended going members events on r = absurd on
 
 pub halt-recovery : (old new : Sessions) (t : Turn) → t ≡ turn.Stopped → IsHalt old new → RecoveryCame old new t
 halt-recovery old new t is h = subst (λ (u : Turn). RecoveryCame old new u) (sym is) h

@@ -6,4 +6,5 @@ pub mod Marks
 pub mod Coming
 pub mod Resting
 pub mod Measured
+pub mod Bounds
 pub mod Nearing

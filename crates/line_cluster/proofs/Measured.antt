@@ -39,7 +39,7 @@ others s zero (m ∷ ms) rounds b = weights_from (suc s) ms rounds b
 others s (suc at) (m ∷ ms) rounds b = sum_of (weight (rounds s) b s m) (others (suc s) at ms rounds b)
 
 module _ (rounds : ℕ → ℕ) (b : Beside) where
-  weights-long : (s : ℕ) (ms : List Member) → length (weights_from s ms rounds b) ≡ 8
+  pub weights-long : (s : ℕ) (ms : List Member) → length (weights_from s ms rounds b) ≡ 8
   weights-long s [] = refl
   weights-long s (m ∷ ms) = let more = weights-long (suc s) ms in sum-long (weight (rounds s) b s m) (weights_from (suc s) ms rounds b) (sym more) ∙ more
 
@@ -67,7 +67,7 @@ set-numbers s at [] n = refl
 set-numbers s zero (m ∷ ms) n = refl
 set-numbers s (suc at) (m ∷ ms) n = ap (λ (ns : List ℕ). s ∷ ns) (set-numbers (suc s) at ms n)
 
-set-found : (at : ℕ) (ms : List Member) (m n : Member) → slice_get ms at ≡ Some m → slice_get (slice_set ms at n) at ≡ Some n
+pub set-found : (at : ℕ) (ms : List Member) (m n : Member) → slice_get ms at ≡ Some m → slice_get (slice_set ms at n) at ≡ Some n
 set-found at [] m n found = absurd (none-some m found)
 set-found zero (x ∷ ms) m n found = refl
 set-found (suc at) (x ∷ ms) m n found = set-found at ms m n found

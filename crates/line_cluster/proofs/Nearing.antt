@@ -1,5 +1,5 @@
 -- A turn that moves brings its session nearer to its end, and so all sessions.
-use Rattle.std.proofs.Common.{◌≡◌, ◌≤◌, ◌-◌, ◌==◌, ◌⊎◌, ℕ, zero, suc, ◌∷◌, [], List, true, false, refl, sym, ap, subst, ◌∙◌, arith, Option, Some, None, slice_get, slice_set, is_some, inl, inr}
+use Rattle.std.proofs.Common.{◌≡◌, ◌≤◌, ◌-◌, ◌==◌, ◌⊎◌, ℕ, zero, suc, ◌∷◌, [], List, true, false, refl, sym, ap, subst, ◌∙◌, arith, Option, Some, None, Result, Ok, Err, slice_get, slice_set, is_some, inl, inr, ◌+◌}
 use Rattle.std.proofs.lemmas.Bool.{false≢true}
 use Rattle.std.proofs.lemmas.Option.{none-some, same_Some}
 use Rattle.rdb_types.specs.declared.node.Node.{Node}
@@ -19,17 +19,20 @@ use Rattle.session_states.specs.declared.stage.Life.TheVariants.{Alive, Dead, Go
 use Rattle.session_states.specs.declared.stage.Phase.{Phase}
 use Rattle.session_states.specs.declared.stage.Phase.TheVariants.{Outside, Closing, Writing, Reading, Over}
 use Rattle.session_states.specs.declared.stage.Member.{Member}
-use Rattle.session_states.specs.States.{session}
+use Rattle.session_states.specs.States.{session, dead_session}
 use Rattle.session_stands.specs.Seated.{LivesAt}
 use Rattle.session_stands.specs.Sessions.{AreSeated, dead_in, member_at, one_dead}
-use Rattle.session_measure.specs.Weights.{Beside, unopened}
+use Rattle.session_measure.specs.Weights.{Beside, Falls, unopened}
 use Rattle.session_measure.specs.Nearer.{AreRounds, Nears, Keeps, ComesNearer}
 use Rattle.session_measure.proofs.Nearer.{same-weight}
 use Rattle.rdb_drive.specs.Boards.{Less}
 use Rattle.stage_steps.specs.declared.happening.Asking.{Asking}
 use Rattle.stage_steps.specs.declared.happening.Happening.{Happening}
 use Rattle.stage_steps.specs.declared.happening.Happening.TheVariants as happens
-use Rattle.stage_steps.specs.Nearer.{IsUnqueued, Nearer}
+use Rattle.stage_steps.specs.Nearer.{IsUnqueued, Nearer, NearerRecovered, is_patient_at}
+use Rattle.stage_steps.specs.declared.dying.Recovery.{Recovery}
+use Rattle.stage_steps.specs.declared.dying.Recovery.TheVariants.{More, Done}
+use Rattle.stage_steps.specs.Deaths.{RecoversIn, life_behind}
 use Rattle.stage_steps.specs.Scenes.{Scene, beside}
 use Rattle.line_arms.specs.declared.allotment.Allotment.{Allotment}
 use Rattle.line_arms.specs.Going.{GoesOn}
@@ -42,6 +45,7 @@ use Rattle.line_cluster.specs.Turned.{rounds_of, rounds_at}
 use Rattle.line_cluster.proofs.Places.{suc-less}
 use Rattle.line_cluster.proofs.Falling.{dead-moved}
 use Rattle.line_cluster.proofs.Measured.{StayApart, all-fall, all-fall-served, among-from}
+use Rattle.line_store.specs.declared.answers.Fault.{Fault}
 
 -- ---- the session
 
@@ -49,12 +53,12 @@ unqueued : (locks : State) (s : ℕ) → is_sleeping locks s ≡ false → IsUnq
 unqueued locks s awake w is = subst (λ (o : Option OpenWant). is_queued (granted_at locks.table s) o ≡ false) is awake
 
 -- what happened moves it
-moves : (s : ℕ) (h : Happening) (c d : Beside) (m n : Member) → is_moving h ≡ true → is_sleeping c.locks s ≡ false → Nearer s h c d m n → ComesNearer c d s m n
+moves : (s : ℕ) (h : Happening) (c d : Beside) (m n : Member) → is_moving h ≡ true → (is_patient_at m.phase ≡ true → is_sleeping c.locks s ≡ false) → Nearer s h c d m n → ComesNearer c d s m n
 moves s happens.Quiet c d m n is awake near = near
 moves s (happens.Began kind) c d m n is awake near = near
 moves s (happens.Answered a) c d m n is awake near = near
 moves s (happens.Unstarted a) c d m n is awake near = near
-moves s (happens.Asleep t x) c d m n is awake near = near.1 (unqueued c.locks s awake)
+moves s (happens.Asleep t x) c d m n is awake near = near.1 (unqueued c.locks s (awake near.2))
 moves s (happens.Noticed t node mode x) c d m n is awake near = absurd (false≢true is)
 moves s (happens.Got x) c d m n is awake near = near
 moves s (happens.Refused x a) c d m n is awake near = near
@@ -105,7 +109,7 @@ module _ (M : Model) (c d : Scene) (members : List Member) (each : List Allotmen
   behind-is : rounds_at (slice_set each at b) (suc at) ≡ b.rounds
   behind-is = rounds-put each at b a given
 
-  pub falls-moved : is_moving h ≡ true → is_sleeping c.locks (suc at) ≡ false → Less (measure_by false (slice_set members at n) (rounds_at (slice_set each at b)) (beside d)) (measure_by false members (rounds_at each) (beside c))
+  pub falls-moved : is_moving h ≡ true → (is_patient_at m.phase ≡ true → is_sleeping c.locks (suc at) ≡ false) → Less (measure_by false (slice_set members at n) (rounds_at (slice_set each at b)) (beside d)) (measure_by false members (rounds_at each) (beside c))
   falls-moved moving awake = all-fall (suc at) at (rounds_at each) (rounds_at (slice_set each at b)) (beside c) members m n (omega arith) found (beside d) stays
       (subst (λ (k : ℕ). Nears k (rounds_at (slice_set each at b) (suc at)) (beside c) (beside d) (suc at) m n) (sym before-is)
       (subst (λ (l : ℕ). Nears a.rounds l (beside c) (beside d) (suc at) m n) (sym behind-is)
@@ -190,8 +194,8 @@ module _ (M : Model) (s at : ℕ) (c d : Scene) (members put : List Member) (eac
   goes-at : GoesOn M (suc at) c m.left m.phase d rest y h
   goes-at = subst (λ (t : ℕ). GoesOn M t c m.left m.phase d rest y h) named goes
 
-  pub turned-nearer : (halted : Option Halt) → halted ≡ None → is_moving h ≡ true → is_sleeping c.locks s ≡ false → Less (measure_by (is_some halted) put (rounds_at behind) (beside d)) (measure_by (is_some old) members (rounds_at each) (beside c))
-  turned-nearer halted on moving awake = as-put halted d.locks on (falls-moved M c d members each at m rest y h a b alive found given-at rounds goes-at moving (subst (λ (t : ℕ). is_sleeping c.locks t ≡ false) named awake))
+  pub turned-nearer : (halted : Option Halt) → halted ≡ None → is_moving h ≡ true → (is_patient_at m.phase ≡ true → is_sleeping c.locks s ≡ false) → Less (measure_by (is_some halted) put (rounds_at behind) (beside d)) (measure_by (is_some old) members (rounds_at each) (beside c))
+  turned-nearer halted on moving awake = as-put halted d.locks on (falls-moved M c d members each at m rest y h a b alive found given-at rounds goes-at moving (subst (λ (t : ℕ). is_patient_at m.phase ≡ true → is_sleeping c.locks t ≡ false) named awake))
 
   -- with a notice that was served behind it
   pub served-nearer : (halted : Option Halt) (locks : State) (n : Notice) → halted ≡ None → IsNoticed n h → locks.parties ≡ d.locks.parties → IsWriterAt put n.to.number → LocksFall n.to.number d.locks locks →
@@ -202,3 +206,32 @@ module _ (M : Model) (s at : ℕ) (c d : Scene) (members put : List Member) (eac
   -- that notice was due
   pub is-due : (n : Notice) → IsNoticed n h → is_spare (granted_at d.locks.table n.to.number) (party_of d.locks.parties n.to.number) n.node ≡ true
   is-due n noticed = (subst (λ (g : Happening). Nearer s g (beside c) (beside d) (session m.left m.total m.phase) (session rest m.total y)) noticed.is (goes.nearer m.total)).1
+
+-- ---- a step of a recovery
+
+module _ (M : Model) (c d : Scene) (members : List Member) (each : List Allotment) (at : ℕ) (m : Member) (died : m.life ≡ Dead) (found : slice_get members at ≡ Some m) where
+  abbrev recovered : Life → Member
+  recovered l = record { left = m.left; total = m.total; phase = m.phase; life = l }
+
+  -- it comes nearer, and nobody else does anything
+  nears-recovered : (r : Result Recovery Fault) (step : Recovery) → r ≡ Ok step → NearerRecovered (suc at) r (beside c) (beside d) m.left m.total m.phase →
+      Falls (rounds_at each (suc at)) (rounds_at each (suc at)) (beside c) (beside d) (suc at) (dead_session m.left m.total m.phase) (recovered (life_behind r))
+  nears-recovered (Ok (Done committed moment)) step is near = near (rounds_at each (suc at)) (rounds_at each (suc at))
+  nears-recovered (Ok More) step is near = near (rounds_at each (suc at))
+  nears-recovered (Err fault) step is near = cc is
+
+  falls-recovered : (r : Result Recovery Fault) (step : Recovery) → r ≡ Ok step → RecoversIn M (suc at) m.phase c d r →
+      Less (measure_by false (slice_set members at (recovered (life_behind r))) (rounds_at each) (beside d)) (measure_by false members (rounds_at each) (beside c))
+  falls-recovered r step is goes = all-fall (suc at) at (rounds_at each) (rounds_at each) (beside c) members m (recovered (life_behind r)) (omega arith) found (beside d)
+      (λ u x other. same-weight (rounds_at each u) (rounds_at each u) u (beside c) (beside d) x refl (ap (λ (p : Party). unopened p.opened) (goes.parties u other)) (goes.does.steps u other))
+      (inl (subst (λ (l : Life). Falls (rounds_at each (suc at)) (rounds_at each (suc at)) (beside c) (beside d) (suc at) (recovered l) (recovered (life_behind r))) (sym died)
+      (nears-recovered r step is (goes.nearer m.left m.total))))
+
+  -- as the code has it
+  pub recovered-nearer : (put : List Member) (r : Result Recovery Fault) (step : Recovery) (old : Option Halt) → old ≡ None → r ≡ Ok step → RecoversIn M (at + 1) m.phase c d r → put ≡ slice_set members at (recovered (life_behind r)) →
+      Less (measure_by (is_some old) put (rounds_at each) (beside d)) (measure_by (is_some old) members (rounds_at each) (beside c))
+  recovered-nearer put r step old none is goes put-is =
+      let next : at + 1 ≡ suc at = omega arith in
+      subst (λ (x : Option Halt). Less (measure_by (is_some x) put (rounds_at each) (beside d)) (measure_by (is_some x) members (rounds_at each) (beside c))) (sym none)
+      (subst (λ (ms : List Member). Less (measure_by false ms (rounds_at each) (beside d)) (measure_by false members (rounds_at each) (beside c))) (sym put-is)
+      (falls-recovered r step is (subst (λ (t : ℕ). RecoversIn M t m.phase c d r) next goes)))

@@ -1,53 +1,41 @@
 -- Who rests does so in the account.
-use Rattle.std.proofs.Common.{◌≡◌, ◌≤◌, ◌-◌, ℕ, zero, suc, ◌++◌, ◌∷◌, [], List, length, true, false, not, nat_le, refl, ◌∙◌, sym, ap, subst, arith, map, Option, Some, None, slice_get, option_map, ◌==◌, inl, inr}
+use Rattle.std.proofs.Common.{◌≡◌, ◌≤◌, ◌-◌, ℕ, zero, suc, ◌++◌, ◌∷◌, [], List, length, true, false, not, nat_le, refl, ◌∙◌, sym, ap, subst, arith, map, Option, Some, None, slice_get, option_map, ◌==◌, ◌&&◌, ◌||◌, Bool, inl, inr}
 use Rattle.std.proofs.lemmas.Bool.{false≢true, and_parts, leb-true}
 use Rattle.rdo_ast.specs.declared.syntax.Item.{Item}
+use Rattle.rdo_ast.specs.Tree.{Uttered, said, commit}
 use Rattle.rdo_ast.specs.Views.{uttered_of}
 use Rattle.rdb_account.specs.Events.{Event}
 use Rattle.rdb_account.specs.Places.{Opening, Place, place, next_item}
-use Rattle.rdb_account.specs.Legal.{has_not_died}
+use Rattle.rdb_account.specs.Legal.{has_not_died, is_committing}
 use Rattle.rdb_account.specs.Lawful.{is_nowait}
 use Rattle.lock_tree.specs.Sleeping.{IsBlockedBy}
 use Rattle.lock_tree_laws.specs.Forest.{State, party_of, open_asks}
 use Rattle.lock_ties.proofs.Causes.{tree-waits}
-use Rattle.line_steps.specs.Members.{Member as Seen, left_of, life_of}
+use Rattle.line_steps.specs.Members.{Member as Seen, left_of, life_of, under_way}
 use Rattle.line_steps.specs.Right.{Ground, Stands}
+use Rattle.line_steps.proofs.Common.{next-is}
 use Rattle.line_store.specs.Seats.{Seat, outside}
 use Rattle.line_store.specs.Sights.{Sight, bare}
 use Rattle.line_view.specs.Knowledge.{Lines}
 use Rattle.session_jobs.specs.Records.{Model}
+use Rattle.session_states.specs.declared.stage.End.TheVariants.{Preparing, Journal, Ready, Committing, RollingBack, Leaving}
+use Rattle.session_states.specs.declared.stage.Stage.{Stage}
+use Rattle.session_states.specs.declared.stage.Stage.TheVariants.{Between, Working, Gathering, Reserving, Saying, Ending}
+use Rattle.session_states.specs.declared.stage.Writer.{Writer}
 use Rattle.session_states.specs.declared.stage.Phase.{Phase}
 use Rattle.session_states.specs.declared.stage.Phase.TheVariants.{Outside, Closing, Writing, Reading, Over}
 use Rattle.session_states.specs.declared.stage.Life.{Life}
 use Rattle.session_states.specs.declared.stage.Life.TheVariants.{Alive, Dead, Gone}
 use Rattle.session_states.specs.declared.stage.Member.{Member}
-use Rattle.session_states.specs.States.{seen, state_of}
-use Rattle.session_states.specs.Fits.{LifeFits}
+use Rattle.session_states.specs.States.{item_of, seen, session, state_of}
+use Rattle.session_states.specs.Fits.{LifeFits, WriterFits}
 use Rattle.session_states.specs.Shared.{Shared}
 use Rattle.session_stands.specs.Seated.{LivesAt}
 use Rattle.session_stands.specs.Sessions.{AreSeated, IsTold, sharing, dead_in, one_dead}
 use Rattle.line_cluster.specs.Going.{is_alive_life, is_dead, is_dead_life, is_over}
 use Rattle.line_cluster.specs.Sound.{IsLeft}
-use Rattle.line_cluster.specs.Turned.{Sessions, SleepsFor, Waits, is_patient_at, HasNothingLeft, HaveAllEnded, HaveEnded, is_session}
-
--- ---- who waits
-
-patient-waits : (M : Model) (p : Place) (g : Ground) (c : Shared) (s : ℕ) (left : List Item) (x : Phase) (l : Life) → l ≡ Alive → is_patient_at x ≡ true → LifeFits M p g c s left x l → is_nowait (p.transaction s) ≡ false
-patient-waits M p g c s left (Writing w) Alive alive patient f = f.waits ∙ ap not patient
-patient-waits M p g c s left Outside l alive patient f = absurd (false≢true patient)
-patient-waits M p g c s left Closing l alive patient f = absurd (false≢true patient)
-patient-waits M p g c s left (Reading r) l alive patient f = absurd (false≢true patient)
-patient-waits M p g c s left Over l alive patient f = absurd (false≢true patient)
-patient-waits M p g c s left (Writing w) Dead alive patient f = cc alive
-patient-waits M p g c s left (Writing w) Gone alive patient f = cc alive
-
-pub asleep-rests : (M : Model) (o : Opening) (word : List ℕ) (sight : Sight) (locks : State) (members : List Member) (events : List Event) (i t : ℕ) (m : Member) →
-    IsTold M o word sight locks members events → slice_get members i ≡ Some m → m.life ≡ Alive → is_patient_at m.phase ≡ true → IsBlockedBy locks (suc i) t → SleepsFor (place o events) (suc i) t
-asleep-rests M o word sight locks members events i t m told found alive patient b =
-    let k = told.kept in (
-      tree-waits (place o events) (party_of locks.parties) (open_asks locks.parties locks.trail) (suc i) t k.tied b.sleeps.by_needs,
-      patient-waits M (place o events) k.ground (sharing word told.shelf locks (dead_in members)) (suc i) m.left m.phase m.life alive patient (k.phases i m found),
-    )
+use Rattle.stage_steps.specs.Nearer.{is_for_journal, is_patient_at}
+use Rattle.line_cluster.specs.Turned.{Sessions, SleepsFor, Waits, HasNothingLeft, HaveAllEnded, HaveEnded, is_session}
 
 -- ---- who has ended
 
@@ -123,6 +111,57 @@ map-get f [] i x h = cc h
 map-get f (y ∷ ys) zero x h = ap (λ (z : Option _). option_map f z) h
 map-get f (y ∷ ys) (suc i) x h = map-get f ys i x h
 
+-- ---- who waits
+
+and-none : (b : Bool) → (b && false) ≡ false
+and-none true = refl
+and-none false = refl
+
+module _ (M : Model) (o : Opening) (p : Place) (g : Ground) (c : Shared) (s : ℕ) (left : List Item) (total : ℕ) where
+  -- its transaction isn't one under NOWAIT, or its next item is a COMMIT
+  abbrev MayWait : Type 0
+  MayWait = (is_nowait (p.transaction s) && not (is_committing (next_item o p s))) ≡ false
+
+  committing : (w : Writer) (stage : Stage) → w.stage ≡ stage → item_of stage ≡ Some (said commit) → Stands M o p g s (seen (session left total (Writing w))) → MayWait
+  committing w stage at is st =
+      let first : left_of (seen (session left total (Writing w))) ≡ said commit ∷ map uttered_of left = ap (λ (x : Stage). under_way (item_of x) ++ map uttered_of left) at ∙ ap (λ (i : Option Uttered). under_way i ++ map uttered_of left) is in
+      ap (λ (i : Option Uttered). is_nowait (p.transaction s) && not (is_committing i)) (next-is M o p g s (seen (session left total (Writing w))) (said commit) (map uttered_of left) st first) ∙ and-none (is_nowait (p.transaction s))
+
+  waiting : (w : Writer) → WriterFits M p g c s left w → w.waits ≡ true → MayWait
+  waiting w f waits = ap (λ (b : Bool). b && not (is_committing (next_item o p s))) (f.waits ∙ ap not waits)
+
+  writer-waits : (w : Writer) (stage : Stage) → w.stage ≡ stage → (is_for_journal stage || w.waits) ≡ true → WriterFits M p g c s left w → Stands M o p g s (seen (session left total (Writing w))) → MayWait
+  writer-waits w Between at patient f st = waiting w f patient
+  writer-waits w (Working item work) at patient f st = waiting w f patient
+  writer-waits w (Gathering item gather later place) at patient f st = waiting w f patient
+  writer-waits w (Reserving item r locks place) at patient f st = waiting w f patient
+  writer-waits w (Saying item r laying) at patient f st = waiting w f patient
+  writer-waits w (Ending Preparing) at patient f st = committing w (Ending Preparing) at refl st
+  writer-waits w (Ending Journal) at patient f st = committing w (Ending Journal) at refl st
+  writer-waits w (Ending Ready) at patient f st = waiting w f patient
+  writer-waits w (Ending Committing) at patient f st = waiting w f patient
+  writer-waits w (Ending RollingBack) at patient f st = waiting w f patient
+  writer-waits w (Ending Leaving) at patient f st = waiting w f patient
+
+  patient-waits : (x : Phase) (l : Life) → l ≡ Alive → is_patient_at x ≡ true → LifeFits M p g c s left x l → Stands M o p g s (seen (record { left = left; total = total; phase = x; life = l })) → MayWait
+  patient-waits (Writing w) Alive alive patient f st = writer-waits w w.stage refl patient f st
+  patient-waits Outside l alive patient f st = absurd (false≢true patient)
+  patient-waits Closing l alive patient f st = absurd (false≢true patient)
+  patient-waits (Reading r) l alive patient f st = absurd (false≢true patient)
+  patient-waits Over l alive patient f st = absurd (false≢true patient)
+  patient-waits (Writing w) Dead alive patient f st = cc alive
+  patient-waits (Writing w) Gone alive patient f st = cc alive
+
+pub asleep-rests : (M : Model) (o : Opening) (word : List ℕ) (sight : Sight) (locks : State) (members : List Member) (events : List Event) (i t : ℕ) (m : Member) →
+    IsTold M o word sight locks members events → slice_get members i ≡ Some m → m.life ≡ Alive → is_patient_at m.phase ≡ true → IsBlockedBy locks (suc i) t → SleepsFor o (place o events) (suc i) t
+asleep-rests M o word sight locks members events i t m told found alive patient b =
+    let k = told.kept in (
+      tree-waits (place o events) (party_of locks.parties) (open_asks locks.parties locks.trail) (suc i) t k.tied b.sleeps.by_needs,
+      patient-waits M o (place o events) k.ground (sharing word told.shelf locks (dead_in members)) (suc i) m.left m.total m.phase m.life alive patient (k.phases i m found) (k.right.each i (seen m) (map-get seen members i m found)),
+    )
+
+-- ---- who has nothing left to do
+
 module _ (M : Model) (o : Opening) (word : List ℕ) (sight : Sight) (locks : State) (members : List Member) (events : List Event) (told : IsTold M o word sight locks members events) where
   stands : (i : ℕ) (m : Member) → slice_get members i ≡ Some m → Stands M o (place o events) told.kept.ground (suc i) (seen m)
   stands i m found = told.kept.right.each i (seen m) (map-get seen members i m found)
@@ -180,9 +219,9 @@ over-left-at M o word sight locks members events s m told first found over =
     subst (λ (t : ℕ). HasNothingLeft o (place o events) t) (numbered s first) (over-left M o word sight locks members events told (s - 1) m found over)
 
 pub asleep-rests-at : (M : Model) (o : Opening) (word : List ℕ) (sight : Sight) (locks : State) (members : List Member) (events : List Event) (s t : ℕ) (c : Sessions) → IsTold M o word sight locks members events → 1 ≤ s →
-    Waits s t (record { members = members; events = c.events; measure = c.measure; locks = locks; halted = c.halted }) → SleepsFor (place o events) s t
+    Waits s t (record { members = members; events = c.events; measure = c.measure; locks = locks; halted = c.halted }) → SleepsFor o (place o events) s t
 asleep-rests-at M o word sight locks members events s t c told first w =
-    subst (λ (u : ℕ). SleepsFor (place o events) u t) (numbered s first)
+    subst (λ (u : ℕ). SleepsFor o (place o events) u t) (numbered s first)
     (asleep-rests M o word sight locks members events (s - 1) t w.member told w.found w.lives w.patient (subst (λ (u : ℕ). IsBlockedBy locks u t) (sym (numbered s first)) w.blocked))
 
 -- ---- what is left

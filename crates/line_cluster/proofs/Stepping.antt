@@ -1,6 +1,7 @@
 -- One session steps, and all of them stay sound.
 use Rattle.std.proofs.Common.{◌≡◌, ◌≤◌, ◌-◌, ℕ, suc, true, false, ◌++◌, ◌∷◌, [], List, refl, ◌∙◌, sym, ap, subst, Option, Some, None, slice_get, slice_set, append-nil}
 use Rattle.std.proofs.lemmas.Bool.{false≢true}
+use Rattle.std.proofs.lemmas.Option.{same_Some}
 use Rattle.rdo_ast.specs.declared.syntax.Item.{Item}
 use Rattle.rdb_account.specs.Events.{Event}
 use Rattle.rdb_account.specs.Places.{Opening}
@@ -9,7 +10,7 @@ use Rattle.lock_tree_laws.specs.Forest.{State, Parties, party_of}
 use Rattle.journal_waits.specs.Holders.{WantsExclusively}
 use Rattle.line_steps.specs.Images.{journal_node}
 use Rattle.line_store.specs.Seats.{Seat}
-use Rattle.line_store.specs.Sights.{Sight}
+use Rattle.line_store.specs.Sights.{Sight, Stands}
 use Rattle.line_store.proofs.InTurn.{does-as, does-nothing}
 use Rattle.session_jobs.specs.Records.{Model, IsOrderly}
 use Rattle.session_states.specs.declared.stage.Writer.{Writer}
@@ -25,6 +26,7 @@ use Rattle.session_states.specs.Fits.{WantsAtMost}
 use Rattle.session_stands.specs.Seated.{lock_in, NeedsFit, IsSeated, LivesAt}
 use Rattle.session_stands.specs.Sessions.{AreSeated, IsTold, dead_in, sharing}
 use Rattle.session_stands.proofs.Seating.{seated, keep-to, flies-all}
+use Rattle.session_stands.proofs.InFlight.{stand-now}
 use Rattle.session_stands.proofs.Telling.{steps}
 use Rattle.stage_steps.specs.declared.happening.Happening.{Happening}
 use Rattle.stage_steps.specs.declared.happening.Happening.TheVariants.{Quiet, Began, Answered, Unstarted, Asleep, Noticed, Got, Refused, RefusedStart, Committed, RolledBack, Left, Failed, Unlaid, Unworked, Unanswered}
@@ -37,7 +39,17 @@ use Rattle.line_cluster.specs.Going.{IsWriterAt, writes_at, is_over, is_dead, is
 use Rattle.line_cluster.specs.declared.behind.Notice.{Notice}
 use Rattle.line_cluster.specs.Behind.{IsNoticed, is_moving}
 use Rattle.line_cluster.proofs.Places.{suc-less, set-same}
-use Rattle.line_cluster.specs.Sound.{IsSound}
+use Rattle.line_cluster.proofs.Measured.{set-found}
+use Rattle.line_cluster.specs.Sound.{HasImages, IsSound}
+
+-- what a crash leaves, of what is told
+pub told-images : (M : Model) → IsOrderly M → (o : Opening) (word : List ℕ) (sight : Sight) → Stands sight → (locks : State) (members : List Member) (events : List Event) → AreSeated sight.stand locks members → IsTold M o word sight locks members events → HasImages M o sight events
+told-images M orderly o word sight stands locks members events sits k = record {
+  shelf = k.shelf;
+  shown = k.shown;
+  now = λ lines l. stand-now M o (sharing word k.shelf locks (dead_in members)) members events k.kept sight.stand sits orderly lines (stands k.shelf k.shown lines l);
+  since = k.images;
+}
 
 -- what is handed back is no event
 back-quiet : (s : ℕ) (h : Happening) (item : Item) (more : List Item) → handed_back h ≡ item ∷ more → events_of s h ≡ []
@@ -62,7 +74,7 @@ back-quiet s (Unanswered i) item more e = refl
 pub among : (c : Scene) (members : List Member) (s : ℕ) → AreSeated c.sight.stand c.locks members → IsAmong c.sight.stand c.locks s
 among c members s k = record { rest = λ t other. keep-to c.sight.stand c.locks members k t; flies = flies-all c.sight.stand c.locks members k }
 
-module _ (M : Model) (orderly : IsOrderly M) (told : Type 0) (o : Opening) (c d : Scene) (members : List Member) (events : List Event) (i : ℕ) (left rest : List Item) (total : ℕ) (x y : Phase)
+module _ (M : Model) (orderly : IsOrderly M) (told : Type 0) (o : Opening) (c d : Scene) (stands : Stands d.sight) (members : List Member) (events : List Event) (i : ℕ) (left rest : List Item) (total : ℕ) (x y : Phase)
     (lives : dead_in members ≡ 0) (found : slice_get members i ≡ Some (session left total x)) (was : IsSound M told o c members events None) where
   -- it goes on with these events
   abbrev GoesWith : List Event → Type 0 → Type 0
@@ -73,7 +85,7 @@ module _ (M : Model) (orderly : IsOrderly M) (told : Type 0) (o : Opening) (c d 
       (g.lives ((was.seated refl).each (suc i) (session left total x) found))
 
   tells : (N : Type 0) (es : List Event) → GoesWith es N → told → IsTold M o d.word d.sight d.locks (slice_set members i (session rest total y)) (events ++ es)
-  tells N es g t = steps M orderly o c.word d.word c.sight d.sight c.locks d.locks members events es i (session left total x) (session rest total y) (d.sight.stand (suc i)) found lives refl refl
+  tells N es g t = steps M orderly o c.word d.word c.sight d.sight c.locks d.locks members events es i (session left total x) (session rest total y) (d.sight.stand (suc i)) found stands (was.seated refl) (sits N es g) lives refl refl
       (does-as (suc i) (d.sight.stand (suc i)) (λ h k. (dead n : ℕ) → Step M (suc i) (on_shelf c h dead) (session left n x) (on_shelf d k dead) (session rest n y) es)
       (λ h k. (dead : ℕ) → Step M (suc i) (sharing c.word h c.locks dead) (session left total x) (sharing d.word k d.locks dead) (session rest total y) es)
       c.sight d.sight (λ h k shown then all dead. all dead total) g.does)
@@ -85,19 +97,25 @@ module _ (M : Model) (orderly : IsOrderly M) (told : Type 0) (o : Opening) (c d 
     legal = λ t. (tells N es g t).kept.right.legal;
     seated = λ none. sits N es g;
     kept = λ none t. tells N es g t;
+    images = λ t. told-images M orderly o d.word d.sight stands d.locks (slice_set members i (session rest total y)) (events ++ es) (sits N es g) (tells N es g t);
   }
 
-  -- or its item was handed back, and no session goes on
-  pub stepped : (h : Happening) (halt : Option Halt) → (handed_back h ≡ [] → GoesOn M (suc i) c left x d rest y h) → (halt ≡ None → handed_back h ≡ []) →
+module _ (M : Model) (orderly : IsOrderly M) (told : Type 0) (o : Opening) (c d : Scene) (stands : Stands d.sight) (members : List Member) (events : List Event) (i : ℕ) (left rest : List Item) (total : ℕ) (x y : Phase)
+    (lives : dead_in members ≡ 0) (found : slice_get members i ≡ Some (session left total x)) (was : IsSound M told o c members events None) where
+  -- it went on, or its item was handed back, and no session goes on
+  pub stepped : (h : Happening) (halt : Option Halt) → (handed_back h ≡ [] → GoesOn M (suc i) c left x d rest y h) → (ls : List Item) × GoesOn M (suc i) c left x d ls y h → (halt ≡ None → handed_back h ≡ []) →
       IsSound M told o d (slice_set members i (session rest total y)) (events ++ events_of (suc i) h) halt
-  stepped h halt goes going = by (handed_back h) refl
+  stepped h halt goes some going = by (handed_back h) refl
     where
       by : (back : List Item) → handed_back h ≡ back → IsSound M told o d (slice_set members i (session rest total y)) (events ++ events_of (suc i) h) halt
-      by [] e = moved _ (events_of (suc i) h) halt (goes e)
+      by [] e = moved M orderly told o c d stands members events i left rest total x y lives found was _ (events_of (suc i) h) halt (goes e)
       by (item ∷ more) e = record {
         legal = λ t. subst (λ (es : List Event). IsLegal o es) (sym (append-nil events) ∙ ap (λ es. events ++ es) (sym (back-quiet (suc i) h item more e))) (was.legal t);
         seated = λ none. cc (sym e ∙ going none);
         kept = λ none. cc (sym e ∙ going none);
+        images = λ t. told-images M orderly o d.word d.sight stands d.locks (slice_set members i (session some.0 total y)) (events ++ events_of (suc i) h)
+            (sits M orderly told o c d stands members events i left some.0 total x y lives found was _ (events_of (suc i) h) some.1)
+            (tells M orderly told o c d stands members events i left some.0 total x y lives found was _ (events_of (suc i) h) some.1 t);
       }
 
 -- ---- a notice
@@ -125,10 +143,10 @@ alive-writer m h = by m.phase m.life refl refl h
     by (Reading r) l px pl h = absurd (false≢true h)
     by Over l px pl h = absurd (false≢true h)
 
-pub served : (M : Model) (orderly : IsOrderly M) (told : Type 0) (o : Opening) (word : List ℕ) (sight : Sight) (locks behind : State) (members : List Member) (events more es : List Event) (s : ℕ) (old halt : Option Halt) →
+pub served : (M : Model) (orderly : IsOrderly M) (told : Type 0) (o : Opening) (word : List ℕ) (sight : Sight) (stands : Stands sight) (locks behind : State) (members : List Member) (events more es : List Event) (s : ℕ) (old halt : Option Halt) →
     old ≡ None → dead_in members ≡ 0 → IsWriterAt members s → IsSound M told o (scene word sight locks) members events old → behind.parties ≡ locks.parties →
     ((c : Shared) (w : Writer) → Comes M s (with_locks locks c) (Writing w) (with_locks behind c) (Writing w) es) → more ≡ events ++ es → IsSound M told o (scene word sight behind) members more halt
-served M orderly told o word sight locks behind members events more es s old halt none lives is was parties comes more-is =
+served M orderly told o word sight stands locks behind members events more es s old halt none lives is was parties comes more-is =
     let at = alive-writer is.member is.writes in
     let w : Writer = at.0 in
     let left : List Item = is.member.left in
@@ -138,7 +156,7 @@ served M orderly told o word sight locks behind members events more es s old hal
     subst (λ (t : ℕ). (c : Shared) (v : Writer) → Comes M t (with_locks locks c) (Writing v) (with_locks behind c) (Writing v) es) is.number comes in
     subst (λ (xs : List Event). IsSound M told o (scene word sight behind) members xs halt) (sym more-is)
     (subst (λ (ms : List Member). IsSound M told o (scene word sight behind) ms (events ++ es) halt) (set-same members is.at (session left total (Writing w)) found)
-    (moved M orderly told o (scene word sight locks) (scene word sight behind) members events is.at left left total (Writing w) (Writing w) lives found
+    (moved M orderly told o (scene word sight locks) (scene word sight behind) stands members events is.at left left total (Writing w) (Writing w) lives found
     (subst (λ (x : Option Halt). IsSound M told o (scene word sight locks) members events x) none was) (Unit {0}) es halt (record {
       lives = seated-on sight.stand locks behind (suc is.at) (Writing w) parties;
       parties = λ u other. ap (λ (ps : Parties). party_of ps u) parties;
@@ -199,15 +217,20 @@ seated-at stand locks members s at m first is found alive k =
     let e : suc at ≡ s = ap suc is ∙ suc-less s first in
     subst (λ (t : ℕ). IsSeated stand locks t m.phase) e (subst (λ (l : Life). LivesAt stand locks (suc at) m.phase l) alive (k.each (suc at) m found))
 
-pub turned : (M : Model) (orderly : IsOrderly M) (told : Type 0) (o : Opening) (c d : Scene) (members put : List Member) (events more : List Event) (s at : ℕ) (m : Member) (rest : List Item) (y : Phase) (h : Happening) (old halt : Option Halt) →
+pub turned : (M : Model) (orderly : IsOrderly M) (told : Type 0) (o : Opening) (c d : Scene) (stands : Stands d.sight) (members put : List Member) (events more : List Event) (s at : ℕ) (m : Member) (rest : List Item) (y : Phase) (h : Happening) (old halt : Option Halt) →
     1 ≤ s → at ≡ s - 1 → old ≡ None → dead_in members ≡ 0 → slice_get members at ≡ Some m → m.life ≡ Alive → IsSound M told o c members events old →
-    (handed_back h ≡ [] → GoesOn M s c m.left m.phase d rest y h) → (halt ≡ None → handed_back h ≡ []) →
+    (handed_back h ≡ [] → GoesOn M s c m.left m.phase d rest y h) → (ls : List Item) × GoesOn M s c m.left m.phase d ls y h → (halt ≡ None → handed_back h ≡ []) →
     put ≡ slice_set members at (record { left = rest; total = m.total; phase = y; life = m.life }) → more ≡ events ++ events_of s h → IsSound M told o d put more halt
-turned M orderly told o c d members put events more s at m rest y h old halt first is none lives found alive was goes going put-is more-is =
+turned M orderly told o c d stands members put events more s at m rest y h old halt first is none lives found alive was goes some going put-is more-is =
     let e : s ≡ suc at = sym (ap suc is ∙ suc-less s first) in
     let behind : record { left = rest; total = m.total; phase = y; life = m.life } ≡ session rest m.total y = ap (λ (l : Life). record { left = rest; total = m.total; phase = y; life = l }) alive in
     let put-at : slice_set members at (session rest m.total y) ≡ put = ap (λ (x : Member). slice_set members at x) (sym behind) ∙ sym put-is in
     let events-at : events ++ events_of (suc at) h ≡ more = ap (λ (t : ℕ). events ++ events_of t h) (sym e) ∙ sym more-is in
     subst (λ (ms : List Member). IsSound M told o d ms more halt) put-at (subst (λ (es : List Event). IsSound M told o d (slice_set members at (session rest m.total y)) es halt) events-at
-    (stepped M orderly told o c d members events at m.left rest m.total m.phase y lives (found ∙ ap Some (session-of m alive)) (subst (λ (x : Option Halt). IsSound M told o c members events x) none was) h halt
-    (λ back. subst (λ (t : ℕ). GoesOn M t c m.left m.phase d rest y h) e (goes back)) going))
+    (stepped M orderly told o c d stands members events at m.left rest m.total m.phase y lives (found ∙ ap Some (session-of m alive)) (subst (λ (x : Option Halt). IsSound M told o c members events x) none was) h halt
+    (λ back. subst (λ (t : ℕ). GoesOn M t c m.left m.phase d rest y h) e (goes back)) (some.0, subst (λ (t : ℕ). GoesOn M t c m.left m.phase d some.0 y h) e some.1) going))
+
+-- who was put back lives
+pub put-lives : (members put : List Member) (at : ℕ) (m n : Member) → slice_get members at ≡ Some m → put ≡ slice_set members at n → n.life ≡ Alive → (x : Member) → slice_get put at ≡ Some x → x.life ≡ Alive
+put-lives members put at m n found put-is lives x there =
+    ap (λ (y : Member). y.life) (sym (same_Some n x (sym (set-found at members m n found) ∙ (ap (λ (ms : List Member). slice_get ms at) (sym put-is) ∙ there)))) ∙ lives

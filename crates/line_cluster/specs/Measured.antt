@@ -1,5 +1,6 @@
 -- What falls with each turn that moves.
-use Rattle.std.specs.Prelude.{ℕ, suc, Bool, true, false, List, [], ◌∷◌, ◌++◌}
+use Rattle.std.specs.Prelude.{◌≡◌, ℕ, suc, Bool, true, false, List, [], ◌∷◌, ◌++◌, length}
+use Rattle.rdb_drive.specs.Boards.{Fits}
 use Rattle.lock_tree_laws.specs.Progress.{measure}
 use Rattle.session_states.specs.declared.stage.Member.{Member}
 use Rattle.session_measure.specs.Weights.{Beside, weight, sum_of}
@@ -22,3 +23,8 @@ numbers_from s (m ∷ ms) = s ∷ numbers_from (suc s) ms
 abbrev pub measure_by : (halted : Bool) → List Member → (rounds : ℕ → ℕ) → Beside → List ℕ
 measure_by true members rounds b = no_weight ++ 0 ∷ 0 ∷ 0 ∷ 0 ∷ 0 ∷ []
 measure_by false members rounds b = weights_from 1 members rounds b ++ measure (numbers_from 1 members) b.locks
+
+-- There are as many numbers at every moment, and each fits 80 bits, as sums over sessions of numbers of 64 bits do.
+pub record IsBounded (measure : List ℕ) : Type 0 where
+  pub long : length measure ≡ 13
+  pub fits : Fits measure

@@ -1,13 +1,16 @@
 -- What is true of the sessions of a run at every moment.
-use Rattle.std.specs.Prelude.{◌≡◌, ◌≤◌, ℕ, suc, List, [], length, map, Option, Some, None, slice_get}
+use Rattle.std.specs.Prelude.{◌≡◌, ◌≤◌, ℕ, suc, true, List, [], length, map, Option, Some, None, slice_get}
+use Rattle.rdb_types.specs.declared.session.Cause.TheVariants.{Device}
 use Rattle.rdo_ast.specs.declared.syntax.Item.{Item}
 use Rattle.rdo_ast.specs.Views.{uttered_of}
 use Rattle.rdb_account.specs.Events.{Event}
 use Rattle.rdb_account.specs.Places.{Opening, place}
 use Rattle.rdb_account.specs.Legal.{IsLegal}
+use Rattle.line_view.specs.Knowledge.{Lines}
 use Rattle.lock_tree_laws.specs.Forest.{State}
 use Rattle.line_store.specs.Shelves.{Shelf}
 use Rattle.line_store.specs.Sights.{Sight}
+use Rattle.line_steps.specs.Images.{AreLeft, IsNow}
 use Rattle.session_jobs.specs.Records.{Model}
 use Rattle.session_states.specs.declared.stage.Phase.TheVariants.{Outside}
 use Rattle.session_states.specs.declared.stage.Member.{Member}
@@ -17,11 +20,19 @@ use Rattle.session_stands.specs.Sessions.{AreSeated, IsTold, sharing}
 use Rattle.stage_steps.specs.Scenes.{Scene}
 use Rattle.line_cluster.specs.declared.sessions.Halt.{Halt}
 
--- Where the opening told what the store holds, the account is legal. As long as no halt has come, each session stands where its phase has it, and what is shown is kept.
+-- The store shows a shelf at whose moment each map of lines that a crash may leave stands for what the account has committed, or for that with the one in flight; and each that a crash might have left since the sessions began, or since a commit, for what was committed then, or more.
+pub record HasImages (M : Model) (o : Opening) (sight : Sight) (events : List Event) : Type 0 where
+  pub shelf : Shelf
+  pub shown : sight.shows shelf
+  pub now : (lines : Lines) → sight.left shelf.clock.time lines → IsNow M o (place o events) lines
+  pub since : AreLeft M o events sight.left shelf.clock.time
+
+-- Where the opening told what the store holds, the account is legal, and a crash leaves what was committed. As long as no halt has come, each session stands where its phase has it, and what is shown is kept.
 pub record IsSound (M : Model) (told : Type 0) (o : Opening) (c : Scene) (members : List Member) (events : List Event) (halt : Option Halt) : Type 0 where
   pub legal : told → IsLegal o events
   pub seated : halt ≡ None → AreSeated c.sight.stand c.locks members
   pub kept : halt ≡ None → told → IsTold M o c.word c.sight c.locks members events
+  pub images : told → HasImages M o c.sight events
 
 -- session s is one of these
 pub record IsOneOf (members : List Member) (s : ℕ) : Type 0 where
@@ -48,11 +59,16 @@ pub record IsLeft (M : Model) (o : Opening) (sight : Sight) (events : List Event
 abbrev pub fresh_member : List Item → Member
 fresh_member script = session script (length script) Outside
 
+-- any session may die of a device call that fails
+abbrev pub MayFail : Opening → Type 0
+MayFail o = (s : ℕ) → o.may_die s Device ≡ true
+
 -- they are sound, and so many: no more than the tree of locks has owners
 pub record AreSound (M : Model) (told : Type 0) (o : Opening) (sessions : ℕ) (c : Scene) (members : List Member) (events : List Event) (halt : Option Halt) : Type 0 where
   pub sound : IsSound M told o c members events halt
   pub count : length members ≡ sessions
   pub few : sessions ≤ 16
+  pub mortal : MayFail o
 
 abbrev pub IsSession : ℕ → ℕ → Type 0
 IsSession sessions s = (1 ≤ s) × (s ≤ sessions)

@@ -1,21 +1,21 @@
 -- What a turn of a session comes to, as who drives sessions sees it.
-use Rattle.std.specs.Prelude.{◌≡◌, ◌≤◌, ◌<◌, ◌-◌, ◌⊎◌, ◌&&◌, nat_le, ℕ, zero, suc, Bool, true, false, List, [], ◌∷◌, ◌++◌, map, Option, Some, None, is_some, slice_get, slice_set}
+use Rattle.std.specs.Prelude.{◌≡◌, ◌≤◌, ◌<◌, ◌-◌, ◌⊎◌, ◌&&◌, not, nat_le, ℕ, zero, suc, Bool, true, false, List, [], ◌∷◌, ◌++◌, map, Option, Some, None, is_some, slice_get, slice_set}
 use Rattle.rdb_types.specs.declared.session.Cause.{Cause}
-use Rattle.rdb_drive.specs.Boards.{Mark, Says, Does, Other, AllOf, AllNobodys, Less, answers}
+use Rattle.rdb_types.specs.declared.session.Cause.TheVariants.{Device}
+use Rattle.rdb_drive.specs.Boards.{Mark, Says, Does, Other, AllOf, AllNobodys, answers}
 use Rattle.rdb_account.specs.declared.event.Event.{Event as Declared}
 use Rattle.rdb_account.specs.Events.{Event, Began, Wanted, Got, Demoted, Said, Committed, RolledBack, Died, Recovered, event_of}
 use Rattle.rdb_account.specs.Places.{Opening, Place, place, next_item}
 use Rattle.rdb_account.specs.Lawful.{waits, is_nowait}
-use Rattle.rdb_account.specs.Legal.{AreWhole, has_not_died}
-use Rattle.lock_tree.specs.Sleeping.{IsBlockedBy, is_sleeping}
+use Rattle.rdb_account.specs.Legal.{AreWhole, has_not_died, is_committing}
+use Rattle.lock_tree.specs.Sleeping.{IsBlockedBy}
 use Rattle.lock_tree_laws.specs.Forest.{State}
 use Rattle.line_store.specs.Sights.{Sight}
-use Rattle.session_states.specs.declared.stage.Phase.{Phase}
-use Rattle.session_states.specs.declared.stage.Phase.TheVariants.{Writing}
 use Rattle.session_states.specs.declared.stage.Life.{Life}
 use Rattle.session_states.specs.declared.stage.Life.TheVariants.{Alive, Dead}
 use Rattle.session_states.specs.declared.stage.Member.{Member}
 use Rattle.session_stands.specs.Sessions.{dead_in}
+use Rattle.stage_steps.specs.Nearer.{is_patient_at}
 use Rattle.line_arms.specs.declared.allotment.Allotment.{Allotment}
 use Rattle.line_cluster.specs.Measured.{measure_by}
 use Rattle.line_cluster.specs.declared.sessions.Halt.{Halt}
@@ -58,20 +58,15 @@ mark_of (RolledBack s) = Does s
 mark_of (Died s cause) = Does s
 mark_of (Recovered s committed moment) = Other
 
--- s waits for t, and its transaction isn't one under NOWAIT
-abbrev pub SleepsFor : Place → ℕ → ℕ → Type 0
-SleepsFor p s t = (waits p s t ≡ true) × (is_nowait (p.transaction s) ≡ false)
+-- s waits for t. Under NOWAIT it does so for a COMMIT alone
+abbrev pub SleepsFor : Opening → Place → ℕ → ℕ → Type 0
+SleepsFor o p s t = (waits p s t ≡ true) × ((is_nowait (p.transaction s) && not (is_committing (next_item o p s))) ≡ false)
 
 -- s has said its whole script, or has died
 abbrev pub HasNothingLeft : Opening → Place → ℕ → Type 0
 HasNothingLeft o p s = (next_item o p s ≡ None) ⊎ (has_not_died (p.life s) ≡ false)
 
 -- ---- a turn
-
--- whether a want of this phase sleeps where it isn't got at once
-abbrev pub is_patient_at : Phase → Bool
-is_patient_at (Writing w) = w.waits
-is_patient_at _ = false
 
 -- session s, which had something left to do, is another, and lives as before
 pub record IsAnother (s : ℕ) (old new : List Member) : Type 0 where
@@ -99,6 +94,16 @@ pub record GoesFurther (s : ℕ) (old new : Sessions) : Type 0 where
   pub members : (new.members ≡ old.members) ⊎ IsAnother s old.members new.members
   pub events : Grows s old.events new.events
 
+-- a device call failed in a step of session s, which had something left to do, and it died of that
+pub record HasFallen (s : ℕ) (old new : Sessions) : Type 0 where
+  pub before : Member
+  pub found : slice_get old.members (s - 1) ≡ Some before
+  pub going : is_over before before.life ≡ false
+  pub behind : Member
+  pub died : behind.life ≡ Dead
+  pub is : new.members ≡ slice_set old.members (s - 1) behind
+  pub grown : map event_of new.events ≡ map event_of old.events ++ Died s Device ∷ []
+
 -- session s waits, and for whom. None that died awaits its recovery
 pub record Waits (s t : ℕ) (c : Sessions) : Type 0 where
   pub going : c.halted ≡ false
@@ -118,15 +123,10 @@ pub record IsAtEnd (s : ℕ) (c : Sessions) : Type 0 where
 abbrev pub Came : ℕ → Sessions → Sessions → Turn → Type 0
 Came s old new turn.Moved = GoesFurther s old new
 Came s old new (turn.Asleep t) = (new ≡ old) × Waits s t.number old
+Came s old new turn.Died = HasFallen s old new
 Came s old new turn.Frozen = (new ≡ old) × (0 < dead_in old.members)
 Came s old new turn.Ended = (new ≡ old) × IsAtEnd s old × (dead_in old.members ≡ 0)
 Came s old new turn.Stopped = (new.halted ≡ true) × GoesFurther s old new
-
--- ---- what falls
-
--- where its want wasn't queued before, all sessions have less before them
-abbrev pub IsNearer : ℕ → Sessions → Sessions → Type 0
-IsNearer s old new = is_sleeping old.locks s ≡ false → Less new.measure old.measure
 
 -- ---- who goes on
 
@@ -134,6 +134,7 @@ IsNearer s old new = is_sleeping old.locks s ≡ false → Less new.measure old.
 abbrev pub GoesOn : Turn → Type 0
 GoesOn turn.Moved = Unit {0}
 GoesOn (turn.Asleep t) = ⊥
+GoesOn turn.Died = Unit {0}
 GoesOn turn.Frozen = ⊥
 GoesOn turn.Ended = ⊥
 GoesOn turn.Stopped = Unit {0}
@@ -141,18 +142,20 @@ GoesOn turn.Stopped = Unit {0}
 -- Who sleeps waits in the account for the session that is named.
 abbrev pub Rests : Opening → ℕ → Sessions → Turn → Type 0
 Rests o s c turn.Moved = Unit {0}
-Rests o s c (turn.Asleep t) = SleepsFor (place o (map event_of c.events)) s t.number
+Rests o s c (turn.Asleep t) = SleepsFor o (place o (map event_of c.events)) s t.number
+Rests o s c turn.Died = Unit {0}
 Rests o s c turn.Frozen = Unit {0}
 Rests o s c turn.Ended = Unit {0}
 Rests o s c turn.Stopped = Unit {0}
 
 -- ---- deaths
 
--- no session goes on from then on, and nothing else changed
+-- no session goes on from then on, and nothing else changed, nor anything where none went on before
 pub record IsHalt (old new : Sessions) : Type 0 where
   pub halted : new.halted ≡ true
   pub members : new.members ≡ old.members
   pub events : new.events ≡ old.events
+  pub rests : old.halted ≡ true → new ≡ old
 
 abbrev pub with_life : Life → Member → Member
 with_life l m = record { left = m.left; total = m.total; phase = m.phase; life = l }
@@ -187,6 +190,7 @@ pub record IsRecovery (old new : Sessions) : Type 0 where
 abbrev pub RecoveryCame : Sessions → Sessions → Turn → Type 0
 RecoveryCame old new turn.Moved = IsRecovery old new
 RecoveryCame old new (turn.Asleep t) = ⊥
+RecoveryCame old new turn.Died = ⊥
 RecoveryCame old new turn.Frozen = ⊥
 RecoveryCame old new turn.Ended = (new ≡ old) × (dead_in old.members ≡ 0)
 RecoveryCame old new turn.Stopped = IsHalt old new

@@ -1,6 +1,7 @@
 //! What the statement under way of each session is allotted.
 ghost use Rattle.std.specs.Prelude.{◌≡◌, ◌≤◌, ◌-◌, Some, slice_get, slice_set};
 ghost use Rattle.line_arms.specs.declared.allotment.Allotment.{Allotment as AllotmentValue};
+ghost use Rattle.line_cluster.specs.Turned.{rounds_at};
 
 use line_arms::Allotment;
 use rdb_types::{NoMemory, Session};
@@ -36,6 +37,14 @@ impl Allotments {
             each.push(Allotment::new(alloc))?;
         }
         Ok(Allotments { each })
+    }
+
+    /// How often the job of a session's statement may still be handed out.
+    pub fn rounds(&self, s: Session) -> u64
+        requires { (1 ≤ s.number) × (s.number ≤ 16) }
+        ensures { result ≡ rounds_at self.now s.number }
+    {
+        self.each[s.number as usize - 1].rounds
     }
 
     /// Takes that of a session's statement; another stands in its place until it is put back.

@@ -4,6 +4,7 @@ ghost use Rattle.line_cluster.specs.Behind.{IsNoticed, is_moving};
 ghost use Rattle.line_cluster.specs.declared.behind.Notice.{Notice as NoticeValue};
 
 use crate::sessions::Halt;
+use line_store::Fault;
 use rdb_types::{Node, Session};
 use stage_steps::Happening;
 use vms_queues::Mode;
@@ -21,13 +22,28 @@ pub struct Notice {
 pub enum Behind {
     Nothing,
     Serve(Notice),
+    /// A device call failed: the session dies.
+    Die,
     Stop(Halt),
+}
+
+// What is done once a call of the store failed so.
+fn behind_fault(fault: Fault) -> Behind
+    ensures nothing { result ≡ Behind.Nothing → ⊥ }
+    ensures serve { (notice : NoticeValue) → result ≡ Behind.Serve notice → ⊥ }
+    ensures die { result ≡ Behind.Die → fault ≡ Fault.Failed }
+{
+    match fault {
+        Fault::Failed => Behind::Die,
+        Fault::Bad(..) => Behind::Stop(Halt::Device(fault)),
+    }
 }
 
 /// What is done once this happened.
 pub(crate) fn behind_of(happened: &Happening) -> Behind
     ensures nothing { result ≡ Behind.Nothing → is_moving happened.now ≡ true }
     ensures serve { (notice : NoticeValue) → result ≡ Behind.Serve notice → IsNoticed notice happened.now }
+    ensures die { result ≡ Behind.Die → happened.now ≡ Happening.Failed Fault.Failed }
 {
     match happened {
         Happening::Noticed(to, node, mode, _) => Behind::Serve(Notice {
@@ -35,7 +51,7 @@ pub(crate) fn behind_of(happened: &Happening) -> Behind
             node: *node,
             mode: *mode,
         }),
-        Happening::Failed(fault) => Behind::Stop(Halt::Device(*fault)),
+        Happening::Failed(fault) => behind_fault(*fault),
         Happening::Unlaid(key) => Behind::Stop(Halt::Unlaid(*key)),
         Happening::Unworked | Happening::Unanswered(_) => Behind::Stop(Halt::Unworked),
         _ => Behind::Nothing,

@@ -1,19 +1,21 @@
 //! The sessions of a run, of one origin.
-ghost use Rattle.std.specs.Prelude.{◌≡◌, ◌≤◌, ◌<◌, ◌^◌, ◌&&◌, ℕ, All, [], length, map, not, false, true, IfOk, IfErr};
+ghost use Rattle.std.specs.Prelude.{◌≡◌, ◌≤◌, ◌<◌, ◌^◌, ◌&&◌, ℕ, All, [], length, map, not, false, is_some, true, IfOk, IfErr};
 ghost use Rattle.rdb_account.specs.Events.{event_of};
 ghost use Rattle.rdb_account.specs.Legal.{IsLegal, is_stop};
+ghost use Rattle.rdb_drive.specs.Boards.{Less};
 ghost use Rattle.rdb_account.specs.Places.{place};
 ghost use Rattle.line_store.specs.Seats.{Seat, outside};
 ghost use Rattle.line_store.specs.Sights.{bare};
 ghost use Rattle.lock_tree_laws.specs.Forest.{IsWhole};
 ghost use Rattle.session_stands.specs.Sessions.{AreSeated};
-ghost use Rattle.line_cluster.specs.Sound.{FollowsScripts, IsLeft, IsOpenedBy, IsSession, fresh_member};
-ghost use Rattle.line_cluster.specs.Turned.{Came, DeathCame, HasNothingLeft, HaveAllEnded, HaveEnded, IsAtEnd, IsNearer, RecoveryCame, Rests};
+ghost use Rattle.line_cluster.specs.Measured.{IsBounded};
+ghost use Rattle.line_cluster.specs.Sound.{FollowsScripts, HasImages, IsLeft, IsOpenedBy, IsSession, MayFail, fresh_member};
+ghost use Rattle.line_cluster.specs.Turned.{Came, DeathCame, HasNothingLeft, HaveAllEnded, HaveEnded, IsAtEnd, RecoveryCame, Rests};
 
 use crate::allotments::Allotments;
 use crate::members::takes_item;
 use crate::origin::Origin;
-use crate::sessions::{Core, Turn};
+use crate::sessions::{Core, Halt, Turn};
 use line_store::LineStore;
 use lock_tree::Tree;
 use rdb_account::{Event, Events};
@@ -84,6 +86,7 @@ impl<O: Origin, S: Reserves + Reaches, L: LineStore + Drop> LineCluster<O, S, L>
         requires scripts { FollowsScripts O.opening scripts.items }
         requires short { All (λ items. length items < 2 ^ 32) scripts.items }
         requires outside { (s : ℕ) → (L.sight store).stand s ≡ outside }
+        requires mortal { MayFail O.opening }
         requires opened { O.told → IsOpenedBy S.stands O.opening word (L.sight store) }
         ensures events { IfOk result (λ c. c.events ≡ []) }
         ensures members { IfOk result (λ c. c.members ≡ map fresh_member scripts.items) }
@@ -117,7 +120,7 @@ impl<O: Origin, S: Reserves + Reaches, L: LineStore + Drop> LineCluster<O, S, L>
     pub fn turn(&mut self, s: Session) -> Turn
         requires session { IsSession O.sessions s.number }
         ensures came { Came s.number self.old self.new result }
-        ensures nearer { result ≡ Turn.Moved → IsNearer s.number self.old self.new }
+        ensures nearer { result ≡ Turn.Moved → Less self.new.measure self.old.measure }
         ensures rests { O.told → Rests O.opening s.number self.old result }
     {
         self.core.turn(s)
@@ -135,6 +138,7 @@ impl<O: Origin, S: Reserves + Reaches, L: LineStore + Drop> LineCluster<O, S, L>
     /// A step of the recovery of the first session that died.
     pub fn recover(&mut self) -> Turn
         ensures came { RecoveryCame self.old self.new result }
+        ensures nearer { result ≡ Turn.Moved → Less self.new.measure self.old.measure }
     {
         self.core.recover()
     }
@@ -146,11 +150,23 @@ impl<O: Origin, S: Reserves + Reaches, L: LineStore + Drop> LineCluster<O, S, L>
         takes_item(&self.core.members[s.number as usize - 1])
     }
 
+    /// Whether a session's next step is the barrier that makes its commit stable.
+    pub fn is_at_barrier(&self, s: Session) -> bool {
+        self.core.common.store.is_at_barrier(s)
+    }
+
     /// Whether no session goes on.
     pub fn is_halted(&self) -> bool
         ensures { result ≡ self.now.halted }
     {
         self.core.halt.is_some()
+    }
+
+    /// Why no session goes on, once that is so.
+    pub fn halt(&self) -> Option<Halt>
+        ensures { is_some result ≡ self.now.halted }
+    {
+        self.core.halt
     }
 
     /// What happened so far.
@@ -166,17 +182,20 @@ impl<O: Origin, S: Reserves + Reaches, L: LineStore + Drop> LineCluster<O, S, L>
         ensures count { length self.now.members ≡ O.sessions }
         ensures seated { self.now.halted ≡ false → (stand : ℕ → Seat) × AreSeated stand self.now.locks self.now.members }
         ensures locks { IsWhole self.now.locks }
+        ensures bounds { IsBounded self.now.measure }
         ensures over { O.told → self.now.halted ≡ false → (s : ℕ) → 1 ≤ s → IsAtEnd s self.now → HasNothingLeft O.opening (place O.opening (map event_of self.now.events)) s }
         ensures whole { O.told → self.now.halted ≡ false → HaveEnded self.now.members → HaveAllEnded O.opening O.sessions (map event_of self.now.events) }
     {
         // (so the tree is whole)
         let _blocker = self.core.common.tree.blocker(1);
+        self.core.count();
     }
 
     /// The run is over.
     pub fn end(self) -> Finished<L>
         ensures events { result.events ≡ self.events }
         ensures left { O.told → self.halted ≡ false → IsLeft S.stands O.opening (L.sight result.store) (map event_of self.events) }
+        ensures images { O.told → HasImages S.stands O.opening (L.sight result.store) (map event_of self.events) }
         ensures outside { self.halted ≡ false → HaveEnded self.members → (s : ℕ) → bare ((L.sight result.store).stand s) ≡ outside }
     {
         let LineCluster { core } = self;

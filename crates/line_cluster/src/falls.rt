@@ -1,16 +1,16 @@
 //! Sessions that die, and their recovery.
-ghost use Rattle.std.specs.Prelude.{◌≡◌, ◌≤◌, ◌+◌, ◌-◌, ◌&&◌, length, map, not, true, false, None, Some, slice_get, IfSome};
+ghost use Rattle.std.specs.Prelude.{◌≡◌, ◌≤◌, ◌+◌, ◌-◌, ◌&&◌, ◌++◌, ◌∷◌, [], length, map, not, true, false, None, Some, slice_get, slice_set, IfSome};
 ghost use Rattle.std.specs.Vec.{vec_len, vec_capacity};
-ghost use Rattle.rdb_account.specs.Events.{event_of};
+ghost use Rattle.rdb_account.specs.Events.{event_of, Died};
 ghost use Rattle.rdb_account.specs.Legal.{is_stop};
-ghost use Rattle.session_states.specs.declared.stage.Life.TheVariants as life;
+ghost use Rattle.rdb_drive.specs.Boards.{Less};
 ghost use Rattle.session_states.specs.declared.stage.Member.{Member as MemberValue};
 ghost use Rattle.session_stands.specs.Sessions.{dead_in};
 ghost use Rattle.stage_steps.specs.Deaths.{life_behind as life_behind_it};
 ghost use Rattle.stage_steps.specs.Scenes.{scene};
-ghost use Rattle.line_cluster.specs.Going.{IsDeadAt, is_dead as is_dead_at, is_over as is_over_at};
+ghost use Rattle.line_cluster.specs.Going.{IsDeadAt, is_dead as is_dead_at};
 ghost use Rattle.line_cluster.specs.Sound.{IsSound, IsOneOf};
-ghost use Rattle.line_cluster.specs.Turned.{DeathCame, GoesOn, IsDeath, RecoveryCame, sessions};
+ghost use Rattle.line_cluster.specs.Turned.{DeathCame, GoesOn, RecoveryCame, sessions, with_life};
 
 use crate::members::{is_over, member_at, put_member, take_member};
 use crate::origin::Origin;
@@ -76,17 +76,20 @@ impl<O: Origin, S: Reserves + Reaches, L: LineStore> Core<O, S, L> {
         self.fall(s, at, cause);
     }
 
-    fn fall(&mut self, s: Session, at: usize, cause: Cause)
+    /// A session that lives dies where it stands, and keeps its locks.
+    pub(crate) fn fall(&mut self, s: Session, at: usize, cause: Cause)
         requires one { IsOneOf self.old.members.items s.number }
         requires at { at ≡ s.number - 1 }
         requires mortal { (O.opening.may_die s.number cause && not (is_stop cause)) ≡ true }
         requires sound { IsSound S.stands O.told O.opening (scene self.old.common.word (L.sight self.old.common.store) self.old.common.tree) self.old.members.items (map event_of self.old.events.items) self.old.halt }
         requires going { self.old.halt ≡ None }
         requires room { vec_len self.old.events + 6 ≤ vec_capacity self.old.events }
-        requires unfinished { (m : MemberValue) → slice_get self.old.members.items at ≡ Some m → is_over_at m m.life ≡ false }
+        requires lives { (m : MemberValue) → slice_get self.old.members.items at ≡ Some m → m.life ≡ Life.Alive }
         ensures sound { IsSound S.stands O.told O.opening (scene self.new.common.word (L.sight self.new.common.store) self.new.common.tree) self.new.members.items (map event_of self.new.events.items) self.new.halt }
         ensures count { length self.new.members.items ≡ length self.old.members.items }
-        ensures came { IsDeath s.number cause (sessions self.old.members.items self.old.events.items self.old.allotments (L.sight self.old.common.store) self.old.common.tree self.old.halt) (sessions self.new.members.items self.new.events.items self.new.allotments (L.sight self.new.common.store) self.new.common.tree self.new.halt) }
+        ensures died { (m : MemberValue) → slice_get self.old.members.items at ≡ Some m → self.new.members.items ≡ slice_set self.old.members.items at (with_life Life.Dead m) }
+        ensures events { map event_of self.new.events.items ≡ map event_of self.old.events.items ++ Died s.number cause ∷ [] }
+        ensures going { self.new.halt ≡ None }
     {
         let Member {
             left,
@@ -112,6 +115,7 @@ impl<O: Origin, S: Reserves + Reaches, L: LineStore> Core<O, S, L> {
         ensures sound { IsSound S.stands O.told O.opening (scene self.new.common.word (L.sight self.new.common.store) self.new.common.tree) self.new.members.items (map event_of self.new.events.items) self.new.halt }
         ensures count { length self.new.members.items ≡ length self.old.members.items }
         ensures came { RecoveryCame (sessions self.old.members.items self.old.events.items self.old.allotments (L.sight self.old.common.store) self.old.common.tree self.old.halt) (sessions self.new.members.items self.new.events.items self.new.allotments (L.sight self.new.common.store) self.new.common.tree self.new.halt) result }
+        ensures nearer { result ≡ Turn.Moved → Less (sessions self.new.members.items self.new.events.items self.new.allotments (L.sight self.new.common.store) self.new.common.tree self.new.halt).measure (sessions self.old.members.items self.old.events.items self.old.allotments (L.sight self.old.common.store) self.old.common.tree self.old.halt).measure }
     {
         if self.halt.is_some() {
             return Turn::Stopped;
@@ -134,6 +138,7 @@ impl<O: Origin, S: Reserves + Reaches, L: LineStore> Core<O, S, L> {
         ensures sound { IsSound S.stands O.told O.opening (scene self.new.common.word (L.sight self.new.common.store) self.new.common.tree) self.new.members.items (map event_of self.new.events.items) self.new.halt }
         ensures count { length self.new.members.items ≡ length self.old.members.items }
         ensures came { RecoveryCame (sessions self.old.members.items self.old.events.items self.old.allotments (L.sight self.old.common.store) self.old.common.tree self.old.halt) (sessions self.new.members.items self.new.events.items self.new.allotments (L.sight self.new.common.store) self.new.common.tree self.new.halt) result }
+        ensures nearer { result ≡ Turn.Moved → Less (sessions self.new.members.items self.new.events.items self.new.allotments (L.sight self.new.common.store) self.new.common.tree self.new.halt).measure (sessions self.old.members.items self.old.events.items self.old.allotments (L.sight self.old.common.store) self.old.common.tree self.old.halt).measure }
         ensures on { GoesOn result }
     {
         let _count = self.members.len();

@@ -7,6 +7,7 @@ mod behind;
 mod cluster;
 mod falls;
 mod members;
+mod numbers;
 mod origin;
 mod sessions;
 mod turning;

@@ -6,10 +6,10 @@ ghost use Rattle.session_states.specs.declared.stage.Phase.TheVariants as phase;
 ghost use Rattle.session_states.specs.declared.stage.Member.{Member as MemberValue};
 ghost use Rattle.line_arms.specs.Going.{is_done as is_done_at};
 ghost use Rattle.line_cluster.specs.Going.{is_over as is_over_at, writes_at};
-ghost use Rattle.line_cluster.specs.Turned.{is_patient_at};
+ghost use Rattle.stage_steps.specs.Nearer.{is_for_journal as is_for_journal_at, is_patient_at};
 
 use rdb_types::Session;
-use session_states::{ItemQueue, Life, Member, Phase, ReaderStage, Stage};
+use session_states::{End, ItemQueue, Life, Member, Phase, ReaderStage, Stage};
 use std::alloc::Global;
 use std::mem::{forget, replace};
 
@@ -51,12 +51,19 @@ pub(crate) fn is_writing(member: &Member) -> bool
     }
 }
 
-/// Whether a want of a session sleeps where it isn't got at once.
+// Whether a COMMIT wants the journal, or will once it is prepared.
+fn is_for_journal(stage: &Stage) -> bool
+    ensures { result ≡ is_for_journal_at stage.now }
+{
+    matches!(stage, Stage::Ending(End::Preparing | End::Journal))
+}
+
+/// Whether a want of a session sleeps where it isn't got at once: under NOWAIT a COMMIT's does.
 pub(crate) fn is_patient(member: &Member) -> bool
     ensures { result ≡ is_patient_at member.now.phase }
 {
     match &member.phase {
-        Phase::Writing(writer) => writer.waits,
+        Phase::Writing(writer) => is_for_journal(&writer.stage) || writer.waits,
         _ => false,
     }
 }

@@ -16,7 +16,7 @@ pub trait Origin {
 }
 
 impl Origin for Brand {
-    ghost use Rattle.std.specs.Prelude.{[], false};
+    ghost use Rattle.std.specs.Prelude.{[], false, true};
     ghost use Rattle.rdb_meaning.specs.Contents.{no_tables};
 
     ghost opening = { record {
@@ -27,7 +27,7 @@ impl Origin for Brand {
       has_owner = λ file page. false;
       group_slots = 0;
       moment = 0;
-      may_die = λ s cause. false;
+      may_die = λ s cause. true;
     } };
 
     ghost sessions = { 0 };

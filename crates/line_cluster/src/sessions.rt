@@ -14,7 +14,7 @@ use std::marker::PhantomData;
 pub enum Halt {
     /// No memory was found for the events of a step.
     NoMemory,
-    /// A device call failed, or a slot isn't what it has to be.
+    /// A device call failed in a step of a recovery, or a slot isn't what it has to be.
     Device(Fault),
     /// The store has no place for this line, which a statement wrote.
     Unlaid(Dbkey),
@@ -28,6 +28,8 @@ pub enum Turn {
     Moved,
     /// It waits for this session.
     Asleep(Session),
+    /// A device call failed in its step, and it died.
+    Died,
     /// A session that died awaits its recovery.
     Frozen,
     /// It has nothing left to do.

@@ -1,15 +1,18 @@
 //! A turn of a session.
 ghost use Rattle.std.specs.Prelude.{◌≡◌, ℕ, ◌≤◌, ◌+◌, ◌-◌, ◌++◌, [], length, map, None, Some, true, false, is_some, slice_get, IfSome};
 ghost use Rattle.rdb_account.specs.Events.{event_of};
+ghost use Rattle.rdb_drive.specs.Boards.{Less};
 ghost use Rattle.session_states.specs.declared.stage.Member.{Member as MemberValue};
 ghost use Rattle.session_stands.specs.Sessions.{dead_in};
 ghost use Rattle.lock_tree_laws.specs.Forest.{party_of};
 ghost use Rattle.lock_tree_laws.specs.LockTable.{granted_at};
 ghost use Rattle.lock_tree_laws.specs.Progress.{is_spare, Falls as LocksFall};
+ghost use Rattle.lock_tree.specs.Sleeping.{is_sleeping};
+ghost use Rattle.stage_steps.specs.Nearer.{is_patient_at};
 ghost use Rattle.stage_steps.specs.Scenes.{scene};
-ghost use Rattle.line_cluster.specs.Sound.{IsSound, IsOneOf};
+ghost use Rattle.line_cluster.specs.Sound.{IsSound, IsOneOf, MayFail};
 ghost use Rattle.line_cluster.specs.Going.{IsWriterAt, is_over as is_over_at};
-ghost use Rattle.line_cluster.specs.Turned.{Came, GoesOn, GrowsQuietly, IsNearer, Rests, Waits, sessions};
+ghost use Rattle.line_cluster.specs.Turned.{Came, GoesOn, GrowsQuietly, Rests, Waits, sessions};
 ghost use Rattle.std.specs.Vec.{vec_len, vec_capacity};
 
 use crate::behind::{Behind, Notice, behind_of};
@@ -20,11 +23,12 @@ use crate::sessions::{Core, Halt, Turn};
 use line_account::{record, record_demotion, reserve_step};
 use line_arms::go_on;
 use line_store::LineStore;
-use rdb_types::Session;
+use rdb_types::{Cause, Session};
 use reached_changes::Reaches;
 use reserved_locks::Reserves;
 use session_states::Member;
 use stage_steps::serve;
+use std::mem::forget;
 
 impl<O: Origin, S: Reserves + Reaches, L: LineStore> Core<O, S, L> {
     // No session goes on.
@@ -47,11 +51,12 @@ impl<O: Origin, S: Reserves + Reaches, L: LineStore> Core<O, S, L> {
     /// A turn of a session: its next step, or whom it waits for.
     pub fn turn(&mut self, s: Session) -> Turn
         requires one { IsOneOf self.old.members.items s.number }
+        requires mortal { MayFail O.opening }
         requires sound { IsSound S.stands O.told O.opening (scene self.old.common.word (L.sight self.old.common.store) self.old.common.tree) self.old.members.items (map event_of self.old.events.items) self.old.halt }
         ensures sound { IsSound S.stands O.told O.opening (scene self.new.common.word (L.sight self.new.common.store) self.new.common.tree) self.new.members.items (map event_of self.new.events.items) self.new.halt }
         ensures count { length self.new.members.items ≡ length self.old.members.items }
         ensures came { Came s.number (sessions self.old.members.items self.old.events.items self.old.allotments (L.sight self.old.common.store) self.old.common.tree self.old.halt) (sessions self.new.members.items self.new.events.items self.new.allotments (L.sight self.new.common.store) self.new.common.tree self.new.halt) result }
-        ensures nearer { result ≡ Turn.Moved → IsNearer s.number (sessions self.old.members.items self.old.events.items self.old.allotments (L.sight self.old.common.store) self.old.common.tree self.old.halt) (sessions self.new.members.items self.new.events.items self.new.allotments (L.sight self.new.common.store) self.new.common.tree self.new.halt) }
+        ensures nearer { result ≡ Turn.Moved → Less (sessions self.new.members.items self.new.events.items self.new.allotments (L.sight self.new.common.store) self.new.common.tree self.new.halt).measure (sessions self.old.members.items self.old.events.items self.old.allotments (L.sight self.old.common.store) self.old.common.tree self.old.halt).measure }
         ensures rests { O.told → Rests O.opening s.number (sessions self.old.members.items self.old.events.items self.old.allotments (L.sight self.old.common.store) self.old.common.tree self.old.halt) result }
     {
         if self.halt.is_some() {
@@ -73,20 +78,23 @@ impl<O: Origin, S: Reserves + Reaches, L: LineStore> Core<O, S, L> {
         self.step(s, at)
     }
 
-    // For whom a session waits that has something left to do, unless its transaction never waits.
+    // For whom a session waits that has something left to do. Under NOWAIT it does so for a COMMIT alone.
     fn blocker(&self, s: Session, at: usize) -> Option<Session>
         requires one { IsOneOf self.now.members.items s.number }
         requires at { at ≡ s.number - 1 }
         requires going { self.now.halt ≡ None }
         requires mourns_none { dead_in self.now.members.items ≡ 0 }
         requires lives { (m : MemberValue) → slice_get self.now.members.items at ≡ Some m → is_over_at m m.life ≡ false }
-        ensures { IfSome result (λ t. Waits s.number t.number (sessions self.now.members.items self.now.events.items self.now.allotments (L.sight self.now.common.store) self.now.common.tree self.now.halt)) }
+        ensures waits { IfSome result (λ t. Waits s.number t.number (sessions self.now.members.items self.now.events.items self.now.allotments (L.sight self.now.common.store) self.now.common.tree self.now.halt)) }
+        ensures awake { result ≡ None → (m : MemberValue) → slice_get self.now.members.items at ≡ Some m → is_patient_at m.phase ≡ true → is_sleeping self.now.common.tree s.number ≡ false }
     {
         if !is_patient(member_at(&self.members, at)) {
             return None;
         }
-        let number = self.common.tree.blocker(s.number)?;
-        Some(Session { number })
+        match self.common.tree.blocker(s.number) {
+            Some(number) => Some(Session { number }),
+            None => None,
+        }
     }
 
     // Serves a notice. Whose lock is stronger than it has to be has a read-write transaction, and its lock comes down.
@@ -105,6 +113,7 @@ impl<O: Origin, S: Reserves + Reaches, L: LineStore> Core<O, S, L> {
         ensures falls { result ≡ Turn.Moved → (self.new.halt ≡ None) × LocksFall notice.to.number self.old.common.tree self.new.common.tree }
         ensures halted { result ≡ Turn.Stopped → is_some self.new.halt ≡ true }
         ensures on { GoesOn result }
+        ensures survives { result ≡ Turn.Died → ⊥ }
     {
         // (so the tree is whole)
         let _ = self.common.tree.blocker(s.number);
@@ -128,12 +137,14 @@ impl<O: Origin, S: Reserves + Reaches, L: LineStore> Core<O, S, L> {
         requires sound { IsSound S.stands O.told O.opening (scene self.old.common.word (L.sight self.old.common.store) self.old.common.tree) self.old.members.items (map event_of self.old.events.items) self.old.halt }
         requires going { self.old.halt ≡ None }
         requires lives { dead_in self.old.members.items ≡ 0 }
+        requires mortal { MayFail O.opening }
         requires room { vec_len self.old.events + 6 ≤ vec_capacity self.old.events }
+        requires awake { (m : MemberValue) → slice_get self.old.members.items at ≡ Some m → is_patient_at m.phase ≡ true → is_sleeping self.old.common.tree s.number ≡ false }
         requires work { (m : MemberValue) → slice_get self.old.members.items at ≡ Some m → is_over_at m m.life ≡ false }
         ensures sound { IsSound S.stands O.told O.opening (scene self.new.common.word (L.sight self.new.common.store) self.new.common.tree) self.new.members.items (map event_of self.new.events.items) self.new.halt }
         ensures count { length self.new.members.items ≡ length self.old.members.items }
         ensures came { Came s.number (sessions self.old.members.items self.old.events.items self.old.allotments (L.sight self.old.common.store) self.old.common.tree self.old.halt) (sessions self.new.members.items self.new.events.items self.new.allotments (L.sight self.new.common.store) self.new.common.tree self.new.halt) result }
-        ensures nearer { result ≡ Turn.Moved → IsNearer s.number (sessions self.old.members.items self.old.events.items self.old.allotments (L.sight self.old.common.store) self.old.common.tree self.old.halt) (sessions self.new.members.items self.new.events.items self.new.allotments (L.sight self.new.common.store) self.new.common.tree self.new.halt) }
+        ensures nearer { result ≡ Turn.Moved → Less (sessions self.new.members.items self.new.events.items self.new.allotments (L.sight self.new.common.store) self.new.common.tree self.new.halt).measure (sessions self.old.members.items self.old.events.items self.old.allotments (L.sight self.old.common.store) self.old.common.tree self.old.halt).measure }
         ensures on { GoesOn result }
     {
         let Member {
@@ -154,6 +165,12 @@ impl<O: Origin, S: Reserves + Reaches, L: LineStore> Core<O, S, L> {
         };
         put_member(&mut self.members, at, behind);
         let then = behind_of(&turned.happened);
+        if let Behind::Die = then {
+            // (a fault owns nothing)
+            forget(turned.happened);
+            self.fall(s, at, Cause::Device);
+            return Turn::Died;
+        }
         record(&mut self.events, self.common.alloc, s, turned.happened);
         match then {
             Behind::Nothing => Turn::Moved,
@@ -162,6 +179,7 @@ impl<O: Origin, S: Reserves + Reaches, L: LineStore> Core<O, S, L> {
                 self.halt = Some(halt);
                 Turn::Stopped
             }
+            Behind::Die => unreachable!(),
         }
     }
 }

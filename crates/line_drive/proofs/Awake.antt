@@ -29,7 +29,7 @@ use Rattle.session_stands.specs.Sessions.{AreSeated, dead_in, member_at}
 use Rattle.line_cluster.specs.Going.{is_dead, is_dead_life, is_over}
 use Rattle.line_cluster.proofs.Coming.{some-dead}
 use Rattle.line_cluster.specs.Turned.{Sessions}
-use Rattle.line_drive.specs.Boards.{Driven, board_of, has_ended, is_patient, is_asleep, is_mourning, is_stopped}
+use Rattle.line_drive.specs.Boards.{board_of, has_ended, is_patient, is_asleep, is_mourning}
 use Rattle.line_drive.proofs.Chains.{somebody-awake}
 
 -- ---- who sleeps waits for an owner that has or wants something
@@ -121,13 +121,13 @@ none-more : (n : ℕ) → nat_lt 0 n ≡ false → n ≡ 0
 none-more n h = grind arith
 
 -- whether or not the sessions are stopped, or one that died awaits its recovery
-pub awake : (told : Type 0) (o : Opening) (d : Driven) (sessions : ℕ) → (d.sessions.halted ≡ false → (stand : ℕ → Seat) × AreSeated stand d.sessions.locks d.sessions.members) → IsWhole d.sessions.locks →
-    length d.sessions.members ≡ sessions → IsAwake sessions (board_of told o d)
-awake told o d sessions seated whole count s session going = by d.sessions.halted refl (is_stopped d || is_mourning d.sessions) refl
+pub awake : (told : Type 0) (o : Opening) (c : Sessions) (sessions : ℕ) → (c.halted ≡ false → (stand : ℕ → Seat) × AreSeated stand c.locks c.members) → IsWhole c.locks →
+    length c.members ≡ sessions → IsAwake sessions (board_of told o c)
+awake told o c sessions seated whole count s session going = by c.halted refl (c.halted || is_mourning c) refl
   where
     -- nobody sleeps
-    still : (is_stopped d || is_mourning d.sessions) ≡ true → (t : ℕ) × IsSession sessions t × (has_ended (member_at d.sessions.members t) ≡ false) × ((not (is_stopped d || is_mourning d.sessions) && is_asleep d.sessions t) ≡ false)
-    still h = (s, session, going, ap (λ (b : Bool). not b && is_asleep d.sessions s) h)
+    still : (c.halted || is_mourning c) ≡ true → (t : ℕ) × IsSession sessions t × (has_ended (member_at c.members t) ≡ false) × ((not (c.halted || is_mourning c) && is_asleep c t) ≡ false)
+    still h = (s, session, going, ap (λ (b : Bool). not b && is_asleep c s) h)
 
     either : (a b : Bool) → b ≡ false → (a && b) ≡ false
     either true b e = e
@@ -137,11 +137,11 @@ awake told o d sessions seated whole count s session going = by d.sessions.halte
     unmourned true b h = absurd (false≢true (sym h))
     unmourned false b h = h
 
-    by : (h : Bool) → d.sessions.halted ≡ h → (n : Bool) → (is_stopped d || is_mourning d.sessions) ≡ n →
-        (t : ℕ) × IsSession sessions t × (has_ended (member_at d.sessions.members t) ≡ false) × ((not (is_stopped d || is_mourning d.sessions) && is_asleep d.sessions t) ≡ false)
+    by : (h : Bool) → c.halted ≡ h → (n : Bool) → (c.halted || is_mourning c) ≡ n →
+        (t : ℕ) × IsSession sessions t × (has_ended (member_at c.members t) ≡ false) × ((not (c.halted || is_mourning c) && is_asleep c t) ≡ false)
     by h e true f = still f
-    by true e false f = absurd (false≢true (sym f ∙ ap (λ (b : Bool). (b || (d.turns == 0)) || is_mourning d.sessions) e))
+    by true e false f = absurd (false≢true (sym f ∙ ap (λ (b : Bool). b || is_mourning c) e))
     by false e false f =
         let k = seated e in
-        let a = awake-going k.0 d.sessions k.1 whole (none-more (dead_in d.sessions.members) (unmourned (is_stopped d) (is_mourning d.sessions) f)) sessions count s session going in
-        (a.0, a.1.0.0, a.1.0.1, either (not (is_stopped d || is_mourning d.sessions)) (is_asleep d.sessions a.0) a.1.1)
+        let a = awake-going k.0 c k.1 whole (none-more (dead_in c.members) (unmourned c.halted (is_mourning c) f)) sessions count s session going in
+        (a.0, a.1.0.0, a.1.0.1, either (not (c.halted || is_mourning c)) (is_asleep c a.0) a.1.1)

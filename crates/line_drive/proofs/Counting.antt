@@ -3,6 +3,7 @@ use Rattle.std.proofs.Common.{◌≡◌, ◌≤◌, ◌<◌, ℕ, zero, suc, ◌
 use Rattle.std.proofs.lemmas.Bool.{cases_Bool, eqb-true}
 use Rattle.std.proofs.lemmas.Option.{same_Some}
 use Rattle.rdb_types.specs.declared.session.Cause.{Cause}
+use Rattle.rdb_types.specs.declared.session.Cause.TheVariants.{Device}
 use Rattle.rdb_account.specs.declared.event.Event.{Event as Declared}
 use Rattle.rdb_account.specs.Events.{Event, Died, event_of}
 use Rattle.rdb_drive.specs.Boards.{Mark, Says, Does, Other, AllNobodys, IsSession, answers, answers_by}
@@ -17,6 +18,7 @@ use Rattle.line_drive.proofs.Marks.{count-few, count-more, count-other, count-ow
 came-grows : (s : ℕ) (old new : Sessions) (t : Turn) → Came s old new t → Grows s old.events new.events
 came-grows s old new turn.Moved g = g.events
 came-grows s old new turn.Stopped g = g.1.events
+came-grows s old new turn.Died d = record { more = Died s Device ∷ []; grown = d.grown; of_s = (refl, tt); one = omega arith }
 came-grows s old new (turn.Asleep u) g = (still s old new (ap (λ (c : Sessions). c.members) g.0) (ap (λ (c : Sessions). c.events) g.0)).events
 came-grows s old new turn.Frozen g = (still s old new (ap (λ (c : Sessions). c.members) g.0) (ap (λ (c : Sessions). c.events) g.0)).events
 came-grows s old new turn.Ended g = (still s old new (ap (λ (c : Sessions). c.members) g.0) (ap (λ (c : Sessions). c.events) g.0)).events
@@ -141,6 +143,7 @@ driven-recovering sessions counts old new t d came = record { few = d.few; count
     by : (t : Turn) → RecoveryCame old new t → AreCounted sessions counts new.events
     by turn.Moved r = counted-grown sessions counts old.events new.events r.more r.grown (λ u. nobodys-count u (map mark_of r.more) r.nobodys) d.counted
     by (turn.Asleep u) r = absurd r
+    by turn.Died r = absurd r
     by turn.Frozen r = absurd r
     by turn.Ended r = counted-same sessions counts old.events new.events (events-same old new r.0) d.counted
     by turn.Stopped r = counted-same sessions counts old.events new.events r.events d.counted

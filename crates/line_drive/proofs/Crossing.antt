@@ -90,4 +90,4 @@ module _ (A B L K : RattleType) (a : OriginGhosts A.Denot) (b : StatementGhosts 
   cluster_send = view_send _ _ _ _ _ (whole_struct (cluster_inside.the_type A B L K a b l) (struct_send (S.shape (cluster_inside.the_type A B L K a b l)) (core_send A B L K send, tt)))
 
   pub driver_send : IsSend (LineDriver.the_row A B L K a b l)
-  driver_send = view_send _ _ _ _ _ (whole_struct (driver_inside.the_type A B L K a b l) (struct_send (S.shape (driver_inside.the_type A B L K a b l)) (cluster_send, (search (sendable, crosses), (search sendable, tt)))))
+  driver_send = view_send _ _ _ _ _ (whole_struct (driver_inside.the_type A B L K a b l) (struct_send (S.shape (driver_inside.the_type A B L K a b l)) (cluster_send, (search (sendable, crosses), tt))))

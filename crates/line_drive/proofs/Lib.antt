@@ -6,3 +6,4 @@ pub mod Counting
 pub mod Dying
 pub mod Ordered
 pub mod Crossing
+pub mod Unharmed

@@ -1,5 +1,5 @@
 -- What drivers see of the sessions over lines.
-use Rattle.std.specs.Prelude.{◌≡◌, ℕ, ◌+◌, nat_lt, if◌then◌else◌, Bool, true, false, not, ◌&&◌, ◌||◌, ◌==◌, List, [], ◌∷◌, map, take, Option, Some, None, ◌⊎◌}
+use Rattle.std.specs.Prelude.{◌≡◌, ℕ, ◌+◌, nat_lt, if◌then◌else◌, Bool, true, false, not, ◌&&◌, ◌||◌, List, [], ◌∷◌, map, take, Option, Some, None, ◌⊎◌}
 use Rattle.std.specs.List.{filter}
 use Rattle.rdb_types.specs.declared.session.Cause.TheVariants.{Gate}
 use Rattle.rdb_account.specs.declared.event.Event.{Event as Declared}
@@ -13,14 +13,15 @@ use Rattle.session_states.specs.declared.stage.Life.TheVariants.{Alive, Dead, Go
 use Rattle.session_states.specs.declared.stage.Member.{Member}
 use Rattle.session_stands.specs.Sessions.{dead_in, member_at}
 use Rattle.line_cluster.specs.Going.{is_dead, is_over}
-use Rattle.line_cluster.specs.Turned.{Sessions, SleepsFor, HasNothingLeft, mark_of, is_patient_at}
+use Rattle.stage_steps.specs.Nearer.{is_patient_at}
+use Rattle.line_cluster.specs.Turned.{Sessions, SleepsFor, HasNothingLeft, mark_of}
 
 abbrev pub marks_of : List Declared → List Mark
 marks_of events = map (λ e. mark_of (event_of e)) events
 
 -- s waits for some session, or has said its whole script, or has died
 abbrev pub RestsAt : Opening → Place → ℕ → Type 0
-RestsAt o p s = ((t : ℕ) × SleepsFor p s t) ⊎ HasNothingLeft o p s
+RestsAt o p s = ((t : ℕ) × SleepsFor o p s t) ⊎ HasNothingLeft o p s
 
 -- behind so many of the events
 abbrev pub RestsBehind : Opening → List Declared → ℕ → ℕ → Type 0
@@ -45,11 +46,6 @@ abbrev pub lives_in : List Member → ℕ
 lives_in [] = 0
 lives_in (m ∷ ms) = steps_to_go m.life + lives_in ms
 
--- the sessions, and how many turns more may move
-pub record Driven : Type 0 where
-  pub sessions : Sessions
-  pub turns : ℕ
-
 -- how much may still come of deaths and of a halt
 abbrev pub lives_left : Sessions → ℕ
 lives_left c = if c.halted then 0 else 1 + lives_in c.members
@@ -57,23 +53,20 @@ lives_left c = if c.halted then 0 else 1 + lives_in c.members
 abbrev pub is_mourning : Sessions → Bool
 is_mourning c = nat_lt 0 (dead_in c.members)
 
-abbrev pub is_stopped : Driven → Bool
-is_stopped d = d.sessions.halted || (d.turns == 0)
-
 -- its want is queued, and it waits for that
 abbrev pub is_asleep : Sessions → ℕ → Bool
 is_asleep c s = is_patient (member_at c.members s) && is_sleeping c.locks s
 
--- Where the opening told what the store holds, and no halt came, who rests does so in the account. Nobody sleeps while one that died awaits its recovery.
-abbrev pub board_of : (told : Type 0) → Opening → Driven → Board
-board_of told o d = record {
-  measure = d.turns ∷ lives_left d.sessions ∷ [];
-  marks = marks_of d.sessions.events;
-  rests = λ n s. told → d.sessions.halted ≡ false → RestsBehind o d.sessions.events n s;
-  asleep = λ s. not (is_stopped d || is_mourning d.sessions) && is_asleep d.sessions s;
-  ended = λ s. has_ended (member_at d.sessions.members s);
-  mourns = is_mourning d.sessions;
-  stopped = is_stopped d;
+-- Where the opening told what the store holds, and no halt came, who rests does so in the account. Nobody sleeps while one that died awaits its recovery. A death and a halt make less of what may come, whatever the sessions have before them then.
+abbrev pub board_of : (told : Type 0) → Opening → Sessions → Board
+board_of told o c = record {
+  measure = lives_left c ∷ c.measure;
+  marks = marks_of c.events;
+  rests = λ n s. told → c.halted ≡ false → RestsBehind o c.events n s;
+  asleep = λ s. not (c.halted || is_mourning c) && is_asleep c s;
+  ended = λ s. has_ended (member_at c.members s);
+  mourns = is_mourning c;
+  stopped = c.halted;
 }
 
 -- the sessions of so many that the gate may have die

@@ -1,6 +1,8 @@
 -- What is true of driven sessions, and what events tell of an order of turns.
-use Rattle.std.specs.Prelude.{◌≡◌, ◌≤◌, ℕ, List, ◌++◌, Some, slice_get}
+use Rattle.std.specs.Prelude.{◌≡◌, ◌≤◌, ℕ, Bool, true, false, List, ◌++◌, Some, slice_get}
+use Rattle.std.specs.List.{list_any}
 use Rattle.rdb_account.specs.declared.event.Event.{Event as Declared}
+use Rattle.rdb_account.specs.Events.{Event, Died}
 use Rattle.rdb_account.specs.Places.{Opening}
 use Rattle.rdb_drive.specs.Boards.{IsSession, answers_by}
 use Rattle.rdb_drive.specs.Orders.{AreParts, rounds}
@@ -20,3 +22,11 @@ pub record IsDriven (sessions : ℕ) (counts : List ℕ) (c : Sessions) : Type 0
 pub record KeepsTurns (o : Opening) (sessions : ℕ) (order : List ℕ) (events : List Declared) : Type 0 where
   pub times : ℕ
   pub parts : AreParts (RestsBehind o events) 0 (order ++ rounds sessions times) (marks_of events)
+
+abbrev pub is_death : Event → Bool
+is_death (Died s cause) = true
+is_death event = false
+
+-- somebody died
+abbrev pub has_deaths : List Event → Bool
+has_deaths events = list_any is_death events

@@ -1,16 +1,16 @@
 //! The sessions as drivers see them.
-ghost use Rattle.std.specs.Prelude.{◌≡◌, ◌≤◌, ℕ, [], drop, length, map, false};
+ghost use Rattle.std.specs.Prelude.{◌≡◌, ◌≤◌, ℕ, [], drop, length, map, false, is_some};
 ghost use Rattle.rdb_account.specs.Events.{event_of};
 ghost use Rattle.rdb_account.specs.Legal.{IsLegal};
 ghost use Rattle.rdb_drive.specs.Boards.{IsSession, AllEnded, answers};
 ghost use Rattle.rdb_drive.specs.Steps.{StepOf};
 ghost use Rattle.line_store.specs.Seats.{outside};
 ghost use Rattle.line_store.specs.Sights.{bare};
-ghost use Rattle.line_cluster.specs.Sound.{IsLeft};
+ghost use Rattle.line_cluster.specs.Sound.{HasImages, IsLeft};
 ghost use Rattle.line_cluster.specs.Turned.{HaveAllEnded};
-ghost use Rattle.line_drive.specs.Boards.{board_of, is_stopped as is_stopped_at, marks_of};
+ghost use Rattle.line_drive.specs.Boards.{board_of, marks_of};
 
-use line_cluster::{Finished, LineCluster, Origin, Turn};
+use line_cluster::{Finished, Halt, LineCluster, Origin, Turn};
 use line_store::LineStore;
 use rdb_account::Event;
 use rdb_drive::{Driven, Point, Step};
@@ -23,25 +23,24 @@ use std::marker::Model;
 /// Sessions are numbered from 1 to 16.
 const NUMBERS: usize = 17;
 
-/// The sessions of a run, with how many answers each was given. So many turns may move as a number counts to: no run comes near that.
+/// The sessions of a run, with how many answers each was given.
 #[derive(Drop)]
 pub struct LineDriver<O: Origin, S: Statements, L: LineStore + Drop> {
     cluster: LineCluster<O, S, L>,
     answers: [u64; NUMBERS],
-    turns: u64,
 }
 
 impl<O: Origin, S: Statements, L: LineStore + Drop> Model for LineDriver<O, S, L> {
     ghost use Rattle.std.specs.Coded.{codes};
     ghost use Rattle.rdo_ast.specs.contracts.syntax.Action as action_type;
-    ghost use Rattle.line_drive.specs.Boards.{Driven};
+    ghost use Rattle.line_cluster.specs.Turned.{Sessions};
     ghost use Rattle.line_drive.specs.Turns.{IsDriven};
 
-    ghost Value = { Driven };
+    ghost Value = { Sessions };
 
     ghost coded = { Prim.hlevel (codes, action_type.the_row.coded) };
 
-    ghost view = { λ d. record { sessions = d.cluster; turns = d.turns } };
+    ghost view = { λ d. d.cluster };
 
     ghost invariant = { λ d. IsDriven O.sessions d.answers d.cluster };
 }
@@ -65,30 +64,21 @@ impl<O: Origin, S: Reserves + Reaches, L: LineStore + Drop> LineDriver<O, S, L> 
     pub fn new(cluster: LineCluster<O, S, L>) -> Self
         requires fresh { cluster.events ≡ [] }
         requires few { O.sessions ≤ 16 }
-        ensures { result.sessions ≡ cluster }
+        ensures { result ≡ cluster }
     {
         LineDriver {
             cluster,
             answers: [0; NUMBERS],
-            turns: u64::MAX,
         }
     }
 
-    // Whether no session goes on, or no turn is left.
-    fn is_stopped(&self) -> bool
-        ensures { result ≡ is_stopped_at self.now }
-    {
-        self.cluster.is_halted() || self.turns == 0
-    }
-
-    // A turn of a session. Its answers are counted, and where it moved, one turn fewer is left.
+    // A turn of a session. Its answers are counted.
     fn turn(&mut self, s: Session) -> Step<()>
         requires session { IsSession O.sessions s.number }
         ensures step { StepOf O.sessions s.number (board_of O.told O.opening self.old) (board_of O.told O.opening self.new) result }
     {
-        let stops = self.is_stopped();
         self.cluster.facts();
-        if stops {
+        if self.cluster.is_halted() {
             return Step::Stopped;
         }
         let before = self.cluster.events().len();
@@ -96,10 +86,8 @@ impl<O: Origin, S: Reserves + Reaches, L: LineStore + Drop> LineDriver<O, S, L> 
         self.cluster.facts();
         self.answers[s.number as usize] += answers_behind(self.cluster.events(), before);
         match turn {
-            Turn::Moved => {
-                self.turns -= 1;
-                Step::Moved
-            }
+            Turn::Moved => Step::Moved,
+            Turn::Died => Step::Moved,
             Turn::Asleep(_) => Step::Asleep,
             Turn::Frozen => Step::Frozen,
             Turn::Ended => Step::Ended,
@@ -107,32 +95,32 @@ impl<O: Origin, S: Reserves + Reaches, L: LineStore + Drop> LineDriver<O, S, L> 
         }
     }
 
-    /// Whether no session goes on though some may have something left to do.
-    pub fn is_halted(&self) -> bool
-        ensures { result ≡ self.now.sessions.halted }
+    /// Why no session goes on though some may have something left to do, where that is so.
+    pub fn halt(&self) -> Option<Halt>
+        ensures { is_some result ≡ self.now.halted }
     {
-        self.cluster.is_halted()
+        self.cluster.halt()
     }
 
     /// What is true of the sessions at every moment.
     pub fn facts(&self)
-        ensures legal { O.told → IsLegal O.opening (map event_of self.now.sessions.events) }
-        ensures whole { O.told → self.now.sessions.halted ≡ false → AllEnded O.sessions (board_of O.told O.opening self.now) →
-            HaveAllEnded O.opening O.sessions (map event_of self.now.sessions.events) }
+        ensures legal { O.told → IsLegal O.opening (map event_of self.now.events) }
+        ensures whole { O.told → self.now.halted ≡ false → AllEnded O.sessions (board_of O.told O.opening self.now) →
+            HaveAllEnded O.opening O.sessions (map event_of self.now.events) }
     {
         self.cluster.facts();
     }
 
     /// The run is over.
     pub fn end(self) -> Finished<L>
-        ensures events { result.events ≡ self.sessions.events }
-        ensures left { O.told → self.sessions.halted ≡ false → IsLeft S.stands O.opening (L.sight result.store) (map event_of self.sessions.events) }
-        ensures outside { self.sessions.halted ≡ false → AllEnded O.sessions (board_of O.told O.opening self) → (s : ℕ) → bare ((L.sight result.store).stand s) ≡ outside }
+        ensures events { result.events ≡ self.events }
+        ensures left { O.told → self.halted ≡ false → IsLeft S.stands O.opening (L.sight result.store) (map event_of self.events) }
+        ensures images { O.told → HasImages S.stands O.opening (L.sight result.store) (map event_of self.events) }
+        ensures outside { self.halted ≡ false → AllEnded O.sessions (board_of O.told O.opening self) → (s : ℕ) → bare ((L.sight result.store).stand s) ≡ outside }
     {
         let LineDriver {
             cluster,
             answers: _,
-            turns: _,
         } = self;
         cluster.facts();
         cluster.end()
@@ -157,6 +145,9 @@ impl<O: Origin, S: Reserves + Reaches, L: LineStore + Drop> Driven for LineDrive
             let number = self.answers[s.number as usize].wrapping_add(1);
             return Point::Statement(number.min(u32::MAX as u64) as u32);
         }
+        if self.cluster.is_at_barrier(s) {
+            return Point::Barrier;
+        }
         Point::Other
     }
 
@@ -171,26 +162,23 @@ impl<O: Origin, S: Reserves + Reaches, L: LineStore + Drop> Driven for LineDrive
     }
 
     fn die(&mut self, s: Session) {
+        self.cluster.facts();
         self.cluster.die(s, Cause::Gate);
         self.cluster.facts();
     }
 
     fn recover_step(&mut self) -> Step<()> {
-        let stops = self.is_stopped();
         self.cluster.facts();
-        if stops {
+        if self.cluster.is_halted() {
             return Step::Stopped;
         }
         let turn = self.cluster.recover();
         self.cluster.facts();
         match turn {
-            Turn::Moved => {
-                self.turns -= 1;
-                Step::Moved
-            }
+            Turn::Moved => Step::Moved,
             Turn::Ended => Step::Ended,
             Turn::Stopped => Step::Stopped,
-            Turn::Asleep(_) | Turn::Frozen => unreachable!(),
+            Turn::Asleep(_) | Turn::Died | Turn::Frozen => unreachable!(),
         }
     }
 

@@ -1,17 +1,17 @@
 //! The sessions of a run driven to their ends.
-ghost use Rattle.std.specs.Prelude.{◌≡◌, ◌≤◌, ℕ, [], All, map, false, true};
+ghost use Rattle.std.specs.Prelude.{◌≡◌, ◌≤◌, ℕ, [], All, map, false, is_some, not, true};
 ghost use Rattle.rdb_account.specs.Events.{event_of};
-ghost use Rattle.rdb_account.specs.Legal.{IsLegal};
+ghost use Rattle.rdb_account.specs.Legal.{AreWhole, IsLegal};
 ghost use Rattle.rdb_drive.specs.Boards.{AllEnded, IsSession, MayDie};
 ghost use Rattle.line_store.specs.Seats.{outside};
 ghost use Rattle.line_store.specs.Sights.{bare};
-ghost use Rattle.line_cluster.specs.Sound.{IsLeft};
-ghost use Rattle.line_cluster.specs.Turned.{HaveAllEnded};
+ghost use Rattle.line_cluster.specs.Sound.{HasImages, IsLeft};
+ghost use Rattle.line_cluster.specs.Turned.{HaveAllEnded, is_session};
 ghost use Rattle.line_drive.specs.Boards.{board_of, mortals_of};
-ghost use Rattle.line_drive.specs.Turns.{KeepsTurns};
+ghost use Rattle.line_drive.specs.Turns.{KeepsTurns, has_deaths};
 
 use crate::driver::LineDriver;
-use line_cluster::{Finished, LineCluster, Origin};
+use line_cluster::{Finished, Halt, LineCluster, Origin};
 use line_store::LineStore;
 use rdb_account::Events;
 use rdb_drive::{Gate, MOST_SESSIONS, drive, drive_in_order};
@@ -21,12 +21,14 @@ use std::marker::Send;
 use std::sync::{Condvar, Mutex, Wait};
 use std::thread::Threads;
 
-/// What a run came to: its events, its store, and whether every session came to its end, or died and was recovered.
+/// What a run came to: its events, its store, and whether every session came to its end, or died and was recovered; if not, why the
+/// sessions were stopped.
 #[derive(Drop)]
 pub struct Ran<L> {
     pub events: Events,
     pub store: L,
     pub is_whole: bool,
+    pub halt: Option<Halt>,
 }
 
 // What the driven sessions came to.
@@ -35,21 +37,27 @@ fn ran_of<O: Origin, S: Reserves + Reaches, L: LineStore + Drop>(
     has_ended: bool,
 ) -> Ran<L>
     requires ended { has_ended ≡ true → AllEnded O.sessions (board_of O.told O.opening driver) }
-    ensures events { result.events ≡ driver.sessions.events }
+    requires stopped { has_ended ≡ false → driver.halted ≡ true }
+    ensures events { result.events ≡ driver.events }
     ensures ended { result.is_whole ≡ true → has_ended ≡ true }
-    ensures going { result.is_whole ≡ true → driver.sessions.halted ≡ false }
+    ensures going { result.is_whole ≡ true → driver.halted ≡ false }
+    ensures halt { is_some result.halt ≡ not result.is_whole }
     ensures legal { O.told → IsLegal O.opening (map event_of result.events) }
     ensures whole { result.is_whole ≡ true → O.told → HaveAllEnded O.opening O.sessions (map event_of result.events) }
+    ensures unharmed { result.is_whole ≡ true → O.told → has_deaths (map event_of result.events) ≡ false → AreWhole (is_session O.sessions) O.opening (map event_of result.events) }
     ensures left { result.is_whole ≡ true → O.told → IsLeft S.stands O.opening (L.sight result.store) (map event_of result.events) }
+    ensures images { O.told → HasImages S.stands O.opening (L.sight result.store) (map event_of result.events) }
     ensures outside { result.is_whole ≡ true → (s : ℕ) → bare ((L.sight result.store).stand s) ≡ outside }
 {
     driver.facts();
-    let is_whole = has_ended && !driver.is_halted();
+    let halt = driver.halt();
+    let is_whole = has_ended && !halt.is_some();
     let Finished { events, store } = driver.end();
     Ran {
         events,
         store,
         is_whole,
+        halt,
     }
 }
 
@@ -68,8 +76,11 @@ pub fn run_in_order<O: Origin, S: Reserves + Reaches, L: LineStore + Drop, G: Ga
     requires mortals { MayDie (G.mortals gate.now) (mortals_of O.opening O.sessions) }
     requires entries { All (λ s. IsSession O.sessions s) order.now }
     ensures legal { O.told → IsLegal O.opening (map event_of result.events) }
+    ensures halt { is_some result.halt ≡ not result.is_whole }
     ensures whole { result.is_whole ≡ true → O.told → HaveAllEnded O.opening O.sessions (map event_of result.events) }
+    ensures unharmed { result.is_whole ≡ true → O.told → has_deaths (map event_of result.events) ≡ false → AreWhole (is_session O.sessions) O.opening (map event_of result.events) }
     ensures left { result.is_whole ≡ true → O.told → IsLeft S.stands O.opening (L.sight result.store) (map event_of result.events) }
+    ensures images { O.told → HasImages S.stands O.opening (L.sight result.store) (map event_of result.events) }
     ensures outside { result.is_whole ≡ true → (s : ℕ) → bare ((L.sight result.store).stand s) ≡ outside }
     ensures order { result.is_whole ≡ true → O.told → KeepsTurns O.opening O.sessions order.now result.events }
 {
@@ -94,8 +105,11 @@ where
     requires few { sessions ≤ MOST_SESSIONS }
     requires mortals { MayDie (G.mortals gate.now) (mortals_of O.opening O.sessions) }
     ensures legal { O.told → IsLegal O.opening (map event_of result.events) }
+    ensures halt { is_some result.halt ≡ not result.is_whole }
     ensures whole { result.is_whole ≡ true → O.told → HaveAllEnded O.opening O.sessions (map event_of result.events) }
+    ensures unharmed { result.is_whole ≡ true → O.told → has_deaths (map event_of result.events) ≡ false → AreWhole (is_session O.sessions) O.opening (map event_of result.events) }
     ensures left { result.is_whole ≡ true → O.told → IsLeft S.stands O.opening (L.sight result.store) (map event_of result.events) }
+    ensures images { O.told → HasImages S.stands O.opening (L.sight result.store) (map event_of result.events) }
     ensures outside { result.is_whole ≡ true → (s : ℕ) → bare ((L.sight result.store).stand s) ≡ outside }
 {
     let shared = Mutex::new(LineDriver::new(cluster));

@@ -1,21 +1,26 @@
 // Scripts said over a database on a disk.
-ghost use Rattle.std.specs.Prelude.{◌≡◌, ◌≤◌, ◌<◌, ◌^◌, ℕ, All, None, Some, IfOk, IfErr, [], false, true, length, map};
+ghost use Rattle.std.specs.Prelude.{List, ◌≡◌, ◌≤◌, ◌<◌, ◌^◌, ℕ, All, None, Some, IfOk, IfErr, [], false, true, length, map};
 ghost use Rattle.rdb_types.specs.declared.file.FileId.{FileId as File};
 ghost use Rattle.rdb_outside.specs.Causes.{Rose};
-ghost use Rattle.rdb_account.specs.Events.{event_of};
+ghost use Rattle.rdb_account.specs.Events.{Event, event_of};
+ghost use Rattle.rdb_account.specs.Places.{Opening};
+ghost use Rattle.line_store.specs.Seats.{outside};
+ghost use Rattle.line_store.specs.Sights.{bare};
 ghost use Rattle.rdb_account.specs.Legal.{IsLegal};
 ghost use Rattle.rdb_drive.specs.Boards.{IsSession, MayDie};
-ghost use Rattle.line_cluster.specs.Sound.{FollowsScripts, MayFail};
+ghost use Rattle.line_cluster.specs.Sound.{FollowsScripts, HasImages, IsLeft, MayFail};
 ghost use Rattle.line_cluster.specs.Turned.{HaveAllEnded};
 ghost use Rattle.line_drive.specs.Boards.{mortals_of};
 ghost use Rattle.line_drive.specs.Turns.{KeepsTurns};
 ghost use Rattle.line_runs.specs.Openings.{HasNoNumbers, OpensWith};
+ghost use Rattle.line_runs.specs.Prefix.{HoldsPrefix, HoldsAll};
 
 use crate::laws::a_run_opens;
 use disk_line_store::DiskStore;
 use line_cluster::{LineCluster, Origin};
 use line_drive::{Ran, run_in_order, run_in_threads};
 use line_opening::OpeningFault;
+use line_store::LineStore;
 use opened_store::open;
 use rdb_account::Events;
 use rdb_drive::Gate;
@@ -107,6 +112,8 @@ fn ended<D: Disk + Drop>(ran: Ran<DiskStore<D>>) -> LineRun<D>
     ensures events { result.events ≡ ran.events }
     ensures is_whole { result.is_whole ≡ ran.is_whole }
     ensures fault { result.fault ≡ None }
+    ensures images { (o : Opening) (events : List Event) → HasImages ⟦<ReservingStatements as Statements>⟧.stands o (⟦<DiskStore<D> as LineStore>⟧.sight ran.store) events → HoldsPrefix ⟦<ReservingStatements as Statements>⟧.stands o (D.view result.disk) events }
+    ensures left { (o : Opening) (events : List Event) → IsLeft ⟦<ReservingStatements as Statements>⟧.stands o (⟦<DiskStore<D> as LineStore>⟧.sight ran.store) events → ((s : ℕ) → bare ((⟦<DiskStore<D> as LineStore>⟧.sight ran.store).stand s) ≡ outside) → HoldsAll ⟦<ReservingStatements as Statements>⟧.stands o (D.view result.disk) events }
 {
     LineRun {
         disk: ran.store.into_disk(),
@@ -136,6 +143,8 @@ pub fn say_in_order<O: Origin, D: Disk + Drop, G: Gate>(
     ensures legal { O.told → IsLegal O.opening (map event_of result.events) }
     ensures whole { O.told → result.is_whole ≡ true → HaveAllEnded O.opening O.sessions (map event_of result.events) }
     ensures order { O.told → result.is_whole ≡ true → KeepsTurns O.opening O.sessions order.now result.events }
+    ensures images { O.told → result.fault ≡ None → HoldsPrefix ⟦<ReservingStatements as Statements>⟧.stands O.opening (D.view result.disk) (map event_of result.events) }
+    ensures left { O.told → result.is_whole ≡ true → HoldsAll ⟦<ReservingStatements as Statements>⟧.stands O.opening (D.view result.disk) (map event_of result.events) }
     ensures failed { result.fault ≡ Some OpeningFault.Failed → Rose (D.view disk).faults (D.view result.disk).faults }
     ensures bad { (file : File) (slot : ℕ) → result.fault ≡ Some (OpeningFault.Bad file slot) → HasNoNumbers (D.view disk) }
     ensures unsaid { (result.fault ≡ None → ⊥) → result.events ≡ [] }
@@ -164,6 +173,8 @@ pub fn say_in_threads<
     requires opens { O.told → OpensWith ⟦<ReservingStatements as Statements>⟧.stands (D.view disk) O.opening }
     ensures legal { O.told → IsLegal O.opening (map event_of result.events) }
     ensures whole { O.told → result.is_whole ≡ true → HaveAllEnded O.opening O.sessions (map event_of result.events) }
+    ensures images { O.told → result.fault ≡ None → HoldsPrefix ⟦<ReservingStatements as Statements>⟧.stands O.opening (D.view result.disk) (map event_of result.events) }
+    ensures left { O.told → result.is_whole ≡ true → HoldsAll ⟦<ReservingStatements as Statements>⟧.stands O.opening (D.view result.disk) (map event_of result.events) }
     ensures failed { result.fault ≡ Some OpeningFault.Failed → Rose (D.view disk).faults (D.view result.disk).faults }
     ensures bad { (file : File) (slot : ℕ) → result.fault ≡ Some (OpeningFault.Bad file slot) → HasNoNumbers (D.view disk) }
     ensures unsaid { (result.fault ≡ None → ⊥) → result.events ≡ [] }

@@ -60,7 +60,10 @@ module _ (M : Model) (orderly : IsOrderly M) where
   -- events alone, with no commit
   pub left-more : (o : Opening) (events es : List Event) (left : ℕ → Lines → Type 0) (time : ℕ) → (place o (events ++ es)).commits ≡ (place o events).commits → AreLeft M o events left time → AreLeft M o (events ++ es) left time
   left-more o events es left time same h = record {
+    began = h.began;
     opened = h.opened;
+    going = h.going;
+    later = λ k c found. h.later k c (ap (λ cs. slice_get cs k) (sym same) ∙ found);
     opening = λ lines l. left-grown o events es 0 lines (h.opening lines l);
     past = λ k c found. h.past k c (ap (λ cs. slice_get cs k) (sym same) ∙ found);
     each = λ k c found lines l. left-grown o events es (suc k) lines (h.each k c (ap (λ cs. slice_get cs k) (sym same) ∙ found) lines l);
@@ -73,8 +76,14 @@ module _ (M : Model) (orderly : IsOrderly M) where
       length (place o events).commits ≤ length (place o (events ++ es)).commits →
       AreLeft M o events before old.clock.time → AreLeft M o (events ++ es) behind new.clock.time
   left-goes-on o events es before behind old new stands lasts later was now grown more h = record {
-    opened = omega (arith, h.opened, later);
-    opening = λ lines l. since 0 o.moment h.opened (omega arith) lines (h.opening lines) (lasts.since o.moment lines h.opened l);
+    began = h.began;
+    opened = h.opened;
+    going = omega (arith, h.going, later);
+    opening = λ lines l. since 0 h.began h.going (omega arith) lines (h.opening lines) (lasts.since h.began lines h.going l);
+    later = λ k c found. elim (grown k c found) [
+      | inl e ↦ h.later k c e
+      | inr e ↦ rw e (omega (arith, h.going, later))
+    ];
     past = λ k c found. elim (grown k c found) [
       | inl e ↦ let p = h.past k c e in omega (arith, p, later)
       | inr e ↦ rw e (omega arith)

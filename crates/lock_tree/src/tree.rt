@@ -210,6 +210,16 @@ impl Tree {
         }
     }
 
+    /// How many needs the owner has got.
+    pub fn count_needs(&self, owner: u32) -> usize
+        ensures { result ≡ length (needs_of self.now owner) }
+    {
+        match self.parts.parties.get(&owner) {
+            Some(party) => party.needs().len(),
+            None => 0,
+        }
+    }
+
     /// Releases all that the owner holds and asks, and forgets its needs and its open want. Where one was open, the measure falls.
     /// Takes no memory.
     pub fn release_all(&mut self, owner: u32)

@@ -25,5 +25,5 @@ comes-behind M orderly s x y z word a locks new e one sits nearer two = record {
   parties = two.parties;
   nearer = nearer;
   does = does-as s (new.sight.stand s) (λ h g. (dead : ℕ) → Comes M s (shared word h locks dead) y (on_shelf new g dead) z (events_of s e)) (λ h g. (dead : ℕ) → Comes M s (shared word h locks dead) x (on_shelf new g dead) z (events_of s e)) a new.sight
-      (λ h g shown told r dead left total. steps-on M orderly s (shared word h locks dead) (shared word h locks dead) (on_shelf new g dead) (session left total x) (session left total y) (session left total z) [] (events_of s e) refl (one h dead left total) (r dead left total)) two.does;
+      (λ h g shown told r dead left total. steps-on M orderly s (shared word h locks dead) (shared word h locks dead) (on_shelf new g dead) (session left total x) (session left total y) (session left total z) [] (events_of s e) refl tt (one h dead left total) (r dead left total)) two.does;
 }

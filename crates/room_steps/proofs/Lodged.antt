@@ -55,7 +55,7 @@ module _ (M : Model) (orderly : IsOrderly M) (s : ℕ) (c : Shared) (left : List
     lets-go : (g : Shelf) → KeepsOthers s c.shelf g → g.now ≡ c.shelf.now → g.seat s ≡ c.shelf.seat s → TakesAt key c.shelf.space g.space → Learns s c.shelf (need.Line key) known new →
         Step M s c (session left total (Writing (writer standing known spoken waits (Gathering item (LodgingOf room key) later place)))) (with_shelf g c) (session left total (Writing (writer standing new spoken waits (Working item Due)))) []
     lets-go g others now mine takes learns =
-        steps-on M orderly s c c (with_shelf g c) (session left total (Writing (writer standing known spoken waits (Gathering item (LodgingOf room key) later place)))) (session left total (Writing (writer standing known spoken waits (Working item (Lodging room key))))) (session left total (Writing (writer standing new spoken waits (Working item Due)))) [] [] refl
+        steps-on M orderly s c c (with_shelf g c) (session left total (Writing (writer standing known spoken waits (Gathering item (LodgingOf room key) later place)))) (session left total (Writing (writer standing known spoken waits (Working item (Lodging room key))))) (session left total (Writing (writer standing new spoken waits (Working item Due)))) [] [] refl tt
         (drops-lodging M orderly s c left total standing known spoken waits item room key later place)
         (reads M orderly s c g left total standing known new spoken waits item (Lodging room key) Due (need.Line key)
         (λ got h. h.0) (λ got h. tt) (λ ws seat h. h) (λ ws seat h. h) (λ p h. tt)
@@ -75,7 +75,7 @@ module _ (M : Model) (orderly : IsOrderly M) (s : ℕ) (c : Shared) (left : List
     -- more is known of it, and the rest is let go
     pub lodging-still : Learns s c.shelf (need.Line key) known new → Step M s c (session left total (Writing (writer standing known spoken waits (Gathering item (LodgingOf room key) later place)))) c (session left total (Writing (writer standing new spoken waits (Working item (Lodging room key))))) []
     lodging-still learns =
-        steps-on M orderly s c c c (session left total (Writing (writer standing known spoken waits (Gathering item (LodgingOf room key) later place)))) (session left total (Writing (writer standing known spoken waits (Working item (Lodging room key))))) (session left total (Writing (writer standing new spoken waits (Working item (Lodging room key))))) [] [] refl
+        steps-on M orderly s c c c (session left total (Writing (writer standing known spoken waits (Gathering item (LodgingOf room key) later place)))) (session left total (Writing (writer standing known spoken waits (Working item (Lodging room key))))) (session left total (Writing (writer standing new spoken waits (Working item (Lodging room key))))) [] [] refl tt
         (drops-lodging M orderly s c left total standing known spoken waits item room key later place)
         (reads M orderly s c c.shelf left total standing known new spoken waits item (Lodging room key) (Lodging room key) (need.Line key)
         (λ got h. h.0) (λ got h. h) (λ ws seat h. h) (λ ws seat h. h) (λ p h. h)

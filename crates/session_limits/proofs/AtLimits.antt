@@ -99,6 +99,7 @@ module _ (M : Model) (orderly : IsOrderly M) where
   refused-here s c left total standing known waits stage item reply idle is needless refused undone may = record {
     word = refl;
     others = leaves-others s c;
+    moments = (tt, tt);
     leaves = λ o p g f.
         let items = map uttered_of left in
         let l : Line = record { item = item; choices = []; reply = reply } in

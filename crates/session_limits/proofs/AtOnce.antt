@@ -31,6 +31,6 @@ module _ (M : Model) (orderly : IsOrderly M) where
       Step M s c (session left total (Writing (writer standing known true waits (Working item Out)))) c (session left total (Writing (said_writer x known waits))) (Said s (uttered_of item) x.choices x.reply ∷ [])
   undone-on s c left total standing known waits item x undone found =
       let y = without_writes x in
-      steps-on M orderly s c c c (session left total (Writing (writer standing known true waits (Working item Out)))) (session left total (Writing (writer standing known true waits (Saying item y (Claiming 0))))) (session left total (Writing (said_writer y known waits))) [] (Said s (uttered_of item) x.choices x.reply ∷ []) refl
+      steps-on M orderly s c c c (session left total (Writing (writer standing known true waits (Working item Out)))) (session left total (Writing (writer standing known true waits (Saying item y (Claiming 0))))) (session left total (Writing (said_writer y known waits))) [] (Said s (uttered_of item) x.choices x.reply ∷ []) refl tt
       (returns-done M orderly s c left total standing known true waits item y (record { right = right-unwritten M c.word standing (knows known) (worked_of (uttered_of item) x) undone found.right; asked = λ all t m agrees. tt }))
       (says-at-once M orderly s c left total standing known true waits item y 0 refl refl)

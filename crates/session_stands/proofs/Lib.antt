@@ -3,3 +3,5 @@ pub mod Journal
 pub mod Seating
 pub mod Seats
 pub mod Telling
+pub mod Commits
+pub mod InFlight

@@ -6,7 +6,7 @@ use Rattle.rdb_account.specs.Places.{Opening}
 use Rattle.line_view.specs.declared.writes.Write.{Write}
 use Rattle.lock_tree_laws.specs.Wanted.{needs_of}
 use Rattle.kept_apart.specs.Guards.{may_write}
-use Rattle.line_steps.specs.Images.{journal_node}
+use Rattle.line_steps.specs.Images.{AreLeft, journal_node}
 use Rattle.line_store.specs.Seats.{Seat, outside, in_flight}
 use Rattle.line_store.specs.Shelves.{Shelf}
 use Rattle.line_store.specs.Sights.{Sight, bare}
@@ -46,8 +46,9 @@ dead_in (m ∷ ms) = one_dead m.life + dead_in ms
 abbrev pub sharing : (word : List ℕ) → Shelf → State → (dead : ℕ) → Shared
 sharing word shelf locks dead = record { word = word; shelf = shelf; locks = locks; dead = dead }
 
--- A shelf is shown with which all that is always true of sessions is so: their account is legal, and each of them stands as it has it.
+-- A shelf is shown with which all that is always true of sessions is so: their account is legal, and each of them stands as it has it. What a crash might have left since the opening, or since a commit, stands for what was committed then, or more.
 pub record IsTold (M : Model) (o : Opening) (word : List ℕ) (sight : Sight) (locks : State) (members : List Member) (events : List Event) : Type 0 where
   pub shelf : Shelf
   pub shown : sight.shows shelf
   pub kept : AreKept M o (sharing word shelf locks (dead_in members)) members events
+  pub images : AreLeft M o events sight.left shelf.clock.time

@@ -39,6 +39,7 @@ use Rattle.session_states.proofs.Basics.{said-wants, said-got, nowait-wants, now
 use Rattle.session_states.proofs.Locking.{under-way, item-got, desk-wanting, desk-asks, stage-got, lock-asks, ends-got}
 use Rattle.session_states.proofs.Resting.{leaves-others, none-dead}
 use Rattle.session_states.proofs.Journal.{stage-off, journal-got}
+use Rattle.session_states.proofs.Moments.{wants-at, both-at}
 
 -- no want is open, or one of this need
 pub may-call : (p : Place) (locks : State) (s : ℕ) (n : Need) → IsTiedTo p locks → IsOf n (opened_of locks s) → MayWant p s n
@@ -61,6 +62,7 @@ module _ (M : Model) (orderly : IsOrderly M) where
   asks-on s c locks left total standing known spoken waits stage n w wants call stands is = record {
     word = refl;
     others = record { store = (leaves-others s c).store; locks = call.others };
+    moments = wants-at c.shelf.clock.time s n call.asks.nodes;
     leaves = λ o p g f.
         let items = map uttered_of left in
         let i = under-way stage n wants in
@@ -102,6 +104,7 @@ module _ (M : Model) (orderly : IsOrderly M) where
   gets-on s c locks left total standing known spoken waits stage n wants call apart rests = record {
     word = refl;
     others = record { store = (leaves-others s c).store; locks = call.others };
+    moments = both-at c.shelf.clock.time (wanted_at s n call.asks.nodes) (Got s n ∷ []) (wants-at c.shelf.clock.time s n call.asks.nodes) (tt, tt);
     leaves = λ o p g f.
         let items = map uttered_of left in
         let i = under-way stage n wants in

@@ -67,7 +67,7 @@ stage-commits (Ending RollingBack) h = absurd (false≢true h)
 stage-commits (Ending Leaving) h = absurd (false≢true h)
 
 -- who died in its commit was in a read-write transaction that was to commit
-committing-state : (x : Phase) → commits_in x ≡ true → (standing : Standing) × (state_in x ≡ writing standing (Some (said commit)))
+pub committing-state : (x : Phase) → commits_in x ≡ true → (standing : Standing) × (state_in x ≡ writing standing (Some (said commit)))
 committing-state Outside h = absurd (false≢true h)
 committing-state Closing h = absurd (false≢true h)
 committing-state (Writing w) h = (w.standing, ap (λ u. writing w.standing u) (stage-commits w.stage h))
@@ -134,6 +134,7 @@ module _ (M : Model) (orderly : IsOrderly M) where
   dies-on o s c shelf left total x cause allowed moves = record {
     word = refl;
     others = record { store = moves.others; locks = λ u other. refl };
+    moments = (tt, tt);
     leaves = λ p g f.
         let items = map uttered_of left in
         let st = state_in x in
@@ -167,6 +168,7 @@ module _ (M : Model) (orderly : IsOrderly M) where
   recovers-more o s c shelf left total x moves = record {
     word = refl;
     others = record { store = moves.others; locks = λ u other. refl };
+    moments = tt;
     leaves = λ p g f. record {
       ground = at_time shelf.clock.time g;
       steps = elapses M orderly o p g s (map uttered_of left) (fallen (state_in x)) total shelf.clock.time f.found (subst (λ (t : ℕ). t ≤ shelf.clock.time) (sym f.fits.ground.time) moves.others.later.later);
@@ -188,6 +190,7 @@ module _ (M : Model) (orderly : IsOrderly M) where
   recovers-on o s c shelf locks left total x moment done rests = record {
     word = refl;
     others = record { store = done.moves.others; locks = rests.others };
+    moments = (done.at, tt);
     leaves = λ p g f.
         let st = state_in x in
         let later : g.time ≤ shelf.clock.time = subst (λ (t : ℕ). t ≤ shelf.clock.time) (sym f.fits.ground.time) done.moves.others.later.later in
@@ -210,6 +213,7 @@ module _ (M : Model) (orderly : IsOrderly M) where
   recovers-commit o s c shelf locks left total x moment done rests = record {
     word = refl;
     others = record { store = done.commits.others; locks = rests.others };
+    moments = (done.commits.at, tt);
     leaves = λ p g f.
         let items = map uttered_of left in
         let ws = (g.desk s).writes in

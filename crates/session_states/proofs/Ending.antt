@@ -53,6 +53,7 @@ module _ (M : Model) (orderly : IsOrderly M) where
   rolls-on s c shelf item left total standing known spoken waits is moves = record {
     word = refl;
     others = record { store = moves.others; locks = λ u other. refl };
+    moments = tt;
     leaves = λ o p g f.
         let items = map uttered_of left in
         let i = uttered_of item in
@@ -112,6 +113,7 @@ module _ (M : Model) (orderly : IsOrderly M) where
   rolled-on s c shelf locks left total standing known spoken waits done rests = record {
     word = refl;
     others = record { store = done.moves.others; locks = rests.others };
+    moments = (tt, (tt, tt));
     leaves = λ o p g f.
         let items = map uttered_of left in
         let w : Writes M o p g s standing (Some (said rollback)) = f.here.stands.state in
@@ -136,6 +138,7 @@ module _ (M : Model) (orderly : IsOrderly M) where
   left-on s c shelf locks left total standing known spoken waits done rests = record {
     word = refl;
     others = record { store = done.moves.others; locks = rests.others };
+    moments = (tt, tt);
     leaves = λ o p g f.
         let items = map uttered_of left in
         let none : items ≡ [] = ap (map uttered_of) f.fits.phase.ends in
@@ -162,6 +165,7 @@ module _ (M : Model) (orderly : IsOrderly M) where
   committed-on s c shelf locks left total standing known spoken waits moment done rests = record {
     word = refl;
     others = record { store = done.commits.others; locks = rests.others };
+    moments = (done.commits.at, (tt, tt));
     leaves = λ o p g f.
         let w : Writes M o p g s standing (Some (said commit)) = f.here.stands.state in
         let ws = (g.desk s).writes in

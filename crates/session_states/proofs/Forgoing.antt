@@ -47,6 +47,7 @@ module _ (M : Model) (orderly : IsOrderly M) where
   forgoes-on s c locks left total standing known waits stage item idle is rests = record {
     word = refl;
     others = record { store = (leaves-others s c).store; locks = rests.others };
+    moments = (tt, tt);
     leaves = λ o p g f.
         let items = map uttered_of left in
         let l : Line = record { item = item; choices = []; reply = NoMemory } in

@@ -12,7 +12,8 @@ use Rattle.session_states.specs.States.{seen}
 use Rattle.session_states.specs.Shared.{Shared, LeavesOthers}
 use Rattle.session_states.specs.Fits.{Fits}
 use Rattle.store_counts.specs.Counts.{IsCounted}
-use Rattle.session_states.specs.Steps.{Leaves, Step}
+use Rattle.session_states.specs.Steps.{AreAt, Leaves, Step}
+use Rattle.session_states.proofs.Moments.{both-at}
 use Rattle.session_states.proofs.Resting.{none-dead}
 
 elapse-on : (a b c : Clock) → Elapses a b → Elapses b c → Elapses a c
@@ -29,10 +30,11 @@ others-on s c d e a b = record {
 }
 
 module _ (M : Model) (orderly : IsOrderly M) where
-  pub steps-on : (s : ℕ) (c d e : Shared) (m n k : Member) (es fs : List Event) → d.dead ≡ c.dead → Step M s c m d n es → Step M s d n e k fs → Step M s c m e k (es ++ fs)
-  steps-on s c d e m n k es fs alive a b = record {
+  pub steps-on : (s : ℕ) (c d e : Shared) (m n k : Member) (es fs : List Event) → d.dead ≡ c.dead → AreAt e.shelf.clock.time es → Step M s c m d n es → Step M s d n e k fs → Step M s c m e k (es ++ fs)
+  steps-on s c d e m n k es fs alive first a b = record {
     word = b.word ∙ a.word;
     others = others-on s c d e a.others b.others;
+    moments = both-at e.shelf.clock.time es fs first b.moments;
     leaves = λ o p g f.
         let x : Leaves M o p g d s n es = a.leaves o p g f in
         let q = place_from o p es in

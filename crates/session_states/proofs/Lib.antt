@@ -1,4 +1,5 @@
 pub mod Basics
+pub mod Moments
 pub mod Ends
 pub mod Locking
 pub mod Resting

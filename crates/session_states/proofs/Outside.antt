@@ -68,6 +68,7 @@ module _ (M : Model) (orderly : IsOrderly M) where
   says-outside s c item left total choices reply may replies = record {
     word = refl;
     others = leaves-others s c;
+    moments = (tt, tt);
     leaves = λ o p g f.
         let i = uttered_of item in
         let l : Line = record { item = i; choices = choices; reply = reply } in

@@ -96,6 +96,7 @@ module _ (M : Model) (orderly : IsOrderly M) where
   begins-on s c shelf item left total kind waits so writes sleeps moves = record {
     word = refl;
     others = record { store = moves.others; locks = λ u other. refl };
+    moments = (tt, tt);
     leaves = λ o p g f.
         let items = map uttered_of left in
         let i = uttered_of item in

@@ -56,6 +56,7 @@ use Rattle.session_states.proofs.Parting.{goes-on}
 use Rattle.session_states.proofs.Resting.{none-dead}
 use Rattle.session_states.proofs.Asking.{may-call}
 use Rattle.session_states.proofs.Storing.{said-needs, said-more, nowait-said}
+use Rattle.session_states.proofs.Moments.{wants-at, both-at}
 
 abbrev journal : Need
 journal = need journal_node EX
@@ -131,6 +132,7 @@ module _ (M : Model) (orderly : IsOrderly M) where
   asks-prepared s c shelf locks left total standing known spoken waits w clock moves call asked stands is = record {
     word = refl;
     others = record { store = moves.others; locks = call.others };
+    moments = wants-at shelf.clock.time s journal call.asks.nodes;
     leaves = λ o p g f.
         let items = map uttered_of left in
         let m = member items (writing standing (Some (said commit))) total in
@@ -168,6 +170,7 @@ module _ (M : Model) (orderly : IsOrderly M) where
   gets-prepared s c shelf locks left total standing known spoken waits clock moves call asked apart rests = record {
     word = refl;
     others = record { store = moves.others; locks = call.others };
+    moments = both-at shelf.clock.time (wanted_at s journal call.asks.nodes) (Got s journal ∷ []) (wants-at shelf.clock.time s journal call.asks.nodes) (tt, tt);
     leaves = λ o p g f.
         let items = map uttered_of left in
         let m = member items (writing standing (Some (said commit))) total in
@@ -211,6 +214,7 @@ module _ (M : Model) (orderly : IsOrderly M) where
   forgoes-prepared s c shelf locks left total standing known waits clock moves rests = record {
     word = refl;
     others = record { store = moves.others; locks = rests.others };
+    moments = (tt, tt);
     leaves = λ o p g f.
         let items = map uttered_of left in
         let l : Line = record { item = said commit; choices = []; reply = NoMemory } in
@@ -249,7 +253,7 @@ module _ (M : Model) (orderly : IsOrderly M) where
       Step M s c (session left total (Writing (writer standing known spoken waits (Ending Preparing)))) (with_both shelf locks c) (session left total (Writing (writer standing known spoken waits (Ending Journal)))) (wanted_at s journal call.asks.nodes)
   prepares-on s c shelf locks left total standing known spoken waits w moves call asked stands is =
       let m = session left total (Writing (writer standing known spoken waits (Ending Preparing))) in
-      steps-on M orderly s c (later c shelf) (with_both shelf locks c) m m (session left total (Writing (writer standing known spoken waits (Ending Journal)))) [] (wanted_at s journal call.asks.nodes) refl
+      steps-on M orderly s c (later c shelf) (with_both shelf locks c) m m (session left total (Writing (writer standing known spoken waits (Ending Journal)))) [] (wanted_at s journal call.asks.nodes) refl tt
       (goes-on M orderly s c (later_shelf c.shelf shelf.clock) left total (Writing (writer standing known spoken waits (Ending Preparing))) (first-later s (prepared_by (c.shelf.seat s)) c.shelf shelf moves))
       (asks-prepared s (later c shelf) shelf locks left total standing known spoken waits w refl (then-moves s (prepared_by (c.shelf.seat s)) c.shelf shelf moves) call asked stands is)
 
@@ -258,7 +262,7 @@ module _ (M : Model) (orderly : IsOrderly M) where
       Step M s c (session left total (Writing (writer standing known spoken waits (Ending Preparing)))) (with_both shelf locks c) (session left total (Writing (writer standing known spoken waits (Ending Ready)))) (wanted_at s journal call.asks.nodes ++ Got s journal ∷ [])
   prepares-got s c shelf locks left total standing known spoken waits moves call asked apart rests =
       let m = session left total (Writing (writer standing known spoken waits (Ending Preparing))) in
-      steps-on M orderly s c (later c shelf) (with_both shelf locks c) m m (session left total (Writing (writer standing known spoken waits (Ending Ready)))) [] (wanted_at s journal call.asks.nodes ++ Got s journal ∷ []) refl
+      steps-on M orderly s c (later c shelf) (with_both shelf locks c) m m (session left total (Writing (writer standing known spoken waits (Ending Ready)))) [] (wanted_at s journal call.asks.nodes ++ Got s journal ∷ []) refl tt
       (goes-on M orderly s c (later_shelf c.shelf shelf.clock) left total (Writing (writer standing known spoken waits (Ending Preparing))) (first-later s (prepared_by (c.shelf.seat s)) c.shelf shelf moves))
       (gets-prepared s (later c shelf) shelf locks left total standing known spoken waits refl (then-moves s (prepared_by (c.shelf.seat s)) c.shelf shelf moves) call asked apart rests)
 
@@ -266,7 +270,7 @@ module _ (M : Model) (orderly : IsOrderly M) where
       Step M s c (session left total (Writing (writer standing known true waits (Ending Journal)))) (with_both shelf locks c) (session left total (Writing (writer standing known true waits Between))) (Said s (said commit) [] NoMemory ∷ [])
   gives-back s c shelf locks left total standing known waits moves rests =
       let m = session left total (Writing (writer standing known true waits (Ending Journal))) in
-      steps-on M orderly s c (later c shelf) (with_both shelf locks c) m m (session left total (Writing (writer standing known true waits Between))) [] (Said s (said commit) [] NoMemory ∷ []) refl
+      steps-on M orderly s c (later c shelf) (with_both shelf locks c) m m (session left total (Writing (writer standing known true waits Between))) [] (Said s (said commit) [] NoMemory ∷ []) refl tt
       (goes-on M orderly s c (later_shelf c.shelf shelf.clock) left total (Writing (writer standing known true waits (Ending Journal))) (first-later s (given_back (c.shelf.seat s)) c.shelf shelf moves))
       (forgoes-prepared s (later c shelf) shelf locks left total standing known waits refl (then-moves s (given_back (c.shelf.seat s)) c.shelf shelf moves) rests)
 
@@ -275,6 +279,6 @@ module _ (M : Model) (orderly : IsOrderly M) where
       Step M s c (session left total (Writing (writer standing known true waits (Ending Preparing)))) (with_both shelf locks c) (session left total (Writing (writer standing known true waits Between))) (Said s (said commit) [] NoMemory ∷ [])
   unprepares-on s c shelf locks left total standing known waits moves rests =
       let m = session left total (Writing (writer standing known true waits (Ending Preparing))) in
-      steps-on M orderly s c (with_shelf shelf c) (with_both shelf locks c) m m (session left total (Writing (writer standing known true waits Between))) [] (Said s (said commit) [] NoMemory ∷ []) refl
+      steps-on M orderly s c (with_shelf shelf c) (with_both shelf locks c) m m (session left total (Writing (writer standing known true waits Between))) [] (Said s (said commit) [] NoMemory ∷ []) refl tt
       (goes-on M orderly s c shelf left total (Writing (writer standing known true waits (Ending Preparing))) moves)
       (forgoes-on M orderly s (with_shelf shelf c) locks left total standing known waits (Ending Preparing) (said commit) refl refl rests)

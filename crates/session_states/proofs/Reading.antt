@@ -68,6 +68,7 @@ module _ (M : Model) (orderly : IsOrderly M) where
   begins-to-read s c shelf item left total so moves = record {
     word = refl;
     others = record { store = moves.others; locks = λ u other. refl };
+    moments = (tt, tt);
     leaves = λ o p g f.
         let items = map uttered_of left in
         let i = uttered_of item in
@@ -104,6 +105,7 @@ module _ (M : Model) (orderly : IsOrderly M) where
   takes-to-read s c item left total standing known spoken stays = record {
     word = refl;
     others = leaves-others s c;
+    moments = tt;
     leaves = λ o p g f. record {
       ground = g;
       steps = takes-up-reading M orderly o p g s (uttered_of item) (map uttered_of left) total standing f.here;
@@ -130,6 +132,7 @@ module _ (M : Model) (orderly : IsOrderly M) where
   reads-more s c shelf left total standing known new spoken item a b others now mine space more = record {
     word = refl;
     others = record { store = others; locks = λ u other. refl };
+    moments = tt;
     leaves = λ o p g f.
         let items = map uttered_of left in
         let i = uttered_of item in
@@ -189,6 +192,7 @@ module _ (M : Model) (orderly : IsOrderly M) where
   answers-to-reader s c left total standing known spoken item r found = record {
     word = refl;
     others = leaves-others s c;
+    moments = (tt, tt);
     leaves = λ o p g f.
         let i = uttered_of item in
         let w : Reads M p g s standing (Some i) = f.here.stands.state in
@@ -214,6 +218,7 @@ module _ (M : Model) (orderly : IsOrderly M) where
   forgoes-to-reader s c left total standing known spoken item work may = record {
     word = refl;
     others = leaves-others s c;
+    moments = (tt, tt);
     leaves = λ o p g f.
         let i = uttered_of item in
         let w : Reads M p g s standing (Some i) = f.here.stands.state in

@@ -52,6 +52,7 @@ module _ (M : Model) (orderly : IsOrderly M) where
   reader-commits-on s c shelf item left total standing known spoken is moves = record {
     word = refl;
     others = record { store = moves.others; locks = λ u other. refl };
+    moments = (refl, (tt, tt));
     leaves = λ o p g f.
         let items = map uttered_of left in
         let i = uttered_of item in
@@ -93,6 +94,7 @@ module _ (M : Model) (orderly : IsOrderly M) where
   reader-rolls-on s c shelf item left total standing known spoken is moves = record {
     word = refl;
     others = record { store = moves.others; locks = λ u other. refl };
+    moments = (tt, (tt, tt));
     leaves = λ o p g f.
         let items = map uttered_of left in
         let i = uttered_of item in
@@ -119,6 +121,7 @@ module _ (M : Model) (orderly : IsOrderly M) where
   reader-leaves-on s c shelf total standing known spoken moves = record {
     word = refl;
     others = record { store = moves.others; locks = λ u other. refl };
+    moments = (tt, tt);
     leaves = λ o p g f.
         let w : Reads M p g s standing None = f.here.stands.state in
         let one = rolled-place o p s in
@@ -141,6 +144,7 @@ module _ (M : Model) (orderly : IsOrderly M) where
   reader-unstarted-on s c shelf left total standing known item work starts moves = record {
     word = refl;
     others = record { store = moves.others; locks = λ u other. refl };
+    moments = (tt, (tt, tt));
     leaves = λ o p g f.
         let items = map uttered_of left in
         let i = uttered_of item in

@@ -51,6 +51,7 @@ use Rattle.session_states.proofs.Asking.{may-call}
 use Rattle.store_counts.proofs.Kept.{counted-events}
 use Rattle.session_states.proofs.Claims.{wanted-nothing, both-nothing}
 use Rattle.session_states.proofs.Storing.{said-needs, said-more, nowait-said}
+use Rattle.session_states.proofs.Moments.{wants-at, both-at}
 
 -- what asks for a need isn't refused by its standing
 pub asks-free : (refused : Refusal) (t : Tables) (n : Need) (item : Uttered) → item_asks refused t n item ≡ true → refused ≡ None
@@ -86,6 +87,7 @@ module _ (M : Model) (orderly : IsOrderly M) where
   refuses-on s c locks left total standing known waits stage n item reply wants is stays call rests refused excused cause = record {
     word = refl;
     others = record { store = (leaves-others s c).store; locks = call.others };
+    moments = both-at c.shelf.clock.time (wanted_at s n call.asks.nodes) (Said s item [] reply ∷ []) (wants-at c.shelf.clock.time s n call.asks.nodes) (tt, tt);
     leaves = λ o p g f.
         let items = map uttered_of left in
         let i = item in

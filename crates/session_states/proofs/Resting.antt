@@ -47,6 +47,7 @@ module _ (M : Model) (orderly : IsOrderly M) where
   rests-by s c left total x y same fits = record {
     word = refl;
     others = leaves-others s c;
+    moments = tt;
     leaves = λ o p g f. record {
       ground = g;
       steps = subst (λ (u : State). Steps M o p g s (member (map uttered_of left) u total) g []) same (rests M orderly o p g s (member (map uttered_of left) (state_in x) total) f.here);
@@ -66,6 +67,7 @@ module _ (M : Model) (orderly : IsOrderly M) where
   rests-on s c shelf left total x y same others now counts fits = record {
     word = refl;
     others = record { store = others; locks = λ u other. refl };
+    moments = tt;
     leaves = λ o p g f. record {
       ground = at_time shelf.clock.time g;
       steps = subst (λ (u : State). Steps M o p g s (member (map uttered_of left) u total) (at_time shelf.clock.time g) []) same
@@ -90,6 +92,7 @@ module _ (M : Model) (orderly : IsOrderly M) where
   learns-on s c shelf left total standing known new spoken waits x y same others now counts good fits = record {
     word = refl;
     others = record { store = others; locks = λ u other. refl };
+    moments = tt;
     leaves = λ o p g f.
         let m = member (map uttered_of left) (writing standing (item_of x)) total in
         let h : Ground = with_desk s (learnt_desk s new g) g in

@@ -35,6 +35,7 @@ module _ (M : Model) (orderly : IsOrderly M) where
   serves-on s c locks left total w node from to parties trail = record {
     word = refl;
     others = record { store = (leaves-others s c).store; locks = λ u other. ap (λ (ps : Parties). party_of ps u) parties };
+    moments = (tt, tt);
     leaves = λ o p g f.
         let items = map uttered_of left in
         record {

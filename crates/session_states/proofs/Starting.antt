@@ -60,6 +60,7 @@ use Rattle.session_states.proofs.Counting.{counted-ended}
 use Rattle.session_states.proofs.Storing.{said-needs}
 use Rattle.session_states.proofs.Refusing.{asks-free, unended}
 use Rattle.session_states.proofs.Forgoing.{and-undone}
+use Rattle.session_states.proofs.Moments.{wants-at, both-at}
 
 module _ (M : Model) (orderly : IsOrderly M) where
   -- the first statement of a read-write transaction, where it isn't done
@@ -98,6 +99,7 @@ module _ (M : Model) (orderly : IsOrderly M) where
   start-answered-on s c shelf locks left total standing known waits item r place undone moves rests = record {
     word = refl;
     others = record { store = moves.others; locks = rests.others };
+    moments = (tt, (tt, tt));
     leaves = λ o p g f.
         let i = uttered_of item in
         let w : Writes M o p g s standing (Some i) = f.here.stands.state in
@@ -125,6 +127,7 @@ module _ (M : Model) (orderly : IsOrderly M) where
   start-forgoes-on s c shelf locks left total standing known waits stage item idle is moves rests = record {
     word = refl;
     others = record { store = moves.others; locks = rests.others };
+    moments = (tt, (tt, tt));
     leaves = λ o p g f.
         let items = map uttered_of left in
         let here : Here M o p g s (member items (writing standing (Some item)) total) = subst (λ u. Here M o p g s (member items (writing standing u) total)) is f.here in
@@ -155,6 +158,7 @@ module _ (M : Model) (orderly : IsOrderly M) where
   start-refuses-on s c shelf mid locks left total standing known waits stage n item reply wants is stays call ended refused excused cause moves rests = record {
     word = refl;
     others = record { store = moves.others; locks = λ u other. rests.others u other ∙ call.others u other };
+    moments = both-at shelf.clock.time (wanted_at s n call.asks.nodes) (Said s item [] reply ∷ RolledBack s ∷ []) (wants-at shelf.clock.time s n call.asks.nodes) (tt, (tt, tt));
     leaves = λ o p g f.
         let items = map uttered_of left in
         let i = item in

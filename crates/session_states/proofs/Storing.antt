@@ -127,6 +127,7 @@ module _ (M : Model) (orderly : IsOrderly M) where
   says-laid s c shelf left total standing known spoken waits item r done = record {
     word = refl;
     others = record { store = done.moves.others; locks = λ u other. refl };
+    moments = (tt, tt);
     leaves = λ o p g f.
         let w : Writes M o p g s standing (Some (uttered_of item)) = f.here.stands.state in
         let laid : IsLaid M p g c s standing known (uttered_of item) r = f.fits.phase.desk in
@@ -166,6 +167,7 @@ module _ (M : Model) (orderly : IsOrderly M) where
   says-at-once s c left total standing known spoken waits item r place may none = record {
     word = refl;
     others = leaves-others s c;
+    moments = (tt, tt);
     leaves = λ o p g f.
         let i = uttered_of item in
         let w : Writes M o p g s standing (Some i) = f.here.stands.state in

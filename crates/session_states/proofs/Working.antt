@@ -60,6 +60,7 @@ module _ (M : Model) (orderly : IsOrderly M) where
   takes s c item left total standing known spoken waits y same fits = record {
     word = refl;
     others = leaves-others s c;
+    moments = tt;
     leaves = λ o p g f. record {
       ground = g;
       steps = subst (λ u. Steps M o p g s (member (map uttered_of left) (writing standing u) total) g []) (sym same) (takes-up M orderly o p g s (uttered_of item) (map uttered_of left) total standing f.here);

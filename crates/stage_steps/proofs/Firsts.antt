@@ -107,21 +107,21 @@ module _ (M : Model) (orderly : IsOrderly M) where
       Step M s c (session left total (Writing (writer standing known spoken waits (Saying item x (Claiming place))))) c (session left total (Writing (writer standing known spoken waits Between))) (Said s (uttered_of item) [] (r.RujFull limit) ∷ [])
   ruj-step s c left total standing known true waits item x place limit locked some done stop = ruj-full-on M orderly s c left total standing known waits item x place limit locked some done stop
   ruj-step s c left total standing known false waits item x place limit locked some done stop =
-      record { word = refl; others = leaves-others s c; leaves = λ o p g f. absurd (first-writes-none s c left total standing known waits item x place some o p g f) }
+      record { word = refl; others = leaves-others s c; moments = (tt, tt); leaves = λ o p g f. absurd (first-writes-none s c left total standing known waits item x place some o p g f) }
 
   pub snap-step : (s : ℕ) (c : Shared) (left : List Item) (total : ℕ) (standing : Standing) (known : Held) (spoken waits : Bool) (item : Item) (x : TxRecord) (place limit : ℕ) → IsMember s → lock_of (Saying item x (Claiming place)) ≡ None → WriteSome x.writes → is_done x.reply ≡ true →
       MayStopChange c.shelf s x.writes (change.SnapFull limit) →
       Step M s c (session left total (Writing (writer standing known spoken waits (Saying item x (Claiming place))))) c (session left total (Writing (writer standing known spoken waits Between))) (Said s (uttered_of item) [] (r.SnapFull limit) ∷ [])
   snap-step s c left total standing known true waits item x place limit member locked some done stop = snap-full-on M orderly s c left total standing known waits item x place limit member locked some done stop
   snap-step s c left total standing known false waits item x place limit member locked some done stop =
-      record { word = refl; others = leaves-others s c; leaves = λ o p g f. absurd (first-writes-none s c left total standing known waits item x place some o p g f) }
+      record { word = refl; others = leaves-others s c; moments = (tt, tt); leaves = λ o p g f. absurd (first-writes-none s c left total standing known waits item x place some o p g f) }
 
   -- its record isn't done
   undone-said : (s : ℕ) (c : Shared) (left : List Item) (total : ℕ) (standing : Standing) (known : Held) (spoken waits : Bool) (item : Item) (x : TxRecord) (place : ℕ) → lock_of (Saying item x (Claiming place)) ≡ None → (spoken || is_done x.reply) ≡ true → is_done x.reply ≡ false →
       Step M s c (session left total (Writing (writer standing known spoken waits (Saying item x (Claiming place))))) c (session left total (Writing (said_writer x known waits))) (Said s (uttered_of item) x.choices x.reply ∷ [])
   undone-said s c left total standing known spoken waits item x place locked may undone =
       let y = without_writes x in
-      steps-on M orderly s c c c (session left total (Writing (writer standing known spoken waits (Saying item x (Claiming place))))) (session left total (Writing (writer standing known spoken waits (Saying item y (Claiming 0))))) (session left total (Writing (said_writer y known waits))) [] (Said s (uttered_of item) x.choices x.reply ∷ []) refl
+      steps-on M orderly s c c c (session left total (Writing (writer standing known spoken waits (Saying item x (Claiming place))))) (session left total (Writing (writer standing known spoken waits (Saying item y (Claiming 0))))) (session left total (Writing (said_writer y known waits))) [] (Said s (uttered_of item) x.choices x.reply ∷ []) refl tt
       (rests-by M orderly s c left total (Writing (writer standing known spoken waits (Saying item x (Claiming place)))) (Writing (writer standing known spoken waits (Saying item y (Claiming 0)))) refl
       (λ o p g f. record {
         desk = f.fits.phase.desk;

@@ -24,7 +24,7 @@ use Rattle.stage_steps.specs.declared.calling.Called.{Called}
 use Rattle.stage_steps.specs.declared.happening.Happening.{Happening}
 use Rattle.stage_steps.specs.declared.happening.Happening.TheVariants as happens
 use Rattle.stage_steps.specs.Asking.{IsCalled}
-use Rattle.stage_steps.specs.Nearer.{IsUnqueued, Nearer}
+use Rattle.stage_steps.specs.Nearer.{IsUnqueued, Nearer, is_patient_at}
 use Rattle.stage_steps.proofs.Called.{answered-as}
 
 module _ (s : ℕ) (n : Need) (wait : Bool) (old new : State) (x : Called) (k : IsCalled s n wait old new x) (steps : ℕ → ℕ) (phase : Phase) (none : takes_next phase ≡ false) (kept : has_out phase ≡ false) (left : List Item) (total : ℕ) where
@@ -34,13 +34,14 @@ module _ (s : ℕ) (n : Need) (wait : Bool) (old new : State) (x : Called) (k : 
   abbrev d : Beside
   d = record { locks = new; steps = steps }
 
-  pub asleep-near : (t : ℕ) → x.answer ≡ Asleep t → StaysNear c d s (session left total phase) (session left total phase) × (IsUnqueued old s → ComesNearer c d s (session left total phase) (session left total phase))
-  asleep-near t e =
+  pub asleep-near : (t : ℕ) → x.answer ≡ Asleep t → (wait ≡ true → is_patient_at phase ≡ true) → StaysNear c d s (session left total phase) (session left total phase) × (IsUnqueued old s → ComesNearer c d s (session left total phase) (session left total phase)) × (is_patient_at phase ≡ true)
+  asleep-near t e patient =
       let a = answered-as s n wait old new x k (Asleep t) e in
       let open_ = ap (λ (p : Party). p.opened) a.1.1 in
       let on = λ (is : is_some (opened_of old s) ≡ true). subst (λ (b : Want). MovesOn s old new b) e (k.progress is) in (
         stays-asked s c d phase none kept refl a.1.0 open_ left total on,
         λ awake. nearer-asked s c d phase none kept refl a.1.0 open_ left total (λ v was. queued-falls old new s (record { parties = k.call.others; locks = k.no_weaker }) (on (ap is_some was)) v a.1.0 was open_ (awake v was) a.1.3.sleeps),
+        patient a.0,
       )
 
   pub noticed-near : (t : ℕ) (node : Node) (mode : Mode) → x.answer ≡ NoticeTo t node mode → StaysNear c d s (session left total phase) (session left total phase) × (is_spare (granted_at new.table t) (party_of new.parties t) node ≡ true)
@@ -51,17 +52,18 @@ module _ (s : ℕ) (n : Need) (wait : Bool) (old new : State) (x : Called) (k : 
       )
 
 -- a want that waits, in a step that comes to another rank
-pub asleep-by-rank : (s : ℕ) (c d : Beside) (x y : Phase) → items_in y ≡ items_in x → rank y < rank x → (left : List Item) (total : ℕ) → StaysNear c d s (session left total x) (session left total y) × (IsUnqueued c.locks s → ComesNearer c d s (session left total x) (session left total y))
-asleep-by-rank s c d x y e h left total = (
+pub asleep-by-rank : (s : ℕ) (c d : Beside) (x y : Phase) → items_in y ≡ items_in x → rank y < rank x → is_patient_at x ≡ true → (left : List Item) (total : ℕ) → StaysNear c d s (session left total x) (session left total y) × (IsUnqueued c.locks s → ComesNearer c d s (session left total x) (session left total y)) × (is_patient_at x ≡ true)
+asleep-by-rank s c d x y e h patient left total = (
   near s c d (session left total x) (session left total y) (λ k l r. by-rank k l s c d (session left total x) (session left total y) refl (ap (λ (i : ℕ). length left + i) e) h),
   λ awake. nearer-by-rank s c d x y e h left total,
+  patient,
 )
 
 -- ---- a step of the phase alone before another one, in one step
 
--- from the phase before it to the one between the session has come nearer, and has as many rounds
-pub nearer-first : (s : ℕ) (h : Happening) (c d : Beside) (m n o : Member) → ((k l : ℕ) → AreRounds m.phase o.phase k l → AreRounds n.phase o.phase k l × Falls k k c c s m n) → Nearer s h c d n o → Nearer s h c d m o
-nearer-first s h c d m n o first = by h
+-- from the phase before it to the one between the session has come nearer, has as many rounds, and waits as it did
+pub nearer-first : (s : ℕ) (h : Happening) (c d : Beside) (m n o : Member) → ((k l : ℕ) → AreRounds m.phase o.phase k l → AreRounds n.phase o.phase k l × Falls k k c c s m n) → (is_patient_at n.phase ≡ true → is_patient_at m.phase ≡ true) → Nearer s h c d n o → Nearer s h c d m o
+nearer-first s h c d m n o first patient = by h
   where
     comes : ComesNearer c d s n o → ComesNearer c d s m o
     comes then = record { nears = λ k l r. let f = first k l r in inl (falls-behind k l s c d m n o f.1 (then.nears k l f.0)) }
@@ -74,7 +76,7 @@ nearer-first s h c d m n o first = by h
     by (happens.Began kind) then = comes then
     by (happens.Answered a) then = comes then
     by (happens.Unstarted a) then = comes then
-    by (happens.Asleep t x) then = (stays then.0, λ awake. comes (then.1 awake))
+    by (happens.Asleep t x) then = (stays then.0, λ awake. comes (then.1 awake), patient then.2)
     by (happens.Noticed t node mode x) then = (stays then.0, then.1)
     by (happens.Got x) then = comes then
     by (happens.Refused x a) then = comes then

@@ -41,7 +41,7 @@ use Rattle.session_states.specs.declared.stage.Phase.TheVariants.{Writing}
 use Rattle.session_states.specs.Locks.{HasJournal}
 use Rattle.session_states.specs.States.{writer, session}
 use Rattle.session_states.specs.Shared.{Shared, with_both, LeavesOthers, RestsWith}
-use Rattle.session_states.specs.Steps.{Step}
+use Rattle.session_states.specs.Steps.{AreAt, Step}
 use Rattle.session_states.proofs.Journal.{has-behind}
 use Rattle.session_states.proofs.Preparing.{prepares-on, prepares-got, gives-back, unprepares-on}
 use Rattle.session_states.proofs.Resting.{leaves-others}
@@ -99,26 +99,26 @@ prepared-back s a b c writes one two = does-behind s (prepared []) (writing []) 
 -- ---- a COMMIT comes once something was said
 
 module _ (M : Model) (orderly : IsOrderly M) where
-  unspoken : (s : ℕ) (c d : Shared) (left : List Item) (total : ℕ) (standing : Standing) (known : Held) (waits : Bool) (end : End) (y : Phase) (es : List Event) → d.word ≡ c.word → LeavesOthers s c d →
+  unspoken : (s : ℕ) (c d : Shared) (left : List Item) (total : ℕ) (standing : Standing) (known : Held) (waits : Bool) (end : End) (y : Phase) (es : List Event) → d.word ≡ c.word → LeavesOthers s c d → AreAt d.shelf.clock.time es →
       Step M s c (session left total (Writing (writer standing known false waits (Ending end)))) d (session left total y) es
-  unspoken s c d left total standing known waits end y es word others = record { word = word; others = others; leaves = λ o p g f. absurd (false≢true f.fits.phase.stage.0) }
+  unspoken s c d left total standing known waits end y es word others at = record { word = word; others = others; moments = at; leaves = λ o p g f. absurd (false≢true f.fits.phase.stage.0) }
 
   -- the journal has no room for it
   pub full-step : (s : ℕ) (c : Shared) (left : List Item) (total : ℕ) (standing : Standing) (known : Held) (spoken waits : Bool) (limit : ℕ) → MayStopCommit c.shelf s (AijFull limit) →
       Step M s c (session left total (Writing (writer standing known spoken waits (Ending Preparing)))) c (session left total (Writing (writer standing known spoken waits Between))) (Said s (said commit) [] (r.AijFull limit) ∷ [])
   full-step s c left total standing known true waits limit stop = aij-full-on M orderly s c left total standing known waits limit stop
-  full-step s c left total standing known false waits limit stop = unspoken s c c left total standing known waits Preparing _ _ refl (leaves-others s c)
+  full-step s c left total standing known false waits limit stop = unspoken s c c left total standing known waits Preparing _ _ refl (leaves-others s c) (tt, tt)
 
   -- no memory is found for its want, which was open or not
   pub back-step : (s : ℕ) (c : Shared) (shelf : Shelf) (locks : State) (left : List Item) (total : ℕ) (standing : Standing) (known : Held) (spoken waits : Bool) → Moves s (given_back (c.shelf.seat s)) c.shelf shelf → RestsWith s (needs_of c.locks s) c.locks locks →
       Step M s c (session left total (Writing (writer standing known spoken waits (Ending Journal)))) (with_both shelf locks c) (session left total (Writing (writer standing known spoken waits Between))) (Said s (said commit) [] r.NoMemory ∷ [])
   back-step s c shelf locks left total standing known true waits moves rests = gives-back M orderly s c shelf locks left total standing known waits moves rests
-  back-step s c shelf locks left total standing known false waits moves rests = unspoken s c (with_both shelf locks c) left total standing known waits Journal _ _ refl (record { store = moves.others; locks = rests.others })
+  back-step s c shelf locks left total standing known false waits moves rests = unspoken s c (with_both shelf locks c) left total standing known waits Journal _ _ refl (record { store = moves.others; locks = rests.others }) (tt, tt)
 
   pub undone-step : (s : ℕ) (c : Shared) (shelf : Shelf) (locks : State) (left : List Item) (total : ℕ) (standing : Standing) (known : Held) (spoken waits : Bool) → Moves s (c.shelf.seat s) c.shelf shelf → RestsWith s (needs_of c.locks s) c.locks locks →
       Step M s c (session left total (Writing (writer standing known spoken waits (Ending Preparing)))) (with_both shelf locks c) (session left total (Writing (writer standing known spoken waits Between))) (Said s (said commit) [] r.NoMemory ∷ [])
   undone-step s c shelf locks left total standing known true waits moves rests = unprepares-on M orderly s c shelf locks left total standing known waits moves rests
-  undone-step s c shelf locks left total standing known false waits moves rests = unspoken s c (with_both shelf locks c) left total standing known waits Preparing _ _ refl (record { store = moves.others; locks = rests.others })
+  undone-step s c shelf locks left total standing known false waits moves rests = unspoken s c (with_both shelf locks c) left total standing known waits Preparing _ _ refl (record { store = moves.others; locks = rests.others }) (tt, tt)
 
 -- ---- answers to a want of the journal
 

@@ -28,6 +28,7 @@ module _ (M : Model) (orderly : IsOrderly M) where
   locks-still s c locks w parties trail = λ left total. record {
     word = refl;
     others = record { store = (leaves-others s c).store; locks = λ u other. ap (λ (ps : Parties). party_of ps u) parties };
+    moments = tt;
     leaves = λ o p g f. record {
       ground = g;
       steps = rests M orderly o p g s (member (map uttered_of left) (writing w.standing (item_of w.stage)) total) f.here;

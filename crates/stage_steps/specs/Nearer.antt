@@ -1,5 +1,5 @@
 -- What a step of a stage is for the measure, by what happened in it.
-use Rattle.std.specs.Prelude.{◌≡◌, ℕ, true, false, Result, Ok, Err, List, Some}
+use Rattle.std.specs.Prelude.{◌≡◌, ◌||◌, ℕ, Bool, true, false, Result, Ok, Err, List, Some}
 use Rattle.rdo_ast.specs.declared.syntax.Item.{Item}
 use Rattle.lock_needs.specs.Wants.{sleeps_at}
 use Rattle.lock_needs.specs.declared.party.OpenWant.{OpenWant}
@@ -7,7 +7,11 @@ use Rattle.lock_tree_laws.specs.Forest.{State, opened_of, party_of}
 use Rattle.lock_tree_laws.specs.LockTable.{granted_at}
 use Rattle.lock_tree_laws.specs.Progress.{is_spare}
 use Rattle.line_store.specs.declared.answers.Fault.{Fault}
+use Rattle.session_states.specs.declared.stage.End.TheVariants.{Preparing, Journal}
+use Rattle.session_states.specs.declared.stage.Stage.{Stage}
+use Rattle.session_states.specs.declared.stage.Stage.TheVariants.{Ending}
 use Rattle.session_states.specs.declared.stage.Phase.{Phase}
+use Rattle.session_states.specs.declared.stage.Phase.TheVariants.{Writing}
 use Rattle.session_states.specs.declared.stage.Member.{Member}
 use Rattle.session_states.specs.States.{dead_session, gone_session}
 use Rattle.session_measure.specs.Weights.{Beside, Falls}
@@ -17,13 +21,24 @@ use Rattle.stage_steps.specs.declared.dying.Recovery.TheVariants.{More, Done}
 use Rattle.stage_steps.specs.declared.happening.Happening.{Happening}
 use Rattle.stage_steps.specs.declared.happening.Happening.TheVariants.{Asleep, Noticed, Failed, Unlaid, Unworked, Unanswered}
 
+-- a COMMIT wants the journal, or will once it is prepared
+abbrev pub is_for_journal : Stage → Bool
+is_for_journal (Ending Preparing) = true
+is_for_journal (Ending Journal) = true
+is_for_journal stage = false
+
+-- whether a want of this phase waits where it isn't got at once: under NOWAIT a COMMIT's want of the journal alone does
+abbrev pub is_patient_at : Phase → Bool
+is_patient_at (Writing w) = is_for_journal w.stage || w.waits
+is_patient_at phase = false
+
 -- no want of session s is queued
 abbrev pub IsUnqueued : State → ℕ → Type 0
 IsUnqueued locks s = (w : OpenWant) → opened_of locks s ≡ Some w → sleeps_at (granted_at locks.table s) (Some w) w.here ≡ false
 
--- Session s comes nearer to its end. One that waits does so unless it was queued before. One that finds a notice due comes no farther away, and the lock in its way is stronger than it has to be. Where the session has to stop, nothing is said.
+-- Session s comes nearer to its end. One that waits is one that may wait, and comes nearer unless it was queued before. One that finds a notice due comes no farther away, and the lock in its way is stronger than it has to be. Where the session has to stop, nothing is said.
 abbrev pub Nearer : ℕ → Happening → Beside → Beside → (m n : Member) → Type 0
-Nearer s (Asleep t x) c d m n = StaysNear c d s m n × (IsUnqueued c.locks s → ComesNearer c d s m n)
+Nearer s (Asleep t x) c d m n = StaysNear c d s m n × (IsUnqueued c.locks s → ComesNearer c d s m n) × (is_patient_at m.phase ≡ true)
 Nearer s (Noticed t node mode x) c d m n = StaysNear c d s m n × (is_spare (granted_at d.locks.table t) (party_of d.locks.parties t) node ≡ true)
 Nearer s (Failed fault) c d m n = Unit {0}
 Nearer s (Unlaid key) c d m n = Unit {0}

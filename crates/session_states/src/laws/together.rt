@@ -18,7 +18,7 @@ ghost use Rattle.session_states.specs.declared.stage.Member.{Member};
 ghost use Rattle.session_states.specs.Locks.{has_journal};
 ghost use Rattle.session_states.specs.States.{writer, session};
 ghost use Rattle.session_states.specs.Shared.{Shared};
-ghost use Rattle.session_states.specs.Steps.{Finds, Step, Fall};
+ghost use Rattle.session_states.specs.Steps.{AreAt, Finds, Step, Fall};
 ghost use Rattle.session_states.specs.Kept.{AreKept, IsFresh, IsOpened};
 
 use session_jobs::Statements;
@@ -31,7 +31,7 @@ pub fn sessions_are_kept<S: Statements>()
     ensures opened { (o : Opening) (c : Shared) (members : List Member) → IsOpened S.stands o c → ((i : ℕ) (m : Member) → slice_get members i ≡ Some m → IsFresh o c (suc i) m) → AreKept S.stands o c members [] }
     ensures finds { (o : Opening) (c : Shared) (members : List Member) (events : List Event) (i : ℕ) (m : Member) → c.dead ≡ 0 → (k : AreKept S.stands o c members events) → slice_get members i ≡ Some m → Finds S.stands o (place o events) k.ground c (suc i) m }
     ensures kept { (o : Opening) (c d : Shared) (members : List Member) (events es : List Event) (i : ℕ) (m n : Member) → c.dead ≡ 0 → AreKept S.stands o c members events → slice_get members i ≡ Some m → Step S.stands (suc i) c m d n es → AreKept S.stands o d (slice_set members i n) (events ++ es) }
-    ensures in_turn { (s : ℕ) (c d e : Shared) (m n k : Member) (es fs : List Event) → d.dead ≡ c.dead → Step S.stands s c m d n es → Step S.stands s d n e k fs → Step S.stands s c m e k (es ++ fs) }
+    ensures in_turn { (s : ℕ) (c d e : Shared) (m n k : Member) (es fs : List Event) → d.dead ≡ c.dead → AreAt e.shelf.clock.time es → Step S.stands s c m d n es → Step S.stands s d n e k fs → Step S.stands s c m e k (es ++ fs) }
     ensures fell { (o : Opening) (c d : Shared) (members : List Member) (events es : List Event) (i : ℕ) (m n : Member) → AreKept S.stands o c members events → slice_get members i ≡ Some m → Fall S.stands o (suc i) c m d n es → AreKept S.stands o d (slice_set members i n) (events ++ es) }
     ensures alone { (o : Opening) (c : Shared) (members : List Member) (events : List Event) (i : ℕ) (left : List Item) (total : ℕ) (standing : Standing) (known : Held) (spoken waits : Bool) → AreKept S.stands o c members events → slice_get members i ≡ Some (session left total (Writing (writer standing known spoken waits (Ending Ready)))) → IsAlone (suc i) c.shelf }
     ensures rests { (o : Opening) (c : Shared) (members : List Member) (events : List Event) (s : ℕ) → AreKept S.stands o c members events → HoldersRest c.locks s journal_node }

@@ -1,8 +1,16 @@
-use Rattle.line_arms.proofs.Arms.{takes, ends}
+use Rattle.std.proofs.Common.{◌++◌}
+use Rattle.stage_steps.specs.Happenings.{handed_back}
+use Rattle.line_arms.proofs.Arms.{takes, takes-up, ends}
 use Rattle.line_arms.proofs.reading.read_next.Goals as goal
 
-pub returns-in-Some : goal.returns-in-Some
-returns-in-Some g c = λ none. takes _ _ _ _ _ _ _ _ _ _ c.in-Some.ensures none (c.take_up_reading.ensures c.args.common.now.word c.args.common.now.tree)
+pub returns-in-Some-clause-goes : goal.returns-in-Some-clause-goes
+returns-in-Some-clause-goes g c = λ none. takes _ _ _ _ _ _ _ _ _ _ c.in-Some.ensures none (c.take_up_reading.ensures c.args.common.now.word c.args.common.now.tree)
 
-pub returns-in-None : goal.returns-in-None
-returns-in-None g c = λ none. ends _ _ _ _ _ _ _ _ _ c.in-None.ensures.0 c.in-None.ensures.1 (c.leave_reading.ensures c.args.common.now.word c.args.common.now.tree)
+pub returns-in-Some-clause-some : goal.returns-in-Some-clause-some
+returns-in-Some-clause-some g c = (handed_back c.take_up_reading.result.happened ++ c.pop.new.self, takes-up _ _ _ _ _ _ _ _ _ _ c.in-Some.ensures (c.take_up_reading.ensures c.args.common.now.word c.args.common.now.tree))
+
+pub returns-in-None-clause-goes : goal.returns-in-None-clause-goes
+returns-in-None-clause-goes g c = λ none. ends _ _ _ _ _ _ _ _ _ c.in-None.ensures.0 c.in-None.ensures.1 (c.leave_reading.ensures c.args.common.now.word c.args.common.now.tree)
+
+pub returns-in-None-clause-some : goal.returns-in-None-clause-some
+returns-in-None-clause-some g c = (c.pop.new.self, ends _ _ _ _ _ _ _ _ _ c.in-None.ensures.0 c.in-None.ensures.1 (c.leave_reading.ensures c.args.common.now.word c.args.common.now.tree))

@@ -4,10 +4,11 @@ use Rattle.rdb_account.specs.Legal.{IsLegal}
 use Rattle.line_cluster.specs.Turned.{HaveAllEnded}
 use Rattle.line_drive.specs.Turns.{KeepsTurns}
 use Rattle.line_runs.specs.Openings.{said_to}
+use Rattle.line_runs.specs.Prefix.{HoldsAll, HoldsPrefix}
 use Rattle.command_words.specs.Words.{word_of, order_in}
 use Rattle.rdb_top.specs.Deaths.{letting}
 use Rattle.rdb_top.specs.Runs.{scripts_of, IsWhole}
-use Rattle.rdb_top.proofs.Unsaid.{nothing-said, stop-is-no-end}
+use Rattle.rdb_top.proofs.Unsaid.{is-opened, nothing-said, stop-is-no-end}
 use Rattle.rdb_top.proofs.Upward.{scripts-length}
 use Rattle.rdb_top.proofs.top.run_rdo.Goals as goal
 
@@ -49,3 +50,22 @@ returns-in-Err-clause-account g c told =
 pub returns-in-Ok-clause-unopened : goal.returns-in-Ok-clause-unopened
 returns-in-Ok-clause-unopened g c is =
     let bad = c.finish_scripts.ensures.bad is in c.say_scripts-ran.ensures.bad bad.0 bad.1 bad.2
+
+pub returns-in-Ok-clause-images : goal.returns-in-Ok-clause-images
+returns-in-Ok-clause-images g c told tells some =
+    let opened = is-opened c.say_scripts-ran.result.fault _ c.say_scripts-ran.ensures.unsaid (λ none. some (c.finish_scripts.ensures.events ∙ none)) in
+    rw c.finish_scripts.ensures.events (rw c.finish_scripts.ensures.disk
+    (subst (λ qs. HoldsPrefix _ (said_to (letting c.args.asked.given.death g.O.Origin.opening) (word_of c.args.asked.words.now) qs) (g.D.Disk.view c.say_scripts-ran.result.disk) (map event_of c.say_scripts-ran.result.events)) (c.in-Ok.ensures.items tells)
+    (c.say_scripts-ran.ensures.images told opened)))
+
+pub returns-in-Ok-clause-left : goal.returns-in-Ok-clause-left
+returns-in-Ok-clause-left g c told tells whole =
+    rw c.finish_scripts.ensures.events (rw c.finish_scripts.ensures.disk
+    (subst (λ qs. HoldsAll _ (said_to (letting c.args.asked.given.death g.O.Origin.opening) (word_of c.args.asked.words.now) qs) (g.D.Disk.view c.say_scripts-ran.result.disk) (map event_of c.say_scripts-ran.result.events)) (c.in-Ok.ensures.items tells)
+    (c.say_scripts-ran.ensures.left told (c.finish_scripts.ensures.whole whole))))
+
+pub returns-in-Err-clause-images : goal.returns-in-Err-clause-images
+returns-in-Err-clause-images g c told tells some = absurd (some c.unsaid.ensures.events)
+
+pub returns-in-Err-clause-left : goal.returns-in-Err-clause-left
+returns-in-Err-clause-left g c told tells whole = absurd (stop-is-no-end c.in-Err.stop (subst IsWhole (c.unsaid.ensures.status ∙ c.status_of.ensures) whole))

@@ -6,6 +6,7 @@ use Rattle.line_cluster.specs.Turned.{HaveAllEnded}
 use Rattle.line_drive.specs.Boards.{mortals_of}
 use Rattle.line_drive.specs.Turns.{KeepsTurns}
 use Rattle.line_runs.specs.Openings.{said_to}
+use Rattle.line_runs.specs.Prefix.{HoldsAll, HoldsPrefix}
 use Rattle.command_words.specs.Words.{order_in, word_of}
 use Rattle.rdb_top.specs.Deaths.{letting, sessions_dying}
 use Rattle.rdb_top.proofs.Deaths.{may-fail, mortals}
@@ -39,3 +40,11 @@ returns-in-Ok-clause-order g c has_order told whole =
     (subst (λ n. KeepsTurns (said_to (letting c.args.asked.given.death g.O.Origin.opening) c.in-Ok.field-0.word c.args.scripts.items) n (order_in c.args.asked.words.now) c.run_of.result.events) c.requires.count
     (subst (λ turns. KeepsTurns (said_to (letting c.args.asked.given.death g.O.Origin.opening) c.in-Ok.field-0.word c.args.scripts.items) (length c.args.scripts.items) turns c.run_of.result.events) (c.as_slice.ensures ∙ c.in-Ok.ensures.order)
     (c.run_of.ensures.order has_order told whole)))
+
+pub returns-in-Ok-clause-images : goal.returns-in-Ok-clause-images
+returns-in-Ok-clause-images g c told opened =
+    subst (λ w. HoldsPrefix _ (said_to (letting c.args.asked.given.death g.O.Origin.opening) w c.args.scripts.items) (g.D.Disk.view c.run_of.result.disk) (map event_of c.run_of.result.events)) c.in-Ok.ensures.word (c.run_of.ensures.images told opened)
+
+pub returns-in-Ok-clause-left : goal.returns-in-Ok-clause-left
+returns-in-Ok-clause-left g c told whole =
+    subst (λ w. HoldsAll _ (said_to (letting c.args.asked.given.death g.O.Origin.opening) w c.args.scripts.items) (g.D.Disk.view c.run_of.result.disk) (map event_of c.run_of.result.events)) c.in-Ok.ensures.word (c.run_of.ensures.left told whole)

@@ -34,7 +34,7 @@ returns-in-Full g c =
     (λ h dead left total. drops-on g.S.Statements.stands g.met.S.Statements.orderly c.args.s.number (shared c.args.common.now.word h c.args.common.now.tree dead) left total c.args.terms.standing c.args.terms.known c.args.terms.spoken c.args.terms.waits c.args.round.item (RoomOf c.args.room) c.args.round.later c.args.round.place)
     (λ f. rests-at _ _ c.args.s.number _ f.seat f.wants f.needs f.statement)
     (λ left total. nearer-first c.args.s.number c.refuse_full.result.happened b _ (session left total x) (session left total y) (session left total c.refuse_full.result.phase)
-    (λ k l r. (r, by-round k k c.args.s.number b b (session left total x) (session left total y) refl refl refl refl (omega arith))) (c.refuse_full.ensures.nearer left total))
+    (λ k l r. (r, by-round k k c.args.s.number b b (session left total x) (session left total y) refl refl refl refl (omega arith))) (λ waits. waits) (c.refuse_full.ensures.nearer left total))
     c.refuse_full.ensures
 
 pub returns-in-Unfit : goal.returns-in-Unfit

@@ -27,5 +27,5 @@ returns g c =
     (λ h dead left total. houses-in-turn g.S.Statements.stands g.met.S.Statements.orderly c.args.s.number (shared c.args.common.now.word h c.args.common.now.tree dead) left total c.args.terms.standing c.args.terms.known c.args.terms.spoken c.args.terms.waits c.args.round.item c.args.room c.args.key c.args.round.later c.args.round.place c.requires.area)
     (λ f. house-seat _ _ c.args.s.number c.args.terms.standing c.args.terms.known c.args.terms.spoken c.args.terms.waits c.args.round.item f.seat c.requires.closed f.needs f.statement c.args.room c.args.key c.args.round.later c.args.round.place)
     (λ left total. nearer-first c.args.s.number c.want.result.happened b _ (session left total x) (session left total y) (session left total c.want.result.phase)
-    (λ k l r. (r, by-place k k c.args.s.number b b (session left total x) (session left total y) refl refl refl refl refl (housed (length c.args.round.later - c.args.round.place)))) (then.nearer left total))
+    (λ k l r. (r, by-place k k c.args.s.number b b (session left total x) (session left total y) refl refl refl refl refl (housed (length c.args.round.later - c.args.round.place)))) (λ waits. waits) (then.nearer left total))
     then

@@ -1,10 +1,10 @@
 use Rattle.std.proofs.Common.{refl, false, true, subst, sym, arith}
 use Rattle.session_states.specs.Locks.{HasJournal}
 use Rattle.session_states.specs.declared.stage.Life.TheVariants.{Alive}
-use Rattle.session_states.specs.declared.stage.End.TheVariants.{Journal}
+use Rattle.session_states.specs.declared.stage.End.TheVariants.{Journal, Preparing}
 use Rattle.session_states.specs.declared.stage.Stage.TheVariants.{Ending}
 use Rattle.session_measure.proofs.Nearer.{nearer-by-rank, nearer-answered}
-use Rattle.stage_steps.specs.Turns.{shared}
+use Rattle.stage_steps.specs.Turns.{at_stage, shared}
 use Rattle.stage_steps.proofs.Called.{got-step, asleep-step}
 use Rattle.stage_steps.proofs.Goes.{goes, goes-still}
 use Rattle.stage_steps.proofs.Nearer.{asleep-near, asleep-by-rank}
@@ -25,12 +25,12 @@ returns-in-Got-clause-behind g c before closed writes first =
 
 pub returns-in-Asleep-clause-comes : goal.returns-in-Asleep-clause-comes
 returns-in-Asleep-clause-comes g c =
-    rw c.at-in-Asleep.ensures (goes-still c.args.s.number _ Alive _ Alive _ _ _ refl (λ f. waiting-seat c.args.s.number c.args.common.now.tree c.call.new.tree c.in-Ok.called c.in-Ok.ensures.called c.requires.without c.requires.rest _ c.args.terms.standing c.args.terms.known c.args.terms.spoken c.args.terms.waits (bare-prepared _ c.requires.prepared) c.in-Asleep.other c.in-Asleep.is) c.in-Ok.ensures.called.call.others (λ left total. asleep-near c.args.s.number journal true c.args.common.now.tree c.call.new.tree c.in-Ok.called c.in-Ok.ensures.called _ _ refl refl left total c.in-Asleep.other c.in-Asleep.is)
+    rw c.at-in-Asleep.ensures (goes-still c.args.s.number _ Alive _ Alive _ _ _ refl (λ f. waiting-seat c.args.s.number c.args.common.now.tree c.call.new.tree c.in-Ok.called c.in-Ok.ensures.called c.requires.without c.requires.rest _ c.args.terms.standing c.args.terms.known c.args.terms.spoken c.args.terms.waits (bare-prepared _ c.requires.prepared) c.in-Asleep.other c.in-Asleep.is) c.in-Ok.ensures.called.call.others (λ left total. asleep-near c.args.s.number journal true c.args.common.now.tree c.call.new.tree c.in-Ok.called c.in-Ok.ensures.called _ (at_stage c.args.terms (Ending Journal)) refl refl left total c.in-Asleep.other c.in-Asleep.is (λ waits. refl))
     (λ h shown dead. asleep-step g.S.Statements.stands g.met.S.Statements.orderly c.args.s.number c.args.common.now.word h c.args.common.now.tree c.call.new.tree dead c.args.terms.standing c.args.terms.known (Ending Journal) journal true c.in-Ok.called c.in-Ok.ensures.called refl c.args.terms.spoken c.args.terms.waits c.in-Asleep.other c.in-Asleep.is))
 
 pub returns-in-Asleep-clause-behind : goal.returns-in-Asleep-clause-behind
 returns-in-Asleep-clause-behind g c before closed writes first =
-    rw c.at-in-Asleep.ensures (goes c.args.s.number _ Alive _ Alive _ _ _ _ _ (λ e f. waiting-seat c.args.s.number c.args.common.now.tree c.call.new.tree c.in-Ok.called c.in-Ok.ensures.called c.requires.without c.requires.rest _ c.args.terms.standing c.args.terms.known c.args.terms.spoken c.args.terms.waits e c.in-Asleep.other c.in-Asleep.is) c.in-Ok.ensures.called.call.others (asleep-by-rank c.args.s.number _ _ _ _ refl (omega arith))
+    rw c.at-in-Asleep.ensures (goes c.args.s.number _ Alive _ Alive _ _ _ _ _ (λ e f. waiting-seat c.args.s.number c.args.common.now.tree c.call.new.tree c.in-Ok.called c.in-Ok.ensures.called c.requires.without c.requires.rest _ c.args.terms.standing c.args.terms.known c.args.terms.spoken c.args.terms.waits e c.in-Asleep.other c.in-Asleep.is) c.in-Ok.ensures.called.call.others (asleep-by-rank c.args.s.number _ _ (at_stage c.args.terms (Ending Preparing)) (at_stage c.args.terms (Ending Journal)) refl (omega arith) refl)
     (λ h k shown told moves dead. sleeps-behind g.S.Statements.stands g.met.S.Statements.orderly c.args.s.number c.args.common.now.word h k c.args.common.now.tree c.call.new.tree dead c.args.terms.standing c.args.terms.known c.args.terms.spoken c.args.terms.waits c.in-Ok.called c.in-Ok.ensures.called c.requires.without c.requires.rest closed moves c.in-Asleep.other c.in-Asleep.is) first)
 
 pub returns-in_default-clause-comes : goal.returns-in_default-clause-comes

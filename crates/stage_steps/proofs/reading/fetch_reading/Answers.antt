@@ -32,7 +32,7 @@ returns-in-Err-NoMemory g c word locks =
     goes-behind c.args.s.number (reads_at c.args.terms (Working c.args.item (Fetching c.args.need))) y _ Alive word locks _ (g.L.LineStore.sight c.fetch.new.store) _ _ _ _ _ (λ h. h.seat c.args.s.number)
     (λ e f. reads-on _ _ locks c.args.s.number _ _ e f)
     (λ h m r. was-forgone c.args.s.number h m _ c.in-Err-NoMemory.field-0-is r) (λ h. refl)
-    (λ h m k shown told r q dead left total. steps-on g.S.Statements.stands g.met.S.Statements.orderly c.args.s.number (shared word h locks dead) (shared word m locks dead) _ (session left total (reads_at c.args.terms (Working c.args.item (Fetching c.args.need)))) (session left total y) _ [] _ refl
+    (λ h m k shown told r q dead left total. steps-on g.S.Statements.stands g.met.S.Statements.orderly c.args.s.number (shared word h locks dead) (shared word m locks dead) _ (session left total (reads_at c.args.terms (Working c.args.item (Fetching c.args.need)))) (session left total y) _ [] _ refl tt
     (reader-reads g.S.Statements.stands g.met.S.Statements.orderly c.args.s.number (shared word h locks dead) m c.args.terms.standing c.args.terms.known c.fetch.new.known c.args.item c.args.need (was-forgone c.args.s.number h m _ c.in-Err-NoMemory.field-0-is r) (c.fetch.ensures.agrees h shown) c.args.terms.spoken (Fetching c.args.need) (Fetching c.args.need) left total) (q dead left total))
     c.in-Err-NoMemory.ensures.read (c.forgo_reading.ensures.forgoes word locks (Fetching c.args.need))
     (λ left total. c.forgo_reading.ensures.nearer _ _ _ left total refl)

@@ -1,10 +1,13 @@
 use Rattle.session_states.specs.declared.stage.Life.TheVariants.{Alive}
 use Rattle.std.proofs.Common.{refl, sym, subst}
+use Rattle.std.proofs.lemmas.Bool.{or_right}
 use Rattle.rdo_ast.specs.declared.reply.Reply.TheVariants as r
 use Rattle.rdo_ast.specs.Views.{uttered_of}
 use Rattle.lock_tree_laws.specs.declared.answer.Want.{Want}
 use Rattle.session_measure.proofs.Wanted.{wants-between, wants-in, nearer-got}
 use Rattle.stage_steps.specs.Asking.{IsReplyTo}
+use Rattle.stage_steps.specs.Nearer.{is_for_journal}
+use Rattle.stage_steps.specs.Turns.{at_stage}
 use Rattle.stage_steps.proofs.Called.{got-step, noticed-step, asleep-step, got-seat, noticed-seat, asleep-seat}
 use Rattle.stage_steps.proofs.Asked.{stands-within, wants-at_rest}
 use Rattle.stage_steps.proofs.Goes.{goes-still}
@@ -24,7 +27,7 @@ returns-in-NoticeTo g c =
 
 pub returns-in-Asleep : goal.returns-in-Asleep
 returns-in-Asleep g c =
-    rw c.at-in-Asleep.ensures (goes-still c.args.s.number _ Alive _ Alive _ _ _ refl (λ f. asleep-seat _ c.args.s.number c.args.need c.args.terms.waits c.args.common.now.tree c.call.new.tree c.in-Ok.called c.in-Ok.ensures.called c.args.terms.standing c.args.terms.known c.args.terms.spoken c.args.terms.waits c.args.stage c.requires.wants c.requires.beside c.in-Asleep.other c.in-Asleep.is f) c.in-Ok.ensures.called.call.others (λ left total. asleep-near c.args.s.number c.args.need c.args.terms.waits c.args.common.now.tree c.call.new.tree c.in-Ok.called c.in-Ok.ensures.called _ _ (wants-between c.args.stage c.args.need c.requires.wants) (wants-in c.args.stage c.args.need c.requires.wants) left total c.in-Asleep.other c.in-Asleep.is)
+    rw c.at-in-Asleep.ensures (goes-still c.args.s.number _ Alive _ Alive _ _ _ refl (λ f. asleep-seat _ c.args.s.number c.args.need c.args.terms.waits c.args.common.now.tree c.call.new.tree c.in-Ok.called c.in-Ok.ensures.called c.args.terms.standing c.args.terms.known c.args.terms.spoken c.args.terms.waits c.args.stage c.requires.wants c.requires.beside c.in-Asleep.other c.in-Asleep.is f) c.in-Ok.ensures.called.call.others (λ left total. asleep-near c.args.s.number c.args.need c.args.terms.waits c.args.common.now.tree c.call.new.tree c.in-Ok.called c.in-Ok.ensures.called _ (at_stage c.args.terms c.args.stage) (wants-between c.args.stage c.args.need c.requires.wants) (wants-in c.args.stage c.args.need c.requires.wants) left total c.in-Asleep.other c.in-Asleep.is (λ waits. or_right (is_for_journal c.args.stage) c.args.terms.waits waits))
     (λ h shown dead. asleep-step g.S.Statements.stands g.met.S.Statements.orderly c.args.s.number c.args.common.now.word h c.args.common.now.tree c.call.new.tree dead c.args.terms.standing c.args.terms.known c.args.stage c.args.need c.args.terms.waits c.in-Ok.called c.in-Ok.ensures.called c.requires.wants c.args.terms.spoken c.args.terms.waits c.in-Asleep.other c.in-Asleep.is))
 
 pub returns-in-Conflict : goal.returns-in-Conflict

@@ -2,7 +2,7 @@ use Rattle.std.proofs.Common.{◌≡◌, ℕ, false, map, subst}
 use Rattle.rdb_account.specs.Events.{event_of}
 use Rattle.line_store.specs.Seats.{outside}
 use Rattle.line_store.specs.Sights.{bare}
-use Rattle.line_cluster.specs.Sound.{IsLeft}
+use Rattle.line_cluster.specs.Sound.{HasImages, IsLeft}
 use Rattle.line_cluster.specs.Turned.{Sessions, HaveEnded}
 use Rattle.line_cluster.proofs.Coming.{none-from}
 use Rattle.line_cluster.proofs.Resting.{all-outside, left-behind}
@@ -12,6 +12,11 @@ pub returns-clause-left : goal.returns-clause-left
 returns-clause-left g c =
     subst (λ (v : Sessions). g.O.Origin.told → v.halted ≡ false → IsLeft g.S.Statements.stands g.O.Origin.opening (g.L.LineStore.sight c.self.inside.core.common.store) (map event_of v.events)) c.self.view_is
     (λ told going. left-behind g.S.Statements.stands g.O.Origin.opening _ _ _ _ _ (c.self.invariant.sound.kept (none-from c.self.inside.core.halt going) told))
+
+pub returns-clause-images : goal.returns-clause-images
+returns-clause-images g c =
+    subst (λ (v : Sessions). g.O.Origin.told → HasImages g.S.Statements.stands g.O.Origin.opening (g.L.LineStore.sight c.self.inside.core.common.store) (map event_of v.events)) c.self.view_is
+    c.self.invariant.sound.images
 
 pub returns-clause-outside : goal.returns-clause-outside
 returns-clause-outside g c =

@@ -3,6 +3,7 @@ use Rattle.rdb_account.specs.Events.{event_of}
 use Rattle.rdb_account.specs.Places.{place}
 use Rattle.line_store.specs.Seats.{Seat}
 use Rattle.session_stands.specs.Sessions.{AreSeated}
+use Rattle.line_cluster.specs.Measured.{IsBounded}
 use Rattle.line_cluster.specs.Turned.{Sessions, HasNothingLeft, HaveAllEnded, HaveEnded, IsAtEnd}
 use Rattle.line_cluster.proofs.Coming.{none-from}
 use Rattle.line_cluster.proofs.Resting.{all-whole, over-left-at}
@@ -22,3 +23,6 @@ pub returns-clause-over : goal.returns-clause-over
 returns-clause-over g c =
     subst (λ (v : Sessions). g.O.Origin.told → v.halted ≡ false → (s : ℕ) → 1 ≤ s → IsAtEnd s v → HasNothingLeft g.O.Origin.opening (place g.O.Origin.opening (map event_of v.events)) s) c.self.view_is
     (λ told going s first e. over-left-at g.S.Statements.stands g.O.Origin.opening _ _ _ _ _ s e.member (c.self.invariant.sound.kept (none-from c.self.inside.core.halt going) told) first e.found e.over)
+
+pub returns-clause-bounds : goal.returns-clause-bounds
+returns-clause-bounds g c = subst (λ (v : Sessions). IsBounded v.measure) c.self.view_is c.count.ensures

@@ -1,19 +1,25 @@
-use Rattle.std.proofs.Common.{◌-◌, ◌∙◌, sym, ap, refl, slice_get, List, inl, inr, false}
+use Rattle.std.proofs.Common.{◌≡◌, ◌-◌, ◌∙◌, ◌++◌, ◌∷◌, [], sym, ap, refl, map, slice_get, List, Some, inl, inr, false}
+use Rattle.std.proofs.lemmas.Bool.{false≢true}
+use Rattle.rdb_account.specs.Events.{Died, event_of}
 use Rattle.session_states.specs.declared.stage.Member.{Member}
-use Rattle.line_cluster.proofs.Coming.{death-from, looked}
+use Rattle.line_cluster.proofs.Coming.{has-died, looked}
+use Rattle.line_cluster.proofs.Stepping.{work-alive}
 use Rattle.line_cluster.proofs.sessions.Core.die.Goals as goal
 
 pub returns-then-is_some-clause-came : goal.returns-then-is_some-clause-came
-returns-then-is_some-clause-came g c = inr (inl (record { halted = sym c.is_some.ensures ∙ c.if-is_some.true; members = refl; events = refl }))
+returns-then-is_some-clause-came g c = inr (inl (record { halted = sym c.is_some.ensures ∙ c.if-is_some.true; members = refl; events = refl; rests = λ stopped. refl }))
 
 pub returns-then-is_over-clause-came : goal.returns-then-is_over-clause-came
 returns-then-is_over-clause-came g c = inl (refl, record { member = c.member_at.result.now; found = (ap (λ (ms : List Member). slice_get ms (c.args.s.number - 1)) (sym c.deref.ensures.value) ∙ c.member_at.ensures); over = sym c.is_over.ensures ∙ c.if-is_over.true })
 
 pub returns-then-is_err-clause-came : goal.returns-then-is_err-clause-came
-returns-then-is_err-clause-came g c = inr (inl (record { halted = c.stop-turn.ensures.halted; members = c.stop-turn.ensures.members; events = c.stop-turn.ensures.events ∙ c.reserve_step.ensures.same }))
+returns-then-is_err-clause-came g c = inr (inl (record { halted = c.stop-turn.ensures.halted; members = c.stop-turn.ensures.members; events = c.stop-turn.ensures.events ∙ c.reserve_step.ensures.same; rests = λ stopped. absurd (false≢true (sym (sym c.is_some.ensures ∙ c.if-is_some.false) ∙ stopped)) }))
 
-pub fall-requires-clause-unfinished : goal.fall-requires-clause-unfinished
-fall-requires-clause-unfinished g c = λ m found. looked c.args.self.now.members.items (c.args.s.number - 1) c.member_at.result.now m false (ap (λ (ms : List Member). slice_get ms (c.args.s.number - 1)) (sym c.deref.ensures.value) ∙ c.member_at.ensures) (sym c.is_over.ensures ∙ c.if-is_over.false) found
+pub fall-requires-clause-lives : goal.fall-requires-clause-lives
+fall-requires-clause-lives g c = λ m found. work-alive m (looked c.args.self.now.members.items (c.args.s.number - 1) c.member_at.result.now m false (ap (λ (ms : List Member). slice_get ms (c.args.s.number - 1)) (sym c.deref.ensures.value) ∙ c.member_at.ensures) (sym c.is_over.ensures ∙ c.if-is_over.false) found)
 
 pub returns-clause-came : goal.returns-clause-came
-returns-clause-came g c = inr (inr (death-from c.args.s.number c.args.cause _ _ _ refl c.reserve_step.ensures.same refl c.fall.ensures.came))
+returns-clause-came g c =
+    let found : slice_get c.args.self.now.members.items (c.args.s.number - 1) ≡ Some c.member_at.result.now = ap (λ (ms : List Member). slice_get ms (c.args.s.number - 1)) (sym c.deref.ensures.value) ∙ c.member_at.ensures in
+    inr (inr (has-died c.args.s.number (c.args.s.number - 1) c.args.cause _ _ c.member_at.result.now (sym c.is_some.ensures ∙ c.if-is_some.false) refl found (sym c.is_over.ensures ∙ c.if-is_over.false) (c.fall.ensures.died c.member_at.result.now found)
+    (c.fall.ensures.events ∙ ap (λ es. map event_of es ++ Died c.args.s.number c.args.cause ∷ []) c.reserve_step.ensures.same)))

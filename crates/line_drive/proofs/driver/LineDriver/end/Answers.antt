@@ -3,17 +3,21 @@ use Rattle.rdb_account.specs.Events.{event_of}
 use Rattle.rdb_drive.specs.Boards.{AllEnded}
 use Rattle.line_store.specs.Seats.{outside}
 use Rattle.line_store.specs.Sights.{bare}
-use Rattle.line_cluster.specs.Sound.{IsLeft}
-use Rattle.line_drive.specs.Boards.{Driven, board_of}
+use Rattle.line_cluster.specs.Sound.{HasImages, IsLeft}
+use Rattle.line_cluster.specs.Turned.{Sessions}
+use Rattle.line_drive.specs.Boards.{board_of}
 use Rattle.line_drive.proofs.Dying.{all-ended}
-use Rattle.line_drive.proofs.Turning.{driven}
 use Rattle.line_drive.proofs.driver.LineDriver.end.Goals as goal
 
 pub returns-clause-left : goal.returns-clause-left
 returns-clause-left g c =
-    subst (λ (v : Driven). g.O.Origin.told → v.sessions.halted ≡ false → IsLeft g.S.Statements.stands g.O.Origin.opening (g.L.LineStore.sight c.end.result.store) (map event_of v.sessions.events)) c.self.view_is c.end.ensures.left
+    subst (λ (v : Sessions). g.O.Origin.told → v.halted ≡ false → IsLeft g.S.Statements.stands g.O.Origin.opening (g.L.LineStore.sight c.end.result.store) (map event_of v.events)) c.self.view_is c.end.ensures.left
+
+pub returns-clause-images : goal.returns-clause-images
+returns-clause-images g c =
+    subst (λ (v : Sessions). g.O.Origin.told → HasImages g.S.Statements.stands g.O.Origin.opening (g.L.LineStore.sight c.end.result.store) (map event_of v.events)) c.self.view_is c.end.ensures.images
 
 pub returns-clause-outside : goal.returns-clause-outside
 returns-clause-outside g c =
-    subst (λ (v : Driven). v.sessions.halted ≡ false → AllEnded g.O.Origin.sessions (board_of g.O.Origin.told g.O.Origin.opening v) → (s : ℕ) → bare ((g.L.LineStore.sight c.end.result.store).stand s) ≡ outside) c.self.view_is
-    (λ going ended. c.end.ensures.outside going (all-ended g.O.Origin.told g.O.Origin.opening (driven c.self.inside.cluster c.self.inside.turns) g.O.Origin.sessions c.facts.ensures.count ended))
+    subst (λ (v : Sessions). v.halted ≡ false → AllEnded g.O.Origin.sessions (board_of g.O.Origin.told g.O.Origin.opening v) → (s : ℕ) → bare ((g.L.LineStore.sight c.end.result.store).stand s) ≡ outside) c.self.view_is
+    (λ going ended. c.end.ensures.outside going (all-ended g.O.Origin.told g.O.Origin.opening c.self.inside.cluster g.O.Origin.sessions c.facts.ensures.count ended))

@@ -1,21 +1,18 @@
-use Rattle.std.proofs.Common.{◌≡◌, ◌-◌, ◌<◌, ℕ, false, true, subst, sym, ◌∙◌, arith, length, drop, List}
+use Rattle.std.proofs.Common.{◌≡◌, ◌<◌, ℕ, false, true, subst, sym, ◌∙◌, arith, length, drop, List}
 use Rattle.rdb_account.specs.declared.event.Event.{Event as Declared}
 use Rattle.rdb_drive.specs.Boards.{answers}
 use Rattle.rdb_drive.specs.Steps.{StepOf}
 use Rattle.rdb_drive.specs.declared.driven.Step.TheVariants as step
-use Rattle.line_drive.specs.Boards.{Driven, board_of, is_stopped, marks_of}
+use Rattle.line_cluster.specs.Turned.{Sessions}
+use Rattle.line_drive.specs.Boards.{board_of, marks_of}
 use Rattle.line_drive.proofs.Counting.{count-fits, driven-on}
-use Rattle.line_drive.proofs.Dying.{goes-on}
-use Rattle.line_drive.proofs.Turning.{at-end, driven, froze, moved, slept, spent, stopped}
+use Rattle.line_drive.proofs.Turning.{at-end, fell, froze, moved, slept, spent, stopped}
 use Rattle.line_drive.proofs.driver.LineDriver.turn.Goals as goal
 
-one-less : (n : ℕ) → 0 < n → n - 1 < n
-one-less n h = omega arith
-
-pub returns-then-stops : goal.returns-then-stops
-returns-then-stops g c = record {
-  step = subst (λ (v : Driven). StepOf {P = Unit {0}} g.O.Origin.sessions c.args.s.number (board_of g.O.Origin.told g.O.Origin.opening v) (board_of g.O.Origin.told g.O.Origin.opening v) step.Stopped) c.self.view_is
-      (spent g.O.Origin.told g.O.Origin.opening g.O.Origin.sessions c.args.s.number (driven c.self.inside.cluster c.self.inside.turns) (subst (λ (v : Driven). is_stopped v ≡ true) (sym c.self.view_is) (sym c.is_stopped-stops.ensures ∙ c.if-stops.true)) c.facts.ensures.count c.facts.ensures.seated c.facts.ensures.locks);
+pub returns-then-is_halted : goal.returns-then-is_halted
+returns-then-is_halted g c = record {
+  step = subst (λ (v : Sessions). StepOf {P = Unit {0}} g.O.Origin.sessions c.args.s.number (board_of g.O.Origin.told g.O.Origin.opening v) (board_of g.O.Origin.told g.O.Origin.opening v) step.Stopped) c.self.view_is
+      (spent g.O.Origin.told g.O.Origin.opening g.O.Origin.sessions c.args.s.number c.self.inside.cluster (sym c.is_halted.ensures ∙ c.if-is_halted.true) c.facts.ensures.count c.facts.ensures.seated c.facts.ensures.locks);
 }
 
 -- the answers behind those before
@@ -24,6 +21,11 @@ since old new before now n e f h = subst (λ (es : List Declared). n ≡ answers
 
 pub invariant_of-self : goal.invariant_of-self
 invariant_of-self g c =
+    driven-on g.O.Origin.sessions c.args.s.number c.self.inside.answers c.self.inside.cluster c.turn-turn.new.self c.turn-turn.result c.answers_behind.result c.requires.session c.self.invariant c.turn-turn.ensures.came
+    (since c.self.inside.cluster.events c.turn-turn.new.self.events c.events-before.result.now c.events.result.now c.answers_behind.result c.events-before.ensures c.events.ensures c.answers_behind.ensures)
+
+pub invariant_of-self-in-Died : goal.invariant_of-self-in-Died
+invariant_of-self-in-Died g c =
     driven-on g.O.Origin.sessions c.args.s.number c.self.inside.answers c.self.inside.cluster c.turn-turn.new.self c.turn-turn.result c.answers_behind.result c.requires.session c.self.invariant c.turn-turn.ensures.came
     (since c.self.inside.cluster.events c.turn-turn.new.self.events c.events-before.result.now c.events.result.now c.answers_behind.result c.events-before.ensures c.events.ensures c.answers_behind.ensures)
 
@@ -56,35 +58,36 @@ overflow_add-self g c =
 
 pub returns-in-Moved : goal.returns-in-Moved
 returns-in-Moved g c = record {
-  step = subst (λ (v : Driven). StepOf {P = Unit {0}} g.O.Origin.sessions c.args.s.number (board_of g.O.Origin.told g.O.Origin.opening v) (board_of g.O.Origin.told g.O.Origin.opening (driven c.turn-turn.new.self (c.self.inside.turns - 1))) step.Moved) c.self.view_is
-      (moved g.O.Origin.told g.O.Origin.opening g.O.Origin.sessions c.args.s.number c.self.inside.cluster c.turn-turn.new.self c.requires.session (goes-on (driven c.self.inside.cluster c.self.inside.turns) (subst (λ (v : Driven). is_stopped v ≡ false) (sym c.self.view_is) (sym c.is_stopped-stops.ensures ∙ c.if-stops.false))).going c.self.invariant.few c.facts-2.ensures.count c.facts-2.ensures.seated c.facts-2.ensures.locks
-      c.self.inside.turns (c.self.inside.turns - 1) (one-less c.self.inside.turns (goes-on (driven c.self.inside.cluster c.self.inside.turns) (subst (λ (v : Driven). is_stopped v ≡ false) (sym c.self.view_is) (sym c.is_stopped-stops.ensures ∙ c.if-stops.false))).some) c.in-Moved.ensures.came);
+  step = subst (λ (v : Sessions). StepOf {P = Unit {0}} g.O.Origin.sessions c.args.s.number (board_of g.O.Origin.told g.O.Origin.opening v) (board_of g.O.Origin.told g.O.Origin.opening c.turn-turn.new.self) step.Moved) c.self.view_is
+      (moved g.O.Origin.told g.O.Origin.opening g.O.Origin.sessions c.args.s.number c.self.inside.cluster c.turn-turn.new.self c.requires.session (sym c.is_halted.ensures ∙ c.if-is_halted.false) c.facts.ensures.bounds c.facts-2.ensures.bounds c.facts-2.ensures.count c.facts-2.ensures.seated c.facts-2.ensures.locks c.in-Moved.ensures.came (c.turn-turn.ensures.nearer c.in-Moved.is));
+}
+
+pub returns-in-Died : goal.returns-in-Died
+returns-in-Died g c = record {
+  step = subst (λ (v : Sessions). StepOf {P = Unit {0}} g.O.Origin.sessions c.args.s.number (board_of g.O.Origin.told g.O.Origin.opening v) (board_of g.O.Origin.told g.O.Origin.opening c.turn-turn.new.self) step.Moved) c.self.view_is
+      (fell g.O.Origin.told g.O.Origin.opening g.O.Origin.sessions c.args.s.number c.self.inside.cluster c.turn-turn.new.self c.requires.session (sym c.is_halted.ensures ∙ c.if-is_halted.false) c.facts.ensures.bounds c.facts-2.ensures.bounds c.facts-2.ensures.count c.facts-2.ensures.seated c.facts-2.ensures.locks c.in-Died.ensures.came);
 }
 
 pub returns-in-Stopped : goal.returns-in-Stopped
 returns-in-Stopped g c = record {
-  step = subst (λ (v : Driven). StepOf {P = Unit {0}} g.O.Origin.sessions c.args.s.number (board_of g.O.Origin.told g.O.Origin.opening v) (board_of g.O.Origin.told g.O.Origin.opening (driven c.turn-turn.new.self c.self.inside.turns)) step.Stopped) c.self.view_is
-      (stopped g.O.Origin.told g.O.Origin.opening g.O.Origin.sessions c.args.s.number c.self.inside.cluster c.turn-turn.new.self c.requires.session (goes-on (driven c.self.inside.cluster c.self.inside.turns) (subst (λ (v : Driven). is_stopped v ≡ false) (sym c.self.view_is) (sym c.is_stopped-stops.ensures ∙ c.if-stops.false))).going c.self.invariant.few c.facts-2.ensures.count c.facts-2.ensures.seated c.facts-2.ensures.locks
-      c.self.inside.turns c.in-Stopped.ensures.came);
+  step = subst (λ (v : Sessions). StepOf {P = Unit {0}} g.O.Origin.sessions c.args.s.number (board_of g.O.Origin.told g.O.Origin.opening v) (board_of g.O.Origin.told g.O.Origin.opening c.turn-turn.new.self) step.Stopped) c.self.view_is
+      (stopped g.O.Origin.told g.O.Origin.opening g.O.Origin.sessions c.args.s.number c.self.inside.cluster c.turn-turn.new.self c.requires.session (sym c.is_halted.ensures ∙ c.if-is_halted.false) c.facts.ensures.bounds c.facts-2.ensures.bounds c.facts-2.ensures.count c.facts-2.ensures.seated c.facts-2.ensures.locks c.in-Stopped.ensures.came);
 }
 
 pub returns-in-Frozen : goal.returns-in-Frozen
 returns-in-Frozen g c = record {
-  step = subst (λ (v : Driven). StepOf {P = Unit {0}} g.O.Origin.sessions c.args.s.number (board_of g.O.Origin.told g.O.Origin.opening v) (board_of g.O.Origin.told g.O.Origin.opening (driven c.turn-turn.new.self c.self.inside.turns)) step.Frozen) c.self.view_is
-      (froze g.O.Origin.told g.O.Origin.opening g.O.Origin.sessions c.args.s.number c.self.inside.cluster c.turn-turn.new.self c.requires.session (goes-on (driven c.self.inside.cluster c.self.inside.turns) (subst (λ (v : Driven). is_stopped v ≡ false) (sym c.self.view_is) (sym c.is_stopped-stops.ensures ∙ c.if-stops.false))).going c.self.invariant.few c.facts-2.ensures.count c.facts-2.ensures.seated c.facts-2.ensures.locks
-      c.self.inside.turns c.in-Frozen.ensures.came);
+  step = subst (λ (v : Sessions). StepOf {P = Unit {0}} g.O.Origin.sessions c.args.s.number (board_of g.O.Origin.told g.O.Origin.opening v) (board_of g.O.Origin.told g.O.Origin.opening c.turn-turn.new.self) step.Frozen) c.self.view_is
+      (froze g.O.Origin.told g.O.Origin.opening g.O.Origin.sessions c.args.s.number c.self.inside.cluster c.turn-turn.new.self c.requires.session (sym c.is_halted.ensures ∙ c.if-is_halted.false) c.facts.ensures.bounds c.facts-2.ensures.bounds c.facts-2.ensures.count c.facts-2.ensures.seated c.facts-2.ensures.locks c.in-Frozen.ensures.came);
 }
 
 pub returns-in-Ended : goal.returns-in-Ended
 returns-in-Ended g c = record {
-  step = subst (λ (v : Driven). StepOf {P = Unit {0}} g.O.Origin.sessions c.args.s.number (board_of g.O.Origin.told g.O.Origin.opening v) (board_of g.O.Origin.told g.O.Origin.opening (driven c.turn-turn.new.self c.self.inside.turns)) step.Ended) c.self.view_is
-      (at-end g.O.Origin.told g.O.Origin.opening g.O.Origin.sessions c.args.s.number c.self.inside.cluster c.turn-turn.new.self c.requires.session (goes-on (driven c.self.inside.cluster c.self.inside.turns) (subst (λ (v : Driven). is_stopped v ≡ false) (sym c.self.view_is) (sym c.is_stopped-stops.ensures ∙ c.if-stops.false))).going c.self.invariant.few c.facts-2.ensures.count c.facts-2.ensures.seated c.facts-2.ensures.locks
-      c.self.inside.turns c.in-Ended.ensures.came (λ told going e. c.facts-2.ensures.over told going c.args.s.number c.requires.session.0 e));
+  step = subst (λ (v : Sessions). StepOf {P = Unit {0}} g.O.Origin.sessions c.args.s.number (board_of g.O.Origin.told g.O.Origin.opening v) (board_of g.O.Origin.told g.O.Origin.opening c.turn-turn.new.self) step.Ended) c.self.view_is
+      (at-end g.O.Origin.told g.O.Origin.opening g.O.Origin.sessions c.args.s.number c.self.inside.cluster c.turn-turn.new.self c.requires.session (sym c.is_halted.ensures ∙ c.if-is_halted.false) c.facts.ensures.bounds c.facts-2.ensures.bounds c.facts-2.ensures.count c.facts-2.ensures.seated c.facts-2.ensures.locks c.in-Ended.ensures.came (λ told going e. c.facts-2.ensures.over told going c.args.s.number c.requires.session.0 e));
 }
 
 pub returns-in-Asleep : goal.returns-in-Asleep
 returns-in-Asleep g c = record {
-  step = subst (λ (v : Driven). StepOf {P = Unit {0}} g.O.Origin.sessions c.args.s.number (board_of g.O.Origin.told g.O.Origin.opening v) (board_of g.O.Origin.told g.O.Origin.opening (driven c.turn-turn.new.self c.self.inside.turns)) step.Asleep) c.self.view_is
-      (slept g.O.Origin.told g.O.Origin.opening g.O.Origin.sessions c.args.s.number c.self.inside.cluster c.turn-turn.new.self c.requires.session (goes-on (driven c.self.inside.cluster c.self.inside.turns) (subst (λ (v : Driven). is_stopped v ≡ false) (sym c.self.view_is) (sym c.is_stopped-stops.ensures ∙ c.if-stops.false))).going c.self.invariant.few c.facts-2.ensures.count c.facts-2.ensures.seated c.facts-2.ensures.locks
-      c.self.inside.turns c.in-Asleep.field-0 (goes-on (driven c.self.inside.cluster c.self.inside.turns) (subst (λ (v : Driven). is_stopped v ≡ false) (sym c.self.view_is) (sym c.is_stopped-stops.ensures ∙ c.if-stops.false))).some c.in-Asleep.ensures.came c.in-Asleep.ensures.rests);
+  step = subst (λ (v : Sessions). StepOf {P = Unit {0}} g.O.Origin.sessions c.args.s.number (board_of g.O.Origin.told g.O.Origin.opening v) (board_of g.O.Origin.told g.O.Origin.opening c.turn-turn.new.self) step.Asleep) c.self.view_is
+      (slept g.O.Origin.told g.O.Origin.opening g.O.Origin.sessions c.args.s.number c.self.inside.cluster c.turn-turn.new.self c.requires.session (sym c.is_halted.ensures ∙ c.if-is_halted.false) c.facts.ensures.bounds c.facts-2.ensures.bounds c.facts-2.ensures.count c.facts-2.ensures.seated c.facts-2.ensures.locks c.in-Asleep.field-0 c.in-Asleep.ensures.came c.in-Asleep.ensures.rests);
 }
