@@ -85,13 +85,6 @@ mortals death gate o word scripts n h dies s c = elim (Contains-append_cases (se
 pub may-fail : (death : Option Death) (o : Opening) (word : List ℕ) (scripts : List (List Item)) → MayFail o → MayFail (said_to (letting death o) word scripts)
 may-fail death o word scripts h s = more-may (o.may_die s Device) (is_let_die death s Device) (h s)
 
--- ---- who may die of such a gate
-
-pub dies-named : (death : Option Death) (d : Death) (gate : List ℕ) (s : ℕ) → death ≡ Some d → d.session ≡ s → Contains (sessions_dying death ++ gate) s
-dies-named None d gate s is same = cc
-dies-named (Some e) d gate s is same =
-    let here : e.session ≡ s = cc in
-    Contains-append_left (e.session ∷ []) gate s (subst (λ (y : ℕ). Contains (e.session ∷ []) y) here (Contains-push [] e.session))
-
+-- Who may die of a gate may die of it beside whom the words name.
 pub dies-besides : (death : Option Death) (gate : List ℕ) (s : ℕ) → Contains gate s → Contains (sessions_dying death ++ gate) s
 dies-besides death gate s held = Contains-append_right (sessions_dying death) gate s held
