@@ -5,7 +5,8 @@ ghost use Rattle.line_store.specs.Seats.{outside};
 ghost use Rattle.line_store.specs.Shelves.{Shelf};
 ghost use Rattle.store_shows.specs.Shows.{Leaves};
 ghost use Rattle.disk_store.specs.Seats.{stand_at, steps_at};
-ghost use Rattle.disk_store.specs.Shown.{Shown};
+ghost use Rattle.disk_store.specs.Memory.{StoreMemory};
+ghost use Rattle.disk_store.specs.Shown.{Shown, sight_of};
 
 use crate::stepping::step;
 use area_files::AreaFull;
@@ -45,8 +46,10 @@ impl<D: Disk + Drop> DiskStore<D> {
         &self.disk
     }
 
-    /// The store ends, and its disk is free.
-    pub fn into_disk(self) -> D {
+    /// The store ends, and its disk is free. What the store showed, it showed of this disk.
+    pub fn into_disk(self) -> D
+        ensures shown { (held : StoreMemory) × (⟦<DiskStore<D> as LineStore>⟧.sight self ≡ sight_of (D.view result) held) }
+    {
         self.disk
     }
 }
