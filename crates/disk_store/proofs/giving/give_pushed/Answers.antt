@@ -10,5 +10,5 @@ returns-then-is_wanted c = inl (refl, c.is_wanted.ensures.yes c.if-is_wanted.tru
 pub returns : goal.returns
 returns c = inr (record {
   unwanted = c.is_wanted.ensures.no c.if-is_wanted.false;
-  back = each-file (λ f. GivesBack (table_of c.args.slots.now f) (table_of c.give_pushed.new.slots f) c.args.tsn.number) c.give_pushed.ensures.catalog c.give_pushed.ensures.relations c.give_pushed.ensures.indexes;
+  back = each-file (λ f. GivesBack (table_of c.args.slots.now f) (table_of c.give_pushed.new.self f) c.args.tsn.number) c.give_pushed.ensures.catalog c.give_pushed.ensures.relations c.give_pushed.ensures.indexes;
 })

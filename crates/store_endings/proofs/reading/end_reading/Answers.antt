@@ -1,5 +1,3 @@
-use Rattle.disk_store.specs.Seats.{IsAtStage}
-use Rattle.disk_store.specs.declared.member.MemberStage.TheVariants as stage
 use Rattle.line_store.specs.Seats.{outside}
 use Rattle.disk_store.specs.Shown.{sight_of}
 use Rattle.store_endings.proofs.SlotsGiven.{all-wanted, does-sift, stands-outside}

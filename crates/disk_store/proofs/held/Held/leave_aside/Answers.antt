@@ -1,10 +1,10 @@
-use Rattle.std.proofs.Common.{◌≡◌, ◌≤◌, Some, refl, sym, ap, subst, ◌∙◌, arith}
+use Rattle.std.proofs.Common.{◌≡◌, Some, refl, sym, ap, subst, ◌∙◌, arith}
 use Rattle.std.specs.Prelude.{slice_get}
 use Rattle.std.proofs.lemmas.Option.{same_Some}
 use Rattle.version_writing.specs.declared.snapshot_slots.SnapshotSlots.{SnapshotSlots}
 use Rattle.disk_store.specs.declared.member.Member.{Member}
 use Rattle.disk_store.specs.declared.member.MemberStage.TheVariants as stage
-use Rattle.disk_store.specs.ChangeSteps.{no_slots, without_asides}
+use Rattle.disk_store.specs.ChangeSteps.{without_asides}
 use Rattle.disk_store.specs.Commits.{is_free}
 use Rattle.disk_store.specs.Giving.{without_slots}
 use Rattle.disk_store.specs.Memory.{StoreMemory, with_member}
