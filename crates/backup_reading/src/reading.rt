@@ -38,11 +38,7 @@ pub fn backup_file(number: u32) -> FileId
 }
 
 /// The line in a slot of a backup, which has to say the slot's number.
-pub fn read_backup_line<D: Disk>(
-    disk: &mut D,
-    number: u32,
-    slot: u32,
-) -> Result<BackupLine, Fault>
+pub fn read_backup_line<D: Disk>(disk: &mut D, number: u32, slot: u32) -> Result<BackupLine, Fault>
     ensures reads { OnlyReads (D.view disk.old) (D.view disk.new) }
     ensures failed { IsErrOf result Fault.Failed
         → Rose (D.view disk.old).faults (D.view disk.new).faults }

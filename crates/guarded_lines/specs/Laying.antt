@@ -19,14 +19,14 @@ abbrev pub IsArea : FileId → Type 0
 IsArea file = file.kind ≡ Area
 
 -- a page of this logical area, with lines of this class
-pub record IsOfArea (area class : ℕ) (page : List ℕ) : Type 0 where
+pub record IsOfArea (area size : ℕ) (page : List ℕ) : Type 0 where
   pub owner : owner_at page ≡ area
-  pub class : class_at page ≡ class
+  pub class : class_at page ≡ size
 
 -- a page of the class has such a line, and the page was never used, or is one of the line's area and class
-pub record HasRoom (key : Dbkey) (class : ℕ) (page : List ℕ) : Type 0 where
+pub record HasRoom (key : Dbkey) (class : ℕ) (bytes : List ℕ) : Type 0 where
   pub line : key.line < lines_of class
-  pub page : IsUnused page ⊎ IsOfArea key.area class page
+  pub page : IsUnused bytes ⊎ IsOfArea key.area class bytes
 
 -- the page of the line in the image
 abbrev pub page_of : Image → Dbkey → List ℕ

@@ -76,10 +76,10 @@ module _ (former : Image) (number : ℕ) (classes : ℕ → ℕ) (head : BackupH
 
   its_journal : IsJournalOf image journal
   its_journal = record {
-    header = subst (λ (b : List ℕ). IsHeader b journal.first) (sym (journal_is 0)) source.journal.header;
-    whole = source.journal.whole;
-    stand = λ i what got. ap what_stands (journal_is (i + 1)) ∙ source.journal.stand i what got;
-    no_more = λ g whole stands. source.journal.no_more g whole (λ i what got. ap what_stands (sym (journal_is _)) ∙ stands i what got);
+    header = subst (λ (b : List ℕ). IsHeader b journal.first) (sym (journal_is 0)) source.has_journal.header;
+    whole = source.has_journal.whole;
+    stand = λ i what got. ap what_stands (journal_is (i + 1)) ∙ source.has_journal.stand i what got;
+    no_more = λ g whole stands. source.has_journal.no_more g whole (λ i what got. ap what_stands (sym (journal_is _)) ∙ stands i what got);
   }
 
   commits : HasNoCommit image (next_number journal)

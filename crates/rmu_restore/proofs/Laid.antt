@@ -29,7 +29,6 @@ use Rattle.rmu_restore.proofs.Finding.{not_tied, none_found, found_here, found_o
 same_page : (a b : ℕ) → 1 ≤ a → 1 ≤ b → a - 1 ≡ b - 1 → a ≡ b
 same_page a b la lb e = omega (arith, la, lb, e)
 
-
 -- where a line of a backup lies
 pub names_in : (pages : ℕ) (line : BackupLine) (has : HasPage pages line) → IsPlaceOf line.key (record { file = has.area.0; page = line.key.page })
 names_in pages line has = record { owner = has.area.1; page = refl; is_data = has.page }

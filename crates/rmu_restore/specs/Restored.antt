@@ -22,7 +22,7 @@ HaveUpTo greatest groups = (i : ℕ) (g : Group) → slice_get groups i ≡ Some
 pub record IsSource (image : Image) (number : ℕ) (classes : ℕ → ℕ) (head : BackupHead) (lines : List BackupLine) (journal : Journal) : Type 0 where
   pub backup : IsBackupOf image number head lines
   pub class : (i : ℕ) (line : BackupLine) → slice_get lines i ≡ Some line → line.class ≡ classes line.key.area
-  pub journal : IsJournalOf image journal
+  pub has_journal : IsJournalOf image journal
   pub commits : HasNoCommit image (next_number journal)
 
 -- The root says that the database was restored from a backup with this header, and hasn't lost the numbers that were drawn.

@@ -24,7 +24,7 @@ pub returns-in_err-greatest-clause-bad : goal.returns-in_err-greatest-clause-bad
 returns-in_err-greatest-clause-bad g c = let v = g.D.Disk.view in let old = v c.args.disk.now in let mid = v c.old_ceiling.new.disk in
     let reads = then_reads old (v c.read_backup.new.disk) mid c.read_backup.ensures.reads c.old_ceiling.ensures.reads in
     λ file slot is t classes head lines journal source.
-    c.greatest_of_groups.ensures.bad file slot (search rules) (still_tells old mid reads.told t) journal (subst (λ (m : Image). IsJournalOf m journal) (sym (image_same old mid reads t)) source.journal)
+    c.greatest_of_groups.ensures.bad file slot (search rules) (still_tells old mid reads.told t) journal (subst (λ (m : Image). IsJournalOf m journal) (sym (image_same old mid reads t)) source.has_journal)
 
 pub returns-clause-reads : goal.returns-clause-reads
 returns-clause-reads g c = let v = g.D.Disk.view in let old = v c.args.disk.now in let mid = v c.old_ceiling.new.disk in
@@ -38,5 +38,5 @@ returns-clause-planned g c = let v = g.D.Disk.view in let old = v c.args.disk.no
     let plan : Plan = record { root = c.root_of.result; lines = c.in_ok-backup.backup.head.lines } in
     is_planned old.content c.args.number classes head lines journal c.in_ok-backup.backup plan c.in_ok-old.old c.in_ok-greatest.greatest source (c.in_ok-backup.ensures.found t)
     (λ root is. c.in_ok-old.ensures.ceiling (still_tells old one c.read_backup.ensures.reads.told t) root (subst (λ (m : Image). IsRoot (m root_file 0) root) (sym (image_same old one c.read_backup.ensures.reads t)) is))
-    (c.in_ok-greatest.ensures.greatest (still_tells old mid reads.told t) journal (subst (λ (m : Image). IsJournalOf m journal) (sym (image_same old mid reads t)) source.journal))
+    (c.in_ok-greatest.ensures.greatest (still_tells old mid reads.told t) journal (subst (λ (m : Image). IsJournalOf m journal) (sym (image_same old mid reads t)) source.has_journal))
     c.root_of.ensures.state c.root_of.ensures.limits c.root_of.ensures.applied refl (record { drawn = omega (arith, first, ceiling); backup_is = omega (arith, second, inner, ceiling); groups_are = omega (arith, second, last, ceiling) })
