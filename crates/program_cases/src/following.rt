@@ -130,9 +130,10 @@ pub fn tell_deaths<R: Print + AllocGlobal + Threads + Wait + Sync>(
     head: &[u8],
     line: &str,
 ) -> Result<(), NoMemory> {
-    let mut last = Vec::new(rt.alloc());
+    let alloc = rt.alloc();
+    let mut last = Vec::new(alloc);
     for step in 1..MOST_STEPS {
-        let run = format!(in rt.alloc(); "RDO --DIE=1:{step} {line}")?;
+        let run = format!(in alloc; "RDO --DIE=1:{step} {line}")?;
         let disk = behind_head(rt, head)?;
         let outcome = run_over(rt, run.as_str(), disk)?;
         if outcome.status != 8 {

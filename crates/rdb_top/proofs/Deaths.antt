@@ -84,3 +84,7 @@ mortals death gate o word scripts n h dies s c = elim (Contains-append_cases (se
 
 pub may-fail : (death : Option Death) (o : Opening) (word : List ℕ) (scripts : List (List Item)) → MayFail o → MayFail (said_to (letting death o) word scripts)
 may-fail death o word scripts h s = more-may (o.may_die s Device) (is_let_die death s Device) (h s)
+
+-- Who may die of a gate may die of it beside whom the words name.
+pub dies-besides : (death : Option Death) (gate : List ℕ) (s : ℕ) → Contains gate s → Contains (sessions_dying death ++ gate) s
+dies-besides death gate s held = Contains-append_right (sessions_dying death) gate s held
