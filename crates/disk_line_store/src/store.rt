@@ -12,13 +12,14 @@ use crate::stepping::step;
 use area_files::AreaFull;
 use commit_steps::is_at_barrier;
 use disk_store::{
-    Held, begin, begin_reading, change, commit, die, end_reading, give_back, learn_area,
-    learn_line, prepare, roll_back, room, steps_are_few, take_room,
+    Held, begin, begin_reading, change, commit, give_back, learn_area, learn_line, prepare, room,
+    steps_are_few, take_room,
 };
 use line_store::{ChangeStop, CommitStop, Fault, LineStore, Progress, ReadStop, Stepped};
 use line_view::{Known, Write};
 use rdb_outside::Disk;
 use rdb_types::{Dbkey, Moment, NoMemory, Session};
+use store_endings::{die, end_reading, roll_back};
 
 /// A store of lines on a disk: the disk, and what is kept in memory beside it. What is left to do for a session is a number that a loop can count to.
 #[derive(Drop)]

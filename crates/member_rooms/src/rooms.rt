@@ -1,5 +1,5 @@
 // What is found in the table beside a transaction's lines.
-ghost use Rattle.std.specs.Prelude.{◌≡◌, ◌≤◌, ℕ, List, None, Some, true, false, IfSome, IfNone};
+ghost use Rattle.std.specs.Prelude.{◌≡◌, ◌<◌, ◌≤◌, ◌-◌, ◌^◌, ℕ, List, None, Some, true, false, IfSome, IfNone};
 ghost use Rattle.line_store.specs.Rooms.{first_line};
 ghost use Rattle.line_versions.specs.Lines.{shown};
 ghost use Rattle.page_table.specs.declared.uses.Sought.TheVariants.{Free};

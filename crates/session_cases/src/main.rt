@@ -1,0 +1,160 @@
+//! Cases of sessions over a store of lines in memory, or on a disk in memory, with statements worked over lines. README.md has the words of their lines; each line is echoed.
+#![tactic(auto)]
+
+mod stores;
+
+ghost use Rattle.std.specs.Prelude.{◌<◌, ◌^◌, All, IfOk, length};
+
+use rdb_types::{Bytes, Limits, NoMemory, Session};
+use session_desk::{Drive, FIRST, SESSIONS, items_of, session_of};
+use session_states::ItemQueue;
+use std::alloc::Global;
+use std::process::ExitCode;
+use stores::{DiskPlan, run_in_memory, run_on_disk};
+
+const BASE: &str = "START_TRANSACTION READ_WRITE
+DEFINE RELATION T.
+ K DATATYPE IS SIGNED LONGWORD.
+ V DATATYPE IS SIGNED QUADWORD.
+END T RELATION.
+DEFINE INDEX TK FOR T DUPLICATES ARE NOT ALLOWED.
+ K.
+END TK INDEX.
+STORE E IN T USING E.K = 1; E.V = 10; END_STORE
+STORE E IN T USING E.K = 2; E.V = 20; END_STORE
+COMMIT
+";
+
+/// The limits of a store of which no case says otherwise.
+const LIMITS: Limits = Limits {
+    pages: 128,
+    snaps: 256,
+    entries: 256,
+    slots: 500,
+};
+
+fn new_scripts(alloc: Global) -> Result<Vec<Bytes>, NoMemory> {
+    let mut scripts = Vec::new(alloc);
+    for _ in 0..SESSIONS {
+        scripts.push(Bytes::new(alloc))?;
+    }
+    Ok(scripts)
+}
+
+fn add_line(scripts: &mut Vec<Bytes>, s: Session, text: &str) -> Result<(), NoMemory> {
+    match scripts.get_mut((s.number as usize).saturating_sub(1)) {
+        Some(script) => {
+            script.extend(text.as_bytes())?;
+            script.push(b'\n')
+        }
+        None => Ok(()),
+    }
+}
+
+fn queues_of(alloc: Global, scripts: &[Bytes]) -> Result<Vec<ItemQueue>, NoMemory>
+    ensures { IfOk result (λ queues. All (λ items. length items < 2 ^ 32) queues.items) }
+{
+    let mut queues = Vec::new(alloc);
+    for text in scripts {
+        queues.push(items_of(alloc, text.as_slice())?)?;
+    }
+    Ok(queues)
+}
+
+/// What a case has so far.
+#[derive(Drop)]
+struct Case {
+    scripts: Vec<Bytes>,
+    limits: Limits,
+    /// Whether its store stands on a disk in memory.
+    is_on_disk: bool,
+    /// The device call of its sessions that fails.
+    fails: Option<u32>,
+}
+
+fn new_case(alloc: Global) -> Result<Case, NoMemory> {
+    Ok(Case {
+        scripts: new_scripts(alloc)?,
+        limits: LIMITS,
+        is_on_disk: false,
+        fails: None,
+    })
+}
+
+fn set_number(case: &mut Case, word: &str, number: &str) {
+    let Ok(number) = number.parse::<u32>() else {
+        return;
+    };
+    match word {
+        "pages" => case.limits.pages = number,
+        "snaps" => case.limits.snaps = number,
+        "entries" => case.limits.entries = number,
+        "slots" => case.limits.slots = number,
+        "fails" => case.fails = Some(number),
+        _ => {}
+    }
+}
+
+fn run_scripts(
+    alloc: Global,
+    case: &Case,
+    order: &str,
+    drive: Drive,
+    out: &mut Bytes,
+) -> Result<(), NoMemory> {
+    let queues = queues_of(alloc, case.scripts.as_slice())?;
+    if queues.len() != SESSIONS as usize {
+        return Ok(());
+    }
+    if case.is_on_disk {
+        let plan = DiskPlan {
+            limits: case.limits,
+            fails: case.fails,
+        };
+        return run_on_disk(alloc, plan, queues, order, drive, out);
+    }
+    run_in_memory(alloc, case.limits, queues, order, drive, out)
+}
+
+fn say(alloc: Global, case: &mut Case, line: &str, out: &mut Bytes) -> Result<(), NoMemory> {
+    let (word, rest) = line.split_once(' ').unwrap_or((line, ""));
+    if let Some(s) = session_of(word) {
+        return add_line(&mut case.scripts, s, rest);
+    }
+    match word {
+        "-" => *case = new_case(alloc)?,
+        "disk" => case.is_on_disk = true,
+        "base" => add_line(&mut case.scripts, FIRST, BASE)?,
+        "run" => run_scripts(alloc, case, rest, Drive::Turns, out)?,
+        "turns" => run_scripts(alloc, case, rest, Drive::Told, out)?,
+        "events" => run_scripts(alloc, case, rest, Drive::Events, out)?,
+        "steps" => run_scripts(alloc, case, rest, Drive::Steps, out)?,
+        _ => set_number(case, word, rest),
+    }
+    Ok(())
+}
+
+fn tell<R: Print>(rt: &R, out: &Bytes) {
+    if let Ok(text) = std::str::from_utf8(out.as_slice()) {
+        let _ = print!(rt; "{text}");
+    }
+}
+
+fn main(rt: HostRuntime) -> ExitCode {
+    let Ok(mut case) = new_case(rt.alloc()) else {
+        return ExitCode::from(5);
+    };
+    for line in rt.lines(rt.alloc()) {
+        let Ok(line) = line else {
+            return ExitCode::from(3);
+        };
+        let text = line.as_str();
+        let _ = println!(rt; "{text}");
+        let mut out = Bytes::new(rt.alloc());
+        let Ok(()) = say(rt.alloc(), &mut case, text, &mut out) else {
+            return ExitCode::from(5);
+        };
+        tell(&rt, &out);
+    }
+    ExitCode::from(0)
+}
