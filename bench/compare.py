@@ -1,4 +1,5 @@
-"""Compares rdb with the sqlite3 shell, its disk with plain C, and an index with a map of std. Each work is run several times; the best time of each counts."""
+"""Compares rdb with the sqlite3 shell, its disk with plain C, and an index with a map of std. Each work is run several times, over a new
+database each time, which both keep in files; the best time of each counts."""
 import os
 import resource
 import shutil
@@ -99,9 +100,21 @@ def sql_sessions(count):
     return text
 
 
+def anew(words, folder):
+    """Puts a new database where one of both is to work on it."""
+    if words[0] not in (RDB, SQLITE):
+        return
+    for name in os.listdir(folder):
+        if name.startswith("PERS"):
+            os.remove(os.path.join(folder, name))
+    if words[0] == RDB:
+        subprocess.run([RDB, "NEW", "PERS"], cwd=folder, check=True)
+
+
 def timed(words, text, folder):
     best = None
     for _ in range(ROUNDS):
+        anew(words, folder)
         start = time.perf_counter()
         done = subprocess.run(words, input=text, capture_output=True, cwd=folder)
         took = time.perf_counter() - start
@@ -123,7 +136,7 @@ def compare(name, rdo, sql, folder):
     if SQLITE is None:
         print(line + " (no sqlite3 to compare with)")
         return
-    theirs, answer = timed([SQLITE, "-separator", " ", ":memory:"], sql.encode(), folder)
+    theirs, answer = timed([SQLITE, "-separator", " ", "PERS.db"], sql.encode(), folder)
     if printed != answer:
         print(f"{name}: the outputs differ")
         return
@@ -158,7 +171,7 @@ def compare_sessions(count, folder):
         return
     line = f"{SESSIONS} sessions of {count} STOREs: rdb {ours * 1000:.1f} ms"
     if SQLITE is not None:
-        theirs, answer = timed([SQLITE, ":memory:"], sql_sessions(count).encode(), folder)
+        theirs, answer = timed([SQLITE, "PERS.db"], sql_sessions(count).encode(), folder)
         if printed != answer:
             print("sessions: the outputs differ")
             return

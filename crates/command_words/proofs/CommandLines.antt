@@ -3,6 +3,7 @@ use Rattle.std.proofs.Common.{◌≡◌, ℕ, zero, suc, List, [], ◌∷◌, Op
 use Rattle.std.specs.Prelude.{codes, replicate, ◌++◌, true, false}
 use Rattle.command_words.specs.Orders.{is_order}
 use Rattle.command_words.specs.Words.{command_of, database_place, word_of, order_in}
+use Rattle.command_words.specs.declared.deaths.DeathPoint.TheVariants.{Step, Barrier}
 use Rattle.command_words.specs.declared.words.Command.{Command}
 use Rattle.command_words.specs.declared.words.Command.TheVariants.{Rdo, Verify, Dump, DumpPage}
 
@@ -10,7 +11,7 @@ use Rattle.command_words.specs.declared.words.Command.TheVariants.{Rdo, Verify, 
 in_turns : List (List ℕ)
 in_turns = codes "RDO" ∷ codes "--ORDER=1,2" ∷ codes "PERS" ∷ codes "a" ∷ codes "b" ∷ []
 
-in_turns-row : command_of in_turns ≡ Some (Rdo (record { first = 3; count = 2; has_order = true }))
+in_turns-row : command_of in_turns ≡ Some (Rdo (record { first = 3; count = 2; has_order = true; death = None }))
 unfolding in_turns
 in_turns-row = refl
 
@@ -27,18 +28,18 @@ unfolding in_turns
 in_turns-order = refl
 
 -- `RDO PERS a`
-without_order : command_of (codes "RDO" ∷ codes "PERS" ∷ codes "a" ∷ []) ≡ Some (Rdo (record { first = 2; count = 1; has_order = false }))
+without_order : command_of (codes "RDO" ∷ codes "PERS" ∷ codes "a" ∷ []) ≡ Some (Rdo (record { first = 2; count = 1; has_order = false; death = None }))
 without_order = refl
 
 -- Behind the database's word stand scripts: `rdo PERS --ORDER=1`
-named_like_an_option : command_of (codes "rdo" ∷ codes "PERS" ∷ codes "--ORDER=1" ∷ []) ≡ Some (Rdo (record { first = 2; count = 1; has_order = false }))
+named_like_an_option : command_of (codes "rdo" ∷ codes "PERS" ∷ codes "--ORDER=1" ∷ []) ≡ Some (Rdo (record { first = 2; count = 1; has_order = false; death = None }))
 named_like_an_option = refl
 
-in_small_letters : command_of (codes "Rdo" ∷ codes "--order=0000000001" ∷ codes "Pers" ∷ codes "a" ∷ []) ≡ Some (Rdo (record { first = 3; count = 1; has_order = true }))
+in_small_letters : command_of (codes "Rdo" ∷ codes "--order=0000000001" ∷ codes "Pers" ∷ codes "a" ∷ []) ≡ Some (Rdo (record { first = 3; count = 1; has_order = true; death = None }))
 in_small_letters = refl
 
 -- sixteen scripts, and one more
-sixteen : command_of (codes "RDO" ∷ codes "PERS" ∷ replicate 16 (codes "a")) ≡ Some (Rdo (record { first = 2; count = 16; has_order = false }))
+sixteen : command_of (codes "RDO" ∷ codes "PERS" ∷ replicate 16 (codes "a")) ≡ Some (Rdo (record { first = 2; count = 16; has_order = false; death = None }))
 sixteen = refl
 
 seventeen : command_of (codes "RDO" ∷ codes "PERS" ∷ replicate 17 (codes "a")) ≡ None
@@ -66,6 +67,34 @@ with_order word = command_of (codes "RDO" ∷ word ∷ codes "PERS" ∷ codes "a
 refused : (with_order (codes "--ORDER=") ≡ None) × (with_order (codes "--ORDER=1,,2") ≡ None) × (with_order (codes "--ORDER=3") ≡ None) × (with_order (codes "--ORDER=1,2,") ≡ None)
 unfolding with_order
 refused = (refl, refl, refl, refl)
+
+-- `--DIE` in front of `--ORDER`, and behind it
+dies_first : command_of (codes "RDO" ∷ codes "--DIE=1:barrier" ∷ codes "--ORDER=2,1" ∷ codes "PERS" ∷ codes "a" ∷ codes "b" ∷ []) ≡
+    Some (Rdo (record { first = 4; count = 2; has_order = true; death = Some (record { session = 1; at = Barrier }) }))
+dies_first = refl
+
+dies_behind : List (List ℕ)
+dies_behind = codes "RDO" ∷ codes "--ORDER=2,1" ∷ codes "--die=2:17" ∷ codes "PERS" ∷ codes "a" ∷ codes "b" ∷ []
+
+dies_behind-row : command_of dies_behind ≡ Some (Rdo (record { first = 4; count = 2; has_order = true; death = Some (record { session = 2; at = Step 17 }) }))
+unfolding dies_behind
+dies_behind-row = refl
+
+dies_behind-word : word_of dies_behind ≡ codes "PERS"
+unfolding dies_behind
+dies_behind-word = refl
+
+dies_behind-order : order_in dies_behind ≡ 2 ∷ 1 ∷ []
+unfolding dies_behind
+dies_behind-order = refl
+
+-- deaths of one session that are none
+with_death : List ℕ → Option Command
+with_death word = command_of (codes "RDO" ∷ word ∷ codes "PERS" ∷ codes "a" ∷ [])
+
+no_deaths : (with_death (codes "--DIE=2:1") ≡ None) × (with_death (codes "--DIE=1:0") ≡ None) × (with_death (codes "--DIE=1") ≡ None) × (with_death (codes "--DIE=1:1:1") ≡ None) × (with_death (codes "--DIE=1:") ≡ None)
+unfolding with_death
+no_deaths = (refl, refl, refl, refl, refl)
 
 -- `--ORDER` twice
 twice : command_of (codes "RDO" ∷ codes "--ORDER=1" ∷ codes "--ORDER=1" ∷ codes "PERS" ∷ codes "a" ∷ []) ≡ None

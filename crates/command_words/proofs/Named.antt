@@ -1,8 +1,6 @@
 -- A word that a name in capitals ends.
-use Rattle.std.proofs.Common.{◌≡◌, ◌≤◌, ◌<◌, ℕ, Bool, true, false, cond, ◌&&◌, nat_eq, List, [], ◌∷◌, map, length, Option, Some, None, refl, arith}
-use Rattle.std.specs.Prelude.{bytes_eq}
-use Rattle.command_words.specs.Bytes.{upper_of, behind}
-use Rattle.command_words.specs.Words.{is_command}
+use Rattle.std.proofs.Common.{◌≡◌, ◌≤◌, ◌<◌, ℕ, Bool, true, false, cond, ◌&&◌, nat_eq, List, [], ◌∷◌, length, Option, Some, None, refl, arith}
+use Rattle.command_words.specs.Bytes.{upper_of, behind, is_command}
 
 abbrev pub ends_there : Option (List ℕ) → Bool
 ends_there None = false

@@ -1,5 +1,5 @@
 -- Capitals and numbers in a word.
-use Rattle.std.specs.Prelude.{ℕ, ◌&&◌, ◌+◌, ◌-◌, ◌*◌, nat_le, nat_eq, List, [], ◌∷◌, Option, Some, None, if◌then◌else◌}
+use Rattle.std.specs.Prelude.{ℕ, Bool, ◌&&◌, ◌+◌, ◌-◌, ◌*◌, nat_le, nat_eq, List, [], ◌∷◌, map, bytes_eq, Option, Some, None, if◌then◌else◌}
 
 -- the capital of a letter, and any other byte itself
 abbrev pub upper_of : ℕ → ℕ
@@ -15,3 +15,7 @@ abbrev pub behind : List ℕ → List ℕ → Option (List ℕ)
 behind [] word = Some word
 behind (c ∷ name) [] = None
 behind (c ∷ name) (b ∷ word) = if nat_eq (upper_of b) c then behind name word else None
+
+-- a word that is named in capitals, case disregarded
+abbrev pub is_command : List ℕ → List ℕ → Bool
+is_command name word = bytes_eq (map upper_of word) name

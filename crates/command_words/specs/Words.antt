@@ -1,12 +1,14 @@
 -- The words of the command line.
-use Rattle.std.specs.Prelude.{◌≡◌, ◌≤◌, ℕ, Bool, true, false, ◌||◌, ◌&&◌, ◌+◌, ◌-◌, nat_le, nat_eq, List, [], ◌∷◌, map, length, codes, bytes_eq, slice_index_or, Option, Some, None, is_some, if◌then◌else◌}
+use Rattle.std.specs.Prelude.{◌≡◌, ◌≤◌, ℕ, Bool, true, false, ◌||◌, ◌&&◌, ◌+◌, ◌-◌, nat_le, nat_eq, List, [], ◌∷◌, length, codes, slice_index_or, Option, Some, None, is_some, if◌then◌else◌}
 use Rattle.std.specs.List.{list_all}
 use Rattle.rdb_types.specs.declared.keys.Limits.{Limits}
 use Rattle.std.specs.Char.{is_ascii_alphabetic, is_ascii_digit}
 use Rattle.root_file.specs.Root.{AreLimits}
-use Rattle.command_words.specs.Bytes.{upper_of, behind}
+use Rattle.command_words.specs.Bytes.{behind, is_command}
+use Rattle.command_words.specs.Deaths.{death_in}
 use Rattle.command_words.specs.Options.{ask, limits_of, nothing_asked, number_in}
 use Rattle.command_words.specs.Orders.{is_order, sessions_in}
+use Rattle.command_words.specs.declared.deaths.Death.{Death}
 use Rattle.command_words.specs.declared.options.Asked.{Asked}
 use Rattle.command_words.specs.declared.words.Scripts.{Scripts}
 use Rattle.command_words.specs.declared.words.Command.{Command}
@@ -22,10 +24,6 @@ abbrev pub is_database : List ℕ → Bool
 is_database [] = false
 is_database (b ∷ bs) = (is_ascii_alphabetic b && nat_le (length bs) 23) && list_all is_database_byte bs
 
--- a command word, case disregarded
-abbrev pub is_command : List ℕ → List ℕ → Bool
-is_command name word = bytes_eq (map upper_of word) name
-
 -- the words behind NEW: options, and a database last
 abbrev pub new_words : Asked → List (List ℕ) → Option Limits
 new_words a [] = None
@@ -37,25 +35,49 @@ new_words a (w ∷ ws) =
 abbrev pub order_text : List ℕ → Option (List ℕ)
 order_text word = behind (codes "--ORDER=") word
 
+-- what a word says for `--DIE`
+abbrev pub death_text : List ℕ → Option (List ℕ)
+death_text word = behind (codes "--DIE=") word
+
 -- a database and 1 to 16 scripts, of which the first stands at this place
 abbrev pub scripts_at : ℕ → Bool → List (List ℕ) → Option Scripts
 scripts_at first has_order [] = None
 scripts_at first has_order (d ∷ scripts) =
-    if is_database d && (nat_le 1 (length scripts) && nat_le (length scripts) 16) then Some (record { first = first; count = length scripts; has_order = has_order }) else None
+    if is_database d && (nat_le 1 (length scripts) && nat_le (length scripts) 16) then Some (record { first = first; count = length scripts; has_order = has_order; death = None }) else None
 
 -- the scripts, where the order is one of their sessions
 abbrev pub with_order : List ℕ → Option Scripts → Option Scripts
 with_order order None = None
 with_order order (Some s) = if is_order s.count order then Some s else None
 
--- the words behind RDO: `--ORDER` or none, a database and its scripts
-abbrev pub rdo_from : Option (List ℕ) → List ℕ → List (List ℕ) → Option Scripts
-rdo_from None w ws = scripts_at 2 false (w ∷ ws)
-rdo_from (Some order) w ws = with_order order (scripts_at 3 true ws)
+abbrev pub dying : Scripts → Option Death → Option Scripts
+dying s None = None
+dying s (Some death) = Some (record s { death = Some death })
+
+-- the scripts, where the death is that of one of their sessions
+abbrev pub with_death : List ℕ → Option Scripts → Option Scripts
+with_death text None = None
+with_death text (Some s) = dying s (death_in s.count text)
+
+-- the words behind `--ORDER`: `--DIE` or none, a database and its scripts
+abbrev pub behind_order : List (List ℕ) → Option Scripts
+behind_order [] = None
+behind_order (w ∷ ws) = elim (death_text w) [ None ↦ scripts_at 3 true (w ∷ ws) | Some text ↦ with_death text (scripts_at 4 true ws) ]
+
+-- the words behind `--DIE`: `--ORDER` or none, a database and its scripts
+abbrev pub behind_death : List (List ℕ) → Option Scripts
+behind_death [] = None
+behind_death (w ∷ ws) = elim (order_text w) [ None ↦ scripts_at 3 false (w ∷ ws) | Some order ↦ with_order order (scripts_at 4 true ws) ]
+
+-- the words behind RDO: both options in either order, one of them or none, a database and its scripts
+abbrev pub rdo_from : Option (List ℕ) → Option (List ℕ) → List (List ℕ) → List (List ℕ) → Option Scripts
+rdo_from (Some order) death ws all = with_order order (behind_order ws)
+rdo_from None (Some text) ws all = with_death text (behind_death ws)
+rdo_from None None ws all = scripts_at 2 false all
 
 abbrev pub rdo_words : List (List ℕ) → Option Scripts
 rdo_words [] = None
-rdo_words (w ∷ ws) = rdo_from (order_text w) w ws
+rdo_words (w ∷ ws) = rdo_from (order_text w) (death_text w) ws (w ∷ ws)
 
 abbrev pub as_rdo : Option Scripts → Option Command
 as_rdo None = None
@@ -119,17 +141,31 @@ abbrev pub first_word : List (List ℕ) → List ℕ
 first_word [] = []
 first_word (w ∷ ws) = w
 
+-- the first word, or the next one where that is such an option
+abbrev pub past_option : (List ℕ → Option (List ℕ)) → List (List ℕ) → List ℕ
+past_option text [] = []
+past_option text (w ∷ ws) = if is_some (text w) then first_word ws else w
+
 -- the database's word behind RDO
 abbrev pub word_of : List (List ℕ) → List ℕ
 word_of [] = []
 word_of (c ∷ []) = []
-word_of (c ∷ w ∷ ws) = if is_some (order_text w) then first_word ws else w
+word_of (c ∷ w ∷ ws) = if is_some (order_text w) then past_option death_text ws else (if is_some (death_text w) then past_option order_text ws else w)
 
--- what `--ORDER` says behind a command word
+abbrev pub order_first : List (List ℕ) → Option (List ℕ)
+order_first [] = None
+order_first (w ∷ ws) = order_text w
+
+abbrev pub order_among : Option (List ℕ) → Option (List ℕ) → List (List ℕ) → Option (List ℕ)
+order_among (Some order) death ws = Some order
+order_among None (Some text) ws = order_first ws
+order_among None None ws = None
+
+-- what `--ORDER` says among the options behind a command word
 abbrev pub said_order : List (List ℕ) → Option (List ℕ)
 said_order [] = None
 said_order (c ∷ []) = None
-said_order (c ∷ w ∷ ws) = order_text w
+said_order (c ∷ w ∷ ws) = order_among (order_text w) (death_text w) ws
 
 abbrev pub sessions_said : ℕ → Option (List ℕ) → List ℕ
 sessions_said sessions None = []
@@ -147,7 +183,12 @@ order_for (Some (Rdo s)) order = sessions_said s.count order
 abbrev pub order_in : List (List ℕ) → List ℕ
 order_in words = order_for (command_of words) (said_order words)
 
--- the scripts are the last words, 1 to 16 of them; the database's word stands in front of them
+-- the death of one of so many sessions, or none
+abbrev pub MayBeOf : ℕ → Option Death → Type 0
+MayBeOf sessions None = Unit {0}
+MayBeOf sessions (Some death) = (1 ≤ death.session) × (death.session ≤ sessions)
+
+-- the scripts are the last words, 1 to 16 of them; the database's word stands in front of them; who dies is one of their sessions
 pub record AreLast (words : List (List ℕ)) (s : Scripts) : Type 0 where
   pub some : 1 ≤ s.count
   pub few : s.count ≤ 16
@@ -155,6 +196,7 @@ pub record AreLast (words : List (List ℕ)) (s : Scripts) : Type 0 where
   pub last : s.first + s.count ≡ length words
   pub database : slice_index_or words (s.first - 1) [] ≡ word_of words
   pub order : s.has_order ≡ is_some (said_order words)
+  pub death : MayBeOf s.count s.death
 
 -- pages count from 1 to 65,536, and area files from 1 to 3
 pub record IsAllowedPlace (p : PagePlace) : Type 0 where

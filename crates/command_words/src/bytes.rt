@@ -3,7 +3,7 @@ ghost use Rattle.std.specs.Prelude.{◌≡◌, ◌≤◌, ◌<◌, ◌^◌, ℤ,
 ghost use Rattle.std.specs.Option.{option_copied};
 ghost use Rattle.std.specs.Char.{is_ascii_digit};
 ghost use Rattle.std.specs.List.{list_all};
-ghost use Rattle.command_words.specs.Bytes.{upper_of, digits_from, behind as behind_of};
+ghost use Rattle.command_words.specs.Bytes.{upper_of, digits_from, is_command, behind as behind_of};
 
 pub fn to_upper(b: u8) -> u8
     ensures { result ≡ upper_of b }
@@ -49,4 +49,15 @@ pub fn behind<'a>(name: &[u8], word: &'a [u8]) -> Option<&'a [u8]>
         }
     }
     Some(rest)
+}
+
+/// Whether a word is one that is named in capitals, case disregarded.
+pub fn is_named(name: &[u8], word: &[u8]) -> bool
+    ensures { result ≡ is_command name.now word.now }
+{
+    match behind(name, word) {
+        Some([]) => true,
+        Some([_, ..]) => false,
+        None => false,
+    }
 }

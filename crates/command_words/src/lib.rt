@@ -2,10 +2,12 @@
 #![tactic(auto)]
 
 mod bytes;
+mod deaths;
 mod options;
 mod orders;
 mod words;
 
+pub use deaths::{Death, DeathPoint};
 pub use words::{
     Command, PagePlace, Scripts, command_of, database_word, only_reads, order_of, script_words,
 };

@@ -2,14 +2,16 @@
 ghost use Rattle.std.specs.Prelude.{◌≡◌, ◌≢◌, ◌≤◌, ◌<◌, ◌+◌, ◌&&◌, ℕ, List, None, Some, IfSome, IfOk, All, codes, length, slice_index_or, []};
 ghost use Rattle.std.specs.List.{list_all};
 ghost use Rattle.std.specs.Option.{option_copied};
-ghost use Rattle.command_words.specs.Words.{is_database_byte as database_byte, is_database as database, is_command, new_words as new_of};
-ghost use Rattle.command_words.specs.Words.{order_text as text_said, scripts_at as scripts_from, rdo_words as rdo_of, said_order as order_said};
+ghost use Rattle.command_words.specs.Bytes.{is_command};
+ghost use Rattle.command_words.specs.Words.{is_database_byte as database_byte, is_database as database, new_words as new_of};
+ghost use Rattle.command_words.specs.Words.{order_text as text_said, death_text as death_said, scripts_at as scripts_from, with_order as ordered, with_death as dying_at, behind_order as behind_order_of, behind_death as behind_death_of, rdo_words as rdo_of, order_first as first_order, said_order as order_said};
 ghost use Rattle.command_words.specs.Words.{command_of as command_for, IsAllowedCommand, database_place, word_of, order_in};
 ghost use Rattle.command_words.specs.Words.{is_one_database as is_one_database_of, place_of as place_for_numbers, page_words as page_words_of, rmu_command as rmu_command_for, only_reads as only_reads_for, IsAllowedPlace};
 ghost use Rattle.command_words.specs.Options.{nothing_asked, number_in as number_in_range};
 ghost use Rattle.root_file.specs.Root.{AreLimits};
 
-use crate::bytes::{behind, to_upper};
+use crate::bytes::{behind, is_named, to_upper};
+use crate::deaths::{Death, death_in};
 use crate::options::{Asked, ask, limits_of, number_in};
 use crate::orders::{is_order, sessions_of};
 use rdb_types::{Items, Limits, NoMemory, Word};
@@ -27,6 +29,8 @@ pub struct Scripts {
     pub count: u32,
     /// Whether `--ORDER` is among the words.
     pub has_order: bool,
+    /// What `--DIE` says.
+    pub death: Option<Death>,
 }
 
 /// The page that a command names.
@@ -43,7 +47,7 @@ pub struct PagePlace {
 pub enum Command {
     /// `NEW [options] db` makes an empty database with these limits.
     New(Limits),
-    /// `RDO [--ORDER=list] db script ...` says 1 to 16 scripts to the database.
+    /// `RDO [--DIE=session:point] [--ORDER=list] db script ...` says 1 to 16 scripts to the database.
     Rdo(Scripts),
     /// `RMU/VERIFY db` lists the faults of a database.
     Verify,
@@ -97,17 +101,6 @@ fn is_new(word: &[u8]) -> bool
     }
 }
 
-/// Whether a word is a command's, which is given in capitals.
-fn is_named(name: &[u8], word: &[u8]) -> bool
-    ensures { result ≡ is_command name.now word.now }
-{
-    match behind(name, word) {
-        Some([]) => true,
-        Some([_, ..]) => false,
-        None => false,
-    }
-}
-
 /// The limits that the words behind NEW name.
 fn new_words(words: &[Word]) -> Option<Limits>
     ensures value { result ≡ new_of nothing_asked words.now }
@@ -144,6 +137,13 @@ fn order_text(word: &[u8]) -> Option<&[u8]>
     behind(b"--ORDER=", word)
 }
 
+/// What a word says for `--DIE`.
+fn death_text(word: &[u8]) -> Option<&[u8]>
+    ensures { option_copied result ≡ death_said word.now }
+{
+    behind(b"--DIE=", word)
+}
+
 /// A database and 1 to 16 scripts, of which the first stands at this place.
 fn scripts_at(first: usize, has_order: bool, words: &[Word]) -> Option<Scripts>
     ensures { result ≡ scripts_from first has_order words.now }
@@ -158,11 +158,62 @@ fn scripts_at(first: usize, has_order: bool, words: &[Word]) -> Option<Scripts>
                     first,
                     count: scripts.len() as u32,
                     has_order,
+                    death: None,
                 })
             } else {
                 None
             }
         }
+    }
+}
+
+/// The scripts, where the order is one of their sessions.
+fn with_order(order: &[u8], scripts: Option<Scripts>) -> Option<Scripts>
+    ensures { result ≡ ordered order.now scripts }
+{
+    match scripts {
+        Some(scripts) if is_order(scripts.count, order) => Some(scripts),
+        _ => None,
+    }
+}
+
+/// The scripts, where the death is that of one of their sessions.
+fn with_death(text: &[u8], scripts: Option<Scripts>) -> Option<Scripts>
+    ensures { result ≡ dying_at text.now scripts }
+{
+    let scripts = scripts?;
+    match death_in(scripts.count, text) {
+        None => None,
+        Some(death) => Some(Scripts {
+            death: Some(death),
+            ..scripts
+        }),
+    }
+}
+
+/// The words behind `--ORDER`.
+fn behind_order(words: &[Word]) -> Option<Scripts>
+    ensures { result ≡ behind_order_of words.now }
+{
+    match words {
+        [] => None,
+        [word, rest @ ..] => match death_text(word.as_slice()) {
+            None => scripts_at(3, true, words),
+            Some(text) => with_death(text, scripts_at(4, true, rest)),
+        },
+    }
+}
+
+/// The words behind `--DIE`.
+fn behind_death(words: &[Word]) -> Option<Scripts>
+    ensures { result ≡ behind_death_of words.now }
+{
+    match words {
+        [] => None,
+        [word, rest @ ..] => match order_text(word.as_slice()) {
+            None => scripts_at(3, false, words),
+            Some(order) => with_order(order, scripts_at(4, true, rest)),
+        },
     }
 }
 
@@ -172,12 +223,10 @@ fn rdo_words(words: &[Word]) -> Option<Scripts>
 {
     match words {
         [] => None,
-        [word, rest @ ..] => match order_text(word.as_slice()) {
-            None => scripts_at(2, false, words),
-            Some(order) => match scripts_at(3, true, rest) {
-                Some(scripts) if is_order(scripts.count, order) => Some(scripts),
-                _ => None,
-            },
+        [word, rest @ ..] => match (order_text(word.as_slice()), death_text(word.as_slice())) {
+            (Some(order), _) => with_order(order, behind_order(rest)),
+            (None, Some(text)) => with_death(text, behind_death(rest)),
+            (None, None) => scripts_at(2, false, words),
         },
     }
 }
@@ -316,12 +365,26 @@ pub fn script_words(words: &[Word]) -> (usize, usize)
     }
 }
 
-/// What `--ORDER` says behind a command word.
+/// What the first word says for `--ORDER`.
+fn order_first(words: &[Word]) -> Option<&[u8]>
+    ensures { option_copied result ≡ first_order words.now }
+{
+    match words {
+        [] => None,
+        [word, ..] => order_text(word.as_slice()),
+    }
+}
+
+/// What `--ORDER` says among the options behind a command word.
 fn said_order(words: &[Word]) -> Option<&[u8]>
     ensures { option_copied result ≡ order_said words.now }
 {
     match words {
-        [_, word, ..] => order_text(word.as_slice()),
+        [_, word, rest @ ..] => match (order_text(word.as_slice()), death_text(word.as_slice())) {
+            (Some(order), _) => Some(order),
+            (None, Some(_)) => order_first(rest),
+            (None, None) => None,
+        },
         _ => None,
     }
 }

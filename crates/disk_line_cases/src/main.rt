@@ -1,4 +1,4 @@
-//! Cases of a store of lines on a disk in memory. Each line of standard input makes a call for a session, as in the cases of the store in memory; it is echoed on standard output, and below it stands what the call answers. A line that begins with `-` begins with a new database, of whose disk the calls with the numbers behind it fail; `crashes AREA BITS` tells which lines of an area the crashes leave that are possible now.
+//! Cases of a store of lines on a disk in memory. Each line of standard input makes a call for a session, as in the cases of the store in memory; it is echoed on standard output, and below it stands what the call answers. A line that begins with `-` begins with a new database, of whose disk the call with the number behind it fails, and `snaps N` with one of so many slots in each snapshot file; `crashes AREA BITS` tells which lines of an area the crashes leave that are possible now.
 #![tactic(auto)]
 
 mod crashes;
@@ -6,7 +6,7 @@ mod opening;
 
 use case_words::number_of;
 use crashes::say_crashes;
-use opening::{Opened, opened_anew};
+use opening::{Opened, SNAPS, opened_anew};
 use std::process::ExitCode;
 use store_desk::say;
 
@@ -21,8 +21,18 @@ fn say_line(rt: &HostRuntime, desk: &mut Opened, text: &str) {
     say_crashes(rt, desk, area, bits);
 }
 
+/// Which disk call of a new database fails, and how many slots its snapshot files have, where the line asks for one.
+fn new_database_of(text: &str) -> Option<(&str, u32)> {
+    let (word, rest) = text.split_once(' ').unwrap_or((text, ""));
+    match word {
+        "-" => Some((rest, SNAPS)),
+        "snaps" => Some(("", number_of(Some(rest)).unwrap_or(0))),
+        _ => None,
+    }
+}
+
 fn main(rt: HostRuntime) -> ExitCode {
-    let Some(mut desk) = opened_anew(rt.alloc(), "") else {
+    let Some(mut desk) = opened_anew(rt.alloc(), "", SNAPS) else {
         return ExitCode::from(1);
     };
     for line in rt.lines(rt.alloc()) {
@@ -31,9 +41,8 @@ fn main(rt: HostRuntime) -> ExitCode {
         };
         let text = line.as_str();
         let _ = println!(rt; "{text}");
-        if text.starts_with("-") {
-            let (_, fails) = text.split_once(' ').unwrap_or((text, ""));
-            let Some(anew) = opened_anew(rt.alloc(), fails) else {
+        if let Some((fails, snaps)) = new_database_of(text) {
+            let Some(anew) = opened_anew(rt.alloc(), fails, snaps) else {
                 let _ = println!(rt; "  not opened");
                 continue;
             };

@@ -18,12 +18,15 @@ pub fn opened(alloc: Global, disk: MemoryDisk) -> Option<Opened> {
     Some(Desk::new(DiskStore::new(disk, held)))
 }
 
-/// Opens a new database, of whose disk the call with this number fails, if the word is one.
-pub fn opened_anew(alloc: Global, word: &str) -> Option<Opened> {
+/// So many slots has a snapshot file, where a case doesn't ask for fewer.
+pub const SNAPS: u32 = 64;
+
+/// Opens a new database with so many slots in each snapshot file, of whose disk the call with this number fails, if the word is one.
+pub fn opened_anew(alloc: Global, word: &str, snaps: u32) -> Option<Opened> {
     // Four pages may be taken in an area.
     let limits = Limits {
         pages: 6,
-        snaps: 64,
+        snaps,
         entries: 16,
         slots: 64,
     };

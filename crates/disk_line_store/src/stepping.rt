@@ -8,11 +8,12 @@ ghost use Rattle.disk_store.specs.Shown.{sight_of};
 
 use change_steps::{broken_step, change_step};
 use commit_steps::commit_step;
-use disk_store::{Ceiling, Held, MemberStage, ask, draw, put_away};
+use disk_store::{Ceiling, Held, MemberStage, ask, draw};
 use line_store::{Fault, Stepped};
 use rdb_outside::Disk;
 use rdb_types::Session;
 use recovery_steps::recover;
+use store_endings::put_away;
 
 // Where a session's transaction is.
 fn stage_of(held: &Held, s: Session) -> MemberStage

@@ -5,19 +5,21 @@ ghost use Rattle.line_store.specs.Seats.{outside};
 ghost use Rattle.line_store.specs.Shelves.{Shelf};
 ghost use Rattle.store_shows.specs.Shows.{Leaves};
 ghost use Rattle.disk_store.specs.Seats.{stand_at, steps_at};
-ghost use Rattle.disk_store.specs.Shown.{Shown};
+ghost use Rattle.disk_store.specs.Memory.{StoreMemory};
+ghost use Rattle.disk_store.specs.Shown.{Shown, sight_of};
 
 use crate::stepping::step;
 use area_files::AreaFull;
 use commit_steps::is_at_barrier;
 use disk_store::{
-    Held, begin, begin_reading, change, commit, die, end_reading, give_back, learn_area,
-    learn_line, prepare, roll_back, room, steps_are_few, take_room,
+    Held, begin, begin_reading, change, commit, give_back, learn_area, learn_line, prepare, room,
+    steps_are_few, take_room,
 };
 use line_store::{ChangeStop, CommitStop, Fault, LineStore, Progress, ReadStop, Stepped};
 use line_view::{Known, Write};
 use rdb_outside::Disk;
 use rdb_types::{Dbkey, Moment, NoMemory, Session};
+use store_endings::{die, end_reading, roll_back};
 
 /// A store of lines on a disk: the disk, and what is kept in memory beside it. What is left to do for a session is a number that a loop can count to.
 #[derive(Drop)]
@@ -45,8 +47,10 @@ impl<D: Disk + Drop> DiskStore<D> {
         &self.disk
     }
 
-    /// The store ends, and its disk is free.
-    pub fn into_disk(self) -> D {
+    /// The store ends, and its disk is free. What the store showed, it showed of this disk.
+    pub fn into_disk(self) -> D
+        ensures shown { (held : StoreMemory) × (⟦<DiskStore<D> as LineStore>⟧.sight self ≡ sight_of (D.view result) held) }
+    {
         self.disk
     }
 }

@@ -1,5 +1,5 @@
 -- A session ends its reading.
-use Rattle.std.proofs.Common.{◌≡◌, ℕ, List, [], Some, None, refl, ap, subst, arith}
+use Rattle.std.proofs.Common.{◌≡◌, ℕ, List, [], Some, None, refl, ap, subst, ◌∙◌, arith}
 use Rattle.std.specs.Prelude.{slice_get}
 use Rattle.rdb_outside.specs.Disk.{View}
 use Rattle.line_view.specs.declared.writes.Write.{Write}
@@ -13,9 +13,10 @@ use Rattle.disk_store.specs.declared.member.MemberStage.{MemberStage}
 use Rattle.disk_store.specs.declared.member.MemberStage.TheVariants as stage
 use Rattle.disk_store.specs.Memory.{StoreMemory, with_member}
 use Rattle.disk_store.specs.Readers.{keeping}
-use Rattle.disk_store.specs.Seats.{seat_with}
+use Rattle.disk_store.specs.Seats.{IsAtStage, seat_with}
 use Rattle.disk_store.specs.Standing.{StageStands}
 use Rattle.disk_store.specs.Shown.{sight_of}
+use Rattle.disk_store.proofs.Members.{get-within, set-here}
 use Rattle.disk_store.proofs.Stepping.{does-step, becomes-member, space-same}
 use Rattle.disk_store.proofs.Kept.{kept-stays}
 use Rattle.disk_store.proofs.Passing.{passes-none, none-leaves, same-ledger}
@@ -48,3 +49,10 @@ module _ (v : View) (held : StoreMemory) (s : ℕ) (m : Member) (was : slice_get
       does-step v v held (record (with_member s n held) { numbers = held.numbers }) s m n was (becomes-member held held.numbers s n) (λ e. cc) refl (none-leaves v)
       (λ h shown stands. same-ledger v v (passes-none v) held s n h shown shown.numbers.ceiling (kept-stays held.members s held.numbers.next held.numbers.written m n was (omega arith) shown.kept) shown.facts (subst (λ x. StageStands x v shown.ledger s m) at stands) tt)
       (omega arith) (omega arith) outside (Moves s outside) refl still (λ h shown stands. record { lines = refl; commit = refl }) space-same (λ h g from related moves. moves)
+
+pub kept-outside : (held mid : StoreMemory) (s : ℕ) (m : Member) (start : Start) → slice_get held.members s ≡ Some m → mid ≡ with_member s (keeping stage.Outside start m) held → IsAtStage mid.members s stage.Outside
+kept-outside held mid s m start was is = record {
+  member = keeping stage.Outside start m;
+  is = ap (λ (x : StoreMemory). slice_get x.members s) is ∙ set-here held.members s (keeping stage.Outside start m) (get-within held.members s m was);
+  at = refl;
+}

@@ -15,7 +15,6 @@ pub mod Drawing
 pub mod Finding
 pub mod EndingOpen
 pub mod Agreeing
-pub mod Deaths
 pub mod Restored
 pub mod Journalled
 pub mod Kept
@@ -26,17 +25,14 @@ pub mod SlotsSound
 pub mod Changed
 pub mod Stopping
 pub mod SpentSlots
-mod Going
+pub mod Going
 mod Begun
 mod Seeing
 mod EndedReading
 pub mod Tabled
 mod Taking
-pub mod PutBack
 pub mod Raising
 mod FewSteps
-mod SlotsGiven
-mod Tidied
 mod Classed
 pub mod Judged
 pub mod FirstSound

@@ -153,6 +153,17 @@ sound-spent v w h s m n key chain slots takes is some aside was sound its lines 
     (record { lines = lines; asides = λ file. subst (λ (x : Wanted). wanted_in file x ≤ wanted_in file m.aside) (sym aside) (spent-no-more chain (snap_of key) m.aside file) })
     (subst (λ (x : Wanted). KeepsAsides m.aside x h.slots slots) (sym aside) (spent-keeps chain (snap_of key) m.aside h.slots slots is some takes.keeps takes.others takes.spends))
 
+-- the slots are others, of which as many are set aside
+pub slots-sound : (h : StoreMemory) (slots : SnapshotSlots) → ((file : ℕ) → IsAreaFile file → (table_of slots file).aside ≡ (table_of h.slots file).aside) → IsSound h → IsSound (record h { slots = slots })
+slots-sound h slots same sound = record {
+  first = sound.first;
+  last = sound.last;
+  allowed = sound.allowed;
+  each = sound.each;
+  apart = sound.apart;
+  asides = λ file is. let all = sound.asides file is in let e = same file is in omega (arith, all, e);
+}
+
 -- what is set aside for a session, is set aside of the file
 pub aside-there : (h : StoreMemory) (s : ℕ) (m : Member) → slice_get h.members s ≡ Some m → IsSound h → (file : ℕ) → IsAreaFile file → wanted_in file m.aside ≤ (table_of h.slots file).aside
 aside-there h s m was sound file is =

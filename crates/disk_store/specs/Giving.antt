@@ -6,6 +6,7 @@ use Rattle.line_versions.specs.Versions.{sees}
 use Rattle.stable_lines.specs.Slots.{IsAreaFile}
 use Rattle.version_writing.specs.Slots.{GivesBack, pusher_at}
 use Rattle.version_writing.specs.Tables.{table_of}
+use Rattle.version_writing.specs.Wanting.{IsInUse, Sifts}
 use Rattle.version_writing.specs.declared.snapshot_slots.SnapshotSlots.{SnapshotSlots}
 use Rattle.disk_store.specs.declared.member.Member.{Member}
 use Rattle.disk_store.specs.declared.member.MemberStage.TheVariants as stage
@@ -33,6 +34,12 @@ MayGive tsn members old new = ((new ≡ old) × (IsUnwanted tsn members → ⊥)
 abbrev pub without_slots : Member → Member
 without_slots m = record m { aside = no_slots }
 
+-- The slots that are set aside for a session are given back.
+pub record LeavesAside (s : ℕ) (old new : StoreMemory) : Type 0 where
+  pub member : Member
+  pub was : slice_get old.members s ≡ Some member
+  pub is : new ≡ record (with_member s (without_slots member) old) { slots = without_asides member.aside old.slots }
+
 -- The slots that are set aside for a session are given back, and those that it pushed into where nobody wants them.
 pub record GivesSlots (s : ℕ) (old new : StoreMemory) : Type 0 where
   pub member : Member
@@ -40,6 +47,22 @@ pub record GivesSlots (s : ℕ) (old new : StoreMemory) : Type 0 where
   pub mid : SnapshotSlots
   pub gives : MayGive member.tsn.number old.members old.slots mid
   pub is : new ≡ record (with_member s (without_slots member) old) { slots = without_asides member.aside mid }
+
+-- in each file all slots are given back that hold what nobody wants
+abbrev pub SiftsAll : List Member → SnapshotSlots → SnapshotSlots → Type 0
+SiftsAll members old new = (file : ℕ) → IsAreaFile file → Sifts (λ tsn. IsUnwanted tsn members) (table_of old file) (table_of new file)
+
+-- The slots that are set aside for a session are given back, and all that hold what nobody wants.
+pub record SiftsSlots (s : ℕ) (old new : StoreMemory) : Type 0 where
+  pub member : Member
+  pub was : slice_get old.members s ≡ Some member
+  pub mid : SnapshotSlots
+  pub sifts : SiftsAll old.members old.slots mid
+  pub is : new ≡ record (with_member s (without_slots member) old) { slots = without_asides member.aside mid }
+
+-- what a slot in use holds somebody wants
+abbrev pub HasAllWanted : StoreMemory → Type 0
+HasAllWanted h = (file : ℕ) → IsAreaFile file → (chain : ℕ) → IsInUse (table_of h.slots file).slots chain → IsUnwanted (pusher_at (table_of h.slots file).pushers chain).number h.members → ⊥
 
 -- No slot is set aside for the session, and none holds what its transaction pushed, unless somebody wants that.
 pub record HasNoSlots (s : ℕ) (h : StoreMemory) : Type 0 where

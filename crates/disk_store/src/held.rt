@@ -6,6 +6,7 @@ ghost use Rattle.member_steps.specs.declared.committing.CommitTurn.TheVariants.{
 ghost use Rattle.disk_store.specs.declared.member.Member.{Member as Sits};
 ghost use Rattle.disk_store.specs.declared.member.MemberStage.TheVariants.{Committing, Dead, Prepared};
 ghost use Rattle.disk_store.specs.Commits.{is_free, is_flying, HasSome, IsReady, KeepsCommits};
+ghost use Rattle.disk_store.specs.Dying.{forgotten};
 ghost use Rattle.disk_store.specs.Memory.{at_stage, with_member, with_number};
 ghost use Rattle.disk_store.specs.Seats.{IsAtStage};
 ghost use Rattle.disk_store.specs.Sound.{IsSound};
@@ -84,6 +85,21 @@ impl Held {
         self.next
     }
 
+    /// The limits of the files.
+    pub fn limits(&self) -> Limits
+        ensures { result ≡ self.now.limits }
+    {
+        self.limits
+    }
+
+    /// A session's member.
+    pub fn member(&self, s: Session) -> &Member
+        requires { IsMember s.number }
+        ensures { slice_get self.now.members s.number ≡ Some result.now }
+    {
+        &self.members[s.number as usize]
+    }
+
     /// The members of all sessions, each in the place of its number.
     pub fn members(&self) -> &[Member]
         ensures { result.now ≡ self.now.members }
@@ -159,5 +175,17 @@ impl Held {
         member.journalled = 0;
         member.pushed = 0;
         self.numbers.next = number + 1;
+    }
+
+    /// A session comes to another stage, at which no commit of it is prepared, under way or to be judged, and its lines are forgotten.
+    pub fn forget(&mut self, s: Session, next: MemberStage)
+        requires member { IsMember s.number }
+        requires free { is_free next ≡ true }
+        ensures { (m : Sits) × (slice_get self.old.members s.number ≡ Some m)
+            × (self.new ≡ with_member s.number (forgotten next m) self.old) }
+    {
+        let member = &mut self.members[s.number as usize];
+        member.stage = next;
+        member.written = MemberLines::new(self.alloc);
     }
 }

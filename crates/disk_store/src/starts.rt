@@ -5,10 +5,11 @@ ghost use Rattle.line_store.specs.Seats.{IsMember, IsReader, outside, reading};
 ghost use Rattle.line_store.specs.Calls.{Moves};
 ghost use Rattle.line_store.specs.Sights.{Does, Stays, BeginsReading};
 ghost use Rattle.disk_store.specs.declared.member.Member.{Member as Sits};
+ghost use Rattle.disk_store.specs.declared.member.MemberStage.TheVariants.{Outside};
 ghost use Rattle.disk_store.specs.Commits.{is_free};
 ghost use Rattle.disk_store.specs.Memory.{with_member};
 ghost use Rattle.disk_store.specs.Readers.{goes_at, keeping, numbers_going};
-ghost use Rattle.disk_store.specs.Seats.{stand_at};
+ghost use Rattle.disk_store.specs.Seats.{IsAtStage, stand_at};
 ghost use Rattle.disk_store.specs.Shown.{sight_of};
 
 use crate::{Held, Member, MemberStage, Recovery};
@@ -91,11 +92,12 @@ pub fn begin_reading<D: Disk>(_disk: &D, held: &mut Held, s: Session) -> Result<
     Ok(())
 }
 
-/// A session ends its read-only transaction.
-pub fn end_reading<D: Disk>(_disk: &D, held: &mut Held, s: Session)
+/// A session ends its read-only transaction. The slots that only it wanted are still in use: `give_unwanted` gives them back.
+pub fn leave_reading<D: Disk>(_disk: &D, held: &mut Held, s: Session)
     requires member { IsMember s.number }
     requires reader { IsReader (stand_at held.old.members s.number) }
-    ensures { Does s.number outside (Moves s.number outside) (sight_of (D.view _disk.now) held.old) (sight_of (D.view _disk.now) held.new) }
+    ensures comes { Does s.number outside (Moves s.number outside) (sight_of (D.view _disk.now) held.old) (sight_of (D.view _disk.now) held.new) }
+    ensures outside { IsAtStage held.new.members s.number Outside }
 {
     let none = Reader::new(Tsn { number: 0 }, Vec::new(held.alloc));
     held.keep_start(s, MemberStage::Outside, none);

@@ -1,10 +1,11 @@
 -- A root that says that work is unfinished, and what images are behind it.
-use Rattle.std.specs.Prelude.{ℕ, ◌≡◌, ◌≢◌, ◌⊎◌, List}
+use Rattle.std.specs.Prelude.{ℕ, ◌≤◌, ◌≡◌, ◌≢◌, ◌⊎◌, IsTrue, List}
 use Rattle.rdb_types.specs.declared.file.FileId.{FileId}
-use Rattle.rdb_outside.specs.Disk.{Image, View, Pending, IsPending}
+use Rattle.rdb_outside.specs.Disk.{Image, View, Pending, IsPending, LeavesOnly}
 use Rattle.root_file.specs.declared.Root.{Root}
 use Rattle.root_file.specs.Root.{IsRoot}
 use Rattle.new_database.specs.Maker.{root_file}
+use Rattle.database_opening.specs.Others.{KeepsFile}
 
 -- the slot is a root of this state
 pub record IsRootIn (state : ℕ) (slot : List ℕ) : Type 0 where
@@ -27,10 +28,6 @@ BeforeOrIn v state image = IsPending v image ⊎ IsInState state image
 abbrev pub KeepsOthers : Image → Image → Type 0
 KeepsOthers old new = (file : FileId) (slot : ℕ) → (file ≡ root_file → slot ≢ 0) → new file slot ≡ old file slot
 
--- all files but this one are as they were
-abbrev pub KeepsOtherFiles : FileId → Image → Image → Type 0
-KeepsOtherFiles file old new = (f : FileId) (slot : ℕ) → f ≢ file → new f slot ≡ old f slot
-
 -- the content with this root
 pub record IsEndOf (content : Image) (root : Root) (image : Image) : Type 0 where
   pub is : IsRoot (image root_file 0) root
@@ -39,3 +36,17 @@ pub record IsEndOf (content : Image) (root : Root) (image : Image) : Type 0 wher
 -- still unfinished, or ended
 abbrev pub InOrEnd : ℕ → Image → Root → Image → Type 0
 InOrEnd state content root image = IsInState state image ⊎ IsEndOf content root image
+
+-- this file, and no other
+abbrev pub IsFile : FileId → FileId → Type 0
+IsFile file other = other ≡ file
+
+-- A run of calls behind such a root, which writes none but these files.
+pub record RunsBehind (may : FileId → Type 0) (old new : View) : Type 0 where
+  pub told : new.tells ≡ old.tells
+  pub no_fewer : old.faults ≤ new.faults
+  -- each image says still that it is unfinished, at every moment
+  pub guarded : (state : ℕ) → IsTrue old.tells → IsGuarded state old → IsGuarded state new
+  pub leaves : (state : ℕ) → IsTrue old.tells → IsGuarded state old → LeavesOnly old new (IsInState state)
+  -- each other file is as it was, at every moment
+  pub others : IsTrue old.tells → (file : FileId) → (may file → ⊥) → KeepsFile file old new

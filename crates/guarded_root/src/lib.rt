@@ -1,13 +1,15 @@
 //! Work on the files of a database behind a root that says that it is unfinished.
 #![tactic(auto)]
 
-ghost use Rattle.std.specs.Prelude.{◌≡◌, ◌≢◌, ◌⊎◌, OnOk, IsErr, IsTrue, length};
+ghost use Rattle.std.specs.Prelude.{◌≡◌, ◌≢◌, ◌≤◌, ◌⊎◌, OnOk, IsErr, IsTrue, length};
 ghost use Rattle.rdb_types.specs.File.{slot_bytes};
+ghost use Rattle.rdb_types.specs.declared.file.FileId.{FileId as File};
 ghost use Rattle.root_file.specs.Root.{IsRoot, IsAllowed};
-ghost use Rattle.rdb_outside.specs.Disk.{Image, View, LeftNow, LeavesOnly, Counts, Puts, zeros, IsPending};
+ghost use Rattle.rdb_outside.specs.Disk.{Image, View, LeftNow, LeavesOnly, Puts, zeros, IsPending};
 ghost use Rattle.rdb_outside.specs.Causes.{Rose};
 ghost use Rattle.new_database.specs.Maker.{root_file};
-ghost use Rattle.guarded_root.specs.Guarded.{IsInState, IsGuarded, KeepsOthers, KeepsOtherFiles, BeforeOrIn, IsEndOf, InOrEnd};
+ghost use Rattle.database_opening.specs.Others.{KeepsFile};
+ghost use Rattle.guarded_root.specs.Guarded.{IsInState, IsGuarded, KeepsOthers, BeforeOrIn, IsEndOf, InOrEnd, IsFile, RunsBehind};
 
 use rdb_outside::{Disk, Failed};
 use rdb_types::{FileId, FileKind};
@@ -21,6 +23,9 @@ const ROOT: FileId = FileId {
 /// Makes a root stable that says what is unfinished.
 pub fn guard<D: Disk>(disk: &mut D, root: &Root) -> Result<(), Failed>
     requires { IsAllowed root.now }
+    ensures told { (D.view disk.new).tells ≡ (D.view disk.old).tells }
+    ensures no_fewer { (D.view disk.old).faults ≤ (D.view disk.new).faults }
+    ensures failed { IsErr result → Rose (D.view disk.old).faults (D.view disk.new).faults }
 
     // From now on each image says so.
     ensures guarded { OnOk result (IsTrue (D.view disk.old).tells
@@ -31,7 +36,10 @@ pub fn guard<D: Disk>(disk: &mut D, root: &Root) -> Result<(), Failed>
     // A crash within leaves what it might have left before, or an image that says so.
     ensures any_moment { IsTrue (D.view disk.old).tells
         → LeavesOnly (D.view disk.old) (D.view disk.new) (BeforeOrIn (D.view disk.old) root.now.state) }
-    ensures failed { IsErr result → Rose (D.view disk.old).faults (D.view disk.new).faults }
+
+    // Each other file is as it was, at every moment.
+    ensures others { IsTrue (D.view disk.old).tells → (file : File) → file ≢ root_file
+        → KeepsFile file (D.view disk.old) (D.view disk.new) }
 {
     let mut slot = [0; 1024];
     put_root(&mut slot, root);
@@ -49,22 +57,22 @@ pub fn write_guarded<D: Disk>(
 ) -> Result<(), Failed>
     requires size { length bytes.now ≡ slot_bytes file }
     requires other { file ≢ root_file }
-    ensures guarded { (state : _) → IsTrue (D.view disk.old).tells
-        → IsGuarded state (D.view disk.old) → IsGuarded state (D.view disk.new) }
+    ensures failed { IsErr result → Rose (D.view disk.old).faults (D.view disk.new).faults }
     ensures written { OnOk result (IsTrue (D.view disk.old).tells
         → Puts file slot bytes.now (D.view disk.old).content (D.view disk.new).content) }
-    ensures any_moment { (state : _) → IsTrue (D.view disk.old).tells
-        → IsGuarded state (D.view disk.old)
-        → LeavesOnly (D.view disk.old) (D.view disk.new) (IsInState state) }
-    ensures counts { Counts (D.view disk.old) (D.view disk.new) result }
+
+    // Whatever it answers.
+    ensures runs { RunsBehind (IsFile file) (D.view disk.old) (D.view disk.new) }
 {
-    disk.write(file, slot, bytes)?;
-    Ok(())
+    disk.write(file, slot, bytes)
 }
 
 /// Ends the work: what was written is made stable, then the root.
 pub fn unguard<D: Disk>(disk: &mut D, root: &Root) -> Result<(), Failed>
     requires { IsAllowed root.now }
+    ensures told { (D.view disk.new).tells ≡ (D.view disk.old).tells }
+    ensures no_fewer { (D.view disk.old).faults ≤ (D.view disk.new).faults }
+    ensures failed { IsErr result → Rose (D.view disk.old).faults (D.view disk.new).faults }
 
     // From now on each image has the root, and what was written behind the old one.
     ensures ended { OnOk result (IsTrue (D.view disk.old).tells
@@ -76,7 +84,10 @@ pub fn unguard<D: Disk>(disk: &mut D, root: &Root) -> Result<(), Failed>
         → IsGuarded state (D.view disk.old)
         → LeavesOnly (D.view disk.old) (D.view disk.new)
         (InOrEnd state (D.view disk.old).content root.now) }
-    ensures failed { IsErr result → Rose (D.view disk.old).faults (D.view disk.new).faults }
+
+    // Each other file is as it was, at every moment.
+    ensures others { IsTrue (D.view disk.old).tells → (file : File) → file ≢ root_file
+        → KeepsFile file (D.view disk.old) (D.view disk.new) }
 {
     let mut slot = [0; 1024];
     put_root(&mut slot, root);
@@ -87,25 +98,20 @@ pub fn unguard<D: Disk>(disk: &mut D, root: &Root) -> Result<(), Failed>
 }
 
 /// Writes zeros to every slot of another file that may not be zeros.
-pub fn sweep<D: Disk>(disk: &mut D, file: FileId) -> Result<(), Failed>
-    requires size { slot_bytes file ≡ 512 }
+pub fn sweep<D: Disk>(disk: &mut D, file: FileId, blank: &[u8]) -> Result<(), Failed>
+    requires size { length blank.now ≡ slot_bytes file }
+    requires blank { blank.now ≡ zeros file }
     requires other { file ≢ root_file }
-    ensures guarded { (state : _) → IsTrue (D.view disk.old).tells
-        → IsGuarded state (D.view disk.old) → IsGuarded state (D.view disk.new) }
+    ensures failed { IsErr result → Rose (D.view disk.old).faults (D.view disk.new).faults }
     ensures zeros { OnOk result (IsTrue (D.view disk.old).tells → (slot : _)
         → (D.view disk.new).content file slot ≡ zeros file) }
-    ensures others { IsTrue (D.view disk.old).tells
-        → KeepsOtherFiles file (D.view disk.old).content (D.view disk.new).content }
-    ensures any_moment { (state : _) → IsTrue (D.view disk.old).tells
-        → IsGuarded state (D.view disk.old)
-        → LeavesOnly (D.view disk.old) (D.view disk.new) (IsInState state) }
-    ensures told { (D.view disk.new).tells ≡ (D.view disk.old).tells }
-    ensures failed { IsErr result → Rose (D.view disk.old).faults (D.view disk.new).faults }
+
+    // Whatever it answers.
+    ensures runs { RunsBehind (IsFile file) (D.view disk.old) (D.view disk.new) }
 {
-    let blank = [0; 512];
     let length = disk.length(file)?;
     for slot in 0..length {
-        disk.write(file, slot, &blank)?;
+        disk.write(file, slot, blank)?;
     }
     Ok(())
 }

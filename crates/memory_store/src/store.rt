@@ -3,11 +3,12 @@ ghost use Rattle.std.specs.Prelude.{◌≡◌, [], IfOk};
 ghost use Rattle.memory_store.specs.Kept.{empty_seats};
 
 use crate::committed::Committed;
-use crate::lines::{copy_writes, lines_of};
+use crate::lines::lines_of;
 use crate::seat::Seat;
 use area_files::{AreaFull, storage_area};
 use line_store::{ChangeStop, CommitStop, Fault, LineStore, Progress, ReadStop, Stepped};
 use line_view::{Known, Write};
+use member_memory::AddStop;
 use rdb_types::{Dbkey, Limits, Moment, NoMemory, Session};
 use std::alloc::Global;
 use std::marker::Model;
@@ -24,9 +25,8 @@ pub(crate) struct PageUse {
     pub(crate) class: u16,
 }
 
-/// Lines in memory. A line is read in time that grows with the logarithm of their count, with the writes of its transaction and with
-/// those of the commits since one was prepared; a scan, the preparation of a commit and a reader's start take a copy of all lines, and a
-/// room is looked for page by page.
+/// Lines in memory. A line is read in time that grows with the logarithm of their count; a scan and a reader's start take a copy of all
+/// lines, and a room is looked for page by page.
 #[derive(Drop)]
 pub struct MemoryStore {
     pub(crate) alloc: Global,
@@ -57,7 +57,7 @@ fn seats(alloc: Global) -> Result<Vec<Seat>, NoMemory>
 }
 
 impl MemoryStore {
-    /// A store without lines, whose area files may have as many pages as the limits say.
+    /// A store without lines. Its area files may have as many pages, and a transaction may write as many lines, as the limits of pages and of entries say.
     pub fn new(alloc: Global, limits: Limits) -> Result<MemoryStore, NoMemory>
         ensures lines { IfOk result (λ m. m.lines ≡ []) }
         ensures seats { IfOk result (λ m. m.seats ≡ empty_seats) }
@@ -180,18 +180,13 @@ impl LineStore for MemoryStore {
     }
 
     fn change(&mut self, s: Session, writes: &[Write]) -> Result<(), ChangeStop> {
-        let Ok(more) = copy_writes(self.alloc, writes) else {
-            return Err(ChangeStop::NoMemory);
-        };
-        match self.take(s).changing(more) {
-            Ok(seat) => {
-                self.put(s, seat);
-                Ok(())
-            }
-            Err(seat) => {
-                self.put(s, seat);
-                Err(ChangeStop::NoMemory)
-            }
+        let limit = self.limits.entries;
+        let (seat, changed) = self.take(s).changing(limit, writes);
+        self.put(s, seat);
+        match changed {
+            Ok(()) => Ok(()),
+            Err(AddStop::Full) => Err(ChangeStop::RujFull(limit)),
+            Err(AddStop::NoMemory) => Err(ChangeStop::NoMemory),
         }
     }
 
@@ -226,8 +221,8 @@ impl LineStore for MemoryStore {
 
     fn step(&mut self, s: Session) -> Result<Stepped, Fault> {
         match self.take(s) {
-            Seat::Committing(writes) => {
-                self.land(writes);
+            Seat::Committing(lines) => {
+                self.land(lines);
                 self.put(s, Seat::Closing);
                 Ok(Stepped::Committed(Moment { number: 0 }))
             }

@@ -5,3 +5,4 @@ pub mod First
 pub mod Behind
 pub mod Moments
 pub mod ThreeTables
+pub mod Snapless

@@ -1,11 +1,15 @@
 // What can be opened.
-ghost use Rattle.std.specs.Prelude.{ℕ};
+ghost use Rattle.std.specs.Prelude.{ℕ, ◌≡◌, ◌≢◌};
+ghost use Rattle.rdb_types.specs.declared.file.FileId.{FileId};
+ghost use Rattle.rdb_types.specs.declared.file.FileKind.TheVariants.{Snap};
 ghost use Rattle.rdb_types.specs.declared.keys.Limits.{Limits};
 ghost use Rattle.rdb_outside.specs.Disk.{Image, LeftNow};
 ghost use Rattle.new_database.specs.New.{IsNewDatabase};
 ghost use Rattle.line_view.specs.Knowledge.{Lines};
 ghost use Rattle.line_store.specs.Shelves.{Shelf};
 ghost use Rattle.line_store.specs.Calls.{MayStand};
+ghost use Rattle.stable_lines.specs.Journal.{Journal};
+ghost use Rattle.stable_lines.specs.Kept.{Kept};
 ghost use Rattle.line_moves.specs.Classes.{HaveTheirClasses};
 ghost use Rattle.member_steps.specs.Standing.{HasLines};
 ghost use Rattle.disk_store.specs.Shown.{Shown};
@@ -24,4 +28,11 @@ pub fn a_crash_leaves_what_opens<D: Disk>(disk: &D, held: &Held)
     ensures { (h : Shelf) → Shown (D.view disk.now) held.now h
         → (image : Image) → LeftNow (D.view disk.now) image
         → (lines : Lines) × HasLines image lines × MayStand h lines }
+{}
+
+/// An opening needs no slot of a snapshot file: an image is kept, whatever they hold.
+pub fn snapshot_slots_are_left_out()
+    ensures { (classes : ℕ → ℕ) (lines : Lines) (journal : Journal) (image other : Image)
+        → ((file : FileId) (slot : ℕ) → file.kind ≢ Snap → other file slot ≡ image file slot)
+        → Kept classes lines journal image → Kept classes lines journal other }
 {}

@@ -1,5 +1,7 @@
 // The words of the command line.
-use command_words::{Command, PagePlace, command_of, database_word, order_of, script_words};
+use command_words::{
+    Command, Death, DeathPoint, PagePlace, command_of, database_word, order_of, script_words,
+};
 use rdb_types::{Items, Limits, NoMemory, Word};
 use std::alloc::Global;
 
@@ -23,6 +25,16 @@ fn tell_limits(rt: &HostRuntime, limits: Limits) {
     );
 }
 
+fn tell_death(rt: &HostRuntime, death: Option<Death>) {
+    let Some(Death { session, at }) = death else {
+        return;
+    };
+    let _ = match at {
+        DeathPoint::Step(step) => println!(rt; "  session {session} dies before step {step}"),
+        DeathPoint::Barrier => println!(rt; "  session {session} dies before its barrier"),
+    };
+}
+
 fn tell_row(rt: &HostRuntime, words: &[Word]) {
     match command_of(words) {
         Some(Command::New(limits)) => tell_limits(rt, limits),
@@ -31,6 +43,7 @@ fn tell_row(rt: &HostRuntime, words: &[Word]) {
             let _ = println!(rt;
                 "  {count} scripts from word {first} on, in an order: {has_order}"
             );
+            tell_death(rt, scripts.death);
         }
         Some(Command::Verify) => {
             let _ = println!(rt; "  verify");

@@ -1,9 +1,10 @@
 // What lines of the cases say.
+use crate::following::{tell_anew, tell_crashes, tell_deaths, tell_runs};
 use crate::keeping::run_made;
 use crate::making::{tell_again, tell_stopped};
 use crate::meeting::tell_meeting;
-use crate::runs::{Fails, NONE, Outcome, run_failing};
-use crate::texts::{add_text, script_of, scripts_in, tell_written, words_in};
+use crate::runs::{Fails, NONE, run_failing, tell};
+use crate::texts::{add_text, script_of, scripts_in, words_in};
 use rdb_types::NoMemory;
 use std::alloc::Global;
 use std::sync::Wait;
@@ -23,14 +24,6 @@ impl World {
         Ok(World {
             head: Vec::new(alloc),
         })
-    }
-}
-
-fn tell<R: Print + AllocGlobal + Threads + Wait + Sync>(rt: &R, outcome: &Outcome) {
-    tell_written(rt, outcome.out.written());
-    let status = outcome.status;
-    if status != 0 {
-        let _ = println!(rt; "  status {status}");
     }
 }
 
@@ -145,6 +138,10 @@ pub fn say<R: Print + AllocGlobal + Threads + Wait + Sync>(
         }
         "say" => say_text(rt, world.head.as_slice(), rest),
         "run" => run(rt, rest, NONE),
+        "runs" => tell_runs(rt, world.head.as_slice(), rest),
+        "anew" => tell_anew(rt, rest),
+        "deaths" => tell_deaths(rt, world.head.as_slice(), rest),
+        "crashes" => tell_crashes(rt, world.head.as_slice(), rest),
         "run-long" => run_long(rt, rest),
         "say-chain" => say_chain(rt, rest),
         "failing-source" | "failing-sink" | "failing-disk" => failing(rt, about, rest),

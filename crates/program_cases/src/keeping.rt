@@ -76,7 +76,7 @@ fn run_over<R: Print + AllocGlobal + Threads + Wait + Sync>(
     Ok(run_on(rt, words.as_slice(), source, out, disk))
 }
 
-// The disk that NEW leaves.
+// The disk that NEW leaves, with room for what only reads.
 fn new_disk<R: Print + AllocGlobal + Threads + Wait + Sync>(
     rt: &R,
 ) -> Result<MemoryDisk, NoMemory> {

@@ -1,7 +1,8 @@
-//! Cases of the program as text, run over objects in memory. Each line of standard input names a command line and what the scripts say; it is echoed on standard output, and below it stands what the program writes, and its status where that isn't 0. In scripts `\n` ends a line, `\r` and `\t` are these characters, and `\1` is a byte that is no character of RDO. Scripts stand behind bars.
+//! Cases of the program as text, run over objects in memory. Each line of standard input names a command line and what the scripts say; it is echoed on standard output, and below it stands what the program writes, and its status where that isn't 0. In scripts `\n` ends a line, `\r` and `\t` are these characters, and `\1` is a byte that is no character of RDO. Scripts stand behind bars, and runs that follow one another over one database behind `#`.
 #![tactic(auto)]
 
 mod cases;
+mod following;
 mod keeping;
 mod making;
 mod meeting;

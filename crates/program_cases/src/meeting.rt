@@ -1,10 +1,10 @@
 // Sessions in threads.
 ghost use Rattle.std.specs.Prelude.{[]};
 
-use crate::runs::run_past;
+use crate::runs::{new_database, run_past};
 use crate::texts::{scripts_in, tell_written, words_in};
 use rdb_drive::{Act, Gate, Point};
-use rdb_outside::{MemoryDisk, MemorySink, MemorySource};
+use rdb_outside::{MemorySink, MemorySource};
 use rdb_types::{NoMemory, Session};
 use std::sync::Wait;
 use std::sync::atomic::{AtomicU64, Ordering};
@@ -54,7 +54,7 @@ pub fn tell_meeting<R: Print + AllocGlobal + Threads + Wait + Sync>(
     let words = words_in(alloc, line)?;
     let source = MemorySource::new(alloc, scripts_in(alloc, line)?, &[])?;
     let out = MemorySink::new(alloc, 64, &[])?;
-    let disk = MemoryDisk::new(alloc, 4, 64, &[])?;
+    let disk = new_database(rt, 0)?;
     let done = run_past(rt, words.as_slice(), source, out, disk, &gate);
     tell_written(rt, done.out.written());
     let (status, seen) = (done.status, gate.seen.load(Ordering::SeqCst));

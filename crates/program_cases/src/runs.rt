@@ -1,10 +1,14 @@
 // A run over objects in memory.
-ghost use Rattle.std.specs.Prelude.{[]};
+ghost use Rattle.std.specs.Prelude.{◌≡◌, []};
 
+use crate::texts::{tell_written, words_in};
+use command_words::script_words;
 use rdb_drive::{Act, Gate, Point};
 use rdb_outside::{MemoryDisk, MemorySink, MemorySource};
 use rdb_top::run;
 use rdb_types::{NoMemory, Session, Word};
+use std::alloc::Global;
+use std::marker::Brand;
 use std::sync::Wait;
 use std::thread::Threads;
 
@@ -27,7 +31,7 @@ pub struct Outcome {
     pub out: MemorySink,
 }
 
-/// Runs a command line past a gate.
+/// Runs a command line past a gate that has no session die.
 pub fn run_past<R: Print + AllocGlobal + Threads + Wait + Sync, G: Gate + Sync>(
     rt: &R,
     words: &[Word],
@@ -35,10 +39,20 @@ pub fn run_past<R: Print + AllocGlobal + Threads + Wait + Sync, G: Gate + Sync>(
     out: MemorySink,
     disk: MemoryDisk,
     gate: &G,
-) -> Outcome {
+) -> Outcome
+    requires calm { G.mortals gate.now ≡ [] }
+{
     let mut source = source;
     let mut out = out;
-    let finish = run(rt, rt.alloc(), words, disk, &mut source, &mut out, gate);
+    let finish = run::<R, Brand, MemoryDisk, MemorySource, MemorySink, G>(
+        rt,
+        rt.alloc(),
+        words,
+        disk,
+        &mut source,
+        &mut out,
+        gate,
+    );
     Outcome {
         status: finish.status,
         disk: finish.disk,
@@ -72,7 +86,38 @@ pub const NONE: Fails = Fails {
     disk: 0,
 };
 
-/// Runs a command line over scripts and a disk of zeros.
+/// The room of a disk for scripts: slots in each file, and calls of all runs over it.
+const SLOTS: u32 = 4096;
+
+const CALLS: u32 = 65536;
+
+/// A NEW that is done makes so many calls.
+const NEW_CALLS: u32 = 27;
+
+/// A disk of zeros, with room for a database and for scripts. The call with this number fails, 0 for none.
+pub fn wide_disk(alloc: Global, fails: u32) -> Result<MemoryDisk, NoMemory> {
+    MemoryDisk::new(alloc, SLOTS, CALLS, &[fails])
+}
+
+/// A disk with a new database, and with room for scripts. The call with this number behind those of NEW fails, 0 for none.
+pub fn new_database<R: Print + AllocGlobal + Threads + Wait + Sync>(
+    rt: &R,
+    fails: u32,
+) -> Result<MemoryDisk, NoMemory> {
+    let alloc = rt.alloc();
+    let words = words_in(alloc, "NEW --PAGES=1000 PERS")?;
+    let source = MemorySource::new(alloc, Vec::new(alloc), &[])?;
+    let out = MemorySink::new(alloc, 0, &[])?;
+    let fails = if fails == 0 {
+        0
+    } else {
+        fails.saturating_add(NEW_CALLS)
+    };
+    let disk = wide_disk(alloc, fails)?;
+    Ok(run_on(rt, words.as_slice(), source, out, disk).disk)
+}
+
+/// Runs a command line: scripts over a new database, and what says none over a disk of zeros.
 pub fn run_failing<R: Print + AllocGlobal + Threads + Wait + Sync>(
     rt: &R,
     words: &[Word],
@@ -82,6 +127,20 @@ pub fn run_failing<R: Print + AllocGlobal + Threads + Wait + Sync>(
     let alloc = rt.alloc();
     let source = MemorySource::new(alloc, scripts, &[fails.source])?;
     let out = MemorySink::new(alloc, 65536, &[fails.sink])?;
-    let disk = MemoryDisk::new(alloc, 4, 256, &[fails.disk])?;
+    let (_, said) = script_words(words);
+    let disk = if said > 0 {
+        new_database(rt, fails.disk)?
+    } else {
+        MemoryDisk::new(alloc, 4, 256, &[fails.disk])?
+    };
     Ok(run_on(rt, words, source, out, disk))
+}
+
+/// Tells what a run wrote, and its status where that isn't 0.
+pub fn tell<R: Print>(rt: &R, outcome: &Outcome) {
+    tell_written(rt, outcome.out.written());
+    let status = outcome.status;
+    if status != 0 {
+        let _ = println!(rt; "  status {status}");
+    }
 }

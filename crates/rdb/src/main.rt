@@ -12,6 +12,7 @@ use rdb_types::{Copied, Items, NoMemory, Session, Word};
 use std::alloc::Global;
 use std::env;
 use std::fs::File;
+use std::marker::Brand;
 use std::process::ExitCode;
 use std::rt::{Env, Files};
 use std::sync::Wait;
@@ -77,7 +78,15 @@ fn status_of<
 >(rt: &R, alloc: Global, words: &[Word], disk: D) -> Result<u8, NoMemory> {
     let mut scripts = HostSource::over(rt, alloc, names_of(words))?;
     let mut out = HostSink::over(rt)?;
-    let finish = run(rt, alloc, words, disk, &mut scripts, &mut out, &OpenGate {});
+    let finish = run::<R, Brand, D, HostSource<R>, HostSink<R>, OpenGate>(
+        rt,
+        alloc,
+        words,
+        disk,
+        &mut scripts,
+        &mut out,
+        &OpenGate {},
+    );
     Ok(finish.status)
 }
 

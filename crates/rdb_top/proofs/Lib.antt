@@ -2,3 +2,6 @@ mod Upward
 mod Givens
 mod Reading
 mod Unsaid
+mod Fewness
+mod Saying
+mod Deaths

@@ -1,18 +1,24 @@
 -- What a run says and writes, and how it ends.
-use Rattle.std.specs.Prelude.{◌≡◌, ◌⊎◌, ℕ, Bool, true, List, ◌∷◌, [], map, length, nat_eq, Option, None, Some}
+use Rattle.std.specs.Prelude.{◌≡◌, ◌⊎◌, ℕ, Bool, true, false, List, ◌∷◌, [], map, length, nat_eq, Option, None, Some}
 use Rattle.std.specs.List.{list_any, flat_map}
 use Rattle.rdo_ast.specs.declared.syntax.Item.{Item}
 use Rattle.rdo_parser.specs.Script.{script_items}
 use Rattle.rdb_drive.specs.Orders.{upward}
 use Rattle.rdb_account.specs.declared.event.Event.{Event}
+use Rattle.rdb_account.specs.declared.event.Event.TheVariants as event
 use Rattle.rdb_account.specs.Events.{event_of}
-use Rattle.rdb_account.specs.Legal.{IsLegal, AreWhole}
+use Rattle.rdb_account.specs.Legal.{IsLegal}
+use Rattle.rdb_account.specs.Places.{Opening}
 use Rattle.rdb_account.specs.Transcript.{transcript}
-use Rattle.session_steps.specs.Openings.{opening}
-use Rattle.cluster.specs.Turns.{KeepsTurns, is_session}
+use Rattle.line_cluster.specs.Turned.{HaveAllEnded}
+use Rattle.line_drive.specs.Turns.{KeepsTurns}
+use Rattle.line_opening.specs.declared.fault.OpeningFault.{OpeningFault}
+use Rattle.line_opening.specs.declared.fault.OpeningFault.TheVariants as fault
+use Rattle.line_runs.specs.Openings.{said_to}
 use Rattle.command_words.specs.declared.words.Scripts.{Scripts}
 use Rattle.command_words.specs.declared.words.Command.{Command}
 use Rattle.command_words.specs.declared.words.Command.TheVariants.{New, Rdo, Verify, Dump, DumpPage}
+use Rattle.rdb_top.specs.Deaths.{letting}
 use Rattle.script_streams.specs.declared.read.ReadStop.{ReadStop}
 use Rattle.script_streams.specs.declared.read.ReadStop.TheVariants.{Failed, OutOfMemory, TooLong}
 
@@ -33,30 +39,55 @@ sessions_of (Some Verify) = 0
 sessions_of (Some Dump) = 0
 sessions_of (Some (DumpPage place)) = 0
 
--- the statuses at which every item was said
-abbrev pub IsWhole : ℕ → Type 0
-IsWhole status = (status ≡ 0) ⊎ (status ≡ 6)
+-- the statuses at which everything was written
+abbrev pub IsWritten : ℕ → Type 0
+IsWritten status = (status ≡ 0) ⊎ (status ≡ 8)
 
--- the account of a run of these scripts' items is legal, whole where every item was said, and keeps to the order where there is one
-abbrev pub IsRun : List ℕ → Scripts → List ℕ → ℕ → List Event → List (List Item) → Type 0
-IsRun word given order status events scripts =
-    IsLegal (opening word scripts) (map event_of events)
-    × (IsWhole status → AreWhole (is_session given.count) (opening word scripts) (map event_of events))
-    × (given.has_order ≡ true → IsWhole status → KeepsTurns (opening word scripts) given.count order events)
+-- the statuses at which every session that lived said its script to the end
+abbrev pub IsWhole : ℕ → Type 0
+IsWhole status = IsWritten status ⊎ (status ≡ 6)
+
+abbrev pub is_death : Event → Bool
+is_death (event.Began s kind) = false
+is_death (event.Wanted s node mode at) = false
+is_death (event.Got s node mode) = false
+is_death (event.Demoted s node from to) = false
+is_death (event.Said s item keys reply) = false
+is_death (event.Committed s moment) = false
+is_death (event.RolledBack s) = false
+is_death (event.Died s cause) = true
+is_death (event.Recovered s committed moment) = false
+
+-- some session died
+abbrev pub has_death : List Event → Bool
+has_death events = list_any is_death events
+
+-- the account of a run of these scripts' items is legal, whole where every session that lived said its items, and keeps to the order where there is one
+abbrev pub IsRun : Opening → List ℕ → Scripts → List ℕ → ℕ → List Event → List (List Item) → Type 0
+IsRun o word given order status events scripts =
+    IsLegal (said_to (letting given.death o) word scripts) (map event_of events)
+    × (IsWhole status → HaveAllEnded (said_to (letting given.death o) word scripts) given.count (map event_of events))
+    × (given.has_order ≡ true → IsWhole status → KeepsTurns (said_to (letting given.death o) word scripts) given.count order events)
 
 -- there are so many scripts of which it holds: where the source tells them, its own
 abbrev pub OfSomeScripts : ℕ → Type 0 → List (List Item) → (List (List Item) → Type 0) → Type 0
 OfSomeScripts sessions Tells own Holds = (scripts : List (List Item)) × (length scripts ≡ sessions) × (Tells → scripts ≡ own) × Holds scripts
 
 abbrev pub is_status : ℕ → Bool
-is_status n = list_any (nat_eq n) (0 ∷ 1 ∷ 2 ∷ 3 ∷ 4 ∷ 5 ∷ 6 ∷ 7 ∷ 9 ∷ 10 ∷ [])
+is_status n = list_any (nat_eq n) (0 ∷ 1 ∷ 2 ∷ 3 ∷ 4 ∷ 5 ∷ 6 ∷ 7 ∷ 8 ∷ 9 ∷ 10 ∷ [])
 
 -- the statuses of a run of scripts
 abbrev pub is_script_status : ℕ → Bool
-is_script_status n = list_any (nat_eq n) (0 ∷ 2 ∷ 5 ∷ 6 ∷ 10 ∷ [])
+is_script_status n = list_any (nat_eq n) (0 ∷ 2 ∷ 3 ∷ 4 ∷ 5 ∷ 6 ∷ 8 ∷ 10 ∷ [])
 
 -- the status of a script that wasn't read
 abbrev pub status_at : ReadStop → ℕ
 status_at Failed = 2
 status_at OutOfMemory = 5
 status_at TooLong = 10
+
+-- the status of a database that wasn't opened
+abbrev pub unopened_status : OpeningFault → ℕ
+unopened_status fault.Failed = 3
+unopened_status fault.NoMemory = 5
+unopened_status (fault.Bad file slot) = 4

@@ -1,7 +1,8 @@
 //! The top call: a command, by its words, over a disk, scripts and an output.
 #![tactic(auto)]
 
+mod dying;
 mod scripts;
 mod top;
 
-pub use top::{Accounts, Finish, run};
+pub use top::{Finish, run};

@@ -1,17 +1,19 @@
 //! The scripts of the sessions, read and written.
-ghost use Rattle.std.specs.Prelude.{◌≡◌, ◌≢◌, ◌≤◌, ◌<◌, ◌^◌, ◌⊎◌, ◌++◌, ℕ, true, length, IfOk, IsOk, OnOk, IsErrOf};
+ghost use Rattle.std.specs.Prelude.{◌≡◌, ◌≢◌, ◌≤◌, ◌<◌, ◌^◌, ◌⊎◌, ◌++◌, ℕ, true, length, All, IfOk, IsOk, OnOk, IsErrOf};
 ghost use Rattle.rdb_outside.specs.Causes.{Rose};
 ghost use Rattle.rdo_parser.specs.Script.{script_items};
 ghost use Rattle.rdb_drive.specs.Boards.{IsSession};
 ghost use Rattle.script_streams.specs.Fronts.{WritesFront};
-ghost use Rattle.rdb_top.specs.Runs.{scripts_of, transcripts};
+ghost use Rattle.rdb_top.specs.Runs.{has_death, scripts_of, transcripts};
 
-use rdb_account::{Account, transcript};
+use ordered_entries::Entries;
+use rdb_account::{Account, Event, Events, transcript};
+use rdb_meaning::Tables;
 use rdb_outside::{Sink, Source};
 use rdb_types::{Bytes, NoMemory, Session};
 use rdo_parser::Script;
 use script_streams::{ReadStop, read_script, write_all};
-use session_steps::ItemQueue;
+use session_states::ItemQueue;
 use std::alloc::Global;
 
 // The items of a script's text.
@@ -33,6 +35,7 @@ fn items_of(alloc: Global, text: &[u8]) -> Result<ItemQueue, NoMemory>
 // The items of a session's script.
 fn read_items<S: Source>(alloc: Global, source: &mut S, session: u32) -> Result<ItemQueue, ReadStop>
     ensures items { S.tells source.old ≡ true → IfOk result (λ items. items ≡ script_items (S.left source.old session)) }
+    ensures few { IfOk result (λ items. length items < 2 ^ 32) }
     ensures told { S.tells source.new ≡ S.tells source.old }
     ensures others { S.tells source.old ≡ true → (other : ℕ) → other ≢ session → S.left source.new other ≡ S.left source.old other }
     ensures short { S.tells source.old ≡ true → IsOk result → length (S.left source.old session) ≤ 1048576 }
@@ -55,6 +58,7 @@ pub fn read_scripts<S: Source>(
 ) -> Result<Vec<ItemQueue>, ReadStop>
     ensures items { S.tells source.old ≡ true → IfOk result (λ scripts. scripts.items ≡ scripts_of (S.left source.old) sessions) }
     ensures length { IfOk result (λ scripts. length scripts.items ≡ sessions) }
+    ensures few { IfOk result (λ scripts. All (λ items. length items < 2 ^ 32) scripts.items) }
     ensures short { S.tells source.old ≡ true → IsOk result → (s : ℕ) → IsSession sessions s → length (S.left source.old s) ≤ 1048576 }
     ensures long { S.tells source.old ≡ true → IsErrOf result ReadStop.TooLong → (s : ℕ) × IsSession sessions s × (1048576 < length (S.left source.old s)) }
     ensures cause { IsErrOf result ReadStop.Failed → Rose (S.faults source.old) (S.faults source.new) }
@@ -67,6 +71,31 @@ pub fn read_scripts<S: Source>(
         }
     }
     Ok(scripts)
+}
+
+/// An account with these events, to be written. No transcript asks for its tables.
+pub fn account_of(alloc: Global, events: Events) -> Account
+    ensures { result.events ≡ events }
+{
+    Account {
+        opening: Tables {
+            globals: Entries::new(alloc),
+            relations: Entries::new(alloc),
+            indexes: Entries::new(alloc),
+        },
+        events,
+    }
+}
+
+/// Whether some session died.
+pub fn some_died(account: &Account) -> bool
+    ensures { result ≡ has_death account.now.events }
+{
+    account
+        .events
+        .as_slice()
+        .iter()
+        .any(|event| matches!(event, Event::Died(..)))
 }
 
 // All transcripts, one after another.

@@ -1,4 +1,5 @@
-ghost use Rattle.std.specs.Prelude.{◌≡◌, ◌⊎◌, ◌↔◌, ◌<◌, ◌≤◌, true, false, None, Some, ◌++◌, length, map, ℕ, List, [], All, IsTrue, IfOk, OnErr};
+ghost use Rattle.std.specs.Prelude.{◌≡◌, ◌⊎◌, ◌↔◌, ◌<◌, ◌≤◌, ◌^◌, ℕ, true, false, None, Some, ◌++◌, length, map, [], All, IsTrue, IfOk};
+ghost use Rattle.rdb_types.specs.declared.file.FileId.{FileId as File};
 ghost use Rattle.rdb_types.specs.declared.keys.Limits.{Limits};
 ghost use Rattle.rdb_outside.specs.Causes.{Rose};
 ghost use Rattle.rdb_outside.specs.Disk.{Image, LeftNow, LeavesOnly, Keeps, OnlyReads};
@@ -9,63 +10,63 @@ ghost use Rattle.command_words.specs.declared.words.Scripts.{Scripts as GivenScr
 ghost use Rattle.command_words.specs.declared.words.PagePlace.{PagePlace as GivenPage};
 ghost use Rattle.command_words.specs.Words.{command_of as command_for, word_of, order_in, only_reads, AreLast};
 ghost use Rattle.script_streams.specs.Fronts.{WritesFront};
-ghost use Rattle.rdb_drive.specs.Boards.{IsSession};
-ghost use Rattle.rdb_meaning.specs.Contents.{no_tables};
+ghost use Rattle.rdb_drive.specs.Boards.{IsSession, MayDie};
 ghost use Rattle.rdb_account.specs.Events.{event_of};
-ghost use Rattle.rdb_account.specs.Legal.{IsLegal, AreWhole};
-ghost use Rattle.session_steps.specs.Openings.{opening};
-ghost use Rattle.cluster.specs.Turns.{KeepsTurns, is_session};
+ghost use Rattle.rdb_account.specs.Legal.{IsLegal};
+ghost use Rattle.line_cluster.specs.Sound.{FollowsScripts, MayFail};
+ghost use Rattle.line_cluster.specs.Turned.{HaveAllEnded};
+ghost use Rattle.line_drive.specs.Boards.{mortals_of};
+ghost use Rattle.line_drive.specs.Turns.{KeepsTurns};
+ghost use Rattle.line_runs.specs.Openings.{HasNoNumbers, OpensWith, said_to};
+ghost use Rattle.line_runs.specs.Prefix.{HoldsAll, HoldsPrefix};
 ghost use Rattle.rmu_commands.specs.Usable.{HasRootInUse, IsUsable, IsDumped};
 ghost use Rattle.rmu_commands.specs.Written.{Verifies, Dumps, DumpsPage, IsCleanDatabase, is_verify_status, is_dump_status};
-ghost use Rattle.rdb_top.specs.Runs.{IsWhole, IsRun, OfSomeScripts, is_status, is_script_status, status_at, scripts_of, transcripts, sessions_of};
+ghost use Rattle.rdb_top.specs.Runs.{IsRun, IsWhole, IsWritten, has_death, OfSomeScripts, is_status, is_script_status, status_at, unopened_status, scripts_of, transcripts, sessions_of};
+ghost use Rattle.rdb_top.specs.Deaths.{letting};
 
-use crate::scripts::{read_scripts, write_transcripts};
-use cluster::{Cluster, Origin, Ran, no_tables, run_in_order, run_in_threads};
+use crate::dying::Dying;
+use crate::scripts::{account_of, read_scripts, some_died, write_transcripts};
 use command_words::{Command, Scripts, command_of, order_of};
+use line_cluster::Origin;
+use line_opening::OpeningFault;
+use line_runs::{LineRun, Said, say_in_order, say_in_threads};
 use new_database::{NewFault, make_new};
-use rdb_account::Account;
+use rdb_account::{Account, Events};
 use rdb_drive::Gate;
 use rdb_outside::{Disk, Sink, Source};
 use rdb_types::{Copied, Items, Limits, NoMemory, Word};
+use rdo_reserving::ReservingStatements;
 use rmu_commands::{dump_command, page_command, verify_command};
 use script_streams::ReadStop;
-use session_steps::ItemQueue;
+use session_jobs::Statements;
+use session_states::ItemQueue;
 use std::alloc::Global;
 use std::marker::{Brand, Send};
 use std::sync::Wait;
 use std::thread::Threads;
 
-/// The accounts of the runs of sessions before the last one.
-pub type Accounts = Items<Account>;
-
-/// How a run ended.
+/// How a run ended, and what happened in it.
 #[derive(Drop)]
-pub struct Finish<D> {
+pub struct Finish<D: Drop> {
     pub status: u8,
     pub disk: D,
-    pub account: Account,
-    pub earlier: Accounts,
+    pub events: Events,
+    /// The events of the runs of sessions before the last one.
+    pub earlier: Items<Events>,
 }
 
-/// How the sessions ended.
+/// The words of a command that says scripts.
+#[derive(Clone, Copy)]
+struct Asked<'a> {
+    words: &'a [Word],
+    given: Scripts,
+}
+
+/// The database's word, and the sessions of the order.
 #[derive(Drop)]
-struct Ended {
-    status: u8,
-    account: Account,
-}
-
-fn unsaid(alloc: Global, status: u8) -> Ended
-    ensures status { result.status ≡ status }
-    ensures opening { result.account.opening ≡ no_tables }
-    ensures events { result.account.events ≡ [] }
-{
-    Ended {
-        status,
-        account: Account {
-            opening: no_tables(alloc),
-            events: Items::new(alloc),
-        },
-    }
+struct Named {
+    word: Word,
+    order: Items<u32>,
 }
 
 fn status_of(stop: ReadStop) -> u8
@@ -78,135 +79,253 @@ fn status_of(stop: ReadStop) -> u8
     }
 }
 
-/// What is handed back.
-fn ended_with<D>(alloc: Global, ended: Ended, disk: D) -> Finish<D>
-    ensures status { result.status ≡ ended.status }
+fn status_unopened(fault: OpeningFault) -> u8
+    ensures { result ≡ unopened_status fault }
+{
+    match fault {
+        OpeningFault::Failed => 3,
+        OpeningFault::NoMemory => 5,
+        OpeningFault::Bad(_, _) => 4,
+    }
+}
+
+/// What is handed back of a command that says no script.
+fn unsaid<D: Drop>(alloc: Global, status: u8, disk: D) -> Finish<D>
+    ensures status { result.status ≡ status }
     ensures disk { result.disk ≡ disk }
-    ensures account { result.account ≡ ended.account }
+    ensures events { result.events ≡ [] }
     ensures earlier { result.earlier ≡ [] }
 {
     Finish {
-        status: ended.status,
+        status,
         disk,
-        account: ended.account,
+        events: Items::new(alloc),
         earlier: Items::new(alloc),
     }
 }
 
 // Runs the sessions of an origin: by the order, where the words have one, else in threads.
-fn run_of<R: Threads + Wait + Sync, O: Origin + Send, G: Gate + Sync>(
+fn run_of<R: Threads + Wait + Sync, O: Origin + Send, D: Disk + Drop + Send, G: Gate + Sync>(
     rt: &R,
     alloc: Global,
-    word: Word,
-    scripts: Vec<ItemQueue>,
+    disk: D,
+    said: Said,
     given: Scripts,
     order: &[u32],
     gate: &G,
-) -> Result<Ran, NoMemory>
-    requires word { word ≡ O.word }
-    requires scripts { scripts.items ≡ O.scripts }
-    requires sessions { given.count ≡ length O.scripts }
-    requires few { given.count ≤ 16 }
-    requires entries { All (λ s. IsSession (length O.scripts) s) order.now }
-    ensures legal { IfOk result (λ ran. IsLegal (opening O.word O.scripts) (map event_of ran.events)) }
-    ensures whole { IfOk result (λ ran. ran.is_whole ≡ true → AreWhole (is_session (length O.scripts)) (opening O.word O.scripts) (map event_of ran.events)) }
-    ensures order { IfOk result (λ ran. given.has_order ≡ true → ran.is_whole ≡ true → KeepsTurns (opening O.word O.scripts) (length O.scripts) order.now ran.events) }
+) -> LineRun<D>
+    requires sessions { length said.scripts.items ≡ O.sessions }
+    requires few { O.sessions ≤ 16 }
+    requires short { All (λ items. length items < 2 ^ 32) said.scripts.items }
+    requires scripts { FollowsScripts O.opening said.scripts.items }
+    requires mortal { MayFail O.opening }
+    requires entries { All (λ s. IsSession O.sessions s) order.now }
+    requires word { said.word ≡ O.opening.word }
+    requires mortals { MayDie (G.mortals gate.now) (mortals_of O.opening O.sessions) }
+    requires opens { O.told → OpensWith ⟦<ReservingStatements as Statements>⟧.stands (D.view disk) O.opening }
+    ensures legal { O.told → IsLegal O.opening (map event_of result.events) }
+    ensures whole { O.told → result.is_whole ≡ true → HaveAllEnded O.opening O.sessions (map event_of result.events) }
+    ensures order { given.has_order ≡ true → O.told → result.is_whole ≡ true → KeepsTurns O.opening O.sessions order.now result.events }
+    ensures images { O.told → result.fault ≡ None → HoldsPrefix ⟦<ReservingStatements as Statements>⟧.stands O.opening (D.view result.disk) (map event_of result.events) }
+    ensures left { O.told → result.is_whole ≡ true → HoldsAll ⟦<ReservingStatements as Statements>⟧.stands O.opening (D.view result.disk) (map event_of result.events) }
+    ensures unsaid { (result.fault ≡ None → ⊥) → result.events ≡ [] }
+    ensures failed { result.fault ≡ Some OpeningFault.Failed → Rose (D.view disk).faults (D.view result.disk).faults }
+    ensures bad { (file : File) (slot : ℕ) → result.fault ≡ Some (OpeningFault.Bad file slot) → HasNoNumbers (D.view disk) }
 {
-    let cluster: Cluster<O> = Cluster::start(alloc, word, scripts)?;
     if given.has_order {
-        Ok(run_in_order(cluster, given.count, order, gate))
+        say_in_order::<O, D, G>(alloc, disk, said, order, gate)
     } else {
-        Ok(run_in_threads(rt, cluster, given.count, gate))
+        say_in_threads::<R, O, D, G>(rt, alloc, disk, said, gate)
     }
 }
 
-// The database's word.
-fn database_of(alloc: Global, words: &[Word], given: Scripts) -> Result<Word, NoMemory>
-    requires { AreLast words.now given }
-    ensures { IfOk result (λ word. word ≡ word_of words.now) }
+// What the words name.
+fn named_by(alloc: Global, asked: Asked<'_>) -> Result<Named, NoMemory>
+    requires row { command_for asked.words.now ≡ Some (Command.Rdo asked.given) }
+    requires last { AreLast asked.words.now asked.given }
+    ensures word { IfOk result (λ named. named.word ≡ word_of asked.entry.words.now) }
+    ensures order { IfOk result (λ named. named.order ≡ order_in asked.entry.words.now) }
+    ensures sessions { IfOk result (λ named. All (λ s. IsSession asked.entry.given.count s) named.order) }
 {
-    words[given.first - 1].copied(alloc)
+    let order = order_of(alloc, asked.words)?;
+    let word = asked.words[asked.given.first - 1].copied(alloc)?;
+    Ok(Named { word, order })
 }
 
-// Says the items of the scripts to the database that the words name.
-fn say_scripts<R: Threads + Wait + Sync, G: Gate + Sync>(
+// No memory was found before the database was opened.
+fn unopened<D: Drop>(alloc: Global, disk: D) -> LineRun<D>
+    ensures disk { result.disk ≡ disk }
+    ensures events { result.events ≡ [] }
+    ensures is_whole { result.is_whole ≡ false }
+    ensures fault { result.fault ≡ Some OpeningFault.NoMemory }
+{
+    LineRun {
+        disk,
+        events: Items::new(alloc),
+        is_whole: false,
+        fault: Some(OpeningFault::NoMemory),
+    }
+}
+
+// Says the items of the scripts to the database that the words name. The disk holds what the origin names.
+fn say_scripts<R: Threads + Wait + Sync, O: Origin, D: Disk + Drop + Send, G: Gate + Sync>(
     rt: &R,
     alloc: Global,
-    words: &[Word],
-    given: Scripts,
+    asked: Asked<'_>,
+    disk: D,
     scripts: Vec<ItemQueue>,
     gate: &G,
-) -> Result<Ran, NoMemory>
-    requires row { command_for words.now ≡ Some (Command.Rdo given) }
-    requires last { AreLast words.now given }
-    requires count { length scripts.items ≡ given.count }
-    ensures legal { IfOk result (λ ran. IsLegal (opening (word_of words.now) scripts.items) (map event_of ran.events)) }
-    ensures whole { IfOk result (λ ran. ran.is_whole ≡ true → AreWhole (is_session given.count) (opening (word_of words.now) scripts.items) (map event_of ran.events)) }
-    ensures order { IfOk result (λ ran. given.has_order ≡ true → ran.is_whole ≡ true → KeepsTurns (opening (word_of words.now) scripts.items) given.count (order_in words.now) ran.events) }
+) -> LineRun<D>
+    requires row { command_for asked.words.now ≡ Some (Command.Rdo asked.given) }
+    requires last { AreLast asked.words.now asked.given }
+    requires mortal { MayFail O.opening }
+    requires mortals { MayDie (G.mortals gate.now) (mortals_of O.opening asked.given.count) }
+    requires count { length scripts.items ≡ asked.given.count }
+    requires short { All (λ items. length items < 2 ^ 32) scripts.items }
+    requires opens { O.told → OpensWith ⟦<ReservingStatements as Statements>⟧.stands (D.view disk) O.opening }
+    ensures legal { O.told → IsLegal (said_to (letting asked.entry.given.death O.opening) (word_of asked.entry.words.now) scripts.items) (map event_of result.events) }
+    ensures whole { O.told → result.is_whole ≡ true → HaveAllEnded (said_to (letting asked.entry.given.death O.opening) (word_of asked.entry.words.now) scripts.items) asked.entry.given.count (map event_of result.events) }
+    ensures order { asked.entry.given.has_order ≡ true → O.told → result.is_whole ≡ true →
+        KeepsTurns (said_to (letting asked.entry.given.death O.opening) (word_of asked.entry.words.now) scripts.items) asked.entry.given.count (order_in asked.entry.words.now) result.events }
+    ensures images { O.told → result.fault ≡ None → HoldsPrefix ⟦<ReservingStatements as Statements>⟧.stands (said_to (letting asked.entry.given.death O.opening) (word_of asked.entry.words.now) scripts.items) (D.view result.disk) (map event_of result.events) }
+    ensures left { O.told → result.is_whole ≡ true → HoldsAll ⟦<ReservingStatements as Statements>⟧.stands (said_to (letting asked.entry.given.death O.opening) (word_of asked.entry.words.now) scripts.items) (D.view result.disk) (map event_of result.events) }
+    ensures unsaid { (result.fault ≡ None → ⊥) → result.events ≡ [] }
+    ensures failed { result.fault ≡ Some OpeningFault.Failed → Rose (D.view disk).faults (D.view result.disk).faults }
+    ensures bad { (file : File) (slot : ℕ) → result.fault ≡ Some (OpeningFault.Bad file slot) → HasNoNumbers (D.view disk) }
 {
-    let order = order_of(alloc, words)?;
-    let word = database_of(alloc, words, given)?;
-    run_of::<R, Brand, G>(rt, alloc, word, scripts, given, order.as_slice(), gate)
+    let given = asked.given;
+    match named_by(alloc, asked) {
+        Err(_) => unopened(alloc, disk),
+        Ok(Named { word, order }) => run_of::<R, Brand, D, Dying<'_, G>>(
+            rt,
+            alloc,
+            disk,
+            Said { word, scripts },
+            given,
+            order.as_slice(),
+            &Dying::of(given.death, gate),
+        ),
+    }
+}
+
+// The status of a run that is whole, by that of the writing: some session died, and nothing else is to be told.
+fn status_whole(written: u8, account: &Account) -> u8
+    requires written { (written ≡ 0) ⊎ (written ≡ 5) ⊎ (written ≡ 6) }
+    ensures status { (result ≡ 0) ⊎ (result ≡ 5) ⊎ (result ≡ 6) ⊎ (result ≡ 8) }
+    ensures wrote { IsWritten result → written ≡ 0 }
+    ensures sink { result ≡ 6 → written ≡ 6 }
+    ensures died { result ≡ 8 → has_death account.now.events ≡ true }
+    ensures lived { result ≡ 0 → has_death account.now.events ≡ false }
+{
+    if written == 0 && some_died(account) {
+        8
+    } else {
+        written
+    }
 }
 
 // Writes what the sessions were answered, where all came to their ends.
-fn finish_scripts<K: Sink>(alloc: Global, ran: Ran, sessions: u32, out: &mut K) -> Ended
-    ensures status { (result.status ≡ 0) ⊎ (result.status ≡ 5) ⊎ (result.status ≡ 6) }
-    ensures opening { result.account.opening ≡ no_tables }
-    ensures events { result.account.events ≡ ran.events }
+fn finish_scripts<D: Drop, K: Sink>(
+    alloc: Global,
+    ran: LineRun<D>,
+    sessions: u32,
+    out: &mut K,
+) -> Finish<D>
+    ensures status { is_script_status result.status ≡ true }
+    ensures read { (result.status ≡ 2) ⊎ (result.status ≡ 10) → ⊥ }
+    ensures disk { result.disk ≡ ran.disk }
+    ensures events { result.events ≡ ran.events }
+    ensures earlier { result.earlier ≡ [] }
     ensures whole { IsWhole result.status → ran.is_whole ≡ true }
+    ensures died { result.status ≡ 8 → has_death ran.events ≡ true }
+    ensures lived { result.status ≡ 0 → has_death ran.events ≡ false }
+    ensures failed { result.status ≡ 3 → ran.fault ≡ Some OpeningFault.Failed }
+    ensures bad { result.status ≡ 4 → (file : File) × (slot : ℕ) × (ran.fault ≡ Some (OpeningFault.Bad file slot)) }
     ensures sink { result.status ≡ 6 → Rose (K.faults out.old) (K.faults out.new) }
-    ensures written { K.tells out.old ≡ true → result.status ≡ 0 → K.taken out.new ≡ K.taken out.old ++ transcripts sessions ran.events }
+    ensures written { K.tells out.old ≡ true → IsWritten result.status → K.taken out.new ≡ K.taken out.old ++ transcripts sessions ran.events }
     ensures front { K.tells out.old ≡ true → WritesFront (K.taken out.old) (K.taken out.new) (transcripts sessions ran.events) }
 {
-    let account = Account {
-        opening: no_tables(alloc),
-        events: ran.events,
+    let LineRun {
+        disk,
+        events,
+        is_whole,
+        fault,
+    } = ran;
+    let account = account_of(alloc, events);
+    let status = match fault {
+        Some(fault) => status_unopened(fault),
+        None => {
+            if is_whole {
+                status_whole(write_transcripts(alloc, &account, sessions, out), &account)
+            } else {
+                5
+            }
+        }
     };
-    let status = if ran.is_whole {
-        write_transcripts(alloc, &account, sessions, out)
-    } else {
-        5
-    };
-    Ended { status, account }
+    Finish {
+        status,
+        disk,
+        events: account.events,
+        earlier: Items::new(alloc),
+    }
 }
 
-// Reads the scripts, says them and writes what was answered.
-fn run_rdo<R: Threads + Wait + Sync, S: Source, K: Sink, G: Gate + Sync>(
+// Reads the scripts, says them to the database and writes what was answered.
+fn run_rdo<
+    R: Threads + Wait + Sync,
+    O: Origin,
+    D: Disk + Drop + Send,
+    S: Source,
+    K: Sink,
+    G: Gate + Sync,
+>(
     rt: &R,
     alloc: Global,
-    words: &[Word],
-    given: Scripts,
+    asked: Asked<'_>,
+    disk: D,
     scripts: &mut S,
     out: &mut K,
     gate: &G,
-) -> Ended
-    requires row { command_for words.now ≡ Some (Command.Rdo given) }
-    requires last { AreLast words.now given }
+) -> Finish<D>
+    requires row { command_for asked.words.now ≡ Some (Command.Rdo asked.given) }
+    requires last { AreLast asked.words.now asked.given }
+    requires mortal { MayFail O.opening }
+    requires mortals { MayDie (G.mortals gate.now) (mortals_of O.opening asked.given.count) }
+    requires opens { O.told → OpensWith ⟦<ReservingStatements as Statements>⟧.stands (D.view disk) O.opening }
+    ensures earlier { result.earlier ≡ [] }
     ensures status { is_script_status result.status ≡ true }
     ensures source { result.status ≡ 2 → Rose (S.faults scripts.old) (S.faults scripts.new) }
+    ensures device { result.status ≡ 3 → Rose (D.view disk).faults (D.view result.disk).faults }
+    ensures unopened { result.status ≡ 4 → HasNoNumbers (D.view disk) }
     ensures sink { result.status ≡ 6 → Rose (K.faults out.old) (K.faults out.new) }
-    ensures long { S.tells scripts.old ≡ true → result.status ≡ 10 → (s : ℕ) × IsSession given.count s × (1048576 < length (S.left scripts.old s)) }
-    ensures too_long { S.tells scripts.old ≡ true → (s : ℕ) → IsSession given.count s → 1048576 < length (S.left scripts.old s) →
+    ensures long { S.tells scripts.old ≡ true → result.status ≡ 10 → (s : ℕ) × IsSession asked.entry.given.count s × (1048576 < length (S.left scripts.old s)) }
+    ensures too_long { S.tells scripts.old ≡ true → (s : ℕ) → IsSession asked.entry.given.count s → 1048576 < length (S.left scripts.old s) →
         (result.status ≡ 2) ⊎ (result.status ≡ 5) ⊎ (result.status ≡ 10) }
-    ensures opening { result.account.opening ≡ no_tables }
-    ensures unread { (result.status ≡ 2) ⊎ (result.status ≡ 10) → result.account.events ≡ [] }
-    ensures account { OfSomeScripts given.count (S.tells scripts.old ≡ true) (scripts_of (S.left scripts.old) given.count)
-        (IsRun (word_of words.now) given (order_in words.now) result.status result.account.events) }
-    ensures legal { S.tells scripts.old ≡ true → IsLegal (opening (word_of words.now) (scripts_of (S.left scripts.old) given.count)) (map event_of result.account.events) }
-    ensures whole { S.tells scripts.old ≡ true → IsWhole result.status →
-        AreWhole (is_session given.count) (opening (word_of words.now) (scripts_of (S.left scripts.old) given.count)) (map event_of result.account.events) }
-    ensures order { given.has_order ≡ true → S.tells scripts.old ≡ true → IsWhole result.status →
-        KeepsTurns (opening (word_of words.now) (scripts_of (S.left scripts.old) given.count)) given.count (order_in words.now) result.account.events }
-    ensures written { K.tells out.old ≡ true → result.status ≡ 0 → K.taken out.new ≡ K.taken out.old ++ transcripts given.count result.account.events }
-    ensures front { K.tells out.old ≡ true → WritesFront (K.taken out.old) (K.taken out.new) (transcripts given.count result.account.events) }
+    ensures unread { (result.status ≡ 2) ⊎ (result.status ≡ 10) → result.events ≡ [] }
+    ensures died { result.status ≡ 8 → has_death result.events ≡ true }
+    ensures lived { result.status ≡ 0 → has_death result.events ≡ false }
+    ensures account { O.told → OfSomeScripts asked.entry.given.count (S.tells scripts.old ≡ true) (scripts_of (S.left scripts.old) asked.entry.given.count)
+        (IsRun O.opening (word_of asked.entry.words.now) asked.entry.given (order_in asked.entry.words.now) result.status result.events) }
+    ensures legal { O.told → S.tells scripts.old ≡ true →
+        IsLegal (said_to (letting asked.entry.given.death O.opening) (word_of asked.entry.words.now) (scripts_of (S.left scripts.old) asked.entry.given.count)) (map event_of result.events) }
+    ensures whole { O.told → S.tells scripts.old ≡ true → IsWhole result.status →
+        HaveAllEnded (said_to (letting asked.entry.given.death O.opening) (word_of asked.entry.words.now) (scripts_of (S.left scripts.old) asked.entry.given.count)) asked.entry.given.count (map event_of result.events) }
+    ensures order { asked.entry.given.has_order ≡ true → O.told → S.tells scripts.old ≡ true → IsWhole result.status →
+        KeepsTurns (said_to (letting asked.entry.given.death O.opening) (word_of asked.entry.words.now) (scripts_of (S.left scripts.old) asked.entry.given.count)) asked.entry.given.count (order_in asked.entry.words.now) result.events }
+    ensures images { O.told → S.tells scripts.old ≡ true → (result.events ≡ [] → ⊥) →
+        HoldsPrefix ⟦<ReservingStatements as Statements>⟧.stands (said_to (letting asked.entry.given.death O.opening) (word_of asked.entry.words.now) (scripts_of (S.left scripts.old) asked.entry.given.count)) (D.view result.disk) (map event_of result.events) }
+    ensures left { O.told → S.tells scripts.old ≡ true → IsWhole result.status →
+        HoldsAll ⟦<ReservingStatements as Statements>⟧.stands (said_to (letting asked.entry.given.death O.opening) (word_of asked.entry.words.now) (scripts_of (S.left scripts.old) asked.entry.given.count)) (D.view result.disk) (map event_of result.events) }
+    ensures written { K.tells out.old ≡ true → IsWritten result.status → K.taken out.new ≡ K.taken out.old ++ transcripts asked.entry.given.count result.events }
+    ensures front { K.tells out.old ≡ true → WritesFront (K.taken out.old) (K.taken out.new) (transcripts asked.entry.given.count result.events) }
 {
-    match read_scripts(alloc, scripts, given.count) {
-        Err(stop) => unsaid(alloc, status_of(stop)),
-        Ok(items) => match say_scripts(rt, alloc, words, given, items, gate) {
-            Err(_) => unsaid(alloc, 5),
-            Ok(ran) => finish_scripts(alloc, ran, given.count, out),
-        },
+    match read_scripts(alloc, scripts, asked.given.count) {
+        Err(stop) => unsaid(alloc, status_of(stop), disk),
+        Ok(items) => {
+            let sessions = asked.given.count;
+            let ran = say_scripts::<R, O, D, G>(rt, alloc, asked, disk, items, gate);
+            finish_scripts(alloc, ran, sessions, out)
+        }
     }
 }
 
@@ -230,19 +349,8 @@ fn run_new<D: Disk>(disk: &mut D, limits: Limits) -> u8
     }
 }
 
-/// What is handed back of a command that runs no script.
-fn ended_unsaid<D>(alloc: Global, status: u8, disk: D) -> Finish<D>
-    ensures status { result.status ≡ status }
-    ensures disk { result.disk ≡ disk }
-    ensures opening { result.account.opening ≡ no_tables }
-    ensures events { result.account.events ≡ [] }
-    ensures earlier { result.earlier ≡ [] }
-{
-    ended_with(alloc, unsaid(alloc, status), disk)
-}
-
-/// Runs a command: `NEW` makes a database, `RDO` says 1 to 16 scripts, each by a session of its own, `RMU/VERIFY` lists the faults of a database, `RMU/DUMP` and `RMU/DUMP/PAGE` tell what it holds.
-pub fn run<R, D, S, K, G>(
+/// Runs a command: `NEW` makes a database, `RDO` says 1 to 16 scripts to a database, each by a session of its own, `RMU/VERIFY` lists the faults of a database, `RMU/DUMP` and `RMU/DUMP/PAGE` tell what it holds.
+pub fn run<R, O, D, S, K, G>(
     rt: &R,
     alloc: Global,
     words: &[Word],
@@ -253,10 +361,16 @@ pub fn run<R, D, S, K, G>(
 ) -> Finish<D>
 where
     R: Threads + Wait + Sync,
-    D: Disk + Send,
+    O: Origin,
+    D: Disk + Drop + Send,
     S: Source,
     K: Sink,
     G: Gate + Sync,
+    // The origin tells what the disk holds: an image whose lines stand for its tables.
+    requires opens { O.told → OpensWith ⟦<ReservingStatements as Statements>⟧.stands (D.view disk) O.opening }
+    // The gate has a session die only where the origin lets it.
+    requires mortal { MayFail O.opening }
+    requires mortals { (given : GivenScripts) → command_for words.now ≡ Some (Command.Rdo given) → MayDie (G.mortals gate.now) (mortals_of O.opening given.count) }
     ensures earlier { result.earlier ≡ [] }
     ensures status { is_status result.status ≡ true }
     // The words are in no row of the table.
@@ -271,29 +385,36 @@ where
     ensures long { S.tells scripts.old ≡ true → result.status ≡ 10 → (s : ℕ) × IsSession (sessions_of (command_for words.now)) s × (1048576 < length (S.left scripts.old s)) }
     ensures too_long { S.tells scripts.old ≡ true → (s : ℕ) → IsSession (sessions_of (command_for words.now)) s → 1048576 < length (S.left scripts.old s) →
         (result.status ≡ 2) ⊎ (result.status ≡ 5) ⊎ (result.status ≡ 10) }
-    // The tables are empty at first.
-    ensures opening { result.account.opening ≡ no_tables }
     // There are scripts, those of the source where it tells them, for which the account is that of a run of them.
-    ensures account { (given : GivenScripts) → command_for words.now ≡ Some (Command.Rdo given) →
+    ensures account { (given : GivenScripts) → command_for words.now ≡ Some (Command.Rdo given) → O.told →
         OfSomeScripts given.count (S.tells scripts.old ≡ true) (scripts_of (S.left scripts.old) given.count)
-        (IsRun (word_of words.now) given (order_in words.now) result.status result.account.events) }
+        (IsRun O.opening (word_of words.now) given (order_in words.now) result.status result.events) }
     // The account is legal: it says the scripts' items, each answered as one thread in the order of the commits answers it, or
-    // refused for a cause that stands.
-    ensures legal { (given : GivenScripts) → command_for words.now ≡ Some (Command.Rdo given) → S.tells scripts.old ≡ true →
-        IsLegal (opening (word_of words.now) (scripts_of (S.left scripts.old) given.count)) (map event_of result.account.events) }
-    // Every session came to its script's end.
-    ensures whole { (given : GivenScripts) → command_for words.now ≡ Some (Command.Rdo given) → S.tells scripts.old ≡ true → IsWhole result.status →
-        AreWhole (is_session given.count) (opening (word_of words.now) (scripts_of (S.left scripts.old) given.count)) (map event_of result.account.events) }
+    // refused for a cause that stands. It begins with the tables for which the disk's lines stand.
+    ensures legal { (given : GivenScripts) → command_for words.now ≡ Some (Command.Rdo given) → O.told → S.tells scripts.old ≡ true →
+        IsLegal (said_to (letting given.death O.opening) (word_of words.now) (scripts_of (S.left scripts.old) given.count)) (map event_of result.events) }
+    // Every session that lived came to its script's end, and who died was recovered.
+    ensures whole { (given : GivenScripts) → command_for words.now ≡ Some (Command.Rdo given) → O.told → S.tells scripts.old ≡ true → IsWhole result.status →
+        HaveAllEnded (said_to (letting given.death O.opening) (word_of words.now) (scripts_of (S.left scripts.old) given.count)) given.count (map event_of result.events) }
+    // Some session died, or none.
+    ensures died { result.status ≡ 8 → has_death result.events ≡ true }
+    ensures lived { (given : GivenScripts) → command_for words.now ≡ Some (Command.Rdo given) → result.status ≡ 0 → has_death result.events ≡ false }
     // The events keep to the order that the words name.
-    ensures order { (given : GivenScripts) → command_for words.now ≡ Some (Command.Rdo given) → given.has_order ≡ true → S.tells scripts.old ≡ true → IsWhole result.status →
-        KeepsTurns (opening (word_of words.now) (scripts_of (S.left scripts.old) given.count)) given.count (order_in words.now) result.account.events }
+    ensures order { (given : GivenScripts) → command_for words.now ≡ Some (Command.Rdo given) → given.has_order ≡ true → O.told → S.tells scripts.old ≡ true → IsWhole result.status →
+        KeepsTurns (said_to (letting given.death O.opening) (word_of words.now) (scripts_of (S.left scripts.old) given.count)) given.count (order_in words.now) result.events }
+    // Where something happened, whatever the status: opening can start from each image that a crash may leave now, and it stands for
+    // the tables of all commits, or for those with the one in flight; what one might have left since the k-th commit stands for that
+    // or a later one.
+    ensures images { (given : GivenScripts) → command_for words.now ≡ Some (Command.Rdo given) → O.told → S.tells scripts.old ≡ true → (result.events ≡ [] → ⊥) →
+        HoldsPrefix ⟦<ReservingStatements as Statements>⟧.stands (said_to (letting given.death O.opening) (word_of words.now) (scripts_of (S.left scripts.old) given.count)) (D.view result.disk) (map event_of result.events) }
+    // Where every session that lived came to its end, for the tables of all commits.
+    ensures left { (given : GivenScripts) → command_for words.now ≡ Some (Command.Rdo given) → O.told → S.tells scripts.old ≡ true → IsWhole result.status →
+        HoldsAll ⟦<ReservingStatements as Statements>⟧.stands (said_to (letting given.death O.opening) (word_of words.now) (scripts_of (S.left scripts.old) given.count)) (D.view result.disk) (map event_of result.events) }
     // What was written are the transcripts in the order of the sessions, or a front of them, but for the commands that write what they read.
-    ensures written { only_reads (command_for words.now) ≡ false → K.tells out.old ≡ true → result.status ≡ 0 →
-        K.taken out.new ≡ K.taken out.old ++ transcripts (sessions_of (command_for words.now)) result.account.events }
+    ensures written { only_reads (command_for words.now) ≡ false → K.tells out.old ≡ true → IsWritten result.status →
+        K.taken out.new ≡ K.taken out.old ++ transcripts (sessions_of (command_for words.now)) result.events }
     ensures front { only_reads (command_for words.now) ≡ false → K.tells out.old ≡ true →
-        WritesFront (K.taken out.old) (K.taken out.new) (transcripts (sessions_of (command_for words.now)) result.account.events) }
-    // A script changes no file yet.
-    ensures disk { (given : GivenScripts) → command_for words.now ≡ Some (Command.Rdo given) → result.disk ≡ disk }
+        WritesFront (K.taken out.old) (K.taken out.new) (transcripts (sessions_of (command_for words.now)) result.events) }
     // Every crash behind NEW leaves the new database.
     ensures made { (limits : Limits) → command_for words.now ≡ Some (Command.New limits) → result.status ≡ 0 →
         IsTrue (D.view disk).tells → IsUnmade (D.view disk) →
@@ -309,9 +430,9 @@ where
     // Words in no row touch nothing.
     ensures untouched { command_for words.now ≡ None → result.disk ≡ disk }
     // Nothing is said where no script is run.
-    ensures unsaid { (command_for words.now ≡ None) ⊎ ((limits : Limits) × (command_for words.now ≡ Some (Command.New limits))) → result.account.events ≡ [] }
+    ensures unsaid { (command_for words.now ≡ None) ⊎ ((limits : Limits) × (command_for words.now ≡ Some (Command.New limits))) → result.events ≡ [] }
     // Nothing is said where a script wasn't read.
-    ensures unread { (result.status ≡ 2) ⊎ (result.status ≡ 10) → result.account.events ≡ [] }
+    ensures unread { (result.status ≡ 2) ⊎ (result.status ≡ 10) → result.events ≡ [] }
     // The statuses of scripts.
     ensures statuses { (given : GivenScripts) → command_for words.now ≡ Some (Command.Rdo given) → is_script_status result.status ≡ true }
     // The statuses of NEW.
@@ -333,8 +454,10 @@ where
     ensures reads { only_reads (command_for words.now) ≡ true → OnlyReads (D.view disk) (D.view result.disk) }
     // Some fault is listed.
     ensures faults { result.status ≡ 7 → command_for words.now ≡ Some Command.Verify }
-    // A database can't be read.
-    ensures unread_root { result.status ≡ 4 → only_reads (command_for words.now) ≡ true }
+    // A database can't be read or opened.
+    ensures unread_root { result.status ≡ 4 → (only_reads (command_for words.now) ≡ true) ⊎ ((given : GivenScripts) × (command_for words.now ≡ Some (Command.Rdo given))) }
+    // Scripts: a database that a crash of this engine may leave is opened, but where its numbers are used up.
+    ensures unopened { (given : GivenScripts) → command_for words.now ≡ Some (Command.Rdo given) → result.status ≡ 4 → HasNoNumbers (D.view disk) }
     // VERIFY: its root isn't one in use, or the header of a journal is none.
     ensures unverified { command_for words.now ≡ Some Command.Verify → result.status ≡ 4 →
         IsTrue (D.view disk).tells → IsUsable (D.view disk).content → ⊥ }
@@ -345,40 +468,37 @@ where
     ensures unpaged { (place : GivenPage) → command_for words.now ≡ Some (Command.DumpPage place) → result.status ≡ 4 →
         IsTrue (D.view disk).tells → HasRootInUse (D.view disk).content → ⊥ }
     // Nothing is said by commands that only read.
-    ensures silent { only_reads (command_for words.now) ≡ true → result.account.events ≡ [] }
+    ensures silent { only_reads (command_for words.now) ≡ true → result.events ≡ [] }
     // The statuses of VERIFY and DUMP.
     ensures verify_statuses { command_for words.now ≡ Some Command.Verify → is_verify_status result.status ≡ true }
     ensures dump_statuses { command_for words.now ≡ Some Command.Dump → is_dump_status result.status ≡ true }
     ensures page_statuses { (place : GivenPage) → command_for words.now ≡ Some (Command.DumpPage place) → is_dump_status result.status ≡ true }
 {
     match command_of(words) {
-        None => ended_with(alloc, unsaid(alloc, 1), disk),
+        None => unsaid(alloc, 1, disk),
         Some(Command::New(limits)) => {
             let mut disk = disk;
             let status = run_new(&mut disk, limits);
-            ended_with(alloc, unsaid(alloc, status), disk)
+            unsaid(alloc, status, disk)
         }
         Some(Command::Verify) => {
             let mut disk = disk;
             let status = verify_command(alloc, &mut disk, out);
-            ended_unsaid(alloc, status, disk)
+            unsaid(alloc, status, disk)
         }
         Some(Command::Dump) => {
             let mut disk = disk;
             let status = dump_command(alloc, &mut disk, out);
-            ended_unsaid(alloc, status, disk)
+            unsaid(alloc, status, disk)
         }
         Some(Command::DumpPage(place)) => {
             let mut disk = disk;
             let status = page_command(alloc, &mut disk, place.file, place.page, out);
-            ended_unsaid(alloc, status, disk)
+            unsaid(alloc, status, disk)
         }
         Some(Command::Rdo(given)) => {
-            ended_with(
-                alloc,
-                run_rdo(rt, alloc, words, given, scripts, out, gate),
-                disk,
-            )
+            let asked = Asked { words, given };
+            run_rdo::<R, O, D, S, K, G>(rt, alloc, asked, disk, scripts, out, gate)
         }
     }
 }

@@ -8,10 +8,11 @@ ghost use Rattle.disk_store.specs.Seats.{stand_at, IsAtStage};
 ghost use Rattle.disk_store.specs.Shown.{sight_of};
 
 use crate::judge;
-use disk_store::{Held, Recovery, bury, put_back, restore};
+use disk_store::{Held, Recovery};
 use line_store::{Fault, Stepped};
 use rdb_outside::Disk;
 use rdb_types::Session;
+use store_endings::{bury, put_back, restore};
 
 /// A step of the recovery of a session that died: one write or one barrier at most, and no memory.
 pub fn recover<D: Disk>(

@@ -47,7 +47,7 @@ module _ (M : Model) (orderly : IsOrderly M) (o : Opening) (word then : List ℕ
       let it : Behind old new (λ h g. (dead : ℕ) → Step M (suc i) (sharing word h locks dead) m (sharing then g behind dead) n es) k.shelf = does.each k.shelf k.shown in
       let same : dead_in (slice_set members i n) ≡ dead_in members = dead-same members i m n found (ap one_dead lives ∙ sym (ap one_dead lived)) in
       let still = kept M orderly o (sharing word k.shelf locks (dead_in members)) (sharing then it.shelf behind (dead_in (slice_set members i n))) members events es i m n none k.kept found
-          (subst (λ (d : ℕ). Step M (suc i) (sharing word k.shelf locks (dead_in members)) m (sharing then it.shelf behind d) n es) (sym same) (it.related (dead_in members))) in
+      (subst (λ (d : ℕ). Step M (suc i) (sharing word k.shelf locks (dead_in members)) m (sharing then it.shelf behind d) n es) (sym same) (it.related (dead_in members))) in
       let step = it.related 0 in
       record {
         shelf = it.shelf;

@@ -1,15 +1,17 @@
 -- Slots that are given back aren't followed any more.
-use Rattle.std.proofs.Common.{◌≡◌, ◌≢◌, ℕ, ◌==◌, ◌&&◌, Bool, true, not, ⊎_elim, ap, sym, subst, ◌∙◌, refl, arith}
+use Rattle.std.proofs.Common.{◌≡◌, ◌≢◌, ℕ, ◌==◌, ◌&&◌, Bool, true, false, not, ⊎_elim, ap, sym, subst, ◌∙◌, refl, arith}
 use Rattle.std.proofs.lemmas.Bool.{false≢true, eqb-true, eq-eqb}
 use Rattle.rdb_types.specs.declared.keys.Tsn.{Tsn}
 use Rattle.rdb_outside.specs.Disk.{Image}
 use Rattle.snapshot_file.specs.declared.entry.SnapEntry.{SnapEntry}
-use Rattle.line_versions.specs.Versions.{Followed}
+use Rattle.snapshot_file.specs.Slots.{is_free}
+use Rattle.line_versions.specs.Versions.{Followed, sees}
 use Rattle.line_versions.specs.Files.{entries_in}
 use Rattle.line_versions.specs.Course.{Course, MayBeGiven, with_entry}
 use Rattle.disk_versions.proofs.Given.{was_followed, not_given}
 use Rattle.disk_versions.proofs.Pushes.{which_is}
-use Rattle.version_writing.specs.Slots.{SlotTable, pusher_at, GivesBack, GivesOne, HoldsFile, chains_of, one_chain}
+use Rattle.version_writing.specs.Slots.{SlotTable, pusher_at, GivesBack, HoldsFile, chains_of}
+use Rattle.version_writing.specs.Wanting.{Sifts, IsPast, free_in}
 
 -- the followed chains that aren't given back
 abbrev pub left_of : Followed → (ℕ → ℕ → Bool) → Followed
@@ -46,24 +48,43 @@ pub none_left : (image : Image) (followed : Followed) (file limit tsn : ℕ) (ol
 none_left image followed file limit tsn old was chain e held s same =
     other_chain followed file tsn old chain held (ap (λ (t : Tsn). t.number) (was.pusher chain e (was_followed (followed file chain) (chains_of file old tsn file chain) held) s) ∙ same)
 
--- ---- one slot
+-- ---- what nobody wants
 
-off_it : (followed : Followed) (file chain c : ℕ) → left_of followed (one_chain file chain) file c ≡ true → c ≢ chain
-off_it followed file chain c held same = false≢true (sym (not_given (followed file c) (one_chain file chain file c) held) ∙ both (file == file) (c == chain) (eq-eqb file file refl) (eq-eqb c chain same))
+-- a chain that is followed was in use
+module _ (image : Image) (course : Course) (file limit : ℕ) (old new : SlotTable) (gives : Sifts (IsPast course) old new) (was : HoldsFile image course.followed file limit old) where
+  its-pusher : (f c : ℕ) (e : SnapEntry) → f ≡ file → course.followed f c ≡ true → entries_in image f c e → pusher_at old.pushers c ≡ e.pusher
+  its-pusher f c e here held s = was.pusher c e (ap (λ (n : ℕ). course.followed n c) (sym here) ∙ held) (subst (λ (n : ℕ). entries_in image n c e) here s)
 
-pub holds_one_less : (image : Image) (followed : Followed) (file limit chain : ℕ) (old new : SlotTable) → GivesOne old new chain → HoldsFile image followed file limit old → HoldsFile image (left_of followed (one_chain file chain)) file limit new
-holds_one_less image followed file limit chain old new gives was = record {
-  long = gives.long ∙ was.long;
-  used = λ c low held. (gives.others c low (off_it followed file chain c held)).0 ∙ was.used c low (was_followed (followed file c) (one_chain file chain file c) held);
-  pusher = λ c e held s. (gives.others c s.number (off_it followed file chain c held)).1 ∙ was.pusher c e (was_followed (followed file c) (one_chain file chain file c) held) s;
-}
+  pub past_entry : (f c : ℕ) (e : SnapEntry) → free_in file new f c ≡ true → course.followed f c ≡ true → entries_in image f c e → MayBeGiven course e
+  past_entry f c e given held s =
+      let here : f ≡ file = eqb-true f file (first (f == file) (is_free new.slots c) given) in
+      let free : is_free new.slots c ≡ true = second (f == file) (is_free new.slots c) given in
+      let used : is_free old.slots c ≡ false = was.used c s.number (ap (λ (n : ℕ). course.followed n c) (sym here) ∙ held) in
+      let number : (pusher_at old.pushers c).number ≡ e.pusher.number = ap (λ (t : Tsn). t.number) (its-pusher f c e here held s) in
+      ⊎_elim
+      (λ (stays : (is_free new.slots c ≡ is_free old.slots c) × (pusher_at new.pushers c ≡ pusher_at old.pushers c)). absurd (false≢true (sym used ∙ (sym stays.0 ∙ free))))
+      (λ (past : (is_free new.slots c ≡ true) × IsPast course (pusher_at old.pushers c).number). record {
+        ended = ap course.going (sym number) ∙ past.1.0;
+        seen = λ r x goes. ap (λ (n : ℕ). sees x.start n) (sym number) ∙ past.1.1 r x goes;
+      })
+      (gives.may.each c s.number)
 
-pub one_entry : (image : Image) (course : Course) (file chain : ℕ) → ((e : SnapEntry) → course.followed file chain ≡ true → entries_in image file chain e → MayBeGiven course e)
-    → (f c : ℕ) (e : SnapEntry) → one_chain file chain f c ≡ true → course.followed f c ≡ true → entries_in image f c e → MayBeGiven course e
-one_entry image course file chain may f c e given held s =
-    let here : f ≡ file = eqb-true f file (first (f == file) (c == chain) given) in
-    let at : c ≡ chain = eqb-true c chain (second (f == file) (c == chain) given) in
-    may e (ap (λ (n : ℕ). course.followed n chain) (sym here) ∙ ap (λ (n : ℕ). course.followed f n) (sym at) ∙ held) (subst (λ (n : ℕ). entries_in image file n e) at (subst (λ (n : ℕ). entries_in image n c e) here s))
+  still-used : (c : ℕ) → left_of course.followed (free_in file new) file c ≡ true → is_free new.slots c ≡ false
+  still-used c held = by (is_free new.slots c) refl
+    where
+      by : (b : Bool) → is_free new.slots c ≡ b → is_free new.slots c ≡ false
+      by false is = is
+      by true is = absurd (false≢true (sym (not_given (course.followed file c) (free_in file new file c) held) ∙ both (file == file) (is_free new.slots c) (eq-eqb file file refl) is))
+
+  pub holds_unwanted : HoldsFile image (left_of course.followed (free_in file new)) file limit new
+  holds_unwanted = record {
+    long = gives.may.long ∙ was.long;
+    used = λ c low held. still-used c held;
+    pusher = λ c e held s. ⊎_elim
+        (λ (stays : (is_free new.slots c ≡ is_free old.slots c) × (pusher_at new.pushers c ≡ pusher_at old.pushers c)). stays.1 ∙ was.pusher c e (was_followed (course.followed file c) (free_in file new file c) held) s)
+        (λ (past : (is_free new.slots c ≡ true) × IsPast course (pusher_at old.pushers c).number). absurd (false≢true (sym (still-used c held) ∙ past.0)))
+        (gives.may.each c s.number);
+  }
 
 -- ---- other files
 

@@ -1,4 +1,5 @@
 pub mod Counted
+pub mod Sifted
 pub mod Written
 pub mod Held
 pub mod Freed

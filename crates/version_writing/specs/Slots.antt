@@ -107,7 +107,3 @@ pub record HoldsFile (image : Image) (followed : Followed) (file limit : ℕ) (t
 -- the chains of one file that hold what a transaction pushed
 abbrev pub chains_of : ℕ → SlotTable → ℕ → ℕ → ℕ → Bool
 chains_of file table tsn = λ f c. (f == file) && ((pusher_at table.pushers c).number == tsn)
-
--- one chain of one file
-abbrev pub one_chain : ℕ → ℕ → ℕ → ℕ → Bool
-one_chain file chain = λ f c. (f == file) && (c == chain)

@@ -1,30 +1,36 @@
 // The slots of a snapshot file, and whose they are.
-ghost use Rattle.std.specs.Prelude.{◌≡◌, ◌≢◌, ◌≤◌, ◌<◌, ◌+◌, ◌-◌, ◌⊎◌, ℕ, true, false, Err, IfOk, OnOk, OnErr, length};
+ghost use Rattle.std.specs.Prelude.{◌≡◌, ◌≤◌, ◌<◌, ◌+◌, ◌-◌, ℕ, true, Err, IfOk, OnOk, OnErr, length};
 ghost use Rattle.snapshot_file.specs.Slots.{is_free, left_in};
-ghost use Rattle.version_writing.specs.Slots.{GivesBack, GivesOne, SlotTable, TakesFor, pusher_at};
+ghost use Rattle.version_writing.specs.Slots.{GivesBack, SlotTable, TakesFor, pusher_at};
+ghost use Rattle.version_writing.specs.Wanting.{Sifts, IsUnwantedIn};
 
+use crate::sifting::sift;
+use crate::wanting::{AllBut, MayWant};
 use rdb_types::{NoMemory, Tsn};
 use snapshot_file::{SnapFull, Stock};
 use std::alloc::Global;
 use std::marker::Model;
 
-/// The slots of one snapshot file, with the transaction that pushed what each of them holds. It takes sixteen bytes a slot, all when it is made.
+/// The slots of one snapshot file, with the transaction that pushed what each of them holds, and those in use in a row. It takes twenty bytes a slot, all when it is made.
 #[derive(Drop)]
 pub struct FileSlots {
     stock: Stock,
     limit: u32,
     pushers: Vec<Tsn>,
+    taken: Vec<u32>,
+    count: u32,
 }
 
 impl Model for FileSlots {
     ghost use Rattle.std.specs.Prelude.{◌≡◌, length};
     ghost use Rattle.version_writing.specs.Slots.{SlotTable, IsTable};
+    ghost use Rattle.version_writing.specs.Wanting.{AreTaken};
 
     ghost Value = { SlotTable };
 
     ghost view = { λ f. record { slots = f.stock.slots; aside = f.stock.aside; pushers = f.pushers.items } };
 
-    ghost invariant = { λ f. IsTable f.stock.slots f.pushers.items × (length f.pushers.items ≡ f.limit) };
+    ghost invariant = { λ f. IsTable f.stock.slots f.pushers.items × (length f.pushers.items ≡ f.limit) × AreTaken f.stock.slots f.taken.items f.count };
 }
 
 impl FileSlots {
@@ -37,10 +43,13 @@ impl FileSlots {
     {
         let stock = Stock::new(alloc, limit)?;
         let pushers = vec![in alloc; Tsn { number: 0 }; limit as usize]?;
+        let taken = vec![in alloc; 0; limit as usize]?;
         Ok(FileSlots {
             stock,
             limit,
             pushers,
+            taken,
+            count: 0,
         })
     }
 
@@ -80,6 +89,8 @@ impl FileSlots {
     {
         let slot = self.stock.take();
         self.pushers[slot as usize - 1] = tsn;
+        self.taken[self.count as usize] = slot;
+        self.count += 1;
         slot
     }
 
@@ -92,45 +103,26 @@ impl FileSlots {
         self.pushers[chain as usize - 1]
     }
 
-    /// Gives a slot back.
-    pub fn give(&mut self, chain: u32)
-        requires first { 1 ≤ chain }
-        requires last { chain ≤ length self.old.slots }
-        requires used { is_free self.old.slots chain ≡ false }
-        ensures { GivesOne self.old self.new chain }
+    /// Gives back all slots that hold what none of these members wants. It looks at each slot in use once.
+    pub fn give_unwanted<T: MayWant>(&mut self, members: &[T])
+        ensures { Sifts (IsUnwantedIn T.unwanted members.now) self.old self.new }
     {
-        self.stock.give(chain);
-        self.pushers[chain as usize - 1] = Tsn { number: 0 };
+        self.count = sift(
+            &mut self.stock,
+            self.pushers.as_mut_slice(),
+            self.taken.as_mut_slice(),
+            self.count,
+            members,
+        );
     }
 
-    // Gives a slot back where it holds what the transaction pushed.
-    fn give_if(&mut self, chain: u32, tsn: Tsn)
-        requires first { 1 ≤ chain }
-        requires last { chain ≤ length self.old.slots }
-        requires number { 1 ≤ tsn.number }
-        ensures here { (pusher_at self.new.pushers chain).number ≢ tsn.number }
-        ensures others { (other : ℕ) → 1 ≤ other
-            → ((pusher_at self.old.pushers other).number ≢ tsn.number) ⊎ (other ≢ chain)
-            → (is_free self.new.slots other ≡ is_free self.old.slots other)
-            × (pusher_at self.new.pushers other ≡ pusher_at self.old.pushers other) }
-        ensures long { length self.new.slots ≡ length self.old.slots }
-        ensures aside { self.new.aside ≡ self.old.aside }
-        ensures left { left_in self.old.slots ≤ left_in self.new.slots }
-    {
-        let pusher = self.pushers[chain as usize - 1];
-        if pusher.number == tsn.number {
-            self.give(chain);
-        }
-    }
-
-    /// Gives back all slots that hold what a transaction pushed. It looks at each slot once.
+    /// Gives back all slots that hold what a transaction pushed. It looks at each slot in use once.
     pub fn give_pushed(&mut self, tsn: Tsn)
         requires { 1 ≤ tsn.number }
         ensures { GivesBack self.old self.new tsn.number }
     {
-        let count = self.count();
-        for slot in 0..count {
-            self.give_if(slot + 1, tsn);
-        }
+        self.give_unwanted(&[AllBut { tsn }]);
+        // (so each free slot is nobody's)
+        let _ = &self.stock;
     }
 }

@@ -7,13 +7,14 @@ ghost use Rattle.rdb_outside.specs.Disk.{OnlyReads};
 ghost use Rattle.snapshot_file.specs.declared.entry.SnapEntry.{SnapEntry};
 ghost use Rattle.line_versions.specs.Versions.{Followed};
 ghost use Rattle.line_versions.specs.Files.{entries_in, snap_file};
-ghost use Rattle.line_versions.specs.Course.{Course, MayBeGiven, with_entry};
+ghost use Rattle.line_versions.specs.Course.{Course, with_entry};
 ghost use Rattle.stable_lines.specs.Slots.{line_at};
 ghost use Rattle.stable_lines.specs.Progress.{Progress};
 ghost use Rattle.line_moves.specs.Calls.{OnlyWrites};
 ghost use Rattle.disk_versions.specs.Courses.{course_given};
 ghost use Rattle.disk_versions.specs.Versions.{VersionFacts};
-ghost use Rattle.version_writing.specs.Slots.{GivesBack, GivesOne, HoldsFile, SlotTable, chains_of, one_chain};
+ghost use Rattle.version_writing.specs.Slots.{GivesBack, HoldsFile, SlotTable, chains_of};
+ghost use Rattle.version_writing.specs.Wanting.{Sifts, IsPast, free_in};
 
 use rdb_outside::Disk;
 
@@ -60,14 +61,12 @@ pub fn slots_come_free<D: Disk>(disk: &D)
         × ((chain : ℕ) (entry : SnapEntry) → after.followed file chain ≡ true
         → entries_in (D.view disk.now).content file chain entry → entry.pusher.number ≢ tsn) }
 
-    // One whose transaction has ended and is seen by each reader.
-    ensures unwanted { (now : Progress) (course : Course) (file limit chain : ℕ) (old new : SlotTable)
-        → GivesOne old new chain
-        → ((entry : SnapEntry) → course.followed file chain ≡ true
-        → entries_in (D.view disk.now).content file chain entry → MayBeGiven course entry)
+    // Those of transactions that have ended and that each reader sees.
+    ensures past { (now : Progress) (course : Course) (file limit : ℕ) (old new : SlotTable)
+        → Sifts (IsPast course) old new
         → HoldsFile (D.view disk.now).content course.followed file limit old
         → VersionFacts (D.view disk.now) now limit course
-        → let after = course_given (one_chain file chain) course in
+        → let after = course_given (free_in file new) course in
         VersionFacts (D.view disk.now) now limit after
         × HoldsFile (D.view disk.now).content after.followed file limit new }
 

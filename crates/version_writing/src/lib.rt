@@ -6,7 +6,9 @@ mod file_slots;
 mod laws;
 mod pushing;
 mod reading;
+mod sifting;
 mod snapshot_slots;
+mod wanting;
 
 pub use aside::push_aside;
 pub use file_slots::FileSlots;
@@ -14,3 +16,4 @@ pub use laws::{slots_are_held, slots_come_free};
 pub use pushing::push_line;
 pub use reading::line_for_reader;
 pub use snapshot_slots::{SnapshotSlots, Wanted};
+pub use wanting::{MayWant, is_wanted};

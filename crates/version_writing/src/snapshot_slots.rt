@@ -1,8 +1,9 @@
 // The slots of all three snapshot files.
 ghost use Rattle.std.specs.Prelude.{◌≡◌, ◌≤◌, ◌⊎◌, ℕ, length, IfOk, IfErr, OnOk, OnErr};
 ghost use Rattle.version_writing.specs.Slots.{AreFree, GivesBack, IsFullOf, with_aside, without_aside};
+ghost use Rattle.version_writing.specs.Wanting.{Sifts, IsUnwantedIn};
 
-use crate::FileSlots;
+use crate::{FileSlots, MayWant};
 use rdb_types::{NoMemory, Tsn};
 use snapshot_file::SnapFull;
 use std::alloc::Global;
@@ -72,7 +73,18 @@ impl SnapshotSlots {
         self.indexes.leave(wanted.indexes);
     }
 
-    /// Gives back all slots that hold what a transaction pushed. It looks at each slot once.
+    /// Gives back all slots that hold what none of these members wants. It looks at each slot in use once.
+    pub fn give_unwanted<T: MayWant>(&mut self, members: &[T])
+        ensures catalog { Sifts (IsUnwantedIn T.unwanted members.now) self.old.catalog self.new.catalog }
+        ensures relations { Sifts (IsUnwantedIn T.unwanted members.now) self.old.relations self.new.relations }
+        ensures indexes { Sifts (IsUnwantedIn T.unwanted members.now) self.old.indexes self.new.indexes }
+    {
+        self.catalog.give_unwanted(members);
+        self.relations.give_unwanted(members);
+        self.indexes.give_unwanted(members);
+    }
+
+    /// Gives back all slots that hold what a transaction pushed. It looks at each slot in use once.
     pub fn give_pushed(&mut self, tsn: Tsn)
         requires { 1 ≤ tsn.number }
         ensures catalog { GivesBack self.old.catalog self.new.catalog tsn.number }

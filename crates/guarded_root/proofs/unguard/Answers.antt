@@ -2,6 +2,8 @@ use Rattle.std.proofs.Common.{IsTrue, sym, subst, refl, inl, arith}
 use Rattle.rdb_outside.specs.Moments.{each_slot}
 use Rattle.new_database.specs.Maker.{root_file}
 use Rattle.guarded_root.specs.Guarded.{InOrEnd, IsRootIn}
+use Rattle.database_opening.proofs.Others.{file_on}
+use Rattle.guarded_root.proofs.Sweeping.{kept_by_read, kept_by_write}
 use Rattle.guarded_root.proofs.Stages.{begins, call, keeps_guarded, in_state, ending, in_or_end, ended}
 use Rattle.guarded_root.proofs.unguard.Goals as goal
 
@@ -54,3 +56,29 @@ returns-clause-any_moment g c = λ state t guarded.
     let third = call P old (v c.barrier.new.self) (v c.write.new.self) c.write.result t second c.write.ensures.counts (in_or_end state old.content c.put_root.new.slot c.args.root.now (v c.write.new.self) c.put_root.ensures there on_its_way) in
     let fourth = call P old (v c.write.new.self) (v c.barrier-2.new.self) c.barrier-2.result t third c.barrier-2.ensures.counts (in_or_end state old.content c.put_root.new.slot c.args.root.now (v c.barrier-2.new.self) c.put_root.ensures there (λ f i x p. on_its_way f i x ((c.barrier-2.ensures.kept third.tells).pending f i x p))) in
     fourth.leaves
+
+pub returns-in_err-barrier-clause-others : goal.returns-in_err-barrier-clause-others
+returns-in_err-barrier-clause-others g c = λ t file apart. let v = g.D.Disk.view in let old = v c.args.disk.now in let first = v c.barrier.new.self in
+    kept_by_read old first c.barrier.result c.barrier.ensures.counts c.barrier.ensures.kept t file
+
+pub returns-in_err-write-clause-others : goal.returns-in_err-write-clause-others
+returns-in_err-write-clause-others g c = λ t file apart. let v = g.D.Disk.view in let old = v c.args.disk.now in let first = v c.barrier.new.self in
+    let now = subst (λ b. IsTrue b) (sym c.barrier.ensures.counts.told) t in let second = v c.write.new.self in
+    file_on old first second file (kept_by_read old first c.barrier.result c.barrier.ensures.counts c.barrier.ensures.kept t file)
+    (kept_by_write root_file 0 c.put_root.new.slot first second c.write.result c.write.ensures.counts c.write.ensures.pending c.write.ensures.written c.write.ensures.failed now file apart)
+
+pub returns-in_err-barrier-2-clause-others : goal.returns-in_err-barrier-2-clause-others
+returns-in_err-barrier-2-clause-others g c = λ t file apart. let v = g.D.Disk.view in let old = v c.args.disk.now in let first = v c.barrier.new.self in
+    let now = subst (λ b. IsTrue b) (sym c.barrier.ensures.counts.told) t in let second = v c.write.new.self in
+    let third = v c.barrier-2.new.self in
+    file_on old second third file (file_on old first second file (kept_by_read old first c.barrier.result c.barrier.ensures.counts c.barrier.ensures.kept t file)
+    (kept_by_write root_file 0 c.put_root.new.slot first second c.write.result c.write.ensures.counts c.write.ensures.pending c.write.ensures.written c.write.ensures.failed now file apart))
+    (kept_by_read second third c.barrier-2.result c.barrier-2.ensures.counts c.barrier-2.ensures.kept (subst (λ b. IsTrue b) (sym c.write.ensures.counts.told) now) file)
+
+pub returns-clause-others : goal.returns-clause-others
+returns-clause-others g c = λ t file apart. let v = g.D.Disk.view in let old = v c.args.disk.now in let first = v c.barrier.new.self in
+    let now = subst (λ b. IsTrue b) (sym c.barrier.ensures.counts.told) t in let second = v c.write.new.self in
+    let third = v c.barrier-2.new.self in
+    file_on old second third file (file_on old first second file (kept_by_read old first c.barrier.result c.barrier.ensures.counts c.barrier.ensures.kept t file)
+    (kept_by_write root_file 0 c.put_root.new.slot first second c.write.result c.write.ensures.counts c.write.ensures.pending c.write.ensures.written c.write.ensures.failed now file apart))
+    (kept_by_read second third c.barrier-2.result c.barrier-2.ensures.counts c.barrier-2.ensures.kept (subst (λ b. IsTrue b) (sym c.write.ensures.counts.told) now) file)

@@ -1,4 +1,5 @@
 use Rattle.std.proofs.Common.{◌≤◌, ◌+◌, length, refl, ◌∙◌, sym, subst, arith, inl, inr}
+use Rattle.rdb_top.proofs.Fewness.{few-more}
 use Rattle.rdb_top.proofs.Reading.{pushed, grown-length, grown-items, behind-next, other-than, later-than, last-or}
 use Rattle.rdb_top.proofs.scripts.read_scripts.Goals as goal
 
@@ -18,4 +19,5 @@ loop-done-preserved g c =
             (subst (λ xs. length xs ≤ 1048576) (inv.3 tells (n + 1) (behind-next n)) (c.in_ok-items.ensures.short (inv.1 ∙ tells) refl))
       ]),
       omega (arith, inv.5, c.read_items.ensures.later),
+      few-more c.push.new.self.items c.loop-done.scripts.items c.in_ok-items.items grown inv.6 (c.in_ok-items.ensures.few),
     )

@@ -1,45 +1,71 @@
 use Rattle.std.proofs.Common.{map, subst, refl, ◌∙◌}
 use Rattle.rdb_account.specs.Events.{event_of}
-use Rattle.rdb_account.specs.Legal.{IsLegal, AreWhole}
-use Rattle.session_steps.specs.Openings.{opening}
-use Rattle.cluster.specs.Turns.{KeepsTurns, is_session}
+use Rattle.rdb_account.specs.Legal.{IsLegal}
+use Rattle.line_cluster.specs.Turned.{HaveAllEnded}
+use Rattle.line_drive.specs.Turns.{KeepsTurns}
+use Rattle.line_runs.specs.Openings.{said_to}
+use Rattle.line_runs.specs.Prefix.{HoldsAll, HoldsPrefix}
 use Rattle.command_words.specs.Words.{word_of, order_in}
+use Rattle.rdb_top.specs.Deaths.{letting}
 use Rattle.rdb_top.specs.Runs.{scripts_of, IsWhole}
-use Rattle.rdb_top.proofs.Unsaid.{nothing-said, stop-is-no-end}
+use Rattle.rdb_top.proofs.Unsaid.{is-opened, nothing-said, stop-is-no-end}
 use Rattle.rdb_top.proofs.Upward.{scripts-length}
 use Rattle.rdb_top.proofs.top.run_rdo.Goals as goal
 
-pub returns-in-Ok-say_scripts-clause-legal : goal.returns-in-Ok-say_scripts-clause-legal
-returns-in-Ok-say_scripts-clause-legal g c tells =
-    rw c.finish_scripts.ensures.events (subst (λ qs. IsLegal (opening (word_of c.args.words.now) qs) (map event_of c.in-Ok-say_scripts.ran.events)) (c.in-Ok.ensures.items tells) c.in-Ok-say_scripts.ensures.legal)
+pub returns-in-Ok-clause-legal : goal.returns-in-Ok-clause-legal
+returns-in-Ok-clause-legal g c told tells =
+    rw c.finish_scripts.ensures.events (subst (λ qs. IsLegal (said_to (letting c.args.asked.given.death g.O.Origin.opening) (word_of c.args.asked.words.now) qs) (map event_of c.say_scripts-ran.result.events)) (c.in-Ok.ensures.items tells) (c.say_scripts-ran.ensures.legal told))
 
-pub returns-in-Ok-say_scripts-clause-whole : goal.returns-in-Ok-say_scripts-clause-whole
-returns-in-Ok-say_scripts-clause-whole g c tells whole =
-    rw c.finish_scripts.ensures.events (subst (λ qs. AreWhole (is_session c.args.given.count) (opening (word_of c.args.words.now) qs) (map event_of c.in-Ok-say_scripts.ran.events)) (c.in-Ok.ensures.items tells)
-    (c.in-Ok-say_scripts.ensures.whole (c.finish_scripts.ensures.whole whole)))
+pub returns-in-Ok-clause-whole : goal.returns-in-Ok-clause-whole
+returns-in-Ok-clause-whole g c told tells whole =
+    rw c.finish_scripts.ensures.events (subst (λ qs. HaveAllEnded (said_to (letting c.args.asked.given.death g.O.Origin.opening) (word_of c.args.asked.words.now) qs) c.args.asked.given.count (map event_of c.say_scripts-ran.result.events)) (c.in-Ok.ensures.items tells)
+    (c.say_scripts-ran.ensures.whole told (c.finish_scripts.ensures.whole whole)))
 
-pub returns-in-Ok-say_scripts-clause-order : goal.returns-in-Ok-say_scripts-clause-order
-returns-in-Ok-say_scripts-clause-order g c has_order tells whole =
-    rw c.finish_scripts.ensures.events (subst (λ qs. KeepsTurns (opening (word_of c.args.words.now) qs) c.args.given.count (order_in c.args.words.now) c.in-Ok-say_scripts.ran.events) (c.in-Ok.ensures.items tells)
-    (c.in-Ok-say_scripts.ensures.order has_order (c.finish_scripts.ensures.whole whole)))
+pub returns-in-Ok-clause-order : goal.returns-in-Ok-clause-order
+returns-in-Ok-clause-order g c has_order told tells whole =
+    rw c.finish_scripts.ensures.events (subst (λ qs. KeepsTurns (said_to (letting c.args.asked.given.death g.O.Origin.opening) (word_of c.args.asked.words.now) qs) c.args.asked.given.count (order_in c.args.asked.words.now) c.say_scripts-ran.result.events) (c.in-Ok.ensures.items tells)
+    (c.say_scripts-ran.ensures.order has_order told (c.finish_scripts.ensures.whole whole)))
 
-pub returns-in-Ok-say_scripts-clause-account : goal.returns-in-Ok-say_scripts-clause-account
-returns-in-Ok-say_scripts-clause-account g c = (
+pub returns-in-Ok-clause-account : goal.returns-in-Ok-clause-account
+returns-in-Ok-clause-account g c told = (
   c.in-Ok.items.items,
   c.in-Ok.ensures.length,
   c.in-Ok.ensures.items,
   (
-    rw c.finish_scripts.ensures.events c.in-Ok-say_scripts.ensures.legal,
-    (λ whole. rw c.finish_scripts.ensures.events (c.in-Ok-say_scripts.ensures.whole (c.finish_scripts.ensures.whole whole))),
-    (λ has_order whole. rw c.finish_scripts.ensures.events (c.in-Ok-say_scripts.ensures.order has_order (c.finish_scripts.ensures.whole whole))),
+    rw c.finish_scripts.ensures.events (c.say_scripts-ran.ensures.legal told),
+    (λ whole. rw c.finish_scripts.ensures.events (c.say_scripts-ran.ensures.whole told (c.finish_scripts.ensures.whole whole))),
+    (λ has_order whole. rw c.finish_scripts.ensures.events (c.say_scripts-ran.ensures.order has_order told (c.finish_scripts.ensures.whole whole))),
   ),
 )
 
 pub returns-in-Err-clause-account : goal.returns-in-Err-clause-account
-returns-in-Err-clause-account g c =
+returns-in-Err-clause-account g c told =
     let unended : IsWhole c.unsaid.result.status → ⊥ = λ whole. stop-is-no-end c.in-Err.stop (subst IsWhole (c.unsaid.ensures.status ∙ c.status_of.ensures) whole) in (
-      scripts_of (g.S.Source.left c.args.scripts.now) c.args.given.count,
-      scripts-length (g.S.Source.left c.args.scripts.now) c.args.given.count,
+      scripts_of (g.S.Source.left c.args.scripts.now) c.args.asked.given.count,
+      scripts-length (g.S.Source.left c.args.scripts.now) c.args.asked.given.count,
       (λ tells. refl),
       (rw c.unsaid.ensures.events (nothing-said _), (λ whole. absurd (unended whole)), (λ has_order whole. absurd (unended whole))),
     )
+
+pub returns-in-Ok-clause-unopened : goal.returns-in-Ok-clause-unopened
+returns-in-Ok-clause-unopened g c is =
+    let bad = c.finish_scripts.ensures.bad is in c.say_scripts-ran.ensures.bad bad.0 bad.1 bad.2
+
+pub returns-in-Ok-clause-images : goal.returns-in-Ok-clause-images
+returns-in-Ok-clause-images g c told tells some =
+    let opened = is-opened c.say_scripts-ran.result.fault _ c.say_scripts-ran.ensures.unsaid (λ none. some (c.finish_scripts.ensures.events ∙ none)) in
+    rw c.finish_scripts.ensures.events (rw c.finish_scripts.ensures.disk
+    (subst (λ qs. HoldsPrefix _ (said_to (letting c.args.asked.given.death g.O.Origin.opening) (word_of c.args.asked.words.now) qs) (g.D.Disk.view c.say_scripts-ran.result.disk) (map event_of c.say_scripts-ran.result.events)) (c.in-Ok.ensures.items tells)
+    (c.say_scripts-ran.ensures.images told opened)))
+
+pub returns-in-Ok-clause-left : goal.returns-in-Ok-clause-left
+returns-in-Ok-clause-left g c told tells whole =
+    rw c.finish_scripts.ensures.events (rw c.finish_scripts.ensures.disk
+    (subst (λ qs. HoldsAll _ (said_to (letting c.args.asked.given.death g.O.Origin.opening) (word_of c.args.asked.words.now) qs) (g.D.Disk.view c.say_scripts-ran.result.disk) (map event_of c.say_scripts-ran.result.events)) (c.in-Ok.ensures.items tells)
+    (c.say_scripts-ran.ensures.left told (c.finish_scripts.ensures.whole whole))))
+
+pub returns-in-Err-clause-images : goal.returns-in-Err-clause-images
+returns-in-Err-clause-images g c told tells some = absurd (some c.unsaid.ensures.events)
+
+pub returns-in-Err-clause-left : goal.returns-in-Err-clause-left
+returns-in-Err-clause-left g c told tells whole = absurd (stop-is-no-end c.in-Err.stop (subst IsWhole (c.unsaid.ensures.status ∙ c.status_of.ensures) whole))

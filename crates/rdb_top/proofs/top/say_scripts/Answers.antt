@@ -1,15 +1,50 @@
-use Rattle.std.proofs.Common.{◌∙◌, sym}
+use Rattle.std.proofs.Common.{◌++◌, length, map, subst, sym, ◌∙◌}
+use Rattle.rdb_drive.specs.Boards.{MayDie}
+use Rattle.rdb_account.specs.Events.{event_of}
+use Rattle.rdb_account.specs.Legal.{IsLegal}
+use Rattle.line_cluster.specs.Turned.{HaveAllEnded}
+use Rattle.line_drive.specs.Boards.{mortals_of}
+use Rattle.line_drive.specs.Turns.{KeepsTurns}
+use Rattle.line_runs.specs.Openings.{said_to}
+use Rattle.line_runs.specs.Prefix.{HoldsAll, HoldsPrefix}
+use Rattle.command_words.specs.Words.{order_in, word_of}
+use Rattle.rdb_top.specs.Deaths.{letting, sessions_dying}
+use Rattle.rdb_top.proofs.Deaths.{may-fail, mortals}
+use Rattle.rdb_top.proofs.Saying.{opens}
 use Rattle.rdb_top.proofs.top.say_scripts.Goals as goal
 
-pub run_of-requires-clause-entries : goal.run_of-requires-clause-entries
-run_of-requires-clause-entries g c κs l = rw c.requires.count (rw c.as_slice.ensures (c.in_ok-order.ensures.sessions c.args.given c.requires.row))
+pub run_of-requires-clause-mortals : goal.run_of-requires-clause-mortals
+run_of-requires-clause-mortals g c κs within =
+    let all = mortals c.args.asked.given.death (g.G.Gate.mortals c.args.gate.now) g.O.Origin.opening c.in-Ok.field-0.word c.args.scripts.items c.args.asked.given.count c.requires.last.death c.requires.mortals in
+    subst (λ n. MayDie (sessions_dying c.args.asked.given.death ++ g.G.Gate.mortals c.args.gate.now) (mortals_of (said_to (letting c.args.asked.given.death g.O.Origin.opening) c.in-Ok.field-0.word c.args.scripts.items) n)) (sym c.requires.count) all
 
-pub returns-clause-legal : goal.returns-clause-legal
-returns-clause-legal g c = rw (sym c.in_ok-word.ensures) c.run_of.ensures.legal
+pub run_of-requires-clause-mortal : goal.run_of-requires-clause-mortal
+run_of-requires-clause-mortal g c κs within = may-fail c.args.asked.given.death g.O.Origin.opening c.in-Ok.field-0.word c.args.scripts.items c.requires.mortal
 
-pub returns-clause-whole : goal.returns-clause-whole
-returns-clause-whole g c = rw (sym c.in_ok-word.ensures) (rw (sym c.requires.count) c.run_of.ensures.whole)
+pub run_of-requires-clause-opens : goal.run_of-requires-clause-opens
+run_of-requires-clause-opens g c κs within =
+    λ told. opens _ (g.D.Disk.view c.args.disk) c.args.asked.given.death g.O.Origin.opening c.in-Ok.field-0.word c.args.scripts.items (c.requires.opens told)
 
-pub returns-clause-order : goal.returns-clause-order
-returns-clause-order g c =
-    rw (sym c.in_ok-word.ensures) (rw (sym c.requires.count) (rw (sym (c.as_slice.ensures ∙ c.in_ok-order.ensures.order)) c.run_of.ensures.order))
+pub returns-in-Ok-clause-legal : goal.returns-in-Ok-clause-legal
+returns-in-Ok-clause-legal g c told =
+    subst (λ w. IsLegal (said_to (letting c.args.asked.given.death g.O.Origin.opening) w c.args.scripts.items) (map event_of c.run_of.result.events)) c.in-Ok.ensures.word (c.run_of.ensures.legal told)
+
+pub returns-in-Ok-clause-whole : goal.returns-in-Ok-clause-whole
+returns-in-Ok-clause-whole g c told whole =
+    subst (λ n. HaveAllEnded (said_to (letting c.args.asked.given.death g.O.Origin.opening) (word_of c.args.asked.words.now) c.args.scripts.items) n (map event_of c.run_of.result.events)) c.requires.count
+    (subst (λ w. HaveAllEnded (said_to (letting c.args.asked.given.death g.O.Origin.opening) w c.args.scripts.items) (length c.args.scripts.items) (map event_of c.run_of.result.events)) c.in-Ok.ensures.word (c.run_of.ensures.whole told whole))
+
+pub returns-in-Ok-clause-order : goal.returns-in-Ok-clause-order
+returns-in-Ok-clause-order g c has_order told whole =
+    subst (λ w. KeepsTurns (said_to (letting c.args.asked.given.death g.O.Origin.opening) w c.args.scripts.items) c.args.asked.given.count (order_in c.args.asked.words.now) c.run_of.result.events) c.in-Ok.ensures.word
+    (subst (λ n. KeepsTurns (said_to (letting c.args.asked.given.death g.O.Origin.opening) c.in-Ok.field-0.word c.args.scripts.items) n (order_in c.args.asked.words.now) c.run_of.result.events) c.requires.count
+    (subst (λ turns. KeepsTurns (said_to (letting c.args.asked.given.death g.O.Origin.opening) c.in-Ok.field-0.word c.args.scripts.items) (length c.args.scripts.items) turns c.run_of.result.events) (c.as_slice.ensures ∙ c.in-Ok.ensures.order)
+    (c.run_of.ensures.order has_order told whole)))
+
+pub returns-in-Ok-clause-images : goal.returns-in-Ok-clause-images
+returns-in-Ok-clause-images g c told opened =
+    subst (λ w. HoldsPrefix _ (said_to (letting c.args.asked.given.death g.O.Origin.opening) w c.args.scripts.items) (g.D.Disk.view c.run_of.result.disk) (map event_of c.run_of.result.events)) c.in-Ok.ensures.word (c.run_of.ensures.images told opened)
+
+pub returns-in-Ok-clause-left : goal.returns-in-Ok-clause-left
+returns-in-Ok-clause-left g c told whole =
+    subst (λ w. HoldsAll _ (said_to (letting c.args.asked.given.death g.O.Origin.opening) w c.args.scripts.items) (g.D.Disk.view c.run_of.result.disk) (map event_of c.run_of.result.events)) c.in-Ok.ensures.word (c.run_of.ensures.left told whole)

@@ -23,7 +23,7 @@ pub returns-in-Line : goal.returns-in-Line
 returns-in-Line g c = c.want_line.ensures
 
 pub returns-in-Awaited : goal.returns-in-Awaited
-returns-in-Awaited g c = c.want_line.ensures
+returns-in-Awaited g c = c.want_line-in-Awaited.ensures
 
 pub returns-in-Full : goal.returns-in-Full
 returns-in-Full g c =

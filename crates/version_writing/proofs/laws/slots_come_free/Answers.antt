@@ -1,6 +1,7 @@
 use Rattle.disk_versions.proofs.Given.{gives, gives_undone}
-use Rattle.version_writing.specs.Slots.{chains_of, one_chain}
-use Rattle.version_writing.proofs.Freed.{holds_given, its_entry, none_left, holds_one_less, one_entry, holds_beside_given}
+use Rattle.version_writing.specs.Slots.{chains_of}
+use Rattle.version_writing.specs.Wanting.{free_in}
+use Rattle.version_writing.proofs.Freed.{holds_given, its_entry, none_left, past_entry, holds_unwanted, holds_beside_given}
 use Rattle.version_writing.proofs.laws.slots_come_free.Goals as goal
 
 pub returns-clause-undone : goal.returns-clause-undone
@@ -10,10 +11,10 @@ returns-clause-undone g c = let v = g.D.Disk.view c.args.disk.now in λ now cour
   none_left v.content course.followed file limit tsn old held,
 )
 
-pub returns-clause-unwanted : goal.returns-clause-unwanted
-returns-clause-unwanted g c = let v = g.D.Disk.view c.args.disk.now in λ now course file limit chain old new given may held was. (
-  gives v now limit course (one_chain file chain) was (one_entry v.content course file chain may),
-  holds_one_less v.content course.followed file limit chain old new given held,
+pub returns-clause-past : goal.returns-clause-past
+returns-clause-past g c = let v = g.D.Disk.view c.args.disk.now in λ now course file limit old new given held was. (
+  gives v now limit course (free_in file new) was (past_entry v.content course file limit old new given held),
+  holds_unwanted v.content course file limit old new given held,
 )
 
 pub returns-clause-beside : goal.returns-clause-beside

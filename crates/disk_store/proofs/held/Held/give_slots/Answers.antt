@@ -1,4 +1,4 @@
-use Rattle.std.proofs.Common.{◌≡◌, ℕ, List, Some, ⊎_elim, refl, sym, ap, subst, ◌∙◌, arith}
+use Rattle.std.proofs.Common.{◌≡◌, ℕ, List, ⊎_elim, sym, ap, subst, ◌∙◌, arith}
 use Rattle.std.specs.Prelude.{slice_get}
 use Rattle.std.proofs.lemmas.Option.{same_Some}
 use Rattle.stable_lines.specs.Slots.{IsAreaFile}
@@ -6,103 +6,50 @@ use Rattle.version_writing.specs.Tables.{table_of}
 use Rattle.version_writing.specs.declared.snapshot_slots.SnapshotSlots.{SnapshotSlots}
 use Rattle.disk_store.specs.declared.member.Member.{Member}
 use Rattle.disk_store.specs.declared.member.MemberStage.TheVariants as stage
-use Rattle.disk_store.specs.ChangeSteps.{no_slots, without_asides}
-use Rattle.disk_store.specs.Commits.{is_free}
+use Rattle.disk_store.specs.ChangeSteps.{without_asides}
 use Rattle.disk_store.specs.Giving.{GivesUnwanted, IsUnwanted, MayGive, without_slots}
 use Rattle.disk_store.specs.Memory.{StoreMemory, with_member}
 use Rattle.disk_store.specs.Seats.{IsAtStage}
-use Rattle.disk_store.specs.Sound.{IsSound}
-use Rattle.disk_store.proofs.Members.{lent-there, set-long}
-use Rattle.disk_store.proofs.Sound.{sound-as}
-use Rattle.disk_store.proofs.SlotsSound.{KeepsAsides, aside-there, left-keeps, left-no-more, sound-slots}
-use Rattle.disk_store.proofs.CommitsKept.{free-kept, slots-kept}
+use Rattle.disk_store.proofs.Members.{lent-there}
+use Rattle.disk_store.proofs.SlotsSound.{slots-sound}
+use Rattle.disk_store.proofs.CommitsKept.{slots-kept}
 use Rattle.disk_store.proofs.held.Held.give_slots.Goals as goal
 
 -- as many are set aside
 may-aside : (tsn : ℕ) (members : List Member) (old new : SnapshotSlots) → MayGive tsn members old new → (file : ℕ) → IsAreaFile file → (table_of new file).aside ≡ (table_of old file).aside
 may-aside tsn members old new may file is = ⊎_elim (λ (same : (new ≡ old) × (IsUnwanted tsn members → ⊥)). ap (λ (x : SnapshotSlots). (table_of x file).aside) same.0) (λ (given : GivesUnwanted tsn members old new). (given.back file is).aside) may
 
-keeps-given : (tsn : ℕ) (members : List Member) (old mid : SnapshotSlots) (m : Member) → MayGive tsn members old mid → KeepsAsides m.aside no_slots old (without_asides m.aside mid)
-keeps-given tsn members old mid m may file is =
-    let kept = left-keeps m.aside mid file is in
-    let same = may-aside tsn members old mid may file is in
-    omega (arith, kept, same)
-
-pub give_unwanted-requires : goal.give_unwanted-requires
-give_unwanted-requires c =
+pub give_pushed-requires : goal.give_pushed-requires
+give_pushed-requires c =
     let i = c.self.inside in
     let s = c.args.s.number in
     let m : Member = c.index.result.now in
     (c.self.invariant.1.each s m (lent-there i.members.items s m (omega (arith, c.self.invariant.0, c.requires.member.last)) c.index.ensures)).first
 
-pub leave-requires-clause-catalog : goal.leave-requires-clause-catalog
-leave-requires-clause-catalog c =
-    let i = c.self.inside in
-    let s = c.args.s.number in
-    let m : Member = c.index_mut-member.result.now in
-    let is : slice_get i.members.items s ≡ Some m = lent-there i.members.items s m (omega (arith, c.self.invariant.0, c.requires.member.last)) c.index_mut-member.ensures.value in
-    let h : StoreMemory = record { limits = i.limits; numbers = i.numbers; next = i.next; tables = i.tables; slots = i.slots; members = i.members.items } in
-    let there = aside-there h s m is c.self.invariant.1 1 (record { first = omega arith; last = omega arith }) in
-    let same = may-aside _ _ i.slots c.give_unwanted.new.slots c.give_unwanted.ensures 1 (record { first = omega arith; last = omega arith }) in
-    omega (arith, there, same)
-
-pub leave-requires-clause-relations : goal.leave-requires-clause-relations
-leave-requires-clause-relations c =
-    let i = c.self.inside in
-    let s = c.args.s.number in
-    let m : Member = c.index_mut-member.result.now in
-    let is : slice_get i.members.items s ≡ Some m = lent-there i.members.items s m (omega (arith, c.self.invariant.0, c.requires.member.last)) c.index_mut-member.ensures.value in
-    let h : StoreMemory = record { limits = i.limits; numbers = i.numbers; next = i.next; tables = i.tables; slots = i.slots; members = i.members.items } in
-    let there = aside-there h s m is c.self.invariant.1 2 (record { first = omega arith; last = omega arith }) in
-    let same = may-aside _ _ i.slots c.give_unwanted.new.slots c.give_unwanted.ensures 2 (record { first = omega arith; last = omega arith }) in
-    omega (arith, there, same)
-
-pub leave-requires-clause-indexes : goal.leave-requires-clause-indexes
-leave-requires-clause-indexes c =
-    let i = c.self.inside in
-    let s = c.args.s.number in
-    let m : Member = c.index_mut-member.result.now in
-    let is : slice_get i.members.items s ≡ Some m = lent-there i.members.items s m (omega (arith, c.self.invariant.0, c.requires.member.last)) c.index_mut-member.ensures.value in
-    let h : StoreMemory = record { limits = i.limits; numbers = i.numbers; next = i.next; tables = i.tables; slots = i.slots; members = i.members.items } in
-    let there = aside-there h s m is c.self.invariant.1 3 (record { first = omega arith; last = omega arith }) in
-    let same = may-aside _ _ i.slots c.give_unwanted.new.slots c.give_unwanted.ensures 3 (record { first = omega arith; last = omega arith }) in
-    omega (arith, there, same)
-
 pub invariant_of-self : goal.invariant_of-self
 invariant_of-self c =
     let i = c.self.inside in
-    let s = c.args.s.number in
-    let m : Member = c.index_mut-member.result.now in
-    let is : slice_get i.members.items s ≡ Some m = lent-there i.members.items s m (omega (arith, c.self.invariant.0, c.requires.member.last)) c.index_mut-member.ensures.value in
     let h : StoreMemory = record { limits = i.limits; numbers = i.numbers; next = i.next; tables = i.tables; slots = i.slots; members = i.members.items } in
-    let mid : SnapshotSlots = c.give_unwanted.new.slots in
-    let n : Member = without_slots m in
-    let at : IsAtStage h.members s stage.Outside = subst (λ (k : StoreMemory). IsAtStage k.members s stage.Outside) (sym c.self.view_is) c.requires.outside in
-    let out : m.stage ≡ stage.Outside = subst (λ (x : Member). x.stage ≡ stage.Outside) (same_Some at.member m (sym at.is ∙ is)) at.at in
-    let left : c.leave.new.self ≡ without_asides m.aside mid = λ j. record { catalog = c.leave.ensures.catalog j; relations = c.leave.ensures.relations j; indexes = c.leave.ensures.indexes j } in (
-      set-long i.members.items s n ∙ c.self.invariant.0,
-      subst (λ (slots : SnapshotSlots). IsSound (record (with_member s n h) { slots = slots })) (sym left)
-          (sound-slots h s m n (without_asides m.aside mid) is c.self.invariant.1 (sound-as h.tables m n refl refl (c.self.invariant.1.each s m is)) (record { lines = λ key line found. (line, found); asides = left-no-more m.aside }) (keeps-given _ _ i.slots mid m c.give_unwanted.ensures)),
-      slots-kept (with_member s n h) c.leave.new.self (free-kept h s m n c.requires.member is (ap is_free out) c.self.invariant.2),
-    )
+    let mid : SnapshotSlots = c.give_pushed.new.slots in
+    (c.self.invariant.0, slots-sound h mid (may-aside _ _ i.slots mid c.give_pushed.ensures) c.self.invariant.1, slots-kept h mid c.self.invariant.2)
+
+pub leave_aside-requires-clause-outside : goal.leave_aside-requires-clause-outside
+leave_aside-requires-clause-outside c = subst (λ (k : StoreMemory). IsAtStage k.members c.args.s.number stage.Outside) (sym c.self.view_is) c.requires.outside
 
 pub returns : goal.returns
 returns c =
     let i = c.self.inside in
     let s = c.args.s.number in
-    let m : Member = c.index_mut-member.result.now in
-    let is : slice_get i.members.items s ≡ Some m = lent-there i.members.items s m (omega (arith, c.self.invariant.0, c.requires.member.last)) c.index_mut-member.ensures.value in
+    let mid : SnapshotSlots = c.give_pushed.new.slots in
+    let leaves = c.leave_aside.ensures in
+    let m : Member = leaves.member in
     let first : Member = c.index.result.now in
-    let one : first ≡ m = same_Some first m (sym (lent-there i.members.items s first (omega (arith, c.self.invariant.0, c.requires.member.last)) c.index.ensures) ∙ is) in
-    let h : StoreMemory = record { limits = i.limits; numbers = i.numbers; next = i.next; tables = i.tables; slots = i.slots; members = i.members.items } in
-    let mid : SnapshotSlots = c.give_unwanted.new.slots in
-    let left : c.leave.new.self ≡ without_asides m.aside mid = λ j. record { catalog = c.leave.ensures.catalog j; relations = c.leave.ensures.relations j; indexes = c.leave.ensures.indexes j } in
-    let may : MayGive m.tsn.number i.members.items i.slots mid = subst (λ (x : Member). MayGive x.tsn.number i.members.items i.slots mid) one (subst (λ (ms : List Member). MayGive first.tsn.number ms i.slots mid) c.as_slice.ensures.value c.give_unwanted.ensures) in
+    let one : first ≡ m = same_Some first m (sym (lent-there i.members.items s first (omega (arith, c.self.invariant.0, c.requires.member.last)) c.index.ensures) ∙ leaves.was) in
+    let may : MayGive m.tsn.number i.members.items i.slots mid = subst (λ (x : Member). MayGive x.tsn.number i.members.items i.slots mid) one (subst (λ (ms : List Member). MayGive first.tsn.number ms i.slots mid) c.as_slice.ensures.value c.give_pushed.ensures) in
     record {
       member = m;
-      was = ap (λ (k : StoreMemory). slice_get k.members s) (sym c.self.view_is) ∙ is;
+      was = ap (λ (k : StoreMemory). slice_get k.members s) (sym c.self.view_is) ∙ leaves.was;
       mid = mid;
       gives = subst (λ (k : StoreMemory). MayGive m.tsn.number k.members k.slots mid) c.self.view_is may;
-      is = ap (λ (slots : SnapshotSlots). record (with_member s (without_slots m) h) { slots = slots }) left
-          ∙ ap (λ (k : StoreMemory). record (with_member s (without_slots m) k) { slots = without_asides m.aside mid }) c.self.view_is;
+      is = leaves.is ∙ ap (λ (k : StoreMemory). record (with_member s (without_slots m) k) { slots = without_asides m.aside mid }) c.self.view_is;
     }

@@ -1,0 +1,4 @@
+pub mod Sets
+pub mod Sorted
+pub mod Lines
+pub mod ReadSoFar

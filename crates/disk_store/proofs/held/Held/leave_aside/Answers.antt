@@ -1,0 +1,79 @@
+use Rattle.std.proofs.Common.{◌≡◌, Some, refl, sym, ap, subst, ◌∙◌, arith}
+use Rattle.std.specs.Prelude.{slice_get}
+use Rattle.std.proofs.lemmas.Option.{same_Some}
+use Rattle.version_writing.specs.declared.snapshot_slots.SnapshotSlots.{SnapshotSlots}
+use Rattle.disk_store.specs.declared.member.Member.{Member}
+use Rattle.disk_store.specs.declared.member.MemberStage.TheVariants as stage
+use Rattle.disk_store.specs.ChangeSteps.{without_asides}
+use Rattle.disk_store.specs.Commits.{is_free}
+use Rattle.disk_store.specs.Giving.{without_slots}
+use Rattle.disk_store.specs.Memory.{StoreMemory, with_member}
+use Rattle.disk_store.specs.Seats.{IsAtStage}
+use Rattle.disk_store.specs.Sound.{IsSound}
+use Rattle.disk_store.proofs.Members.{lent-there, set-long}
+use Rattle.disk_store.proofs.Sound.{sound-as}
+use Rattle.disk_store.proofs.SlotsSound.{aside-there, left-keeps, left-no-more, sound-slots}
+use Rattle.disk_store.proofs.CommitsKept.{free-kept, slots-kept}
+use Rattle.disk_store.proofs.held.Held.leave_aside.Goals as goal
+
+pub leave-requires-clause-catalog : goal.leave-requires-clause-catalog
+leave-requires-clause-catalog c =
+    let i = c.self.inside in
+    let s = c.args.s.number in
+    let m : Member = c.index_mut-member.result.now in
+    let is : slice_get i.members.items s ≡ Some m = lent-there i.members.items s m (omega (arith, c.self.invariant.0, c.requires.member.last)) c.index_mut-member.ensures.value in
+    let h : StoreMemory = record { limits = i.limits; numbers = i.numbers; next = i.next; tables = i.tables; slots = i.slots; members = i.members.items } in
+    let there = aside-there h s m is c.self.invariant.1 1 (record { first = omega arith; last = omega arith }) in
+    omega (arith, there)
+
+pub leave-requires-clause-relations : goal.leave-requires-clause-relations
+leave-requires-clause-relations c =
+    let i = c.self.inside in
+    let s = c.args.s.number in
+    let m : Member = c.index_mut-member.result.now in
+    let is : slice_get i.members.items s ≡ Some m = lent-there i.members.items s m (omega (arith, c.self.invariant.0, c.requires.member.last)) c.index_mut-member.ensures.value in
+    let h : StoreMemory = record { limits = i.limits; numbers = i.numbers; next = i.next; tables = i.tables; slots = i.slots; members = i.members.items } in
+    let there = aside-there h s m is c.self.invariant.1 2 (record { first = omega arith; last = omega arith }) in
+    omega (arith, there)
+
+pub leave-requires-clause-indexes : goal.leave-requires-clause-indexes
+leave-requires-clause-indexes c =
+    let i = c.self.inside in
+    let s = c.args.s.number in
+    let m : Member = c.index_mut-member.result.now in
+    let is : slice_get i.members.items s ≡ Some m = lent-there i.members.items s m (omega (arith, c.self.invariant.0, c.requires.member.last)) c.index_mut-member.ensures.value in
+    let h : StoreMemory = record { limits = i.limits; numbers = i.numbers; next = i.next; tables = i.tables; slots = i.slots; members = i.members.items } in
+    let there = aside-there h s m is c.self.invariant.1 3 (record { first = omega arith; last = omega arith }) in
+    omega (arith, there)
+
+pub invariant_of-self : goal.invariant_of-self
+invariant_of-self c =
+    let i = c.self.inside in
+    let s = c.args.s.number in
+    let m : Member = c.index_mut-member.result.now in
+    let is : slice_get i.members.items s ≡ Some m = lent-there i.members.items s m (omega (arith, c.self.invariant.0, c.requires.member.last)) c.index_mut-member.ensures.value in
+    let h : StoreMemory = record { limits = i.limits; numbers = i.numbers; next = i.next; tables = i.tables; slots = i.slots; members = i.members.items } in
+    let n : Member = without_slots m in
+    let at : IsAtStage h.members s stage.Outside = subst (λ (k : StoreMemory). IsAtStage k.members s stage.Outside) (sym c.self.view_is) c.requires.outside in
+    let out : m.stage ≡ stage.Outside = subst (λ (x : Member). x.stage ≡ stage.Outside) (same_Some at.member m (sym at.is ∙ is)) at.at in
+    let left : c.leave.new.self ≡ without_asides m.aside i.slots = λ j. record { catalog = c.leave.ensures.catalog j; relations = c.leave.ensures.relations j; indexes = c.leave.ensures.indexes j } in (
+      set-long i.members.items s n ∙ c.self.invariant.0,
+      subst (λ (slots : SnapshotSlots). IsSound (record (with_member s n h) { slots = slots })) (sym left)
+          (sound-slots h s m n (without_asides m.aside i.slots) is c.self.invariant.1 (sound-as h.tables m n refl refl (c.self.invariant.1.each s m is)) (record { lines = λ key line found. (line, found); asides = left-no-more m.aside }) (left-keeps m.aside i.slots)),
+      slots-kept (with_member s n h) c.leave.new.self (free-kept h s m n c.requires.member is (ap is_free out) c.self.invariant.2),
+    )
+
+pub returns : goal.returns
+returns c =
+    let i = c.self.inside in
+    let s = c.args.s.number in
+    let m : Member = c.index_mut-member.result.now in
+    let is : slice_get i.members.items s ≡ Some m = lent-there i.members.items s m (omega (arith, c.self.invariant.0, c.requires.member.last)) c.index_mut-member.ensures.value in
+    let h : StoreMemory = record { limits = i.limits; numbers = i.numbers; next = i.next; tables = i.tables; slots = i.slots; members = i.members.items } in
+    let left : c.leave.new.self ≡ without_asides m.aside i.slots = λ j. record { catalog = c.leave.ensures.catalog j; relations = c.leave.ensures.relations j; indexes = c.leave.ensures.indexes j } in
+    record {
+      member = m;
+      was = ap (λ (k : StoreMemory). slice_get k.members s) (sym c.self.view_is) ∙ is;
+      is = ap (λ (slots : SnapshotSlots). record (with_member s (without_slots m) h) { slots = slots }) left
+          ∙ ap (λ (k : StoreMemory). record (with_member s (without_slots m) k) { slots = without_asides m.aside k.slots }) c.self.view_is;
+    }

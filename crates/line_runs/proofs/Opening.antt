@@ -1,0 +1,25 @@
+-- A run opens over the store of an opened disk.
+use Rattle.std.proofs.Common.{◌≡◌, ◌≤◌, ℕ, List, Option, Some, arith}
+use Rattle.rdb_outside.specs.Disk.{Image}
+use Rattle.stable_lines.specs.Journal.{Journal}
+use Rattle.rdb_account.specs.Places.{Opening}
+use Rattle.session_jobs.specs.Records.{Model}
+use Rattle.line_store.specs.Shelves.{Shelf}
+use Rattle.line_store.specs.Sights.{Sight}
+use Rattle.line_cluster.specs.Sound.{IsOpenedBy}
+use Rattle.line_opening.specs.declared.fault.OpeningFault.{OpeningFault}
+use Rattle.line_runs.specs.Openings.{IsOpeningOf}
+
+from-none : (m n : ℕ) → m ≤ 0 → m ≤ n
+from-none m n h = omega (arith, h)
+
+-- An account that begins at no moment opens at any.
+pub at-moment : (image : Image) (journal : Journal) (moment : ℕ) (o : Opening) → IsOpeningOf image journal 0 o → IsOpeningOf image journal moment o
+at-moment image journal moment o h = record { root = h.root; is = h.is; limits = h.limits; owners = h.owners; slots = h.slots; past = from-none o.moment moment h.past }
+
+-- Where one sight shows what another does, an account that opens with that opens with this.
+pub same-shown : (M : Model) (o : Opening) (word : List ℕ) (old new : Sight) → ((h : Shelf) → old.shows h → new.shows h) → IsOpenedBy M o word old → IsOpenedBy M o word new
+same-shown M o word old new shows h = record { shelf = h.shelf; shown = shows h.shelf h.shown; opened = h.opened }
+
+pub same-fault : (a b : OpeningFault) (x : Option OpeningFault) → x ≡ Some a → x ≡ Some b → a ≡ b
+same-fault a b x h k = grind arith

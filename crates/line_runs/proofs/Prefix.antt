@@ -1,0 +1,63 @@
+-- What a crash leaves of the disk, of what the store over it had.
+use Rattle.std.proofs.Common.{◌≡◌, ◌∙◌, ℕ, List, Some, None, sym, ap, subst, ◌⊎◌, inl, inr, ⊎_elim}
+use Rattle.std.proofs.lemmas.Option.{none-some}
+use Rattle.rdb_outside.specs.Disk.{Image, View, LeftNow, Pending}
+use Rattle.rdb_outside.specs.Moments.{each_slot}
+use Rattle.rdb_account.specs.Events.{Event}
+use Rattle.rdb_account.specs.Places.{Opening, Commit, place}
+use Rattle.line_view.specs.declared.writes.Write.{Write}
+use Rattle.line_view.specs.Knowledge.{Lines}
+use Rattle.stable_lines.specs.Progress.{lines_with}
+use Rattle.stable_lines.proofs.Stands.{stands}
+use Rattle.disk_seats.specs.Ledgers.{Commit as Going, progress_of}
+use Rattle.member_steps.specs.Standing.{HasLines}
+use Rattle.member_steps.proofs.Left.{by_case}
+use Rattle.store_shows.specs.Shows.{Leaves}
+use Rattle.disk_store.specs.Memory.{StoreMemory}
+use Rattle.disk_store.specs.Shown.{Shown, sight_of}
+use Rattle.disk_store.proofs.Agreeing.{agreeing, standing}
+use Rattle.line_store.specs.Seats.{Seat, outside, beginning, writing, changing, prepared, committing, rolling_back, closing, reading, dead, in_flight}
+use Rattle.line_store.specs.Shelves.{Shelf}
+use Rattle.line_store.specs.Calls.{MayStand}
+use Rattle.line_store.specs.Sights.{Sight, bare}
+use Rattle.session_jobs.specs.Records.{Model}
+use Rattle.session_stands.proofs.Seats.{outside-seat}
+use Rattle.line_cluster.specs.Sound.{HasImages, IsLeft}
+use Rattle.line_runs.specs.Prefix.{IsPrefix, HoldsAll, HoldsPrefix}
+
+-- opening can start from each image that a crash may leave
+opens : (v : View) (held : StoreMemory) (h : Shelf) → Shown v held h → (image : Image) → LeftNow v image → (lines : Lines) × HasLines image lines
+opens v held h shown image left =
+    let now = shown.ledger in
+    let pending = each_slot v image left in
+    ⊎_elim
+    (λ (has : HasLines image now.base.lines). (now.base.lines, has))
+    (λ (up : (c : Going) × (now.commit ≡ Some c) × HasLines image (lines_with now.base c.flight)). (lines_with now.base up.0.flight, up.2))
+    (by_case v now shown.facts image (stands (Pending v) (progress_of now) shown.facts.facts image pending))
+
+-- as the store has it
+leaves-now : (v : View) (held : StoreMemory) (h : Shelf) → Shown v held h → (image : Image) (lines : Lines) → LeftNow v image → HasLines image lines → Leaves v h.clock.time lines
+leaves-now v held h shown image lines left has = record { image = image; left = subst (λ (t : ℕ). v.left_since t image) (sym shown.lines.time) left; stands = has }
+
+module _ (M : Model) (o : Opening) (v : View) (events : List Event) (held : StoreMemory) where
+  pub holds-prefix : HasImages M o (sight_of v held) events → HoldsPrefix M o v events
+  holds-prefix has = record {
+    now = λ image l. let it = opens v held has.shelf has.shown image l in record { lines = it.0; has = it.1; stands = has.now it.0 (leaves-now v held has.shelf has.shown image it.0 l it.1) };
+    since = λ k c found image l lines is. has.since.each k c found lines (record { image = image; left = l; stands = is });
+    began = has.since.began;
+    opened = has.since.opened;
+    later = has.since.later;
+    opening = λ image l lines is. has.since.opening lines (record { image = image; left = l; stands = is });
+  }
+
+  pub holds-all : IsLeft M o (sight_of v held) events → ((s : ℕ) → bare ((sight_of v held).stand s) ≡ outside) → HoldsAll M o v events
+  holds-all it rests = λ image l.
+      let has = opens v held it.shelf it.shown image l in
+      (has.0, has.1, still has.0 (standing v held it.shelf it.shown has.0 (leaves-now v held it.shelf it.shown image has.0 l has.1)))
+    where
+      idle : (s : ℕ) → it.shelf.seat s ≡ outside
+      idle s = outside-seat (it.shelf.seat s) (sym (agreeing v held it.shelf it.shown s) ∙ rests s)
+
+      still : (lines : Lines) → MayStand it.shelf lines → M lines (place o events).tables
+      still lines (inl is) = subst (λ (x : Lines). M x (place o events).tables) (sym is) it.stands
+      still lines (inr (s, ws, flies, is)) = absurd (none-some ws (sym (ap in_flight (idle s)) ∙ flies))

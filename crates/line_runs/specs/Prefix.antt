@@ -1,0 +1,32 @@
+-- What a crash leaves of a disk over which sessions ran.
+use Rattle.std.specs.Prelude.{ℕ, suc, ◌≤◌, ◌≡◌, List, Some, slice_get}
+use Rattle.rdb_outside.specs.Disk.{Image, View, LeftNow}
+use Rattle.line_view.specs.Knowledge.{Lines}
+use Rattle.member_steps.specs.Standing.{HasLines}
+use Rattle.rdb_account.specs.Events.{Event}
+use Rattle.rdb_account.specs.Places.{Opening, Commit, place}
+use Rattle.session_jobs.specs.Records.{Model}
+use Rattle.line_steps.specs.Images.{IsLeft, IsNow}
+
+-- the image stands for what the account has committed, or for that with the one in flight, and opening can start from it
+pub record IsPrefix (M : Model) (o : Opening) (events : List Event) (image : Image) : Type 0 where
+  pub lines : Lines
+  pub has : HasLines image lines
+  pub stands : IsNow M o (place o events) lines
+
+-- whatever lines the image stands for, they stand for what was committed at a place of the account with at least k commits before it, or for that with the one in flight there
+abbrev pub IsFrom : Model → Opening → List Event → ℕ → Image → Type 0
+IsFrom M o events k image = (lines : Lines) → HasLines image lines → IsLeft M o events k lines
+
+-- Opening can start from each image that a crash may leave now, and it stands for all commits. One that a crash might have left since a commit stands for that commit or a later one; and so since the sessions began, which was not before the opening's moment.
+pub record HoldsPrefix (M : Model) (o : Opening) (v : View) (events : List Event) : Type 0 where
+  pub now : (image : Image) → LeftNow v image → IsPrefix M o events image
+  pub since : (k : ℕ) (c : Commit) → slice_get (place o events).commits k ≡ Some c → (image : Image) → v.left_since c.moment image → IsFrom M o events (suc k) image
+  pub began : ℕ
+  pub opened : o.moment ≤ began
+  pub later : (k : ℕ) (c : Commit) → slice_get (place o events).commits k ≡ Some c → began ≤ c.moment
+  pub opening : (image : Image) → v.left_since began image → IsFrom M o events 0 image
+
+-- each image that a crash may leave stands for the tables of all commits
+abbrev pub HoldsAll : Model → Opening → View → List Event → Type 0
+HoldsAll M o v events = (image : Image) → LeftNow v image → (lines : Lines) × HasLines image lines × M lines (place o events).tables

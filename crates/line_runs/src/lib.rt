@@ -1,0 +1,8 @@
+//! Scripts said over a database on a disk: it is opened, its sessions are driven to their ends, and the disk is given back.
+#![tactic(auto)]
+
+mod laws;
+mod runs;
+
+pub use laws::a_run_opens;
+pub use runs::{LineRun, Said, say_in_order, say_in_threads};

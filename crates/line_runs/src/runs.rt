@@ -1,0 +1,187 @@
+// Scripts said over a database on a disk.
+ghost use Rattle.std.specs.Prelude.{List, ◌≡◌, ◌≤◌, ◌<◌, ◌^◌, ℕ, All, None, Some, IfOk, IfErr, [], false, true, length, map};
+ghost use Rattle.rdb_types.specs.declared.file.FileId.{FileId as File};
+ghost use Rattle.rdb_outside.specs.Causes.{Rose};
+ghost use Rattle.rdb_account.specs.Events.{Event, event_of};
+ghost use Rattle.rdb_account.specs.Places.{Opening};
+ghost use Rattle.line_store.specs.Seats.{outside};
+ghost use Rattle.line_store.specs.Sights.{bare};
+ghost use Rattle.rdb_account.specs.Legal.{IsLegal};
+ghost use Rattle.rdb_drive.specs.Boards.{IsSession, MayDie};
+ghost use Rattle.line_cluster.specs.Sound.{FollowsScripts, HasImages, IsLeft, MayFail};
+ghost use Rattle.line_cluster.specs.Turned.{HaveAllEnded};
+ghost use Rattle.line_drive.specs.Boards.{mortals_of};
+ghost use Rattle.line_drive.specs.Turns.{KeepsTurns};
+ghost use Rattle.line_runs.specs.Openings.{HasNoNumbers, OpensWith};
+ghost use Rattle.line_runs.specs.Prefix.{HoldsPrefix, HoldsAll};
+
+use crate::laws::a_run_opens;
+use disk_line_store::DiskStore;
+use line_cluster::{LineCluster, Origin};
+use line_drive::{Ran, run_in_order, run_in_threads};
+use line_opening::OpeningFault;
+use line_store::LineStore;
+use opened_store::open;
+use rdb_account::Events;
+use rdb_drive::Gate;
+use rdb_outside::Disk;
+use rdb_types::{Items, Word};
+use rdo_reserving::ReservingStatements;
+use session_jobs::Statements;
+use session_states::ItemQueue;
+use std::alloc::Global;
+use std::marker::Send;
+use std::sync::Wait;
+use std::thread::Threads;
+
+/// Scripts, each of a session, and the word of the database to which they are said.
+#[derive(Drop)]
+pub struct Said {
+    pub word: Word,
+    pub scripts: Vec<ItemQueue>,
+}
+
+/// A database that couldn't be opened, with its disk.
+#[derive(Drop)]
+pub struct Unopened<D: Drop> {
+    pub disk: D,
+    pub fault: OpeningFault,
+}
+
+/// What a run came to: its events, whether every session came to its end, or died and was recovered, and why the database wasn't opened, if it wasn't.
+#[derive(Drop)]
+pub struct LineRun<D: Drop> {
+    pub disk: D,
+    pub events: Events,
+    pub is_whole: bool,
+    pub fault: Option<OpeningFault>,
+}
+
+/// The sessions over an opened database.
+type Sessions<O, D> = LineCluster<O, ReservingStatements, DiskStore<D>>;
+
+// Opens a database, before which a session of each script stands.
+fn begin<O: Origin, D: Disk + Drop>(
+    alloc: Global,
+    disk: D,
+    said: Said,
+) -> Result<Sessions<O, D>, Unopened<D>>
+    requires sessions { length said.scripts.items ≡ O.sessions }
+    requires few { O.sessions ≤ 16 }
+    requires short { All (λ items. length items < 2 ^ 32) said.scripts.items }
+    requires scripts { FollowsScripts O.opening said.scripts.items }
+    requires mortal { MayFail O.opening }
+    requires word { said.word ≡ O.opening.word }
+    requires opens { O.told → OpensWith ⟦<ReservingStatements as Statements>⟧.stands (D.view disk) O.opening }
+    ensures events { IfOk result (λ c. c.events ≡ []) }
+    ensures failed { IfErr result (λ u. u.fault ≡ OpeningFault.Failed → Rose (D.view disk).faults (D.view u.disk).faults) }
+    ensures bad { (file : File) (slot : ℕ) → IfErr result (λ u. u.fault ≡ OpeningFault.Bad file slot → HasNoNumbers (D.view disk)) }
+{
+    let mut disk = disk;
+    let held = match open(alloc, &mut disk) {
+        Ok(held) => held,
+        Err(fault) => return Err(Unopened { disk, fault }),
+    };
+    a_run_opens::<D, ReservingStatements>(&disk, &held);
+    let store = DiskStore::new(disk, held);
+    match LineCluster::start(alloc, said.word, store, said.scripts) {
+        Ok(sessions) => Ok(sessions),
+        Err(store) => Err(Unopened {
+            disk: store.into_disk(),
+            fault: OpeningFault::NoMemory,
+        }),
+    }
+}
+
+// Nothing was said.
+fn unsaid<D: Drop>(alloc: Global, unopened: Unopened<D>) -> LineRun<D>
+    ensures events { result.events ≡ [] }
+    ensures disk { result.disk ≡ unopened.disk }
+    ensures is_whole { result.is_whole ≡ false }
+    ensures fault { result.fault ≡ Some unopened.fault }
+{
+    LineRun {
+        disk: unopened.disk,
+        events: Items::new(alloc),
+        is_whole: false,
+        fault: Some(unopened.fault),
+    }
+}
+
+fn ended<D: Disk + Drop>(ran: Ran<DiskStore<D>>) -> LineRun<D>
+    ensures events { result.events ≡ ran.events }
+    ensures is_whole { result.is_whole ≡ ran.is_whole }
+    ensures fault { result.fault ≡ None }
+    ensures images { (o : Opening) (events : List Event) → HasImages ⟦<ReservingStatements as Statements>⟧.stands o (⟦<DiskStore<D> as LineStore>⟧.sight ran.store) events → HoldsPrefix ⟦<ReservingStatements as Statements>⟧.stands o (D.view result.disk) events }
+    ensures left { (o : Opening) (events : List Event) → IsLeft ⟦<ReservingStatements as Statements>⟧.stands o (⟦<DiskStore<D> as LineStore>⟧.sight ran.store) events → ((s : ℕ) → bare ((⟦<DiskStore<D> as LineStore>⟧.sight ran.store).stand s) ≡ outside) → HoldsAll ⟦<ReservingStatements as Statements>⟧.stands o (D.view result.disk) events }
+{
+    LineRun {
+        disk: ran.store.into_disk(),
+        events: ran.events,
+        is_whole: ran.is_whole,
+        fault: None,
+    }
+}
+
+/// Opens a database, and says scripts to it by turns of their sessions, which the order names, and then in ascending order, again and again. The gate may have a session die.
+pub fn say_in_order<O: Origin, D: Disk + Drop, G: Gate>(
+    alloc: Global,
+    disk: D,
+    said: Said,
+    order: &[u32],
+    gate: &G,
+) -> LineRun<D>
+    requires sessions { length said.scripts.items ≡ O.sessions }
+    requires few { O.sessions ≤ 16 }
+    requires short { All (λ items. length items < 2 ^ 32) said.scripts.items }
+    requires scripts { FollowsScripts O.opening said.scripts.items }
+    requires mortal { MayFail O.opening }
+    requires entries { All (λ s. IsSession O.sessions s) order.now }
+    requires word { said.word ≡ O.opening.word }
+    requires mortals { MayDie (G.mortals gate.now) (mortals_of O.opening O.sessions) }
+    requires opens { O.told → OpensWith ⟦<ReservingStatements as Statements>⟧.stands (D.view disk) O.opening }
+    ensures legal { O.told → IsLegal O.opening (map event_of result.events) }
+    ensures whole { O.told → result.is_whole ≡ true → HaveAllEnded O.opening O.sessions (map event_of result.events) }
+    ensures order { O.told → result.is_whole ≡ true → KeepsTurns O.opening O.sessions order.now result.events }
+    ensures images { O.told → result.fault ≡ None → HoldsPrefix ⟦<ReservingStatements as Statements>⟧.stands O.opening (D.view result.disk) (map event_of result.events) }
+    ensures left { O.told → result.is_whole ≡ true → HoldsAll ⟦<ReservingStatements as Statements>⟧.stands O.opening (D.view result.disk) (map event_of result.events) }
+    ensures failed { result.fault ≡ Some OpeningFault.Failed → Rose (D.view disk).faults (D.view result.disk).faults }
+    ensures bad { (file : File) (slot : ℕ) → result.fault ≡ Some (OpeningFault.Bad file slot) → HasNoNumbers (D.view disk) }
+    ensures unsaid { (result.fault ≡ None → ⊥) → result.events ≡ [] }
+{
+    let sessions = said.scripts.len() as u32;
+    match begin::<O, D>(alloc, disk, said) {
+        Ok(cluster) => ended(run_in_order(cluster, sessions, order, gate)),
+        Err(unopened) => unsaid(alloc, unopened),
+    }
+}
+
+/// Opens a database, and says scripts to it, each by a thread of its own. The gate may have a session die.
+pub fn say_in_threads<
+    R: Threads + Wait + Sync,
+    O: Origin + Send,
+    D: Disk + Drop + Send,
+    G: Gate + Sync,
+>(rt: &R, alloc: Global, disk: D, said: Said, gate: &G) -> LineRun<D>
+    requires sessions { length said.scripts.items ≡ O.sessions }
+    requires few { O.sessions ≤ 16 }
+    requires short { All (λ items. length items < 2 ^ 32) said.scripts.items }
+    requires scripts { FollowsScripts O.opening said.scripts.items }
+    requires mortal { MayFail O.opening }
+    requires word { said.word ≡ O.opening.word }
+    requires mortals { MayDie (G.mortals gate.now) (mortals_of O.opening O.sessions) }
+    requires opens { O.told → OpensWith ⟦<ReservingStatements as Statements>⟧.stands (D.view disk) O.opening }
+    ensures legal { O.told → IsLegal O.opening (map event_of result.events) }
+    ensures whole { O.told → result.is_whole ≡ true → HaveAllEnded O.opening O.sessions (map event_of result.events) }
+    ensures images { O.told → result.fault ≡ None → HoldsPrefix ⟦<ReservingStatements as Statements>⟧.stands O.opening (D.view result.disk) (map event_of result.events) }
+    ensures left { O.told → result.is_whole ≡ true → HoldsAll ⟦<ReservingStatements as Statements>⟧.stands O.opening (D.view result.disk) (map event_of result.events) }
+    ensures failed { result.fault ≡ Some OpeningFault.Failed → Rose (D.view disk).faults (D.view result.disk).faults }
+    ensures bad { (file : File) (slot : ℕ) → result.fault ≡ Some (OpeningFault.Bad file slot) → HasNoNumbers (D.view disk) }
+    ensures unsaid { (result.fault ≡ None → ⊥) → result.events ≡ [] }
+{
+    let sessions = said.scripts.len() as u32;
+    match begin::<O, D>(alloc, disk, said) {
+        Ok(cluster) => ended(run_in_threads(rt, cluster, sessions, gate)),
+        Err(unopened) => unsaid(alloc, unopened),
+    }
+}

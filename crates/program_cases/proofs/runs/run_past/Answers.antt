@@ -1,0 +1,9 @@
+use Rattle.std.proofs.Common.{◌<◌, ℕ, List, [], length, subst, arith}
+use Rattle.std.specs.List.{Contains}
+use Rattle.program_cases.proofs.runs.run_past.Goals as goal
+
+in-none : (s : ℕ) → Contains [] s → ⊥
+in-none s (k, below, is) = omega (arith, below)
+
+pub run-requires-clause-mortals : goal.run-requires-clause-mortals
+run-requires-clause-mortals g c κs within given row s held = absurd (in-none s (subst (λ (gates : List ℕ). Contains gates s) c.requires.calm held))

@@ -1,0 +1,9 @@
+pub mod Finding
+pub mod Blanked
+pub mod Blank
+pub mod Laid
+pub mod Fronts
+pub mod Greatest
+pub mod Ended
+pub mod Course
+pub mod Planned

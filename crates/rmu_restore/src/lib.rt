@@ -1,0 +1,9 @@
+//! A database made from a backup.
+#![tactic(auto)]
+
+mod blanking;
+mod journal;
+mod laying;
+mod restoring;
+
+pub use restoring::restore;

@@ -1,5 +1,0 @@
-pub mod Openings
-pub mod Members
-pub mod Happenings
-pub mod Right
-pub mod Steps

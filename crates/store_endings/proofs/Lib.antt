@@ -1,0 +1,4 @@
+pub mod Deaths
+pub mod PutBack
+pub mod SlotsGiven
+pub mod Tidied

@@ -1,0 +1,19 @@
+// A transaction of which no page was written is undone, or dies.
+ghost use Rattle.std.specs.Prelude.{[]};
+ghost use Rattle.line_store.specs.Seats.{IsMember, IsWriting, rolling_back};
+ghost use Rattle.line_store.specs.Sights.{Does, RollsBack};
+ghost use Rattle.disk_store.specs.Seats.{stand_at};
+ghost use Rattle.disk_store.specs.Shown.{sight_of};
+
+use disk_store::{Held, MemberStage};
+use rdb_outside::Disk;
+use rdb_types::Session;
+
+/// A session begins to undo its transaction: its lines are forgotten, and its header is to be closed.
+pub fn roll_back<D: Disk>(_disk: &D, held: &mut Held, s: Session)
+    requires member { IsMember s.number }
+    requires seat { IsWriting (stand_at held.old.members s.number) }
+    ensures { Does s.number (rolling_back []) (RollsBack s.number) (sight_of (D.view _disk.now) held.old) (sight_of (D.view _disk.now) held.new) }
+{
+    held.set_stage(s, MemberStage::RollingBack);
+}
