@@ -107,7 +107,10 @@ fn drive_order<O: Origin, S: Reserves + Reaches, L: LineStore + Drop>(
 }
 
 // A step of each session of an order. False where none of them goes on.
-fn step_each<O: Origin, S: Reserves + Reaches, L: LineStore + Drop>(world: &mut World<O, S, L>, order: &str) -> bool
+fn step_each<O: Origin, S: Reserves + Reaches, L: LineStore + Drop>(
+    world: &mut World<O, S, L>,
+    order: &str,
+) -> bool
     requires sessions { O.sessions ≡ 4 }
 {
     let mut goes_on = false;
@@ -123,7 +126,10 @@ fn step_each<O: Origin, S: Reserves + Reaches, L: LineStore + Drop>(world: &mut 
 }
 
 // The sessions of an order by steps in turn.
-fn drive_steps<O: Origin, S: Reserves + Reaches, L: LineStore + Drop>(world: &mut World<O, S, L>, order: &str)
+fn drive_steps<O: Origin, S: Reserves + Reaches, L: LineStore + Drop>(
+    world: &mut World<O, S, L>,
+    order: &str,
+)
     requires sessions { O.sessions ≡ 4 }
 {
     for _ in 0..MAX_ROUNDS {
@@ -134,7 +140,10 @@ fn drive_steps<O: Origin, S: Reserves + Reaches, L: LineStore + Drop>(world: &mu
 }
 
 // A turn of each session. False where none moves any more.
-fn go_round<O: Origin, S: Reserves + Reaches, L: LineStore + Drop>(world: &mut World<O, S, L>, out: &mut Bytes) -> Result<bool, NoMemory>
+fn go_round<O: Origin, S: Reserves + Reaches, L: LineStore + Drop>(
+    world: &mut World<O, S, L>,
+    out: &mut Bytes,
+) -> Result<bool, NoMemory>
     requires sessions { O.sessions ≡ 4 }
 {
     let mut are_over = true;
@@ -151,7 +160,10 @@ fn go_round<O: Origin, S: Reserves + Reaches, L: LineStore + Drop>(world: &mut W
     Ok(!are_over)
 }
 
-fn drive_rounds<O: Origin, S: Reserves + Reaches, L: LineStore + Drop>(world: &mut World<O, S, L>, out: &mut Bytes) -> Result<(), NoMemory>
+fn drive_rounds<O: Origin, S: Reserves + Reaches, L: LineStore + Drop>(
+    world: &mut World<O, S, L>,
+    out: &mut Bytes,
+) -> Result<(), NoMemory>
     requires sessions { O.sessions ≡ 4 }
 {
     for _ in 0..MAX_ROUNDS {
@@ -174,7 +186,11 @@ fn drive_first<O: Origin, S: Reserves + Reaches, L: LineStore + Drop>(world: &mu
     }
 }
 
-fn tell_events<O: Origin, S: Reserves + Reaches, L: LineStore + Drop>(world: &World<O, S, L>, from: usize, out: &mut Bytes) -> Result<(), NoMemory> {
+fn tell_events<O: Origin, S: Reserves + Reaches, L: LineStore + Drop>(
+    world: &World<O, S, L>,
+    from: usize,
+    out: &mut Bytes,
+) -> Result<(), NoMemory> {
     for event in world.events().iter().skip(from) {
         put_event(event, out)?;
     }

@@ -46,8 +46,7 @@ fn is_answered(events: &[Event], from: usize, s: Session) -> bool {
     let Some(more) = events.get(from..) else {
         return false;
     };
-    more.iter()
-        .any(|event| matches!(event, Event::Said(of, _, _, _) if *of == s))
+    more.iter().any(|event| matches!(event, Event::Said(of, _, _, _) if *of == s))
 }
 
 /// The sessions of a case.
