@@ -61,3 +61,12 @@ module _ (M : Model) (o : Opening) (v : View) (events : List Event) (held : Stor
       still : (lines : Lines) → MayStand it.shelf lines → M lines (place o events).tables
       still lines (inl is) = subst (λ (x : Lines). M x (place o events).tables) (sym is) it.stands
       still lines (inr (s, ws, flies, is)) = absurd (none-some ws (sym (ap in_flight (idle s)) ∙ flies))
+
+-- ---- of a store that has given its disk back
+
+module _ (M : Model) (o : Opening) (v : View) (events : List Event) (sight : Sight) (shown : (held : StoreMemory) × (sight ≡ sight_of v held)) where
+  pub prefix-back : HasImages M o sight events → HoldsPrefix M o v events
+  prefix-back has = holds-prefix M o v events shown.0 (subst (λ (x : Sight). HasImages M o x events) shown.1 has)
+
+  pub all-back : IsLeft M o sight events → ((s : ℕ) → bare (sight.stand s) ≡ outside) → HoldsAll M o v events
+  all-back it rests = holds-all M o v events shown.0 (subst (λ (x : Sight). IsLeft M o x events) shown.1 it) (subst (λ (x : Sight). (s : ℕ) → bare (x.stand s) ≡ outside) shown.1 rests)

@@ -4,12 +4,12 @@ use Rattle.rdb_account.specs.Legal.{IsLegal}
 use Rattle.line_cluster.specs.Turned.{HaveAllEnded}
 use Rattle.line_drive.specs.Turns.{KeepsTurns}
 use Rattle.line_runs.specs.Openings.{said_to}
-use Rattle.line_runs.specs.Prefix.{HoldsAll, HoldsPrefix}
 use Rattle.command_words.specs.declared.words.Scripts.{Scripts}
 use Rattle.command_words.specs.Words.{word_of, order_in}
 use Rattle.rdb_top.specs.Deaths.{letting}
 use Rattle.rdb_top.specs.Runs.{scripts_of, IsRun, OfSomeScripts}
 use Rattle.rdb_top.proofs.Givens.{same-given}
+use Rattle.rdb_top.proofs.Saying.{prefix-of-given, all-of-given}
 use Rattle.rdb_top.proofs.top.run.Goals as goal
 
 pub returns-in-Some-Rdo-clause-legal : goal.returns-in-Some-Rdo-clause-legal
@@ -40,10 +40,10 @@ returns-in-Some-Rdo-clause-account g c given row told =
 
 pub returns-in-Some-Rdo-clause-images : goal.returns-in-Some-Rdo-clause-images
 returns-in-Some-Rdo-clause-images g c given row told tells some =
-    subst (λ n. HoldsPrefix _ (said_to (letting n.death g.O.Origin.opening) (word_of c.args.words.now) (scripts_of (g.S.Source.left c.args.scripts.now) n.count)) (g.D.Disk.view c.run_rdo.result.disk) (map event_of c.run_rdo.result.events))
+    prefix-of-given _ (g.D.Disk.view c.run_rdo.result.disk) g.O.Origin.opening (map event_of c.run_rdo.result.events) (word_of c.args.words.now) (g.S.Source.left c.args.scripts.now) c.in-Some-Rdo.given given
     (same-given c.in-Some-Rdo.given given _ (ap Some (sym c.in-Some-Rdo.field-0-is) ∙ c.in-Some-Rdo.ensures.row) row) (c.run_rdo.ensures.images told tells some)
 
 pub returns-in-Some-Rdo-clause-left : goal.returns-in-Some-Rdo-clause-left
 returns-in-Some-Rdo-clause-left g c given row told tells whole =
-    subst (λ n. HoldsAll _ (said_to (letting n.death g.O.Origin.opening) (word_of c.args.words.now) (scripts_of (g.S.Source.left c.args.scripts.now) n.count)) (g.D.Disk.view c.run_rdo.result.disk) (map event_of c.run_rdo.result.events))
+    all-of-given _ (g.D.Disk.view c.run_rdo.result.disk) g.O.Origin.opening (map event_of c.run_rdo.result.events) (word_of c.args.words.now) (g.S.Source.left c.args.scripts.now) c.in-Some-Rdo.given given
     (same-given c.in-Some-Rdo.given given _ (ap Some (sym c.in-Some-Rdo.field-0-is) ∙ c.in-Some-Rdo.ensures.row) row) (c.run_rdo.ensures.left told tells whole)

@@ -4,10 +4,10 @@ use Rattle.rdb_account.specs.Legal.{IsLegal}
 use Rattle.line_cluster.specs.Turned.{HaveAllEnded}
 use Rattle.line_drive.specs.Turns.{KeepsTurns}
 use Rattle.line_runs.specs.Openings.{said_to}
-use Rattle.line_runs.specs.Prefix.{HoldsAll, HoldsPrefix}
 use Rattle.command_words.specs.Words.{word_of, order_in}
 use Rattle.rdb_top.specs.Deaths.{letting}
 use Rattle.rdb_top.specs.Runs.{scripts_of, IsWhole}
+use Rattle.rdb_top.proofs.Saying.{prefix-of-scripts, all-of-scripts}
 use Rattle.rdb_top.proofs.Unsaid.{is-opened, nothing-said, stop-is-no-end}
 use Rattle.rdb_top.proofs.Upward.{scripts-length}
 use Rattle.rdb_top.proofs.top.run_rdo.Goals as goal
@@ -53,15 +53,15 @@ returns-in-Ok-clause-unopened g c is =
 
 pub returns-in-Ok-clause-images : goal.returns-in-Ok-clause-images
 returns-in-Ok-clause-images g c told tells some =
-    let opened = is-opened c.say_scripts-ran.result.fault _ c.say_scripts-ran.ensures.unsaid (λ none. some (c.finish_scripts.ensures.events ∙ none)) in
+    let opened = is-opened c.say_scripts-ran.result.fault c.say_scripts-ran.result.events c.say_scripts-ran.ensures.unsaid (λ none. some (c.finish_scripts.ensures.events ∙ none)) in
     rw c.finish_scripts.ensures.events (rw c.finish_scripts.ensures.disk
-    (subst (λ qs. HoldsPrefix _ (said_to (letting c.args.asked.given.death g.O.Origin.opening) (word_of c.args.asked.words.now) qs) (g.D.Disk.view c.say_scripts-ran.result.disk) (map event_of c.say_scripts-ran.result.events)) (c.in-Ok.ensures.items tells)
+    (prefix-of-scripts _ (g.D.Disk.view c.say_scripts-ran.result.disk) g.O.Origin.opening (map event_of c.say_scripts-ran.result.events) c.args.asked.given.death (word_of c.args.asked.words.now) _ _ (c.in-Ok.ensures.items tells)
     (c.say_scripts-ran.ensures.images told opened)))
 
 pub returns-in-Ok-clause-left : goal.returns-in-Ok-clause-left
 returns-in-Ok-clause-left g c told tells whole =
     rw c.finish_scripts.ensures.events (rw c.finish_scripts.ensures.disk
-    (subst (λ qs. HoldsAll _ (said_to (letting c.args.asked.given.death g.O.Origin.opening) (word_of c.args.asked.words.now) qs) (g.D.Disk.view c.say_scripts-ran.result.disk) (map event_of c.say_scripts-ran.result.events)) (c.in-Ok.ensures.items tells)
+    (all-of-scripts _ (g.D.Disk.view c.say_scripts-ran.result.disk) g.O.Origin.opening (map event_of c.say_scripts-ran.result.events) c.args.asked.given.death (word_of c.args.asked.words.now) _ _ (c.in-Ok.ensures.items tells)
     (c.say_scripts-ran.ensures.left told (c.finish_scripts.ensures.whole whole))))
 
 pub returns-in-Err-clause-images : goal.returns-in-Err-clause-images

@@ -6,11 +6,10 @@ use Rattle.line_cluster.specs.Turned.{HaveAllEnded}
 use Rattle.line_drive.specs.Boards.{mortals_of}
 use Rattle.line_drive.specs.Turns.{KeepsTurns}
 use Rattle.line_runs.specs.Openings.{said_to}
-use Rattle.line_runs.specs.Prefix.{HoldsAll, HoldsPrefix}
 use Rattle.command_words.specs.Words.{order_in, word_of}
 use Rattle.rdb_top.specs.Deaths.{letting, sessions_dying}
 use Rattle.rdb_top.proofs.Deaths.{may-fail, mortals}
-use Rattle.rdb_top.proofs.Saying.{opens}
+use Rattle.rdb_top.proofs.Saying.{opens, prefix-of-word, all-of-word}
 use Rattle.rdb_top.proofs.top.say_scripts.Goals as goal
 
 pub run_of-requires-clause-mortals : goal.run_of-requires-clause-mortals
@@ -42,9 +41,7 @@ returns-in-Ok-clause-order g c has_order told whole =
     (c.run_of.ensures.order has_order told whole)))
 
 pub returns-in-Ok-clause-images : goal.returns-in-Ok-clause-images
-returns-in-Ok-clause-images g c told opened =
-    subst (λ w. HoldsPrefix _ (said_to (letting c.args.asked.given.death g.O.Origin.opening) w c.args.scripts.items) (g.D.Disk.view c.run_of.result.disk) (map event_of c.run_of.result.events)) c.in-Ok.ensures.word (c.run_of.ensures.images told opened)
+returns-in-Ok-clause-images g c told opened = prefix-of-word _ (g.D.Disk.view c.run_of.result.disk) g.O.Origin.opening (map event_of c.run_of.result.events) c.args.asked.given.death _ _ c.args.scripts.items c.in-Ok.ensures.word (c.run_of.ensures.images told opened)
 
 pub returns-in-Ok-clause-left : goal.returns-in-Ok-clause-left
-returns-in-Ok-clause-left g c told whole =
-    subst (λ w. HoldsAll _ (said_to (letting c.args.asked.given.death g.O.Origin.opening) w c.args.scripts.items) (g.D.Disk.view c.run_of.result.disk) (map event_of c.run_of.result.events)) c.in-Ok.ensures.word (c.run_of.ensures.left told whole)
+returns-in-Ok-clause-left g c told whole = all-of-word _ (g.D.Disk.view c.run_of.result.disk) g.O.Origin.opening (map event_of c.run_of.result.events) c.args.asked.given.death _ _ c.args.scripts.items c.in-Ok.ensures.word (c.run_of.ensures.left told whole)
