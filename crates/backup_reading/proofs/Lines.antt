@@ -1,17 +1,16 @@
 -- A line more, or one that is refused.
-use Rattle.std.proofs.Common.{◌≡◌, ℕ, ◌+◌, ◌<◌, ◌≤◌, Bool, true, List, [], ◌∷◌, ◌++◌, length, Option, Some, None, slice_get, ◌⊎◌, inl, inr, ⊎_elim, refl, sym, ap, subst, ◌∙◌, arith}
+use Rattle.std.proofs.Common.{◌≡◌, ℕ, ◌+◌, ◌<◌, ◌≤◌, List, [], ◌∷◌, ◌++◌, length, Option, Some, None, slice_get, ◌⊎◌, inl, inr, ⊎_elim, refl, sym, ap, subst, ◌∙◌, arith}
 use Rattle.std.proofs.lemmas.List.{length-append}
 use Rattle.std.proofs.lemmas.Option.{slice_get_within}
 use Rattle.std.specs.declared.cmp.Ordering.TheVariants.{Less}
 use Rattle.std.specs.BTreeSet.{BTreeSet, IsEmpty}
-use Rattle.std.specs.FinMap.Entries.{is_sorted}
 use Rattle.rdb_types.specs.Order.{dbkey_order}
 use Rattle.rdb_types.specs.OrderLaws.{dbkey_total}
 use Rattle.rdb_types.specs.declared.keys.Dbkey.{Dbkey}
 use Rattle.rdb_page.specs.Page.{IsOwner}
 use Rattle.stable_lines.proofs.Lists.{got_either, got_left, got_right, got_one}
 use Rattle.backup_file.specs.declared.line.BackupLine.{BackupLine}
-use Rattle.backup_file.specs.Whole.{lines_in, HasPage, SharePages}
+use Rattle.backup_file.specs.Whole.{HasPage, SharePages}
 use Rattle.backup_reading.specs.declared.pages.FilePage.{FilePage}
 use Rattle.backup_reading.specs.declared.passing.LastLine.{LastLine}
 use Rattle.backup_reading.specs.declared.passing.Passed.{Passed}

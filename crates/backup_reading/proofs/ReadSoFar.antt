@@ -1,5 +1,5 @@
 -- Lines read from a backup, so far and all.
-use Rattle.std.proofs.Common.{◌≡◌, ℕ, zero, suc, ◌+◌, ◌<◌, ◌≤◌, List, [], ◌∷◌, ◌++◌, length, Some, slice_get, ◌⊎◌, inl, inr, ⊎_elim, IsTrue, refl, sym, ap, subst, ◌∙◌, arith}
+use Rattle.std.proofs.Common.{◌≡◌, ℕ, ◌+◌, ◌<◌, List, [], ◌∷◌, ◌++◌, length, Some, slice_get, ◌⊎◌, ⊎_elim, refl, sym, ap, subst, ◌∙◌, arith}
 use Rattle.std.proofs.lemmas.List.{length-append}
 use Rattle.std.proofs.lemmas.Option.{slice_get_within}
 use Rattle.rdb_outside.specs.Disk.{Image}
@@ -9,7 +9,7 @@ use Rattle.backup_file.specs.declared.header.BackupHead.{BackupHead}
 use Rattle.backup_file.specs.declared.line.BackupLine.{BackupLine}
 use Rattle.backup_file.specs.Header.{IsHead}
 use Rattle.backup_file.specs.Line.{IsBackupLine}
-use Rattle.backup_file.specs.Whole.{AreLines, IsWhole, IsBackup}
+use Rattle.backup_file.specs.Whole.{AreLines}
 use Rattle.backup_file.proofs.Readings.{one_head, one_line}
 use Rattle.backup_making.specs.Making.{file_of, slots_of}
 use Rattle.root_file.specs.Root.{AreLimits}

@@ -5,8 +5,8 @@ ghost use Rattle.line_store.specs.Seats.{outside};
 ghost use Rattle.line_store.specs.Shelves.{Shelf};
 ghost use Rattle.store_shows.specs.Shows.{Leaves};
 ghost use Rattle.disk_store.specs.Seats.{stand_at, steps_at};
-ghost use Rattle.disk_store.specs.Memory.{StoreMemory};
-ghost use Rattle.disk_store.specs.Shown.{Shown, sight_of};
+ghost use Rattle.disk_store.specs.Shown.{Shown};
+ghost use Rattle.disk_line_store.specs.Back.{IsBack};
 
 use crate::stepping::step;
 use area_files::AreaFull;
@@ -49,7 +49,7 @@ impl<D: Disk + Drop> DiskStore<D> {
 
     /// The store ends, and its disk is free. What the store showed, it showed of this disk.
     pub fn into_disk(self) -> D
-        ensures shown { (held : StoreMemory) × (⟦<DiskStore<D> as LineStore>⟧.sight self ≡ sight_of (D.view result) held) }
+        ensures { IsBack (⟦<DiskStore<D> as LineStore>⟧.sight self) (D.view result) }
     {
         self.disk
     }

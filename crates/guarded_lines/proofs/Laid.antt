@@ -8,7 +8,7 @@ use Rattle.rdb_outside.specs.Disk.{Image, zeros}
 use Rattle.rdb_page.specs.Whole.{IsPageOf}
 use Rattle.area_files.specs.Areas.{IsPage, IsDataPage, IsSpacePage, space_page_of}
 use Rattle.space_pages.specs.Space.{IsSpace, owner_of}
-use Rattle.stable_lines.specs.Slots.{ruj_file, area_file, file_of, slot_of, owner_at, IsMember, IsAreaFile, line_on, line_at}
+use Rattle.stable_lines.specs.Slots.{ruj_file, area_file, owner_at, IsMember, IsAreaFile, line_on, line_at}
 use Rattle.stable_lines.specs.Kept.{IsWellFormed, IsRujHeader}
 use Rattle.line_moves.specs.declared.places.Place.{Place}
 use Rattle.line_moves.specs.Contents.{IsOn}

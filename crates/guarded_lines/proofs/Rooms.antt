@@ -1,12 +1,12 @@
 -- A page that has room for a line, and the page behind it.
-use Rattle.std.proofs.Common.{◌≡◌, ◌≢◌, ℕ, ◌-◌, ◌≤◌, ◌<◌, true, List, ⊎_elim, ap, sym, subst, ◌∙◌, arith}
+use Rattle.std.proofs.Common.{◌≡◌, ℕ, ◌-◌, ◌<◌, true, List, ⊎_elim, ap, sym, subst, ◌∙◌, arith}
 use Rattle.rdb_types.specs.declared.keys.Dbkey.{Dbkey}
 use Rattle.rdb_types.specs.declared.keys.Line.{Line}
 use Rattle.rdb_outside.specs.Disk.{Image}
 use Rattle.rdb_page.specs.Lines.{IsAllowedLine}
 use Rattle.rdb_page.specs.Page.{IsUnused, lines_of}
 use Rattle.rdb_page.specs.Whole.{IsPageOf, IsUsedPage}
-use Rattle.stable_lines.specs.Slots.{area_file, owner_at, has_place, line_on}
+use Rattle.stable_lines.specs.Slots.{area_file, has_place, line_on}
 use Rattle.stable_lines.proofs.Never.{zeros_owner}
 use Rattle.line_moves.specs.declared.places.Place.{Place}
 use Rattle.line_moves.specs.Contents.{PutsLine}

@@ -1,15 +1,15 @@
 -- Runs of calls behind a root that guards, and zeros into slot after slot of a file.
 use Rattle.std.specs.Prelude.{ℕ, ◌≡◌, ◌≢◌, ◌≤◌, ◌<◌, ◌+◌, ◌⊎◌, IsTrue, List, Result, OnOk, OnErr}
-use Rattle.std.proofs.Common.{inr, sym, ◌∙◌, ap, ⊎_elim, refl, arith}
+use Rattle.std.proofs.Common.{◌∙◌, ap, ⊎_elim, refl, arith}
 use Rattle.rdb_types.specs.declared.file.FileId.{FileId}
-use Rattle.rdb_outside.specs.Disk.{View, Counts, Keeps, Puts, Adds, SameContent, LeavesOnly, IsPending, OnlyReads, zeros}
+use Rattle.rdb_outside.specs.Disk.{View, Counts, Keeps, Puts, Adds, SameContent, IsPending, OnlyReads, zeros}
 use Rattle.rdb_outside.specs.Moments.{started, goes_on, weaker}
 use Rattle.new_database.specs.Maker.{root_file}
 use Rattle.line_moves.proofs.Runs.{reads_once, writes_now, still_tells}
 use Rattle.line_opening.proofs.Standing.{leaves_on}
 use Rattle.database_opening.specs.Others.{KeepsFile}
 use Rattle.database_opening.proofs.Others.{file_read, file_unused, file_apart, file_on}
-use Rattle.guarded_root.specs.Guarded.{IsInState, IsGuarded, IsFile, RunsBehind}
+use Rattle.guarded_root.specs.Guarded.{IsInState, IsFile, RunsBehind}
 use Rattle.guarded_root.proofs.Stages.{stays_guarded, in_state}
 
 -- ---- one file that isn't written

@@ -14,7 +14,8 @@ use Rattle.member_steps.specs.Standing.{HasLines}
 use Rattle.member_steps.proofs.Left.{by_case}
 use Rattle.store_shows.specs.Shows.{Leaves}
 use Rattle.disk_store.specs.Memory.{StoreMemory}
-use Rattle.disk_store.specs.Shown.{Shown, sight_of}
+use Rattle.disk_store.specs.Shown.{Shown}
+use Rattle.disk_line_store.specs.Back.{IsBack}
 use Rattle.disk_store.proofs.Agreeing.{agreeing, standing}
 use Rattle.line_store.specs.Seats.{Seat, outside, beginning, writing, changing, prepared, committing, rolling_back, closing, reading, dead, in_flight}
 use Rattle.line_store.specs.Shelves.{Shelf}
@@ -39,34 +40,29 @@ opens v held h shown image left =
 leaves-now : (v : View) (held : StoreMemory) (h : Shelf) → Shown v held h → (image : Image) (lines : Lines) → LeftNow v image → HasLines image lines → Leaves v h.clock.time lines
 leaves-now v held h shown image lines left has = record { image = image; left = subst (λ (t : ℕ). v.left_since t image) (sym shown.lines.time) left; stands = has }
 
-module _ (M : Model) (o : Opening) (v : View) (events : List Event) (held : StoreMemory) where
-  pub holds-prefix : HasImages M o (sight_of v held) events → HoldsPrefix M o v events
+module _ (M : Model) (o : Opening) (v : View) (events : List Event) (sight : Sight) (back : IsBack sight v) where
+  pub holds-prefix : HasImages M o sight events → HoldsPrefix M o v events
   holds-prefix has = record {
-    now = λ image l. let it = opens v held has.shelf has.shown image l in record { lines = it.0; has = it.1; stands = has.now it.0 (leaves-now v held has.shelf has.shown image it.0 l it.1) };
-    since = λ k c found image l lines is. has.since.each k c found lines (record { image = image; left = l; stands = is });
+    now = λ image l.
+        let shown = back.shows has.shelf has.shown in
+        let it = opens v back.held has.shelf shown image l in
+        record { lines = it.0; has = it.1; stands = has.now it.0 (back.left has.shelf.clock.time it.0 (leaves-now v back.held has.shelf shown image it.0 l it.1)) };
+    since = λ k c found image l lines is. has.since.each k c found lines (back.left c.moment lines (record { image = image; left = l; stands = is }));
     began = has.since.began;
     opened = has.since.opened;
     later = has.since.later;
-    opening = λ image l lines is. has.since.opening lines (record { image = image; left = l; stands = is });
+    opening = λ image l lines is. has.since.opening lines (back.left has.since.began lines (record { image = image; left = l; stands = is }));
   }
 
-  pub holds-all : IsLeft M o (sight_of v held) events → ((s : ℕ) → bare ((sight_of v held).stand s) ≡ outside) → HoldsAll M o v events
+  pub holds-all : IsLeft M o sight events → ((s : ℕ) → bare (sight.stand s) ≡ outside) → HoldsAll M o v events
   holds-all it rests = λ image l.
-      let has = opens v held it.shelf it.shown image l in
-      (has.0, has.1, still has.0 (standing v held it.shelf it.shown has.0 (leaves-now v held it.shelf it.shown image has.0 l has.1)))
+      let shown = back.shows it.shelf it.shown in
+      let has = opens v back.held it.shelf shown image l in
+      (has.0, has.1, still has.0 (standing v back.held it.shelf shown has.0 (leaves-now v back.held it.shelf shown image has.0 l has.1)))
     where
       idle : (s : ℕ) → it.shelf.seat s ≡ outside
-      idle s = outside-seat (it.shelf.seat s) (sym (agreeing v held it.shelf it.shown s) ∙ rests s)
+      idle s = outside-seat (it.shelf.seat s) (sym (agreeing v back.held it.shelf (back.shows it.shelf it.shown) s) ∙ (ap bare (sym (back.stand s)) ∙ rests s))
 
       still : (lines : Lines) → MayStand it.shelf lines → M lines (place o events).tables
       still lines (inl is) = subst (λ (x : Lines). M x (place o events).tables) (sym is) it.stands
       still lines (inr (s, ws, flies, is)) = absurd (none-some ws (sym (ap in_flight (idle s)) ∙ flies))
-
--- ---- of a store that has given its disk back
-
-module _ (M : Model) (o : Opening) (v : View) (events : List Event) (sight : Sight) (shown : (held : StoreMemory) × (sight ≡ sight_of v held)) where
-  pub prefix-back : HasImages M o sight events → HoldsPrefix M o v events
-  prefix-back has = holds-prefix M o v events shown.0 (subst (λ (x : Sight). HasImages M o x events) shown.1 has)
-
-  pub all-back : IsLeft M o sight events → ((s : ℕ) → bare (sight.stand s) ≡ outside) → HoldsAll M o v events
-  all-back it rests = holds-all M o v events shown.0 (subst (λ (x : Sight). IsLeft M o x events) shown.1 it) (subst (λ (x : Sight). (s : ℕ) → bare (x.stand s) ≡ outside) shown.1 rests)

@@ -1,7 +1,7 @@
 -- A database opened and taken into use, and what is done behind it.
-use Rattle.std.proofs.Common.{◌≡◌, ◌≢◌, ℕ, ◌+◌, ◌^◌, ◌≤◌, ◌<◌, [], ◌⊎◌, inl, inr, ⊎_elim, sym, ap, subst, ◌∙◌, arith}
+use Rattle.std.proofs.Common.{◌≡◌, ◌≢◌, ℕ, ◌+◌, ◌^◌, ◌≤◌, ◌<◌, [], ◌⊎◌, inl, inr, ⊎_elim, sym, ap, subst, arith}
 use Rattle.rdb_types.specs.declared.file.FileId.{FileId}
-use Rattle.rdb_types.specs.declared.file.FileKind.TheVariants.{Root, Area, Ruj, Aij, Backup as BackupFile, AijBackup}
+use Rattle.rdb_types.specs.declared.file.FileKind.TheVariants.{Root, Area, Ruj, Aij, Backup as BackupFile}
 use Rattle.rdb_outside.specs.Disk.{Image, View, Pending, LeavesOnly, IsPending}
 use Rattle.rdb_outside.specs.Moments.{weaker}
 use Rattle.backup_making.specs.Making.{file_of, Former}
@@ -11,11 +11,10 @@ use Rattle.stable_lines.specs.Journal.{Journal, next_number}
 use Rattle.stable_lines.specs.Kept.{Kept}
 use Rattle.database_opening.specs.declared.start.StoreStart.{StoreStart}
 use Rattle.database_opening.specs.Others.{IsOther, KeepsFile}
-use Rattle.database_opening.specs.Start.{IsStart}
 use Rattle.journal_anew.specs.Anew.{IsApart, IsInUse}
-use Rattle.journal_backup.specs.Copied.{copy_named, IsAside, HasEachGroup, IsBackedUp}
+use Rattle.journal_backup.specs.Copied.{copy_named, IsAside, HasEachGroup}
 use Rattle.whole_backup.specs.BackedUp.{the_old, IsNumbered, MightHold, WithinBackup, WithinWhole}
-use Rattle.rmu_keeping.specs.Keeping.{HasNumbers, Has, WithinOpening, IsJournalInUse, HasCopiedJournal, WithinCopying, opening, copying, IsKept}
+use Rattle.rmu_keeping.specs.Keeping.{HasNumbers, Has, WithinOpening, IsJournalInUse, WithinCopying, opening, copying, IsKept}
 
 -- ---- files
 

@@ -1,5 +1,4 @@
 use Rattle.std.proofs.Common.{◌≡◌, ◌∙◌, sym}
-use Rattle.backup_reading.specs.declared.passing.Passage.{Passage}
 use Rattle.backup_reading.specs.declared.passing.Passage.TheVariants.{SamePage, OtherPage, NotBehind}
 use Rattle.backup_reading.proofs.Lines.{same_page_passed, new_page_passed, has_its_page, follows_last, page_is_new}
 use Rattle.backup_reading.proofs.passing.pass_line.Goals as goal

@@ -1,10 +1,9 @@
-use Rattle.std.proofs.Common.{rules, ◌≡◌, ◌∙◌, ◌-◌, List, ℕ, ap, sym, subst}
+use Rattle.std.proofs.Common.{rules, ◌∙◌, ◌-◌, List, ℕ, subst}
 use Rattle.rdb_page.specs.Whole.{IsPageOf}
-use Rattle.stable_lines.specs.Slots.{area_file}
 use Rattle.line_moves.proofs.KeyPlaces.{area_is, place_content}
 use Rattle.line_moves.proofs.Runs.{on_ok, still_tells}
 use Rattle.guarded_root.proofs.Sweeping.{run_on}
-use Rattle.guarded_lines.specs.Laying.{IsArea, HasRoom, page_of}
+use Rattle.guarded_lines.specs.Laying.{IsArea, HasRoom}
 use Rattle.guarded_lines.proofs.Laid.{space_there, lays, page_still}
 use Rattle.guarded_lines.proofs.laying.lay_line.Goals as goal
 

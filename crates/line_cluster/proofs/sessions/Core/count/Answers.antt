@@ -1,4 +1,4 @@
-use Rattle.std.proofs.Common.{◌≡◌, ◌<◌, ◌+◌, ◌^◌, ◌∙◌, ℕ, suc, List, Some, ap, sym, subst, slice_get, arith, below_more}
+use Rattle.std.proofs.Common.{◌≡◌, ◌<◌, ◌+◌, ◌^◌, ◌∙◌, ◌∷◌, [], ℕ, zero, suc, List, Some, ap, length, sym, subst, slice_get, arith, below_more}
 use Rattle.std.proofs.lemmas.Option.{same_Some}
 use Rattle.session_states.specs.declared.stage.Member.{Member}
 use Rattle.line_cluster.specs.Turned.{rounds_at}
@@ -17,9 +17,16 @@ loop-at-preserved g c =
     (subst (λ (t : ℕ). IsCounted (rounds_at c.args.self.now.allotments t) c.args.self.now.common.tree t c.member_at.result.now) (next c.loop-at.at) (record {
       items = c.count_session.ensures.items;
       places = c.count_session.ensures.places;
-      handed = let e = c.rounds-_rounds.ensures in omega (arith, e);
-      needs = let e = c.count_needs-_needs.ensures in omega (arith, e);
+      handed = let e = c.rounds-rounds.ensures in omega (arith, e);
+      needs = let e = c.count_needs-needs.ensures in omega (arith, e);
     })))
 
+-- whom a place holds stands before the end
+got-below : {A : Type 0} (xs : List A) (i : ℕ) (x : A) → slice_get xs i ≡ Some x → i < length xs
+got-below [] i x h = cc h
+got-below (y ∷ ys) zero x h = omega arith
+got-below (y ∷ ys) (suc i) x h = let k = got-below ys i x h in omega (arith, k)
+
 pub returns : goal.returns
-returns g c = bounded _ _ _ _ (g.L.LineStore.counts c.args.self.now.common.store).few c.requires (λ i m found. ?)
+returns g c = bounded _ c.args.self.now.members.items _ (record { locks = c.args.self.now.common.tree; steps = (g.L.LineStore.sight c.args.self.now.common.store).steps }) (g.L.LineStore.counts c.args.self.now.common.store).few c.requires.few
+    (λ i m found. c.loop-at.invariant i (let k = got-below c.args.self.now.members.items i m found in omega (arith, k)) m found)

@@ -20,7 +20,7 @@ pub step-requires-clause-work : goal.step-requires-clause-work
 step-requires-clause-work g c = λ m found. looked c.args.self.now.members.items (c.args.s.number - 1) c.member_at.result.now m false (ap (λ (ms : List Member). slice_get ms (c.args.s.number - 1)) (sym c.deref-2.ensures.value) ∙ c.member_at.ensures) (sym c.is_over.ensures ∙ c.if-is_over.false) found
 
 pub returns-in-Some-clause-rests : goal.returns-in-Some-clause-rests
-returns-in-Some-clause-rests g c = λ told. asleep-rests-at g.S.Statements.stands g.O.Origin.opening _ _ _ _ _ c.args.s.number c.in-Some.other.number (sessions c.args.self.now.members.items c.args.self.now.events.items c.args.self.now.allotments (g.L.LineStore.sight c.args.self.now.common.store) c.args.self.now.common.tree c.args.self.now.halt) (c.requires.sound.kept (none-from _ (sym c.is_some.ensures ∙ c.if-is_some.false)) told) c.requires.one.first c.in-Some.ensures
+returns-in-Some-clause-rests g c = λ told. asleep-rests-at g.S.Statements.stands g.O.Origin.opening _ _ _ _ _ c.args.s.number c.in-Some.other.number (sessions c.args.self.now.members.items c.args.self.now.events.items c.args.self.now.allotments (g.L.LineStore.sight c.args.self.now.common.store) c.args.self.now.common.tree c.args.self.now.halt) (c.requires.sound.kept (none-from _ (sym c.is_some.ensures ∙ c.if-is_some.false)) told) c.requires.one.first c.in-Some.ensures.waits
 
 pub returns-then-is_err-clause-came : goal.returns-then-is_err-clause-came
 returns-then-is_err-clause-came g c = came-from c.args.s.number _ _ _ c.stop.result refl c.reserve_step.ensures.same c.stop.ensures.on (c.stop.ensures.came c.args.s.number)

@@ -1,0 +1,17 @@
+-- What is true of a disk that a store has given back.
+use Rattle.std.specs.Prelude.{ℕ, ◌≡◌}
+use Rattle.rdb_outside.specs.Disk.{View}
+use Rattle.line_view.specs.Knowledge.{Lines}
+use Rattle.line_store.specs.Shelves.{Shelf}
+use Rattle.line_store.specs.Sights.{Sight}
+use Rattle.store_shows.specs.Shows.{Leaves}
+use Rattle.disk_store.specs.Memory.{StoreMemory}
+use Rattle.disk_store.specs.Seats.{stand_at}
+use Rattle.disk_store.specs.Shown.{Shown}
+
+-- What the store showed, it showed of this disk and of what its memory held, and what a crash leaves of the disk it left of the store.
+pub record IsBack (sight : Sight) (v : View) : Type 0 where
+  pub held : StoreMemory
+  pub shows : (h : Shelf) → sight.shows h → Shown v held h
+  pub left : (t : ℕ) (lines : Lines) → Leaves v t lines → sight.left t lines
+  pub stand : (s : ℕ) → sight.stand s ≡ stand_at held.members s
