@@ -18,11 +18,13 @@ use Rattle.session_states.specs.declared.stage.Life.{Life}
 use Rattle.session_states.specs.declared.stage.Life.TheVariants.{Alive, Dead, Gone}
 use Rattle.session_states.specs.declared.stage.Member.{Member}
 use Rattle.session_stands.specs.Sessions.{AreSeated, member_at}
+use Rattle.line_cluster.specs.declared.sessions.Turn.{Turn}
 use Rattle.line_cluster.specs.declared.sessions.Turn.TheVariants as turn
 use Rattle.line_cluster.specs.Going.{is_alive_life, is_dead, is_dead_life, is_over}
 use Rattle.line_cluster.specs.Measured.{IsBounded}
 use Rattle.line_cluster.specs.Turned.{Sessions, DeathCame, HasNothingLeft, HaveEnded, IsAtEnd, IsDeath, IsHalt, IsRecovery, RecoveryCame, mark_of, with_life}
 use Rattle.line_drive.specs.Boards.{board_of, has_ended, lives_in, marks_of, mortals_of, steps_to_go}
+use Rattle.line_drive.specs.Turns.{step_for}
 use Rattle.line_drive.proofs.Awake.{awake}
 use Rattle.line_drive.proofs.Counting.{set-here}
 use Rattle.line_drive.proofs.Marks.{marks-grown}
@@ -160,6 +162,14 @@ module _ (told : Type 0) (o : Opening) (sessions : ℕ) (old new : Sessions) (be
     tells = (h.halted, inr (fewer-lives old new before bound going (inl h.halted)));
     awake = awake-now;
   }
+
+  pub recovered : (t : Turn) → old.halted ≡ false → RecoveryCame old new t → (t ≡ turn.Moved → Less new.measure old.measure) → RecoveryOf {P = Unit {0}} sessions (board_of told o old) (board_of told o new) (step_for t)
+  recovered turn.Moved going came nearer = recovers going came (nearer refl)
+  recovered (turn.Asleep t) going came nearer = absurd came
+  recovered turn.Died going came nearer = absurd came
+  recovered turn.Frozen going came nearer = absurd came
+  recovered turn.Ended going came nearer = recovers-none came
+  recovered turn.Stopped going came nearer = recovery-halts going came
 
 -- no session goes on
 pub recovery-spent : (told : Type 0) (o : Opening) (sessions : ℕ) (c : Sessions) → c.halted ≡ true → length c.members ≡ sessions →

@@ -18,6 +18,7 @@ use Rattle.session_states.specs.declared.stage.Life.{Life}
 use Rattle.session_states.specs.declared.stage.Life.TheVariants.{Alive, Dead, Gone}
 use Rattle.session_states.specs.declared.stage.Member.{Member}
 use Rattle.session_stands.specs.Sessions.{AreSeated, dead_in, member_at}
+use Rattle.line_cluster.specs.declared.sessions.Turn.{Turn}
 use Rattle.line_cluster.specs.declared.sessions.Turn.TheVariants as turn
 use Rattle.line_arms.specs.Going.{is_done}
 use Rattle.line_cluster.specs.Going.{is_dead, is_over}
@@ -26,6 +27,7 @@ use Rattle.line_cluster.specs.Measured.{IsBounded}
 use Rattle.line_cluster.specs.Turned.{Sessions, GoesFurther, Came, HasFallen, HasNothingLeft, IsAnother, Rests, IsAtEnd, mark_of}
 use Rattle.line_cluster.proofs.Stepping.{work-alive}
 use Rattle.line_drive.specs.Boards.{board_of, has_ended, is_asleep, is_mourning, lives_in, lives_left, marks_of, steps_to_go, RestsAt, RestsBehind}
+use Rattle.line_drive.specs.Turns.{step_for}
 use Rattle.line_drive.proofs.Awake.{awake, undead}
 use Rattle.line_drive.proofs.Marks.{marks-grown, length-marks, take-grown, take-all}
 
@@ -235,6 +237,15 @@ module _ (told : Type 0) (o : Opening) (sessions s : ℕ) (old new : Sessions) (
     tells = (subst (λ (c : Sessions). is_mourning c ≡ true) (sym h.0) (mourning (dead_in old.members) h.1), subst (λ (c : Sessions). AtMost (board_of told o c).measure (board_of told o old).measure) (sym h.0) (inl refl), refl);
     awake = awake-then;
   }
+
+  pub turned : (t : Turn) → Came s old new t → (t ≡ turn.Moved → Less new.measure old.measure) → (told → Rests o s old t) →
+      (told → new.halted ≡ false → IsAtEnd s new → HasNothingLeft o (place o (map event_of new.events)) s) → StepOf {P = Unit {0}} sessions s (board_of told o old) (board_of told o new) (step_for t)
+  turned turn.Moved came nearer rests over = moved came (nearer refl)
+  turned (turn.Asleep t) came nearer rests over = slept t came rests
+  turned turn.Died came nearer rests over = fell came
+  turned turn.Frozen came nearer rests over = froze came
+  turned turn.Ended came nearer rests over = at-end came over
+  turned turn.Stopped came nearer rests over = stopped came
 
 -- no session goes on
 pub spent : (told : Type 0) (o : Opening) (sessions s : ℕ) (c : Sessions) → c.halted ≡ true → length c.members ≡ sessions →

@@ -6,6 +6,10 @@ use Rattle.rdb_account.specs.Events.{Event, Died}
 use Rattle.rdb_account.specs.Places.{Opening}
 use Rattle.rdb_drive.specs.Boards.{IsSession, answers_by}
 use Rattle.rdb_drive.specs.Orders.{AreParts, rounds}
+use Rattle.rdb_drive.specs.declared.driven.Step.{Step}
+use Rattle.rdb_drive.specs.declared.driven.Step.TheVariants as step
+use Rattle.line_cluster.specs.declared.sessions.Turn.{Turn}
+use Rattle.line_cluster.specs.declared.sessions.Turn.TheVariants as turn
 use Rattle.line_cluster.specs.Turned.{Sessions}
 use Rattle.line_drive.specs.Boards.{RestsBehind, marks_of}
 
@@ -30,3 +34,12 @@ is_death event = false
 -- somebody died
 abbrev pub has_deaths : List Event → Bool
 has_deaths events = list_any is_death events
+
+-- what a driver hears of a turn
+abbrev pub step_for : Turn → Step (Unit {0})
+step_for turn.Moved = step.Moved
+step_for (turn.Asleep t) = step.Asleep
+step_for turn.Died = step.Moved
+step_for turn.Frozen = step.Frozen
+step_for turn.Ended = step.Ended
+step_for turn.Stopped = step.Stopped

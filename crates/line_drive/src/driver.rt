@@ -9,6 +9,7 @@ ghost use Rattle.line_store.specs.Sights.{bare};
 ghost use Rattle.line_cluster.specs.Sound.{HasImages, IsLeft};
 ghost use Rattle.line_cluster.specs.Turned.{HaveAllEnded};
 ghost use Rattle.line_drive.specs.Boards.{board_of, marks_of};
+ghost use Rattle.line_drive.specs.Turns.{step_for};
 
 use line_cluster::{Finished, Halt, LineCluster, Origin, Turn};
 use line_store::LineStore;
@@ -59,6 +60,19 @@ fn answers_behind(events: &[Event], from: usize) -> u64
     count
 }
 
+// What a driver hears of a turn. Of one in which its session died it hears that it moved.
+fn step_of(turn: Turn) -> Step<()>
+    ensures { result ≡ step_for turn }
+{
+    match turn {
+        Turn::Moved | Turn::Died => Step::Moved,
+        Turn::Asleep(_) => Step::Asleep,
+        Turn::Frozen => Step::Frozen,
+        Turn::Ended => Step::Ended,
+        Turn::Stopped => Step::Stopped,
+    }
+}
+
 impl<O: Origin, S: Reserves + Reaches, L: LineStore + Drop> LineDriver<O, S, L> {
     /// Sessions of which nothing happened yet.
     pub fn new(cluster: LineCluster<O, S, L>) -> Self
@@ -85,14 +99,7 @@ impl<O: Origin, S: Reserves + Reaches, L: LineStore + Drop> LineDriver<O, S, L> 
         let turn = self.cluster.turn(s);
         self.cluster.facts();
         self.answers[s.number as usize] += answers_behind(self.cluster.events(), before);
-        match turn {
-            Turn::Moved => Step::Moved,
-            Turn::Died => Step::Moved,
-            Turn::Asleep(_) => Step::Asleep,
-            Turn::Frozen => Step::Frozen,
-            Turn::Ended => Step::Ended,
-            Turn::Stopped => Step::Stopped,
-        }
+        step_of(turn)
     }
 
     /// Why no session goes on though some may have something left to do, where that is so.
@@ -174,12 +181,7 @@ impl<O: Origin, S: Reserves + Reaches, L: LineStore + Drop> Driven for LineDrive
         }
         let turn = self.cluster.recover();
         self.cluster.facts();
-        match turn {
-            Turn::Moved => Step::Moved,
-            Turn::Ended => Step::Ended,
-            Turn::Stopped => Step::Stopped,
-            Turn::Asleep(_) | Turn::Died | Turn::Frozen => unreachable!(),
-        }
+        step_of(turn)
     }
 
     fn answered(&self, s: Session) -> u64 {

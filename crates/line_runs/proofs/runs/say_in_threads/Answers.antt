@@ -1,5 +1,23 @@
+use Rattle.std.proofs.Common.{map, sym, ◌∙◌}
+use Rattle.std.proofs.lemmas.Bool.{false≢true}
+use Rattle.std.proofs.lemmas.Option.{none-some}
+use Rattle.rdb_account.specs.Events.{event_of}
 use Rattle.line_runs.proofs.Opening.{same-fault}
 use Rattle.line_runs.proofs.runs.say_in_threads.Goals as goal
 
 pub returns-in-Err-clause-bad : goal.returns-in-Err-clause-bad
 returns-in-Err-clause-bad g c file slot is = c.in-Err.ensures.bad file slot (same-fault c.in-Err.unopened.fault _ c.unsaid.result.fault c.unsaid.ensures.fault is)
+
+pub returns-in-Ok-clause-images : goal.returns-in-Ok-clause-images
+returns-in-Ok-clause-images g c told opened = rw c.ended.ensures.events (c.ended.ensures.images g.O.Origin.opening (map event_of c.run_in_threads.result.events) (c.run_in_threads.ensures.images told))
+
+pub returns-in-Ok-clause-left : goal.returns-in-Ok-clause-left
+returns-in-Ok-clause-left g c told whole =
+    let ended = sym c.ended.ensures.is_whole ∙ whole in
+    rw c.ended.ensures.events (c.ended.ensures.left g.O.Origin.opening (map event_of c.run_in_threads.result.events) (c.run_in_threads.ensures.left ended told) (c.run_in_threads.ensures.outside ended))
+
+pub returns-in-Err-clause-images : goal.returns-in-Err-clause-images
+returns-in-Err-clause-images g c told opened = absurd (none-some c.in-Err.unopened.fault (sym opened ∙ c.unsaid.ensures.fault))
+
+pub returns-in-Err-clause-left : goal.returns-in-Err-clause-left
+returns-in-Err-clause-left g c told whole = absurd (false≢true (sym c.unsaid.ensures.is_whole ∙ whole))

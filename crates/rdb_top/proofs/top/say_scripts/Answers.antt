@@ -1,4 +1,6 @@
 use Rattle.std.proofs.Common.{◌++◌, length, map, subst, sym, ◌∙◌}
+use Rattle.std.proofs.lemmas.Bool.{false≢true}
+use Rattle.std.proofs.lemmas.Option.{none-some}
 use Rattle.rdb_drive.specs.Boards.{MayDie}
 use Rattle.rdb_account.specs.Events.{event_of}
 use Rattle.rdb_account.specs.Legal.{IsLegal}
@@ -45,3 +47,9 @@ returns-in-Ok-clause-images g c told opened = prefix-of-word _ (g.D.Disk.view c.
 
 pub returns-in-Ok-clause-left : goal.returns-in-Ok-clause-left
 returns-in-Ok-clause-left g c told whole = all-of-word _ (g.D.Disk.view c.run_of.result.disk) g.O.Origin.opening (map event_of c.run_of.result.events) c.args.asked.given.death _ _ c.args.scripts.items c.in-Ok.ensures.word (c.run_of.ensures.left told whole)
+
+pub returns-in-Err-clause-images : goal.returns-in-Err-clause-images
+returns-in-Err-clause-images g c told opened = absurd (none-some _ (sym opened ∙ c.unopened.ensures.fault))
+
+pub returns-in-Err-clause-left : goal.returns-in-Err-clause-left
+returns-in-Err-clause-left g c told whole = absurd (false≢true (sym c.unopened.ensures.is_whole ∙ whole))

@@ -2,11 +2,13 @@ use Rattle.std.proofs.Common.{◌≡◌, ◌<◌, ℕ, false, true, subst, sym, 
 use Rattle.rdb_account.specs.declared.event.Event.{Event as Declared}
 use Rattle.rdb_drive.specs.Boards.{answers}
 use Rattle.rdb_drive.specs.Steps.{StepOf}
+use Rattle.rdb_drive.specs.declared.driven.Step.{Step}
 use Rattle.rdb_drive.specs.declared.driven.Step.TheVariants as step
 use Rattle.line_cluster.specs.Turned.{Sessions}
 use Rattle.line_drive.specs.Boards.{board_of, marks_of}
 use Rattle.line_drive.proofs.Counting.{count-fits, driven-on}
-use Rattle.line_drive.proofs.Turning.{at-end, fell, froze, moved, slept, spent, stopped}
+use Rattle.line_drive.specs.Turns.{step_for}
+use Rattle.line_drive.proofs.Turning.{spent, turned}
 use Rattle.line_drive.proofs.driver.LineDriver.turn.Goals as goal
 
 pub returns-then-is_halted : goal.returns-then-is_halted
@@ -24,31 +26,6 @@ invariant_of-self g c =
     driven-on g.O.Origin.sessions c.args.s.number c.self.inside.answers c.self.inside.cluster c.turn-turn.new.self c.turn-turn.result c.answers_behind.result c.requires.session c.self.invariant c.turn-turn.ensures.came
     (since c.self.inside.cluster.events c.turn-turn.new.self.events c.events-before.result.now c.events.result.now c.answers_behind.result c.events-before.ensures c.events.ensures c.answers_behind.ensures)
 
-pub invariant_of-self-in-Died : goal.invariant_of-self-in-Died
-invariant_of-self-in-Died g c =
-    driven-on g.O.Origin.sessions c.args.s.number c.self.inside.answers c.self.inside.cluster c.turn-turn.new.self c.turn-turn.result c.answers_behind.result c.requires.session c.self.invariant c.turn-turn.ensures.came
-    (since c.self.inside.cluster.events c.turn-turn.new.self.events c.events-before.result.now c.events.result.now c.answers_behind.result c.events-before.ensures c.events.ensures c.answers_behind.ensures)
-
-pub invariant_of-self-in-Asleep : goal.invariant_of-self-in-Asleep
-invariant_of-self-in-Asleep g c =
-    driven-on g.O.Origin.sessions c.args.s.number c.self.inside.answers c.self.inside.cluster c.turn-turn.new.self c.turn-turn.result c.answers_behind.result c.requires.session c.self.invariant c.turn-turn.ensures.came
-    (since c.self.inside.cluster.events c.turn-turn.new.self.events c.events-before.result.now c.events.result.now c.answers_behind.result c.events-before.ensures c.events.ensures c.answers_behind.ensures)
-
-pub invariant_of-self-in-Frozen : goal.invariant_of-self-in-Frozen
-invariant_of-self-in-Frozen g c =
-    driven-on g.O.Origin.sessions c.args.s.number c.self.inside.answers c.self.inside.cluster c.turn-turn.new.self c.turn-turn.result c.answers_behind.result c.requires.session c.self.invariant c.turn-turn.ensures.came
-    (since c.self.inside.cluster.events c.turn-turn.new.self.events c.events-before.result.now c.events.result.now c.answers_behind.result c.events-before.ensures c.events.ensures c.answers_behind.ensures)
-
-pub invariant_of-self-in-Ended : goal.invariant_of-self-in-Ended
-invariant_of-self-in-Ended g c =
-    driven-on g.O.Origin.sessions c.args.s.number c.self.inside.answers c.self.inside.cluster c.turn-turn.new.self c.turn-turn.result c.answers_behind.result c.requires.session c.self.invariant c.turn-turn.ensures.came
-    (since c.self.inside.cluster.events c.turn-turn.new.self.events c.events-before.result.now c.events.result.now c.answers_behind.result c.events-before.ensures c.events.ensures c.answers_behind.ensures)
-
-pub invariant_of-self-in-Stopped : goal.invariant_of-self-in-Stopped
-invariant_of-self-in-Stopped g c =
-    driven-on g.O.Origin.sessions c.args.s.number c.self.inside.answers c.self.inside.cluster c.turn-turn.new.self c.turn-turn.result c.answers_behind.result c.requires.session c.self.invariant c.turn-turn.ensures.came
-    (since c.self.inside.cluster.events c.turn-turn.new.self.events c.events-before.result.now c.events.result.now c.answers_behind.result c.events-before.ensures c.events.ensures c.answers_behind.ensures)
-
 pub overflow_add-self : goal.overflow_add-self
 overflow_add-self g c =
     let fits = count-fits g.O.Origin.sessions c.args.s.number c.self.inside.answers c.self.inside.cluster c.turn-turn.new.self c.turn-turn.result c.answers_behind.result 18446744073709551616 c.requires.session c.self.invariant c.turn-turn.ensures.came
@@ -56,38 +33,10 @@ overflow_add-self g c =
     (subst (λ (es : List Declared). length es < 18446744073709551616) c.events.ensures c.events.type_inv.0) in
     omega (arith, fits)
 
-pub returns-in-Moved : goal.returns-in-Moved
-returns-in-Moved g c = record {
-  step = subst (λ (v : Sessions). StepOf {P = Unit {0}} g.O.Origin.sessions c.args.s.number (board_of g.O.Origin.told g.O.Origin.opening v) (board_of g.O.Origin.told g.O.Origin.opening c.turn-turn.new.self) step.Moved) c.self.view_is
-      (moved g.O.Origin.told g.O.Origin.opening g.O.Origin.sessions c.args.s.number c.self.inside.cluster c.turn-turn.new.self c.requires.session (sym c.is_halted.ensures ∙ c.if-is_halted.false) c.facts.ensures.bounds c.facts-2.ensures.bounds c.facts-2.ensures.count c.facts-2.ensures.seated c.facts-2.ensures.locks c.in-Moved.ensures.came (c.turn-turn.ensures.nearer c.in-Moved.is));
-}
-
-pub returns-in-Died : goal.returns-in-Died
-returns-in-Died g c = record {
-  step = subst (λ (v : Sessions). StepOf {P = Unit {0}} g.O.Origin.sessions c.args.s.number (board_of g.O.Origin.told g.O.Origin.opening v) (board_of g.O.Origin.told g.O.Origin.opening c.turn-turn.new.self) step.Moved) c.self.view_is
-      (fell g.O.Origin.told g.O.Origin.opening g.O.Origin.sessions c.args.s.number c.self.inside.cluster c.turn-turn.new.self c.requires.session (sym c.is_halted.ensures ∙ c.if-is_halted.false) c.facts.ensures.bounds c.facts-2.ensures.bounds c.facts-2.ensures.count c.facts-2.ensures.seated c.facts-2.ensures.locks c.in-Died.ensures.came);
-}
-
-pub returns-in-Stopped : goal.returns-in-Stopped
-returns-in-Stopped g c = record {
-  step = subst (λ (v : Sessions). StepOf {P = Unit {0}} g.O.Origin.sessions c.args.s.number (board_of g.O.Origin.told g.O.Origin.opening v) (board_of g.O.Origin.told g.O.Origin.opening c.turn-turn.new.self) step.Stopped) c.self.view_is
-      (stopped g.O.Origin.told g.O.Origin.opening g.O.Origin.sessions c.args.s.number c.self.inside.cluster c.turn-turn.new.self c.requires.session (sym c.is_halted.ensures ∙ c.if-is_halted.false) c.facts.ensures.bounds c.facts-2.ensures.bounds c.facts-2.ensures.count c.facts-2.ensures.seated c.facts-2.ensures.locks c.in-Stopped.ensures.came);
-}
-
-pub returns-in-Frozen : goal.returns-in-Frozen
-returns-in-Frozen g c = record {
-  step = subst (λ (v : Sessions). StepOf {P = Unit {0}} g.O.Origin.sessions c.args.s.number (board_of g.O.Origin.told g.O.Origin.opening v) (board_of g.O.Origin.told g.O.Origin.opening c.turn-turn.new.self) step.Frozen) c.self.view_is
-      (froze g.O.Origin.told g.O.Origin.opening g.O.Origin.sessions c.args.s.number c.self.inside.cluster c.turn-turn.new.self c.requires.session (sym c.is_halted.ensures ∙ c.if-is_halted.false) c.facts.ensures.bounds c.facts-2.ensures.bounds c.facts-2.ensures.count c.facts-2.ensures.seated c.facts-2.ensures.locks c.in-Frozen.ensures.came);
-}
-
-pub returns-in-Ended : goal.returns-in-Ended
-returns-in-Ended g c = record {
-  step = subst (λ (v : Sessions). StepOf {P = Unit {0}} g.O.Origin.sessions c.args.s.number (board_of g.O.Origin.told g.O.Origin.opening v) (board_of g.O.Origin.told g.O.Origin.opening c.turn-turn.new.self) step.Ended) c.self.view_is
-      (at-end g.O.Origin.told g.O.Origin.opening g.O.Origin.sessions c.args.s.number c.self.inside.cluster c.turn-turn.new.self c.requires.session (sym c.is_halted.ensures ∙ c.if-is_halted.false) c.facts.ensures.bounds c.facts-2.ensures.bounds c.facts-2.ensures.count c.facts-2.ensures.seated c.facts-2.ensures.locks c.in-Ended.ensures.came (λ told going e. c.facts-2.ensures.over told going c.args.s.number c.requires.session.0 e));
-}
-
-pub returns-in-Asleep : goal.returns-in-Asleep
-returns-in-Asleep g c = record {
-  step = subst (λ (v : Sessions). StepOf {P = Unit {0}} g.O.Origin.sessions c.args.s.number (board_of g.O.Origin.told g.O.Origin.opening v) (board_of g.O.Origin.told g.O.Origin.opening c.turn-turn.new.self) step.Asleep) c.self.view_is
-      (slept g.O.Origin.told g.O.Origin.opening g.O.Origin.sessions c.args.s.number c.self.inside.cluster c.turn-turn.new.self c.requires.session (sym c.is_halted.ensures ∙ c.if-is_halted.false) c.facts.ensures.bounds c.facts-2.ensures.bounds c.facts-2.ensures.count c.facts-2.ensures.seated c.facts-2.ensures.locks c.in-Asleep.field-0 c.in-Asleep.ensures.came c.in-Asleep.ensures.rests);
+pub returns : goal.returns
+returns g c = record {
+  step = subst (λ (v : Sessions). StepOf {P = Unit {0}} g.O.Origin.sessions c.args.s.number (board_of g.O.Origin.told g.O.Origin.opening v) (board_of g.O.Origin.told g.O.Origin.opening c.turn-turn.new.self) c.step_of.result) c.self.view_is
+      (subst (λ (t : Step (Unit {0})). StepOf {P = Unit {0}} g.O.Origin.sessions c.args.s.number (board_of g.O.Origin.told g.O.Origin.opening c.self.inside.cluster) (board_of g.O.Origin.told g.O.Origin.opening c.turn-turn.new.self) t) (sym c.step_of.ensures)
+      (turned g.O.Origin.told g.O.Origin.opening g.O.Origin.sessions c.args.s.number c.self.inside.cluster c.turn-turn.new.self c.requires.session (sym c.is_halted.ensures ∙ c.if-is_halted.false) c.facts.ensures.bounds c.facts-2.ensures.bounds c.facts-2.ensures.count c.facts-2.ensures.seated c.facts-2.ensures.locks
+      c.turn-turn.result c.turn-turn.ensures.came c.turn-turn.ensures.nearer c.turn-turn.ensures.rests (λ told going e. c.facts-2.ensures.over told going c.args.s.number c.requires.session.0 e)));
 }

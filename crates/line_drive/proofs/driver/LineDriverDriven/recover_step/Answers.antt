@@ -1,10 +1,12 @@
 use Rattle.std.proofs.Common.{◌≡◌, false, true, subst, sym, ◌∙◌}
 use Rattle.rdb_drive.specs.Steps.{RecoveryOf}
+use Rattle.rdb_drive.specs.declared.driven.Step.{Step}
 use Rattle.rdb_drive.specs.declared.driven.Step.TheVariants as step
 use Rattle.line_cluster.specs.Turned.{Sessions}
 use Rattle.line_drive.specs.Boards.{board_of}
 use Rattle.line_drive.proofs.Counting.{driven-recovering}
-use Rattle.line_drive.proofs.Dying.{recovers, recovers-none, recovery-halts, recovery-spent}
+use Rattle.line_drive.specs.Turns.{step_for}
+use Rattle.line_drive.proofs.Dying.{recovered, recovery-spent}
 use Rattle.line_drive.proofs.driver.LineDriverDriven.recover_step.Goals as goal
 
 pub returns-then-is_halted : goal.returns-then-is_halted
@@ -15,23 +17,9 @@ returns-then-is_halted g c =
 pub invariant_of-self : goal.invariant_of-self
 invariant_of-self g c = driven-recovering g.O.Origin.sessions c.self.inside.answers c.self.inside.cluster c.recover-turn.new.self c.recover-turn.result c.self.invariant c.recover-turn.ensures.came
 
-pub invariant_of-self-in-Ended : goal.invariant_of-self-in-Ended
-invariant_of-self-in-Ended g c = driven-recovering g.O.Origin.sessions c.self.inside.answers c.self.inside.cluster c.recover-turn.new.self c.recover-turn.result c.self.invariant c.recover-turn.ensures.came
-
-pub invariant_of-self-in-Stopped : goal.invariant_of-self-in-Stopped
-invariant_of-self-in-Stopped g c = driven-recovering g.O.Origin.sessions c.self.inside.answers c.self.inside.cluster c.recover-turn.new.self c.recover-turn.result c.self.invariant c.recover-turn.ensures.came
-
-pub returns-in-Moved : goal.returns-in-Moved
-returns-in-Moved g c =
-    subst (λ (v : Sessions). RecoveryOf {P = Unit {0}} g.O.Origin.sessions (board_of g.O.Origin.told g.O.Origin.opening v) (board_of g.O.Origin.told g.O.Origin.opening c.recover-turn.new.self) step.Moved) c.self.view_is
-    (recovers g.O.Origin.told g.O.Origin.opening g.O.Origin.sessions c.self.inside.cluster c.recover-turn.new.self c.facts.ensures.bounds c.facts-2.ensures.bounds c.facts-2.ensures.count c.facts-2.ensures.seated c.facts-2.ensures.locks (sym c.is_halted.ensures ∙ c.if-is_halted.false) c.in-Moved.ensures.came (c.recover-turn.ensures.nearer c.in-Moved.is))
-
-pub returns-in-Ended : goal.returns-in-Ended
-returns-in-Ended g c =
-    subst (λ (v : Sessions). RecoveryOf {P = Unit {0}} g.O.Origin.sessions (board_of g.O.Origin.told g.O.Origin.opening v) (board_of g.O.Origin.told g.O.Origin.opening c.recover-turn.new.self) step.Ended) c.self.view_is
-    (recovers-none g.O.Origin.told g.O.Origin.opening g.O.Origin.sessions c.self.inside.cluster c.recover-turn.new.self c.facts.ensures.bounds c.facts-2.ensures.bounds c.facts-2.ensures.count c.facts-2.ensures.seated c.facts-2.ensures.locks c.in-Ended.ensures.came)
-
-pub returns-in-Stopped : goal.returns-in-Stopped
-returns-in-Stopped g c =
-    subst (λ (v : Sessions). RecoveryOf {P = Unit {0}} g.O.Origin.sessions (board_of g.O.Origin.told g.O.Origin.opening v) (board_of g.O.Origin.told g.O.Origin.opening c.recover-turn.new.self) step.Stopped) c.self.view_is
-    (recovery-halts g.O.Origin.told g.O.Origin.opening g.O.Origin.sessions c.self.inside.cluster c.recover-turn.new.self c.facts.ensures.bounds c.facts-2.ensures.bounds c.facts-2.ensures.count c.facts-2.ensures.seated c.facts-2.ensures.locks (sym c.is_halted.ensures ∙ c.if-is_halted.false) c.in-Stopped.ensures.came)
+pub returns : goal.returns
+returns g c =
+    subst (λ (v : Sessions). RecoveryOf {P = Unit {0}} g.O.Origin.sessions (board_of g.O.Origin.told g.O.Origin.opening v) (board_of g.O.Origin.told g.O.Origin.opening c.recover-turn.new.self) c.step_of.result) c.self.view_is
+    (subst (λ (t : Step (Unit {0})). RecoveryOf {P = Unit {0}} g.O.Origin.sessions (board_of g.O.Origin.told g.O.Origin.opening c.self.inside.cluster) (board_of g.O.Origin.told g.O.Origin.opening c.recover-turn.new.self) t) (sym c.step_of.ensures)
+    (recovered g.O.Origin.told g.O.Origin.opening g.O.Origin.sessions c.self.inside.cluster c.recover-turn.new.self c.facts.ensures.bounds c.facts-2.ensures.bounds c.facts-2.ensures.count c.facts-2.ensures.seated c.facts-2.ensures.locks
+    c.recover-turn.result (sym c.is_halted.ensures ∙ c.if-is_halted.false) c.recover-turn.ensures.came c.recover-turn.ensures.nearer))
