@@ -28,5 +28,5 @@ pub record HoldsPrefix (M : Model) (o : Opening) (v : View) (events : List Event
   pub opening : (image : Image) → v.left_since began image → IsFrom M o events 0 image
 
 -- each image that a crash may leave stands for the tables of all commits
-abbrev pub HoldsAll : Model → Opening → View → List Event → Type 0
-HoldsAll M o v events = (image : Image) → LeftNow v image → (lines : Lines) × HasLines image lines × M lines (place o events).tables
+pub record HoldsAll (M : Model) (o : Opening) (v : View) (events : List Event) : Type 0 where
+  pub each : (image : Image) → LeftNow v image → (lines : Lines) × HasLines image lines × M lines (place o events).tables

@@ -1,4 +1,4 @@
-use Rattle.std.proofs.Common.{◌++◌, length, map, subst, sym, ◌∙◌}
+use Rattle.std.proofs.Common.{Option, ◌++◌, length, map, subst, sym, ◌∙◌}
 use Rattle.std.proofs.lemmas.Bool.{false≢true}
 use Rattle.std.proofs.lemmas.Option.{none-some}
 use Rattle.rdb_drive.specs.Boards.{MayDie}
@@ -9,6 +9,7 @@ use Rattle.line_drive.specs.Boards.{mortals_of}
 use Rattle.line_drive.specs.Turns.{KeepsTurns}
 use Rattle.line_runs.specs.Openings.{said_to}
 use Rattle.command_words.specs.Words.{order_in, word_of}
+use Rattle.command_words.specs.declared.deaths.Death.{Death}
 use Rattle.rdb_top.specs.Deaths.{letting, sessions_dying}
 use Rattle.rdb_top.proofs.Deaths.{may-fail, mortals}
 use Rattle.rdb_top.proofs.Saying.{opens, prefix-of-word, all-of-word}
@@ -17,7 +18,9 @@ use Rattle.rdb_top.proofs.top.say_scripts.Goals as goal
 pub run_of-requires-clause-mortals : goal.run_of-requires-clause-mortals
 run_of-requires-clause-mortals g c κs within =
     let all = mortals c.args.asked.given.death (g.G.Gate.mortals c.args.gate.now) g.O.Origin.opening c.in-Ok.field-0.word c.args.scripts.items c.args.asked.given.count c.requires.last.death c.requires.mortals in
-    subst (λ n. MayDie (sessions_dying c.args.asked.given.death ++ g.G.Gate.mortals c.args.gate.now) (mortals_of (said_to (letting c.args.asked.given.death g.O.Origin.opening) c.in-Ok.field-0.word c.args.scripts.items) n)) (sym c.requires.count) all
+    let long = subst (λ n. MayDie (sessions_dying c.args.asked.given.death ++ g.G.Gate.mortals c.args.gate.now) (mortals_of (said_to (letting c.args.asked.given.death g.O.Origin.opening) c.in-Ok.field-0.word c.args.scripts.items) n)) (sym c.requires.count) all in
+    subst (λ (death : Option Death). MayDie (sessions_dying death ++ g.G.Gate.mortals c.of.result.gate.now) (mortals_of (said_to (letting c.args.asked.given.death g.O.Origin.opening) c.in-Ok.field-0.word c.args.scripts.items) (length c.args.scripts.items))) (sym c.of.ensures.death)
+    (subst (λ gate. MayDie (sessions_dying c.args.asked.given.death ++ g.G.Gate.mortals gate) (mortals_of (said_to (letting c.args.asked.given.death g.O.Origin.opening) c.in-Ok.field-0.word c.args.scripts.items) (length c.args.scripts.items))) (sym c.of.ensures.gate) long)
 
 pub run_of-requires-clause-mortal : goal.run_of-requires-clause-mortal
 run_of-requires-clause-mortal g c κs within = may-fail c.args.asked.given.death g.O.Origin.opening c.in-Ok.field-0.word c.args.scripts.items c.requires.mortal
