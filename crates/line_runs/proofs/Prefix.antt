@@ -57,9 +57,9 @@ module _ (M : Model) (o : Opening) (v : View) (events : List Event) (sight : Sig
   pub holds-all : IsLeft M o sight events → ((s : ℕ) → bare (sight.stand s) ≡ outside) → HoldsAll M o v events
   holds-all it rests = record {
     each = λ image l.
-      let shown = back.shows it.shelf it.shown in
-      let has = opens v back.held it.shelf shown image l in
-      (has.0, has.1, still has.0 (standing v back.held it.shelf shown has.0 (leaves-now v back.held it.shelf shown image has.0 l has.1)));
+        let shown = back.shows it.shelf it.shown in
+        let has = opens v back.held it.shelf shown image l in
+        (has.0, has.1, still has.0 (standing v back.held it.shelf shown has.0 (leaves-now v back.held it.shelf shown image has.0 l has.1)));
   }
     where
       idle : (s : ℕ) → it.shelf.seat s ≡ outside
