@@ -12,11 +12,11 @@ use std::alloc::Global;
 /// So many sessions are numbered, from 0.
 const NUMBERED: usize = 17;
 
-/// Where a transaction began, and the tables of its start, if it only reads.
+/// Where a transaction began; of one that only reads also the tables of its start.
 #[derive(Drop)]
-struct Start {
-    place: usize,
-    tables: Option<Tables>,
+enum Start {
+    Writing(usize),
+    Reading(usize, Tables),
 }
 
 /// The account as it is told again.
@@ -125,13 +125,20 @@ impl<'a> Telling<'a> {
         Ok(())
     }
 
+    fn put_start(&mut self, s: Session, start: Start) {
+        match self.starts.get_mut(s.number as usize) {
+            Some(place) => *place = Some(start),
+            None => drop(start),
+        }
+    }
+
     fn begin(&mut self, s: Session, place: usize, kind: &Standing) -> Result<(), NoMemory> {
-        let tables = match kind {
-            Standing::ReadOnly => Some(self.committed.copied(self.alloc)?),
-            _ => None,
-        };
-        if let Some(start) = self.starts.get_mut(s.number as usize) {
-            *start = Some(Start { place, tables });
+        match kind {
+            Standing::ReadOnly => {
+                let tables = self.committed.copied(self.alloc)?;
+                self.put_start(s, Start::Reading(place, tables));
+            }
+            _ => self.put_start(s, Start::Writing(place)),
         }
         Ok(())
     }
@@ -143,6 +150,36 @@ impl<'a> Telling<'a> {
         }
     }
 
+    // A transaction that may have written is told again over a copy of what is committed, which takes its place where it was kept.
+    fn tell_writer(
+        &mut self,
+        s: Session,
+        from: usize,
+        to: usize,
+        is_kept: bool,
+        out: &mut Bytes,
+    ) -> Result<(), NoMemory> {
+        let mut tables = self.committed.copied(self.alloc)?;
+        if !is_kept {
+            return self.tell(&mut tables, s, from, to, out);
+        }
+        self.tell(&mut tables, s, from, to, out)?;
+        self.committed = tables;
+        Ok(())
+    }
+
+    fn tell_reader(
+        &mut self,
+        tables: Tables,
+        s: Session,
+        from: usize,
+        to: usize,
+        out: &mut Bytes,
+    ) -> Result<(), NoMemory> {
+        let mut tables = tables;
+        self.tell(&mut tables, s, from, to, out)
+    }
+
     // The transaction that ends at a place is told again.
     fn end(
         &mut self,
@@ -151,19 +188,11 @@ impl<'a> Telling<'a> {
         is_kept: bool,
         out: &mut Bytes,
     ) -> Result<(), NoMemory> {
-        let Some(start) = self.take_start(s) else {
-            return Ok(());
-        };
-        let reads = start.tables.is_some();
-        let mut tables = match start.tables {
-            Some(tables) => tables,
-            None => self.committed.copied(self.alloc)?,
-        };
-        self.tell(&mut tables, s, start.place, place, out)?;
-        if is_kept && !reads {
-            self.committed = tables;
+        match self.take_start(s) {
+            None => Ok(()),
+            Some(Start::Writing(from)) => self.tell_writer(s, from, place, is_kept, out),
+            Some(Start::Reading(from, tables)) => self.tell_reader(tables, s, from, place, out),
         }
-        Ok(())
     }
 
     fn follow(&mut self, place: usize, event: &Event, out: &mut Bytes) -> Result<(), NoMemory> {
