@@ -49,5 +49,5 @@ returns-then-tsn-clause-bad g c = let v = g.D.Disk.view in let old = v c.args.di
     let found : c.in_ok-group.field-0 ≡ Some c.in-Some.group = search rules in
     let is = c.in_ok-group.ensures.whole c.in-Some.group found in
     let few = tsn_few old.content c.loop-group.slot is.group c.in-Some.group.tsn is.tsn
-        (stood old.content mid.content c.aij_file.result c.loop-group.slot is.group (image_same old mid so_far.reads t) c.aij_file.ensures (is.stands (still_tells old mid so_far.reads.told t))) in
+    (stood old.content mid.content c.aij_file.result c.loop-group.slot is.group (image_same old mid so_far.reads t) c.aij_file.ensures (is.stands (still_tells old mid so_far.reads.told t))) in
     omega (arith, few)
