@@ -1,12 +1,12 @@
 -- An image without pages and without before-image journals.
-use Rattle.std.proofs.Common.{◌≡◌, ℕ, zero, suc, ◌+◌, ◌-◌, ◌%◌, ◌≤◌, nat_eq, Bool, true, false, if◌then◌else◌, List, [], length, replicate, Some, None, slice_get, inl, inr, refl, sym, ◌∙◌, ap, arith}
+use Rattle.std.proofs.Common.{◌≡◌, ℕ, zero, suc, ◌-◌, ◌%◌, nat_eq, Bool, true, false, if◌then◌else◌, List, [], length, replicate, Some, None, slice_get, inl, inr, refl, sym, ◌∙◌, ap, arith}
 use Rattle.rdb_types.specs.File.{slot_bytes}
 use Rattle.rdb_types.specs.declared.keys.Dbkey.{Dbkey}
 use Rattle.rdb_types.specs.declared.keys.Line.{Line}
 use Rattle.rdb_outside.specs.Disk.{Image}
 use Rattle.rdb_page.specs.Lines.{never}
 use Rattle.line_versions.specs.Lines.{storage_area, shown}
-use Rattle.stable_lines.specs.Slots.{ruj_file, area_file, file_of, slot_of, owner_at, IsAreaFile, line_at}
+use Rattle.stable_lines.specs.Slots.{ruj_file, area_file, slot_of, owner_at, IsAreaFile, line_at}
 use Rattle.stable_lines.proofs.Never.{nothing_on, zeros_owner}
 use Rattle.backup_file.specs.declared.line.BackupLine.{BackupLine}
 use Rattle.rmu_restore.specs.Laying.{IsBlank, HasLaid}

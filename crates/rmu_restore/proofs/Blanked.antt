@@ -1,14 +1,13 @@
 -- File after file becomes zeros.
-use Rattle.std.proofs.Common.{◌≡◌, ℕ, ◌+◌, ◌≤◌, ◌<◌, ◌⊎◌, inl, inr, ⊎_elim, IsTrue, refl, sym, ap, subst, ◌∙◌, arith}
+use Rattle.std.proofs.Common.{◌≡◌, ℕ, ◌+◌, ◌≤◌, ◌<◌, ◌⊎◌, ⊎_elim, IsTrue, sym, ap, subst, ◌∙◌, arith}
 use Rattle.rdb_types.specs.declared.file.FileId.{FileId}
 use Rattle.rdb_types.specs.declared.file.FileKind.TheVariants.{Area, Ruj}
 use Rattle.rdb_outside.specs.Disk.{View, zeros}
-use Rattle.stable_lines.specs.Slots.{area_file, ruj_file, IsMember, IsAreaFile}
+use Rattle.stable_lines.specs.Slots.{area_file, ruj_file}
 use Rattle.line_moves.proofs.Runs.{still_tells}
-use Rattle.guarded_lines.specs.Laying.{IsArea}
 use Rattle.guarded_root.specs.Guarded.{IsFile, RunsBehind}
 use Rattle.guarded_root.proofs.Sweeping.{no_run, run_on, wider_run}
-use Rattle.rmu_restore.specs.Laying.{IsJournal, IsWritten, IsBlank}
+use Rattle.rmu_restore.specs.Laying.{IsJournal, IsBlank}
 
 -- the files before this one are zeros
 pub record Blanks (may : FileId → Type 0) (file : ℕ → FileId) (end : ℕ) (old new : View) : Type 0 where

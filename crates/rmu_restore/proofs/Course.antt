@@ -1,14 +1,14 @@
 -- A restore call by call: what each image is, and which files are as they were.
-use Rattle.std.proofs.Common.{◌≡◌, ◌≢◌, ℕ, ◌-◌, ◌≤◌, ◌<◌, List, Some, slice_get, ◌⊎◌, inl, inr, ⊎_elim, IsTrue, sym, ap, subst, ◌∙◌, arith}
+use Rattle.std.proofs.Common.{◌≡◌, ◌≢◌, ℕ, ◌-◌, ◌≤◌, List, inl, inr, IsTrue, sym, ap, subst, ◌∙◌, arith}
 use Rattle.rdb_types.specs.declared.file.FileId.{FileId}
 use Rattle.rdb_types.specs.declared.file.FileKind.TheVariants.{Root as RootKind, Area, Ruj, Aij, Backup}
-use Rattle.rdb_outside.specs.Disk.{Image, View, LeftNow, LeavesOnly, IsPending, OnlyReads, zeros}
+use Rattle.rdb_outside.specs.Disk.{Image, View, LeavesOnly, IsPending, OnlyReads, zeros}
 use Rattle.rdb_outside.specs.Moments.{weaker}
 use Rattle.new_database.specs.Maker.{root_file, aij_file}
 use Rattle.line_opening.proofs.Passed.{image_same}
 use Rattle.line_opening.proofs.Standing.{leaves_on}
 use Rattle.line_moves.proofs.Runs.{still_tells}
-use Rattle.stable_lines.specs.Slots.{ruj_file, area_file, IsMember}
+use Rattle.stable_lines.specs.Slots.{ruj_file, IsMember}
 use Rattle.stable_lines.specs.Journal.{Journal}
 use Rattle.backup_file.specs.declared.header.BackupHead.{BackupHead}
 use Rattle.backup_file.specs.declared.line.BackupLine.{BackupLine}
@@ -20,9 +20,8 @@ use Rattle.database_opening.proofs.Others.{file_on}
 use Rattle.guarded_lines.specs.Laying.{IsArea}
 use Rattle.guarded_root.specs.Guarded.{IsInState, IsGuarded, BeforeOrIn, IsEndOf, InOrEnd, RunsBehind}
 use Rattle.rmu_restore.specs.declared.restoring.Plan.{Plan}
-use Rattle.rmu_restore.specs.Laying.{IsJournal, IsWritten, IsOther, IsBlank, HasLaid, AreUpTo}
+use Rattle.rmu_restore.specs.Laying.{IsWritten, IsOther, IsBlank, HasLaid, AreUpTo}
 use Rattle.rmu_restore.specs.Restored.{IsSource, IsPlanned, IsRestored, WithinRestore, as_before, unfinished, restored}
-use Rattle.rmu_restore.proofs.Blank.{blank_laid}
 use Rattle.rmu_restore.proofs.Ended.{is_restored}
 
 -- ---- files

@@ -1,5 +1,5 @@
 -- Behind the root of the end the image stands for the lines of the backup.
-use Rattle.std.proofs.Common.{◌≡◌, ◌≢◌, ℕ, ◌+◌, ◌-◌, ◌≤◌, ◌<◌, List, [], ◌∷◌, refl, length, replicate, Some, None, slice_get, inr, ⊎_elim, sym, ◌∙◌, ap, subst, arith}
+use Rattle.std.proofs.Common.{◌≡◌, ◌≢◌, ℕ, ◌+◌, ◌-◌, ◌≤◌, List, [], ◌∷◌, refl, length, replicate, Some, None, inr, sym, ◌∙◌, ap, subst, arith}
 use Rattle.slot_fields.proofs.Laws.{word_not_zeros}
 use Rattle.rdb_types.specs.File.{slot_bytes}
 use Rattle.rdb_types.specs.declared.file.FileId.{FileId}
@@ -8,7 +8,6 @@ use Rattle.rdb_types.specs.declared.keys.Dbkey.{Dbkey}
 use Rattle.rdb_types.specs.declared.keys.Limits.{Limits}
 use Rattle.rdb_types.specs.declared.keys.Line.{Line}
 use Rattle.rdb_outside.specs.Disk.{Image, zeros}
-use Rattle.root_file.specs.declared.Root.{Root}
 use Rattle.rdb_page.specs.Page.{class_at}
 use Rattle.rdb_page.specs.Whole.{IsPageOf}
 use Rattle.area_files.specs.Areas.{space_page_of}
@@ -19,10 +18,10 @@ use Rattle.aij_journal.specs.Header.{IsHeader}
 use Rattle.journal_scan.specs.Standing.{what_stands}
 use Rattle.line_versions.specs.Lines.{storage_area, shown}
 use Rattle.line_view.specs.Knowledge.{line_in}
-use Rattle.new_database.specs.Maker.{root_file, aij_file}
+use Rattle.new_database.specs.Maker.{aij_file}
 use Rattle.stable_lines.specs.Slots.{ruj_file, area_file, file_of, slot_of, owner_at, IsMember, line_on, line_at, named}
 use Rattle.stable_lines.specs.Journal.{Journal, IsJournalOf, next_number}
-use Rattle.stable_lines.specs.Kept.{Kept, IsWellFormed, IsRujHeader, FitsClass, HasNoCommit}
+use Rattle.stable_lines.specs.Kept.{Kept, IsWellFormed, FitsClass, HasNoCommit}
 use Rattle.stable_lines.proofs.Fresh.{named_none}
 use Rattle.rolled_lines.proofs.Restored.{restored_stands}
 use Rattle.backup_file.specs.declared.header.BackupHead.{BackupHead}

@@ -1,5 +1,5 @@
 -- The lines of a backup as a map.
-use Rattle.std.proofs.Common.{◌≡◌, ℕ, zero, suc, Bool, true, false, cond, List, [], ◌∷◌, ◌++◌, Option, Some, None, slice_get, refl, sym, ap, subst, ◌∙◌}
+use Rattle.std.proofs.Common.{◌≡◌, ℕ, suc, Bool, true, false, cond, List, [], ◌∷◌, ◌++◌, Some, None, slice_get, refl, sym, ap, ◌∙◌}
 use Rattle.std.specs.declared.cmp.Ordering.{Ordering}
 use Rattle.std.specs.declared.cmp.Ordering.TheVariants.{Less, Equal, Greater}
 use Rattle.std.specs.Ordering.{is_eq, ordering_reverse}
@@ -38,15 +38,15 @@ pub record IsFound (lines : List BackupLine) (key : Dbkey) (bytes : List ℕ) : 
 
 pub some_found : (lines : List BackupLine) (key : Dbkey) (bytes : List ℕ) → find dbkey_order key (lines_in lines) ≡ Some bytes → IsFound lines key bytes
 some_found [] key bytes found = let bad : None ≡ Some bytes = found in absurd (cc)
-some_found (l ∷ ls) key bytes found = by (is_eq (dbkey_order key l.key)) refl
+some_found (l ∷ ls) key bytes found = by (λ f. some_found ls key bytes f) (is_eq (dbkey_order key l.key)) refl
   where
     some_back : (x y : List ℕ) → Some x ≡ Some y → x ≡ y
     some_back x y same = cc
 
-    by : (b : Bool) → is_eq (dbkey_order key l.key) ≡ b → IsFound (l ∷ ls) key bytes
-    by true is = record { index = 0; line = l; is = refl; keys = sym (same_key key l.key is); bytes_are = some_back l.image bytes (sym (ap (λ (t : Bool). cond t (Some l.image) (find dbkey_order key (lines_in ls))) is) ∙ found) }
-    by false is =
-        let rest = some_found ls key bytes (sym (ap (λ (t : Bool). cond t (Some l.image) (find dbkey_order key (lines_in ls))) is) ∙ found) in
+    by : (find dbkey_order key (lines_in ls) ≡ Some bytes → IsFound ls key bytes) → (b : Bool) → is_eq (dbkey_order key l.key) ≡ b → IsFound (l ∷ ls) key bytes
+    by more true is = record { index = 0; line = l; is = refl; keys = sym (same_key key l.key is); bytes_are = some_back l.image bytes (sym (ap (λ (t : Bool). cond t (Some l.image) (find dbkey_order key (lines_in ls))) is) ∙ found) }
+    by more false is =
+        let rest = more (sym (ap (λ (t : Bool). cond t (Some l.image) (find dbkey_order key (lines_in ls))) is) ∙ found) in
         record { index = suc rest.index; line = rest.line; is = rest.is; keys = rest.keys; bytes_are = rest.bytes_are }
 
 lines_last : (lines : List BackupLine) (line : BackupLine) → lines_in (lines ++ line ∷ []) ≡ lines_in lines ++ (line.key, line.image) ∷ []

@@ -1,8 +1,7 @@
 -- The groups of the after-image journal, passed one by one, and their greatest transaction number.
-use Rattle.std.proofs.Common.{◌≡◌, ℕ, suc, ◌+◌, ◌^◌, ◌≤◌, ◌<◌, List, [], ◌∷◌, ◌++◌, length, Option, Some, slice_get, ⊎_elim, refl, sym, ◌∙◌, ap, subst, arith, length-append}
+use Rattle.std.proofs.Common.{◌≡◌, ℕ, ◌+◌, ◌^◌, ◌≤◌, ◌<◌, List, [], ◌∷◌, ◌++◌, length, Option, Some, slice_get, ⊎_elim, refl, sym, ◌∙◌, ap, subst, arith, length-append}
 use Rattle.std.specs.List.{flat_map}
 use Rattle.std.proofs.lemmas.Option.{slice_get_within}
-use Rattle.rdb_types.specs.declared.file.FileId.{FileId}
 use Rattle.rdb_types.specs.declared.keys.Tsn.{Tsn}
 use Rattle.rdb_outside.specs.Disk.{Image}
 use Rattle.aij_journal.specs.declared.part.GroupLine.{GroupLine}

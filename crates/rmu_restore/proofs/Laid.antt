@@ -1,5 +1,5 @@
 -- A line more is laid.
-use Rattle.std.proofs.Common.{◌≡◌, ◌≢◌, ℕ, ◌+◌, ◌-◌, ◌≤◌, ◌<◌, List, [], ◌∷◌, ◌++◌, length, Some, None, slice_get, ◌⊎◌, inl, inr, ⊎_elim, refl, sym, ap, subst, ◌∙◌, arith}
+use Rattle.std.proofs.Common.{◌≡◌, ◌≢◌, ℕ, ◌+◌, ◌-◌, ◌≤◌, List, [], ◌∷◌, ◌++◌, length, Some, None, slice_get, ◌⊎◌, inl, inr, ⊎_elim, refl, sym, ap, subst, ◌∙◌, arith}
 use Rattle.std.proofs.lemmas.Option.{slice_get_within}
 use Rattle.std.specs.declared.cmp.Ordering.TheVariants.{Less}
 use Rattle.rdb_types.specs.Order.{dbkey_order}
@@ -13,7 +13,6 @@ use Rattle.line_versions.specs.Lines.{storage_area, shown}
 use Rattle.line_view.specs.Knowledge.{line_in}
 use Rattle.stable_lines.specs.Slots.{area_file, file_of, slot_of, IsAreaFile, line_at}
 use Rattle.stable_lines.proofs.Lists.{got_either, got_left, got_right, got_one}
-use Rattle.line_moves.specs.declared.places.Place.{Place}
 use Rattle.line_moves.specs.Changes.{IsPlaceOf}
 use Rattle.line_moves.proofs.KeyPlaces.{file_is}
 use Rattle.line_moves.proofs.LinePut.{same_key}

@@ -1,6 +1,5 @@
 -- What a restore goes by.
-use Rattle.std.proofs.Common.{◌≡◌, ℕ, ◌+◌, ◌≤◌, ◌<◌, List, sym, ap, subst, ◌∙◌, arith}
-use Rattle.rdb_types.specs.declared.keys.Limits.{Limits}
+use Rattle.std.proofs.Common.{◌≡◌, ℕ, ◌≤◌, ◌<◌, List, ap, subst, ◌∙◌, arith}
 use Rattle.rdb_outside.specs.Disk.{Image}
 use Rattle.root_file.specs.declared.Root.{Root}
 use Rattle.root_file.specs.Root.{IsRoot}

@@ -1,4 +1,4 @@
-use Rattle.std.proofs.Common.{rules, ◌∙◌, ◌-◌, List, ℕ, subst}
+use Rattle.std.proofs.Common.{rules, ◌∙◌, List, ℕ, subst}
 use Rattle.rdb_page.specs.Whole.{IsPageOf}
 use Rattle.line_moves.proofs.KeyPlaces.{area_is, place_content}
 use Rattle.line_moves.proofs.Runs.{on_ok, still_tells}

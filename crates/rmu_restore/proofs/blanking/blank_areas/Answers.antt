@@ -1,9 +1,13 @@
-use Rattle.std.proofs.Common.{refl}
+use Rattle.std.proofs.Common.{ap, refl, sym}
+use Rattle.rdb_outside.specs.Disk.{zeros}
 use Rattle.stable_lines.specs.Slots.{area_file}
 use Rattle.guarded_lines.specs.Laying.{IsArea}
 use Rattle.guarded_root.proofs.Sweeping.{run_on}
 use Rattle.rmu_restore.proofs.Blanked.{blanks_none, blanks_more, file_run, one_area}
 use Rattle.rmu_restore.proofs.blanking.blank_areas.Goals as goal
+
+pub sweep-requires-clause-blank : goal.sweep-requires-clause-blank
+sweep-requires-clause-blank g c = ap zeros (sym c.area_file.ensures)
 
 pub loop-file-init : goal.loop-file-init
 loop-file-init g c = record { blanks = blanks_none IsArea area_file (g.D.Disk.view c.args.disk.now) }

@@ -5,7 +5,7 @@ use Rattle.rmu_restore.proofs.Course.{source_still, planned_still, restored_befo
 use Rattle.rmu_restore.proofs.restoring.restore.Goals as goal
 
 pub carry_out-requires : goal.carry_out-requires
-carry_out-requires g c = c.in_ok-plan.ensures.allowed
+carry_out-requires g c = record { allowed = c.in_ok-plan.ensures.allowed }
 
 pub returns-in_err-plan-clause-bad : goal.returns-in_err-plan-clause-bad
 returns-in_err-plan-clause-bad g c = λ file slot is t classes head lines journal source. c.plan_restore.ensures.bad file slot (search rules) t classes head lines journal source
