@@ -8,6 +8,9 @@ use Rattle.line_runs.proofs.runs.say_in_order.Goals as goal
 pub returns-in-Err-clause-bad : goal.returns-in-Err-clause-bad
 returns-in-Err-clause-bad g c file slot is = c.in-Err.ensures.bad file slot (same-fault c.in-Err.unopened.fault _ c.unsaid.result.fault c.unsaid.ensures.fault is)
 
+pub returns-in-Ok-clause-legal : goal.returns-in-Ok-clause-legal
+returns-in-Ok-clause-legal g c told = rw c.ended.ensures.events (c.run_in_order.ensures.legal told)
+
 pub returns-in-Ok-clause-images : goal.returns-in-Ok-clause-images
 returns-in-Ok-clause-images g c told opened = rw c.ended.ensures.events (c.ended.ensures.images g.O.Origin.opening (map event_of c.run_in_order.result.events) (c.run_in_order.ensures.images told))
 
