@@ -5,11 +5,11 @@ use Rattle.program_cases.proofs.runs.run_past.Goals as goal
 in-none : (s : ℕ) → Contains [] s → ⊥
 in-none s (k, below, is) = omega (arith, below)
 
-pub run-requires-clause-mortals : goal.run-requires-clause-mortals
-run-requires-clause-mortals g c κs within given row s held = absurd (in-none s (subst (λ (gates : List ℕ). Contains gates s) c.requires.calm held))
+pub run-finish-requires-clause-mortals : goal.run-finish-requires-clause-mortals
+run-finish-requires-clause-mortals g c κs within given row s held = absurd (in-none s (subst (λ (gates : List ℕ). Contains gates s) c.requires.calm held))
 
-pub run-requires-clause-mortal : goal.run-requires-clause-mortal
-run-requires-clause-mortal g c κs within s = refl
+pub run-finish-requires-clause-mortal : goal.run-finish-requires-clause-mortal
+run-finish-requires-clause-mortal g c κs within s = refl
 
-pub run-requires-clause-opens : goal.run-requires-clause-opens
-run-requires-clause-opens g c κs within told = absurd told
+pub run-finish-requires-clause-opens : goal.run-finish-requires-clause-opens
+run-finish-requires-clause-opens g c κs within told = absurd told
