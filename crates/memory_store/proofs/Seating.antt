@@ -1,5 +1,5 @@
 -- What is put in a seat, and what stays.
-use Rattle.std.proofs.Common.{◌≡◌, ◌≤◌, ◌<◌, ◌+◌, ◌==◌, ◌⊎◌, inl, inr, ℕ, zero, suc, Bool, true, false, cond, List, [], ◌∷◌, length, Some, Result, Ok, Err, OnOk, OnErr, refl, sym, ap, subst, ◌∙◌, arith}
+use Rattle.std.proofs.Common.{◌≡◌, ◌≤◌, ◌<◌, ◌+◌, ◌==◌, ◌⊎◌, inl, inr, ℕ, zero, suc, Bool, true, false, cond, List, [], ◌∷◌, length, Some, refl, sym, ap, subst, ◌∙◌, arith}
 use Rattle.std.specs.Prelude.{slice_get, slice_set}
 use Rattle.std.proofs.lemmas.Option.{same_Some, none-some}
 use Rattle.std.proofs.lemmas.Bool.{eqb-false, eqb-true}
@@ -9,7 +9,6 @@ use Rattle.line_store.specs.Shelves.{Shelf, Space}
 use Rattle.line_store.specs.Calls.{KeepsOthers, KeepsSpace, Moves}
 use Rattle.memory_store.specs.declared.seat.Seat.{Seat as Held}
 use Rattle.memory_store.specs.declared.seat.Seat.TheVariants as held
-use Rattle.memory_store.specs.Landed.{Stock}
 use Rattle.memory_store.specs.Kept.{Kept, AreKept, empty_seats, is_ready, count_ready, seat_of, seat_or, seat_at, shelf_of, with_seat, with_stock}
 
 -- ---- lists
@@ -98,10 +97,8 @@ module _ (room : ℕ) (seats : List Held) (kept : AreKept room seats) (s : ℕ) 
       fits (inl quiet) = omega (arith, none-more seats s h quiet, kept.fits)
       fits (inr less) = omega (arith, one-more seats s h, less)
 
--- room is made for all, or the lines stay as they are held
-pub room-kept : {A E : Type 0} (r : Result A E) (old new : Stock) (seats : List Held) → AreKept old.room seats → OnOk r (17 ≤ new.room) → OnErr r (new ≡ old) → AreKept new.room seats
-room-kept (Ok x) old new seats kept ok err = record { count = kept.count; fits = omega (arith, most seats, kept.count, ok) }
-room-kept (Err e) old new seats kept ok err = subst (λ (k : Stock). AreKept k.room seats) (sym err) kept
+pub room-kept : (old new : ℕ) (seats : List Held) → AreKept old seats → old ≤ new → AreKept new seats
+room-kept old new seats kept more = record { count = kept.count; fits = omega (arith, kept.fits, more) }
 
 pub fresh : (room : ℕ) → AreKept room empty_seats
 fresh room = record { count = refl; fits = omega arith }

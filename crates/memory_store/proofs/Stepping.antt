@@ -1,14 +1,10 @@
 -- What steps come to.
 use Rattle.std.proofs.Common.{◌≡◌, ◌++◌, ℕ, true, false, List, Some, Ok, refl, sym, ap, subst, ◌∙◌, arith}
 use Rattle.std.specs.Prelude.{slice_get}
-use Rattle.std.specs.Ordering.{is_eq}
 use Rattle.std.proofs.lemmas.Bool.{true≢false}
-use Rattle.std.proofs.lemmas.List.Folds.{list_any-append}
-use Rattle.rdb_types.specs.Order.{dbkey_order}
 use Rattle.line_view.specs.declared.writes.Write.{Write}
 use Rattle.line_view.specs.Knowledge.{Lines}
 use Rattle.line_view.specs.Writes.{laid_all}
-use Rattle.line_view.proofs.Written.{laid_in_turn}
 use Rattle.line_store.specs.declared.answers.Stepped.{Stepped}
 use Rattle.line_store.specs.declared.answers.Stepped.TheVariants.{More, Done, Committed, Recovered}
 use Rattle.line_store.specs.Seats.{Seat, outside, beginning, writing, changing, prepared, committing, rolling_back, closing, reading, dead, writes_of, done_at, Adds}
@@ -36,16 +32,10 @@ seen-laid (dead commits ws) now = refl
 
 -- ---- changes
 
-adds : (before more : List Write) → Adds more before (before ++ more)
-adds before more = record {
-  laid = λ all ordered. laid_in_turn before more all;
-  keys = λ key. list_any-append (λ (w : Write). is_eq (dbkey_order key w.key)) before more;
-}
-
-pub changed : (k new : Kept) (s : ℕ) (more : List Write) → Moves s (changing (writes_of (seat_at k.seats s) ++ more)) (shelf_of k) (shelf_of new) → Changes s more (shelf_of k) (shelf_of new)
-changed k new s more moves = record {
-  behind = writes_of (seat_at k.seats s) ++ more;
-  adds = adds (writes_of (seat_at k.seats s)) more;
+pub changed : (k new : Kept) (s : ℕ) (more behind : List Write) → Adds more (writes_of (seat_at k.seats s)) behind → Moves s (changing behind) (shelf_of k) (shelf_of new) → Changes s more (shelf_of k) (shelf_of new)
+changed k new s more behind adds moves = record {
+  behind = behind;
+  adds = adds;
   now = moves.now;
   mine = moves.mine;
   others = moves.others;

@@ -10,10 +10,11 @@ use Rattle.line_view.specs.declared.writes.Write.{Write}
 use Rattle.line_view.specs.Knowledge.{Lines, line_in}
 use Rattle.line_store.specs.declared.answers.Stepped.{Stepped}
 use Rattle.line_store.specs.declared.answers.Stepped.TheVariants.{More, Done, Committed, Recovered}
-use Rattle.line_store.specs.Seats.{Seat, outside, beginning, writing, changing, prepared, committing, rolling_back, closing, reading, dead, done_at}
+use Rattle.line_store.specs.Seats.{Seat, outside, beginning, writing, changing, prepared, committing, rolling_back, closing, reading, dead, done_at, writes_of, Adds}
 use Rattle.line_store.specs.Shelves.{Shelf, seen_by}
 use Rattle.line_store.specs.Sights.{Sight}
 use Rattle.line_store.specs.Rooms.{IsBehind, first_line}
+use Rattle.member_memory.specs.Memory.{writes_in}
 use Rattle.memory_store.specs.declared.seat.Seat.{Seat as Held}
 use Rattle.memory_store.specs.declared.seat.Seat.TheVariants as held
 use Rattle.memory_store.specs.declared.store.PageUse.{PageUse}
@@ -23,14 +24,14 @@ use Rattle.memory_store.specs.declared.store.PageUse.{PageUse}
 abbrev pub seat_of : Held → Seat
 seat_of held.Outside = outside
 seat_of held.Beginning = beginning
-seat_of (held.Writing ws) = writing ws.items
-seat_of (held.Changing ws) = changing ws.items
-seat_of (held.Prepared ws) = prepared ws.items
-seat_of (held.Committing ws) = committing ws.items
-seat_of (held.RollingBack ws) = rolling_back ws.items
+seat_of (held.Writing ws) = writing (writes_in ws.lines)
+seat_of (held.Changing ws) = changing (writes_in ws.lines)
+seat_of (held.Prepared ws) = prepared (writes_in ws.lines)
+seat_of (held.Committing ws) = committing (writes_in ws.lines)
+seat_of (held.RollingBack ws) = rolling_back (writes_in ws.lines)
 seat_of held.Closing = closing
 seat_of (held.Reading start) = reading start
-seat_of (held.Dead commits ws) = dead commits ws.items
+seat_of (held.Dead commits ws) = dead commits (writes_in ws.lines)
 
 abbrev pub seat_or : Option Held → Seat
 seat_or (Some h) = seat_of h
@@ -68,6 +69,12 @@ StepsTo old new More = ⊥
 StepsTo old new Done = done_at old ≡ Some new
 StepsTo old new (Committed moment) = ⊥
 StepsTo old new (Recovered is_committed moment) = (is_committed ≡ false) × (moment.number ≡ 0) × (new ≡ outside) × ((commits : Bool) × (ws : List Write) × (old ≡ dead commits ws))
+
+-- these writes were laid over those of the transaction
+pub record IsChanged (more : List Write) (old new : Seat) : Type 0 where
+  pub behind : List Write
+  pub adds : Adds more (writes_of old) behind
+  pub is : new ≡ changing behind
 
 -- ---- the store
 

@@ -1,11 +1,12 @@
 // The committed lines.
-ghost use Rattle.std.specs.Prelude.{◌≡◌, ◌≤◌, ◌<◌, ◌+◌, [], IfOk, OnOk, OnErr};
+ghost use Rattle.std.specs.Prelude.{◌≡◌, ◌≤◌, ◌<◌, ◌+◌, ◌-◌, [], vec_len, vec_capacity, IfOk, OnOk, OnErr};
 ghost use Rattle.line_view.specs.Knowledge.{Lines, line_in};
 ghost use Rattle.line_view.specs.Writes.{laid_all};
+ghost use Rattle.member_memory.specs.Memory.{writes_in};
 ghost use Rattle.memory_store.specs.Landed.{landed_on};
 
 use crate::lines::{LineMap, image_in, last_image, lay};
-use line_view::Write;
+use member_memory::MemberLines;
 use ordered_entries::Entries;
 use rdb_types::{Copied, Dbkey, Image, NoMemory};
 use std::alloc::Global;
@@ -14,19 +15,20 @@ use std::marker::Model;
 /// How many commits may land between two times that their writes are put into the map: one for each seat.
 const LANDED: usize = 17;
 
-/// The writes of a commit.
+/// What a commit wrote.
 #[derive(Drop)]
 pub(crate) struct Batch {
-    writes: Vec<Write>,
+    lines: MemberLines,
 }
 
 impl Model for Batch {
     ghost use Rattle.std.specs.Prelude.{List};
     ghost use Rattle.line_view.specs.declared.writes.Write.{Write as Written};
+    ghost use Rattle.member_memory.specs.Memory.{writes_in};
 
     ghost Value = { List Written };
 
-    ghost view = { λ b. b.writes.items };
+    ghost view = { λ b. writes_in b.lines.lines };
 }
 
 /// The committed lines: a map, and the writes of commits that aren't in it yet, in their order. So a commit takes no memory.
@@ -51,7 +53,37 @@ fn lay_landed(lines: &mut LineMap, landed: &[Batch]) -> Result<(), NoMemory>
     ensures { OnOk result (lines.new ≡ landed_on landed.now lines.old) }
 {
     for batch in landed {
-        lay(lines, &batch.writes)?;
+        lay(lines, batch.lines.lines())?;
+    }
+    Ok(())
+}
+
+// Puts the writes of the first commit into the map. Where memory fails some of them stand there, and all of them behind it still.
+fn lay_first(map: &mut LineMap, landed: &mut Vec<Batch>) -> Result<(), NoMemory>
+    ensures lines { landed_on landed.new.items map.new ≡ landed_on landed.old.items map.old }
+    ensures one { OnOk result (vec_len landed.new ≡ vec_len landed.old - 1) }
+    ensures none { OnErr result (vec_len landed.new ≡ vec_len landed.old) }
+    ensures capacity { vec_capacity landed.new ≡ vec_capacity landed.old }
+{
+    let Some(first) = landed.first() else {
+        return Ok(());
+    };
+    // (so they are in the order of their keys)
+    let _lines = map.as_slice();
+    lay(map, first.lines.lines())?;
+    let _laid = landed.remove(0);
+    Ok(())
+}
+
+// Puts the writes of all commits into the map.
+fn lay_all(map: &mut LineMap, landed: &mut Vec<Batch>) -> Result<(), NoMemory>
+    ensures lines { landed_on landed.new.items map.new ≡ landed_on landed.old.items map.old }
+    ensures all { OnOk result (vec_len landed.new ≡ 0) }
+    ensures few { vec_len landed.new ≤ vec_len landed.old }
+    ensures capacity { vec_capacity landed.new ≡ vec_capacity landed.old }
+{
+    for _batch in 0..landed.len() {
+        lay_first(map, landed)?;
     }
     Ok(())
 }
@@ -62,7 +94,7 @@ fn last_landed(before: Option<Image>, landed: &[Batch], key: Dbkey) -> Option<Im
 {
     let mut image = before;
     for batch in landed {
-        image = last_image(image, &batch.writes, key);
+        image = last_image(image, &batch.lines, key);
     }
     image
 }
@@ -95,25 +127,22 @@ impl Committed {
         Ok(lines)
     }
 
-    /// Puts the writes of all commits into the map, so that there is room for as many more.
-    pub(crate) fn settle(&mut self, alloc: Global) -> Result<(), NoMemory>
+    /// Puts the writes of all commits into the map, so that there is room for as many more. Where memory fails there is room for no fewer than before.
+    pub(crate) fn settle(&mut self) -> Result<(), NoMemory>
         ensures lines { self.new.lines ≡ self.old.lines }
         ensures room { OnOk result (17 ≤ self.new.room) }
-        ensures err { OnErr result (self.new ≡ self.old) }
+        ensures no_less { self.old.room ≤ self.new.room }
     {
-        let map = self.copied(alloc)?;
-        self.map = map;
-        self.landed.clear();
-        Ok(())
+        lay_all(&mut self.map, &mut self.landed)
     }
 
-    /// Commits writes.
-    pub(crate) fn land(&mut self, writes: Vec<Write>)
+    /// Commits what a transaction wrote.
+    pub(crate) fn land(&mut self, lines: MemberLines)
         requires { 0 < self.old.room }
-        ensures lines { self.new.lines ≡ laid_all writes.items self.old.lines }
+        ensures lines { self.new.lines ≡ laid_all (writes_in lines.lines) self.old.lines }
         ensures room { self.old.room ≤ self.new.room + 1 }
     {
-        match self.landed.push(Batch { writes }) {
+        match self.landed.push(Batch { lines }) {
             Ok(()) => {}
             Err(_) => unreachable!(),
         }

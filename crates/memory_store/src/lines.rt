@@ -1,13 +1,15 @@
-// Lines in memory, and writes laid over them.
-ghost use Rattle.std.specs.Prelude.{◌≡◌, map, option_map, OnOk, IfOk};
-ghost use Rattle.line_view.specs.declared.writes.Write.{Write as Written};
+// Lines in memory, and what transactions wrote laid over them.
+ghost use Rattle.std.specs.Prelude.{◌≡◌, ℕ, map, take, option_map, OnOk, OnErr, IfOk};
 ghost use Rattle.line_view.specs.Knowledge.{Lines, line_in, lines_in};
 ghost use Rattle.line_view.specs.Held.{entry_of};
 ghost use Rattle.line_view.specs.Writes.{laid_all};
+ghost use Rattle.line_versions.specs.Lines.{shown};
+ghost use Rattle.member_memory.specs.Memory.{writes_in};
 
-use line_view::{PresentLine, Write};
+use line_view::PresentLine;
+use member_memory::MemberLines;
 use ordered_entries::Entries;
-use rdb_types::{Copied, Dbkey, Image, NoMemory};
+use rdb_types::{Copied, Dbkey, Image, Line, LineState, NoMemory};
 use std::alloc::Global;
 use std::marker::Model;
 
@@ -33,13 +35,6 @@ impl Copied for LineImage {
 }
 
 impl LineImage {
-    pub(crate) fn of(image: &Image) -> LineImage
-        ensures { result ≡ image.now }
-    {
-        let held = Image::from_bytes(image.bytes());
-        LineImage { held }
-    }
-
     pub(crate) fn image(&self) -> Image
         ensures { result ≡ self.now }
     {
@@ -50,15 +45,26 @@ impl LineImage {
 /// The present lines in the order of their Dbkeys.
 pub(crate) type LineMap = Entries<Dbkey, LineImage>;
 
-/// Lays writes over lines, one after another.
-pub(crate) fn lay(lines: &mut LineMap, writes: &[Write]) -> Result<(), NoMemory>
-    ensures { OnOk result (lines.new ≡ laid_all writes.now lines.old) }
+// The image of a line that was written.
+fn shown_image(line: &Line) -> Option<Image>
+    ensures { result ≡ shown line.now }
 {
-    for write in writes {
-        match &write.image {
-            Some(image) => lines.put(write.key, LineImage::of(image))?,
+    match line.state {
+        LineState::Present => Some(Image::from_bytes(line.image.bytes())),
+        LineState::Never | LineState::Erased => None,
+    }
+}
+
+/// Lays what a transaction wrote over lines. Where memory fails, some of it may be laid.
+pub(crate) fn lay(lines: &mut LineMap, own: &[(Dbkey, Line)]) -> Result<(), NoMemory>
+    ensures ok { OnOk result (lines.new ≡ laid_all (writes_in own.now) lines.old) }
+    ensures err { OnErr result ((n : ℕ) × (lines.new ≡ laid_all (writes_in (take n own.now)) lines.old)) }
+{
+    for (key, line) in own {
+        match shown_image(line) {
+            Some(image) => lines.put(*key, LineImage { held: image })?,
             None => {
-                let _gone = lines.remove(&write.key);
+                let _gone = lines.remove(key);
             }
         }
     }
@@ -75,20 +81,14 @@ pub(crate) fn image_in(lines: &LineMap, key: Dbkey) -> Option<Image>
     }
 }
 
-/// The image of a line behind writes.
-pub(crate) fn last_image(before: Option<Image>, writes: &[Write], key: Dbkey) -> Option<Image>
-    ensures { (all : Lines) → before ≡ line_in key all → result ≡ line_in key (laid_all writes.now all) }
+/// The image of a line behind what a transaction wrote.
+pub(crate) fn last_image(before: Option<Image>, own: &MemberLines, key: Dbkey) -> Option<Image>
+    ensures { (all : Lines) → before ≡ line_in key all → result ≡ line_in key (laid_all (writes_in own.now.lines) all) }
 {
-    let mut image = before;
-    for write in writes {
-        if key.cmp(&write.key).is_eq() {
-            image = match &write.image {
-                Some(written) => Some(Image::from_bytes(written.bytes())),
-                None => None,
-            };
-        }
+    match own.line(key) {
+        Some(line) => shown_image(line),
+        None => before,
     }
-    image
 }
 
 /// The present lines of an area.
@@ -109,22 +109,4 @@ pub(crate) fn lines_of(
         }
     }
     Ok(found)
-}
-
-/// A copy of writes.
-pub(crate) fn copy_writes(alloc: Global, writes: &[Write]) -> Result<Vec<Write>, NoMemory>
-    ensures { IfOk result (λ copy. copy.items ≡ writes.now) }
-{
-    let mut copy = Vec::new(alloc);
-    for write in writes {
-        let image = match &write.image {
-            Some(image) => Some(Image::from_bytes(image.bytes())),
-            None => None,
-        };
-        copy.push(Write {
-            key: write.key,
-            image,
-        })?;
-    }
-    Ok(copy)
 }

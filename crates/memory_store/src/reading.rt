@@ -45,7 +45,11 @@ impl MemoryStore {
         requires { IsMember s.number }
         ensures { result ≡ line_in key (seen_by s.number (shelf_of self.now)) }
     {
-        last_image(self.base_line(s, key), self.seat(s).writes(), key)
+        let base = self.base_line(s, key);
+        match self.seat(s).written() {
+            Some(own) => last_image(base, own, key),
+            None => base,
+        }
     }
 
     /// A copy of all lines as a session sees them.
@@ -54,7 +58,9 @@ impl MemoryStore {
         ensures { IfOk result (λ lines. lines ≡ seen_by s.number (shelf_of self.now)) }
     {
         let mut lines = self.base(s)?;
-        lay(&mut lines, self.seat(s).writes())?;
+        if let Some(own) = self.seat(s).written() {
+            lay(&mut lines, own.lines())?;
+        }
         Ok(lines)
     }
 }

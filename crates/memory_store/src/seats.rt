@@ -1,13 +1,14 @@
 // The seats of a store.
-ghost use Rattle.std.specs.Prelude.{◌≡◌, ◌≤◌, ◌<◌, ◌+◌, Some, true, slice_get, OnOk, OnErr};
+ghost use Rattle.std.specs.Prelude.{◌≡◌, ◌≤◌, ◌<◌, ◌+◌, Some, true, slice_get, OnOk};
 ghost use Rattle.line_view.specs.Writes.{laid_all};
 ghost use Rattle.line_store.specs.Seats.{IsMember};
+ghost use Rattle.member_memory.specs.Memory.{writes_in};
 ghost use Rattle.memory_store.specs.declared.seat.Seat.TheVariants.{Outside};
 ghost use Rattle.memory_store.specs.Kept.{seat_of, is_ready, count_ready, with_seat, with_stock, MayHave};
 
 use crate::MemoryStore;
 use crate::seat::Seat;
-use line_view::Write;
+use member_memory::MemberLines;
 use rdb_types::{NoMemory, Session};
 use std::mem::replace;
 
@@ -35,18 +36,17 @@ impl MemoryStore {
 
     /// Makes room for the commits of all seats.
     pub(crate) fn make_room(&mut self) -> Result<(), NoMemory>
-        ensures ok { OnOk result (self.new ≡ with_stock self.old.lines self.new.room self.old) }
+        ensures same { self.new ≡ with_stock self.old.lines self.new.room self.old }
         ensures room { OnOk result (17 ≤ self.new.room) }
-        ensures err { OnErr result (self.new ≡ self.old) }
     {
-        self.committed.settle(self.alloc)
+        self.committed.settle()
     }
 
-    /// Commits writes.
-    pub(crate) fn land(&mut self, writes: Vec<Write>)
+    /// Commits what a transaction wrote.
+    pub(crate) fn land(&mut self, lines: MemberLines)
         requires { count_ready self.old.seats < self.old.room }
-        ensures { self.new ≡ with_stock (laid_all writes.items self.old.lines) self.new.room self.old }
+        ensures { self.new ≡ with_stock (laid_all (writes_in lines.lines) self.old.lines) self.new.room self.old }
     {
-        self.committed.land(writes);
+        self.committed.land(lines);
     }
 }

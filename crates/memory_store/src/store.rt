@@ -3,11 +3,12 @@ ghost use Rattle.std.specs.Prelude.{◌≡◌, [], IfOk};
 ghost use Rattle.memory_store.specs.Kept.{empty_seats};
 
 use crate::committed::Committed;
-use crate::lines::{copy_writes, lines_of};
+use crate::lines::lines_of;
 use crate::seat::Seat;
 use area_files::{AreaFull, storage_area};
 use line_store::{ChangeStop, CommitStop, Fault, LineStore, Progress, ReadStop, Stepped};
 use line_view::{Known, Write};
+use member_memory::AddStop;
 use rdb_types::{Dbkey, Limits, Moment, NoMemory, Session};
 use std::alloc::Global;
 use std::marker::Model;
@@ -176,18 +177,13 @@ impl LineStore for MemoryStore {
     }
 
     fn change(&mut self, s: Session, writes: &[Write]) -> Result<(), ChangeStop> {
-        let Ok(more) = copy_writes(self.alloc, writes) else {
-            return Err(ChangeStop::NoMemory);
-        };
-        match self.take(s).changing(more) {
-            Ok(seat) => {
-                self.put(s, seat);
-                Ok(())
-            }
-            Err(seat) => {
-                self.put(s, seat);
-                Err(ChangeStop::NoMemory)
-            }
+        let limit = self.limits.entries;
+        let (seat, changed) = self.take(s).changing(limit, writes);
+        self.put(s, seat);
+        match changed {
+            Ok(()) => Ok(()),
+            Err(AddStop::Full) => Err(ChangeStop::RujFull(limit)),
+            Err(AddStop::NoMemory) => Err(ChangeStop::NoMemory),
         }
     }
 
@@ -222,8 +218,8 @@ impl LineStore for MemoryStore {
 
     fn step(&mut self, s: Session) -> Result<Stepped, Fault> {
         match self.take(s) {
-            Seat::Committing(writes) => {
-                self.land(writes);
+            Seat::Committing(lines) => {
+                self.land(lines);
                 self.put(s, Seat::Closing);
                 Ok(Stepped::Committed(Moment { number: 0 }))
             }

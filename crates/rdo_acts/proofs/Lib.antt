@@ -25,3 +25,6 @@ pub mod ScopeUses
 pub mod Lacking
 pub mod Wanting
 pub mod WantingRows
+pub mod Added
+pub mod LookedAt
+pub mod WantedBehind

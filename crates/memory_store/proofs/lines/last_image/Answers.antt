@@ -1,11 +1,9 @@
-use Rattle.std.proofs.Common.{rules, true, false}
-use Rattle.memory_store.proofs.Laying.{image-more}
+use Rattle.std.proofs.Common.{Some, None, sym, ◌∙◌}
+use Rattle.memory_store.proofs.Laying.{image-behind}
 use Rattle.memory_store.proofs.lines.last_image.Goals as goal
-use Rattle.memory_store.proofs.lines.last_image.Goals.{then-is_eq+in-Some, then-is_eq+in-None, else-is_eq}
 
-pub loop-write-preserved : goal.loop-write-preserved
-loop-write-preserved c all before = elim c.if-is_eq.branch [
-  | then-is_eq+in-Some w ↦ image-more c.args.writes.now c.loop-write.write-index c.write-item.result all c.args.key c.loop-write.image c.if-is_eq.image true c.loop-write-test.true c.write-item.is (search rules) (search rules) (c.loop-write.invariant all before)
-  | then-is_eq+in-None w ↦ image-more c.args.writes.now c.loop-write.write-index c.write-item.result all c.args.key c.loop-write.image c.if-is_eq.image true c.loop-write-test.true c.write-item.is (search rules) (search rules) (c.loop-write.invariant all before)
-  | else-is_eq w ↦ image-more c.args.writes.now c.loop-write.write-index c.write-item.result all c.args.key c.loop-write.image c.if-is_eq.image false c.loop-write-test.true c.write-item.is (search rules) (search rules) (c.loop-write.invariant all before)
-]
+pub returns-in-Some : goal.returns-in-Some
+returns-in-Some c all before = c.shown_image.ensures ∙ sym (image-behind c.args.own.now.lines all c.args.key (Some c.in-Some.line.now) c.line.ensures.ordered (sym c.in-Some.ensures.found))
+
+pub returns-in-None : goal.returns-in-None
+returns-in-None c all before = before ∙ sym (image-behind c.args.own.now.lines all c.args.key None c.line.ensures.ordered (sym c.in-None.ensures.found))

@@ -14,6 +14,6 @@ returns-clause-ok c =
     let goes =
     moves-twice c.make_room.new.self c.take.new.self c.put.new.self c.args.s.number c.preparing-seat.result there c.take.ensures.now c.put.ensures.now c.put.ensures.here
     (c.preparing-seat.ensures ∙ (ap prepared_by (sym (seat-here c.make_room.new.self.seats c.args.s.number c.take.result c.take.ensures.was))
-    ∙ ap (λ (k : Kept). prepared_by (seat_at k.seats c.args.s.number)) c.in-Ok.ensures.ok)) in
-    let moves = subst (λ (h : Shelf). Moves c.args.s.number there h (shelf_of c.put.new.self)) (ap shelf_of c.in-Ok.ensures.ok) goes in
+    ∙ ap (λ (k : Kept). prepared_by (seat_at k.seats c.args.s.number)) c.make_room.ensures.same)) in
+    let moves = subst (λ (h : Shelf). Moves c.args.s.number there h (shelf_of c.put.new.self)) (ap shelf_of c.make_room.ensures.same) goes in
     moved c.args.self.now c.put.new.self c.args.s.number there (prepared []) (Prepares c.args.s.number) moves (bare-prepared (seat_at c.args.self.now.seats c.args.s.number) c.requires.writing) moves

@@ -1,4 +1,5 @@
 use Rattle.std.proofs.Common.{ap}
+use Rattle.member_memory.specs.Memory.{writes_in}
 use Rattle.memory_store.specs.Kept.{seat_of}
 use Rattle.memory_store.proofs.Stepping.{committed}
 use Rattle.memory_store.proofs.Sighted.{landed, came, may-answer, never-more}
@@ -7,7 +8,7 @@ use Rattle.memory_store.proofs.store.MemoryStoreLineStore.step.Goals as goal
 pub returns-in-Committing-clause-comes : goal.returns-in-Committing-clause-comes
 returns-in-Committing-clause-comes c =
     landed c.args.self.now c.put.new.self c.args.s.number (record { number = 0 })
-    (committed c.args.self.now c.take.new.self c.land.new.self c.put.new.self c.args.s.number c.take.result c.in-Committing.writes.items c.land.new.self.room
+    (committed c.args.self.now c.take.new.self c.land.new.self c.put.new.self c.args.s.number c.take.result (writes_in c.in-Committing.lines.lines) c.land.new.self.room
     c.take.ensures.was (ap seat_of c.in-Committing.is)
     c.take.ensures.now c.land.ensures c.put.ensures.now c.put.ensures.here)
 
