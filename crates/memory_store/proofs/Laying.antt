@@ -70,10 +70,10 @@ laid-again own n lines order =
     let some = writes_in (take n own) in
     let ws = writes_in own in
     same-lines (laid_all ws (laid_all some lines)) (laid_all ws lines) (all-sorted ws (laid_all some lines) (all-sorted some lines order)) (all-sorted ws lines order) (λ q.
-      laid-after q ws (laid_all some lines)
-      ∙ (ap (after q ws) (laid-after q some lines)
-      ∙ (again q own n (line_in q lines)
-      ∙ sym (laid-after q ws lines))))
+    laid-after q ws (laid_all some lines)
+    ∙ (ap (after q ws) (laid-after q some lines)
+    ∙ (again q own n (line_in q lines)
+    ∙ sym (laid-after q ws lines))))
 
 -- ---- commits one after another
 

@@ -1,5 +1,5 @@
 -- What steps come to.
-use Rattle.std.proofs.Common.{◌≡◌, ◌++◌, ℕ, true, false, List, Some, Ok, refl, sym, ap, subst, ◌∙◌, arith}
+use Rattle.std.proofs.Common.{◌≡◌, ◌++◌, ℕ, true, false, List, Some, Result, Ok, Err, OnOk, OnErr, refl, sym, ap, subst, ◌∙◌, arith}
 use Rattle.std.specs.Prelude.{slice_get}
 use Rattle.std.proofs.lemmas.Bool.{true≢false}
 use Rattle.line_view.specs.declared.writes.Write.{Write}
@@ -29,6 +29,16 @@ seen-laid (rolling_back ws) now = refl
 seen-laid closing now = refl
 seen-laid (reading start) now = refl
 seen-laid (dead commits ws) now = refl
+
+-- ---- answers
+
+pub on-ok : {T E : Type 0} (r : Result T E) (x : T) (P : Type 0) → r ≡ Ok x → OnOk r P → P
+on-ok (Ok y) x P is holds = holds
+on-ok (Err e) x P is holds = let bad : ⊥ = cc in absurd bad
+
+pub on-err : {T E : Type 0} (r : Result T E) (e : E) (P : Type 0) → r ≡ Err e → OnErr r P → P
+on-err (Ok y) e P is holds = let bad : ⊥ = cc in absurd bad
+on-err (Err d) e P is holds = holds
 
 -- ---- changes
 

@@ -25,9 +25,8 @@ pub(crate) struct PageUse {
     pub(crate) class: u16,
 }
 
-/// Lines in memory. A line is read in time that grows with the logarithm of their count, with the writes of its transaction and with
-/// those of the commits since one was prepared; a scan, the preparation of a commit and a reader's start take a copy of all lines, and a
-/// room is looked for page by page.
+/// Lines in memory. A line is read in time that grows with the logarithm of their count; a scan and a reader's start take a copy of all
+/// lines, and a room is looked for page by page.
 #[derive(Drop)]
 pub struct MemoryStore {
     pub(crate) alloc: Global,
@@ -58,7 +57,7 @@ fn seats(alloc: Global) -> Result<Vec<Seat>, NoMemory>
 }
 
 impl MemoryStore {
-    /// A store without lines, whose area files may have as many pages as the limits say.
+    /// A store without lines. Its area files may have as many pages, and a transaction may write as many lines, as the limits of pages and of entries say.
     pub fn new(alloc: Global, limits: Limits) -> Result<MemoryStore, NoMemory>
         ensures lines { IfOk result (λ m. m.lines ≡ []) }
         ensures seats { IfOk result (λ m. m.seats ≡ empty_seats) }

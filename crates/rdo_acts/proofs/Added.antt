@@ -7,14 +7,10 @@ use Rattle.std.specs.BTreeSet.{insert_key}
 use Rattle.std.specs.List.{AllByRecursion}
 use Rattle.sorted_index_laws.specs.Nodes.{AnyByRecursion}
 use Rattle.sound_changes.proofs.Basics.{all_of}
-use Rattle.rdo_acts.specs.Looking.{AddsOnly}
+use Rattle.rdo_acts.specs.Looking.{AddsOnly, IsIn}
 
 module _ {X : Type 0} where
-  -- it is one of these
-  abbrev pub IsIn : List X → X → Type 0
-  IsIn xs x = AnyByRecursion (λ o. x ≡ o) xs
-
-  all_there : (xs : List X) → AllByRecursion (IsIn xs) xs
+  pub all_there : (xs : List X) → AllByRecursion (IsIn xs) xs
   all_there [] = tt
   all_there (x ∷ xs) = (inl refl, all_of (IsIn xs) (IsIn (x ∷ xs)) (λ y there. inr there) xs (all_there xs))
 

@@ -28,3 +28,5 @@ pub mod WantingRows
 pub mod Added
 pub mod LookedAt
 pub mod WantedBehind
+pub mod RowsStored
+pub mod LookedThrough

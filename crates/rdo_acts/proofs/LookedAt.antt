@@ -43,9 +43,9 @@ use Rattle.served_selections.specs.Ranges.{Chosen, chosen_from}
 use Rattle.served_selections.specs.Served.{access_behind, IsLineBy, ReadsBy, IsReadFor, IsReadByIndex}
 use Rattle.served_selections.proofs.Along.{IsRowOf, one_more_variable, rows_of_source}
 use Rattle.served_selections.proofs.Lacked.{IsLed, rows_led, first_led, nodes_led}
-use Rattle.rdo_acts.specs.Looking.{AddsOnly, IsFoundIn, IsAccessed, IsReadBy, AreValuesOf, StandBehind}
+use Rattle.rdo_acts.specs.Looking.{AddsOnly, IsIn, IsFoundIn, IsAccessed, IsReadBy, AreValuesOf, StandBehind}
 use Rattle.rdo_acts.proofs.Viewing.{range_there}
-use Rattle.rdo_acts.proofs.Added.{IsIn, kept, then_added, added_as}
+use Rattle.rdo_acts.proofs.Added.{then_added, added_as}
 
 -- ---- what an index is found to have
 

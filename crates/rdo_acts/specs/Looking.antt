@@ -19,22 +19,24 @@ use Rattle.sorted_index_laws.specs.Stop.{IndexStop}
 use Rattle.access_paths.specs.declared.choice.Access.{Access}
 use Rattle.access_paths.specs.declared.choice.Access.TheVariants.{Scan}
 use Rattle.rdo_values.specs.declared.bound.BoundSelection.{BoundSelection}
-use Rattle.rdo_values.specs.Tree.{Ranging, ranging, Conjunction, no_test, without_condition, with_condition}
 use Rattle.rdo_values.specs.Views.{ranging_of}
 use Rattle.rdo_values.specs.Named.{named_ranging}
 use Rattle.rdo_values.specs.Rows.{row_of, variables_of}
 use Rattle.rdo_values.specs.Selections.{written_clause}
 use Rattle.rdo_select.specs.declared.source.Source.{Source}
-use Rattle.rdo_select.specs.Chosen.{tests_alone}
 use Rattle.rdo_select.specs.Sources.{Listed, IsShown}
 use Rattle.served_selections.specs.Ranges.{Chosen}
 use Rattle.served_selections.specs.Served.{ReadsBy, IsReadByIndex}
 use Rattle.rdo_bind.specs.Acting.{Act, IsBoundAct}
 use Rattle.rdo_acts.specs.Ahead.{IsWantedBehind}
 
+-- it is one of these
+abbrev pub IsIn : {X : Type 0} → List X → X → Type 0
+IsIn xs x = AnyByRecursion (λ o. x ≡ o) xs
+
 -- each of these was there before, or is so
 abbrev pub AddsOnly : {X : Type 0} → (X → Type 0) → List X → List X → Type 0
-AddsOnly Is old new = AllByRecursion (λ x. Is x ⊎ AnyByRecursion (λ o. x ≡ o) old) new
+AddsOnly Is old new = AllByRecursion (λ x. Is x ⊎ IsIn old x) new
 
 -- ---- lines
 
@@ -44,7 +46,7 @@ IsNamed _ key = ⊥
 
 -- a row that an index was found to have, or the node that isn't known
 abbrev pub IsFoundIn : Result (List Dbkey) IndexStop → Dbkey → Type 0
-IsFoundIn (Ok found) key = AnyByRecursion (λ k. key ≡ k) found
+IsFoundIn (Ok found) key = IsIn found key
 IsFoundIn (Err (Missing need)) key = IsNamed need key
 IsFoundIn (Err _) key = ⊥
 
@@ -63,11 +65,6 @@ pub record AreValuesOf (t : Tables) (vs : List Range) (values : Row) : Type 0 wh
 
 abbrev pub StandBehind : Tables → List Range → Row → List StoredRow → Type 0
 StandBehind t vs before rows = AllByRecursion (λ (x : StoredRow). AreValuesOf t vs (before ++ x.row)) rows
-
--- the tests that a selection's condition joins by AND
-abbrev pub sole_tests_in : Ranging → Conjunction
-sole_tests_in (ranging first ss without_condition) = no_test
-sole_tests_in (ranging first ss (with_condition c)) = tests_alone c
 
 -- the need is one of these lines
 abbrev pub IsLineOf : List Dbkey → Need → Type 0
