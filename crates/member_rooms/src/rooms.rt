@@ -1,5 +1,5 @@
 // What is found in the table beside a transaction's lines.
-ghost use Rattle.std.specs.Prelude.{◌≡◌, ◌≤◌, ℕ, List, None, Some, true, false, IfSome, IfNone};
+ghost use Rattle.std.specs.Prelude.{◌≡◌, ◌<◌, ◌≤◌, ◌-◌, ◌^◌, ℕ, List, None, Some, true, false, IfSome, IfNone};
 ghost use Rattle.line_store.specs.Rooms.{first_line};
 ghost use Rattle.line_versions.specs.Lines.{shown};
 ghost use Rattle.page_table.specs.declared.uses.Sought.TheVariants.{Free};
@@ -65,14 +65,15 @@ pub fn is_new(table: &PageTable, page: u32) -> bool
     page >= 1 && page <= table.count() && !is_space_page(page) && table.use_of(page).owner == 0
 }
 
-// The first line of a page that nobody owns, on which the transaction wrote no image.
-fn new_line(table: &PageTable, own: &MemberLines, area: u32) -> Option<Dbkey>
+// The first line of a page behind another that nobody owns, on which the transaction wrote no image.
+fn new_line_behind(table: &PageTable, own: &MemberLines, area: u32, behind: u32) -> Option<Dbkey>
+    requires { behind < 2 ^ 32 - 1 }
     ensures page { IfSome result (λ key. IsNew table.now key.page) }
     ensures first { IfSome result (λ key. key ≡ first_line area key.page) }
     ensures free { IfSome result (λ key. own_image own.now.lines key ≡ None) }
-    ensures none { IfNone result (HasNoPage table.now own.now.lines area) }
+    ensures none { IfNone result (behind ≡ 0 → HasNoPage table.now own.now.lines area) }
 {
-    for page in 1..table.count() + 1 {
+    for page in behind + 1..table.count() + 1 {
         let key = Dbkey {
             area,
             page,
@@ -85,7 +86,24 @@ fn new_line(table: &PageTable, own: &MemberLines, area: u32) -> Option<Dbkey>
     None
 }
 
-/// A line of an area's pages of a class without an image, behind another, on which the transaction wrote none; else the first line of a new page. It looks at each page once for each line that the transaction wrote and that lies before the room.
+// The first line of a page that nobody owns, on which the transaction wrote no image: of the first such page behind another, else of the first of all. So whom one is of no use to is named another.
+fn new_line(table: &PageTable, own: &MemberLines, area: u32, from: Option<Dbkey>) -> Option<Dbkey>
+    ensures page { IfSome result (λ key. IsNew table.now key.page) }
+    ensures first { IfSome result (λ key. key ≡ first_line area key.page) }
+    ensures free { IfSome result (λ key. own_image own.now.lines key ≡ None) }
+    ensures none { IfNone result (HasNoPage table.now own.now.lines area) }
+{
+    if let Some(from) = from
+        && from.page < table.count()
+    {
+        if let Some(key) = new_line_behind(table, own, area, from.page) {
+            return Some(key);
+        }
+    }
+    new_line_behind(table, own, area, 0)
+}
+
+/// A line of an area's pages of a class without an image, behind another, on which the transaction wrote none; else the first line of a new page, of one behind that line where there is one. It looks at each page once for each line that the transaction wrote and that lies before the room.
 pub fn next_room(
     table: &PageTable,
     own: &MemberLines,
@@ -99,5 +117,5 @@ pub fn next_room(
     if let Some(key) = free_line(table, own, area, class, from) {
         return Some(key);
     }
-    new_line(table, own, area)
+    new_line(table, own, area, from)
 }

@@ -110,19 +110,32 @@ impl MemoryStore {
         self.line_seen(s, first).is_none()
     }
 
-    /// The first page that isn't taken, has no line and may hold lines.
-    pub(crate) fn new_page(&self, s: Session, file: u32, area: u32) -> Option<u32>
+    // The first page behind another that isn't taken, has no line and may hold lines.
+    fn new_page_behind(&self, s: Session, file: u32, area: u32, behind: u32) -> Option<u32>
         requires { IsMember s.number }
         ensures found { IfSome result (λ page. IsNew self.now s.number file area page) }
         ensures within { IfSome result (λ page. (1 ≤ page) × (page ≤ self.now.limits.pages)) }
-        ensures none { IfNone result (AreUsed self.now s.number file area self.now.limits.pages) }
+        ensures none { IfNone result (behind ≡ 0 → AreUsed self.now s.number file area self.now.limits.pages) }
     {
-        for before in 0..self.limits.pages {
+        for before in behind..self.limits.pages {
             let page = before + 1;
             if self.is_new(s, file, area, page) {
                 return Some(page);
             }
         }
         None
+    }
+
+    /// A page that isn't taken, has no line and may hold lines: the first behind another, else the first of all. So whom the first line of one is of no use to is named another.
+    pub(crate) fn new_page(&self, s: Session, file: u32, area: u32, behind: u32) -> Option<u32>
+        requires { IsMember s.number }
+        ensures found { IfSome result (λ page. IsNew self.now s.number file area page) }
+        ensures within { IfSome result (λ page. (1 ≤ page) × (page ≤ self.now.limits.pages)) }
+        ensures none { IfNone result (AreUsed self.now s.number file area self.now.limits.pages) }
+    {
+        match self.new_page_behind(s, file, area, behind) {
+            Some(page) => Some(page),
+            None => self.new_page_behind(s, file, area, 0),
+        }
     }
 }

@@ -147,7 +147,11 @@ impl LineStore for MemoryStore {
         if let Some(key) = self.next_room(s, file, area, class, from) {
             return Ok(key);
         }
-        match self.new_page(s, file, area) {
+        let behind = match from {
+            Some(from) => from.page,
+            None => 0,
+        };
+        match self.new_page(s, file, area, behind) {
             Some(page) => Ok(Dbkey {
                 area,
                 page,

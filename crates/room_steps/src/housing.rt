@@ -17,7 +17,7 @@ use given_rooms::Rooms;
 use line_store::LineStore;
 use line_view::{Need, Room};
 use lock_needs::Need as LockNeed;
-use rdb_types::Session;
+use rdb_types::{Dbkey, Session};
 use rdo_ast::reply::Reply;
 use rdo_ast::syntax::Item;
 use reached_changes::Reaches;
@@ -61,6 +61,31 @@ fn refuse_full<S: Reaches, L: LineStore>(
     }
 }
 
+// Asks for EX on the line that was named for a room.
+fn want_line<S: Reaches, L: LineStore>(
+    common: &mut Common<L>,
+    s: Session,
+    terms: Terms,
+    round: Round,
+    room: Room,
+    key: Dbkey,
+) -> Turned
+    requires member { IsMember s.number }
+    requires seat { IsWriting ((L.sight common.old.store).stand s.number) }
+    requires statement { ends_by (uttered_of round.item) ≡ false }
+    requires closed { opened_of common.old.tree s.number ≡ None }
+    requires area { key.area ≡ room.area }
+    ensures { ComesIn S.stands s.number (scene common.old.word (L.sight common.old.store) common.old.tree) (gathers_at terms round (Gather.Locking (Need.Room room)))
+        (scene common.new.word (L.sight common.new.store) common.new.tree) result.phase result.happened }
+{
+    let lock = LockNeed {
+        node: line_node(key),
+        mode: Mode::EX,
+    };
+    let stage = round.at(Gather::Housing(room, key));
+    want::<S, L>(common, s, terms, stage, lock)
+}
+
 /// Names a line for a room that a job lacked, and asks for EX on it in the same step, so that no other session comes between. Where the
 /// area is full the statement is refused.
 pub fn house<S: Reaches, L: LineStore>(
@@ -79,14 +104,8 @@ pub fn house<S: Reaches, L: LineStore>(
         (scene common.new.word (L.sight common.new.store) common.new.tree) result.phase result.happened }
 {
     match name_line(&common.store, &common.tree, s, rooms, room) {
-        Named::Line(key) => {
-            let lock = LockNeed {
-                node: line_node(key),
-                mode: Mode::EX,
-            };
-            let stage = round.at(Gather::Housing(room, key));
-            want::<S, L>(common, s, terms, stage, lock)
-        }
+        Named::Line(key) => want_line::<S, L>(common, s, terms, round, room, key),
+        Named::Awaited(key) => want_line::<S, L>(common, s, terms, round, room, key),
         Named::Full(limit) => refuse_full::<S, L>(common, s, terms, round.item, room, limit),
         Named::Unfit => unworked(terms, round.item, room),
     }

@@ -1,5 +1,6 @@
 // A line is looked for that may stand for a room.
-ghost use Rattle.std.specs.Prelude.{◌≡◌, true};
+ghost use Rattle.std.specs.Prelude.{◌≡◌, true, false};
+ghost use Rattle.line_store.specs.Rooms.{IsBehind};
 ghost use Rattle.kept_apart.specs.Guards.{line_node as node_at};
 ghost use Rattle.lock_tree_laws.specs.Forest.{party_of};
 ghost use Rattle.line_store.specs.Seats.{IsMember, IsWriting};
@@ -17,6 +18,8 @@ use vms_queues::Mode;
 #[derive(Clone, Copy, Debug)]
 pub(crate) enum Named {
     Line(Dbkey),
+    /// The store names no line behind those that others need: this one is waited for.
+    Awaited(Dbkey),
     /// The area has as many pages as this limit lets it, and none of their lines is left.
     Full(u32),
     /// No line of such a room stands on pages of its area.
@@ -61,8 +64,18 @@ fn is_clear(tree: &Tree, s: Session, node: Node) -> bool
     true
 }
 
+// Whether a line lies behind another.
+fn is_behind(from: Option<Dbkey>, key: Dbkey) -> bool
+    ensures { result ≡ false → IsBehind from key → ⊥ }
+{
+    match from {
+        Some(from) => from < key,
+        None => true,
+    }
+}
+
 /// Names a line for a room: the store's next behind the last one that was given in this area. A line that another session has got or
-/// wants a need on is passed over, and so is one that was given to another room.
+/// wants a need on is passed over while the store names one behind it, and so is one that was given to another room.
 pub(crate) fn name_line<L: LineStore>(
     store: &L,
     tree: &Tree,
@@ -79,18 +92,22 @@ pub(crate) fn name_line<L: LineStore>(
     }
     let mut from = rooms.last_in(room.area);
     for _ in 0..u64::MAX {
-        match store.room(s, room.area, room.class, from) {
+        let key = match store.room(s, room.area, room.class, from) {
+            Ok(key) => key,
             Err(full) => return Named::Full(full.limit),
-            Ok(key) => {
-                if key.area != room.area {
-                    return Named::Unfit;
-                }
-                if is_clear(tree, s, line_node(key)) && !rooms.has(key) {
-                    return Named::Line(key);
-                }
-                from = Some(key);
-            }
+        };
+        let is_given = rooms.has(key);
+        if is_clear(tree, s, line_node(key)) && !is_given {
+            return Named::Line(key);
         }
+        if !is_behind(from, key) {
+            return if is_given {
+                Named::Unfit
+            } else {
+                Named::Awaited(key)
+            };
+        }
+        from = Some(key);
     }
     Named::Unfit
 }
