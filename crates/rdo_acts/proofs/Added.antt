@@ -5,9 +5,12 @@ use Rattle.std.specs.declared.cmp.Ordering.TheVariants.{Less, Equal, Greater}
 use Rattle.std.specs.Ordering.{match_ordering}
 use Rattle.std.specs.BTreeSet.{insert_key}
 use Rattle.std.specs.List.{AllByRecursion}
+use Rattle.rdb_types.specs.declared.keys.Dbkey.{Dbkey}
+use Rattle.line_view.specs.declared.need.Need.{Need}
+use Rattle.line_view.specs.declared.need.Need.TheVariants.{Line}
 use Rattle.sorted_index_laws.specs.Nodes.{AnyByRecursion}
 use Rattle.sound_changes.proofs.Basics.{all_of}
-use Rattle.rdo_acts.specs.Looking.{AddsOnly, IsIn}
+use Rattle.rdo_acts.specs.Looking.{AddsOnly, IsIn, IsLineOf}
 
 module _ {X : Type 0} where
   pub all_there : (xs : List X) → AllByRecursion (IsIn xs) xs
@@ -68,3 +71,9 @@ module _ {X : Type 0} where
 
       pub added_as : (old new : List X) → AddsOnly Is old new → AddsOnly As old new
       added_as old new h = all_of (λ x. Is x ⊎ IsIn old x) (λ x. As x ⊎ IsIn old x) (as_so old) new h
+
+-- a line of these
+pub line_of : (keys : List Dbkey) (key : Dbkey) (need : Need) → IsIn keys key → need ≡ Line key → IsLineOf keys need
+line_of [] key need there is = absurd there
+line_of (k ∷ ks) key need (inl same) is = inl (subst (λ (x : Dbkey). need ≡ Line x) same is)
+line_of (k ∷ ks) key need (inr later) is = inr (line_of ks key need later is)

@@ -1,5 +1,6 @@
 -- Selections, printed items and actions that are looked through.
 use Rattle.std.proofs.Common.{◌≡◌, ◌<◌, ◌+◌, ◌++◌, ℕ, zero, suc, inl, inr, List, [], ◌∷◌, map, length, get_or, Option, Result, Ok, Err, OnOk, refl, sym, ap, subst, ◌∙◌, append-nil, arith}
+use Rattle.std.specs.Prelude.{IfOk}
 use Rattle.std.specs.List.{All, AllByRecursion}
 use Rattle.std.proofs.lemmas.List.Elements.{All-get_or}
 use Rattle.rdb_types.specs.declared.keys.Dbkey.{Dbkey}
@@ -34,6 +35,10 @@ use Rattle.rdo_acts.proofs.Added.{kept, then_added, added_as}
 pub if_ok : {T E : Type 0} (r : Result T E) (P Q : Type 0) → (P → Q) → OnOk r P → OnOk r Q
 if_ok (Ok x) P Q f h = f h
 if_ok (Err e) P Q f h = tt
+
+pub if_given : {T E : Type 0} (r : Result T E) (P Q : T → Type 0) → ((x : T) → P x → Q x) → IfOk r P → IfOk r Q
+if_given (Ok x) P Q f h = f x h
+if_given (Err e) P Q f h = tt
 
 -- ---- rows and tuples
 

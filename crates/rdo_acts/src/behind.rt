@@ -16,8 +16,8 @@ fn lines_behind(
     action: &BoundAction,
     first: Need,
 ) -> Result<Items<Need>, NoMemory>
-    ensures ahead { IfOk result (AreAhead (knows sight.known.now) first) }
-    ensures wanted { IfOk result (WantedSo (knows sight.known.now) sight.sources.now.entries (act_of action.now) first) }
+    ensures ahead { IfOk result (AreAhead (knows sight.entry.known.now) first) }
+    ensures wanted { IfOk result (WantedSo (knows sight.entry.known.now) sight.entry.sources.now.entries (act_of action.now) first) }
 {
     let keys = lines_ahead(sight, action)?;
     let mut batch = Batch::new(sight.alloc, first);
@@ -31,8 +31,8 @@ fn rooms_behind(
     room: Room,
     stored: &[Dbkey],
 ) -> Result<Items<Need>, NoMemory>
-    ensures ahead { IfOk result (AreAhead (knows sight.known.now) (Need.Room room)) }
-    ensures wanted { IfOk result (WantedSo (knows sight.known.now) sight.sources.now.entries (act_of action.now) (Need.Room room)) }
+    ensures ahead { IfOk result (AreAhead (knows sight.entry.known.now) (Need.Room room)) }
+    ensures wanted { IfOk result (WantedSo (knows sight.entry.known.now) sight.entry.sources.now.entries (act_of action.now) (Need.Room room)) }
 {
     let more = rows_ahead(sight, action, stored, room.area);
     let mut batch = Batch::new(sight.alloc, Need::Room(room));
@@ -47,8 +47,8 @@ pub(crate) fn needs_behind(
     first: Need,
     stored: &[Dbkey],
 ) -> Result<Items<Need>, NoMemory>
-    ensures ahead { IfOk result (AreAhead (knows sight.known.now) first) }
-    ensures wanted { IfOk result (WantedSo (knows sight.known.now) sight.sources.now.entries (act_of action.now) first) }
+    ensures ahead { IfOk result (AreAhead (knows sight.entry.known.now) first) }
+    ensures wanted { IfOk result (WantedSo (knows sight.entry.known.now) sight.entry.sources.now.entries (act_of action.now) first) }
 {
     match first {
         Need::Line(_) => lines_behind(sight, action, first),

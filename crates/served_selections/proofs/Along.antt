@@ -126,8 +126,8 @@ module _ (all : Lines) (sorted : IsInOrder all) (t : Tables) (sources : Listed) 
 
   -- each row of a source stands behind a variable that is bound to it
   pub rows_of_source : (s : Range) (rel : Relation) (source : Source) → relation_named s.relation t ≡ Some rel → IsSourceOf all rel source → AllByRecursion (IsRowOf s) (map stored_row rel.rows)
-  rows_of_source s rel source named is =
-      rows_are s rel source.relation.fields.now named is.0.fields rel.rows (all_whole source.relation (lines_in source.relation.area all) (map stored_row rel.rows) is.0.rows) (rows_found source.relation all rel.rows sorted is.0.rows)
+  rows_of_source s rel source there own =
+      rows_are s rel source.relation.fields.now there own.0.fields rel.rows (all_whole source.relation (lines_in source.relation.area all) (map stored_row rel.rows) own.0.rows) (rows_found source.relation all rel.rows sorted own.0.rows)
 
   source_in : (s : BoundRange) (ss : List BoundRange) (rel : Relation) (rest : List Ranged) → relation_named s.range.relation t ≡ Some rel → AreIn ss rest → (o : Option Source) → source_at s.area sources ≡ o → HasSource all rel o → AreIn (s ∷ ss) (with_source o (map stored_row rel.rows) rest)
   source_in s ss rel rest named more None at has = absurd has
