@@ -11,10 +11,6 @@ use Rattle.rdo_acts.specs.Looking.{CountsTuples}
 
 -- ---- the STOREs of a body
 
-pub no_fewer : (a b : List BoundAction) (area : ℕ) → stores_into (acts_of (map act_of a)) area ≤ stores_into (acts_of (map act_of (a ++ b))) area
-no_fewer [] b area = omega arith
-no_fewer (x ∷ xs) b area = omega (arith, no_fewer xs b area)
-
 stores_one : (body : List BoundAction) (x : BoundAction) (area : ℕ) → stores_into (acts_of (map act_of (body ++ x ∷ []))) area ≡ stores_into (acts_of (map act_of body)) area + stored_by (act_of x) area
 stores_one [] x area = omega arith
 stores_one (y ∷ ys) x area = omega (arith, stores_one ys x area)

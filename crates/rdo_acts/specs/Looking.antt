@@ -9,7 +9,7 @@ use Rattle.rdb_meaning.specs.Contents.{Row}
 use Rattle.rdb_meaning.specs.Evaluation.{Scope, Tuple, these}
 use Rattle.rdb_meaning.specs.Selecting.{selection}
 use Rattle.line_view.specs.declared.need.Need.{Need}
-use Rattle.line_view.specs.declared.need.Need.TheVariants as needs
+use Rattle.line_view.specs.declared.need.Need.TheVariants as kinds
 use Rattle.line_view.specs.declared.need.Room.{Room}
 use Rattle.line_view.specs.Knowledge.{Knowledge}
 use Rattle.line_view.specs.declared.stop.Stop.TheVariants.{Missing}
@@ -41,7 +41,7 @@ AddsOnly Is old new = AllByRecursion (λ x. Is x ⊎ IsIn old x) new
 -- ---- lines
 
 abbrev pub IsNamed : Need → Dbkey → Type 0
-IsNamed (needs.Line node) key = key ≡ node
+IsNamed (kinds.Line node) key = key ≡ node
 IsNamed _ key = ⊥
 
 -- a row that an index was found to have, or the node that isn't known
@@ -52,10 +52,10 @@ IsFoundIn (Err _) key = ⊥
 
 -- a line that is read of a relation by an index
 abbrev pub IsAccessed : Access → Source → Relation → Dbkey → Type 0
-IsAccessed a source rel key = (a ≢ Scan) × ReadsBy a source.indexes.now rel (needs.Line key)
+IsAccessed a source rel key = (a ≢ Scan) × ReadsBy a source.indexes.now rel (kinds.Line key)
 
 abbrev pub IsReadBy : Tables → Listed → List Chosen → Dbkey → Type 0
-IsReadBy t sources cs key = AnyByRecursion (IsReadByIndex t sources (needs.Line key)) cs
+IsReadBy t sources cs key = AnyByRecursion (IsReadByIndex t sources (kinds.Line key)) cs
 
 -- These are the values of rows that variables of these ranges are bound to.
 pub record AreValuesOf (t : Tables) (vs : List Range) (values : Row) : Type 0 where
@@ -68,13 +68,13 @@ StandBehind t vs before rows = AllByRecursion (λ (x : StoredRow). AreValuesOf t
 
 -- the need is one of these lines
 abbrev pub IsLineOf : List Dbkey → Need → Type 0
-IsLineOf keys need = AnyByRecursion (λ key. need ≡ needs.Line key) keys
+IsLineOf keys need = AnyByRecursion (λ key. need ≡ kinds.Line key) keys
 
 -- ---- rooms
 
 -- the need is a room with a number less than so many behind this one's
 abbrev pub IsRoomWithin : Room → ℕ → Need → Type 0
-IsRoomWithin room more need = (n : ℕ) × (n < more) × (need ≡ needs.Room (record { area = room.area; class = room.class; nth = room.nth + n }))
+IsRoomWithin room more need = (n : ℕ) × (n < more) × (need ≡ kinds.Room (record { area = room.area; class = room.class; nth = room.nth + n }))
 
 -- none are counted, or the tuples that a selection chooses
 abbrev pub CountsTuples : Tables → BoundSelection → ℕ → Type 0

@@ -1,8 +1,8 @@
-use Rattle.std.proofs.Common.{◌≡◌, [], ◌∷◌, List, sym, subst, rules}
+use Rattle.std.proofs.Common.{◌≡◌, [], ◌∷◌, List, sym, ap, subst, ◌∙◌, rules}
 use Rattle.rdo_values.specs.declared.bound.BoundExpression as tree
 use Rattle.rdo_values.specs.Tree.{Expression, count, statistic}
 use Rattle.rdo_values.specs.Views.{expression_of, ranging_of}
-use Rattle.rdo_values.specs.Places.{IsBound, IsBoundRanging}
+use Rattle.rdo_values.specs.Places.{IsBound}
 use Rattle.rdo_bind.specs.declared.action.BoundPrintItem.{BoundPrintItem}
 use Rattle.rdo_bind.specs.declared.action.BoundPrintItem.TheVariants.{Value}
 use Rattle.rdo_bind.specs.Acting.{IsBoundItem}
