@@ -1,10 +1,11 @@
 -- What a store in memory holds.
-use Rattle.std.specs.Prelude.{◌≡◌, ◌≢◌, ◌≤◌, ◌<◌, ◌+◌, ◌⊎◌, ◌==◌, ◌&&◌, ◌++◌, ◌^◌, if◌then◌else◌, ℕ, Bool, true, false, List, [], ◌∷◌, length, Option, Some, None, slice_get, slice_set, replicate}
-use Rattle.std.specs.List.{list_any}
+use Rattle.std.specs.Prelude.{◌≡◌, ◌≢◌, ◌≤◌, ◌<◌, ◌+◌, ◌⊎◌, ◌==◌, ◌&&◌, ◌++◌, ◌^◌, if◌then◌else◌, ℕ, Bool, true, false, List, [], ◌∷◌, length, Option, Some, None, slice_get, slice_set, is_some, replicate}
+use Rattle.std.specs.FinMap.Entries.{find, put}
 use Rattle.std.proofs.Common.{refl}
 use Rattle.std.proofs.lemmas.Bool.{ltb-true}
 use Rattle.rdb_types.specs.declared.keys.Dbkey.{Dbkey}
 use Rattle.rdb_types.specs.declared.keys.Limits.{Limits}
+use Rattle.rdb_types.specs.Order.{dbkey_order}
 use Rattle.area_files.specs.Areas.{IsSpacePage}
 use Rattle.line_view.specs.declared.writes.Write.{Write}
 use Rattle.line_view.specs.Knowledge.{Lines, line_in}
@@ -84,10 +85,14 @@ pub record Kept : Type 0 where
   -- how many commits may land before memory is wanted
   pub room : ℕ
   pub seats : List Held
-  pub pages : List PageUse
+  -- by the places of the pages
+  pub pages : List (Dbkey × PageUse)
 
-abbrev pub is_taken : List PageUse → ℕ → ℕ → Bool
-is_taken pages file page = list_any (λ u. (u.file == file) && (u.page == page)) pages
+abbrev pub page_place : (file page : ℕ) → Dbkey
+page_place file page = record { area = file; page = page; line = 0 }
+
+abbrev pub is_taken : List (Dbkey × PageUse) → ℕ → ℕ → Bool
+is_taken pages file page = is_some (find dbkey_order (page_place file page) pages)
 
 -- as its users see it: no journal and no snapshot file is in use, and no time goes by
 abbrev pub shelf_of : Kept → Shelf
@@ -117,8 +122,8 @@ with_seat s h k = record k { seats = slice_set k.seats s h }
 abbrev pub with_stock : Lines → ℕ → Kept → Kept
 with_stock lines room k = record k { lines = lines; room = room }
 
-abbrev pub with_page : PageUse → Kept → Kept
-with_page page k = record k { pages = k.pages ++ page ∷ [] }
+abbrev pub with_page : (file page : ℕ) → PageUse → Kept → Kept
+with_page file page used k = record k { pages = put dbkey_order (page_place file page) used k.pages }
 
 -- it is no commit, or there is room for one more
 abbrev pub MayHave : Kept → Held → Type 0
@@ -126,10 +131,10 @@ MayHave k h = (is_ready (seat_of h) ≡ false) ⊎ (count_ready k.seats < k.room
 
 -- ---- rooms
 
--- a line of the page, behind another, that s doesn't see
-pub record IsFree (k : Kept) (s : ℕ) (page : PageUse) (from : Option Dbkey) (key : Dbkey) : Type 0 where
-  pub area_is : key.area ≡ page.area
-  pub page_is : key.page ≡ page.page
+-- a line of the area on the page, behind another, that s doesn't see
+pub record IsFree (k : Kept) (s area page : ℕ) (from : Option Dbkey) (key : Dbkey) : Type 0 where
+  pub area_is : key.area ≡ area
+  pub page_is : key.page ≡ page
   pub behind : IsBehind from key
   pub free : line_in key (seen_by s (shelf_of k)) ≡ None
 
@@ -142,5 +147,6 @@ pub record IsNew (k : Kept) (s file area page : ℕ) : Type 0 where
 abbrev pub IsUsed : Kept → (s file area page : ℕ) → Type 0
 IsUsed k s file area page = IsSpacePage page ⊎ ((is_taken k.pages file page ≡ true) ⊎ (line_in (first_line area page) (seen_by s (shelf_of k)) ≢ None))
 
-abbrev pub AreUsed : Kept → (s file area last : ℕ) → Type 0
-AreUsed k s file area last = (page : ℕ) → 1 ≤ page → page ≤ last → IsUsed k s file area page
+-- those behind the one, up to the other
+abbrev pub AreUsed : Kept → (s file area first last : ℕ) → Type 0
+AreUsed k s file area first last = (page : ℕ) → first < page → page ≤ last → IsUsed k s file area page

@@ -45,6 +45,11 @@ impl Seat {
         }
     }
 
+    /// Whether what the transaction wrote is undone, so that its rooms are free again.
+    pub(crate) fn gives_up(&self) -> bool {
+        matches!(self, Seat::RollingBack(_) | Seat::Dead(_, _))
+    }
+
     /// A statement's writes are laid over those before, where so many lines are no more than the limit. Else, and where memory fails, the seat is as it was.
     pub(crate) fn changing(self, limit: u32, writes: &[Write]) -> (Seat, Result<(), AddStop>)
         requires { IsWriting (seat_of self) }

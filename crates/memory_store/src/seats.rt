@@ -9,6 +9,7 @@ ghost use Rattle.memory_store.specs.Kept.{seat_of, is_ready, count_ready, with_s
 use crate::MemoryStore;
 use crate::seat::Seat;
 use member_memory::MemberLines;
+use ordered_entries::Entries;
 use rdb_types::{NoMemory, Session};
 use std::mem::replace;
 
@@ -31,6 +32,9 @@ impl MemoryStore {
         ensures now { self.new ≡ with_seat s.number seat self.old }
         ensures here { slice_get self.new.seats s.number ≡ Some seat }
     {
+        if seat.gives_up() {
+            self.starts = Entries::new(self.alloc);
+        }
         self.seats[s.number as usize] = seat;
     }
 

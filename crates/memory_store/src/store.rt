@@ -9,6 +9,7 @@ use area_files::{AreaFull, storage_area};
 use line_store::{ChangeStop, CommitStop, Fault, LineStore, Progress, ReadStop, Stepped};
 use line_view::{Known, Write};
 use member_memory::AddStop;
+use ordered_entries::Entries;
 use rdb_types::{Dbkey, Limits, Moment, NoMemory, Session};
 use std::alloc::Global;
 use std::marker::Model;
@@ -16,24 +17,25 @@ use std::marker::Model;
 /// Seats are numbered as the sessions are, from 1 to 16.
 const SEATS: usize = 17;
 
-/// A page of an area file that holds lines.
+/// Whose lines a page of an area file holds, and of which class they are.
 #[derive(Clone, Copy)]
 pub(crate) struct PageUse {
-    pub(crate) file: u32,
-    pub(crate) page: u32,
     pub(crate) area: u32,
     pub(crate) class: u16,
 }
 
 /// Lines in memory. A line is read in time that grows with the logarithm of their count; a scan and a reader's start take a copy of all
-/// lines, and a room is looked for page by page.
+/// lines, and a room is looked for from the page on where the last one was taken.
 #[derive(Drop)]
 pub struct MemoryStore {
     pub(crate) alloc: Global,
     pub(crate) limits: Limits,
     pub(crate) committed: Committed,
     pub(crate) seats: Vec<Seat>,
-    pub(crate) pages: Vec<PageUse>,
+    /// The pages that are taken, by their places.
+    pub(crate) pages: Entries<Dbkey, PageUse>,
+    /// For each area the page of the room that was taken last: rooms are looked for from there on.
+    pub(crate) starts: Entries<Dbkey, u32>,
 }
 
 impl Model for MemoryStore {
@@ -41,7 +43,7 @@ impl Model for MemoryStore {
 
     ghost Value = { Kept };
 
-    ghost view = { λ m. record { limits = m.limits; lines = m.committed.lines; room = m.committed.room; seats = m.seats.items; pages = m.pages.items } };
+    ghost view = { λ m. record { limits = m.limits; lines = m.committed.lines; room = m.committed.room; seats = m.seats.items; pages = m.pages } };
 
     ghost invariant = { λ m. AreKept m.committed.room m.seats.items };
 }
@@ -71,7 +73,8 @@ impl MemoryStore {
             limits,
             committed,
             seats,
-            pages: Vec::new(alloc),
+            pages: Entries::new(alloc),
+            starts: Entries::new(alloc),
         })
     }
 }
@@ -157,9 +160,7 @@ impl LineStore for MemoryStore {
                 page,
                 line: 0,
             }),
-            None => Err(AreaFull {
-                limit: self.limits.pages,
-            }),
+            None => self.any_room(s, file, area, class, from),
         }
     }
 
@@ -167,19 +168,20 @@ impl LineStore for MemoryStore {
         let Some(file) = storage_area(key.area) else {
             unreachable!()
         };
+        self.look_from(key);
         if self.is_taken(file, key.page) {
             return Ok(self.has_page(file, key, class));
         }
-        self.take_page(PageUse {
-            file,
-            page: key.page,
+        let used = PageUse {
             area: key.area,
             class,
-        })?;
+        };
+        self.take_page(file, key.page, used)?;
         Ok(true)
     }
 
     fn change(&mut self, s: Session, writes: &[Write]) -> Result<(), ChangeStop> {
+        self.look_again(writes);
         let limit = self.limits.entries;
         let (seat, changed) = self.take(s).changing(limit, writes);
         self.put(s, seat);

@@ -1,6 +1,5 @@
-use Rattle.std.proofs.Common.{◌≡◌}
 use Rattle.memory_store.specs.Kept.{AreUsed}
 use Rattle.memory_store.proofs.store.MemoryStore.new_page_behind.Given as goal
 
 abbrev pub invariant-loop-before : goal.invariant-loop-before
-invariant-loop-before l = l.behind ≡ 0 → AreUsed l.fn.self l.s.number l.file l.area l.before
+invariant-loop-before l = AreUsed l.fn.self l.s.number l.file l.area l.last l.before
