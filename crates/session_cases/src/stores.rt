@@ -10,6 +10,7 @@ use opened_store::open;
 use rdb_outside::{Disk, MemoryDisk};
 use rdb_types::{Bytes, Limits, NoMemory};
 use rdo_reserving::ReservingStatements;
+use root_file::are_limits;
 use session_desk::{Drive, run};
 use session_states::ItemQueue;
 use std::alloc::Global;
@@ -56,6 +57,9 @@ pub struct DiskPlan {
 fn opened(alloc: Global, limits: Limits, fails: u32) -> Option<DiskStore<MemoryDisk>>
     ensures { IfSome result (λ store. (s : ℕ) → (⟦<DiskStore<MemoryDisk> as LineStore>⟧.sight store).stand s ≡ outside) }
 {
+    if !are_limits(&limits) {
+        return None;
+    }
     let mut disk = MemoryDisk::new(alloc, SLOTS, CALLS, &[fails]).ok()?;
     make_new(&mut disk, limits).ok()?;
     let held = open(alloc, &mut disk).ok()?;
