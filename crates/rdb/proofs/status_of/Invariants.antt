@@ -3,8 +3,8 @@ use Rattle.std.proofs.Common.{[], false, true}
 use Rattle.rdb_meaning.specs.Contents.{no_tables}
 use Rattle.rdb.proofs.status_of.Given as goal
 
-abbrev pub ghosts-run-finish : goal.ghosts-run-finish
-ghosts-run-finish g a = record {
+abbrev pub ghosts-run : goal.ghosts-run
+ghosts-run g a = record {
   opening = record {
     word = [];
     script = λ s. [];
