@@ -5,6 +5,7 @@ use new_database::make_new;
 use opened_store::open;
 use rdb_outside::MemoryDisk;
 use rdb_types::Limits;
+use root_file::are_limits;
 use std::alloc::Global;
 use store_desk::Desk;
 
@@ -30,6 +31,9 @@ pub fn opened_anew(alloc: Global, word: &str, snaps: u32) -> Option<Opened> {
         entries: 16,
         slots: 64,
     };
+    if !are_limits(&limits) {
+        return None;
+    }
     let fails = number_of(Some(word)).unwrap_or(0);
     let mut disk = MemoryDisk::new(alloc, 128, 4096, &[fails]).ok()?;
     make_new(&mut disk, limits).ok()?;
