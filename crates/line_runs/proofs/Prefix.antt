@@ -1,6 +1,7 @@
 -- What a crash leaves of the disk, of what the store over it had.
-use Rattle.std.proofs.Common.{◌≡◌, ◌∙◌, ℕ, List, Some, None, sym, ap, subst, ◌⊎◌, inl, inr, ⊎_elim}
+use Rattle.std.proofs.Common.{◌≡◌, ◌∙◌, ℕ, List, true, Some, None, sym, ap, subst, ◌⊎◌, inl, inr, ⊎_elim}
 use Rattle.std.proofs.lemmas.Option.{none-some}
+use Rattle.rdb_outside.specs.Causes.{Rose}
 use Rattle.rdb_outside.specs.Disk.{Image, View, LeftNow, Pending}
 use Rattle.rdb_outside.specs.Moments.{each_slot}
 use Rattle.rdb_account.specs.Events.{Event}
@@ -23,6 +24,7 @@ use Rattle.line_store.specs.Calls.{MayStand}
 use Rattle.line_store.specs.Sights.{Sight, bare}
 use Rattle.session_jobs.specs.Records.{Model}
 use Rattle.session_stands.proofs.Seats.{outside-seat}
+use Rattle.line_cluster.specs.Deaths.{CountsFaults, has_device_deaths}
 use Rattle.line_cluster.specs.Sound.{HasImages, IsLeft}
 use Rattle.line_runs.specs.Prefix.{IsPrefix, HoldsAll, HoldsPrefix}
 
@@ -39,6 +41,10 @@ opens v held h shown image left =
 -- as the store has it
 leaves-now : (v : View) (held : StoreMemory) (h : Shelf) → Shown v held h → (image : Image) (lines : Lines) → LeftNow v image → HasLines image lines → Leaves v h.clock.time lines
 leaves-now v held h shown image lines left has = record { image = image; left = subst (λ (t : ℕ). v.left_since t image) (sym shown.lines.time) left; stands = has }
+
+-- the faults that the store counted are the disk's
+pub harmed : (v : View) (events : List Event) (sight : Sight) → IsBack sight v → (faults : ℕ) → CountsFaults faults (has_device_deaths events ≡ true) sight → has_device_deaths events ≡ true → Rose faults v.faults
+harmed v events sight back faults k died = subst (λ (n : ℕ). Rose faults n) (back.shows k.shelf k.shown).lines.faults (k.rose died)
 
 module _ (M : Model) (o : Opening) (v : View) (events : List Event) (sight : Sight) (back : IsBack sight v) where
   pub holds-prefix : HasImages M o sight events → HoldsPrefix M o v events
