@@ -7,7 +7,7 @@ use Rattle.line_view.specs.declared.writes.Write.{Write}
 use Rattle.line_view.specs.Knowledge.{Lines}
 use Rattle.line_store.specs.Seats.{Seat}
 use Rattle.line_store.specs.Sights.{bare, Agrees, MayBeOpened, Stands}
-use Rattle.store_shows.specs.Shows.{Opens}
+use Rattle.store_shows.specs.Shows.{OpensTo}
 use Rattle.store_shows.proofs.Standing.{now_stands, pending-opens}
 use Rattle.disk_seats.specs.Ledgers.{Ledger}
 use Rattle.member_memory.specs.Memory.{writes_in}
@@ -43,7 +43,7 @@ pub standing : (v : View) (held : StoreMemory) → Stands (sight_of v held)
 standing v held h shown lines left = now_stands v shown.ledger h shown.facts shown.lines lines left
 
 -- opening can start from an image of pending contents
-pub shown-opens : (v : View) (held : StoreMemory) (h : Shelf) → Shown v held h → (image : Image) → IsPending v image → Opens image
+pub shown-opens : (v : View) (held : StoreMemory) (h : Shelf) → Shown v held h → (image : Image) → IsPending v image → (lines : Lines) × OpensTo image lines
 shown-opens v held h shown image pending = pending-opens v shown.ledger shown.facts shown.tables.classes shown.tables.lie image pending
 
 pub opening : (v : View) (held : StoreMemory) → MayBeOpened (sight_of v held)

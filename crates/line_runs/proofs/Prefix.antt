@@ -1,16 +1,16 @@
 -- What a crash leaves of the disk, of what the store over it had.
-use Rattle.std.proofs.Common.{◌≡◌, ◌∙◌, ℕ, List, true, Some, None, sym, ap, subst, ◌⊎◌, inl, inr, ⊎_elim}
+use Rattle.std.proofs.Common.{◌≡◌, ◌∙◌, ◌-◌, ℕ, List, Some, None, sym, ap, subst, ◌⊎◌, inl, inr, ⊎_elim}
 use Rattle.std.proofs.lemmas.Option.{none-some}
-use Rattle.rdb_outside.specs.Causes.{Rose}
-use Rattle.rdb_outside.specs.Disk.{Image, View, LeftNow, Pending}
+use Rattle.rdb_outside.specs.Disk.{Image, View, LeftNow, Pending, IsPending}
 use Rattle.rdb_outside.specs.Moments.{each_slot}
 use Rattle.rdb_account.specs.Events.{Event}
 use Rattle.rdb_account.specs.Places.{Opening, Commit, place}
 use Rattle.line_view.specs.declared.writes.Write.{Write}
 use Rattle.line_view.specs.Knowledge.{Lines}
+use Rattle.stable_lines.specs.Slots.{area_file}
 use Rattle.stable_lines.specs.Progress.{lines_with}
 use Rattle.stable_lines.proofs.Stands.{stands}
-use Rattle.disk_seats.specs.Ledgers.{Commit as Going, progress_of}
+use Rattle.disk_seats.specs.Ledgers.{Commit as Going, Ledger, progress_of}
 use Rattle.member_steps.specs.Standing.{HasLines}
 use Rattle.member_steps.proofs.Left.{by_case}
 use Rattle.store_shows.specs.Shows.{Leaves}
@@ -26,6 +26,7 @@ use Rattle.session_jobs.specs.Records.{Model}
 use Rattle.session_stands.proofs.Seats.{outside-seat}
 use Rattle.line_cluster.specs.Deaths.{CountsFaults, has_device_deaths}
 use Rattle.line_cluster.specs.Sound.{HasImages, IsLeft}
+use Rattle.store_shows.specs.Shows.{OpensTo}
 use Rattle.line_runs.specs.Prefix.{IsPrefix, HoldsAll, HoldsPrefix}
 
 -- as the store has it
@@ -42,7 +43,7 @@ module _ (M : Model) (o : Opening) (v : View) (events : List Event) (sight : Sig
     now = λ image l.
         let shown = back.shows has.shelf has.shown in
         let it = shown-opens v back.held has.shelf shown image (each_slot v image l) in
-        record { opens = it; stands = has.now it.lines (back.left has.shelf.clock.time it.lines (leaves-now v back.held has.shelf shown image it.lines l it.has)) };
+        record { lines = it.0; opens = it.1; stands = has.now it.0 (back.left has.shelf.clock.time it.0 (leaves-now v back.held has.shelf shown image it.0 l it.1.has)) };
     since = λ k c found image l lines is. has.since.each k c found lines (back.left c.moment lines (record { image = image; left = l; stands = is }));
     began = has.since.began;
     opened = has.since.opened;
@@ -56,7 +57,7 @@ module _ (M : Model) (o : Opening) (v : View) (events : List Event) (sight : Sig
     each = λ image l.
         let shown = back.shows it.shelf it.shown in
         let has = shown-opens v back.held it.shelf shown image (each_slot v image l) in
-        (has.lines, has.has, still has.lines (standing v back.held it.shelf shown has.lines (leaves-now v back.held it.shelf shown image has.lines l has.has)));
+        (has.0, has.1, still has.0 (standing v back.held it.shelf shown has.0 (leaves-now v back.held it.shelf shown image has.0 l has.1.has)));
   }
     where
       idle : (s : ℕ) → it.shelf.seat s ≡ outside

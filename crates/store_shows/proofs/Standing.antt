@@ -17,7 +17,7 @@ use Rattle.member_steps.specs.Standing.{HasLines}
 use Rattle.member_steps.proofs.Left.{by_case}
 use Rattle.stable_lines.specs.Slots.{area_file}
 use Rattle.line_moves.specs.Classes.{HaveTheirClasses}
-use Rattle.store_shows.specs.Shows.{AllOpen, Leaves, Opens, ShowsLines}
+use Rattle.store_shows.specs.Shows.{AllOpen, Leaves, OpensTo, ShowsLines}
 
 -- an image stands for one map of lines
 same_lines : (image : Image) (a b : Lines) → HasLines image a → HasLines image b → a ≡ b
@@ -52,19 +52,19 @@ lasts_with v w old new time leaves before behind = record {
       (leaves.before t it.image (subst (λ (n : ℕ). t ≤ n) time le) it.left);
 }
 
--- opening can start from an image of pending contents, where pages have the classes of their areas in each of these
-pub pending-opens : (v : View) (g : Ledger) → LedgerFacts v g → (classes : ℕ → ℕ) → HaveTheirClasses classes (Pending v) → (image : Image) → IsPending v image → Opens image
+-- an image of pending contents can be opened, where pages have the classes of their areas in each of these
+pub pending-opens : (v : View) (g : Ledger) → LedgerFacts v g → (classes : ℕ → ℕ) → HaveTheirClasses classes (Pending v) → (image : Image) → IsPending v image → (lines : Lines) × OpensTo image lines
 pending-opens v g was classes lie image pending = ⊎_elim
-    (λ (has : HasLines image g.base.lines). made g.base.lines has)
-    (λ (up : (c : Commit) × (g.commit ≡ Some c) × HasLines image (lines_with g.base c.flight)). made (lines_with g.base up.0.flight) up.2)
+    (λ (has : HasLines image g.base.lines). (g.base.lines, made g.base.lines has))
+    (λ (up : (c : Commit) × (g.commit ≡ Some c) × HasLines image (lines_with g.base c.flight)). (lines_with g.base up.0.flight, made (lines_with g.base up.0.flight) up.2))
     (by_case v g was image (stands (Pending v) (progress_of g) was.facts image pending))
   where
-    made : (lines : Lines) → HasLines image lines → Opens image
-    made lines has = record { lines = lines; has = has; by_area = classes; classed = λ file number is page. lie file number (image (area_file file) (number - 1)) is page (pending (area_file file) (number - 1)) }
+    made : (lines : Lines) → HasLines image lines → OpensTo image lines
+    made lines has = record { has = has; by_area = classes; lie = λ file number is page. lie file number (image (area_file file) (number - 1)) is page (pending (area_file file) (number - 1)) }
 
--- and from each that a run leaves whose images are of contents that were pending before it or are behind it
+-- and so can each that a run leaves whose images are of contents that were pending before it or are behind it
 pub all-open : (v w : View) (old : Shelf) → old.clock.time ≡ v.moment → LeavesOnly v w (λ image. IsPending v image ⊎ IsPending w image)
-    → ((image : Image) → IsPending v image → Opens image) → ((image : Image) → IsPending w image → Opens image)
+    → ((image : Image) → IsPending v image → (lines : Lines) × OpensTo image lines) → ((image : Image) → IsPending w image → (lines : Lines) × OpensTo image lines)
     → (t : ℕ) → t ≤ old.clock.time → AllOpen v t → AllOpen w t
 all-open v w old time leaves before behind t le was image left = ⊎_elim (was image) (⊎_elim (before image) (behind image))
     (leaves.before t image (subst (λ (n : ℕ). t ≤ n) time le) left)

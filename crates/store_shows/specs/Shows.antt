@@ -17,16 +17,15 @@ pub record Leaves (v : View) (t : ℕ) (lines : Lines) : Type 0 where
   pub left : v.left_since t image
   pub stands : HasLines image lines
 
--- Opening can start from the image: it stands for lines, and its pages have the classes of their areas.
-pub record Opens (image : Image) : Type 0 where
-  pub lines : Lines
+-- An image behind whose opening these lines are shown: it stands for them, and its pages have the classes of their areas.
+pub record OpensTo (image : Image) (lines : Lines) : Type 0 where
   pub has : HasLines image lines
   pub by_area : ℕ → ℕ
-  pub classed : IsClassed by_area image
+  pub lie : IsClassed by_area image
 
--- Opening can start from each image that a crash since this moment might have left.
+-- Each image that a crash since this moment might have left can be opened.
 abbrev pub AllOpen : View → ℕ → Type 0
-AllOpen v t = (image : Image) → v.left_since t image → Opens image
+AllOpen v t = (image : Image) → v.left_since t image → (lines : Lines) × OpensTo image lines
 
 -- The seat has a commit that is under way, and its writes come to the lines of the group.
 pub record IsInFlight (g : Ledger) (f : Flight) (seat : Seat) : Type 0 where
