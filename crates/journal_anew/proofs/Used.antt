@@ -15,12 +15,12 @@ use Rattle.stable_lines.specs.Journal.{Journal, next_number}
 use Rattle.stable_lines.specs.Progress.{Progress, begun_anew, settled}
 use Rattle.stable_lines.specs.Facts.{Facts, StandsAs, as_committed, with_former, with_flight}
 use Rattle.stable_lines.specs.Steps.{NamesNone}
-use Rattle.stable_lines.specs.History.{HasState}
+use Rattle.stable_lines.specs.Kept.{Kept}
 use Rattle.database_opening.specs.Others.{KeepsFile}
 use Rattle.database_opening.specs.declared.start.StoreStart.{StoreStart}
 use Rattle.database_opening.specs.Start.{beginning_with, IsStart}
 use Rattle.database_opening.proofs.Others.{file_read, file_apart, file_on}
-use Rattle.journal_anew.specs.Anew.{MayBeginAnew, IsApart, no_groups, IsInUse}
+use Rattle.journal_anew.specs.Anew.{MayBeginAnew, IsApart, no_groups, journal_in_use, StandsInUse, IsInUse}
 use Rattle.journal_anew.proofs.Begun.{closed_read, closed_beside}
 
 roots_apart : (member : ℕ) → ruj_file member ≡ root_file → ⊥
@@ -31,7 +31,7 @@ module _ (classes : ℕ → ℕ) (lines : Lines) (journal : Journal) (start : St
   now = beginning_with classes lines journal start
 
   abbrev IsState : Image → Type 0
-  IsState = HasState (record { lines = lines; classes = classes })
+  IsState = StandsInUse classes lines journal start.root
 
   -- nothing is asked of the caller any more
   pub may_begin : (v : View) → IsStart classes lines journal v start → MayBeginAnew v now (start.next.number + 1)
@@ -44,18 +44,24 @@ module _ (classes : ℕ → ℕ) (lines : Lines) (journal : Journal) (start : St
   }
 
   pub start_state : (image : Image) → StandsAs now image → IsState image
-  start_state image (as_committed kept) = record { journal = journal; kept = kept }
+  start_state image (as_committed kept) = inl kept
   start_state image (with_former former is kept) = let nay : ⊥ = cc in absurd nay
   start_state image (with_flight flight is kept) = let nay : ⊥ = cc in absurd nay
 
-  module _ (first : ℕ) where
+  module _ (first : ℕ) (begun_with : no_groups first ≡ journal_in_use start.root journal) where
+    kept_anew : (image : Image) → Kept classes lines (no_groups first) image → IsState image
+    kept_anew image kept = inr (subst (λ (j : Journal). Kept classes lines j image) begun_with kept)
+
+    former_is : (former : Journal) → (begun_anew first now).former ≡ Some former → former ≡ journal
+    former_is former is = cc
+
     pub anew_state : (image : Image) → StandsAs (begun_anew first now) image → IsState image
-    anew_state image (as_committed kept) = record { journal = no_groups first; kept = kept }
-    anew_state image (with_former former is kept) = record { journal = former; kept = kept }
+    anew_state image (as_committed kept) = kept_anew image kept
+    anew_state image (with_former former is kept) = inl (subst (λ (j : Journal). Kept classes lines j image) (former_is former is) kept)
     anew_state image (with_flight flight is kept) = let nay : ⊥ = cc in absurd nay
 
     settled_state : (image : Image) → StandsAs (settled (begun_anew first now)) image → IsState image
-    settled_state image (as_committed kept) = record { journal = no_groups first; kept = kept }
+    settled_state image (as_committed kept) = kept_anew image kept
     settled_state image (with_former former is kept) = let nay : ⊥ = cc in absurd nay
     settled_state image (with_flight flight is kept) = let nay : ⊥ = cc in absurd nay
 
