@@ -6,7 +6,7 @@ use Rattle.line_store.specs.Seats.{set_aside}
 use Rattle.rdb_account.specs.Lawful.{file_of}
 use Rattle.store_counts.specs.Counts.{AreLimits}
 use Rattle.opened_store.specs.Opened.{is_taken_in}
-use Rattle.opened_store.proofs.Using.{fewer_slots}
+use Rattle.opened_store.proofs.InUse.{fewer_slots}
 use Rattle.line_runs.proofs.laws.a_run_opens.Goals as goal
 
 same-file : (area : ℕ) → storage_area area ≡ file_of area
