@@ -11,10 +11,8 @@ use Rattle.line_store.specs.Seats.{outside}
 use Rattle.line_store.specs.Shelves.{Shelf}
 use Rattle.line_store.specs.Sights.{Sight}
 use Rattle.stable_lines.specs.Journal.{Journal, slots_in, next_number, next_slot}
-use Rattle.line_moves.specs.Classes.{IsClassed}
 use Rattle.database_opening.specs.Owners.{owner_said}
 use Rattle.journal_anew.specs.Anew.{journal_in_use, StandsInUse}
-use Rattle.member_steps.specs.Standing.{HasLines}
 
 -- By an image, all pages of an area file are taken but those that may hold lines, are within the limit, and are nobody's by their space page.
 abbrev pub is_taken_in : Image → ℕ → ℕ → ℕ → Bool
@@ -31,12 +29,6 @@ pub record BeginsFrom (image : Image) (lines : Lines) (journal : Journal) (sight
   pub lie : (key : Dbkey) → is_some (line_in key lines) ≡ true → is_taken_in image shelf.space.limits.pages (storage_area key.area) key.page ≡ true
   pub snaps : shelf.space.snaps ≡ 0
   pub slots : (root : Root) → IsRoot (image root_file 0) root → shelf.space.slots ≡ length (slots_in (journal_in_use root journal))
-
--- An image behind whose opening these lines are shown: it stands for them, and its pages have the classes of their areas.
-pub record OpensTo (image : Image) (lines : Lines) : Type 0 where
-  pub has : HasLines image lines
-  pub by_area : ℕ → ℕ
-  pub lie : IsClassed by_area image
 
 -- What may be left while an image is opened: what a crash before might have left, or an image of the same lines, before its journal is the one in use or behind that.
 abbrev pub IsLeft : View → (ℕ → ℕ) → Lines → Journal → Root → Image → Type 0
