@@ -49,8 +49,15 @@ module _ (classes : ℕ → ℕ) (lines : Lines) (journal : Journal) (old mid : 
   pub opening_leaves : LeavesOnly old mid Opening → LeavesOnly old mid (WithinOpening old classes lines)
   opening_leaves leaves = weaker old mid Opening (WithinOpening old classes lines) opened leaves
 
-  pub using_leaves : (new : View) → LeavesOnly old mid Opening → LeavesOnly mid new (Has classes lines) → LeavesOnly old new (WithinOpening old classes lines)
-  using_leaves new first second = leaves_on old mid new (WithinOpening old classes lines) (opening_leaves first) (weaker mid new (Has classes lines) (WithinOpening old classes lines) (λ image is. inr is) second)
+  abbrev Using : Journal → Image → Type 0
+  Using its image = Kept classes lines journal image ⊎ Kept classes lines its image
+
+  used_within : (its : Journal) (image : Image) → Using its image → WithinOpening old classes lines image
+  used_within its image (inl kept) = inr (record { journal = journal; kept = kept })
+  used_within its image (inr kept) = inr (record { journal = its; kept = kept })
+
+  pub using_leaves : (its : Journal) (new : View) → LeavesOnly old mid Opening → LeavesOnly mid new (Using its) → LeavesOnly old new (WithinOpening old classes lines)
+  using_leaves its new first second = leaves_on old mid new (WithinOpening old classes lines) (opening_leaves first) (weaker mid new (Using its) (WithinOpening old classes lines) (used_within its) second)
 
 -- ---- numbers
 

@@ -1,4 +1,4 @@
-use Rattle.std.proofs.Common.{◌≡◌, ◌≤◌, ℕ, true, is_some, refl, sym, ap, subst}
+use Rattle.std.proofs.Common.{◌≡◌, ◌≤◌, ℕ, true, is_some, refl, sym, ap, subst, arith}
 use Rattle.rdb_types.specs.declared.keys.Limits.{Limits}
 use Rattle.line_view.specs.Knowledge.{Lines, line_in}
 use Rattle.line_versions.specs.Lines.{storage_area}
@@ -6,6 +6,7 @@ use Rattle.line_store.specs.Seats.{set_aside}
 use Rattle.rdb_account.specs.Lawful.{file_of}
 use Rattle.store_counts.specs.Counts.{AreLimits}
 use Rattle.opened_store.specs.Opened.{is_taken_in}
+use Rattle.opened_store.proofs.InUse.{fewer_slots}
 use Rattle.line_runs.proofs.laws.a_run_opens.Goals as goal
 
 same-file : (area : ℕ) → storage_area area ≡ file_of area
@@ -33,7 +34,7 @@ returns g c = λ image lines journal word o faults begins opens named stands few
               (opens.owners (storage_area key.area) key.page (subst (λ (l : Limits). is_taken_in image l.pages (storage_area key.area) key.page ≡ true) limits
               (begins.lie key (subst (λ (l : Lines). is_some (line_in key l) ≡ true) begins.now some))));
           snaps = begins.snaps;
-          slots = subst (λ (n : ℕ). n ≤ o.group_slots) (sym begins.slots) opens.slots;
+          slots = let here = begins.slots opens.root opens.is in let fewer = fewer_slots opens.root journal in let room = opens.slots in omega (arith, here, fewer, room);
           idle = λ s. ap set_aside (begins.seats s);
         };
       };

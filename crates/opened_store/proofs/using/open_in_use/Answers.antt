@@ -6,7 +6,7 @@ use Rattle.new_database.specs.Maker.{root_file}
 use Rattle.stable_lines.specs.Slots.{area_file}
 use Rattle.line_moves.proofs.Runs.{still_tells}
 use Rattle.line_opening.proofs.Counted.{if_ok}
-use Rattle.opened_store.proofs.Using.{if_both, spent, same_limits, same_number, same_root, begins_kept, using_leaves, opening_leaves, area_apart, classes_in_use}
+use Rattle.opened_store.proofs.InUse.{if_both, spent, same_limits, same_number, same_root, begins_kept, using_leaves, opening_leaves, area_apart, classes_in_use}
 use Rattle.opened_store.proofs.using.open_in_use.Goals as goal
 
 pub take_into_use-requires : goal.take_into_use-requires

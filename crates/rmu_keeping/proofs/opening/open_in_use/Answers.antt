@@ -2,6 +2,7 @@ use Rattle.std.proofs.Common.{rules, arith}
 use Rattle.line_moves.proofs.Runs.{still_tells}
 use Rattle.line_opening.proofs.Counted.{if_ok}
 use Rattle.database_opening.proofs.Others.{file_on}
+use Rattle.journal_anew.specs.Anew.{journal_in_use}
 use Rattle.rmu_keeping.proofs.Opened.{is_other, is_apart, opening_leaves, using_leaves, not_spent}
 use Rattle.rmu_keeping.proofs.opening.open_in_use.Goals as goal
 
@@ -30,7 +31,7 @@ returns-clause-used g c = let v = g.D.Disk.view in let old = v c.args.disk.now i
 pub returns-clause-within : goal.returns-clause-within
 returns-clause-within g c = let v = g.D.Disk.view in let old = v c.args.disk.now in let mid = v c.open_database.new.disk in
     λ t classes lines journal kept.
-    using_leaves classes lines journal old mid (v c.take_into_use.new.disk) (c.open_database.ensures.stands t classes lines journal kept)
+    using_leaves classes lines journal old mid (journal_in_use c.in_ok-start.start.root journal) (v c.take_into_use.new.disk) (c.open_database.ensures.stands t classes lines journal kept)
     (c.take_into_use.ensures.stands (still_tells old mid c.open_database.ensures.told t) classes lines journal (c.in_ok-start.ensures.begins t classes lines journal kept))
 
 pub returns-clause-others : goal.returns-clause-others

@@ -28,20 +28,20 @@ if_both P Q R (Err e) to is and = is
 -- ---- the journal in use
 
 module _ (root : Root) (journal : Journal) where
-  abbrev as : Bool → Journal
-  as b = if b then no_groups (next_number journal + 1) else journal
+  abbrev journal_by : Bool → Journal
+  journal_by b = if b then no_groups (next_number journal + 1) else journal
 
   -- it has no more slots
   pub fewer_slots : length (slots_in (journal_in_use root journal)) ≤ length (slots_in journal)
   fewer_slots = by (root.state == 3)
     where
-      by : (b : Bool) → length (slots_in (as b)) ≤ length (slots_in journal)
+      by : (b : Bool) → length (slots_in (journal_by b)) ≤ length (slots_in journal)
       by true = omega arith
       by false = omega arith
 
   -- where the numbers of groups are spent
   pub spent : root.state ≡ 3 → 2 ^ 62 ≤ next_number journal → 2 ≤ root.limits.slots → LacksNumbers (journal_in_use root journal) root
-  spent restored last some = subst (λ (b : Bool). LacksNumbers (as b) root) (sym (ap (λ (n : ℕ). n == 3) restored)) (omega (arith, last, some))
+  spent restored last some = subst (λ (b : Bool). LacksNumbers (journal_by b) root) (sym (ap (λ (n : ℕ). n == 3) restored)) (omega (arith, last, some))
 
 -- ---- where the store begins
 
@@ -53,14 +53,14 @@ module _ (start : StoreStart) where
     next = record { slot = 1; number = start.next.number + 1 };
   }
 
-  abbrev begin : Bool → StoreStart
-  begin b = if b then anew else start
+  abbrev start_by : Bool → StoreStart
+  start_by b = if b then anew else start
 
-  limits-by : (b : Bool) → (begin b).root.limits ≡ start.root.limits
+  limits-by : (b : Bool) → (start_by b).root.limits ≡ start.root.limits
   limits-by true = refl
   limits-by false = refl
 
-  number-by : (b : Bool) → (begin b).next_tsn ≡ start.next_tsn
+  number-by : (b : Bool) → (start_by b).next_tsn ≡ start.next_tsn
   number-by true = refl
   number-by false = refl
 
@@ -71,8 +71,8 @@ module _ (start : StoreStart) where
     pub same_number : used.next_tsn ≡ start.next_tsn
     same_number = ap (λ (s : StoreStart). s.next_tsn) is ∙ number-by (start.root.state == 3)
 
-    number-with : (b : Bool) → (start.root.state == 3) ≡ b → used.next.number ≡ (begin b).next.number
-    number-with b at = ap (λ (s : StoreStart). s.next.number) (is ∙ ap begin at)
+    number-with : (b : Bool) → (start.root.state == 3) ≡ b → used.next.number ≡ (start_by b).next.number
+    number-with b at = ap (λ (s : StoreStart). s.next.number) (is ∙ ap start_by at)
 
     module _ (classes : ℕ → ℕ) (lines : Lines) (journal : Journal) (mid new : View) (begins : IsStart classes lines journal mid start) (in_use : IsInUse classes lines journal new used) where
       abbrev Begins : Journal → Type 0
@@ -90,10 +90,10 @@ module _ (start : StoreStart) where
               (λ (same : in_use.its ≡ journal).
               let here = same-numbers journal same in let was = begins.next.numbered in let more = number-with true at in
               absurd (omega (arith, here, was, more)))
-              (λ (other : in_use.its ≡ no_groups (next_number journal + 1)). subst Begins (other ∙ sym (ap (as start.root journal) at)) in_use.start)
+              (λ (other : in_use.its ≡ no_groups (next_number journal + 1)). subst Begins (other ∙ sym (ap (journal_by start.root journal) at)) in_use.start)
               in_use.since
           by false at = ⊎_elim
-              (λ (same : in_use.its ≡ journal). subst Begins (same ∙ sym (ap (as start.root journal) at)) in_use.start)
+              (λ (same : in_use.its ≡ journal). subst Begins (same ∙ sym (ap (journal_by start.root journal) at)) in_use.start)
               (λ (other : in_use.its ≡ no_groups (next_number journal + 1)).
               let here : used.next.number ≡ next_number journal + 1 = same-numbers (no_groups (next_number journal + 1)) other ∙ omega arith in
               let was = begins.next.numbered in let same = number-with false at in
