@@ -9,7 +9,7 @@ use Rattle.disk_seats.specs.Ledgers.{Commit, progress_of}
 use Rattle.member_steps.specs.Standing.{HasLines}
 use Rattle.member_steps.proofs.Left.{by_case}
 use Rattle.store_shows.proofs.Standing.{may_stand}
-use Rattle.opened_store.specs.Opened.{OpensTo}
+use Rattle.store_shows.specs.Shows.{OpensTo}
 use Rattle.opened_store.proofs.laws.a_crash_leaves_what_opens.Goals as goal
 
 pub returns : goal.returns
