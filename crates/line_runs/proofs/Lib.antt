@@ -1,2 +1,3 @@
+mod Later
 mod Opening
 mod Prefix
