@@ -188,7 +188,7 @@ def transfers(name, count, below):
     return Both([rdo], sql)
 
 
-# conditions, joins and sorts, each with its order, which differs by the access that is chosen
+# A condition on a range of keys, a join, a sort and a scan; each gives its order, which would follow from the access that is chosen.
 CONDITION = ("FOR X IN R WITH X.A BETWEEN 100 AND 4000 AND X.B CONTAINING '7' SORTED BY X.A PRINT X.A END_FOR\n", "SELECT A FROM R WHERE A BETWEEN 100 AND 4000 AND B LIKE '%7%' ORDER BY A;\n")
 JOIN = ("FOR X IN R CROSS Y IN R WITH Y.A = X.A SORTED BY X.A PRINT X.B, Y.B END_FOR\n", "SELECT X.B, Y.B FROM R X CROSS JOIN R Y WHERE Y.A = X.A ORDER BY X.A;\n")
 SORT = ("FOR X IN R SORTED BY DESCENDING X.B PRINT X.A END_FOR\n", "SELECT A FROM R ORDER BY B DESC;\n")
@@ -198,6 +198,12 @@ SCAN = ("FOR X IN R WITH X.B = 'none' PRINT X.A END_FOR\n", "SELECT A FROM R WHE
 def asked(question, times):
     rdo, sql = question
     return Both([rdo_transaction(rdo * times, "READ_ONLY")], sql_transaction(sql * times))
+
+
+def changes(count):
+    """So many rows changed by one statement."""
+    rdo = f"FOR X IN R WITH X.A BETWEEN 0 AND {count - 1} MODIFY X USING X.B = 'changed'; END_MODIFY END_FOR\n"
+    return Both([rdo_transaction(rdo)], sql_transaction(f"UPDATE R SET B = 'changed' WHERE A BETWEEN 0 AND {count - 1};\n"))
 
 
 def at_once(make, names, count, *more):
@@ -285,7 +291,8 @@ def works(bench):
         "transfers": lambda: bench.beside("transfers, each committed, beside a rollback journal", "few", few, lambda n: transfers("R", n, below), 500),
         "wal": lambda: bench.beside("transfers, each committed, beside WAL", "few", few, lambda n: transfers("R", n, below), 500, "WAL"),
         "scans": lambda: bench.asked("scans of", SCAN, 20000),
-        "conditions": lambda: bench.asked("conditions over", CONDITION, 20000),
+        "conditions": lambda: bench.asked("condition by an index over", CONDITION, 2000, 1),
+        "changes": lambda: bench.beside("rows changed by an index range", "some", table("R", some), changes, 5000),
         "joins": lambda: bench.asked("joins by an index of twice", JOIN, 2000),
         "sorts": lambda: bench.asked("sorts of", SORT, 20000),
         "thread-finds": lambda: bench.threads("look-ups by key", finds, 5000, 2000 // bench.scale),
