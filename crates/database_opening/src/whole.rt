@@ -3,11 +3,12 @@ ghost use Rattle.std.specs.Prelude.{◌≡◌, ◌≤◌, ◌⊎◌, true, false
 ghost use Rattle.rdb_types.specs.declared.file.FileId.{FileId as File};
 ghost use Rattle.rdb_outside.specs.Causes.{Rose};
 ghost use Rattle.rdb_outside.specs.Disk.{LeavesOnly, IsPending};
-ghost use Rattle.root_file.specs.Root.{IsAllowed};
+ghost use Rattle.root_file.specs.Root.{IsRoot, IsAllowed};
+ghost use Rattle.new_database.specs.Maker.{root_file as root_named};
 ghost use Rattle.line_view.specs.Knowledge.{Lines};
 ghost use Rattle.stable_lines.specs.Journal.{Journal};
 ghost use Rattle.stable_lines.specs.Kept.{Kept};
-ghost use Rattle.line_moves.specs.Classes.{HaveTheirClasses};
+ghost use Rattle.line_moves.specs.Classes.{IsClassed};
 ghost use Rattle.database_opening.specs.declared.stages.OpeningStage.TheVariants.{Opened};
 ghost use Rattle.database_opening.specs.Others.{IsOther, KeepsFile};
 ghost use Rattle.database_opening.specs.Start.{IsStart};
@@ -37,6 +38,8 @@ pub fn open_database<D: Disk>(disk: &mut D) -> Result<StoreStart, Fault>
 
     ensures root { IfOk result (λ start. IsAllowed start.root) }
     ensures number { IfOk result (λ start. start.next_tsn ≡ start.root.ceiling) }
+    ensures its_root { IfOk result (λ start. IsTrue (D.view disk.old).tells
+        → IsRoot ((D.view disk.old).content root_named 0) start.root) }
 
     // A kept image is never refused.
     ensures bad { (file : File) (slot : ℕ) → IsErrOf result (Fault.Bad file slot)
@@ -61,8 +64,8 @@ pub fn open_database<D: Disk>(disk: &mut D) -> Result<StoreStart, Fault>
     ensures classes { IsTrue (D.view disk.old).tells
         → (classes : ℕ → ℕ) (lines : Lines) (journal : Journal)
         → Kept classes lines journal (D.view disk.old).content
-        → (by_area : ℕ → ℕ) → HaveTheirClasses by_area (D.view disk.old).content
-        → HaveTheirClasses by_area (D.view disk.new).content }
+        → (by_area : ℕ → ℕ) → IsClassed by_area (D.view disk.old).content
+        → IsClassed by_area (D.view disk.new).content }
     ensures untouched { IsTrue (D.view disk.old).tells
         → KeepsRootAndSpaces (D.view disk.old).content (D.view disk.new).content }
 
