@@ -1,48 +1,19 @@
-"""Compares rdb with the sqlite3 shell, its disk with plain C, and an index with a map of std. Each work is run several times, over a new
-database each time, which both keep in files; the best time of each counts."""
+"""Compares parts of the program: its disk with plain C, an index with a map of std, and statements over lines in memory with the sqlite3 shell;
+and a scan of a journal, and locks on lines, with a quarter of the work. Each work is run several times; the best time of each counts."""
 import os
 import resource
 import shutil
 import subprocess
-import sys
 import tempfile
 import time
 
-RDB = sys.argv[1]
-FILE_BENCH = os.path.abspath(os.path.join(os.path.dirname(RDB), "..", "..", "file_bench", "out", "file_bench"))
-INDEX_BENCH = os.path.abspath(os.path.join(os.path.dirname(RDB), "..", "..", "index_bench", "out", "index_bench"))
-STATEMENT_BENCH = os.path.abspath(os.path.join(os.path.dirname(RDB), "..", "..", "statement_bench", "out", "statement_bench"))
-LOCK_BENCH = os.path.abspath(os.path.join(os.path.dirname(RDB), "..", "..", "lock_bench", "out", "lock_bench"))
-SESSIONS = 16
+HOME = os.path.dirname(os.path.dirname(os.path.abspath(__file__)))
+FILE_BENCH = os.path.join(HOME, "crates", "file_bench", "out", "file_bench")
+INDEX_BENCH = os.path.join(HOME, "crates", "index_bench", "out", "index_bench")
+STATEMENT_BENCH = os.path.join(HOME, "crates", "statement_bench", "out", "statement_bench")
+LOCK_BENCH = os.path.join(HOME, "crates", "lock_bench", "out", "lock_bench")
 ROUNDS = 5
 SQLITE = shutil.which("sqlite3")
-
-
-def rdo_prints(count):
-    return "".join(f"PRINT {n}, 'row {n}'\n" for n in range(count))
-
-
-def sql_prints(count):
-    return "".join(f"SELECT {n}, 'row {n}';\n" for n in range(count))
-
-
-def rdo_stores(count):
-    head = (
-        "START_TRANSACTION READ_WRITE\n"
-        "DEFINE RELATION R.\n A DATATYPE IS SIGNED LONGWORD.\n B DATATYPE IS TEXT SIZE IS 20.\nEND R RELATION.\n"
-    )
-    rows = "".join(
-        f"STORE X IN R USING X.A = {n}; X.B = 'row {n}'; END_STORE\n" for n in range(count)
-    )
-    return head + rows + "FOR X IN R PRINT X.A, X.B END_FOR\nCOMMIT\n"
-
-
-def sql_stores(count):
-    rows = "".join(f"INSERT INTO R VALUES ({n}, 'row {n}');\n" for n in range(count))
-    return "BEGIN;\nCREATE TABLE R (A INTEGER, B TEXT);\n" + rows + "SELECT A, B FROM R;\nCOMMIT;\n"
-
-
-RDO_TABLE = "START_TRANSACTION READ_WRITE\nDEFINE RELATION {name}.\n A DATATYPE IS SIGNED LONGWORD.\n B DATATYPE IS TEXT SIZE IS 20.\nEND {name} RELATION.\n"
 
 
 def mixed(count):
@@ -58,127 +29,16 @@ def sql_rows(name, numbers):
     return "".join(f"INSERT INTO {name} VALUES ({n}, 'row {n}');\n" for n in numbers)
 
 
-def rdo_unique(count):
-    index = "DEFINE INDEX I FOR R DUPLICATES ARE NOT ALLOWED. A. END I INDEX.\n"
-    return RDO_TABLE.format(name="R") + index + rdo_rows("R", mixed(count)) + "PRINT COUNT OF X IN R\nCOMMIT\n"
-
-
-def sql_unique(count):
-    return "BEGIN;\nCREATE TABLE R (A INTEGER, B TEXT);\nCREATE UNIQUE INDEX I ON R (A);\n" + sql_rows("R", mixed(count)) + "SELECT COUNT(*) FROM R;\nCOMMIT;\n"
-
-
-def rdo_asked(question):
-    return lambda count: RDO_TABLE.format(name="R") + rdo_rows("R", mixed(count)) + question + "\nCOMMIT\n"
-
-
-def sql_asked(question):
-    return lambda count: "BEGIN;\nCREATE TABLE R (A INTEGER, B TEXT);\n" + sql_rows("R", mixed(count)) + question + ";\nCOMMIT;\n"
-
-
-CONDITION = (
-    "FOR X IN R WITH X.A BETWEEN 100 AND 4000 AND X.B CONTAINING '7' PRINT X.A END_FOR",
-    "SELECT A FROM R WHERE A BETWEEN 100 AND 4000 AND B LIKE '%7%'",
-)
-JOIN = (
-    "FOR X IN R CROSS Y IN R WITH X.A EQ Y.A AND X.A LT 250 PRINT X.A, Y.B END_FOR",
-    "SELECT X.A, Y.B FROM R X CROSS JOIN R Y WHERE X.A = Y.A AND X.A < 250",
-)
-SORT = ("FOR X IN R SORTED BY DESCENDING X.A PRINT X.A END_FOR", "SELECT A FROM R ORDER BY A DESC")
-
-
-def rdo_session(number, count):
-    rows = "".join(f"STORE X IN R{number} USING X.A = {n}; END_STORE\n" for n in range(count))
-    head = f"START_TRANSACTION READ_WRITE\nDEFINE RELATION R{number}. A DATATYPE IS SIGNED LONGWORD. END R{number} RELATION.\n"
-    return head + rows + f"PRINT COUNT OF X IN R{number}\nCOMMIT\n"
-
-
-def sql_sessions(count):
-    text = ""
-    for number in range(SESSIONS):
-        rows = "".join(f"INSERT INTO R{number} VALUES ({n});\n" for n in range(count))
-        text += f"BEGIN;\nCREATE TABLE R{number} (A INTEGER);\n{rows}SELECT COUNT(*) FROM R{number};\nCOMMIT;\n"
-    return text
-
-
-def anew(words, folder):
-    """Puts a new database where one of both is to work on it."""
-    if words[0] not in (RDB, SQLITE):
-        return
-    for name in os.listdir(folder):
-        if name.startswith("PERS"):
-            os.remove(os.path.join(folder, name))
-    if words[0] == RDB:
-        subprocess.run([RDB, "NEW", "PERS"], cwd=folder, check=True)
-
-
-def timed(words, text, folder):
+def timed(words, folder):
     best = None
     for _ in range(ROUNDS):
-        anew(words, folder)
         start = time.perf_counter()
-        done = subprocess.run(words, input=text, capture_output=True, cwd=folder)
+        done = subprocess.run(words, capture_output=True, cwd=folder)
         took = time.perf_counter() - start
         if done.returncode != 0:
             return None, done.stdout
         best = took if best is None else min(best, took)
     return best, done.stdout
-
-
-def compare(name, rdo, sql, folder):
-    script = os.path.join(folder, "s1")
-    with open(script, "w") as out:
-        out.write(rdo)
-    ours, printed = timed([RDB, "RDO", "PERS", "s1"], b"", folder)
-    if ours is None:
-        print(f"{name}: rdb failed")
-        return
-    line = f"{name}: rdb {ours * 1000:.1f} ms"
-    if SQLITE is None:
-        print(line + " (no sqlite3 to compare with)")
-        return
-    theirs, answer = timed([SQLITE, "-separator", " ", "PERS.db"], sql.encode(), folder)
-    if printed != answer:
-        print(f"{name}: the outputs differ")
-        return
-    print(f"{line}, sqlite3 {theirs * 1000:.1f} ms, ratio {ours / theirs:.2f}")
-
-
-def growth(name, make, small, large, folder):
-    times = []
-    for count in (small, large):
-        with open(os.path.join(folder, "s1"), "w") as out:
-            out.write(make(count))
-        took, _ = timed([RDB, "RDO", "PERS", "s1"], b"", folder)
-        if took is None:
-            print(f"{name}: rdb failed")
-            return
-        times.append(took)
-    print(f"{name}: {large // small} times the work takes {times[1] / times[0]:.1f} times as long")
-
-
-def sessions(count, folder):
-    names = [f"s{number}" for number in range(SESSIONS)]
-    for number, name in enumerate(names):
-        with open(os.path.join(folder, name), "w") as out:
-            out.write(rdo_session(number, count))
-    return timed([RDB, "RDO", "PERS"] + names, b"", folder)
-
-
-def compare_sessions(count, folder):
-    ours, printed = sessions(count, folder)
-    if ours is None:
-        print("sessions: rdb failed")
-        return
-    line = f"{SESSIONS} sessions of {count} STOREs: rdb {ours * 1000:.1f} ms"
-    if SQLITE is not None:
-        theirs, answer = timed([SQLITE, "PERS.db"], sql_sessions(count).encode(), folder)
-        if printed != answer:
-            print("sessions: the outputs differ")
-            return
-        line += f", sqlite3 {theirs * 1000:.1f} ms, ratio {ours / theirs:.2f}"
-    print(line)
-    fourfold, _ = sessions(4 * count, folder)
-    print(f"sessions: 4 times the work takes {fourfold / ours:.1f} times as long")
 
 
 def compare_disks(writes, barriers, folder):
@@ -190,8 +50,8 @@ def compare_disks(writes, barriers, folder):
     source = os.path.join(os.path.dirname(os.path.abspath(__file__)), "disk.c")
     subprocess.run([compiler, "-O2", "-o", theirs_at, source], check=True)
     words = [str(writes), str(barriers)]
-    ours, printed = timed([FILE_BENCH, "writes"] + words, b"", folder)
-    theirs, answer = timed([theirs_at] + words, b"", folder)
+    ours, printed = timed([FILE_BENCH, "writes"] + words, folder)
+    theirs, answer = timed([theirs_at] + words, folder)
     if ours is None or theirs is None or printed != answer:
         print("disk: a program failed")
         return
@@ -200,8 +60,8 @@ def compare_disks(writes, barriers, folder):
 
 def scan(slots, folder):
     """The seconds that a scan of a journal of so many slots takes, or none."""
-    filled, _ = timed([FILE_BENCH, "fill", str(slots)], b"", folder)
-    ours, printed = timed([FILE_BENCH, "scan"], b"", folder)
+    filled, _ = timed([FILE_BENCH, "fill", str(slots)], folder)
+    ours, printed = timed([FILE_BENCH, "scan"], folder)
     if filled is None or ours is None or not printed.endswith(f" in {slots} slots\n".encode()):
         return None
     return ours
@@ -221,7 +81,7 @@ def growth_of_scan(slots, folder):
 def index_work(job, keys, rounds, folder):
     """The seconds of a job on an index or a map, and the counts that it prints: those found and the lines looked at."""
     words = [INDEX_BENCH, job, str(keys)] + ([] if rounds is None else [str(rounds)])
-    took, printed = timed(words, b"", folder)
+    took, printed = timed(words, folder)
     if took is None:
         return None, 0, 0
     found, visits = (int(part.split()[0]) for part in printed.decode().split(", "))
@@ -334,9 +194,9 @@ def growth_of_locks(owners, locks, folder):
     if not os.path.exists(LOCK_BENCH):
         print("locks: skipped, lock_bench isn't built (rt run in crates/lock_bench)")
         return
-    quarter, _ = timed([LOCK_BENCH, str(owners), str(locks // 4), "keep"], b"", folder)
-    kept, printed = timed([LOCK_BENCH, str(owners), str(locks), "keep"], b"", folder)
-    whole, _ = timed([LOCK_BENCH, str(owners), str(locks)], b"", folder)
+    quarter, _ = timed([LOCK_BENCH, str(owners), str(locks // 4), "keep"], folder)
+    kept, printed = timed([LOCK_BENCH, str(owners), str(locks), "keep"], folder)
+    whole, _ = timed([LOCK_BENCH, str(owners), str(locks)], folder)
     if None in (quarter, kept, whole):
         print("locks: a job failed")
         return
@@ -344,16 +204,6 @@ def growth_of_locks(owners, locks, folder):
 
 
 with tempfile.TemporaryDirectory() as folder:
-    compare("20,000 PRINTs", rdo_prints(20000), sql_prints(20000), folder)
-    compare("10,000 STOREs and a FOR", rdo_stores(10000), sql_stores(10000), folder)
-    growth("PRINTs", rdo_prints, 4000, 16000, folder)
-    growth("STOREs", rdo_stores, 2500, 10000, folder)
-    compare("5,000 STOREs under a unique index", rdo_unique(5000), sql_unique(5000), folder)
-    growth("STOREs under a unique index", rdo_unique, 1250, 5000, folder)
-    for name, (ours, theirs), count in [("a condition over", CONDITION, 5000), ("a join of twice", JOIN, 500), ("a sort of", SORT, 5000)]:
-        compare(f"{name} {count:,} rows, with their STOREs", rdo_asked(ours)(count), sql_asked(theirs)(count), folder)
-        growth(f"{name} rows", rdo_asked(ours), count // 4, count, folder)
-    compare_sessions(500, folder)
     compare_disks(10000, 1000, folder)
     growth_of_scan(262144, folder)
     compare_index(5000, 20, folder)
