@@ -21,12 +21,12 @@ use Rattle.stage_steps.specs.Scenes.{Scene}
 use Rattle.line_cluster.specs.declared.sessions.Halt.{Halt}
 use Rattle.line_cluster.specs.Deaths.{CountsFaults, has_device_deaths}
 
--- The store shows a shelf at whose moment each map of lines that a crash may leave stands for what the account has committed, or for that with the one in flight; and each that a crash might have left since the sessions began, or since a commit, for what was committed then, or more.
+-- The store shows a shelf at whose moment each map of lines that a crash may leave stands for what the account has committed, or for that with the one in flight; and each that a crash might have left since the sessions began, or since a commit, for what was committed then, or more. A store can be opened from each image since they began.
 pub record HasImages (M : Model) (o : Opening) (sight : Sight) (events : List Event) : Type 0 where
   pub shelf : Shelf
   pub shown : sight.shows shelf
   pub now : (lines : Lines) → sight.left shelf.clock.time lines → IsNow M o (place o events) lines
-  pub since : AreLeft M o events sight.left shelf.clock.time
+  pub since : AreLeft M o events sight.left sight.opens shelf.clock.time
 
 -- Where the opening told what the store holds, the account is legal, a crash leaves what was committed, and faults rose since the opening, at which there were so many, where a session died of a device. As long as no halt has come, each session stands where its phase has it, and what is shown is kept.
 pub record IsSound (M : Model) (told : Type 0) (o : Opening) (faults : ℕ) (c : Scene) (members : List Member) (events : List Event) (halt : Option Halt) : Type 0 where
