@@ -1,4 +1,7 @@
-use Rattle.std.proofs.Common.{◌≡◌, ◌∙◌, true, Some, ap, map, subst, sym}
+use Rattle.std.proofs.Common.{◌≡◌, ◌≢◌, ◌∙◌, ℕ, true, Some, ap, map, subst, sym}
+use Rattle.backup_making.specs.Making.{file_of}
+use Rattle.journal_backup.specs.Copied.{copy_named}
+use Rattle.rmu_keeping.specs.Keeping.{BacksUp, BacksUpWithin, CopiesJournal, CopiesJournalWithin, Restores, RestoresWithin}
 use Rattle.rdb_account.specs.Events.{event_of}
 use Rattle.rdb_account.specs.Legal.{IsLegal}
 use Rattle.line_cluster.specs.Turned.{HaveAllEnded}
@@ -8,7 +11,7 @@ use Rattle.command_words.specs.declared.words.Scripts.{Scripts}
 use Rattle.command_words.specs.Words.{word_of, order_in}
 use Rattle.rdb_top.specs.Deaths.{letting}
 use Rattle.rdb_top.specs.Runs.{scripts_of, IsRun, OfSomeScripts}
-use Rattle.rdb_top.proofs.Givens.{same-given}
+use Rattle.rdb_top.proofs.Givens.{same-given, same-backup, same-copy, same-restore}
 use Rattle.rdb_top.proofs.Saying.{prefix-of-given, all-of-given}
 use Rattle.rdb_top.proofs.top.run.Goals as goal
 
@@ -50,3 +53,48 @@ pub returns-in-Some-Rdo-clause-left : goal.returns-in-Some-Rdo-clause-left
 returns-in-Some-Rdo-clause-left g c given row told tells whole =
     all-of-given _ (g.D.Disk.view c.run_rdo.result.disk) g.O.Origin.opening (map event_of c.run_rdo.result.events) (word_of c.args.words.now) (g.S.Source.left c.args.scripts.now) c.in-Some-Rdo.given given
     (same-given c.in-Some-Rdo.given given _ (ap Some (sym c.in-Some-Rdo.field-0-is) ∙ c.in-Some-Rdo.ensures.row) row) (c.run_rdo.ensures.left told tells whole)
+
+pub returns-in-Some-Backup-clause-backed_up : goal.returns-in-Some-Backup-clause-backed_up
+returns-in-Some-Backup-clause-backed_up g c number row is told =
+    let v = g.D.Disk.view in let old = v c.args.disk in let new = v c.backup_command-status.new.disk in
+    rw c.unsaid-in-Some-Backup.ensures.disk (subst (BacksUp old new) (same-backup c.in-Some-Backup.number number _ (ap Some (sym c.in-Some-Backup.field-0-is) ∙ c.in-Some-Backup.ensures.row) row) (c.backup_command-status.ensures.backed_up (sym c.unsaid-in-Some-Backup.ensures.status ∙ is) told))
+
+pub returns-in-Some-Backup-clause-backing : goal.returns-in-Some-Backup-clause-backing
+returns-in-Some-Backup-clause-backing g c number row told =
+    let v = g.D.Disk.view in let old = v c.args.disk in let new = v c.backup_command-status.new.disk in
+    rw c.unsaid-in-Some-Backup.ensures.disk (subst (BacksUpWithin old new) (same-backup c.in-Some-Backup.number number _ (ap Some (sym c.in-Some-Backup.field-0-is) ∙ c.in-Some-Backup.ensures.row) row) (c.backup_command-status.ensures.within told))
+
+pub returns-in-Some-Backup-clause-beside_backup : goal.returns-in-Some-Backup-clause-beside_backup
+returns-in-Some-Backup-clause-beside_backup g c number row told file kept apart =
+    let v = g.D.Disk.view in let old = v c.args.disk in let new = v c.backup_command-status.new.disk in
+    rw c.unsaid-in-Some-Backup.ensures.disk (c.backup_command-status.ensures.others told file kept (subst (λ (n : ℕ). file ≢ file_of n) (sym (same-backup c.in-Some-Backup.number number _ (ap Some (sym c.in-Some-Backup.field-0-is) ∙ c.in-Some-Backup.ensures.row) row)) apart))
+
+pub returns-in-Some-BackupJournal-clause-copied : goal.returns-in-Some-BackupJournal-clause-copied
+returns-in-Some-BackupJournal-clause-copied g c number row is told =
+    let v = g.D.Disk.view in let old = v c.args.disk in let new = v c.journal_command-status.new.disk in
+    rw c.unsaid-in-Some-BackupJournal.ensures.disk (subst (CopiesJournal old new) (same-copy c.in-Some-BackupJournal.number number _ (ap Some (sym c.in-Some-BackupJournal.field-0-is) ∙ c.in-Some-BackupJournal.ensures.row) row) (c.journal_command-status.ensures.copied (sym c.unsaid-in-Some-BackupJournal.ensures.status ∙ is) told))
+
+pub returns-in-Some-BackupJournal-clause-copying : goal.returns-in-Some-BackupJournal-clause-copying
+returns-in-Some-BackupJournal-clause-copying g c number row told =
+    let v = g.D.Disk.view in let old = v c.args.disk in let new = v c.journal_command-status.new.disk in
+    rw c.unsaid-in-Some-BackupJournal.ensures.disk (subst (CopiesJournalWithin old new) (same-copy c.in-Some-BackupJournal.number number _ (ap Some (sym c.in-Some-BackupJournal.field-0-is) ∙ c.in-Some-BackupJournal.ensures.row) row) (c.journal_command-status.ensures.within told))
+
+pub returns-in-Some-BackupJournal-clause-beside_copy : goal.returns-in-Some-BackupJournal-clause-beside_copy
+returns-in-Some-BackupJournal-clause-beside_copy g c number row told file kept apart =
+    let v = g.D.Disk.view in let old = v c.args.disk in let new = v c.journal_command-status.new.disk in
+    rw c.unsaid-in-Some-BackupJournal.ensures.disk (c.journal_command-status.ensures.others told file kept (subst (λ (n : ℕ). file ≢ copy_named n) (sym (same-copy c.in-Some-BackupJournal.number number _ (ap Some (sym c.in-Some-BackupJournal.field-0-is) ∙ c.in-Some-BackupJournal.ensures.row) row)) apart))
+
+pub returns-in-Some-Restore-clause-restored : goal.returns-in-Some-Restore-clause-restored
+returns-in-Some-Restore-clause-restored g c number row is told =
+    let v = g.D.Disk.view in let old = v c.args.disk in let new = v c.restore_command-status.new.disk in
+    rw c.unsaid-in-Some-Restore.ensures.disk (subst (Restores old new) (same-restore c.in-Some-Restore.number number _ (ap Some (sym c.in-Some-Restore.field-0-is) ∙ c.in-Some-Restore.ensures.row) row) (c.restore_command-status.ensures.restored (sym c.unsaid-in-Some-Restore.ensures.status ∙ is) told))
+
+pub returns-in-Some-Restore-clause-restoring : goal.returns-in-Some-Restore-clause-restoring
+returns-in-Some-Restore-clause-restoring g c number row told =
+    let v = g.D.Disk.view in let old = v c.args.disk in let new = v c.restore_command-status.new.disk in
+    rw c.unsaid-in-Some-Restore.ensures.disk (subst (RestoresWithin old new) (same-restore c.in-Some-Restore.number number _ (ap Some (sym c.in-Some-Restore.field-0-is) ∙ c.in-Some-Restore.ensures.row) row) (c.restore_command-status.ensures.within told))
+
+pub returns-in-Some-Restore-clause-beside_restore : goal.returns-in-Some-Restore-clause-beside_restore
+returns-in-Some-Restore-clause-beside_restore g c number row told file other =
+    let v = g.D.Disk.view in let old = v c.args.disk in let new = v c.restore_command-status.new.disk in
+    rw c.unsaid-in-Some-Restore.ensures.disk (c.restore_command-status.ensures.others told file other)
