@@ -12,7 +12,7 @@ use Rattle.opened_store.specs.Opened.{is_taken_in}
 use Rattle.line_runs.specs.Openings.{OpensWith}
 
 module _ (M : Model) (v : View) (t : IsTrue v.tells) (o : Opening) (lines : Lines) (opens : OpensTo v.content lines) (p : Place) (now : IsNow M o p lines) where
-  root : Root
+  abbrev root : Root
   root = opens.has.kept.root
 
   -- it has the limits, the taken pages and the groups of the image
