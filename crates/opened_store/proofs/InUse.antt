@@ -4,7 +4,7 @@ use Rattle.rdb_types.specs.declared.file.FileId.{FileId}
 use Rattle.rdb_types.specs.declared.file.FileKind.TheVariants.{Root as OfRoot, Aij, Area}
 use Rattle.rdb_types.specs.declared.keys.Limits.{Limits}
 use Rattle.root_file.specs.declared.Root.{Root}
-use Rattle.root_file.specs.Root.{IsRoot}
+use Rattle.root_file.specs.Root.{IsRoot, IsAllowed}
 use Rattle.root_file.proofs.Readings.{one_root}
 use Rattle.rdb_outside.specs.Disk.{Image, View, LeavesOnly, IsPending}
 use Rattle.rdb_outside.specs.Moments.{weaker}
@@ -60,6 +60,14 @@ module _ (start : StoreStart) where
   limits-by true = refl
   limits-by false = refl
 
+  ceiling-by : (b : Bool) → (start_by b).root.ceiling ≡ start.root.ceiling
+  ceiling-by true = refl
+  ceiling-by false = refl
+
+  allowed-by : (b : Bool) → IsAllowed start.root → IsAllowed (start_by b).root
+  allowed-by true is = record { format = is.format; state = (omega arith, omega arith); limits = is.limits; ceiling = is.ceiling; applied = is.applied }
+  allowed-by false is = is
+
   number-by : (b : Bool) → (start_by b).next_tsn ≡ start.next_tsn
   number-by true = refl
   number-by false = refl
@@ -67,6 +75,12 @@ module _ (start : StoreStart) where
   module _ (used : StoreStart) (is : used ≡ start_in_use start) where
     pub same_limits : used.root.limits ≡ start.root.limits
     same_limits = ap (λ (s : StoreStart). s.root.limits) is ∙ limits-by (start.root.state == 3)
+
+    pub same_ceiling : used.root.ceiling ≡ start.root.ceiling
+    same_ceiling = ap (λ (s : StoreStart). s.root.ceiling) is ∙ ceiling-by (start.root.state == 3)
+
+    pub still_allowed : IsAllowed start.root → IsAllowed used.root
+    still_allowed was = subst (λ (s : StoreStart). IsAllowed s.root) (sym is) (allowed-by (start.root.state == 3) was)
 
     pub same_number : used.next_tsn ≡ start.next_tsn
     same_number = ap (λ (s : StoreStart). s.next_tsn) is ∙ number-by (start.root.state == 3)

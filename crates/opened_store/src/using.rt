@@ -4,7 +4,7 @@ ghost use Rattle.rdb_types.specs.declared.file.FileId.{FileId as File};
 ghost use Rattle.rdb_outside.specs.Causes.{Rose};
 ghost use Rattle.rdb_outside.specs.Disk.{LeavesOnly};
 ghost use Rattle.root_file.specs.declared.Root.{Root};
-ghost use Rattle.root_file.specs.Root.{IsRoot};
+ghost use Rattle.root_file.specs.Root.{IsRoot, IsAllowed};
 ghost use Rattle.area_files.specs.Areas.{IsPage, IsSpacePage};
 ghost use Rattle.new_database.specs.Maker.{root_file as root_named};
 ghost use Rattle.line_view.specs.Knowledge.{Lines};
@@ -34,13 +34,14 @@ pub(crate) fn open_in_use<D: Disk>(disk: &mut D) -> Result<StoreStart, Fault>
         → AreUsedUp journal kept.root }
 
     // It has the limits of the root, and draws its numbers from the ceiling on.
-    ensures pages { IfOk result (λ start. start.root.limits.pages ≤ 65536) }
+    ensures root { IfOk result (λ start. IsAllowed start.root) }
+    ensures number { IfOk result (λ start. start.next_tsn ≡ start.root.ceiling) }
     ensures limits { IfOk result (λ start. IsTrue (D.view disk.old).tells → (root : Root)
         → IsRoot ((D.view disk.old).content root_named 0) root
         → start.root.limits ≡ root.limits) }
-    ensures number { IfOk result (λ start. IsTrue (D.view disk.old).tells → (root : Root)
+    ensures ceiling { IfOk result (λ start. IsTrue (D.view disk.old).tells → (root : Root)
         → IsRoot ((D.view disk.old).content root_named 0) root
-        → start.next_tsn ≡ root.ceiling) }
+        → start.root.ceiling ≡ root.ceiling) }
 
     // The store begins with the lines that the image stands for, behind the groups of the journal in use.
     ensures begins { IfOk result (λ start. IsTrue (D.view disk.old).tells

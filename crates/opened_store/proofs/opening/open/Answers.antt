@@ -13,7 +13,7 @@ use Rattle.opened_store.proofs.Moments.{left-raised, left-read, all-pages}
 use Rattle.opened_store.proofs.opening.open.Goals as goal
 
 pub read_tables-requires : goal.read_tables-requires
-read_tables-requires g c = c.in_ok-start.ensures.pages
+read_tables-requires g c = c.in_ok-start.ensures.root.limits.pages.1
 
 pub returns-in_err-start-clause-bad : goal.returns-in_err-start-clause-bad
 returns-in_err-start-clause-bad g c = λ file slot is t classes lines journal kept.
@@ -32,8 +32,9 @@ returns-in_err-root-clause-bad g c = let v = g.D.Disk.view in let old = v c.args
     let told = still_tells old mid c.open_in_use.ensures.told t in
     let begins = c.in_ok-start.ensures.begins t classes lines journal kept in
     let used_up = c.begin_members.ensures.bad file slot (first_of (cc, search rules)) told (beginning_with classes lines (journal_in_use kept.root journal) c.in_ok-start.start) begins.facts in
-    let number = c.in_ok-start.ensures.number t kept.root kept.is_root.is in
-    inl (omega (arith, used_up, number))
+    let number = c.in_ok-start.ensures.number in
+    let ceiling = c.in_ok-start.ensures.ceiling t kept.root kept.is_root.is in
+    inl (omega (arith, used_up, number, ceiling))
 
 pub returns-in_err-tables-clause-bad : goal.returns-in_err-tables-clause-bad
 returns-in_err-tables-clause-bad g c = let v = g.D.Disk.view in let old = v c.args.disk.now in let mid = v c.open_in_use.new.disk in let raised = v c.begin_members.new.disk in

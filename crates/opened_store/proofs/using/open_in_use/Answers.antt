@@ -1,12 +1,11 @@
 use Rattle.std.proofs.Common.{rules, ◌≡◌, ◌-◌, ◌∙◌, ap, sym, arith, inr}
-use Rattle.rdb_types.specs.declared.keys.Limits.{Limits}
 use Rattle.root_file.specs.declared.Root.{Root}
 use Rattle.root_file.proofs.Readings.{one_root}
 use Rattle.new_database.specs.Maker.{root_file}
 use Rattle.stable_lines.specs.Slots.{area_file}
 use Rattle.line_moves.proofs.Runs.{still_tells}
 use Rattle.line_opening.proofs.Counted.{if_ok}
-use Rattle.opened_store.proofs.InUse.{if_both, spent, same_limits, same_number, same_root, begins_kept, using_leaves, opening_leaves, area_apart, classes_in_use}
+use Rattle.opened_store.proofs.InUse.{if_both, spent, same_limits, same_ceiling, still_allowed, same_number, same_root, begins_kept, using_leaves, opening_leaves, area_apart, classes_in_use}
 use Rattle.opened_store.proofs.using.open_in_use.Goals as goal
 
 pub take_into_use-requires : goal.take_into_use-requires
@@ -34,19 +33,22 @@ returns-clause-bad g c = let v = g.D.Disk.view in let old = v c.args.disk.now in
     let numbered = begins.next.numbered in
     inr (spent kept.root journal (ap (λ (r : Root). r.state) (sym same) ∙ c.take_into_use.ensures.restored file slot is) (omega (arith, last, numbered)) kept.is_root.is.allowed.limits.slots.0)
 
-pub returns-clause-pages : goal.returns-clause-pages
-returns-clause-pages g c = let start = c.in_ok-start.start in
-    if_ok _ _ c.take_into_use.result (λ used is. let most = c.in_ok-start.ensures.root.limits.pages.1 in let same = ap (λ (l : Limits). l.pages) (same_limits start used is) in omega (arith, most, same)) c.take_into_use.ensures.is
+pub returns-clause-root : goal.returns-clause-root
+returns-clause-root g c = if_ok _ _ c.take_into_use.result (λ used is. still_allowed c.in_ok-start.start used is c.in_ok-start.ensures.root) c.take_into_use.ensures.is
+
+pub returns-clause-number : goal.returns-clause-number
+returns-clause-number g c = let start = c.in_ok-start.start in
+    if_ok _ _ c.take_into_use.result (λ used is. same_number start used is ∙ c.in_ok-start.ensures.number ∙ sym (same_ceiling start used is)) c.take_into_use.ensures.is
 
 pub returns-clause-limits : goal.returns-clause-limits
 returns-clause-limits g c = let old = g.D.Disk.view c.args.disk.now in let start = c.in_ok-start.start in
     if_ok _ _ c.take_into_use.result (λ used is t root found.
     same_limits start used is ∙ ap (λ (r : Root). r.limits) (one_root (old.content root_file 0) start.root root (c.in_ok-start.ensures.its_root t) found)) c.take_into_use.ensures.is
 
-pub returns-clause-number : goal.returns-clause-number
-returns-clause-number g c = let old = g.D.Disk.view c.args.disk.now in let start = c.in_ok-start.start in
+pub returns-clause-ceiling : goal.returns-clause-ceiling
+returns-clause-ceiling g c = let old = g.D.Disk.view c.args.disk.now in let start = c.in_ok-start.start in
     if_ok _ _ c.take_into_use.result (λ used is t root found.
-    same_number start used is ∙ c.in_ok-start.ensures.number ∙ ap (λ (r : Root). r.ceiling) (one_root (old.content root_file 0) start.root root (c.in_ok-start.ensures.its_root t) found)) c.take_into_use.ensures.is
+    same_ceiling start used is ∙ ap (λ (r : Root). r.ceiling) (one_root (old.content root_file 0) start.root root (c.in_ok-start.ensures.its_root t) found)) c.take_into_use.ensures.is
 
 pub returns-clause-begins : goal.returns-clause-begins
 returns-clause-begins g c = let v = g.D.Disk.view in let old = v c.args.disk.now in let mid = v c.open_database.new.disk in let start = c.in_ok-start.start in
