@@ -1,6 +1,5 @@
-use Rattle.std.proofs.Common.{rules, inl, inr, ◌∙◌, List, ℕ, refl, sym, ap, subst, arith}
+use Rattle.std.proofs.Common.{rules, inl, inr, ◌∙◌, List, ℕ, refl, ap, subst, arith}
 use Rattle.std.proofs.lemmas.Result.{err_from_is_err_and}
-use Rattle.rdb_types.specs.declared.keys.Limits.{Limits}
 use Rattle.root_file.specs.Root.{IsRoot}
 use Rattle.new_database.specs.Maker.{root_file}
 use Rattle.line_moves.proofs.Runs.{still_tells}
