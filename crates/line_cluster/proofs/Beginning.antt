@@ -40,7 +40,7 @@ none-dead (items ∷ more) = let e = none-dead more in omega (arith, e)
 
 pub begins : (M : Model) (orderly : IsOrderly M) (told : Type 0) (o : Opening) (faults : ℕ) (c : Scene) (scripts : List (List Item)) → Agrees c.sight → Stands c.sight → MayBeOpened c.sight → ((s : ℕ) → c.sight.stand s ≡ outside) → c.locks.parties ≡ [] → c.locks.trail ≡ [] →
     FollowsScripts o scripts → (told → IsOpenedBy M o faults c.word c.sight) → IsSound M told o faults c (map fresh_member scripts) [] None
-begins M orderly told o faults c scripts agrees stands open away parties trail follows opens = record {
+begins M orderly told o faults c scripts agrees stands openable away parties trail follows opens = record {
   legal = λ t. (tells t).kept.right.legal;
   seated = λ none. sits;
   kept = λ none t. tells t;
@@ -74,7 +74,7 @@ begins M orderly told o faults c scripts agrees stands open away parties trail f
           }));
       images = record {
         began = is.shelf.clock.time;
-        openable = open is.shelf is.shown;
+        openable = openable is.shelf is.shown;
         opened = (is.opened c.locks parties trail).past;
         going = omega arith;
         opening = λ lines l. record {
@@ -93,9 +93,9 @@ begins M orderly told o faults c scripts agrees stands open away parties trail f
 pub starts : (M : Model) (orderly : IsOrderly M) (told : Type 0) (o : Opening) (faults sessions : ℕ) (c : Scene) (scripts : List (List Item)) (members : List Member) (events : List Declared) → Agrees c.sight → Stands c.sight → MayBeOpened c.sight → ((s : ℕ) → c.sight.stand s ≡ outside) →
     c.locks.parties ≡ [] → c.locks.trail ≡ [] → FollowsScripts o scripts → (told → IsOpenedBy M o faults c.word c.sight) → members ≡ map fresh_member scripts → events ≡ [] → length scripts ≡ sessions → sessions ≤ 16 → MayFail o →
     AreSound M told o faults sessions c members (map event_of events) None
-starts M orderly told o faults sessions c scripts members events agrees stands open away parties trail follows opens are none count few mortal = record {
+starts M orderly told o faults sessions c scripts members events agrees stands openable away parties trail follows opens are none count few mortal = record {
   sound = subst (λ (ms : List Member). IsSound M told o faults c ms (map event_of events) None) (sym are) (subst (λ (es : List Declared). IsSound M told o faults c (map fresh_member scripts) (map event_of es) None) (sym none)
-      (begins M orderly told o faults c scripts agrees stands open away parties trail follows opens));
+      (begins M orderly told o faults c scripts agrees stands openable away parties trail follows opens));
   count = ap length are ∙ (as-long fresh_member scripts ∙ count);
   few = few;
   mortal = mortal;

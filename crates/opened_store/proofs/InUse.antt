@@ -1,8 +1,7 @@
 -- A database opened and taken into use.
-use Rattle.std.proofs.Common.{◌≡◌, ◌≢◌, ◌⊎◌, inl, inr, ⊎_elim, ℕ, ◌+◌, ◌-◌, ◌^◌, ◌≤◌, ◌<◌, ◌==◌, Bool, true, false, if◌then◌else◌, List, length, refl, sym, ap, subst, ◌∙◌, IsTrue, Result, Ok, Err, IfOk, arith}
+use Rattle.std.proofs.Common.{◌≡◌, ◌⊎◌, inl, inr, ⊎_elim, ℕ, ◌+◌, ◌-◌, ◌^◌, ◌≤◌, ◌==◌, Bool, true, false, if◌then◌else◌, List, length, refl, sym, ap, subst, ◌∙◌, Result, Ok, Err, IfOk, arith}
 use Rattle.rdb_types.specs.declared.file.FileId.{FileId}
 use Rattle.rdb_types.specs.declared.file.FileKind.TheVariants.{Root as OfRoot, Aij, Area}
-use Rattle.rdb_types.specs.declared.keys.Limits.{Limits}
 use Rattle.root_file.specs.declared.Root.{Root}
 use Rattle.root_file.specs.Root.{IsRoot}
 use Rattle.root_file.proofs.Readings.{one_root}
@@ -11,7 +10,7 @@ use Rattle.rdb_outside.specs.Moments.{weaker}
 use Rattle.new_database.specs.Maker.{root_file}
 use Rattle.line_view.specs.Knowledge.{Lines}
 use Rattle.stable_lines.specs.Slots.{area_file}
-use Rattle.stable_lines.specs.Journal.{Journal, slots_in, next_number, next_slot}
+use Rattle.stable_lines.specs.Journal.{Journal, slots_in, next_number}
 use Rattle.stable_lines.specs.Kept.{Kept}
 use Rattle.line_opening.proofs.Standing.{leaves_on}
 use Rattle.line_moves.specs.Classes.{IsClassed, HasItsClass}

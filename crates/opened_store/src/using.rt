@@ -4,7 +4,7 @@ ghost use Rattle.rdb_types.specs.declared.file.FileId.{FileId as File};
 ghost use Rattle.rdb_outside.specs.Causes.{Rose};
 ghost use Rattle.rdb_outside.specs.Disk.{LeavesOnly};
 ghost use Rattle.root_file.specs.declared.Root.{Root};
-ghost use Rattle.root_file.specs.Root.{IsRoot};
+ghost use Rattle.root_file.specs.Root.{AreLimits, IsRoot};
 ghost use Rattle.area_files.specs.Areas.{IsPage, IsSpacePage};
 ghost use Rattle.new_database.specs.Maker.{root_file as root_named};
 ghost use Rattle.line_view.specs.Knowledge.{Lines};
@@ -34,7 +34,8 @@ pub(crate) fn open_in_use<D: Disk>(disk: &mut D) -> Result<StoreStart, Fault>
         → AreUsedUp journal kept.root }
 
     // It has the limits of the root, and draws its numbers from the ceiling on.
-    ensures pages { IfOk result (λ start. start.root.limits.pages ≤ 65536) }
+    ensures allowed { IfOk result (λ start. AreLimits start.root.limits) }
+    ensures first { IfOk result (λ start. 1 ≤ start.next_tsn) }
     ensures limits { IfOk result (λ start. IsTrue (D.view disk.old).tells → (root : Root)
         → IsRoot ((D.view disk.old).content root_named 0) root
         → start.root.limits ≡ root.limits) }

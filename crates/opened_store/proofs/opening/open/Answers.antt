@@ -1,6 +1,5 @@
-use Rattle.std.proofs.Common.{rules, inl, inr, ◌∙◌, List, ℕ, refl, sym, ap, subst, arith}
+use Rattle.std.proofs.Common.{rules, inl, inr, ◌∙◌, List, ℕ, refl, ap, subst, arith}
 use Rattle.std.proofs.lemmas.Result.{err_from_is_err_and}
-use Rattle.rdb_types.specs.declared.keys.Limits.{Limits}
 use Rattle.root_file.specs.Root.{IsRoot}
 use Rattle.new_database.specs.Maker.{root_file}
 use Rattle.line_moves.proofs.Runs.{still_tells}
@@ -13,7 +12,7 @@ use Rattle.opened_store.proofs.Moments.{left-raised, left-read, all-pages}
 use Rattle.opened_store.proofs.opening.open.Goals as goal
 
 pub read_tables-requires : goal.read_tables-requires
-read_tables-requires g c = c.in_ok-start.ensures.pages
+read_tables-requires g c = c.in_ok-start.ensures.allowed.pages.1
 
 pub returns-in_err-start-clause-bad : goal.returns-in_err-start-clause-bad
 returns-in_err-start-clause-bad g c = λ file slot is t classes lines journal kept.

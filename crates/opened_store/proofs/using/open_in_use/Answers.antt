@@ -1,6 +1,7 @@
-use Rattle.std.proofs.Common.{rules, ◌≡◌, ◌-◌, ◌∙◌, ap, sym, arith, inr}
+use Rattle.std.proofs.Common.{rules, ◌-◌, ◌∙◌, ap, sym, subst, arith, inr}
 use Rattle.rdb_types.specs.declared.keys.Limits.{Limits}
 use Rattle.root_file.specs.declared.Root.{Root}
+use Rattle.root_file.specs.Root.{AreLimits}
 use Rattle.root_file.proofs.Readings.{one_root}
 use Rattle.new_database.specs.Maker.{root_file}
 use Rattle.stable_lines.specs.Slots.{area_file}
@@ -34,9 +35,13 @@ returns-clause-bad g c = let v = g.D.Disk.view in let old = v c.args.disk.now in
     let numbered = begins.next.numbered in
     inr (spent kept.root journal (ap (λ (r : Root). r.state) (sym same) ∙ c.take_into_use.ensures.restored file slot is) (omega (arith, last, numbered)) kept.is_root.is.allowed.limits.slots.0)
 
-pub returns-clause-pages : goal.returns-clause-pages
-returns-clause-pages g c = let start = c.in_ok-start.start in
-    if_ok _ _ c.take_into_use.result (λ used is. let most = c.in_ok-start.ensures.root.limits.pages.1 in let same = ap (λ (l : Limits). l.pages) (same_limits start used is) in omega (arith, most, same)) c.take_into_use.ensures.is
+pub returns-clause-allowed : goal.returns-clause-allowed
+returns-clause-allowed g c = let start = c.in_ok-start.start in
+    if_ok _ _ c.take_into_use.result (λ used is. subst (λ (l : Limits). AreLimits l) (sym (same_limits start used is)) c.in_ok-start.ensures.root.limits) c.take_into_use.ensures.is
+
+pub returns-clause-first : goal.returns-clause-first
+returns-clause-first g c = let start = c.in_ok-start.start in
+    if_ok _ _ c.take_into_use.result (λ used is. let number = c.in_ok-start.ensures.number in let least = c.in_ok-start.ensures.root.ceiling.0 in let same = same_number start used is in omega (arith, number, least, same)) c.take_into_use.ensures.is
 
 pub returns-clause-limits : goal.returns-clause-limits
 returns-clause-limits g c = let old = g.D.Disk.view c.args.disk.now in let start = c.in_ok-start.start in
