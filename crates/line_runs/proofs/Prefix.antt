@@ -1,6 +1,7 @@
 -- What a crash leaves of the disk, of what the store over it had.
-use Rattle.std.proofs.Common.{◌≡◌, ◌∙◌, ◌-◌, ℕ, List, Some, None, sym, ap, subst, ◌⊎◌, inl, inr, ⊎_elim}
+use Rattle.std.proofs.Common.{◌≡◌, ◌∙◌, ◌-◌, ℕ, List, true, Some, None, sym, ap, subst, ◌⊎◌, inl, inr, ⊎_elim}
 use Rattle.std.proofs.lemmas.Option.{none-some}
+use Rattle.rdb_outside.specs.Causes.{Rose}
 use Rattle.rdb_outside.specs.Disk.{Image, View, LeftNow, Pending, IsPending}
 use Rattle.rdb_outside.specs.Moments.{each_slot}
 use Rattle.rdb_account.specs.Events.{Event}
