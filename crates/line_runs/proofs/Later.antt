@@ -1,5 +1,5 @@
 -- An account with which a run opens on an image that may be opened.
-use Rattle.std.proofs.Common.{ℕ, IsTrue, length, refl, arith}
+use Rattle.std.proofs.Common.{IsTrue, length, refl, arith}
 use Rattle.rdb_outside.specs.Disk.{View}
 use Rattle.root_file.specs.declared.Root.{Root}
 use Rattle.line_view.specs.Knowledge.{Lines}
