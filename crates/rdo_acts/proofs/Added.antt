@@ -1,5 +1,5 @@
 -- What is added to a list: what was there before stays, and each other one is so.
-use Rattle.std.proofs.Common.{◌≡◌, ◌⊎◌, inl, inr, ℕ, zero, suc, ◌<◌, List, [], ◌∷◌, ◌++◌, length, get_or, refl, sym, subst, arith}
+use Rattle.std.proofs.Common.{◌≡◌, ◌⊎◌, inl, inr, ℕ, zero, suc, ◌<◌, ◌+◌, List, [], ◌∷◌, ◌++◌, length, get_or, refl, sym, subst, ap, ◌∙◌, arith}
 use Rattle.std.specs.declared.cmp.Ordering.{Ordering}
 use Rattle.std.specs.declared.cmp.Ordering.TheVariants.{Less, Equal, Greater}
 use Rattle.std.specs.Ordering.{match_ordering}
@@ -7,10 +7,10 @@ use Rattle.std.specs.BTreeSet.{insert_key}
 use Rattle.std.specs.List.{AllByRecursion}
 use Rattle.rdb_types.specs.declared.keys.Dbkey.{Dbkey}
 use Rattle.line_view.specs.declared.need.Need.{Need}
-use Rattle.line_view.specs.declared.need.Need.TheVariants.{Line}
-use Rattle.sorted_index_laws.specs.Nodes.{AnyByRecursion}
+use Rattle.line_view.specs.declared.need.Need.TheVariants as kinds
+use Rattle.line_view.specs.declared.need.Room.{Room}
 use Rattle.sound_changes.proofs.Basics.{all_of}
-use Rattle.rdo_acts.specs.Looking.{AddsOnly, IsIn, IsLineOf}
+use Rattle.rdo_acts.specs.Looking.{AddsOnly, IsIn, IsLineOf, IsRoomWithin}
 
 module _ {X : Type 0} where
   pub all_there : (xs : List X) → AllByRecursion (IsIn xs) xs
@@ -22,10 +22,10 @@ module _ {X : Type 0} where
   lookup P (y ∷ ys) x each (inl is) = subst P (sym is) each.0
   lookup P (y ∷ ys) x each (inr later) = lookup P ys x each.1 later
 
-  pub one_at : (xs : List X) (i : ℕ) (x : X) → i < length xs → x ≡ get_or xs i x → IsIn xs x
-  one_at [] i x within is = absurd (omega (arith, within))
-  one_at (y ∷ ys) zero x within is = inl is
-  one_at (y ∷ ys) (suc i) x within is = inr (one_at ys i x (omega (arith, within)) is)
+  pub one_at : (xs : List X) (i : ℕ) (x : X) → i < length xs → IsIn xs (get_or xs i x)
+  one_at [] i x within = absurd (omega (arith, within))
+  one_at (y ∷ ys) zero x within = inl refl
+  one_at (y ∷ ys) (suc i) x within = inr (one_at ys i x (omega (arith, within)))
 
   module _ (Is : X → Type 0) where
     pub kept : (xs : List X) → AddsOnly Is xs xs
@@ -73,7 +73,11 @@ module _ {X : Type 0} where
       added_as old new h = all_of (λ x. Is x ⊎ IsIn old x) (λ x. As x ⊎ IsIn old x) (as_so old) new h
 
 -- a line of these
-pub line_of : (keys : List Dbkey) (key : Dbkey) (need : Need) → IsIn keys key → need ≡ Line key → IsLineOf keys need
+pub line_of : (keys : List Dbkey) (key : Dbkey) (need : Need) → IsIn keys key → need ≡ kinds.Line key → IsLineOf keys need
 line_of [] key need there is = absurd there
-line_of (k ∷ ks) key need (inl same) is = inl (subst (λ (x : Dbkey). need ≡ Line x) same is)
+line_of (k ∷ ks) key need (inl same) is = inl (subst (λ (x : Dbkey). need ≡ kinds.Line x) same is)
 line_of (k ∷ ks) key need (inr later) is = inr (line_of ks key need later is)
+
+-- a room so many behind this one
+pub room_within : (room : Room) (more n nth : ℕ) (need : Need) → n < more → nth ≡ room.nth + n → need ≡ kinds.Room (record { area = room.area; class = room.class; nth = nth }) → IsRoomWithin room more need
+room_within room more n nth need less far is = (n, less, is ∙ ap (λ (k : ℕ). kinds.Room (record { area = room.area; class = room.class; nth = k })) far)

@@ -14,3 +14,6 @@ returns-in_ok-push-clause-ahead c = λ first to.
 pub returns-in_ok-push-clause-only : goal.returns-in_ok-push-clause-only
 returns-in_ok-push-clause-only c =
     subst (λ (ns : List Need). AddsOnly (λ n. n ≡ c.args.need) c.args.self.now.needs ns) (sym c.in_ok-push.ensures.ok) (pushed (λ n. n ≡ c.args.need) c.args.need refl c.args.self.now.needs)
+
+pub returns-else-comes_behind-clause-only : goal.returns-else-comes_behind-clause-only
+returns-else-comes_behind-clause-only c = kept (λ n. n ≡ c.args.need) c.args.self.now.needs

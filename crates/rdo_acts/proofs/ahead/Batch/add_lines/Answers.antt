@@ -1,16 +1,15 @@
-use Rattle.std.proofs.Common.{◌≡◌, ◌∷◌, List, inl, refl, sym, subst}
+use Rattle.std.proofs.Common.{◌≡◌, List, sym, subst}
 use Rattle.std.specs.List.{AllByRecursion}
 use Rattle.rdb_types.specs.declared.keys.Dbkey.{Dbkey}
-use Rattle.line_view.specs.declared.need.Need.{Need}
 use Rattle.line_view.specs.declared.need.Need.TheVariants.{Line}
-use Rattle.rdo_acts.specs.Looking.{AddsOnly, IsIn, IsLineOf}
+use Rattle.rdo_acts.specs.Looking.{IsIn, IsLineOf}
 use Rattle.rdo_acts.proofs.Added.{kept, then_added, added_as, all_there, line_of}
 use Rattle.rdo_acts.proofs.ahead.Batch.add_lines.Goals as goal
 
 pub loop-key-init : goal.loop-key-init
 loop-key-init c = record {
   ahead = λ first to. to;
-  left = subst (λ (ks : List Dbkey). AllByRecursion (IsIn c.args.keys.now.keys) ks) (sym c.into_iter-key-iterator.ensures.0) (all_there c.args.keys.now.keys);
+  left = subst (λ (ks : List Dbkey). AllByRecursion (IsIn c.args.keys.now.keys) ks) (sym c.into_iter-key-iterator.ensures.into_iter_gives.0) (all_there c.args.keys.now.keys);
   only = kept (IsLineOf c.args.keys.now.keys) c.args.self.now.needs;
 }
 
