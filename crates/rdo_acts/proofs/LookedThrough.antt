@@ -1,5 +1,5 @@
 -- Selections, printed items and actions that are looked through.
-use Rattle.std.proofs.Common.{◌≡◌, ◌<◌, ◌+◌, ◌++◌, ℕ, zero, suc, inl, inr, List, [], ◌∷◌, map, length, get_or, Option, Result, Ok, Err, OnOk, refl, sym, ap, subst, ◌∙◌, append-nil, arith}
+use Rattle.std.proofs.Common.{◌≡◌, ◌<◌, ◌+◌, ◌++◌, ℕ, zero, suc, inl, inr, List, [], ◌∷◌, map, length, get_or, Option, Result, Ok, Err, OnOk, refl, sym, ap, subst, ◌∙◌, append-nil, rules, arith}
 use Rattle.std.specs.Prelude.{IfOk}
 use Rattle.std.specs.List.{All, AllByRecursion}
 use Rattle.std.proofs.lemmas.List.Elements.{All-get_or}
@@ -11,10 +11,13 @@ use Rattle.rdb_meaning.specs.Evaluation.{bind_tuple}
 use Rattle.relation_rows.specs.declared.stored.StoredRow.{StoredRow}
 use Rattle.sorted_index_laws.specs.Nodes.{AnyByRecursion}
 use Rattle.rdo_values.specs.declared.bound.BoundRange.{BoundRange}
+use Rattle.rdo_ast.specs.declared.syntax.Statistic.{Statistic}
+use Rattle.rdo_values.specs.declared.bound.BoundExpression as tree
 use Rattle.rdo_values.specs.declared.bound.BoundExpression.{BoundExpression}
-use Rattle.rdo_values.specs.Tree.{Expression, Ranging, ranging, With, without_condition, with_condition, count, statistic}
-use Rattle.rdo_values.specs.Views.{expression_of}
-use Rattle.rdo_values.specs.Places.{ranges_in}
+use Rattle.rdo_values.specs.declared.bound.BoundInner.{BoundInner}
+use Rattle.rdo_values.specs.Tree.{Expression, ranging, With, without_condition, with_condition, count, statistic}
+use Rattle.rdo_values.specs.Views.{expression_of, ranging_of}
+use Rattle.rdo_values.specs.Places.{IsBound, IsBoundRanging, ranges_in}
 use Rattle.rdo_values.specs.Rows.{row_of, variables_of}
 use Rattle.rdo_values.proofs.Tuples.{variables_of_tuple}
 use Rattle.rdo_bind.specs.declared.action.BoundAction.{BoundAction}
@@ -50,6 +53,22 @@ stand_at t vs before (y ∷ ys) (suc i) x stand within is = stand_at t vs before
 pub item_bound : (t : Tables) (vs : List Range) (items : List BoundPrintItem) (i : ℕ) (x : BoundPrintItem) → All (IsBoundItem t vs) items → i < length items → x ≡ get_or items i x → IsBoundItem t vs x
 item_bound t vs items i x bound within is = subst (IsBoundItem t vs) (sym is) (All-get_or (IsBoundItem t vs) items i x within bound)
 
+-- ---- which item it is
+
+count_is : (i j : BoundInner) → j ≡ i → expression_of (tree.Count i) ≡ count (ranging_of j)
+count_is i j same = search (rules, tree.the_lemmas)
+
+statistic_is : (kind : Statistic) (e : BoundExpression) (i j : BoundInner) → j ≡ i → expression_of (tree.Statistic kind e i) ≡ statistic kind (expression_of e) (ranging_of j)
+statistic_is kind e i j same = search (rules, tree.the_lemmas)
+
+pub count_bound : (t : Tables) (vs : List Range) (item : BoundPrintItem) (i j : BoundInner) → item ≡ Value (tree.Count i) → j ≡ i → IsBoundItem t vs item → IsBoundRanging (ranging_of j) t vs
+count_bound t vs item i j is same bound = subst (λ (x : Expression). IsBound x t vs) (count_is i j same) (subst (IsBoundItem t vs) is bound)
+
+pub statistic_bound : (t : Tables) (vs : List Range) (item : BoundPrintItem) (kind : Statistic) (e : BoundExpression) (i j : BoundInner) → item ≡ Value (tree.Statistic kind e i) → j ≡ i → IsBoundItem t vs item → IsBoundRanging (ranging_of j) t vs
+statistic_bound t vs item kind e i j is same bound =
+    let both : IsBound (statistic kind (expression_of e) (ranging_of j)) t vs = subst (λ (x : Expression). IsBound x t vs) (statistic_is kind e i j same) (subst (IsBoundItem t vs) is bound) in
+    both.1
+
 -- ---- what is read for a part is read for the whole
 
 module _ (t : Tables) (sources : Listed) where
@@ -72,16 +91,18 @@ module _ (t : Tables) (sources : Listed) where
   -- ---- printed items
 
   module _ (vs : List Range) where
-    pub count_read : (e : BoundExpression) (r : Ranging) (old new : List Dbkey) → expression_of e ≡ count r → AddsOnly (IsReadBy t sources (chosen_in_ranging r vs)) old new → AddsOnly (IsReadBy t sources (chosen_in_items (Value e ∷ []) vs)) old new
-    count_read e r old new is h =
-        left_read (chosen_in (expression_of e) vs) [] old new
-        (subst (λ (x : Expression). AddsOnly (IsReadBy t sources (chosen_in x vs)) old new) (sym is) h)
+    pub count_read : (item : BoundPrintItem) (i j : BoundInner) (old new : List Dbkey) → item ≡ Value (tree.Count i) → j ≡ i → AddsOnly (IsReadBy t sources (chosen_in_ranging (ranging_of j) vs)) old new → AddsOnly (IsReadBy t sources (chosen_in_items (item ∷ []) vs)) old new
+    count_read item i j old new is same h =
+        subst (λ (x : BoundPrintItem). AddsOnly (IsReadBy t sources (chosen_in_items (x ∷ []) vs)) old new) (sym is)
+        (left_read (chosen_in (expression_of (tree.Count i)) vs) [] old new
+        (subst (λ (x : Expression). AddsOnly (IsReadBy t sources (chosen_in x vs)) old new) (sym (count_is i j same)) h))
 
-    pub statistic_read : (e : BoundExpression) (s : _) (x : Expression) (r : Ranging) (old new : List Dbkey) → expression_of e ≡ statistic s x r → AddsOnly (IsReadBy t sources (chosen_in_ranging r vs)) old new → AddsOnly (IsReadBy t sources (chosen_in_items (Value e ∷ []) vs)) old new
-    statistic_read e s x r old new is h =
-        left_read (chosen_in (expression_of e) vs) [] old new
-        (subst (λ (y : Expression). AddsOnly (IsReadBy t sources (chosen_in y vs)) old new) (sym is)
-        (right_read (chosen_in x (vs ++ ranges_in r)) (chosen_in_ranging r vs) old new h))
+    pub statistic_read : (item : BoundPrintItem) (kind : Statistic) (e : BoundExpression) (i j : BoundInner) (old new : List Dbkey) → item ≡ Value (tree.Statistic kind e i) → j ≡ i → AddsOnly (IsReadBy t sources (chosen_in_ranging (ranging_of j) vs)) old new → AddsOnly (IsReadBy t sources (chosen_in_items (item ∷ []) vs)) old new
+    statistic_read item kind e i j old new is same h =
+        subst (λ (x : BoundPrintItem). AddsOnly (IsReadBy t sources (chosen_in_items (x ∷ []) vs)) old new) (sym is)
+        (left_read (chosen_in (expression_of (tree.Statistic kind e i)) vs) [] old new
+        (subst (λ (x : Expression). AddsOnly (IsReadBy t sources (chosen_in x vs)) old new) (sym (statistic_is kind e i j same))
+        (right_read (chosen_in (expression_of e) (vs ++ ranges_in (ranging_of j))) (chosen_in_ranging (ranging_of j) vs) old new h)))
 
     first_item : (P : Chosen → Type 0) (x : BoundPrintItem) (xs : List BoundPrintItem) → AnyByRecursion P (chosen_in_items (x ∷ []) vs) → AnyByRecursion P (chosen_in_items (x ∷ xs) vs)
     first_item P (Value e) xs h =

@@ -1,15 +1,22 @@
 -- How many rows a FOR stores.
-use Rattle.std.proofs.Common.{◌≡◌, ◌<◌, ◌≤◌, ◌+◌, ◌*◌, ℕ, inl, inr, List, [], ◌∷◌, ◌++◌, map, take, length, get_or, refl, sym, ap, subst, ◌∙◌, arith}
+use Rattle.std.proofs.Common.{◌≡◌, ◌<◌, ◌≤◌, ◌+◌, ◌*◌, ◌==◌, if◌then◌else◌, ℕ, Bool, true, inl, inr, List, [], ◌∷◌, ◌++◌, map, take, length, get_or, refl, sym, ap, subst, ◌∙◌, arith}
 use Rattle.std.proofs.lemmas.Nat.{mul-le}
 use Rattle.std.proofs.lemmas.List.{take_more}
 use Rattle.rdb_meaning.specs.declared.tables.Tables.{Tables}
 use Rattle.rdo_values.specs.declared.bound.BoundSelection.{BoundSelection}
+use Rattle.rdo_values.specs.declared.bound.BoundRange.{BoundRange}
+use Rattle.rdo_bind.specs.declared.assign.BoundAssign.{BoundAssign}
+use Rattle.rdo_bind.specs.declared.action.BoundAction as actions
 use Rattle.rdo_bind.specs.declared.action.BoundAction.{BoundAction}
 use Rattle.rdo_bind.specs.Acting.{Act, Acts, for_each, act_of, acts_of}
 use Rattle.rdo_acts.specs.Ahead.{stored_by, stores_into, StoresMore}
 use Rattle.rdo_acts.specs.Looking.{CountsTuples}
+use Rattle.rdo_acts.proofs.Arms.{is_store}
 
 -- ---- the STOREs of a body
+
+pub stores_so : (action : BoundAction) (s : BoundRange) (as' : List BoundAssign) (area : ℕ) → action ≡ actions.Store s as' → (s.area == area) ≡ true → stored_by (act_of action) area ≡ 1
+stores_so action s as' area is same = ap (λ (a : Act). stored_by a area) (is_store action s as' as' is refl) ∙ ap (λ (b : Bool). if b then 1 else 0) same
 
 stores_one : (body : List BoundAction) (x : BoundAction) (area : ℕ) → stores_into (acts_of (map act_of (body ++ x ∷ []))) area ≡ stores_into (acts_of (map act_of body)) area + stored_by (act_of x) area
 stores_one [] x area = omega arith

@@ -69,7 +69,7 @@ look_at-returns-in-Print t c ta vs shown bound own =
 pub look_at-returns-in-For : goal.look_at-returns-in-For
 look_at-returns-in-For t c ta vs shown bound own =
     let sources = c.args.sight.sources.now.entries in
-    let s = c.in-For.selection.now in
+    let s = c.in-For.selection in
     let body = c.as_slice.result.now in
     let is = is_for c.args.action.now s c.in-For.body body c.in-For.is c.as_slice.ensures in
     let placed = subst (λ (a : Act). IsBoundAct a ta vs) is bound in

@@ -4,4 +4,4 @@ use Rattle.rdo_acts.specs.Ahead.{stores_into}
 use Rattle.rdo_acts.proofs.looking.stores_into.Given as goal
 
 abbrev pub invariant-loop-action : goal.invariant-loop-action
-invariant-loop-action l = l.stores ≤ stores_into (acts_of (map act_of (take l.action-index l.body))) l.area
+invariant-loop-action l = l.count ≤ stores_into (acts_of (map act_of (take l.action-index l.body))) l.area
