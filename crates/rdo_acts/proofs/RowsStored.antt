@@ -31,7 +31,7 @@ stores_more_by body i x area within is =
 -- ---- for each tuple
 
 pub stores_more : (t : Tables) (s : BoundSelection) (body : Acts) (area n tuples each : ℕ) → CountsTuples t s tuples → each ≤ stores_into body area → n < tuples * each → StoresMore t (for_each s body) area n
-stores_more t s body area n tuples each (inl none) few less = let bad : n < 0 = subst (λ (m : ℕ). n < m * each) none less in absurd (omega (arith, bad))
+stores_more t s body area n tuples each (inl none) few less = let bad : n < 0 * each = subst (λ (m : ℕ). n < m * each) none less in absurd (omega (arith, bad))
 stores_more t s body area n tuples each (inr counted) few less =
     let all : tuples * each ≤ length counted.0 * stores_into body area = mul-le tuples each (length counted.0) (stores_into body area) (omega (arith, counted.2)) few in
-    (counted.0, (counted.1, omega (arith, less, all)))
+    (counted.0, counted.1, omega (arith, less, all))

@@ -6,7 +6,6 @@ use Rattle.rdo_bind.specs.Acting.{act_of, acts_of, AreBoundActs}
 use Rattle.rdo_values.specs.Views.{ranging_of}
 use Rattle.rdo_values.specs.Places.{ranges_in}
 use Rattle.rdo_select.specs.Sources.{IsShown}
-use Rattle.rdo_select.specs.Stops.{HaveValues}
 use Rattle.rdo_values.specs.Selections.{IsBoundSelection}
 use Rattle.rdo_acts.specs.Looking.{AddsOnly, IsReadBy, AreValuesOf}
 use Rattle.rdo_acts.specs.Selections.{chosen_in_acts}

@@ -37,3 +37,6 @@ returns-in-Value-Statistic c ta vs shown bound own =
 
 pub returns-in_default : goal.returns-in_default
 returns-in_default c ta vs shown bound own = kept (IsReadBy ta c.args.sight.sources.now.entries (chosen_in_items (c.args.item.now ∷ []) vs)) c.args.keys.now.keys
+
+pub returns-in_default-2 : goal.returns-in_default-2
+returns-in_default-2 c ta vs shown bound own = kept (IsReadBy ta c.args.sight.sources.now.entries (chosen_in_items (c.args.item.now ∷ []) vs)) c.args.keys.now.keys

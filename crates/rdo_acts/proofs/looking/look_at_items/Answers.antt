@@ -1,6 +1,4 @@
-use Rattle.std.proofs.Common.{List, subst}
-use Rattle.rdb_types.specs.declared.keys.Dbkey.{Dbkey}
-use Rattle.rdo_acts.specs.Looking.{AddsOnly, IsReadBy}
+use Rattle.rdo_acts.specs.Looking.{IsReadBy}
 use Rattle.rdo_acts.specs.Selections.{chosen_in_items}
 use Rattle.rdo_acts.proofs.Added.{kept, then_added}
 use Rattle.rdo_acts.proofs.LookedThrough.{item_read, item_bound}

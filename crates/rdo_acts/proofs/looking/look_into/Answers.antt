@@ -1,10 +1,9 @@
-use Rattle.std.proofs.Common.{◌≡◌, List, map, sym, ap, subst, ◌∙◌, rules}
-use Rattle.rdb_types.specs.declared.keys.Dbkey.{Dbkey}
+use Rattle.std.proofs.Common.{◌≡◌, sym, ap, subst, ◌∙◌, rules}
 use Rattle.rdo_values.specs.declared.bound.BoundExpression as tree
 use Rattle.rdo_values.specs.declared.bound.BoundInner.{out-BoundInner}
-use Rattle.rdo_values.specs.Tree.{Ranging, ranging, Conjunction, no_test, without_condition, with_condition}
-use Rattle.rdo_values.specs.Views.{condition_of, ranging_of, testing_of, conjunction_with}
-use Rattle.rdo_select.specs.Chosen.{with_behind, tests_alone}
+use Rattle.rdo_values.specs.Tree.{Ranging, Conjunction, without_condition, with_condition}
+use Rattle.rdo_values.specs.Views.{condition_of}
+use Rattle.rdo_select.specs.Chosen.{with_behind}
 use Rattle.rdo_select.proofs.Matchings.{HasParts, parts_are, parts_bound}
 use Rattle.served_selections.specs.Ranges.{chosen_from, chosen_in_ranging}
 use Rattle.rdo_acts.specs.Looking.{AddsOnly, IsReadBy}

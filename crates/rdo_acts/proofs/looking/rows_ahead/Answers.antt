@@ -1,4 +1,4 @@
-use Rattle.std.proofs.Common.{[], List, map, sym, subst, arith}
+use Rattle.std.proofs.Common.{[], map, sym, subst, arith}
 use Rattle.rdo_bind.specs.Acting.{Act, act_of, acts_of, IsBoundAct}
 use Rattle.rdo_acts.specs.Ahead.{StoresMore}
 use Rattle.rdo_acts.proofs.Arms.{is_for}
