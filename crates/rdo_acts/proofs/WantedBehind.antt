@@ -39,7 +39,7 @@ module _ (t : Tables) (sources : Listed) (a : Act) (first : Need) where
 
 module _ (t : Tables) (sources : Listed) (a : Act) (room : rooms.Room) (more : ℕ) (stores : (n : ℕ) → n < more → StoresMore t a room.area n) where
   room_wanted : (need : Need) → IsRoomWithin room more need → IsWantedBehind t sources a (Room room) need
-  room_wanted need within = subst (IsWantedBehind t sources a (Room room)) (sym within.2) (within.0, (refl, stores within.0 within.1))
+  room_wanted need within = subst (IsWantedBehind t sources a (Room room)) (sym within.2) (within.0, refl, stores within.0 within.1)
 
   pub rooms_wanted : (needs : List Need) → AddsOnly (IsRoomWithin room more) [] needs → AllByRecursion (IsWantedBehind t sources a (Room room)) needs
   rooms_wanted needs added = all_of (IsRoomWithin room more) (IsWantedBehind t sources a (Room room)) room_wanted needs (all_added (IsRoomWithin room more) needs added)
