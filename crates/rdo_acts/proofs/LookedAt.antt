@@ -59,11 +59,11 @@ has_one key (k ∷ ks) (inr later) = ap (λ b. is_eq (dbkey_order key k) || b) (
 
 is_one : (P : Dbkey → Type 0) (key : Dbkey) (keys : List Dbkey) → AllByRecursion P keys → list_any (λ k. is_eq (dbkey_order key k)) keys ≡ true → P key
 is_one P key [] each has = let bad : ⊥ = cc in absurd bad
-is_one P key (k ∷ ks) each has = by (dbkey_order key k) refl where
-  by : (r : Ordering) → dbkey_order key k ≡ r → P key
-  by Equal tie = subst P (sym (same_dbkey key k tie)) each.0
-  by Less apart = is_one P key ks each.1 (sym (ap (λ r. is_eq r || list_any (λ k. is_eq (dbkey_order key k)) ks) apart) ∙ has)
-  by Greater apart = is_one P key ks each.1 (sym (ap (λ r. is_eq r || list_any (λ k. is_eq (dbkey_order key k)) ks) apart) ∙ has)
+is_one P key (k ∷ ks) each has = by (dbkey_order key k) refl (is_one P key ks each.1) where
+  by : (r : Ordering) → dbkey_order key k ≡ r → (list_any (λ k. is_eq (dbkey_order key k)) ks ≡ true → P key) → P key
+  by Equal tie later = subst P (sym (same_dbkey key k tie)) each.0
+  by Less apart later = later (sym (ap (λ r. is_eq r || list_any (λ k. is_eq (dbkey_order key k)) ks) apart) ∙ has)
+  by Greater apart later = later (sym (ap (λ r. is_eq r || list_any (λ k. is_eq (dbkey_order key k)) ks) apart) ∙ has)
 
 module _ (known : Knowledge) (all : Lines) (root : Dbkey) (positions : List ℕ) (rows : List (Dbkey × Row)) (interval : Interval) (index : IsIndexOf all root positions rows) where
   abbrev Led : Dbkey → Type 0

@@ -36,8 +36,8 @@ look_behind-loop-row-preserved t c ta vs shown ranged stand =
 pub look_over-returns-in_default : goal.look_over-returns-in_default
 look_over-returns-in_default t c ta vs shown ranged own = kept (IsReadBy ta c.args.sight.sources.now.entries (chosen_from c.args.ranges.now vs (conjunction_with (map testing_of c.args.tests.now)))) c.args.keys.now.keys
 
-pub look_over-returns-in_default-2 : goal.look_over-returns-in_default-2
-look_over-returns-in_default-2 t c ta vs shown ranged own = kept (IsReadBy ta c.args.sight.sources.now.entries (chosen_from c.args.ranges.now vs (conjunction_with (map testing_of c.args.tests.now)))) c.args.keys.now.keys
+pub look_over-returns-in_default-get : goal.look_over-returns-in_default-get
+look_over-returns-in_default-get t c ta vs shown ranged own = kept (IsReadBy ta c.args.sight.sources.now.entries (chosen_from c.args.ranges.now vs (conjunction_with (map testing_of c.args.tests.now)))) c.args.keys.now.keys
 
 pub look_over-returns-then-is_empty : goal.look_over-returns-then-is_empty
 look_over-returns-then-is_empty t c ta vs shown ranged own =
@@ -63,8 +63,8 @@ look_over-returns-then-is_empty t c ta vs shown ranged own =
     subst (λ (rs : List BoundRange). AddsOnly (IsReadBy ta sources (chosen_from rs vs tests)) old mid) (sym split)
     (first_added known sources ta shown range rest vs tests before own first source stands access is old mid added)
 
-pub look_over-returns-in_default-3 : goal.look_over-returns-in_default-3
-look_over-returns-in_default-3 t c ta vs shown ranged own =
+pub look_over-returns : goal.look_over-returns
+look_over-returns t c ta vs shown ranged own =
     let ranges = c.args.ranges.now in
     let range = c.range-item.result in
     let rest = take (length ranges - 1) (drop 1 ranges) in

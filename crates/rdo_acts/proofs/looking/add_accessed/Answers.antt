@@ -23,7 +23,7 @@ returns-in-Find c all rel source sorted agrees its served =
     let so = subst (λ (a : Access). Serves all (positions_in source.indexes.now a) rel.rows a) is served in
     if_ok c.add_found.result _ _
     (λ added. subst (λ (a : Access). AddsOnly (IsAccessed a source rel) c.args.keys.now.keys c.add_found.new.keys.keys) (sym is)
-    (added_as (IsFoundIn c.find.result) (IsAccessed (Find root key) source rel) (find_accessed known all rel source root key so c.find.result (c.find.ensures.answers all so.level so.tree agrees so.is)) c.args.keys.now.keys c.add_found.new.keys.keys added))
+    (added_as (IsFoundIn c.find-found.result) (IsAccessed (Find root key) source rel) (find_accessed known all rel source root key so c.find-found.result (c.find-found.ensures.answers all so.level so.tree agrees so.is)) c.args.keys.now.keys c.add_found.new.keys.keys added))
     c.add_found.ensures
 
 pub returns-in-Range : goal.returns-in-Range
@@ -35,5 +35,5 @@ returns-in-Range c all rel source sorted agrees its served =
     let so = subst (λ (a : Access). Serves all (positions_in source.indexes.now a) rel.rows a) is served in
     if_ok c.add_found-in-Range.result _ _
     (λ added. subst (λ (a : Access). AddsOnly (IsAccessed a source rel) c.args.keys.now.keys c.add_found-in-Range.new.keys.keys) (sym is)
-    (added_as (IsFoundIn c.range.result) (IsAccessed (Range root bounds) source rel) (range_accessed known all rel source root bounds so c.range.result (c.range.ensures.answers all so.level so.tree agrees so.is)) c.args.keys.now.keys c.add_found-in-Range.new.keys.keys added))
+    (added_as (IsFoundIn c.range-found.result) (IsAccessed (Range root bounds) source rel) (range_accessed known all rel source root bounds so c.range-found.result (c.range-found.ensures.answers all so.level so.tree agrees so.is)) c.args.keys.now.keys c.add_found-in-Range.new.keys.keys added))
     c.add_found-in-Range.ensures
