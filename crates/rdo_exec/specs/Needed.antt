@@ -36,12 +36,7 @@ pub record IsActNeed (a : Act) (known : Knowledge) (all : Lines) (t : Tables) (n
   pub wants : Then given all t (λ u. ActWants u given.sources.now.entries bound [] need)
   pub behind : AllByRecursion (IsWantedBehind t given.sources.now.entries bound need) later
 
--- this is true of the first need, if some are named
-abbrev pub IfMissing : (Need → Type 0) → Found → Type 0
-IfMissing Is (Missing next later) = Is next
-IfMissing Is _ = Unit {0}
-
--- the same of the first need and those behind it
+-- this is true of the first need and those behind it, if some are named
 abbrev pub IfLacking : (Need → List Need → Type 0) → Found → Type 0
 IfLacking Is (Missing next later) = Is next later
 IfLacking Is _ = Unit {0}

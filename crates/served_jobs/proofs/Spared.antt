@@ -7,10 +7,10 @@ use Rattle.line_view.specs.Knowledge.{Knowledge, Lines}
 use Rattle.session_jobs.specs.declared.jobs.Found.{Found}
 use Rattle.session_jobs.specs.declared.jobs.Found.TheVariants as found
 use Rattle.rdo_acts.specs.Selections.{chosen_in_act}
-use Rattle.rdo_exec.specs.Needed.{IsOfCatalog, IsActNeed, IfMissing, IfLacking}
+use Rattle.rdo_exec.specs.Needed.{IsOfCatalog, IsActNeed, IfLacking}
 use Rattle.served_actions.specs.Served.{IsSpared}
 use Rattle.served_actions.proofs.Spared.{indexed, spared}
-use Rattle.served_jobs.specs.Served.{IsBoundTo, IsServedOver, IsSparedIn, IsSparedOver}
+use Rattle.served_jobs.specs.Served.{IsBoundTo, IsServedOver, IsSparedIn, IsSparedOver, IfMissing}
 
 module _ (a : Act) (known : Knowledge) (all : Lines) (t : Tables) (served : IsServedOver a known all t) where
   spared_in : (need : Need) (later : List Need) → IsActNeed a known all t need later → IsSparedIn a known all t need
