@@ -132,7 +132,7 @@ module _ (t : Tables) (sources : Listed) where
     pub act_read : (body : List BoundAction) (i : ℕ) (x : BoundAction) (old new : List Dbkey) → i < length body → x ≡ get_or body i x → AddsOnly (IsReadBy t sources (chosen_in_act (act_of x) vs)) old new → AddsOnly (IsReadBy t sources (chosen_in_acts (acts_of (map act_of body)) vs)) old new
     act_read body i x old new within is h = read_as (chosen_in_act (act_of x) vs) (chosen_in_acts (acts_of (map act_of body)) vs) (λ line read. act_in _ body i x within is read) old new h
 
-  -- ---- tuples
+-- ---- tuples
 
 pub tuple_at : (t : Tables) (vs ss : List Range) (own : Row) (values : AreValuesOf t vs own) (tuples : List Found) (i : ℕ) (x : Found) → HaveValues ss t values.scope tuples → i < length tuples → x ≡ get_or tuples i x → AreValuesOf t (vs ++ ss) x.row
 tuple_at t vs ss own values [] i x have within is = absurd (omega (arith, within))
