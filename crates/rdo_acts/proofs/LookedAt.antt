@@ -1,5 +1,5 @@
 -- The lines that are found where selections are looked through are read by indexes.
-use Rattle.std.proofs.Common.{◌≡◌, ◌⊎◌, ◌||◌, ℕ, Bool, true, false, cond, inl, inr, List, [], ◌∷◌, ◌++◌, map, Option, Some, None, Result, Ok, Err, refl, sym, ap, subst, ◌∙◌}
+use Rattle.std.proofs.Common.{◌≡◌, ◌||◌, ℕ, Bool, true, false, cond, inl, inr, List, [], ◌∷◌, ◌++◌, map, Some, Result, Ok, Err, refl, sym, ap, subst, ◌∙◌}
 use Rattle.std.specs.declared.cmp.Ordering.{Ordering}
 use Rattle.std.specs.declared.cmp.Ordering.TheVariants.{Less, Equal, Greater}
 use Rattle.std.specs.Ordering.{is_eq}
@@ -13,7 +13,6 @@ use Rattle.rdb_meaning.specs.declared.tables.Relation.{Relation}
 use Rattle.rdb_meaning.specs.declared.tables.Tables.{Tables}
 use Rattle.rdb_meaning.specs.Contents.{Row, relation_named}
 use Rattle.rdb_meaning.specs.Evaluation.{bind_source}
-use Rattle.line_view.specs.declared.need.Need.{Need}
 use Rattle.line_view.specs.declared.need.Need.TheVariants.{Line, Area, Room}
 use Rattle.line_view.specs.declared.stop.Stop.TheVariants.{Missing, Own, Bad, NoMemory}
 use Rattle.line_view.specs.Knowledge.{Knowledge, Lines}
@@ -21,7 +20,6 @@ use Rattle.relation_rows.specs.declared.stored.StoredRow.{StoredRow}
 use Rattle.relation_rows.specs.Relations.{stored_row}
 use Rattle.relation_rows.specs.Indexed.{IsIndexOf, pairs_of}
 use Rattle.sorted_index_laws.specs.Keys.{Interval, only, between}
-use Rattle.sorted_index_laws.specs.Nodes.{AnyByRecursion}
 use Rattle.sorted_index_laws.specs.Search.{Answers, reads, rows_within}
 use Rattle.sorted_index_laws.specs.Stop.{IndexStop}
 use Rattle.sorted_index_laws.specs.Tree.{pairs}
@@ -35,12 +33,12 @@ use Rattle.index_rows.proofs.Keyed.{keyed, found_keyed}
 use Rattle.rdo_values.specs.declared.bound.BoundRange.{BoundRange}
 use Rattle.rdo_values.specs.Tree.{Conjunction}
 use Rattle.rdo_values.specs.Places.{AreRanges, IsRangeOf}
-use Rattle.rdo_values.specs.Rows.{row_of, variables_of}
+use Rattle.rdo_values.specs.Rows.{row_of}
 use Rattle.rdo_select.specs.declared.source.Source.{Source}
 use Rattle.rdo_select.specs.Sources.{Listed, source_at, HasSource, IsSourceOf, IsShown}
 use Rattle.rdo_select.specs.Work.{is_read_once}
 use Rattle.served_selections.specs.Ranges.{Chosen, chosen_from}
-use Rattle.served_selections.specs.Served.{access_behind, IsLineBy, ReadsBy, IsReadFor, IsReadByIndex}
+use Rattle.served_selections.specs.Served.{access_behind, ReadsBy, IsReadByIndex}
 use Rattle.served_selections.proofs.Along.{IsRowOf, one_more_variable, rows_of_source}
 use Rattle.served_selections.proofs.Lacked.{IsLed, rows_led, first_led, nodes_led}
 use Rattle.rdo_acts.specs.Looking.{AddsOnly, IsIn, IsFoundIn, IsAccessed, IsReadBy, AreValuesOf, StandBehind}

@@ -1,7 +1,7 @@
 -- Selections, printed items and actions that are looked through.
-use Rattle.std.proofs.Common.{◌≡◌, ◌<◌, ◌+◌, ◌++◌, ℕ, zero, suc, inl, inr, List, [], ◌∷◌, map, length, get_or, Option, Result, Ok, Err, OnOk, refl, sym, ap, subst, ◌∙◌, append-nil, rules, arith}
+use Rattle.std.proofs.Common.{◌≡◌, ◌<◌, ◌++◌, ℕ, zero, suc, List, [], ◌∷◌, map, length, get_or, Option, Result, Ok, Err, OnOk, sym, ap, subst, ◌∙◌, append-nil, rules, arith}
 use Rattle.std.specs.Prelude.{IfOk}
-use Rattle.std.specs.List.{All, AllByRecursion}
+use Rattle.std.specs.List.{All}
 use Rattle.std.proofs.lemmas.List.Elements.{All-get_or}
 use Rattle.rdb_types.specs.declared.keys.Dbkey.{Dbkey}
 use Rattle.rdo_ast.specs.declared.syntax.Range.{Range}
@@ -18,22 +18,20 @@ use Rattle.rdo_values.specs.declared.bound.BoundInner.{BoundInner}
 use Rattle.rdo_values.specs.Tree.{Expression, ranging, With, without_condition, with_condition, count, statistic}
 use Rattle.rdo_values.specs.Views.{expression_of, ranging_of}
 use Rattle.rdo_values.specs.Places.{IsBound, IsBoundRanging, ranges_in}
-use Rattle.rdo_values.specs.Rows.{row_of, variables_of}
 use Rattle.rdo_values.proofs.Tuples.{variables_of_tuple}
 use Rattle.rdo_bind.specs.declared.action.BoundAction.{BoundAction}
 use Rattle.rdo_bind.specs.declared.action.BoundPrintItem.{BoundPrintItem}
 use Rattle.rdo_bind.specs.declared.action.BoundPrintItem.TheVariants.{Value, Fields}
-use Rattle.rdo_bind.specs.Acting.{Act, Acts, for_each, act_of, acts_of, IsBoundItem}
+use Rattle.rdo_bind.specs.Acting.{act_of, acts_of, IsBoundItem}
 use Rattle.rdo_select.specs.declared.crossing.Found.{Found}
 use Rattle.rdo_select.specs.Chosen.{sole_tests}
 use Rattle.rdo_select.specs.Sources.{Listed}
 use Rattle.rdo_select.specs.Stops.{HaveValues}
 use Rattle.served_selections.specs.Ranges.{Chosen, chosen_from, chosen_in, chosen_in_condition, chosen_in_ranging}
-use Rattle.served_selections.specs.Served.{IsReadByIndex}
 use Rattle.served_selections.proofs.Lists.{any_left, any_right}
 use Rattle.rdo_acts.specs.Looking.{AddsOnly, IsReadBy, AreValuesOf, StandBehind}
 use Rattle.rdo_acts.specs.Selections.{chosen_in_items, chosen_in_act, chosen_in_acts}
-use Rattle.rdo_acts.proofs.Added.{kept, then_added, added_as}
+use Rattle.rdo_acts.proofs.Added.{added_as}
 
 pub if_ok : {T E : Type 0} (r : Result T E) (P Q : Type 0) → (P → Q) → OnOk r P → OnOk r Q
 if_ok (Ok x) P Q f h = f h

@@ -1,20 +1,17 @@
 -- What is named behind a first need is wanted.
-use Rattle.std.proofs.Common.{◌≡◌, ◌<◌, ◌+◌, ℕ, inl, inr, List, [], ◌∷◌, refl, sym, subst}
+use Rattle.std.proofs.Common.{◌≡◌, ◌<◌, ℕ, inl, inr, List, [], ◌∷◌, refl, sym, subst}
 use Rattle.std.specs.List.{AllByRecursion}
 use Rattle.rdb_types.specs.declared.keys.Dbkey.{Dbkey}
 use Rattle.rdb_meaning.specs.declared.tables.Tables.{Tables}
 use Rattle.line_view.specs.declared.need.Need.{Need}
-use Rattle.line_view.specs.declared.need.Need.TheVariants.{Line, Area, Room}
+use Rattle.line_view.specs.declared.need.Need.TheVariants.{Room}
 use Rattle.line_view.specs.declared.need.Room as rooms
-use Rattle.line_view.specs.Knowledge.{Knowledge, Lines, Agrees}
-use Rattle.sorted_index_laws.specs.Nodes.{AnyByRecursion}
-use Rattle.sound_changes.specs.Standing.{IsSoundAs}
+use Rattle.line_view.specs.Knowledge.{Knowledge}
 use Rattle.sound_changes.proofs.Basics.{all_of}
 use Rattle.sound_changes.proofs.Schemas.{catalogs_schema}
 use Rattle.bound_actions.proofs.Same.{act_same}
 use Rattle.rdo_bind.specs.Acting.{Act, IsBoundAct}
-use Rattle.rdo_select.specs.Sources.{Listed, IsShown}
-use Rattle.served_selections.specs.Served.{IsReadByIndex}
+use Rattle.rdo_select.specs.Sources.{Listed}
 use Rattle.rdo_acts.specs.declared.work.Given.{Given}
 use Rattle.rdo_acts.specs.declared.work.Work.{Work}
 use Rattle.rdo_acts.specs.declared.acting.Outcome.{Outcome}

@@ -6,12 +6,11 @@ use Rattle.rdb_meaning.specs.declared.tables.Tables.{Tables}
 use Rattle.rdb_meaning.specs.Evaluation.{Tuple, these}
 use Rattle.rdb_meaning.specs.Selecting.{selection}
 use Rattle.line_view.specs.declared.need.Need.{Need}
-use Rattle.line_view.specs.declared.need.Need.TheVariants.{Line, Area, Room}
+use Rattle.line_view.specs.declared.need.Need.TheVariants.{Line, Room}
 use Rattle.line_view.specs.Knowledge.{Knowledge, Lines, Agrees}
 use Rattle.line_view.specs.Stops.{Lacks}
 use Rattle.sorted_index_laws.specs.Nodes.{AnyByRecursion}
 use Rattle.sound_changes.specs.Standing.{IsSoundAs}
-use Rattle.rdo_values.specs.declared.bound.BoundSelection.{BoundSelection}
 use Rattle.rdo_values.specs.Views.{ranging_of}
 use Rattle.rdo_values.specs.Named.{named_ranging}
 use Rattle.rdo_values.specs.Selections.{written_clause}

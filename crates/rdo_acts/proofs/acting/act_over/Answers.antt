@@ -1,4 +1,4 @@
-use Rattle.std.proofs.Common.{rules, true, false, ap}
+use Rattle.std.proofs.Common.{rules, false, ap}
 use Rattle.line_view.specs.Held.{knows}
 use Rattle.rdo_bind.specs.Acting.{act_of, written_act}
 use Rattle.rdo_acts.proofs.ActEnds.{act_done, act_stopped, finishes_ordered, finishes_named, stops_ordered, stops_named, act_done_for, act_stopped_for, lacks_still}

@@ -1,4 +1,4 @@
-use Rattle.std.proofs.Common.{List, [], ap, sym, subst, ◌∙◌}
+use Rattle.std.proofs.Common.{List, ap, subst}
 use Rattle.line_view.specs.declared.need.Need.{Need}
 use Rattle.rdo_bind.specs.Acting.{act_of}
 use Rattle.rdo_acts.specs.Looking.{AddsOnly, IsRoomWithin}

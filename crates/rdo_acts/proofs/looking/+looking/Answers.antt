@@ -1,6 +1,5 @@
-use Rattle.std.proofs.Common.{◌≡◌, ◌-◌, ◌++◌, ◌∷◌, [], List, map, length, take, drop, Some, Ok, refl, sym, ap, subst, ◌∙◌}
+use Rattle.std.proofs.Common.{◌≡◌, ◌-◌, ◌++◌, ◌∷◌, [], List, map, length, take, drop, Some, sym, ap, subst, ◌∙◌}
 use Rattle.std.specs.Option.{option_copied}
-use Rattle.rdb_types.specs.declared.keys.Dbkey.{Dbkey}
 use Rattle.rdo_values.specs.declared.bound.BoundRange.{BoundRange}
 use Rattle.rdo_values.specs.Places.{AreRanges}
 use Rattle.rdo_values.specs.Views.{testing_of, conjunction_with}
@@ -8,7 +7,6 @@ use Rattle.rdo_select.specs.Sources.{source_at}
 use Rattle.rdo_select.proofs.Keeping.{first_source}
 use Rattle.served_selections.specs.Ranges.{chosen_from}
 use Rattle.served_selections.specs.Served.{access_behind}
-use Rattle.access_paths.specs.declared.choice.Access.{Access}
 use Rattle.index_rows.specs.Indexed.{positions_in}
 use Rattle.line_view.specs.Held.{knows}
 use Rattle.rdb_meaning.specs.Contents.{Row}
