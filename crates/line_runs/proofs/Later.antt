@@ -1,5 +1,5 @@
 -- An account with which a run opens on an image that may be opened.
-use Rattle.std.proofs.Common.{ℕ, IsTrue, length, refl, arith}
+use Rattle.std.proofs.Common.{IsTrue, length, refl, arith}
 use Rattle.rdb_outside.specs.Disk.{View}
 use Rattle.root_file.specs.declared.Root.{Root}
 use Rattle.line_view.specs.Knowledge.{Lines}
@@ -12,7 +12,7 @@ use Rattle.opened_store.specs.Opened.{is_taken_in}
 use Rattle.line_runs.specs.Openings.{OpensWith}
 
 module _ (M : Model) (v : View) (t : IsTrue v.tells) (o : Opening) (lines : Lines) (opens : OpensTo v.content lines) (p : Place) (now : IsNow M o p lines) where
-  root : Root
+  abbrev root : Root
   root = opens.has.kept.root
 
   -- it has the limits, the taken pages and the groups of the image

@@ -1,24 +1,19 @@
 -- What a crash leaves of the disk, of what the store over it had.
-use Rattle.std.proofs.Common.{◌≡◌, ◌∙◌, ◌-◌, ℕ, List, Some, None, sym, ap, subst, ◌⊎◌, inl, inr, ⊎_elim}
+use Rattle.std.proofs.Common.{◌≡◌, ◌∙◌, ℕ, List, true, sym, ap, subst, inl, inr}
 use Rattle.std.proofs.lemmas.Option.{none-some}
-use Rattle.rdb_outside.specs.Disk.{Image, View, LeftNow, Pending, IsPending}
+use Rattle.rdb_outside.specs.Causes.{Rose}
+use Rattle.rdb_outside.specs.Disk.{Image, View, LeftNow}
 use Rattle.rdb_outside.specs.Moments.{each_slot}
 use Rattle.rdb_account.specs.Events.{Event}
-use Rattle.rdb_account.specs.Places.{Opening, Commit, place}
-use Rattle.line_view.specs.declared.writes.Write.{Write}
+use Rattle.rdb_account.specs.Places.{Opening, place}
 use Rattle.line_view.specs.Knowledge.{Lines}
-use Rattle.stable_lines.specs.Slots.{area_file}
-use Rattle.stable_lines.specs.Progress.{lines_with}
-use Rattle.stable_lines.proofs.Stands.{stands}
-use Rattle.disk_seats.specs.Ledgers.{Commit as Going, Ledger, progress_of}
 use Rattle.member_steps.specs.Standing.{HasLines}
-use Rattle.member_steps.proofs.Left.{by_case}
 use Rattle.store_shows.specs.Shows.{Leaves}
 use Rattle.disk_store.specs.Memory.{StoreMemory}
 use Rattle.disk_store.specs.Shown.{Shown}
 use Rattle.disk_line_store.specs.Back.{IsBack}
 use Rattle.disk_store.proofs.Agreeing.{agreeing, shown-opens, standing}
-use Rattle.line_store.specs.Seats.{Seat, outside, beginning, writing, changing, prepared, committing, rolling_back, closing, reading, dead, in_flight}
+use Rattle.line_store.specs.Seats.{outside, in_flight}
 use Rattle.line_store.specs.Shelves.{Shelf}
 use Rattle.line_store.specs.Calls.{MayStand}
 use Rattle.line_store.specs.Sights.{Sight, bare}
@@ -26,8 +21,7 @@ use Rattle.session_jobs.specs.Records.{Model}
 use Rattle.session_stands.proofs.Seats.{outside-seat}
 use Rattle.line_cluster.specs.Deaths.{CountsFaults, has_device_deaths}
 use Rattle.line_cluster.specs.Sound.{HasImages, IsLeft}
-use Rattle.store_shows.specs.Shows.{OpensTo}
-use Rattle.line_runs.specs.Prefix.{IsPrefix, HoldsAll, HoldsPrefix}
+use Rattle.line_runs.specs.Prefix.{HoldsAll, HoldsPrefix}
 
 -- as the store has it
 leaves-now : (v : View) (held : StoreMemory) (h : Shelf) → Shown v held h → (image : Image) (lines : Lines) → LeftNow v image → HasLines image lines → Leaves v h.clock.time lines

@@ -4,5 +4,5 @@
 mod laws;
 mod runs;
 
-pub use laws::a_run_opens;
+pub use laws::{a_run_leaves_what_opens, a_run_opens};
 pub use runs::{LineRun, Said, say_in_order, say_in_threads};

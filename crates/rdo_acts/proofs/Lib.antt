@@ -25,3 +25,8 @@ pub mod ScopeUses
 pub mod Lacking
 pub mod Wanting
 pub mod WantingRows
+pub mod Added
+pub mod LookedAt
+pub mod WantedBehind
+pub mod RowsStored
+pub mod LookedThrough

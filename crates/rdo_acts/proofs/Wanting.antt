@@ -21,7 +21,6 @@ use Rattle.line_view.specs.Knowledge.{Knowledge, Lines, IsInOrder, Agrees}
 use Rattle.line_view.specs.Held.{Held, knows}
 use Rattle.catalog.specs.declared.reading.Catalog.{Catalog}
 use Rattle.sorted_index_laws.specs.Nodes.{AnyByRecursion}
-use Rattle.sound_changes.specs.Standing.{IsSoundAs}
 use Rattle.statement_view.specs.Over.{Over, Stands, knows_over}
 use Rattle.statement_view.specs.Areas.{is_among}
 use Rattle.row_writes.specs.declared.target.TargetRelation.{TargetRelation}

@@ -7,5 +7,6 @@ pub mod Wanted
 pub mod Stops
 pub mod Printing
 pub mod Ahead
+pub mod Looking
 pub mod Acted
 pub mod Told

@@ -13,11 +13,11 @@ ghost use Rattle.rdo_acts.specs.Scopes.{may_write};
 ghost use Rattle.rdo_acts.specs.Selections.{chosen_in_act, ReadsAmong, LacksAmong};
 ghost use Rattle.rdo_acts.specs.Wanted.{ActWants, Then, Lacking, WantsSo};
 ghost use Rattle.row_writes.specs.Rows.{IsSoundView};
-ghost use Rattle.rdo_acts.specs.Ahead.{AreAhead};
+ghost use Rattle.rdo_acts.specs.Ahead.{WantsBehind};
 ghost use Rattle.rdo_acts.specs.Told.{Finishes, IsLacking, LacksStill, StopsAs};
 
-use crate::ahead::Batch;
-use crate::looking::{Sight, lines_ahead, rows_ahead};
+use crate::behind::needs_behind;
+use crate::looking::Sight;
 use crate::running::run_action;
 use crate::stop::{ActStop, Refusal};
 use crate::work::{Given, Work};
@@ -76,36 +76,6 @@ fn begin<'a>(
     run_action(given, &[], &values, action, work)
 }
 
-// What comes behind the first need: rows that an index found, rooms for the rows that are left to be stored.
-fn needs_behind(
-    given: &Given<'_>,
-    known: &Known,
-    action: &BoundAction,
-    first: Need,
-    stored: &[Dbkey],
-) -> Result<Items<Need>, NoMemory>
-    ensures { IfOk result (AreAhead (knows known.now) first) }
-{
-    let sight = Sight {
-        alloc: given.alloc,
-        known,
-        sources: given.sources,
-    };
-    let mut batch = Batch::new(given.alloc, first);
-    match first {
-        Need::Line(_) => {
-            let keys = lines_ahead(sight, action)?;
-            batch.add_lines(known, &keys)?;
-        }
-        Need::Room(room) => {
-            let more = rows_ahead(sight, action, stored, room.area);
-            batch.add_rooms(known, room, more)?;
-        }
-        Need::Area(_) => {}
-    }
-    Ok(batch.needs)
-}
-
 fn lacking<'a>(alloc: Global, first: Need, behind: Items<Need>) -> Result<Outcome<'a>, NoMemory>
     ensures { IfOk result (λ outcome. outcome ≡ Outcome.Missing (first ∷ behind)) }
 {
@@ -122,9 +92,17 @@ fn missing<'a>(
     first: Need,
     stored: &[Dbkey],
 ) -> Result<Outcome<'a>, NoMemory>
-    ensures { IfOk result (λ outcome. IsLacking outcome (knows known.now) first) }
+    requires together { GoTogether given.now }
+    requires bound { IsBoundAct (act_of action.now) given.now.schema.now.tables [] }
+    ensures lacking { IfOk result (λ outcome. IsLacking outcome (knows known.now) first) }
+    ensures behind { IfOk result (λ outcome. WantsBehind outcome (act_of action.now) (knows known.now) given.now) }
 {
-    let behind = needs_behind(given, known, action, first, stored)?;
+    let sight = Sight {
+        alloc: given.alloc,
+        known,
+        sources: given.sources,
+    };
+    let behind = needs_behind(sight, action, first, stored)?;
     lacking(given.alloc, first, behind)
 }
 
@@ -135,7 +113,10 @@ fn stopped<'a>(
     stop: ActStop<'a>,
     stored: Keys,
 ) -> Outcome<'a>
-    ensures { StopsAs result stop.entry stored (knows known.now) }
+    requires together { GoTogether given.now }
+    requires bound { IsBoundAct (act_of action.now) given.now.schema.now.tables [] }
+    ensures stops { StopsAs result stop.entry stored (knows known.now) }
+    ensures behind { WantsBehind result (act_of action.now) (knows known.now) given.now }
 {
     match stop {
         Stop::Missing(need) => match missing(given, known, action, need, stored.as_slice()) {
@@ -182,7 +163,10 @@ fn abandoned<'a>(
     work: Work<'_>,
     stop: ActStop<'a>,
 ) -> Outcome<'a>
-    ensures { StopsAs result stop.entry work.entry.given (knows known.now) }
+    requires together { GoTogether given.now }
+    requires bound { IsBoundAct (act_of action.now) given.now.schema.now.tables [] }
+    ensures stops { StopsAs result stop.entry work.entry.given (knows known.now) }
+    ensures behind { WantsBehind result (act_of action.now) (knows known.now) given.now }
 {
     let Work { given: stored, .. } = work;
     stopped(given, known, action, stop, stored)
@@ -198,6 +182,7 @@ fn act_seeing<'a>(given: &Given<'a>, known: &Known, action: &BoundAction) -> Out
     ensures areas { StaysFor result (written_act action.now) (knows known.now) given.now.schema.now }
     ensures lacks { LacksAmong result (act_of action.now) (knows known.now) given.now }
     ensures wants { WantsSo result (act_of action.now) (knows known.now) given.now }
+    ensures behind { WantsBehind result (act_of action.now) (knows known.now) given.now }
 {
     let mut work = Work::new(given.alloc, Changed::new(given.alloc, known));
     match begin(given, action, &mut work) {
@@ -216,6 +201,7 @@ fn act_over<'a>(given: &Given<'a>, known: &Known, action: &BoundAction) -> Outco
     ensures areas { StaysFor result (written_act action.now) (knows known.now) given.now.schema.now }
     ensures lacks { LacksAmong result (act_of action.now) (knows known.now) given.now }
     ensures wants { WantsSo result (act_of action.now) (knows known.now) given.now }
+    ensures behind { WantsBehind result (act_of action.now) (knows known.now) given.now }
 {
     let mut work = Work::new(given.alloc, Changed::without_areas(given.alloc, known));
     match begin(given, action, &mut work) {
@@ -240,6 +226,7 @@ pub fn act<'a>(given: &Given<'a>, known: Known, action: &BoundAction) -> Ended<'
     ensures areas { StaysFor result.outcome (written_act action.now) (knows known) given.now.schema.now }
     ensures lacks { LacksAmong result.outcome (act_of action.now) (knows known) given.now }
     ensures wants { WantsSo result.outcome (act_of action.now) (knows known) given.now }
+    ensures behind { WantsBehind result.outcome (act_of action.now) (knows known) given.now }
 {
     let outcome = act_over(given, &known, action);
     Ended { known, outcome }

@@ -4,6 +4,7 @@ ghost use Rattle.line_view.specs.declared.need.Need.{Need as Needed};
 ghost use Rattle.line_view.specs.Held.{knows};
 ghost use Rattle.line_view.specs.Stops.{Lacks};
 ghost use Rattle.rdo_acts.specs.Ahead.{place_of as place, IsBehind, AreAheadTo};
+ghost use Rattle.rdo_acts.specs.Looking.{AddsOnly, IsRoomWithin, IsLineOf};
 
 use line_view::{Known, Need, Room, Seen, View};
 use rdb_types::{Dbkey, Items, NoMemory};
@@ -59,7 +60,8 @@ impl Batch {
 
     /// Adds a need where it comes behind the last one and isn't known.
     pub fn add(&mut self, known: &Known, need: Need) -> Result<(), NoMemory>
-        ensures { OnOk result ((first : Needed) → AreAheadTo (knows known.now) first self.old.needs self.old.last → AreAheadTo (knows known.now) first self.new.needs self.new.last) }
+        ensures ahead { OnOk result ((first : Needed) → AreAheadTo (knows known.now) first self.old.needs self.old.last → AreAheadTo (knows known.now) first self.new.needs self.new.last) }
+        ensures only { OnOk result (AddsOnly (λ n. n ≡ need) self.old.needs self.new.needs) }
     {
         if comes_behind(self.last, need) && is_unknown(known, need) {
             self.needs.push(need)?;
@@ -70,7 +72,8 @@ impl Batch {
 
     /// Adds the rooms that come behind this one, up to so many.
     pub fn add_rooms(&mut self, known: &Known, room: Room, more: u32) -> Result<(), NoMemory>
-        ensures { OnOk result ((first : Needed) → AreAheadTo (knows known.now) first self.old.needs self.old.last → AreAheadTo (knows known.now) first self.new.needs self.new.last) }
+        ensures ahead { OnOk result ((first : Needed) → AreAheadTo (knows known.now) first self.old.needs self.old.last → AreAheadTo (knows known.now) first self.new.needs self.new.last) }
+        ensures only { OnOk result (AddsOnly (IsRoomWithin room more) self.old.needs self.new.needs) }
     {
         for step in 0..more {
             let Some(nth) = room.nth.checked_add(step) else {
@@ -83,7 +86,8 @@ impl Batch {
 
     /// Adds the lines at these Dbkeys.
     pub fn add_lines(&mut self, known: &Known, keys: &BTreeSet<Dbkey>) -> Result<(), NoMemory>
-        ensures { OnOk result ((first : Needed) → AreAheadTo (knows known.now) first self.old.needs self.old.last → AreAheadTo (knows known.now) first self.new.needs self.new.last) }
+        ensures ahead { OnOk result ((first : Needed) → AreAheadTo (knows known.now) first self.old.needs self.old.last → AreAheadTo (knows known.now) first self.new.needs self.new.last) }
+        ensures only { OnOk result (AddsOnly (IsLineOf keys.now.keys) self.old.needs self.new.needs) }
     {
         for key in keys {
             self.add(known, Need::Line(*key))?;

@@ -4,6 +4,7 @@
 mod acting;
 mod ahead;
 mod assigning;
+mod behind;
 mod looking;
 mod printing;
 mod running;

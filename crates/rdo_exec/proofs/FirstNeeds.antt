@@ -1,5 +1,5 @@
 -- What an item lacks first.
-use Rattle.std.proofs.Common.{◌⊎◌, inl, inr, List, [], Option, Some, None, refl, sym, subst}
+use Rattle.std.proofs.Common.{◌≡◌, ◌⊎◌, inl, inr, List, [], Option, Some, None, refl, sym, subst}
 use Rattle.rdb_types.specs.declared.keys.Dbkey.{Dbkey}
 use Rattle.rdo_ast.specs.declared.reply.Reply.{Reply}
 use Rattle.rdo_ast.specs.declared.reply.Standing.{Standing}
@@ -20,20 +20,21 @@ use Rattle.rdo_bind.specs.Acting.{Act as BoundAct, named_act, IsBoundAct}
 use Rattle.rdo_acts.specs.declared.work.Given.{Given}
 use Rattle.rdo_acts.specs.declared.acting.Outcome.{Outcome}
 use Rattle.rdo_acts.specs.declared.acting.Outcome.TheVariants.{Done, Refused, Missing, Bad, NoMemory}
+use Rattle.rdo_acts.specs.Ahead.{AreWantedBehind, WantsBehind}
 use Rattle.rdo_acts.specs.Ends.{reply_of}
 use Rattle.rdo_acts.specs.Selections.{IsReadAmong, FirstIs, LacksAmong, chosen_in_act}
 use Rattle.rdo_acts.specs.Wanted.{ActWants, Then, WantsSo}
 use Rattle.rdo_exec.specs.Acted.{found_refused, IsFoundOf, AreTogether}
 use Rattle.rdo_exec.specs.Answers.{found_of_stop}
 use Rattle.rdo_exec.specs.Coming.{IsCatalogOfKnown}
-use Rattle.rdo_exec.specs.Needed.{IsOfCatalog, IsActNeed, IfMissing, ActNeeds, ItemNeeds}
+use Rattle.rdo_exec.specs.Needed.{IsOfCatalog, IsActNeed, IfLacking, ActNeeds, ItemNeeds}
 use Rattle.rdo_exec.specs.Ways.{IsReserving, IsDefining}
 use Rattle.view_stages.proofs.Ending.{begins}
 use Rattle.rdo_exec.proofs.Locks.{next_there}
 
 -- ---- none
 
-pub no_needs : (Is : Need → Type 0) (f : Found) → NamesNoNeed f → IfMissing Is f
+pub no_needs : (Is : Need → List Need → Type 0) (f : Found) → NamesNoNeed f → IfLacking Is f
 no_needs Is (found.Done r) h = tt
 no_needs Is (found.Missing next later) h = absurd h
 no_needs Is (found.Bad key) h = tt
@@ -89,8 +90,8 @@ reserving_needs (delete_index n) known f way = tt
 -- ---- the catalog
 
 unread_act : (a : Act) (known : Knowledge) (why : Stop Never) → StopsCatalog known why → ActNeeds a known (found_of_stop why)
-unread_act a known (stop.Missing (Area area)) h all t sound agrees = inl h.0
-unread_act a known (stop.Missing (Line key)) h all t sound agrees = inl (next_there known all key agrees h.0)
+unread_act a known (stop.Missing (Area area)) h all t sound agrees = inl (h.0, refl)
+unread_act a known (stop.Missing (Line key)) h all t sound agrees = inl (next_there known all key agrees h.0, refl)
 unread_act a known (stop.Missing (Room room)) h all t sound agrees = absurd h
 unread_act a known (stop.Bad key) h all t sound agrees = tt
 unread_act a known stop.NoMemory h all t sound agrees = tt
@@ -112,21 +113,22 @@ unread_needs (delete_index n) known why h = tt
 
 -- ---- an action
 
-refused_needs : (Is : Need → Type 0) (o : Option Reply) (keys : List Dbkey) (behind : Standing) → IfMissing Is (found_refused o keys behind)
+refused_needs : (Is : Need → List Need → Type 0) (o : Option Reply) (keys : List Dbkey) (behind : Standing) → IfLacking Is (found_refused o keys behind)
 refused_needs Is (Some reply) keys behind = tt
 refused_needs Is None keys behind = tt
 
 module _ (given : Given) (known : Knowledge) (behind : Standing) (bound : BoundAct) (decodes : IsCatalogOfKnown known given.schema.now) (together : AreTogether given.schema.now given.sources.now.entries) (placed : IsBoundAct bound given.schema.now.tables []) where
   module _ (all : Lines) (t : Tables) (sound : IsSoundAs all given.schema.now t) (agrees : Agrees known all) where
-    abbrev Is : Need → Type 0
-    Is need = IsOfCatalog need ⊎ IsActNeed (named_act bound) known all t need
+    abbrev Is : Need → List Need → Type 0
+    Is need later = (IsOfCatalog need × (later ≡ [])) ⊎ IsActNeed (named_act bound) known all t need later
 
-    needs_over : (o : Outcome) (f : Found) → IsFoundOf o known behind f → LacksAmong o bound known given → WantsSo o bound known given → IfMissing Is f
-    needs_over (Done acted) f so lacks wants = subst (IfMissing Is) (sym so) tt
-    needs_over (Refused refusal keys) f (inl so) lacks wants = subst (IfMissing Is) (sym so) (refused_needs Is (reply_of refusal) keys behind)
-    needs_over (Refused refusal keys) f (inr so) lacks wants = subst (IfMissing Is) (sym so) tt
-    needs_over (Missing needs) f so lacks wants =
-        subst (IfMissing Is) (sym so.is)
+    needs_over : (o : Outcome) (f : Found) → IsFoundOf o known behind f → LacksAmong o bound known given → WantsSo o bound known given → WantsBehind o bound known given → IfLacking Is f
+    needs_over (Done acted) f so lacks wants more = subst (IfLacking Is) (sym so) tt
+    needs_over (Refused refusal keys) f (inl so) lacks wants more = subst (IfLacking Is) (sym so) (refused_needs Is (reply_of refusal) keys behind)
+    needs_over (Refused refusal keys) f (inr so) lacks wants more = subst (IfLacking Is) (sym so) tt
+    needs_over (Missing needs) f so lacks wants more =
+        let told : AreWantedBehind bound known given so.next so.later = subst (λ (ns : List Need). WantsBehind (Missing ns) bound known given) so.all more in
+        subst (IfLacking Is) (sym so.is)
         (inr (record {
           given = given;
           catalog = decodes;
@@ -136,9 +138,10 @@ module _ (given : Given) (known : Knowledge) (behind : Standing) (bound : BoundA
           placed = placed;
           reads = λ none. subst (FirstIs (IsReadAmong t given.sources.now.entries (chosen_in_act bound []))) so.all (lacks none all t agrees sound);
           wants = subst (FirstIs (λ need. Then given all t (λ u. ActWants u given.sources.now.entries bound [] need))) so.all (wants all t agrees sound);
+          behind = told all t agrees sound;
         }))
-    needs_over (Bad key) f so lacks wants = subst (IfMissing Is) (sym so) tt
-    needs_over NoMemory f so lacks wants = subst (IfMissing Is) (sym so) tt
+    needs_over (Bad key) f so lacks wants more = subst (IfLacking Is) (sym so) tt
+    needs_over NoMemory f so lacks wants more = subst (IfLacking Is) (sym so) tt
 
-  pub acted_needs : (o : Outcome) (f : Found) → IsFoundOf o known behind f → LacksAmong o bound known given → WantsSo o bound known given → ActNeeds (named_act bound) known f
-  acted_needs o f so lacks wants = λ all t sound agrees. needs_over all t (begins known given.schema.now all t sound.0 agrees (decodes all agrees) sound.1 sound.2) agrees o f so lacks wants
+  pub acted_needs : (o : Outcome) (f : Found) → IsFoundOf o known behind f → LacksAmong o bound known given → WantsSo o bound known given → WantsBehind o bound known given → ActNeeds (named_act bound) known f
+  acted_needs o f so lacks wants more = λ all t sound agrees. needs_over all t (begins known given.schema.now all t sound.0 agrees (decodes all agrees) sound.1 sound.2) agrees o f so lacks wants more

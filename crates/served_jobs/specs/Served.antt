@@ -4,6 +4,7 @@ use Rattle.rdo_ast.specs.Tree.{Act}
 use Rattle.rdb_meaning.specs.declared.tables.Tables.{Tables}
 use Rattle.line_view.specs.declared.need.Need.{Need}
 use Rattle.line_view.specs.Knowledge.{Knowledge, Lines}
+use Rattle.session_jobs.specs.declared.jobs.Found.{Found}
 use Rattle.rdo_bind.specs.Acting.{Act as BoundAct, named_act, IsBoundAct}
 use Rattle.rdo_acts.specs.declared.work.Given.{Given}
 use Rattle.rdo_acts.specs.Scopes.{may_write}
@@ -11,7 +12,7 @@ use Rattle.rdo_acts.specs.Selections.{chosen_in_act}
 use Rattle.rdo_acts.specs.Wanted.{Then}
 use Rattle.rdo_exec.specs.Acted.{AreTogether}
 use Rattle.rdo_exec.specs.Coming.{IsCatalogOfKnown}
-use Rattle.rdo_exec.specs.Needed.{IsOfCatalog}
+use Rattle.rdo_exec.specs.Needed.{IsOfCatalog, IfLacking}
 use Rattle.served_actions.specs.Served.{IsServedAct, IsIndexed, IsNoArea, IsSpared}
 
 -- the action as it is bound to the catalog that is known, with its sources
@@ -37,3 +38,7 @@ pub record IsSparedIn (a : Act) (known : Knowledge) (all : Lines) (t : Tables) (
 
 abbrev pub IsSparedOver : Act → Knowledge → Lines → Tables → Need → Type 0
 IsSparedOver a known all t need = IsOfCatalog need ⊎ IsSparedIn a known all t need
+
+-- this is true of the first need, if some are named
+abbrev pub IfMissing : (Need → Type 0) → Found → Type 0
+IfMissing Is found = IfLacking (λ need later. Is need) found

@@ -76,7 +76,7 @@ module _ (P : Reading → Type 0) where
 
 -- ---- a variable more
 
-one_more_variable : (scope : Scope) (vs : List Range) (s : Range) (k : Option Dbkey) → variables_of scope ≡ vs → variables_of (scope ++ bind_source s k ∷ []) ≡ vs ++ s ∷ []
+pub one_more_variable : (scope : Scope) (vs : List Range) (s : Range) (k : Option Dbkey) → variables_of scope ≡ vs → variables_of (scope ++ bind_source s k ∷ []) ≡ vs ++ s ∷ []
 one_more_variable scope vs s k same = map-append variable_of scope (bind_source s k ∷ []) ∙ ap (λ l. l ++ s ∷ []) same
 
 row_with : (t : Tables) (scope : Scope) (s : Range) (k : Dbkey) (entries : List (Dbkey × Row)) (row : Row) → rows_of (relation_named s.relation t) ≡ entries → find dbkey_order k entries ≡ Some row → values_of (fields_of (relation_named s.relation t)) row ≡ row → row_of t (scope ++ bind_source s (Some k) ∷ []) ≡ row_of t scope ++ row
@@ -100,7 +100,7 @@ pub record IsReadAt (all : Lines) (t : Tables) (sources : Listed) (reading : Rea
 
 module _ (all : Lines) (sorted : IsInOrder all) (t : Tables) (sources : Listed) (are : AreSourcesOf all t sources) where
   -- behind a variable bound to the row stand its values
-  abbrev IsRowOf : Range → StoredRow → Type 0
+  abbrev pub IsRowOf : Range → StoredRow → Type 0
   IsRowOf s x = (scope : Scope) → row_of t (scope ++ bind_source s (Some x.key) ∷ []) ≡ row_of t scope ++ x.row
 
   record IsIn (s : BoundRange) (r : Ranged) : Type 0 where
@@ -124,6 +124,11 @@ module _ (all : Lines) (sorted : IsInOrder all) (t : Tables) (sources : Listed) 
     rows_are s rel fields named same es whole.1 found.1,
   )
 
+  -- each row of a source stands behind a variable that is bound to it
+  pub rows_of_source : (s : Range) (rel : Relation) (source : Source) → relation_named s.relation t ≡ Some rel → IsSourceOf all rel source → AllByRecursion (IsRowOf s) (map stored_row rel.rows)
+  rows_of_source s rel source there own =
+      rows_are s rel source.relation.fields.now there own.0.fields rel.rows (all_whole source.relation (lines_in source.relation.area all) (map stored_row rel.rows) own.0.rows) (rows_found source.relation all rel.rows sorted own.0.rows)
+
   source_in : (s : BoundRange) (ss : List BoundRange) (rel : Relation) (rest : List Ranged) → relation_named s.range.relation t ≡ Some rel → AreIn ss rest → (o : Option Source) → source_at s.area sources ≡ o → HasSource all rel o → AreIn (s ∷ ss) (with_source o (map stored_row rel.rows) rest)
   source_in s ss rel rest named more None at has = absurd has
   source_in s ss rel rest named more (Some source) at has = (
@@ -132,7 +137,7 @@ module _ (all : Lines) (sorted : IsInOrder all) (t : Tables) (sources : Listed) 
       named = named;
       stands = at;
       is = has;
-      rows = rows_are s.range rel source.relation.fields.now named has.0.fields rel.rows (all_whole source.relation (lines_in source.relation.area all) (map stored_row rel.rows) has.0.rows) (rows_found source.relation all rel.rows sorted has.0.rows);
+      rows = rows_of_source s.range rel source named has;
     },
     more,
   )

@@ -57,7 +57,7 @@ of_area known all area (Room room) agrees next = absurd next
 -- ---- lines that an index leads to
 
 -- the line is of the area, or that of a row which meets this
-abbrev IsLed : ℕ → (Dbkey × Row → Bool) → List (Dbkey × Row) → Dbkey → Type 0
+abbrev pub IsLed : ℕ → (Dbkey × Row → Bool) → List (Dbkey × Row) → Dbkey → Type 0
 IsLed area meets rows line = (line.area ≡ area) ⊎ AnyByRecursion (λ (e : Dbkey × Row). (e.0 ≡ line) × (meets e ≡ true)) rows
 
 module _ (area : ℕ) (meets : Dbkey × Row → Bool) where
@@ -65,7 +65,7 @@ module _ (area : ℕ) (meets : Dbkey × Row → Bool) where
   led_further e es line (inl own) = inl own
   led_further e es line (inr row) = inr (inr row)
 
-  rows_led : (rows : List (Dbkey × Row)) → AllByRecursion (IsLed area meets rows) (map (λ e. e.0) (filter meets rows))
+  pub rows_led : (rows : List (Dbkey × Row)) → AllByRecursion (IsLed area meets rows) (map (λ e. e.0) (filter meets rows))
   rows_led [] = tt
   rows_led (e ∷ es) =
       let more : AllByRecursion (IsLed area meets (e ∷ es)) (map (λ e. e.0) (filter meets es)) = all_of (IsLed area meets es) (IsLed area meets (e ∷ es)) (led_further e es) (map (λ (e : Dbkey × Row). e.0) (filter meets es)) (rows_led es) in
@@ -74,19 +74,22 @@ module _ (area : ℕ) (meets : Dbkey × Row → Bool) where
         | false ↦ λ met. more
       ] refl
 
-  first_led : (known : Knowledge) (rows : List (Dbkey × Row)) (lines : List Dbkey) (need : Need) → AllByRecursion (IsLed area meets rows) lines → IsFirstNeed known lines need → IsLineBy area meets rows need
+  pub first_led : (known : Knowledge) (rows : List (Dbkey × Row)) (lines : List Dbkey) (need : Need) → AllByRecursion (IsLed area meets rows) lines → IsFirstNeed known lines need → IsLineBy area meets rows need
   first_led known rows lines need each is = by_first (first_unknown known lines) refl is where
     by_first : (o : Option Dbkey) → first_unknown known lines ≡ o → option_map Line o ≡ Some need → IsLineBy area meets rows need
     by_first None at h = absurd (none-some need h)
     by_first (Some key) at h = subst (IsLineBy area meets rows) (same_Some (Line key) need h) (first_among (IsLed area meets rows) known lines key each at)
 
-index_led : (all : Lines) (root : Dbkey) (positions : List ℕ) (rows : List (Dbkey × Row)) (interval : Interval) (index : IsIndexOf all root positions rows) → AllByRecursion (IsLed root.area (is_keyed positions interval) rows) (lines_read all root positions rows interval index)
-index_led all root positions rows interval index =
-    let Led = IsLed root.area (is_keyed positions interval) rows in
-    let nodes = reads interval index.level index.tree in
-    all_append Led nodes (map (λ e. e.0) (filter (is_keyed positions interval) rows))
-    (all_of (λ (k : Dbkey). k.area ≡ root.area) Led (λ k own. inl own) nodes (reads_within (λ (k : Dbkey). k.area ≡ root.area) interval index.level index.tree (areas all root.area index.level index.tree index.is.stands)))
-    (rows_led root.area (is_keyed positions interval) rows)
+module _ (all : Lines) (root : Dbkey) (positions : List ℕ) (rows : List (Dbkey × Row)) (interval : Interval) (index : IsIndexOf all root positions rows) where
+  pub nodes_led : AllByRecursion (IsLed root.area (is_keyed positions interval) rows) (reads interval index.level index.tree)
+  nodes_led =
+      all_of (λ (k : Dbkey). k.area ≡ root.area) (IsLed root.area (is_keyed positions interval) rows) (λ k own. inl own) (reads interval index.level index.tree)
+      (reads_within (λ (k : Dbkey). k.area ≡ root.area) interval index.level index.tree (areas all root.area index.level index.tree index.is.stands))
+
+  index_led : AllByRecursion (IsLed root.area (is_keyed positions interval) rows) (lines_read all root positions rows interval index)
+  index_led =
+      all_append (IsLed root.area (is_keyed positions interval) rows) (reads interval index.level index.tree) (map (λ e. e.0) (filter (is_keyed positions interval) rows)) nodes_led
+      (rows_led root.area (is_keyed positions interval) rows)
 
 -- ---- an access
 

@@ -1,9 +1,10 @@
-use Rattle.std.proofs.Common.{true, false, ap}
+use Rattle.std.proofs.Common.{true, ap}
 use Rattle.line_view.specs.Held.{knows}
 use Rattle.rdo_bind.specs.Acting.{act_of, written_act}
 use Rattle.rdo_acts.proofs.ActEnds.{act_done, act_stopped, finishes_ordered, finishes_named, stops_ordered, stops_named, act_done_for, act_stopped_for, lacks_seen}
 use Rattle.rdo_acts.proofs.Lacking.{act_done_among, act_stopped_among}
 use Rattle.rdo_acts.proofs.Wanting.{act_done_wanted, act_stopped_wanted}
+use Rattle.rdo_acts.proofs.WantedBehind.{finishes_behind}
 use Rattle.rdo_acts.proofs.acting.act_seeing.Goals as goal
 
 pub returns-in-Ok-clause-comes : goal.returns-in-Ok-clause-comes
@@ -37,27 +38,30 @@ returns-in-Ok-clause-wants c =
 pub returns-in-Err-clause-comes : goal.returns-in-Err-clause-comes
 returns-in-Err-clause-comes c =
     act_stopped c.args.given.now (written_act c.args.action.now) c.args.known.now true c.new.result c.new-work.result c.new.ensures.value c.new.ensures.stands c.new-work.ensures
-    c.begin.new.work c.abandoned.result c.in-Err.stop c.abandoned.ensures (lacks_seen c.args.known.now c.in-Err.stop) c.in-Err.ensures.runs
+    c.begin.new.work c.abandoned.result c.in-Err.stop c.abandoned.ensures.stops (lacks_seen c.args.known.now c.in-Err.stop) c.in-Err.ensures.runs
 
 pub returns-in-Err-clause-ordered : goal.returns-in-Err-clause-ordered
 returns-in-Err-clause-ordered c =
-    stops_ordered c.abandoned.result c.in-Err.stop c.begin.new.work.given (knows c.args.known.now) c.abandoned.ensures
+    stops_ordered c.abandoned.result c.in-Err.stop c.begin.new.work.given (knows c.args.known.now) c.abandoned.ensures.stops
 
 pub returns-in-Err-clause-needs : goal.returns-in-Err-clause-needs
 returns-in-Err-clause-needs c =
-    stops_named c.abandoned.result c.in-Err.stop c.begin.new.work.given (knows c.args.known.now) c.abandoned.ensures
+    stops_named c.abandoned.result c.in-Err.stop c.begin.new.work.given (knows c.args.known.now) c.abandoned.ensures.stops
 
 pub returns-in-Err-clause-areas : goal.returns-in-Err-clause-areas
 returns-in-Err-clause-areas c =
     act_stopped_for c.args.given.now (written_act c.args.action.now) c.args.known.now true c.new.result c.new-work.result c.new.ensures.value c.new.ensures.stands c.new-work.ensures
-    c.begin.new.work c.abandoned.result c.in-Err.stop c.abandoned.ensures c.in-Err.ensures.areas
+    c.begin.new.work c.abandoned.result c.in-Err.stop c.abandoned.ensures.stops c.in-Err.ensures.areas
 
 pub returns-in-Err-clause-lacks : goal.returns-in-Err-clause-lacks
 returns-in-Err-clause-lacks c =
     act_stopped_among c.args.given.now (act_of c.args.action.now) c.args.known.now c.new.result c.new-work.result (ap (λ o. o.lines) c.new.ensures.value) c.new.ensures.stands c.new-work.ensures
-    (knows c.args.known.now) c.begin.new.work.given c.abandoned.result c.in-Err.stop c.abandoned.ensures c.in-Err.ensures.lacks
+    (knows c.args.known.now) c.begin.new.work.given c.abandoned.result c.in-Err.stop c.abandoned.ensures.stops c.in-Err.ensures.lacks
 
 pub returns-in-Err-clause-wants : goal.returns-in-Err-clause-wants
 returns-in-Err-clause-wants c =
     act_stopped_wanted c.args.given.now (act_of c.args.action.now) c.args.known.now c.new.result c.new-work.result (ap (λ o. o.lines) c.new.ensures.value) c.new.ensures.stands c.new-work.ensures
-    (knows c.args.known.now) c.begin.new.work.given c.abandoned.result c.in-Err.stop c.abandoned.ensures c.in-Err.ensures.wants
+    (knows c.args.known.now) c.begin.new.work.given c.abandoned.result c.in-Err.stop c.abandoned.ensures.stops c.in-Err.ensures.wants
+
+pub returns-in-Ok-clause-behind : goal.returns-in-Ok-clause-behind
+returns-in-Ok-clause-behind c = finishes_behind (act_of c.args.action.now) (knows c.args.known.now) c.args.given.now c.finished.result c.begin.new.work c.finished.ensures

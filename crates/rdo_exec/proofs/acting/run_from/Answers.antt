@@ -23,4 +23,4 @@ returns-clause-stays c =
 pub returns-clause-needs : goal.returns-clause-needs
 returns-clause-needs c =
     let given : Given = record { alloc = c.args.alloc; schema = c.args.schema; sources = c.args.sources } in
-    acted_needs given (knows c.args.known) c.args.behind (act_of c.args.action.now) c.requires.catalog c.requires.together c.requires.bound c.act-known.result.outcome c.found_of-found.result (subst (λ (b : Held). IsFoundOf c.act-known.result.outcome (knows b) c.args.behind c.found_of-found.result) c.act-known.ensures.known c.found_of-found.ensures) c.act-known.ensures.lacks c.act-known.ensures.wants
+    acted_needs given (knows c.args.known) c.args.behind (act_of c.args.action.now) c.requires.catalog c.requires.together c.requires.bound c.act-known.result.outcome c.found_of-found.result (subst (λ (b : Held). IsFoundOf c.act-known.result.outcome (knows b) c.args.behind c.found_of-found.result) c.act-known.ensures.known c.found_of-found.ensures) c.act-known.ensures.lacks c.act-known.ensures.wants c.act-known.ensures.behind

@@ -1,0 +1,5 @@
+use Rattle.rdo_acts.specs.Looking.{AddsOnly, IsIn}
+use Rattle.rdo_acts.proofs.looking.add_rows.Given as goal
+
+abbrev pub invariant-loop-row : goal.invariant-loop-row
+invariant-loop-row l = AddsOnly (IsIn l.rows) l.fn.keys.keys l.keys.keys
