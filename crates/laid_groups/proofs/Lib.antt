@@ -1,0 +1,6 @@
+pub mod Behind
+pub mod Running
+pub mod Slots
+pub mod Stepping
+pub mod Once
+pub mod Walking
