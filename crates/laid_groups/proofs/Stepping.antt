@@ -1,6 +1,8 @@
 -- A line more is laid.
-use Rattle.std.proofs.Common.{◌≡◌, ◌≢◌, ℕ, suc, ◌-◌, ◌≤◌, ◌<◌, ◌^◌, Bool, true, false, cond, List, [], ◌∷◌, ◌++◌, map, take, length, Option, Some, slice_get, ◌⊎◌, inl, inr, ⊎_elim, refl, sym, ◌∙◌, ap, subst, arith}
+use Rattle.std.proofs.Common.{◌≡◌, ◌≢◌, ℕ, zero, suc, ◌+◌, ◌-◌, ◌≤◌, ◌<◌, ◌^◌, Bool, true, false, cond, List, [], ◌∷◌, ◌++◌, map, take, length, Option, Some, slice_get, ◌⊎◌, inl, inr, ⊎_elim, refl, sym, ◌∙◌, ap, subst, arith}
 use Rattle.std.specs.Ordering.{is_eq}
+use Rattle.std.specs.Prelude.{slice_index_or}
+use Rattle.std.proofs.lemmas.Option.{slice_get-get_or}
 use Rattle.rdb_types.specs.declared.file.FileId.{FileId}
 use Rattle.rdb_types.specs.declared.keys.Dbkey.{Dbkey}
 use Rattle.rdb_types.specs.declared.keys.Line.{Line}
@@ -105,7 +107,7 @@ module _ (forward : Forward) (old new : Image) (under : IsUnderWay forward old) 
           entry_at file number (number_of fits.place.file file (sym place_on.in_file ∙ there.in_file)) (same_page fits.place.page number first_page plain.is_page.first (sym place_on.in_slot ∙ there.in_slot))
 
       one : (k : ℕ) → slice_get (write_of l ∷ []) k ≡ Some by.write → IsEntered forward new file number
-      one 0 got = entered (subst (λ (w : Write). IsOn file number w.key) (sym (some_same (write_of l) by.write got)) by.on)
+      one zero got = entered (subst (λ (w : Write). IsOn file number w.key) (sym (some_same (write_of l) by.write got)) by.on)
       one (suc k) got = let bad : ⊥ = cc in absurd bad
 
   kept : (file number : ℕ) → IsDataPage number → IsEntered forward old file number → IsEntered forward new file number
@@ -130,13 +132,19 @@ module _ (forward : Forward) (old new : Image) (under : IsUnderWay forward old) 
 
 -- ---- the lines so far
 
-pub next_of : {A B : Type 0} (f : A → B) (xs : List A) (i : ℕ) (x : A) → slice_get xs i ≡ Some x → map f (take i xs) ++ f x ∷ [] ≡ map f (take (suc i) xs)
-next_of f [] i x got = let bad : ⊥ = cc in absurd bad
-next_of f (y ∷ xs) 0 x got = let same : y ≡ x = some_same y x got in ap (λ z. f z ∷ []) (sym same)
-next_of f (y ∷ xs) (suc i) x got = ap (λ l. f y ∷ l) (next_of f xs i x got)
+pub lent : {X : Type 0} (xs : List X) (i : ℕ) (x : X) → i < length xs → x ≡ slice_index_or xs i x → slice_get xs i ≡ Some x
+lent xs i x within is = slice_get-get_or xs i x within ∙ ap Some (sym is)
+
+next_turn : {A B : Type 0} (f : A → B) (xs : List A) (i : ℕ) (x : A) → slice_get xs i ≡ Some x → map f (take i xs) ++ f x ∷ [] ≡ map f (take (suc i) xs)
+next_turn f [] i x got = let bad : ⊥ = cc in absurd bad
+next_turn f (y ∷ xs) zero x got = let same : y ≡ x = some_same y x got in ap (λ z. f z ∷ []) (sym same)
+next_turn f (y ∷ xs) (suc i) x got = ap (λ l. f y ∷ l) (next_turn f xs i x got)
+
+pub next_of : {A B : Type 0} (f : A → B) (xs : List A) (i : ℕ) (x : A) → slice_get xs i ≡ Some x → map f (take i xs) ++ f x ∷ [] ≡ map f (take (i + 1) xs)
+next_of f xs i x got = next_turn f xs i x got ∙ ap (λ (n : ℕ). map f (take n xs)) (let turn : suc i ≡ i + 1 = omega arith in turn)
 
 pub all_of : {A B : Type 0} (f : A → B) (xs : List A) (i : ℕ) → length xs ≤ i → map f (take i xs) ≡ map f xs
-all_of f [] 0 le = refl
+all_of f [] zero le = refl
 all_of f [] (suc i) le = refl
-all_of f (x ∷ xs) 0 le = absurd (omega (arith, le))
+all_of f (x ∷ xs) zero le = absurd (omega (arith, le))
 all_of f (x ∷ xs) (suc i) le = ap (λ l. f x ∷ l) (all_of f xs i (omega (arith, le)))

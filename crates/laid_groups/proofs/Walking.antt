@@ -1,25 +1,35 @@
 -- A journal walked group by group.
-use Rattle.std.proofs.Common.{◌≡◌, ◌≢◌, ℕ, zero, suc, ◌+◌, ◌-◌, ◌≤◌, ◌<◌, nat_lt, max, Bool, true, false, cond, List, [], ◌∷◌, ◌++◌, length, Option, Some, None, slice_get, ◌⊎◌, ⊎_elim, refl, sym, ◌∙◌, ap, subst, append_assoc, arith, length-append}
+use Rattle.std.proofs.Common.{◌≡◌, ◌≢◌, ℕ, zero, suc, ◌+◌, ◌-◌, ◌≤◌, ◌<◌, ◌^◌, nat_lt, max, if◌then◌else◌, Bool, true, false, cond, List, [], ◌∷◌, ◌++◌, length, map, Option, Some, None, slice_get, ◌⊎◌, ⊎_elim, refl, sym, ◌∙◌, ap, subst, arith, length-append}
 use Rattle.std.specs.List.{flat_map, filter}
 use Rattle.std.proofs.lemmas.List.Elements.{filter-append}
 use Rattle.std.proofs.lemmas.Option.{slice_get_within}
 use Rattle.std.proofs.lemmas.Bool.{lt-ltb}
+use Rattle.rdb_types.specs.File.{slot_bytes, bytes_of_kind}
 use Rattle.rdb_types.specs.declared.file.FileId.{FileId}
+use Rattle.rdb_types.specs.declared.file.FileKind.TheVariants.{Area}
 use Rattle.rdb_types.specs.declared.keys.Tsn.{Tsn}
 use Rattle.rdb_outside.specs.Disk.{Image, zeros}
 use Rattle.aij_journal.specs.declared.part.GroupLine.{GroupLine}
 use Rattle.aij_journal.specs.declared.part.AijPart.{AijPart}
+use Rattle.aij_journal.specs.Part.{IsPart}
 use Rattle.journal_scan.specs.declared.group.Group.{Group}
 use Rattle.journal_scan.specs.Standing.{what_stands}
-use Rattle.journal_scan.specs.Whole.{count_of, slots_of, slots_from, group_slot, IsWhole, AreWhole}
+use Rattle.journal_scan.specs.Whole.{count_of, slots_of, slots_from, Holds, IsWhole, AreWhole}
+use Rattle.journal_scan.proofs.Stands as standing_slots
+use Rattle.line_view.specs.declared.writes.Write.{Write}
 use Rattle.journal_reading.specs.Journal.{standing, EndsBy}
 use Rattle.new_database.specs.Maker.{aij_file}
-use Rattle.stable_lines.specs.Journal.{Journal, IsJournalOf, StandsAt, slots_in, next_number}
+use Rattle.stable_lines.specs.Journal.{Journal, IsJournalOf, StandsAt, slots_in, next_number, write_of}
 use Rattle.stable_lines.specs.Rolling.{groups_above}
 use Rattle.stable_lines.proofs.Lists.{got_left, got_right}
 use Rattle.stable_lines.proofs.Unique.{standing_at}
+use Rattle.rolled_lines.specs.HalfLaid.{writes_of}
 use Rattle.laid_groups.specs.Forward.{Forward, FitsGroup, FitAll}
+use Rattle.laid_groups.specs.Laid.{LaidOver}
+use Rattle.laid_groups.specs.Passing.{ceiling_behind, reached_behind}
+use Rattle.laid_groups.specs.declared.passing.Reached.{Reached}
 use Rattle.laid_groups.proofs.Behind.{flat_both}
+use Rattle.laid_groups.proofs.Running.{none_laid, laid_on}
 
 some_same : {A : Type 0} (a b : A) → Some a ≡ Some b → a ≡ b
 some_same a b same = cc
@@ -42,7 +52,7 @@ length_slots : (g : Group) (index : ℕ) (lines : List GroupLine) → length (sl
 length_slots g index [] = refl
 length_slots g index (line ∷ lines) = let rest = length_slots g (index + 1) lines in omega (arith, rest)
 
-lines_of : List (Option AijPart) → List GroupLine
+abbrev lines_of : List (Option AijPart) → List GroupLine
 lines_of [] = []
 lines_of (None ∷ slots) = lines_of slots
 lines_of (Some part ∷ slots) = with_line part.line (lines_of slots)
@@ -55,12 +65,12 @@ its_lines : (g : Group) (index : ℕ) (lines : List GroupLine) → lines_of (slo
 its_lines g index [] = refl
 its_lines g index (line ∷ lines) = ap (λ (l : List GroupLine). line ∷ l) (its_lines g (index + 1) lines)
 
-count_in : Option (Option AijPart) → ℕ
+abbrev count_in : Option (Option AijPart) → ℕ
 count_in (Some (Some part)) = part.count
 count_in (Some None) = 0
 count_in None = 0
 
-tsn_in : Tsn → Option (Option AijPart) → Tsn
+abbrev tsn_in : Tsn → Option (Option AijPart) → Tsn
 tsn_in other (Some (Some part)) = part.tsn
 tsn_in other (Some None) = other
 tsn_in other None = other
@@ -105,6 +115,10 @@ stands_group image slot g stands i what got =
     some_same _ _ (sym (standing_at image aij_file slot (count_of g) i (omega (arith, within, size))) ∙ ap (λ (l : List (Option AijPart)). slice_get l i) stands ∙ got)
 
 -- ---- on the way
+
+one_on : (front : List Group) (g : Group) (tail : List Group) → front ++ g ∷ tail ≡ (front ++ g ∷ []) ++ tail
+one_on [] g tail = refl
+one_on (x ∷ front) g tail = ap (λ (l : List Group). x ∷ l) (one_on front g tail)
 
 -- these groups of the journal are passed, and the next one begins here
 pub record AtGroup (journal : Journal) (slot number : ℕ) : Type 0 where
@@ -178,7 +192,7 @@ module _ (image : Image) (journal : Journal) (is : IsJournalOf image journal) (s
   goes_on g tail some = record {
     passed = at.passed ++ g ∷ [];
     rest = tail;
-    split = at.split ∙ ap (λ (l : List Group). at.passed ++ l) some ∙ sym (append_assoc {a = at.passed} {b = g ∷ []} {c = tail});
+    split = at.split ∙ ap (λ (l : List Group). at.passed ++ l) some ∙ one_on at.passed g tail;
     numbered = let longer : length (at.passed ++ g ∷ []) ≡ length at.passed + 1 = length-append at.passed (g ∷ []) in let numbered = at.numbered in omega (arith, longer, numbered);
     in_slot =
         let parts : length (flat_map slots_of (at.passed ++ g ∷ [])) ≡ length (flat_map slots_of at.passed) + length (slots_of g ++ []) = ap length (flat_both slots_of at.passed (g ∷ [])) ∙ length-append (flat_map slots_of at.passed) (slots_of g ++ []) in
@@ -208,3 +222,124 @@ fit_next forward last groups passed tail g split fits i x got =
     fits (length (groups_above last passed) + i) x
     (ap (λ (l : List Group). slice_get l (length (groups_above last passed) + i)) parts
     ∙ got_right (groups_above last passed) (groups_above last (g ∷ []) ++ groups_above last tail) i x (got_left (groups_above last (g ∷ [])) (groups_above last tail) i x got))
+
+-- ---- of one group
+
+pub its_fit : (forward : Forward) (last : ℕ) (g : Group) → last < g.number → FitAll forward (groups_above last (g ∷ [])) → FitsGroup forward g
+its_fit forward last g lt fits = fits 0 g (ap (λ (l : List Group). slice_get l 0) (above_one last g lt))
+
+nil_last : {A : Type 0} (l : List A) → l ++ [] ≡ l
+nil_last [] = refl
+nil_last (x ∷ l) = ap (λ r. x ∷ r) (nil_last l)
+
+pub its_writes : (last : ℕ) (g : Group) → last < g.number → map write_of g.lines ≡ writes_of (groups_above last (g ∷ []))
+its_writes last g lt = sym (nil_last (map write_of g.lines)) ∙ ap writes_of (sym (above_one last g lt))
+
+pub writes_both : (last : ℕ) (xs ys : List Group) → writes_of (groups_above last xs) ++ writes_of (groups_above last ys) ≡ writes_of (groups_above last (xs ++ ys))
+writes_both last xs ys = sym (ap writes_of (above_both last xs ys) ∙ flat_both (λ (g : Group). map write_of g.lines) (groups_above last xs) (groups_above last ys))
+
+-- ---- behind calls that don't write the file
+
+pub plain_file : (file : FileId) → slot_bytes file ≡ 512 → file.kind ≡ Area → ⊥
+plain_file file size is = let bad : 1024 ≡ 512 = sym (ap bytes_of_kind is) ∙ size in omega (arith, bad)
+
+pub stood_in : (old mid : Image) (file : FileId) (slot : ℕ) (g : Group) → ((s : ℕ) → mid file s ≡ old file s) → standing mid file slot (count_of g) ≡ slots_of g → standing (seen old file) aij_file slot (count_of g) ≡ slots_of g
+stood_in old mid file slot g same stands = ap (λ (m : Image). standing m aij_file slot (count_of g)) (sym (seen_same old mid file same)) ∙ sym (standing_seen mid file slot (count_of g)) ∙ stands
+
+pub none_in : (old mid : Image) (file : FileId) (end slot number : ℕ) → ((s : ℕ) → mid file s ≡ old file s) → EndsBy old file end → (EndsBy mid file end → (g : Group) → IsWhole number g → standing mid file slot (count_of g) ≡ slots_of g → ⊥)
+    → (g : Group) → IsWhole number g → standing (seen old file) aij_file slot (count_of g) ≡ slots_of g → ⊥
+none_in old mid file end slot number same ends none g whole stands =
+    none (λ s le. same s ∙ ends s le) g whole (standing_seen mid file slot (count_of g) ∙ ap (λ (m : Image). standing m aij_file slot (count_of g)) (seen_same old mid file same) ∙ stands)
+
+-- ---- what is laid so far
+
+pub record LaidUpTo (forward : Forward) (journal : Journal) (last slot number : ℕ) (old new : Image) : Type 0 where
+  pub at : AtGroup journal slot number
+  pub laid : LaidOver forward (writes_of (groups_above last at.passed)) old new
+
+pub none_yet : (forward : Forward) (journal : Journal) (last : ℕ) (image : Image) → LaidUpTo forward journal last 1 journal.first image image
+unfolding begins
+none_yet forward journal last image = record { at = begins journal; laid = none_laid forward image }
+
+module _ (forward : Forward) (journal : Journal) (image : Image) (is : IsJournalOf image journal) (last slot number : ℕ) (g : Group) (whole : IsWhole number g) (stands : standing image aij_file slot (count_of g) ≡ slots_of g) where
+  pub fits_here : AtGroup journal slot number → FitAll forward (groups_above last journal.groups) → FitAll forward (groups_above last (g ∷ []))
+  fits_here at fits = let next = found_next image journal is slot number at g whole stands in
+      fit_next forward last journal.groups at.passed next.0 g (at.split ∙ ap (λ (l : List Group). at.passed ++ l) next.1) fits
+
+  pub one_more : (old mid new : Image) → LaidUpTo forward journal last slot number old mid → LaidOver forward (writes_of (groups_above last (g ∷ []))) mid new → LaidUpTo forward journal last (slot + (length g.lines + 1)) (number + 1) old new
+  unfolding goes_on
+  one_more old mid new was now = let next = found_next image journal is slot number was.at g whole stands in record {
+    at = goes_on image journal is slot number was.at g next.0 next.1;
+    laid = subst (λ (ws : List Write). LaidOver forward ws old new) (writes_both last was.at.passed (g ∷ [])) (laid_on forward (writes_of (groups_above last was.at.passed)) (writes_of (groups_above last (g ∷ []))) old mid new was.laid now);
+  }
+
+  pub at_next : AtGroup journal slot number → AtGroup journal (slot + (length g.lines + 1)) (number + 1)
+  at_next at = let next = found_next image journal is slot number at g whole stands in goes_on image journal is slot number at g next.0 next.1
+
+module _ (forward : Forward) (journal : Journal) (image : Image) (is : IsJournalOf image journal) (last slot number : ℕ) (none : (g : Group) → IsWhole number g → standing image aij_file slot (count_of g) ≡ slots_of g → ⊥) where
+  pub all_laid : (old new : Image) → LaidUpTo forward journal last slot number old new → LaidOver forward (writes_of (groups_above last journal.groups)) old new
+  all_laid old new was = subst (λ (gs : List Group). LaidOver forward (writes_of (groups_above last gs)) old new) (sym (none_next image journal is slot number was.at none)) was.laid
+
+pub last_is : (journal : Journal) (image : Image) → IsJournalOf image journal → (last slot number : ℕ) → ((g : Group) → IsWhole number g → standing image aij_file slot (count_of g) ≡ slots_of g → ⊥) → AtGroup journal slot number → max last (number - 1) ≡ max last (next_number journal - 1)
+last_is journal image is last slot number none at =
+    let all = none_next image journal is slot number at none in
+    ap (λ (n : ℕ). max last (n - 1)) (at.numbered ∙ ap (λ (l : List Group). journal.first + length l) (sym all))
+
+-- ---- how far it goes
+
+pub ceiling_both : (ceiling : ℕ) (xs ys : List Group) → ceiling_behind ceiling (xs ++ ys) ≡ ceiling_behind (ceiling_behind ceiling xs) ys
+ceiling_both ceiling [] ys = refl
+ceiling_both ceiling (g ∷ xs) ys = ceiling_both (max ceiling (g.tsn.number + 1)) xs ys
+
+pub record ReachedUpTo (journal : Journal) (at : Reached) (slot number ceiling : ℕ) : Type 0 where
+  pub here : AtGroup journal slot number
+  pub ceiling_is : ceiling ≡ ceiling_behind at.ceiling (groups_above at.last here.passed)
+
+pub nothing_yet : (journal : Journal) (at : Reached) → ReachedUpTo journal at 1 journal.first at.ceiling
+unfolding begins
+nothing_yet journal at = record { here = begins journal; ceiling_is = refl }
+
+its_ceiling : (last ceiling : ℕ) (g : Group) (number tsn : ℕ) → g.number ≡ number → g.tsn.number ≡ tsn → ceiling_behind ceiling (groups_above last (g ∷ [])) ≡ (if nat_lt last number then max ceiling (tsn + 1) else ceiling)
+its_ceiling last ceiling g number tsn numbered same = by (nat_lt last g.number) refl ∙ ap (λ (n : ℕ). if nat_lt last n then max ceiling (tsn + 1) else ceiling) numbered
+  where
+    chosen : (b : Bool) → ceiling_behind ceiling (cond b (g ∷ []) []) ≡ (if b then max ceiling (tsn + 1) else ceiling)
+    chosen true = ap (λ (n : ℕ). max ceiling (n + 1)) same
+    chosen false = refl
+
+    by : (b : Bool) → nat_lt last g.number ≡ b → ceiling_behind ceiling (groups_above last (g ∷ [])) ≡ (if nat_lt last g.number then max ceiling (tsn + 1) else ceiling)
+    by b is = chosen (nat_lt last g.number)
+
+module _ (journal : Journal) (at : Reached) (image : Image) (is : IsJournalOf image journal) (slot number : ℕ) where
+  pub reached_more : (ceiling new tsn : ℕ) (g : Group) → IsWhole number g → g.tsn.number ≡ tsn → standing image aij_file slot (count_of g) ≡ slots_of g → new ≡ (if nat_lt at.last number then max ceiling (tsn + 1) else ceiling)
+      → ReachedUpTo journal at slot number ceiling → ReachedUpTo journal at (slot + (length g.lines + 1)) (number + 1) new
+  unfolding goes_on
+  reached_more ceiling new tsn g whole same stands now_is was = let next = found_next image journal is slot number was.here g whole stands in record {
+    here = goes_on image journal is slot number was.here g next.0 next.1;
+    ceiling_is = now_is ∙ sym (its_ceiling at.last ceiling g number tsn whole.numbered same)
+        ∙ ap (λ (c : ℕ). ceiling_behind c (groups_above at.last (g ∷ []))) was.ceiling_is
+        ∙ sym (ceiling_both at.ceiling (groups_above at.last was.here.passed) (groups_above at.last (g ∷ [])))
+        ∙ ap (ceiling_behind at.ceiling) (sym (above_both at.last was.here.passed (g ∷ [])));
+  }
+
+  pub reached_all : (ceiling : ℕ) → ((g : Group) → IsWhole number g → standing image aij_file slot (count_of g) ≡ slots_of g → ⊥) → ReachedUpTo journal at slot number ceiling → (reached : Reached) → reached.last ≡ max at.last (number - 1) → reached.ceiling ≡ ceiling → reached ≡ reached_behind at journal
+  reached_all ceiling none was reached last_same ceiling_same =
+      let all = none_next image journal is slot number was.here none in
+      let lasts = last_same ∙ last_is journal image is at.last slot number none was.here in
+      let ceilings = ceiling_same ∙ was.ceiling_is ∙ ap (λ (gs : List Group). ceiling_behind at.ceiling (groups_above at.last gs)) (sym all) in
+      λ i. record { last = lasts i; ceiling = ceilings i }
+
+-- a group that stands has a number that a slot can say
+pub tsn_few : (image : Image) (slot : ℕ) (g : Group) (tsn : ℕ) → g.tsn.number ≡ tsn → standing image aij_file slot (count_of g) ≡ slots_of g → tsn < 2 ^ 62
+tsn_few image slot g tsn same there = subst (λ (n : ℕ). n < 2 ^ 62) same (by g.lines refl)
+  where
+    first : (what : Option AijPart) → slice_get (slots_of g) 0 ≡ Some what → what_stands (image aij_file (slot + 0)) ≡ what
+    first what got =
+        let some : 0 < count_of g = omega arith in
+        some_same _ _ (sym (standing_at image aij_file slot (count_of g) 0 some) ∙ ap (λ (l : List (Option AijPart)). slice_get l 0) there ∙ got)
+
+    few : (part : AijPart) → what_stands (image aij_file (slot + 0)) ≡ Some part → part.tsn.number < 2 ^ 62
+    few part stood = let is : IsPart (image aij_file (slot + 0)) part = subst (λ (w : Option AijPart). Holds (image aij_file (slot + 0)) w) stood (standing_slots.stands (image aij_file (slot + 0))) in is.tsn
+
+    by : (lines : List GroupLine) → g.lines ≡ lines → g.tsn.number < 2 ^ 62
+    by [] is = few _ (first _ (ap (λ (ls : List GroupLine). slice_get (slots_from g 0 ls) 0) is))
+    by (line ∷ lines) is = few _ (first _ (ap (λ (ls : List GroupLine). slice_get (slots_from g 0 ls) 0) is))

@@ -60,11 +60,15 @@ fn pass_groups<D: Disk>(
 ) -> Result<Reached, Fault>
     requires size { slot_bytes file ≡ 512 }
     requires few { first ≤ 2 ^ 62 }
+    requires last { at.last < 2 ^ 63 }
     requires ceiling { at.ceiling ≤ 2 ^ 62 }
     ensures reads { OnlyReads (D.view disk.old) (D.view disk.new) }
     ensures failed { IsErrOf result Fault.Failed
         → Rose (D.view disk.old).faults (D.view disk.new).faults }
-    ensures ceiling { IfOk result (λ reached. (at.ceiling ≤ reached.ceiling) × (reached.ceiling ≤ 2 ^ 62)) }
+    ensures grows { IfOk result (λ reached. at.last ≤ reached.last) }
+    ensures last { IfOk result (λ reached. reached.last < 2 ^ 63) }
+    ensures above { IfOk result (λ reached. at.ceiling ≤ reached.ceiling) }
+    ensures ceiling { IfOk result (λ reached. reached.ceiling ≤ 2 ^ 62) }
     ensures bad { (named : File) (slot : ℕ) → IsErrOf result (Fault.Bad named slot)
         → IsTrue (D.view disk.old).tells → ⊥ }
     ensures reached { IfOk result (λ reached. IsTrue (D.view disk.old).tells → (journal : Journal)
@@ -94,7 +98,9 @@ fn pass_groups<D: Disk>(
 // The ceiling above a group's transaction too, where the group is above the last one that is behind.
 fn ceiling_with(last: u64, number: u64, tsn: u64, ceiling: u64) -> u64
     requires { tsn < 2 ^ 62 }
-    ensures { result ≡ (if nat_lt last number then max ceiling (tsn + 1) else ceiling) }
+    ensures value { result ≡ (if nat_lt last number then max ceiling (tsn + 1) else ceiling) }
+    ensures above { ceiling ≤ result }
+    ensures below { ceiling ≤ 2 ^ 62 → result ≤ 2 ^ 62 }
 {
     if last < number {
         greater(ceiling, tsn + 1)
@@ -120,8 +126,14 @@ pub fn pass_journal<D: Disk>(
     ensures bad { (named : File) (slot : ℕ) → IsErrOf result (Fault.Bad named slot)
         → IsTrue (D.view disk.old).tells → (journal : Journal)
         → IsJournalIn (D.view disk.old).content file journal → ⊥ }
-    ensures ceiling { IfOk result (λ found. (reached : _) → found ≡ Some reached → reached.ceiling ≤ 2 ^ 62) }
+
+    // It goes further, within the numbers that there are.
+    ensures grows { IfOk result (λ found. (reached : _) → found ≡ Some reached → at.last ≤ reached.last) }
     ensures last { IfOk result (λ found. (reached : _) → found ≡ Some reached → reached.last < 2 ^ 63) }
+    ensures above { IfOk result (λ found. (reached : _) → found ≡ Some reached → at.ceiling ≤ reached.ceiling) }
+    ensures ceiling { IfOk result (λ found. (reached : _) → found ≡ Some reached → reached.ceiling ≤ 2 ^ 62) }
+
+    // Of a journal that goes on from there it tells the last group and the ceiling.
     ensures no_gap { IfOk result (λ found. IsTrue (D.view disk.old).tells → (journal : Journal)
         → IsJournalIn (D.view disk.old).content file journal
         → (reached : _) → found ≡ Some reached → journal.first ≤ at.last + 1) }
