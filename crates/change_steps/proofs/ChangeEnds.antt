@@ -26,7 +26,7 @@ use Rattle.disk_store.specs.Shown.{WaitPushed, WaitsAs, Shown, sight_of}
 use Rattle.disk_store.specs.Sound.{IsSound}
 use Rattle.disk_store.proofs.Moving.{itself}
 use Rattle.disk_store.proofs.Members.{get-within}
-use Rattle.disk_store.proofs.Beside.{stays-there}
+use Rattle.disk_store.proofs.Beside.{same-areas, stays-there}
 use Rattle.disk_store.proofs.Kept.{kept-stays}
 use Rattle.disk_store.proofs.Stepping.{ComesTo, Becomes, does-step}
 use Rattle.disk_store.proofs.Passing.{passes-none, none-leaves, tables-pass}
@@ -110,7 +110,7 @@ module _ (v : View) (held : StoreMemory) (s : ℕ) (m : Member) (was : slice_get
       facts = shown.facts;
       limits = refl;
       none = λ t apart rests. rests;
-      others = λ t x apart got stood. stays-there v v g g t (λ file slot. refl) (record { standing = inl refl; going = refl; commit = refl }) x stood;
+      others = λ t x apart got stood. stays-there v v g g t (same-areas v) (record { standing = inl refl; going = refl; commit = refl }) x stood;
       mine = mine;
       numbered = record { number = shown.numbers.number; first = shown.numbers.first; ceiling = shown.numbers.ceiling; group = shown.numbers.group };
       kept = kept-stays held.members s held.numbers.next held.numbers.written m n was (omega arith) shown.kept;

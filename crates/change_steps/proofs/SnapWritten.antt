@@ -10,7 +10,6 @@ use Rattle.stable_lines.specs.Progress.{Progress}
 use Rattle.stable_lines.specs.Facts.{Facts}
 use Rattle.stable_lines.proofs.Fewer.{all}
 use Rattle.line_moves.specs.Calls.{OnlyWrites}
-use Rattle.line_moves.specs.Classes.{HasItsClass}
 use Rattle.line_seat.proofs.StageStays.{IsBesideIt}
 use Rattle.disk_versions.proofs.Moves.{lines_in_slot}
 use Rattle.disk_seats.specs.Ledgers.{Commit, Ledger, progress_with, progress_of}
@@ -19,7 +18,7 @@ use Rattle.disk_seats.proofs.OthersStay.{leaves_aside, member_stays, commit_stay
 use Rattle.disk_seats.proofs.Assembled.{assembled}
 use Rattle.disk_store.specs.declared.held.Tables.{Tables}
 use Rattle.disk_store.specs.Shown.{TablesStand}
-use Rattle.disk_store.proofs.Beside.{SameAreas}
+use Rattle.disk_store.proofs.Beside.{SameAreas, same-classes}
 
 other-kind : (a b : FileId) → (a.kind ≡ b.kind → ⊥) → a ≡ b → ⊥
 other-kind a b off same = off (ap (λ (f : FileId). f.kind) same)
@@ -32,7 +31,7 @@ module _ (v w : View) (number slot : ℕ) (t : IsTrue v.tells) (only : OnlyWrite
   area f i x q = only.pending t (area_file f) i x (λ same at. other-kind (area_file f) (snap_file number) (λ k. let bad : Area ≡ Snap = k in cc) same) q
 
   pub areas : SameAreas v w
-  areas f i = only.content t (area_file f) i (λ same at. other-kind (area_file f) (snap_file number) (λ k. let bad : Area ≡ Snap = k in cc) same)
+  areas = record { content = λ f i. only.content t (area_file f) i (λ same at. other-kind (area_file f) (snap_file number) (λ k. let bad : Area ≡ Snap = k in cc) same); pending = area }
 
   aij : (i : ℕ) (x : List ℕ) → Pending w aij_file i x → Pending v aij_file i x
   aij i x q = only.pending t aij_file i x (λ same at. other-kind aij_file (snap_file number) (λ k. let bad : Aij ≡ Snap = k in cc) same) q
@@ -47,7 +46,7 @@ module _ (v w : View) (number slot : ℕ) (t : IsTrue v.tells) (only : OnlyWrite
   beside-it now member = record {
     own = λ i x q. ruj member i x q;
     areas = area;
-    pages = areas;
+    pages = areas.content;
     aij = λ i. only.content t aij_file i (λ same at. other-kind aij_file (snap_file number) (λ k. let bad : Aij ≡ Snap = k in cc) same);
     ended = λ tsn off was m h is le q n. was m h is le (ruj m 0 h q) n;
   }
@@ -66,7 +65,7 @@ module _ (v w : View) (number slot : ℕ) (t : IsTrue v.tells) (only : OnlyWrite
   snap-tables g tables was = record {
     committed = was.committed;
     classes = was.classes;
-    lie = λ file page is plain. subst (λ bytes. HasItsClass was.classes bytes) (sym (areas file (page - 1))) (was.lie file page is plain);
+    lie = same-classes v w areas was.classes was.lie;
     class = was.class;
     owned = λ place owner is within plain its x p. was.owned place owner is within plain its x (area place.file (place.page - 1) x p);
   }

@@ -5,7 +5,7 @@ use Rattle.command_words.specs.Orders.{is_order}
 use Rattle.command_words.specs.Words.{command_of, database_place, word_of, order_in}
 use Rattle.command_words.specs.declared.deaths.DeathPoint.TheVariants.{Step, Barrier}
 use Rattle.command_words.specs.declared.words.Command.{Command}
-use Rattle.command_words.specs.declared.words.Command.TheVariants.{Rdo, Verify, Dump, DumpPage}
+use Rattle.command_words.specs.declared.words.Command.TheVariants.{Rdo, Verify, Dump, DumpPage, Backup, BackupJournal, Restore}
 
 -- `RDO --ORDER=1,2 PERS a b`
 in_turns : List (List ℕ)
@@ -129,3 +129,20 @@ page-place = refl
 -- two databases, no database, a fourth area file, no page
 no_rows : (command_of (codes "RMU/VERIFY" ∷ codes "A" ∷ codes "B" ∷ []) ≡ None) × (command_of (codes "RMU/DUMP" ∷ []) ≡ None) × (command_of (codes "RMU/DUMP/PAGE" ∷ codes "A" ∷ codes "4" ∷ codes "1" ∷ []) ≡ None) × (command_of (codes "RMU/DUMP/PAGE" ∷ codes "A" ∷ codes "1" ∷ codes "0" ∷ []) ≡ None) × (command_of (codes "RMU/DUMP/PAGE" ∷ codes "A" ∷ codes "1" ∷ []) ≡ None)
 no_rows = (refl, refl, refl, refl, refl)
+
+-- the commands that keep copies
+backup : command_of (codes "RMU/Backup" ∷ codes "PERS" ∷ codes "1" ∷ []) ≡ Some (Backup 1)
+backup = refl
+
+backup_journal : command_of (codes "RMU/BACKUP/AFTER_JOURNAL" ∷ codes "PERS" ∷ codes "9" ∷ []) ≡ Some (BackupJournal 9)
+backup_journal = refl
+
+restore : command_of (codes "rmu/restore" ∷ codes "PERS" ∷ codes "02" ∷ []) ≡ Some (Restore 2)
+restore = refl
+
+restore-place : database_place (codes "RMU/RESTORE" ∷ codes "PERS" ∷ codes "2" ∷ []) ≡ Some 1
+restore-place = refl
+
+-- no number, 0, 10, two numbers, no database
+no_copies : (command_of (codes "RMU/BACKUP" ∷ codes "A" ∷ []) ≡ None) × (command_of (codes "RMU/BACKUP" ∷ codes "A" ∷ codes "0" ∷ []) ≡ None) × (command_of (codes "RMU/RESTORE" ∷ codes "A" ∷ codes "10" ∷ []) ≡ None) × (command_of (codes "RMU/RESTORE" ∷ codes "A" ∷ codes "1" ∷ codes "2" ∷ []) ≡ None) × (command_of (codes "RMU/BACKUP/AFTER_JOURNAL" ∷ codes "1" ∷ codes "1" ∷ []) ≡ None)
+no_copies = (refl, refl, refl, refl, refl)

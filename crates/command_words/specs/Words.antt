@@ -13,7 +13,7 @@ use Rattle.command_words.specs.declared.options.Asked.{Asked}
 use Rattle.command_words.specs.declared.words.Scripts.{Scripts}
 use Rattle.command_words.specs.declared.words.Command.{Command}
 use Rattle.command_words.specs.declared.words.PagePlace.{PagePlace}
-use Rattle.command_words.specs.declared.words.Command.TheVariants.{New, Rdo, Verify, Dump, DumpPage}
+use Rattle.command_words.specs.declared.words.Command.TheVariants.{New, Rdo, Verify, Dump, DumpPage, Backup, BackupJournal, Restore}
 
 -- a letter, a digit or `_`
 abbrev pub is_database_byte : ℕ → Bool
@@ -111,12 +111,30 @@ abbrev pub as_page : Option PagePlace → Option Command
 as_page None = None
 as_page (Some place) = Some (DumpPage place)
 
+-- a database, and the number of a backup or of a copy of the journal, from 1 to 9
+abbrev pub copy_words : List (List ℕ) → Option ℕ
+copy_words [] = None
+copy_words (d ∷ []) = None
+copy_words (d ∷ n ∷ []) = if is_database d then number_in 1 9 n else None
+copy_words (d ∷ n ∷ w ∷ ws) = None
+
+abbrev pub keeping_of : List ℕ → Option ℕ → Option Command
+keeping_of c None = None
+keeping_of c (Some number) =
+    if is_command (codes "RMU/BACKUP") c then Some (Backup number)
+    else (if is_command (codes "RMU/BACKUP/AFTER_JOURNAL") c then Some (BackupJournal number)
+    else (if is_command (codes "RMU/RESTORE") c then Some (Restore number) else None))
+
+-- a command of RMU that keeps copies, and the words behind it
+abbrev pub keeping_command : List ℕ → List (List ℕ) → Option Command
+keeping_command c ws = keeping_of c (copy_words ws)
+
 -- a command of RMU, and the words behind it
 abbrev pub rmu_command : List ℕ → List (List ℕ) → Option Command
 rmu_command c ws =
     if is_command (codes "RMU/VERIFY") c then (if is_one_database ws then Some Verify else None)
     else (if is_command (codes "RMU/DUMP") c then (if is_one_database ws then Some Dump else None)
-    else (if is_command (codes "RMU/DUMP/PAGE") c then as_page (page_words ws) else None))
+    else (if is_command (codes "RMU/DUMP/PAGE") c then as_page (page_words ws) else keeping_command c ws))
 
 -- the row of the table of commands that the words are
 abbrev pub command_of : List (List ℕ) → Option Command
@@ -133,6 +151,9 @@ place_for n (Some (New l)) = Some (n - 1)
 place_for n (Some Verify) = Some (n - 1)
 place_for n (Some Dump) = Some (n - 1)
 place_for n (Some (DumpPage p)) = Some (n - 3)
+place_for n (Some (Backup number)) = Some (n - 2)
+place_for n (Some (BackupJournal number)) = Some (n - 2)
+place_for n (Some (Restore number)) = Some (n - 2)
 
 abbrev pub database_place : List (List ℕ) → Option ℕ
 database_place words = place_for (length words) (command_of words)
@@ -177,6 +198,9 @@ order_for (Some (New l)) order = []
 order_for (Some Verify) order = []
 order_for (Some Dump) order = []
 order_for (Some (DumpPage p)) order = []
+order_for (Some (Backup number)) order = []
+order_for (Some (BackupJournal number)) order = []
+order_for (Some (Restore number)) order = []
 order_for (Some (Rdo s)) order = sessions_said s.count order
 
 -- the sessions that `--ORDER` names, in order
@@ -211,11 +235,21 @@ only_reads (Some (Rdo s)) = false
 only_reads (Some Verify) = true
 only_reads (Some Dump) = true
 only_reads (Some (DumpPage p)) = true
+only_reads (Some (Backup number)) = false
+only_reads (Some (BackupJournal number)) = false
+only_reads (Some (Restore number)) = false
 
--- the limits of a command and the page that it names are within their ranges, and its scripts within its words
+-- backups, and copies of the journal, count from 1 to 9
+abbrev pub IsCopyNumber : ℕ → Type 0
+IsCopyNumber number = (1 ≤ number) × (number ≤ 9)
+
+-- the limits of a command, the page and the number that it names are within their ranges, and its scripts within its words
 abbrev pub IsAllowedCommand : List (List ℕ) → Command → Type 0
 IsAllowedCommand words (New limits) = AreLimits limits
 IsAllowedCommand words (Rdo scripts) = AreLast words scripts
 IsAllowedCommand words Verify = Unit {0}
 IsAllowedCommand words Dump = Unit {0}
 IsAllowedCommand words (DumpPage place) = IsAllowedPlace place
+IsAllowedCommand words (Backup number) = IsCopyNumber number
+IsAllowedCommand words (BackupJournal number) = IsCopyNumber number
+IsAllowedCommand words (Restore number) = IsCopyNumber number

@@ -7,6 +7,7 @@ ghost use Rattle.command_words.specs.Words.{is_database_byte as database_byte, i
 ghost use Rattle.command_words.specs.Words.{order_text as text_said, death_text as death_said, scripts_at as scripts_from, with_order as ordered, with_death as dying_at, behind_order as behind_order_of, behind_death as behind_death_of, rdo_words as rdo_of, order_first as first_order, said_order as order_said};
 ghost use Rattle.command_words.specs.Words.{command_of as command_for, IsAllowedCommand, database_place, word_of, order_in};
 ghost use Rattle.command_words.specs.Words.{is_one_database as is_one_database_of, place_of as place_for_numbers, page_words as page_words_of, rmu_command as rmu_command_for, only_reads as only_reads_for, IsAllowedPlace};
+ghost use Rattle.command_words.specs.Words.{copy_words as copy_words_of, keeping_command as keeping_command_for, IsCopyNumber};
 ghost use Rattle.command_words.specs.Options.{nothing_asked, number_in as number_in_range};
 ghost use Rattle.root_file.specs.Root.{AreLimits};
 
@@ -55,6 +56,12 @@ pub enum Command {
     Dump,
     /// `RMU/DUMP/PAGE db file page` tells the bytes of a page of an area file.
     DumpPage(PagePlace),
+    /// `RMU/BACKUP db number` writes the backup of this number, from 1 to 9, of a database.
+    Backup(u32),
+    /// `RMU/BACKUP/AFTER_JOURNAL db number` copies the after-image journal into the copy of this number, from 1 to 9, and empties it.
+    BackupJournal(u32),
+    /// `RMU/RESTORE db number` makes a database anew from its backup of this number, from 1 to 9.
+    Restore(u32),
 }
 
 fn is_database_byte(b: u8) -> bool
@@ -267,6 +274,38 @@ fn page_words(words: &[Word]) -> Option<PagePlace>
     }
 }
 
+/// The number of a backup, or of a copy of the journal, behind a database.
+fn copy_words(words: &[Word]) -> Option<u32>
+    ensures value { result ≡ copy_words_of words.now }
+    ensures allowed { IfSome result (λ number. IsCopyNumber number) }
+{
+    match words {
+        [database, number] => if is_database(database.as_slice()) {
+            number_in(1, 9, number.as_slice())
+        } else {
+            None
+        },
+        _ => None,
+    }
+}
+
+/// The command of RMU that keeps copies, of a command word and the words behind it.
+fn keeping_command(command: &[u8], words: &[Word]) -> Option<Command>
+    ensures row { result ≡ keeping_command_for command.now words.now }
+    ensures allowed { (all : List (List ℕ)) → IfSome result (λ command. IsAllowedCommand all command) }
+{
+    let number = copy_words(words)?;
+    if is_named(b"RMU/BACKUP", command) {
+        Some(Command::Backup(number))
+    } else if is_named(b"RMU/BACKUP/AFTER_JOURNAL", command) {
+        Some(Command::BackupJournal(number))
+    } else if is_named(b"RMU/RESTORE", command) {
+        Some(Command::Restore(number))
+    } else {
+        None
+    }
+}
+
 /// The command of RMU of a command word and the words behind it.
 fn rmu_command(command: &[u8], words: &[Word]) -> Option<Command>
     ensures row { result ≡ rmu_command_for command.now words.now }
@@ -290,7 +329,7 @@ fn rmu_command(command: &[u8], words: &[Word]) -> Option<Command>
             None => None,
         }
     } else {
-        None
+        keeping_command(command, words)
     }
 }
 
@@ -333,6 +372,9 @@ pub fn database_word(words: &[Word]) -> Option<usize>
         Some(Command::Verify) => Some(words.len().saturating_sub(1)),
         Some(Command::Dump) => Some(words.len().saturating_sub(1)),
         Some(Command::DumpPage(_)) => Some(words.len().saturating_sub(3)),
+        Some(Command::Backup(_)) => Some(words.len().saturating_sub(2)),
+        Some(Command::BackupJournal(_)) => Some(words.len().saturating_sub(2)),
+        Some(Command::Restore(_)) => Some(words.len().saturating_sub(2)),
         None => None,
     }
 }
@@ -347,6 +389,9 @@ pub fn only_reads(words: &[Word]) -> bool
         Some(Command::DumpPage(_)) => true,
         Some(Command::New(_)) => false,
         Some(Command::Rdo(_)) => false,
+        Some(Command::Backup(_)) => false,
+        Some(Command::BackupJournal(_)) => false,
+        Some(Command::Restore(_)) => false,
         None => false,
     }
 }

@@ -58,7 +58,7 @@ pub record MakesTurn (v w : View) (turn : CommitTurn) (group : GroupPlace) (line
   pub writes : WritesAside v w
   pub failed : IsErrOf result Failed → Rose v.faults w.faults
   pub changes : IsTrue v.tells → (g : Ledger) → LedgerFacts v g → PutsOnly lines v.content w.content
-  pub classed : IsTrue v.tells → (g : Ledger) → LedgerFacts v g → (by_area : ℕ → ℕ) → AreOfClasses by_area lines classes → HaveTheirClasses by_area v.content → HaveTheirClasses by_area w.content
+  pub classed : IsTrue v.tells → (g : Ledger) → LedgerFacts v g → (by_area : ℕ → ℕ) → AreOfClasses by_area lines classes → HaveTheirClasses by_area (Pending v) → HaveTheirClasses by_area (Pending w)
   pub owners : IsTrue v.tells → (g : Ledger) → LedgerFacts v g → (there : Place) (area : ℕ) → IsAreaFile there.file → IsDataPage there.page → LieForArea lines there area → KeepsOwners (Pending v) (Pending w) there area
   pub keeps : IsTrue v.tells → (g : Ledger) (member : ℕ) (transaction : Open) (all : List Undo) (flight : Flight) → LedgerFacts v g
       → TurnFacts turn v g (plan_of member transaction all group lines classes flight)

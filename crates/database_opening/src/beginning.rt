@@ -1,5 +1,5 @@
 // The first step of an opening.
-ghost use Rattle.std.specs.Prelude.{◌≡◌, ◌⊎◌, true, ℕ, IfOk, IsErrOf, IsTrue};
+ghost use Rattle.std.specs.Prelude.{◌≡◌, ◌⊎◌, true, ℕ, IfOk, OnOk, IsErrOf, IsTrue};
 ghost use Rattle.rdb_types.specs.declared.file.FileId.{FileId as File};
 ghost use Rattle.rdb_outside.specs.Causes.{Rose};
 ghost use Rattle.rdb_outside.specs.Disk.{OnlyReads, IsStable};
@@ -94,6 +94,9 @@ pub fn begin<D: Disk>(disk: &mut D) -> Result<Opening, Fault>
         → (classes : ℕ → ℕ) (lines : Lines) (journal : Journal)
         → Kept classes lines journal (D.view disk.old).content
         → OpeningFacts classes lines journal opening.stage (D.view disk.new) opening.found) }
+
+    // Behind it a crash leaves what reads give.
+    ensures stable { OnOk result (IsTrue (D.view disk.old).tells → IsStable (D.view disk.new)) }
 {
     make_stable(disk)?;
     read_all(disk)

@@ -2,7 +2,7 @@
 ghost use Rattle.std.specs.Prelude.{◌≡◌, ◌≢◌, ◌≤◌, ◌<◌, ◌+◌, ℕ, List, slice_index_or, IfOk, OnOk, IsErrOf, IsTrue};
 ghost use Rattle.rdb_types.specs.declared.file.FileId.{FileId as File};
 ghost use Rattle.rdb_outside.specs.Causes.{Rose};
-ghost use Rattle.rdb_outside.specs.Disk.{LeavesOnly, OnlyReads, IsStable};
+ghost use Rattle.rdb_outside.specs.Disk.{LeavesOnly, OnlyReads, Pending, IsStable};
 ghost use Rattle.line_view.specs.Knowledge.{Lines};
 ghost use Rattle.stable_lines.specs.Slots.{IsMember};
 ghost use Rattle.stable_lines.specs.Journal.{Journal};
@@ -68,8 +68,8 @@ fn undo_entries<D: Disk>(
     ensures classes { IsTrue (D.view disk.old).tells
         → (classes : ℕ → ℕ) (lines : Lines) (journal : Journal)
         → OpeningFacts classes lines journal (Undoing member entries) (D.view disk.old) found.now
-        → (by_area : ℕ → ℕ) → HaveTheirClasses by_area (D.view disk.old).content
-        → HaveTheirClasses by_area (D.view disk.new).content }
+        → (by_area : ℕ → ℕ) → HaveTheirClasses by_area (Pending (D.view disk.old))
+        → HaveTheirClasses by_area (Pending (D.view disk.new)) }
     ensures untouched { IsTrue (D.view disk.old).tells
         → KeepsRootAndSpaces (D.view disk.old).content (D.view disk.new).content }
     ensures others { IsTrue (D.view disk.old).tells → (file : File) → IsOther file
@@ -113,8 +113,8 @@ fn close_header<D: Disk>(disk: &mut D, member: u32) -> Result<OpeningStage, Faul
         → OpeningFacts classes lines journal (Closing member) (D.view disk.old) found
         → LeavesOnly (D.view disk.old) (D.view disk.new) (Kept classes lines journal) }
     ensures classes { IsTrue (D.view disk.old).tells
-        → (by_area : ℕ → ℕ) → HaveTheirClasses by_area (D.view disk.old).content
-        → HaveTheirClasses by_area (D.view disk.new).content }
+        → (by_area : ℕ → ℕ) → HaveTheirClasses by_area (Pending (D.view disk.old))
+        → HaveTheirClasses by_area (Pending (D.view disk.new)) }
     ensures untouched { IsTrue (D.view disk.old).tells
         → KeepsRootAndSpaces (D.view disk.old).content (D.view disk.new).content }
     ensures others { IsTrue (D.view disk.old).tells → (file : File) → IsOther file
@@ -179,8 +179,8 @@ pub fn step<D: Disk>(
     ensures classes { IsTrue (D.view disk.old).tells
         → (classes : ℕ → ℕ) (lines : Lines) (journal : Journal)
         → OpeningFacts classes lines journal stage (D.view disk.old) found.now
-        → (by_area : ℕ → ℕ) → HaveTheirClasses by_area (D.view disk.old).content
-        → HaveTheirClasses by_area (D.view disk.new).content }
+        → (by_area : ℕ → ℕ) → HaveTheirClasses by_area (Pending (D.view disk.old))
+        → HaveTheirClasses by_area (Pending (D.view disk.new)) }
     ensures untouched { IsTrue (D.view disk.old).tells
         → KeepsRootAndSpaces (D.view disk.old).content (D.view disk.new).content }
 

@@ -7,7 +7,7 @@ ghost use Rattle.root_file.specs.Root.{IsAllowed};
 ghost use Rattle.line_view.specs.Knowledge.{Lines};
 ghost use Rattle.stable_lines.specs.Journal.{Journal};
 ghost use Rattle.stable_lines.specs.Kept.{Kept};
-ghost use Rattle.line_moves.specs.Classes.{HaveTheirClasses};
+ghost use Rattle.line_moves.specs.Classes.{IsClassed};
 ghost use Rattle.database_opening.specs.declared.stages.OpeningStage.TheVariants.{Opened};
 ghost use Rattle.database_opening.specs.Others.{IsOther, KeepsFile};
 ghost use Rattle.database_opening.specs.Start.{IsStart};
@@ -61,8 +61,8 @@ pub fn open_database<D: Disk>(disk: &mut D) -> Result<StoreStart, Fault>
     ensures classes { IsTrue (D.view disk.old).tells
         → (classes : ℕ → ℕ) (lines : Lines) (journal : Journal)
         → Kept classes lines journal (D.view disk.old).content
-        → (by_area : ℕ → ℕ) → HaveTheirClasses by_area (D.view disk.old).content
-        → HaveTheirClasses by_area (D.view disk.new).content }
+        → (by_area : ℕ → ℕ) → IsClassed by_area (D.view disk.old).content
+        → IsClassed by_area (D.view disk.new).content }
     ensures untouched { IsTrue (D.view disk.old).tells
         → KeepsRootAndSpaces (D.view disk.old).content (D.view disk.new).content }
 

@@ -56,8 +56,8 @@ pub fn go_on<D: Disk>(
     ensures classes { IsTrue (D.view disk.old).tells → (ledger : Ledger)
         → LedgerFacts (D.view disk.old) ledger → (by_area : ℕ → ℕ)
         → AreOfClasses by_area lines.now classes.now
-        → HaveTheirClasses by_area (D.view disk.old).content
-        → HaveTheirClasses by_area (D.view disk.new).content }
+        → HaveTheirClasses by_area (Pending (D.view disk.old))
+        → HaveTheirClasses by_area (Pending (D.view disk.new)) }
 
     // Whatever it answers, a page that may have no other area's owner has none, where the lines that lie there are the area's.
     ensures owners { IsTrue (D.view disk.old).tells → (ledger : Ledger)

@@ -55,8 +55,8 @@ pub fn undo<D: Disk>(
     // Whatever it answers, pages have the classes of their areas where they had.
     ensures classes { IsTrue (D.view disk.old).tells → (ledger : Ledger)
         → LedgerFacts (D.view disk.old) ledger → (classes : ℕ → ℕ)
-        → HaveTheirClasses classes (D.view disk.old).content
-        → HaveTheirClasses classes (D.view disk.new).content }
+        → HaveTheirClasses classes (Pending (D.view disk.old))
+        → HaveTheirClasses classes (Pending (D.view disk.new)) }
 
     // Whatever it answers, a page that may have no other area's owner has none.
     ensures owners { IsTrue (D.view disk.old).tells → (ledger : Ledger)

@@ -1,11 +1,11 @@
 -- The members beside a session that makes a step.
-use Rattle.std.proofs.Common.{Some, ◌≡◌, ◌⊎◌, inl, inr, ℕ, ◌-◌, length, sym, ap, subst, ◌∙◌}
-use Rattle.rdb_outside.specs.Disk.{View}
+use Rattle.std.proofs.Common.{Some, ◌≡◌, ◌⊎◌, inl, inr, ℕ, ◌-◌, List, length, refl, sym, ap, subst, ◌∙◌}
+use Rattle.rdb_outside.specs.Disk.{View, Pending}
 use Rattle.stable_lines.specs.Slots.{area_file}
 use Rattle.member_steps.specs.declared.committing.CommitTurn.{CommitTurn}
 use Rattle.member_steps.specs.declared.committing.CommitTurn.TheVariants.{Entering, Securing, Going}
 use Rattle.line_moves.specs.Lines.{ChangedLines}
-use Rattle.line_moves.specs.Classes.{HasItsClass, HaveTheirClasses}
+use Rattle.line_moves.specs.Classes.{HaveTheirClasses}
 use Rattle.member_steps.specs.Turns.{commit_of_plan}
 use Rattle.area_files.specs.Areas.{IsDataPage, space_page_of}
 use Rattle.space_pages.specs.Space.{owner_of}
@@ -36,13 +36,17 @@ pub record StaysWith (t : ℕ) (g h : Ledger) : Type 0 where
 abbrev pub SameSpaces : View → View → Type 0
 SameSpaces v w = (file page : ℕ) → IsDataPage page → w.content (area_file file) (space_page_of page - 1) ≡ v.content (area_file file) (space_page_of page - 1)
 
--- reads of area files give what they gave
-abbrev pub SameAreas : View → View → Type 0
-SameAreas v w = (file slot : ℕ) → w.content (area_file file) slot ≡ v.content (area_file file) slot
+-- reads of area files give what they gave, and a crash may leave no more of them
+pub record SameAreas (v w : View) : Type 0 where
+  pub content : (file slot : ℕ) → w.content (area_file file) slot ≡ v.content (area_file file) slot
+  pub pending : (file slot : ℕ) (x : List ℕ) → Pending w (area_file file) slot x → Pending v (area_file file) slot x
+
+pub same-areas : (v : View) → SameAreas v v
+same-areas v = record { content = λ file slot. refl; pending = λ file slot x p. p }
 
 -- pages keep the classes of their areas
 abbrev pub KeepClasses : View → View → Type 0
-KeepClasses v w = (classes : ℕ → ℕ) → HaveTheirClasses classes v.content → HaveTheirClasses classes w.content
+KeepClasses v w = (classes : ℕ → ℕ) → HaveTheirClasses classes (Pending v) → HaveTheirClasses classes (Pending w)
 
 module _ (v w : View) (g h : Ledger) (t : ℕ) (same : SameSpaces v w) (keep : KeepClasses v w) (stays : StaysWith t g h) where
   pub rests : g.standing t ≡ resting → h.standing t ≡ resting
@@ -125,7 +129,7 @@ module _ (v w : View) (g h : Ledger) (t : ℕ) (same : SameSpaces v w) (keep : K
   stays-with m is = stage-stays m.stage m is
 
 pub same-classes : (v w : View) → SameAreas v w → KeepClasses v w
-same-classes v w same classes was file number is plain = subst (λ bytes. HasItsClass classes bytes) (sym (same file (number - 1))) (was file number is plain)
+same-classes v w same classes was file number x is plain p = was file number x is plain (same.pending file (number - 1) x p)
 
 pub stays-there : (v w : View) (g h : Ledger) (t : ℕ) → SameAreas v w → StaysOf t g h → (m : Member) → StageStands m.stage v g t m → StageStands m.stage w h t m
-stays-there v w g h t same stays = stays-with v w g h t (λ file page is. same file (space_page_of page - 1)) (same-classes v w same) (record { standing = stays.standing; going = stays.going; commit = λ c own is. stays.commit ∙ is })
+stays-there v w g h t same stays = stays-with v w g h t (λ file page is. same.content file (space_page_of page - 1)) (same-classes v w same) (record { standing = stays.standing; going = stays.going; commit = λ c own is. stays.commit ∙ is })

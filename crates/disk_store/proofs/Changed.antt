@@ -35,7 +35,7 @@ use Rattle.disk_store.specs.Shown.{IsPushed, WaitPushed, WaitsAs, Shown, used_in
 use Rattle.disk_store.specs.Sound.{IsSound}
 use Rattle.disk_store.specs.Changing.{LaysOver, all_of, with_asides, changing_with}
 use Rattle.disk_store.proofs.Members.{get-within}
-use Rattle.disk_store.proofs.Beside.{stays-there}
+use Rattle.disk_store.proofs.Beside.{same-areas, stays-there}
 use Rattle.disk_store.proofs.Kept.{kept-stays}
 use Rattle.disk_store.proofs.Stepping.{ComesTo, Becomes, does-any, apart-flight, never, Related}
 use Rattle.disk_store.proofs.Passing.{passes-none, none-leaves, tables-pass}
@@ -147,7 +147,7 @@ module _ (v : View) (held : StoreMemory) (s : ℕ) (m : Member) (more : List Wri
       facts = shown.facts;
       limits = refl;
       none = λ t apart rests. rests;
-      others = λ t x apart got stood. stays-there v v g g t (λ file slot. refl) (record { standing = inl refl; going = refl; commit = refl }) x stood;
+      others = λ t x apart got stood. stays-there v v g g t (same-areas v) (record { standing = inl refl; going = refl; commit = refl }) x stood;
       mine = begun;
       numbered = record { number = shown.numbers.number; first = shown.numbers.first; ceiling = shown.numbers.ceiling; group = shown.numbers.group };
       kept = kept-stays held.members s held.numbers.next held.numbers.written m next was (omega arith) shown.kept;

@@ -13,7 +13,6 @@ use Rattle.line_versions.specs.Course.{Course}
 use Rattle.line_versions.specs.Versions.{Followed}
 use Rattle.stable_lines.specs.Slots.{area_file}
 use Rattle.line_moves.specs.Calls.{OnlyWrites}
-use Rattle.line_moves.specs.Classes.{HasItsClass}
 use Rattle.line_store.specs.Shelves.{Shelf}
 use Rattle.disk_seats.specs.Ledgers.{Ledger}
 use Rattle.disk_seats.specs.Members.{LedgerFacts}
@@ -30,7 +29,7 @@ use Rattle.disk_store.specs.Memory.{StoreMemory, with_member}
 use Rattle.disk_store.specs.Numbers.{kept_in}
 use Rattle.disk_store.specs.Standing.{StageStands}
 use Rattle.disk_store.specs.Shown.{CeilingStands, TablesStand, WaitsAs, Shown, pages_of}
-use Rattle.disk_store.proofs.Beside.{SameAreas, stays-there}
+use Rattle.disk_store.proofs.Beside.{SameAreas, same-areas, same-classes, stays-there}
 use Rattle.disk_store.proofs.Stepping.{ComesTo}
 
 pub record Passes (v w : View) : Type 0 where
@@ -39,20 +38,18 @@ pub record Passes (v w : View) : Type 0 where
   pub no_fewer : v.faults ≤ w.faults
   pub areas : SameAreas v w
   pub snaps : (file slot : ℕ) → w.content (snap_file file) slot ≡ v.content (snap_file file) slot
-  pub pending : (file slot : ℕ) (x : List ℕ) → Pending w (area_file file) slot x → Pending v (area_file file) slot x
   pub readers : (g : Ledger) (limit : ℕ) (course : Course) (waiting : Waiting) → ReaderFacts v g limit course waiting → ReaderFacts w g limit course waiting
 
 pub passes-none : (v : View) → Passes v v
-passes-none v = record { told = refl; later = omega arith; no_fewer = omega arith; areas = λ file slot. refl; snaps = λ file slot. refl; pending = λ file slot x p. p; readers = λ g limit course waiting was. was }
+passes-none v = record { told = refl; later = omega arith; no_fewer = omega arith; areas = same-areas v; snaps = λ file slot. refl; readers = λ g limit course waiting was. was }
 
 pub passes-reads : (v w : View) → IsTrue v.tells → OnlyReads v w → Passes v w
 passes-reads v w t only = record {
   told = only.told;
   later = only.later;
   no_fewer = only.no_fewer;
-  areas = λ file slot. (only.keeps t).content (area_file file) slot;
+  areas = record { content = λ file slot. (only.keeps t).content (area_file file) slot; pending = λ file slot x p. (only.keeps t).pending (area_file file) slot x p };
   snaps = λ file slot. (only.keeps t).content (snap_file file) slot;
-  pending = λ file slot x p. (only.keeps t).pending (area_file file) slot x p;
   readers = λ g limit course waiting was. still_reads v w limit course waiting g t was only;
 }
 
@@ -61,9 +58,11 @@ passes-aside v w file slot t not-snap not-area only = record {
   told = only.told;
   later = only.later;
   no_fewer = only.no_fewer;
-  areas = λ f i. only.content t (area_file f) i (λ same at. not-area (ap (λ (x : FileId). x.kind) (sym same)));
+  areas = record {
+    content = λ f i. only.content t (area_file f) i (λ same at. not-area (ap (λ (x : FileId). x.kind) (sym same)));
+    pending = λ f i x p. only.pending t (area_file f) i x (λ same at. not-area (ap (λ (y : FileId). y.kind) (sym same))) p;
+  };
   snaps = λ f i. only.content t (snap_file f) i (λ same at. not-snap (ap (λ (x : FileId). x.kind) (sym same)));
-  pending = λ f i x p. only.pending t (area_file f) i x (λ same at. not-area (ap (λ (y : FileId). y.kind) (sym same))) p;
   readers = λ g limit course waiting was. still_aside v w limit course waiting g t was file slot not-snap not-area only;
 }
 
@@ -103,9 +102,9 @@ module _ (v w : View) (passes : Passes v w) where
   tables-pass g h tables same was = record {
     committed = λ file is. subst (λ lines. HasCommitted (pages_of tables file) file lines) (sym same) (was.committed file is);
     classes = was.classes;
-    lie = λ file number is plain. subst (λ bytes. HasItsClass was.classes bytes) (sym (passes.areas file (number - 1))) (was.lie file number is plain);
+    lie = same-classes v w passes.areas was.classes was.lie;
     class = was.class;
-    owned = λ place area is within plain owner x p. was.owned place area is within plain owner x (passes.pending place.file (place.page - 1) x p);
+    owned = λ place area is within plain owner x p. was.owned place area is within plain owner x (passes.areas.pending place.file (place.page - 1) x p);
   }
 
   pub slots-pass : (followed : Followed) (limit : ℕ) (slots : SnapshotSlots) → HoldsAll v.content followed limit slots → HoldsAll w.content followed limit slots

@@ -6,7 +6,7 @@ use Rattle.std.proofs.lemmas.List.{length-replicate}
 use Rattle.rdb_types.specs.File.{slot_bytes}
 use Rattle.rdb_page.specs.Page.{IsOwner, IsUnused, class_at}
 use Rattle.rdb_page.specs.Whole.{IsUsedPage}
-use Rattle.rdb_outside.specs.Disk.{View, Pending, IsPending, zeros}
+use Rattle.rdb_outside.specs.Disk.{View, Pending, zeros}
 use Rattle.area_files.specs.Areas.{IsDataPage}
 use Rattle.stable_lines.specs.Slots.{area_file, owner_at, IsAreaFile}
 use Rattle.stable_lines.proofs.Never.{zeros_owner}
@@ -89,20 +89,20 @@ module _ (file page area class : ℕ) (old : Tables) (table : Pages) where
         ∙ sym (ap (λ (b : Bool). cond (other == 1) old.catalog (cond (other == 2) old.relations (cond b old.indexes (replicate (length old.indexes) nobodys)))) no));
   })
 
-module _ (v : View) (g : Ledger) (tables : Tables) (facts : LedgerFacts v g) (stand : TablesStand v g tables) (now : IsPending v v.content) (file area : ℕ) (owner : IsOwner file area) where
+module _ (v : View) (g : Ledger) (tables : Tables) (facts : LedgerFacts v g) (stand : TablesStand v g tables) (file area : ℕ) (owner : IsOwner file area) where
   module _ (long : (f : ℕ) → length (pages_of tables f) ≡ g.base.limits.pages) (none : HasNoOwned (pages_of tables file) area) where
-    -- no page of the disk is the area's
-    no-page : (f number : ℕ) → IsAreaFile f → IsDataPage number → owner_at (v.content (area_file f) (number - 1)) ≡ area → ⊥
-    no-page f number is page-is is-area = by (nat_le number (length (pages_of tables f))) refl
+    -- no page that a crash may leave is the area's
+    no-page : (f number : ℕ) (x : List ℕ) → IsAreaFile f → IsDataPage number → Pending v (area_file f) (number - 1) x → owner_at x ≡ area → ⊥
+    no-page f number x is page-is may is-area = by (nat_le number (length (pages_of tables f))) refl
       where
         some : 1 ≤ area
         some = some-owner file area owner
 
         lies : IsOwner f area
         lies = ⊎_elim
-            (λ (unused : IsUnused (v.content (area_file f) (number - 1))). let zero = zeros_owner _ unused in absurd (omega (arith, zero, is-area, some)))
-            (λ (used : IsUsedPage f number (v.content (area_file f) (number - 1))). subst (λ (n : ℕ). IsOwner f n) (sym (owner_is _ used.head used.stands.head) ∙ is-area) used.stands.owner)
-            (facts.facts.pages.page f number (v.content (area_file f) (number - 1)) is page-is (now (area_file f) (number - 1)))
+            (λ (unused : IsUnused x). let zero = zeros_owner _ unused in absurd (omega (arith, zero, is-area, some)))
+            (λ (used : IsUsedPage f number x). subst (λ (n : ℕ). IsOwner f n) (sym (owner_is _ used.head used.stands.head) ∙ is-area) used.stands.owner)
+            (facts.facts.pages.page f number x is page-is may)
 
         same-file : f ≡ file
         same-file = one-file f file area lies owner
@@ -110,10 +110,10 @@ module _ (v : View) (g : Ledger) (tables : Tables) (facts : LedgerFacts v g) (st
         within-table : IsWithin (pages_of tables f) number → ⊥
         within-table within = ⊎_elim
             (λ (nobody : owner_in (pages_of tables f) number ≡ 0).
-            let for = stand.owned (record { file = f; page = number }) (area + 1) is within page-is (inl nobody) (v.content (area_file f) (number - 1)) (now (area_file f) (number - 1)) (omega (arith, is-area, some)) in
+            let for = stand.owned (record { file = f; page = number }) (area + 1) is within page-is (inl nobody) x may (omega (arith, is-area, some)) in
             absurd (omega (arith, for, is-area)))
             (λ (other : owner_in (pages_of tables f) number ≢ 0).
-            let for = stand.owned (record { file = f; page = number }) (owner_in (pages_of tables f) number) is within page-is (inr refl) (v.content (area_file f) (number - 1)) (now (area_file f) (number - 1)) (omega (arith, is-area, some)) in
+            let for = stand.owned (record { file = f; page = number }) (owner_in (pages_of tables f) number) is within page-is (inr refl) x may (omega (arith, is-area, some)) in
             none number (subst (λ (n : ℕ). IsWithin (pages_of tables n) number) same-file within) (ap (λ (n : ℕ). owner_in (pages_of tables n) number) (sym same-file) ∙ (sym for ∙ is-area)))
             (nat_cases (owner_in (pages_of tables f) number) 0)
 
@@ -125,7 +125,7 @@ module _ (v : View) (g : Ledger) (tables : Tables) (facts : LedgerFacts v g) (st
             let at = long f in
             let first = page-is.is_page.first in
             let last = page-is.is_page.last in
-            let zero = zeros-owner f _ (facts.facts.pages.past f (number - 1) (v.content (area_file f) (number - 1)) is (omega (arith, over, limit, at, first)) (omega (arith, first, last)) (now (area_file f) (number - 1))) in
+            let zero = zeros-owner f _ (facts.facts.pages.past f (number - 1) x is (omega (arith, over, limit, at, first)) (omega (arith, first, last)) may) in
             omega (arith, zero, is-area, some)
 
   module _ (kept : Tables) (page class : ℕ) (new : IsNew (pages_of tables file) page) (takes : TakesIn file page area class tables kept) where
@@ -175,7 +175,7 @@ module _ (v : View) (g : Ledger) (tables : Tables) (facts : LedgerFacts v g) (st
         by (inl (f, p, has)) = stand.owned place a is (record { first = within.first; last = subst (λ (n : ℕ). place.page ≤ length (pages_of tables n)) (sym f) (subst (λ (m : ℕ). m ≤ length (pages_of tables file)) (sym p) new.within) }) plain (inl ((λ i. owner_in (pages_of tables (f i)) (p i)) ∙ new.free))
         by (inr (has, before)) = stand.owned place a is before plain (⊎_elim (λ (none : owner_in (pages_of kept place.file) place.page ≡ 0). inl (sym (ap (λ (u : PageUse). u.owner) has) ∙ none)) (λ (its : owner_in (pages_of kept place.file) place.page ≡ a). inr (sym (ap (λ (u : PageUse). u.owner) has) ∙ its)) whose)
 
-    stand-with : (classes : ℕ → ℕ) → HaveTheirClasses classes v.content → class ≡ classes area
+    stand-with : (classes : ℕ → ℕ) → HaveTheirClasses classes (Pending v) → class ≡ classes area
         → ((f p : ℕ) → IsWithin (pages_of tables f) p → IsOwner f (owner_in (pages_of tables f) p) → class_in (pages_of tables f) p ≡ classes (owner_in (pages_of tables f) p))
         → TablesStand v g kept
     stand-with classes lie at others = record {
@@ -206,12 +206,12 @@ module _ (v : View) (g : Ledger) (tables : Tables) (facts : LedgerFacts v g) (st
       pub stand-anew : TablesStand v g kept
       stand-anew = stand-with with-class lie (sym (ap (λ (b : Bool). cond b class (stand.classes area)) (itself area))) others
         where
-          lie : HaveTheirClasses with-class v.content
-          lie f number is page-is some = by (owner_at (v.content (area_file f) (number - 1)) == area) refl
+          lie : HaveTheirClasses with-class (Pending v)
+          lie f number x is page-is may some = by (owner_at x == area) refl
             where
-              by : (b : Bool) → (owner_at (v.content (area_file f) (number - 1)) == area) ≡ b → class_at (v.content (area_file f) (number - 1)) ≡ with-class (owner_at (v.content (area_file f) (number - 1)))
-              by true same = absurd (no-page long none f number is page-is (eqb-true _ _ same))
-              by false apart = stand.lie f number is page-is some ∙ sym (ap (λ (b : Bool). cond b class (stand.classes (owner_at (v.content (area_file f) (number - 1))))) apart)
+              by : (b : Bool) → (owner_at x == area) ≡ b → class_at x ≡ with-class (owner_at x)
+              by true same = absurd (no-page long none f number x is page-is may (eqb-true _ _ same))
+              by false apart = stand.lie f number x is page-is may some ∙ sym (ap (λ (b : Bool). cond b class (stand.classes (owner_at x))) apart)
 
           others : (f p : ℕ) → IsWithin (pages_of tables f) p → IsOwner f (owner_in (pages_of tables f) p) → class_in (pages_of tables f) p ≡ with-class (owner_in (pages_of tables f) p)
           others f p within whose = by (owner_in (pages_of tables f) p == area) refl

@@ -82,7 +82,7 @@ pages_of tables file = if file == 1 then tables.catalog else (if file == 2 then 
 pub record TablesStand (v : View) (g : Ledger) (tables : Tables) : Type 0 where
   pub committed : (file : ℕ) → IsAreaFile file → HasCommitted (pages_of tables file) file g.base.lines
   pub classes : ℕ → ℕ
-  pub lie : HaveTheirClasses classes v.content
+  pub lie : HaveTheirClasses classes (Pending v)
   pub class : (file page : ℕ) → IsWithin (pages_of tables file) page → IsOwner file (owner_in (pages_of tables file) page) → class_in (pages_of tables file) page ≡ classes (owner_in (pages_of tables file) page)
   pub owned : (place : Place) (area : ℕ) → IsAreaFile place.file → IsWithin (pages_of tables place.file) place.page → IsDataPage place.page
       → (owner_in (pages_of tables place.file) place.page ≡ 0) ⊎ (owner_in (pages_of tables place.file) place.page ≡ area) → IsForArea (Pending v) place area

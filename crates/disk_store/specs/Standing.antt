@@ -1,6 +1,6 @@
 -- How a member's memory stands to the ledger of all transactions on the disk.
 use Rattle.std.specs.Prelude.{ℕ, ◌≡◌, true, List, length, Some, slice_get}
-use Rattle.rdb_outside.specs.Disk.{View}
+use Rattle.rdb_outside.specs.Disk.{View, Pending}
 use Rattle.stable_lines.specs.Slots.{Undo}
 use Rattle.stable_lines.specs.Progress.{Open}
 use Rattle.line_moves.specs.Classes.{HaveTheirClasses}
@@ -57,7 +57,7 @@ pub record IsGoing (v : View) (g : Ledger) (s : ℕ) (m : Member) (at : CommitSt
   pub commit : IsCommitOf g s m at
   pub classes : commit.plan.classes ≡ m.classes.items
   pub of_areas : AreOfClasses commit.plan.flight.classes m.written.lines m.classes.items
-  pub lie : HaveTheirClasses commit.plan.flight.classes v.content
+  pub lie : HaveTheirClasses commit.plan.flight.classes (Pending v)
 
 -- so many of its lines' pages are their areas', by the space pages
 pub record HasEntered (v : View) (g : Ledger) (s : ℕ) (m : Member) (n : ℕ) : Type 0 where

@@ -15,9 +15,13 @@ use Rattle.line_moves.specs.Lines.{ChangedLines}
 abbrev pub HasItsClass : (ℕ → ℕ) → List ℕ → Type 0
 HasItsClass classes page = 1 ≤ owner_at page → class_at page ≡ classes (owner_at page)
 
--- Each page that a logical area owns has that area's class.
-abbrev pub HaveTheirClasses : (ℕ → ℕ) → Image → Type 0
-HaveTheirClasses classes image = (file number : ℕ) → IsAreaFile file → IsDataPage number → HasItsClass classes (image (area_file file) (number - 1))
+-- Each page that a logical area owns has that area's class, in each content that it may have.
+abbrev pub HaveTheirClasses : (ℕ → ℕ) → PendingContents → Type 0
+HaveTheirClasses classes P = (file number : ℕ) (page : List ℕ) → IsAreaFile file → IsDataPage number → P (area_file file) (number - 1) page → HasItsClass classes page
+
+-- Each page of the image that a logical area owns has that area's class.
+abbrev pub IsClassed : (ℕ → ℕ) → Image → Type 0
+IsClassed classes image = (file number : ℕ) → IsAreaFile file → IsDataPage number → HasItsClass classes (image (area_file file) (number - 1))
 
 -- ---- owners
 

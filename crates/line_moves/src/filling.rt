@@ -126,8 +126,8 @@ pub fn write_page<D: Disk>(
     ensures classes { IsTrue (D.view disk.old).tells → (now : Progress)
         → Facts (Pending (D.view disk.old)) now → (classes : ℕ → ℕ)
         → ((line : _) → slice_get lines.now from ≡ Some line → class ≡ classes line.0.area)
-        → HaveTheirClasses classes (D.view disk.old).content
-        → HaveTheirClasses classes (D.view disk.new).content }
+        → HaveTheirClasses classes (Pending (D.view disk.old))
+        → HaveTheirClasses classes (Pending (D.view disk.new)) }
 
     // Whatever it answers, a page that may have no other area's owner has none, where the lines that lie there are the area's.
     ensures owners { IsTrue (D.view disk.old).tells → (now : Progress)

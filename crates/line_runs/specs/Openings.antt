@@ -10,7 +10,7 @@ use Rattle.new_database.specs.Maker.{root_file}
 use Rattle.line_view.specs.Knowledge.{Lines}
 use Rattle.stable_lines.specs.Journal.{Journal, slots_in}
 use Rattle.stable_lines.specs.Kept.{Kept}
-use Rattle.line_moves.specs.Classes.{HaveTheirClasses}
+use Rattle.line_moves.specs.Classes.{IsClassed}
 use Rattle.rdb_account.specs.Places.{Opening}
 use Rattle.session_jobs.specs.Records.{Model}
 use Rattle.store_counts.specs.Counts.{AreLimits}
@@ -33,7 +33,7 @@ pub record OpensWith (M : Model) (v : View) (o : Opening) : Type 0 where
   pub journal : Journal
   pub kept : Kept classes lines journal v.content
   pub by_area : ℕ → ℕ
-  pub lie : HaveTheirClasses by_area v.content
+  pub lie : IsClassed by_area v.content
   pub stands : M lines o.tables
   pub opens : IsOpeningOf v.content journal 0 o
 

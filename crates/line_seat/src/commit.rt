@@ -102,8 +102,8 @@ fn change_page<D: Disk>(
     ensures classes { IsTrue (D.view disk.old).tells → (now : Progress)
         → Facts (Pending (D.view disk.old)) now → (by_area : ℕ → ℕ)
         → AreOfClasses by_area lines.now classes.now
-        → HaveTheirClasses by_area (D.view disk.old).content
-        → HaveTheirClasses by_area (D.view disk.new).content }
+        → HaveTheirClasses by_area (Pending (D.view disk.old))
+        → HaveTheirClasses by_area (Pending (D.view disk.new)) }
     ensures owners { IsTrue (D.view disk.old).tells → (now : Progress)
         → Facts (Pending (D.view disk.old)) now → (there : Spot) (area : ℕ)
         → IsAreaFile there.file → IsDataPage there.page → LieForArea lines.now there area
@@ -202,8 +202,8 @@ pub fn commit_step<D: Disk>(
     ensures classes { IsTrue (D.view disk.old).tells → (now : Progress)
         → Facts (Pending (D.view disk.old)) now → (by_area : ℕ → ℕ)
         → AreOfClasses by_area lines.now classes.now
-        → HaveTheirClasses by_area (D.view disk.old).content
-        → HaveTheirClasses by_area (D.view disk.new).content }
+        → HaveTheirClasses by_area (Pending (D.view disk.old))
+        → HaveTheirClasses by_area (Pending (D.view disk.new)) }
 
     // Whatever it answers, a page that may have no other area's owner has none, where the lines that lie there are the area's.
     ensures owners { IsTrue (D.view disk.old).tells → (now : Progress)

@@ -95,7 +95,7 @@ module _ (P : PendingContents) (now : Progress) (facts : Facts P now) (key : Dbk
       omega (arith, some, same, zero_is)
 
 pub classes_had : (v : View) (now : Progress) (f : Flight) (place : GroupPlace) (lines : ChangedLines) (classes : List ℕ) → LeftNow v v.content → Facts (Pending v) now → f.group ≡ group_of place lines classes → ArePut v.content lines (length lines)
-    → HaveTheirClasses f.classes v.content → HaveClasses v.content now f
+    → HaveTheirClasses f.classes (Pending v) → HaveClasses v.content now f
 classes_had v now f place lines classes left facts is put had key bytes got = ⊎_elim laid kept (found_behind key f.group.lines now.lines)
   where
     x : List ℕ
@@ -105,7 +105,7 @@ classes_had v now f place lines classes left facts is put had key bytes got = �
     there = pends v left (file_of key) (slot_of key)
 
     its : (number : ℕ) → number ≡ key.page → IsDataPage number → 1 ≤ owner_at x → class_at x ≡ f.classes (owner_at x)
-    its number at on = had (storage_area key.area) key.page (is_area_file key.area) (subst IsDataPage at on)
+    its number at on = had (storage_area key.area) key.page x (is_area_file key.area) (subst IsDataPage at on) there
 
     of_shown : shown (line_on key x) ≡ Some bytes → FitsClass x (f.classes key.area) bytes
     of_shown shows = let fit = shown_fits (Pending v) now facts key x there bytes shows in fits_there (Pending v) now facts key x there f.classes bytes its fit.0 fit.1

@@ -52,8 +52,8 @@ fn enter_next<D: Disk>(
         → LedgerFacts (D.view disk.old) ledger
         → KeepsLines (D.view disk.old).content (D.view disk.new).content }
     ensures classes { IsTrue (D.view disk.old).tells → (by_area : ℕ → ℕ)
-        → HaveTheirClasses by_area (D.view disk.old).content
-        → HaveTheirClasses by_area (D.view disk.new).content }
+        → HaveTheirClasses by_area (Pending (D.view disk.old))
+        → HaveTheirClasses by_area (Pending (D.view disk.new)) }
     ensures owners { IsTrue (D.view disk.old).tells → (there : Spot) (area : ℕ) → IsDataPage there.page
         → KeepsOwners (Pending (D.view disk.old)) (Pending (D.view disk.new)) there area }
     ensures order { IfOk result (IsNextTurn (Entering at)) }
@@ -125,8 +125,8 @@ fn go_further<D: Disk>(
     ensures classes { IsTrue (D.view disk.old).tells → (ledger : Ledger)
         → LedgerFacts (D.view disk.old) ledger → (by_area : ℕ → ℕ)
         → AreOfClasses by_area lines.now classes.now
-        → HaveTheirClasses by_area (D.view disk.old).content
-        → HaveTheirClasses by_area (D.view disk.new).content }
+        → HaveTheirClasses by_area (Pending (D.view disk.old))
+        → HaveTheirClasses by_area (Pending (D.view disk.new)) }
     ensures owners { IsTrue (D.view disk.old).tells → (ledger : Ledger)
         → LedgerFacts (D.view disk.old) ledger → (there : Spot) (area : ℕ)
         → IsAreaFile there.file → IsDataPage there.page → LieForArea lines.now there area
@@ -185,8 +185,8 @@ pub fn commit_next<D: Disk>(
     ensures classes { IsTrue (D.view disk.old).tells → (ledger : Ledger)
         → LedgerFacts (D.view disk.old) ledger → (by_area : ℕ → ℕ)
         → AreOfClasses by_area lines.now classes.now
-        → HaveTheirClasses by_area (D.view disk.old).content
-        → HaveTheirClasses by_area (D.view disk.new).content }
+        → HaveTheirClasses by_area (Pending (D.view disk.old))
+        → HaveTheirClasses by_area (Pending (D.view disk.new)) }
 
     // Whatever it answers, a page that may have no other area's owner has none, where the lines that lie there are the area's.
     ensures owners { IsTrue (D.view disk.old).tells → (ledger : Ledger)

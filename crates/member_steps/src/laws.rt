@@ -75,13 +75,13 @@ pub fn pages_have_classes<D: Disk>(before: &D, after: &D)
     requires { IsTrue (D.view before.now).tells }
     ensures gathers { (ledger : Ledger) (plan : Plan) → LedgerFacts (D.view before.now) ledger
         → TurnFacts (Going Gathering) (D.view before.now) ledger plan
-        → HaveTheirClasses plan.flight.classes (D.view before.now).content
+        → HaveTheirClasses plan.flight.classes (Pending (D.view before.now))
         → HaveClasses (D.view before.now).content ledger.base plan.flight }
     ensures reads { (classes : ℕ → ℕ) → OnlyReads (D.view before.now) (D.view after.now)
-        → HaveTheirClasses classes (D.view before.now).content
-        → HaveTheirClasses classes (D.view after.now).content }
+        → HaveTheirClasses classes (Pending (D.view before.now))
+        → HaveTheirClasses classes (Pending (D.view after.now)) }
     ensures writes { (classes : ℕ → ℕ) (file : FileId) (slot : ℕ) → file.kind ≢ Area
         → OnlyWrites file slot (D.view before.now) (D.view after.now)
-        → HaveTheirClasses classes (D.view before.now).content
-        → HaveTheirClasses classes (D.view after.now).content }
+        → HaveTheirClasses classes (Pending (D.view before.now))
+        → HaveTheirClasses classes (Pending (D.view after.now)) }
 {}

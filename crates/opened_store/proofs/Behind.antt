@@ -20,7 +20,7 @@ use Rattle.line_opening.specs.declared.groups.NextGroup.{NextGroup}
 use Rattle.line_opening.proofs.Passed.{image_same}
 use Rattle.line_moves.specs.declared.places.Place.{Place}
 use Rattle.line_moves.specs.Changes.{IsPlaceOf}
-use Rattle.line_moves.specs.Classes.{HaveTheirClasses, HasItsClass}
+use Rattle.line_moves.specs.Classes.{IsClassed, HasItsClass}
 use Rattle.line_moves.proofs.KeyPlaces.{file_is, area_is, some_area}
 use Rattle.line_moves.proofs.Runs.{still_tells}
 use Rattle.database_opening.specs.declared.start.StoreStart.{StoreStart}
@@ -85,7 +85,7 @@ module _ (old mid raised v : View) (t : IsTrue old.tells) (told : mid.tells ≡ 
     (others : (file : FileId) (slot : ℕ) → (file ≡ root_file → ⊥) → raised.content file slot ≡ mid.content file slot)
     (ledger : LedgerFacts raised (new_ledger (beginning_with classes lines journal start) raised.moment)) (ceiling : HasCeiling (Pending raised) (start.next_tsn + 64)) (stable : IsStable raised)
     (tables : Tables) (are : AreTablesOf raised.content start.root.limits.pages tables)
-    (held : StoreMemory) (made : IsMadeOf start tables held) (by_area : ℕ → ℕ) (lie : HaveTheirClasses by_area mid.content) where
+    (held : StoreMemory) (made : IsMadeOf start tables held) (by_area : ℕ → ℕ) (lie : IsClassed by_area mid.content) where
   t_mid : IsTrue mid.tells
   t_mid = still_tells old mid told t
 
@@ -101,7 +101,7 @@ module _ (old mid raised v : View) (t : IsTrue old.tells) (told : mid.tells ≡ 
   facts : LedgerFacts v (new_ledger (beginning_with classes lines journal start) raised.moment)
   facts = read_ledger raised v (new_ledger (beginning_with classes lines journal start) raised.moment) t_raised reads ledger
 
-  lie-there : HaveTheirClasses by_area v.content
+  lie-there : IsClassed by_area v.content
   lie-there file number is page = subst (λ (b : List ℕ). HasItsClass by_area b) (sym (same-pages file (number - 1))) (lie file number is page)
 
   tables-there : AreTablesOf v.content start.root.limits.pages held.tables

@@ -19,11 +19,12 @@ use Rattle.stable_lines.specs.Progress.{Progress}
 use Rattle.stable_lines.specs.Facts.{Facts}
 use Rattle.line_opening.specs.Passing.{IsNext}
 use Rattle.line_moves.specs.declared.places.Place.{Place}
-use Rattle.line_moves.specs.Classes.{HaveTheirClasses}
+use Rattle.line_moves.specs.Classes.{IsClassed}
 use Rattle.line_moves.proofs.Putting.{nat_cases}
 use Rattle.database_opening.specs.declared.start.StoreStart.{StoreStart}
 use Rattle.database_opening.specs.Owners.{owner_said}
 use Rattle.database_opening.specs.Start.{beginning_with}
+use Rattle.database_opening.proofs.Pages.{classes_stable}
 use Rattle.disk_seats.specs.Ledgers.{Ledger, new_ledger}
 use Rattle.disk_seats.specs.Members.{LedgerFacts}
 use Rattle.member_steps.specs.Beginning.{HasCeiling}
@@ -77,7 +78,7 @@ few-pages v left classes lines journal start moment were =
     subst (λ (l : Limits). l.pages ≤ 65536) root.limits root.is.allowed.limits.pages.1
 
 module _ (v : View) (t : IsTrue v.tells) (left : LeftNow v v.content) (stable : IsStable v) (classes : ℕ → ℕ) (lines : Lines) (journal : Journal) (start : StoreStart) (moment : ℕ)
-    (were : LedgerFacts v (new_ledger (beginning_with classes lines journal start) moment)) (held : StoreMemory) (has : IsHeldOf v journal start held) (by_area : ℕ → ℕ) (lie : HaveTheirClasses by_area v.content) where
+    (were : LedgerFacts v (new_ledger (beginning_with classes lines journal start) moment)) (held : StoreMemory) (has : IsHeldOf v journal start held) (by_area : ℕ → ℕ) (lie : IsClassed by_area v.content) where
   abbrev base : Progress
   base = beginning_with classes lines journal start
 
@@ -193,7 +194,7 @@ module _ (v : View) (t : IsTrue v.tells) (left : LeftNow v v.content) (stable : 
   tables-stand = record {
     committed = has-committed;
     classes = by_area;
-    lie = lie;
+    lie = classes_stable v stable by_area lie;
     class = λ file page within owner. class-is file page within owner;
     owned = λ place area is within data_page whose x p some. owner-is place area is within data_page whose x p some;
   }

@@ -10,7 +10,7 @@ ghost use Rattle.line_store.specs.Shelves.{Shelf};
 ghost use Rattle.line_store.specs.Calls.{MayStand};
 ghost use Rattle.stable_lines.specs.Journal.{Journal};
 ghost use Rattle.stable_lines.specs.Kept.{Kept};
-ghost use Rattle.line_moves.specs.Classes.{HaveTheirClasses};
+ghost use Rattle.line_moves.specs.Classes.{IsClassed};
 ghost use Rattle.member_steps.specs.Standing.{HasLines};
 ghost use Rattle.disk_store.specs.Shown.{Shown};
 
@@ -20,14 +20,17 @@ use rdb_outside::Disk;
 /// In a new database pages have the classes of their areas, whatever those are: nobody owns a page. (It is kept with no lines, as `new_is_kept` has it, so it opens as a store without lines.)
 pub fn a_new_database_opens()
     ensures { (limits : Limits) (image : Image) → IsNewDatabase limits image
-        → (by_area : ℕ → ℕ) → HaveTheirClasses by_area image }
+        → (by_area : ℕ → ℕ) → IsClassed by_area image }
 {}
 
-/// Whatever a crash leaves of a store, opening can start from it. It stands for the committed lines, or for those with the commit that is under way.
+/// Whatever a crash leaves of a store, opening can start from it, and shows its lines. It stands for the committed lines, or for those with the commit that is under way, and its pages have the classes of their areas.
 pub fn a_crash_leaves_what_opens<D: Disk>(disk: &D, held: &Held)
-    ensures { (h : Shelf) → Shown (D.view disk.now) held.now h
+    ensures lines { (h : Shelf) → Shown (D.view disk.now) held.now h
         → (image : Image) → LeftNow (D.view disk.now) image
         → (lines : Lines) × HasLines image lines × MayStand h lines }
+    ensures classes { (h : Shelf) → Shown (D.view disk.now) held.now h
+        → (image : Image) → LeftNow (D.view disk.now) image
+        → (by_area : ℕ → ℕ) × IsClassed by_area image }
 {}
 
 /// An opening needs no slot of a snapshot file: an image is kept, whatever they hold.

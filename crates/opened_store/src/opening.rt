@@ -7,7 +7,7 @@ ghost use Rattle.line_view.specs.Knowledge.{Lines};
 ghost use Rattle.line_store.specs.Seats.{outside};
 ghost use Rattle.stable_lines.specs.Journal.{Journal};
 ghost use Rattle.stable_lines.specs.Kept.{Kept};
-ghost use Rattle.line_moves.specs.Classes.{HaveTheirClasses};
+ghost use Rattle.line_moves.specs.Classes.{IsClassed};
 ghost use Rattle.disk_store.specs.Seats.{stand_at};
 ghost use Rattle.disk_store.specs.Shown.{sight_of};
 ghost use Rattle.opened_store.specs.Opened.{AreUsedUp, BeginsFrom};
@@ -51,7 +51,7 @@ pub fn open<D: Disk>(alloc: Global, disk: &mut D) -> Result<Held, OpeningFault>
     ensures begins { IfOk result (λ held. IsTrue (D.view disk.old).tells
         → (classes : ℕ → ℕ) (lines : Lines) (journal : Journal)
         → Kept classes lines journal (D.view disk.old).content
-        → (by_area : ℕ → ℕ) → HaveTheirClasses by_area (D.view disk.old).content
+        → (by_area : ℕ → ℕ) → IsClassed by_area (D.view disk.old).content
         → BeginsFrom (D.view disk.old).content lines journal (sight_of (D.view disk.new) held)) }
 
     // Whatever it answers, a crash at any moment of it leaves what one before might have left, or an image of these lines.

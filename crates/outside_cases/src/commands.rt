@@ -54,6 +54,15 @@ fn tell_row(rt: &HostRuntime, words: &[Word]) {
         Some(Command::DumpPage(PagePlace { file, page })) => {
             let _ = println!(rt; "  dump page {page} of area file {file}");
         }
+        Some(Command::Backup(number)) => {
+            let _ = println!(rt; "  backup {number}");
+        }
+        Some(Command::BackupJournal(number)) => {
+            let _ = println!(rt; "  copy {number} of the journal");
+        }
+        Some(Command::Restore(number)) => {
+            let _ = println!(rt; "  restore of backup {number}");
+        }
         None => {
             let _ = println!(rt; "  refused");
         }

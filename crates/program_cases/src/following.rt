@@ -47,14 +47,29 @@ fn tell_each<R: Print + AllocGlobal + Threads + Wait + Sync>(
     rt: &R,
     line: &str,
     disk: MemoryDisk,
-) -> Result<(), NoMemory> {
+) -> Result<MemoryDisk, NoMemory> {
     let mut disk = disk;
     for run in line.split('#') {
         let outcome = run_over(rt, run, disk)?;
         tell(rt, &outcome);
         disk = outcome.disk;
     }
-    Ok(())
+    Ok(disk)
+}
+
+// Two runs, of which one stands before `&`, or one run. Only what comes of the last is handed back.
+fn run_both<R: Print + AllocGlobal + Threads + Wait + Sync>(
+    rt: &R,
+    runs: &str,
+    disk: MemoryDisk,
+) -> Result<Outcome, NoMemory> {
+    match runs.split_once('&') {
+        None => run_over(rt, runs, disk),
+        Some((first, second)) => {
+            let between = run_over(rt, first, disk)?;
+            run_over(rt, second, between.disk)
+        }
+    }
 }
 
 /// Says the head to a new database, and does the runs over it.
@@ -64,7 +79,8 @@ pub fn tell_runs<R: Print + AllocGlobal + Threads + Wait + Sync>(
     line: &str,
 ) -> Result<(), NoMemory> {
     let disk = behind_head(rt, head)?;
-    tell_each(rt, line, disk)
+    tell_each(rt, line, disk)?;
+    Ok(())
 }
 
 /// Does the runs over a disk of zeros.
@@ -73,7 +89,8 @@ pub fn tell_anew<R: Print + AllocGlobal + Threads + Wait + Sync>(
     line: &str,
 ) -> Result<(), NoMemory> {
     let disk = wide_disk(rt.alloc(), 0)?;
-    tell_each(rt, line, disk)
+    tell_each(rt, line, disk)?;
+    Ok(())
 }
 
 // Tells what a run wrote where it is other than what the last one wrote.
@@ -101,20 +118,24 @@ fn tell_picks<R: Print + AllocGlobal + Threads + Wait + Sync>(
 {
     let mut last = last;
     for pick in [0, 0x5555_5555, u32::MAX] {
-        let outcome = run_over(rt, run, disk.after(moment, pick)?)?;
+        let outcome = run_both(rt, run, disk.after(moment, pick)?)?;
         last = tell_other(rt, &outcome, last)?;
     }
     Ok(last)
 }
 
-/// Says the head to a new database, does the first run over it, and the second over what each crash in it leaves.
+/// Says the head to a new database and does the runs over it, but for the last, which is done over what each crash in the one before it leaves.
 pub fn tell_crashes<R: Print + AllocGlobal + Threads + Wait + Sync>(
     rt: &R,
     head: &[u8],
     line: &str,
 ) -> Result<(), NoMemory> {
-    let (run, then) = line.split_once('#').unwrap_or((line, ""));
+    let (runs, then) = line.rsplit_once('#').unwrap_or((line, ""));
     let disk = behind_head(rt, head)?;
+    let (disk, run) = match runs.rsplit_once('#') {
+        None => (disk, runs),
+        Some((before, run)) => (tell_each(rt, before, disk)?, run),
+    };
     let first = disk.moment().number;
     let disk = run_over(rt, run, disk)?.disk;
     let mut last = Vec::new(rt.alloc());

@@ -17,7 +17,7 @@ use Rattle.line_opening.specs.declared.fault.OpeningFault.TheVariants as fault
 use Rattle.line_runs.specs.Openings.{said_to}
 use Rattle.command_words.specs.declared.words.Scripts.{Scripts}
 use Rattle.command_words.specs.declared.words.Command.{Command}
-use Rattle.command_words.specs.declared.words.Command.TheVariants.{New, Rdo, Verify, Dump, DumpPage}
+use Rattle.command_words.specs.declared.words.Command.TheVariants.{New, Rdo, Verify, Dump, DumpPage, Backup, BackupJournal, Restore}
 use Rattle.rdb_top.specs.Deaths.{letting}
 use Rattle.script_streams.specs.declared.read.ReadStop.{ReadStop}
 use Rattle.script_streams.specs.declared.read.ReadStop.TheVariants.{Failed, OutOfMemory, TooLong}
@@ -38,6 +38,21 @@ sessions_of (Some (Rdo scripts)) = scripts.count
 sessions_of (Some Verify) = 0
 sessions_of (Some Dump) = 0
 sessions_of (Some (DumpPage place)) = 0
+sessions_of (Some (Backup number)) = 0
+sessions_of (Some (BackupJournal number)) = 0
+sessions_of (Some (Restore number)) = 0
+
+-- a command that makes a copy of a database, or a database of one
+abbrev pub keeps_copies : Option Command → Bool
+keeps_copies None = false
+keeps_copies (Some (New limits)) = false
+keeps_copies (Some (Rdo scripts)) = false
+keeps_copies (Some Verify) = false
+keeps_copies (Some Dump) = false
+keeps_copies (Some (DumpPage place)) = false
+keeps_copies (Some (Backup number)) = true
+keeps_copies (Some (BackupJournal number)) = true
+keeps_copies (Some (Restore number)) = true
 
 -- the statuses at which everything was written
 abbrev pub IsWritten : ℕ → Type 0

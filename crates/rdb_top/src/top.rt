@@ -1,4 +1,4 @@
-ghost use Rattle.std.specs.Prelude.{◌≡◌, ◌⊎◌, ◌↔◌, ◌<◌, ◌≤◌, ◌^◌, ℕ, true, false, None, Some, ◌++◌, length, map, [], All, IsTrue, IfOk};
+ghost use Rattle.std.specs.Prelude.{◌≡◌, ◌≢◌, ◌⊎◌, ◌↔◌, ◌<◌, ◌≤◌, ◌^◌, ℕ, true, false, None, Some, ◌++◌, length, map, [], All, IsTrue, IfOk};
 ghost use Rattle.rdb_types.specs.declared.file.FileId.{FileId as File};
 ghost use Rattle.rdb_types.specs.declared.keys.Limits.{Limits};
 ghost use Rattle.rdb_outside.specs.Causes.{Rose};
@@ -19,9 +19,14 @@ ghost use Rattle.line_drive.specs.Boards.{mortals_of};
 ghost use Rattle.line_drive.specs.Turns.{KeepsTurns};
 ghost use Rattle.line_runs.specs.Openings.{HasNoNumbers, OpensWith, said_to};
 ghost use Rattle.line_runs.specs.Prefix.{HoldsAll, HoldsPrefix};
+ghost use Rattle.backup_making.specs.Making.{file_of as backup_named};
+ghost use Rattle.database_opening.specs.Others.{KeepsFile};
+ghost use Rattle.journal_backup.specs.Copied.{copy_named};
+ghost use Rattle.rmu_restore.specs.Laying.{IsOther};
+ghost use Rattle.rmu_keeping.specs.Keeping.{is_keeping_status, IsKept, MayBeOpened, MayBeRestored, BacksUp, BacksUpWithin, CopiesJournal, CopiesJournalWithin, Restores, RestoresWithin};
 ghost use Rattle.rmu_commands.specs.Usable.{HasRootInUse, IsUsable, IsDumped};
 ghost use Rattle.rmu_commands.specs.Written.{Verifies, Dumps, DumpsPage, IsCleanDatabase, is_verify_status, is_dump_status};
-ghost use Rattle.rdb_top.specs.Runs.{IsRun, IsWhole, IsWritten, has_death, OfSomeScripts, is_status, is_script_status, status_at, unopened_status, scripts_of, transcripts, sessions_of};
+ghost use Rattle.rdb_top.specs.Runs.{IsRun, IsWhole, IsWritten, has_death, OfSomeScripts, keeps_copies, is_status, is_script_status, status_at, unopened_status, scripts_of, transcripts, sessions_of};
 ghost use Rattle.rdb_top.specs.Deaths.{letting};
 
 use crate::dying::Dying;
@@ -37,6 +42,7 @@ use rdb_outside::{Disk, Sink, Source};
 use rdb_types::{Copied, Items, Limits, NoMemory, Word};
 use rdo_reserving::ReservingStatements;
 use rmu_commands::{dump_command, page_command, verify_command};
+use rmu_keeping::{backup_command, journal_command, restore_command};
 use script_streams::ReadStop;
 use session_jobs::Statements;
 use session_states::ItemQueue;
@@ -349,7 +355,7 @@ fn run_new<D: Disk>(disk: &mut D, limits: Limits) -> u8
     }
 }
 
-/// Runs a command: `NEW` makes a database, `RDO` says 1 to 16 scripts to a database, each by a session of its own, `RMU/VERIFY` lists the faults of a database, `RMU/DUMP` and `RMU/DUMP/PAGE` tell what it holds.
+/// Runs a command: `NEW` makes a database, `RDO` says 1 to 16 scripts to a database, each by a session of its own, `RMU/VERIFY` lists the faults of a database, `RMU/DUMP` and `RMU/DUMP/PAGE` tell what it holds, `RMU/BACKUP` and `RMU/BACKUP/AFTER_JOURNAL` copy a database and its journal, and `RMU/RESTORE` makes a database of a backup.
 pub fn run<R, O, D, S, K, G>(
     rt: &R,
     alloc: Global,
@@ -455,7 +461,8 @@ where
     // Some fault is listed.
     ensures faults { result.status ≡ 7 → command_for words.now ≡ Some Command.Verify }
     // A database can't be read or opened.
-    ensures unread_root { result.status ≡ 4 → (only_reads (command_for words.now) ≡ true) ⊎ ((given : GivenScripts) × (command_for words.now ≡ Some (Command.Rdo given))) }
+    ensures unread_root { result.status ≡ 4 → (only_reads (command_for words.now) ≡ true) ⊎ (keeps_copies (command_for words.now) ≡ true)
+        ⊎ ((given : GivenScripts) × (command_for words.now ≡ Some (Command.Rdo given))) }
     // Scripts: a database that a crash of this engine may leave is opened, but where its numbers are used up.
     ensures unopened { (given : GivenScripts) → command_for words.now ≡ Some (Command.Rdo given) → result.status ≡ 4 → HasNoNumbers (D.view disk) }
     // VERIFY: its root isn't one in use, or the header of a journal is none.
@@ -473,27 +480,75 @@ where
     ensures verify_statuses { command_for words.now ≡ Some Command.Verify → is_verify_status result.status ≡ true }
     ensures dump_statuses { command_for words.now ≡ Some Command.Dump → is_dump_status result.status ≡ true }
     ensures page_statuses { (place : GivenPage) → command_for words.now ≡ Some (Command.DumpPage place) → is_dump_status result.status ≡ true }
+    // Every crash behind BACKUP leaves the database with its lines, and their whole backup, which rolled forward gives what the image stands for.
+    ensures backed_up { (number : ℕ) → command_for words.now ≡ Some (Command.Backup number) → result.status ≡ 0 →
+        IsTrue (D.view disk).tells → BacksUp (D.view disk) (D.view result.disk) number }
+    // A crash at any moment of BACKUP leaves the database with its lines, and the backup that stood before, none, or the new one.
+    ensures backing { (number : ℕ) → command_for words.now ≡ Some (Command.Backup number) →
+        IsTrue (D.view disk).tells → BacksUpWithin (D.view disk) (D.view result.disk) number }
+    // BACKUP leaves the other backups and the copies of the journal as they were, at every moment.
+    ensures beside_backup { (number : ℕ) → command_for words.now ≡ Some (Command.Backup number) →
+        IsTrue (D.view disk).tells → (file : File) → IsKept file → file ≢ backup_named number → KeepsFile file (D.view disk) (D.view result.disk) }
+    // BACKUP: a database that a crash of this engine may leave is opened, but where its numbers are used up.
+    ensures no_backup { (number : ℕ) → command_for words.now ≡ Some (Command.Backup number) → result.status ≡ 4 →
+        IsTrue (D.view disk).tells → MayBeOpened (D.view disk).content → ⊥ }
+    // Every crash behind BACKUP/AFTER_JOURNAL leaves the database with its lines, and the groups of its journal in the copy alone.
+    ensures copied { (number : ℕ) → command_for words.now ≡ Some (Command.BackupJournal number) → result.status ≡ 0 →
+        IsTrue (D.view disk).tells → CopiesJournal (D.view disk) (D.view result.disk) number }
+    // A crash at any moment of it leaves the database with its lines, and each group in the journal or in its copy.
+    ensures copying { (number : ℕ) → command_for words.now ≡ Some (Command.BackupJournal number) →
+        IsTrue (D.view disk).tells → CopiesJournalWithin (D.view disk) (D.view result.disk) number }
+    // It leaves the backups and the other copies as they were, at every moment.
+    ensures beside_copy { (number : ℕ) → command_for words.now ≡ Some (Command.BackupJournal number) →
+        IsTrue (D.view disk).tells → (file : File) → IsKept file → file ≢ copy_named number → KeepsFile file (D.view disk) (D.view result.disk) }
+    // It opens the database as BACKUP does.
+    ensures no_copy { (number : ℕ) → command_for words.now ≡ Some (Command.BackupJournal number) → result.status ≡ 4 →
+        IsTrue (D.view disk).tells → MayBeOpened (D.view disk).content → ⊥ }
+    // Every crash behind RESTORE leaves a database that stands for the lines of the backup.
+    ensures restored { (number : ℕ) → command_for words.now ≡ Some (Command.Restore number) → result.status ≡ 0 →
+        IsTrue (D.view disk).tells → Restores (D.view disk) (D.view result.disk) number }
+    // A crash at any moment of RESTORE leaves what one before might have left, an unfinished restore, or the restored database.
+    ensures restoring { (number : ℕ) → command_for words.now ≡ Some (Command.Restore number) →
+        IsTrue (D.view disk).tells → RestoresWithin (D.view disk) (D.view result.disk) number }
+    // RESTORE leaves the journal, its copies and the backups as they were, at every moment.
+    ensures beside_restore { (number : ℕ) → command_for words.now ≡ Some (Command.Restore number) →
+        IsTrue (D.view disk).tells → (file : File) → IsOther file → KeepsFile file (D.view disk) (D.view result.disk) }
+    // RESTORE: the backup isn't whole, or the journal isn't one that a database in use left.
+    ensures no_restore { (number : ℕ) → command_for words.now ≡ Some (Command.Restore number) → result.status ≡ 4 →
+        IsTrue (D.view disk).tells → MayBeRestored (D.view disk).content number → ⊥ }
+    // Nothing is said by these three, and their statuses.
+    ensures copies_silent { keeps_copies (command_for words.now) ≡ true → result.events ≡ [] }
+    ensures copies_statuses { keeps_copies (command_for words.now) ≡ true → is_keeping_status result.status ≡ true }
 {
+    let mut disk = disk;
     match command_of(words) {
         None => unsaid(alloc, 1, disk),
         Some(Command::New(limits)) => {
-            let mut disk = disk;
             let status = run_new(&mut disk, limits);
             unsaid(alloc, status, disk)
         }
         Some(Command::Verify) => {
-            let mut disk = disk;
             let status = verify_command(alloc, &mut disk, out);
             unsaid(alloc, status, disk)
         }
         Some(Command::Dump) => {
-            let mut disk = disk;
             let status = dump_command(alloc, &mut disk, out);
             unsaid(alloc, status, disk)
         }
         Some(Command::DumpPage(place)) => {
-            let mut disk = disk;
             let status = page_command(alloc, &mut disk, place.file, place.page, out);
+            unsaid(alloc, status, disk)
+        }
+        Some(Command::Backup(number)) => {
+            let status = backup_command(alloc, &mut disk, number);
+            unsaid(alloc, status, disk)
+        }
+        Some(Command::BackupJournal(number)) => {
+            let status = journal_command(&mut disk, number);
+            unsaid(alloc, status, disk)
+        }
+        Some(Command::Restore(number)) => {
+            let status = restore_command(alloc, &mut disk, number);
             unsaid(alloc, status, disk)
         }
         Some(Command::Rdo(given)) => {

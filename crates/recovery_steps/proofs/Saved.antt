@@ -114,7 +114,7 @@ module _ (v w : View) (held : StoreMemory) (s : ℕ) (m : Member) (was : slice_g
       facts = facts;
       limits = refl;
       none = λ t apart rests. standing-beside t apart ∙ rests;
-      others = λ t x apart got stood. stays-with v w g k t (λ file page is. p.areas file _) (same-classes v w p.areas) (stays t apart) x stood;
+      others = λ t x apart got stood. stays-with v w g k t (λ file page is. p.areas.content file _) (same-classes v w p.areas) (stays t apart) x stood;
       mine = ap (λ (x : ℕ). cond (s == x) resting (g.standing s)) j.commit.its ∙ ap (λ (b : Bool). cond b resting (g.standing s)) (itself s);
       numbered = record {
         number = shown.numbers.number;

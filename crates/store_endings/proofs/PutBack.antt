@@ -55,7 +55,7 @@ module _ (v w : View) (held : StoreMemory) (s : ℕ) (m : Member) (commits : Boo
     (reached : (g : Ledger) → IsUndone g s (at_stage (stage.Dead commits next) m) rest → RecoveryStands next g s (at_stage (stage.Dead commits next) m))
     (file slot : ℕ) (plain : IsDataPage (slot + 1)) (only : OnlyWrites (area_file file) slot v w)
     (said : IsTrue v.tells → (g : Ledger) → LedgerFacts v g → g.base.limits ≡ held.limits → (u : IsUndone g s m left) → PutsThem v w g s m left rest u)
-    (classes : IsTrue v.tells → (g : Ledger) → LedgerFacts v g → (its : ℕ → ℕ) → HaveTheirClasses its v.content → HaveTheirClasses its w.content)
+    (classes : IsTrue v.tells → (g : Ledger) → LedgerFacts v g → (its : ℕ → ℕ) → HaveTheirClasses its (Pending v) → HaveTheirClasses its (Pending w))
     (owners : IsTrue v.tells → (g : Ledger) → LedgerFacts v g → (there : Place) (area : ℕ) → IsAreaFile there.file → IsDataPage there.page → KeepsOwners (Pending v) (Pending w) there area) where
   abbrev n : Member
   n = at_stage (stage.Dead commits next) m

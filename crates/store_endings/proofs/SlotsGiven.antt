@@ -35,7 +35,7 @@ use Rattle.disk_store.specs.Standing.{StageStands}
 use Rattle.disk_store.specs.Shown.{IsReading, Sits, SitsAs, WaitsAs, Shown, used_in, sight_of}
 use Rattle.disk_store.proofs.Members.{get-within, set-beside, set-here}
 use Rattle.disk_store.proofs.Kept.{kept-stays}
-use Rattle.disk_store.proofs.Beside.{stays-there}
+use Rattle.disk_store.proofs.Beside.{same-areas, stays-there}
 use Rattle.disk_store.proofs.Stepping.{ComesTo, Becomes, does-step}
 use Rattle.disk_store.proofs.Passing.{passes-none, none-leaves, tables-pass}
 use Rattle.disk_store.proofs.Changed.{used-all}
@@ -182,7 +182,7 @@ module _ (v : View) (held : StoreMemory) (s : ℕ) (m : Member) (was : slice_get
       facts = shown.facts;
       limits = refl;
       none = λ t apart rests. rests;
-      others = λ t x apart got stood. stays-there v v g g t (λ file slot. refl) (record { standing = inl refl; going = refl; commit = refl }) x stood;
+      others = λ t x apart got stood. stays-there v v g g t (same-areas v) (record { standing = inl refl; going = refl; commit = refl }) x stood;
       mine = subst (λ x. StageStands x v g s n) (sym at) (subst (λ x. StageStands x v g s m) at stands);
       numbered = record { number = shown.numbers.number; first = shown.numbers.first; ceiling = shown.numbers.ceiling; group = shown.numbers.group };
       kept = kept-stays held.members s held.numbers.next held.numbers.written m n was (omega arith) shown.kept;

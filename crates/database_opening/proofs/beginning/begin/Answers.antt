@@ -1,11 +1,17 @@
-use Rattle.std.proofs.Common.{sym, subst}
+use Rattle.std.specs.Prelude.{OnOk, Ok, Err}
+use Rattle.std.proofs.Common.{Result, sym, subst}
 use Rattle.rdb_outside.specs.Disk.{Image}
 use Rattle.rdb_outside.specs.Runs.{then_reads}
 use Rattle.stable_lines.specs.Kept.{Kept}
 use Rattle.line_moves.proofs.Runs.{still_tells}
 use Rattle.line_opening.proofs.Counted.{if_ok}
 use Rattle.line_opening.proofs.Passed.{image_same}
+use Rattle.database_opening.proofs.Begun.{stable_read}
 use Rattle.database_opening.proofs.beginning.begin.Goals as goal
+
+on_any : {T E : Type 0} (A : Type 0) (result : Result T E) → A → OnOk result A
+on_any A (Ok x) is = is
+on_any A (Err e) is = tt
 
 pub returns-clause-reads : goal.returns-clause-reads
 returns-clause-reads g c = let v = g.D.Disk.view in
@@ -20,3 +26,7 @@ pub returns-clause-found : goal.returns-clause-found
 returns-clause-found g c = let v = g.D.Disk.view in let old = v c.args.disk.now in let mid = v c.make_stable.new.disk in let reads = c.make_stable.ensures.reads in
     if_ok _ _ c.read_all.result (λ opening there t classes lines journal kept.
     there (still_tells old mid reads.told t) (c.in_ok-make_stable.ensures.stable t) classes lines journal (subst (λ (image : Image). Kept classes lines journal image) (sym (image_same old mid reads t)) kept)) c.read_all.ensures.found
+
+pub returns-clause-stable : goal.returns-clause-stable
+returns-clause-stable g c = let v = g.D.Disk.view in let old = v c.args.disk.now in let mid = v c.make_stable.new.disk in
+    on_any _ c.read_all.result (λ t. stable_read mid (v c.read_all.new.disk) c.read_all.ensures.reads (still_tells old mid c.make_stable.ensures.reads.told t) (c.in_ok-make_stable.ensures.stable t))

@@ -8,7 +8,8 @@ use Rattle.database_opening.specs.declared.stages.OpeningStage.{OpeningStage}
 use Rattle.database_opening.proofs.Counts.{both_ok}
 use Rattle.database_opening.proofs.Undone.{leaves_kept}
 use Rattle.database_opening.proofs.Closed.{restored, ended}
-use Rattle.database_opening.proofs.Pages.{classes_read, untouched_read}
+use Rattle.line_moves.proofs.PageClasses.{classes_read}
+use Rattle.database_opening.proofs.Pages.{untouched_read}
 use Rattle.database_opening.proofs.Others.{file_unused, file_read}
 use Rattle.database_opening.proofs.steps.step.Goals as goal
 
@@ -111,7 +112,7 @@ returns-in-Closing-clause-classes g c = λ t classes lines journal F by_area lie
 
 pub returns-in-Restoring-clause-classes : goal.returns-in-Restoring-clause-classes
 returns-in-Restoring-clause-classes g c = let v = g.D.Disk.view in λ t classes lines journal F by_area lie.
-    classes_read (v c.args.disk.now) (v c.go_on_stable.new.disk) c.go_on_stable.ensures.reads t by_area lie
+    classes_read by_area (v c.args.disk.now) (v c.go_on_stable.new.disk) c.go_on_stable.ensures.reads t lie
 
 pub returns-in-Restoring-clause-untouched : goal.returns-in-Restoring-clause-untouched
 returns-in-Restoring-clause-untouched g c = let v = g.D.Disk.view in λ t.
@@ -119,7 +120,7 @@ returns-in-Restoring-clause-untouched g c = let v = g.D.Disk.view in λ t.
 
 pub returns-in-Ending-clause-classes : goal.returns-in-Ending-clause-classes
 returns-in-Ending-clause-classes g c = let v = g.D.Disk.view in λ t classes lines journal F by_area lie.
-    classes_read (v c.args.disk.now) (v c.go_on_stable-in-Ending.new.disk) c.go_on_stable-in-Ending.ensures.reads t by_area lie
+    classes_read by_area (v c.args.disk.now) (v c.go_on_stable-in-Ending.new.disk) c.go_on_stable-in-Ending.ensures.reads t lie
 
 pub returns-in-Ending-clause-untouched : goal.returns-in-Ending-clause-untouched
 returns-in-Ending-clause-untouched g c = let v = g.D.Disk.view in λ t.

@@ -4,7 +4,7 @@ use Rattle.database_opening.specs.Stages.{OpeningFacts}
 use Rattle.database_opening.specs.declared.stages.OpeningStage.{OpeningStage}
 use Rattle.database_opening.specs.declared.stages.OpeningStage.TheVariants.{Opened}
 use Rattle.database_opening.proofs.EachMoment.{left_by_reads, left_by_step}
-use Rattle.database_opening.proofs.Pages.{classes_read, untouched_read, untouched_on}
+use Rattle.database_opening.proofs.Pages.{classes_read, classes_stable, classes_given, untouched_read, untouched_on}
 use Rattle.database_opening.proofs.Others.{file_read, file_on}
 use Rattle.database_opening.proofs.whole.open_database.Goals as goal
 
@@ -22,7 +22,7 @@ steps-init g c = let v = g.D.Disk.view in let old = v c.args.disk.now in let new
       no_fewer = c.begin.ensures.reads.no_fewer;
       stage = c.in_ok-opening.ensures.stage;
       facts = λ t classes lines journal kept. c.in_ok-opening.ensures.found t classes lines journal kept;
-      classes = λ t classes lines journal kept by_area lie. classes_read old new c.begin.ensures.reads t by_area lie;
+      classes = λ t classes lines journal kept by_area lie. classes_stable new (c.in_ok-opening.ensures.stable t) by_area (classes_read old new c.begin.ensures.reads t by_area lie);
       untouched = λ t. untouched_read old new c.begin.ensures.reads t;
       others = λ t file other. file_read old new c.begin.ensures.reads t file;
       leaves = λ t classes lines journal kept. left_by_reads classes lines journal old new c.begin.ensures.reads t;
@@ -48,16 +48,20 @@ returns-in_err-opening-clause-untouched g c = let v = g.D.Disk.view in λ t.
     untouched_read (v c.args.disk.now) (v c.begin.new.disk) c.begin.ensures.reads t
 
 pub returns-in_err-stage-clause-classes : goal.returns-in_err-stage-clause-classes
-returns-in_err-stage-clause-classes g c = let v = g.D.Disk.view in let old = v c.args.disk.now in let mid = v c.steps.disk in let so_far = c.steps.invariant in
+returns-in_err-stage-clause-classes g c = let v = g.D.Disk.view in let old = v c.args.disk.now in let mid = v c.steps.disk in let new = v c.step.new.disk in let so_far = c.steps.invariant in
     λ t classes lines journal kept by_area lie.
-    c.step.ensures.classes (still_tells old mid so_far.told t) classes lines journal (so_far.facts t classes lines journal kept) by_area (so_far.classes t classes lines journal kept by_area lie)
+    let told = still_tells old mid so_far.told t in
+    classes_given new (g.met.D.Disk.content_left c.step.new.disk new.moment (still_tells mid new c.step.ensures.told told) (omega arith)) by_area
+    (c.step.ensures.classes told classes lines journal (so_far.facts t classes lines journal kept) by_area (so_far.classes t classes lines journal kept by_area lie))
 
 pub returns-in_err-stage-clause-untouched : goal.returns-in_err-stage-clause-untouched
 returns-in_err-stage-clause-untouched g c = let v = g.D.Disk.view in let old = v c.args.disk.now in let mid = v c.steps.disk in let new = v c.step.new.disk in let so_far = c.steps.invariant in
     λ t. untouched_on old.content mid.content new.content (so_far.untouched t) (c.step.ensures.untouched (still_tells old mid so_far.told t))
 
 pub returns-clause-classes : goal.returns-clause-classes
-returns-clause-classes g c = λ t classes lines journal kept by_area lie. c.steps.invariant.classes t classes lines journal kept by_area lie
+returns-clause-classes g c = let v = g.D.Disk.view in let old = v c.args.disk.now in let mid = v c.steps.disk in let so_far = c.steps.invariant in
+    λ t classes lines journal kept by_area lie.
+    classes_given mid (g.met.D.Disk.content_left c.steps.disk mid.moment (still_tells old mid so_far.told t) (omega arith)) by_area (so_far.classes t classes lines journal kept by_area lie)
 
 pub returns-clause-untouched : goal.returns-clause-untouched
 returns-clause-untouched g c = λ t. c.steps.invariant.untouched t

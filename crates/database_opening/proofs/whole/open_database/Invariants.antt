@@ -1,10 +1,10 @@
 use Rattle.std.proofs.Common.{◌≡◌, ◌≤◌, ℕ, IsTrue}
 use Rattle.rdb_types.specs.declared.file.FileId.{FileId}
-use Rattle.rdb_outside.specs.Disk.{LeavesOnly}
+use Rattle.rdb_outside.specs.Disk.{Pending, LeavesOnly}
 use Rattle.line_view.specs.Knowledge.{Lines}
 use Rattle.stable_lines.specs.Journal.{Journal}
 use Rattle.stable_lines.specs.Kept.{Kept}
-use Rattle.line_moves.specs.Classes.{HaveTheirClasses}
+use Rattle.line_moves.specs.Classes.{HaveTheirClasses, IsClassed}
 use Rattle.database_opening.specs.Others.{IsOther, KeepsFile}
 use Rattle.database_opening.specs.Untouched.{KeepsRootAndSpaces}
 use Rattle.database_opening.specs.Stages.{OpeningFacts, IsStage, steps_left}
@@ -19,7 +19,7 @@ invariant-steps g l =
       no_fewer : before.faults ≤ now.faults;
       stage : IsStage l.stage;
       facts : IsTrue before.tells → (classes : ℕ → ℕ) (lines : Lines) (journal : Journal) → Kept classes lines journal before.content → OpeningFacts classes lines journal l.stage now l.opening.found;
-      classes : IsTrue before.tells → (classes : ℕ → ℕ) (lines : Lines) (journal : Journal) → Kept classes lines journal before.content → (by_area : ℕ → ℕ) → HaveTheirClasses by_area before.content → HaveTheirClasses by_area now.content;
+      classes : IsTrue before.tells → (classes : ℕ → ℕ) (lines : Lines) (journal : Journal) → Kept classes lines journal before.content → (by_area : ℕ → ℕ) → IsClassed by_area before.content → HaveTheirClasses by_area (Pending now);
       untouched : IsTrue before.tells → KeepsRootAndSpaces before.content now.content;
       others : IsTrue before.tells → (file : FileId) → IsOther file → KeepsFile file before now;
       leaves : IsTrue before.tells → (classes : ℕ → ℕ) (lines : Lines) (journal : Journal) → Kept classes lines journal before.content → LeavesOnly before now (IsLeft classes lines journal before);

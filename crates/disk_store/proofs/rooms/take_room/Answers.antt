@@ -1,7 +1,5 @@
-use Rattle.std.proofs.Common.{⊎_elim, sym, ap, subst, ◌∙◌, arith}
+use Rattle.std.proofs.Common.{⊎_elim, sym, ap, subst, ◌∙◌}
 use Rattle.rdb_types.specs.declared.keys.Limits.{Limits}
-use Rattle.rdb_outside.specs.Disk.{IsPending}
-use Rattle.rdb_outside.specs.Moments.{each_slot}
 use Rattle.line_store.specs.Shelves.{Shelf}
 use Rattle.line_store.specs.Rooms.{Takes}
 use Rattle.line_store.specs.Sights.{Does}
@@ -37,11 +35,10 @@ returns-clause-taken g c is =
     let new : IsNew (pages_of held.tables file) c.args.key.page = subst (λ (ps : Pages). IsNew ps c.args.key.page) c.table.ensures (c.is_new.ensures.yes c.if-not-is_new.false) in
     let takes = c.take_page.ensures.2 in
     let stand : (h : Shelf) (shown : Shown v held h) → TablesStand v shown.ledger kept = λ h shown.
-    let now : IsPending v v.content = each_slot v v.content (g.met.D.Disk.content_left c.args._disk.now v.moment shown.tells (omega arith)) in
     ⊎_elim
-    (λ (has : IsClassOf c.table-2.result.now c.args.key.area c.class_for-its.result). stand-as v shown.ledger held.tables shown.facts shown.tables now file c.args.key.area owner kept c.args.key.page c.class_for-its.result new takes
+    (λ (has : IsClassOf c.table-2.result.now c.args.key.area c.class_for-its.result). stand-as v shown.ledger held.tables shown.facts shown.tables file c.args.key.area owner kept c.args.key.page c.class_for-its.result new takes
     (subst (λ (ps : Pages). IsClassOf ps c.args.key.area c.class_for-its.result) c.table-2.ensures has))
-    (λ (none : HasNoOwned c.table-2.result.now c.args.key.area). stand-anew v shown.ledger held.tables shown.facts shown.tables now file c.args.key.area owner kept c.args.key.page c.class_for-its.result new takes
+    (λ (none : HasNoOwned c.table-2.result.now c.args.key.area). stand-anew v shown.ledger held.tables shown.facts shown.tables file c.args.key.area owner kept c.args.key.page c.class_for-its.result new takes
     (λ f. shown.space.pages.limit f ∙ ap (λ (l : Limits). l.pages) (shown.space.limits ∙ sym shown.limits))
     (subst (λ (ps : Pages). HasNoOwned ps c.args.key.area) c.table-2.ensures none))
     c.class_for-its.ensures in

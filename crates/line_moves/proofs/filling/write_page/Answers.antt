@@ -10,8 +10,8 @@ use Rattle.line_moves.proofs.FilledPages.{SameLines, some_there, got_pair, sure_
 use Rattle.line_moves.proofs.OnlyPut.{keeps_lines, same_behind, elsewhere_behind, puts_only}
 use Rattle.line_moves.specs.declared.places.Place.{Place}
 use Rattle.line_moves.specs.Changes.{IsForArea}
-use Rattle.line_moves.specs.Classes.{HasItsClass, HaveTheirClasses, LieForArea}
-use Rattle.line_moves.proofs.PageClasses.{owners_stay, owners_behind, owner_begun, classes_read, classes_stay, class_kept, class_begun, classes_behind}
+use Rattle.line_moves.specs.Classes.{LieForArea}
+use Rattle.line_moves.proofs.PageClasses.{owners_stay, owners_behind, owner_begun, classes_read, class_kept, class_begun, classes_behind}
 use Rattle.line_moves.proofs.FirstLines.{same_lines, started_page, sure_started, class_started}
 use Rattle.line_moves.proofs.filling.write_page.Goals as goal
 
@@ -223,16 +223,13 @@ returns-in_err-write-clause-classes g c = let v = g.D.Disk.view in let old = v c
     let first = (slice_index_or c.args.lines.now c.args.from c.index-lines-from.result).0 in
     λ t now was classes its had.
     let left = g.met.D.Disk.content_left c.args.disk.now old.moment t (omega arith) in
-    let same : y ≡ old.content f at = c.in_ok-read.ensures.bytes t ∙ (λ i. old.content (c.area_file-file.ensures i) (c.slot_of-slot.ensures i)) in
-    let there = read_pends old left c.area_file-file.result f c.slot_of-slot.result at y c.area_file-file.ensures c.slot_of-slot.ensures (c.in_ok-read.ensures.bytes t) in
-    let is_page = started_page first c.args.place c.args.class y z names c.start.ensures.started (was.pages.page c.args.place.file c.args.place.page y (area_is first c.args.place names) names.is_data there) in
+    let on_y = read_pends old left c.area_file-file.result f c.slot_of-slot.result at y c.area_file-file.ensures c.slot_of-slot.ensures (c.in_ok-read.ensures.bytes t) in
+    let in_area = area_is first c.args.place names in
+    let is_page = started_page first c.args.place c.args.class y z names c.start.ensures.started (was.pages.page c.args.place.file c.args.place.page y in_area names.is_data on_y) in
     let fills = c.in-Ok.ensures.fills is_page in
-    let on_y = subst (λ (b : List ℕ). HasItsClass classes b) (sym same) (had c.args.place.file c.args.place.page (area_is first c.args.place names) names.is_data) in
-    let on_x = class_kept classes z x fills.same_owner fills.same_class (class_begun classes c.args.place first.area c.args.class y z c.start.ensures.started (its _ got) on_y) in
-    let put : Puts c.area_file-file.result c.slot_of-slot.result x mid.content new.content → HaveTheirClasses classes new.content = λ puts. classes_behind classes old.content new.content c.args.place.file c.args.place.page x names.is_data.is_page.first
-    (elsewhere_behind old mid new c.area_file-file.result c.args.place.file c.args.place.page c.slot_of-slot.result x c.area_file-file.ensures c.slot_of-slot.ensures (reads.keeps t).content puts)
-    (here_at new c.area_file-file.result f c.slot_of-slot.result at x c.area_file-file.ensures c.slot_of-slot.ensures puts.here) on_x had in
-    ⊎_elim (λ none. classes_stay classes mid.content new.content none (classes_read classes old mid reads t had)) put (c.in_err-write.ensures.failed (told t))
+    let more = more_behind old mid new c.area_file-file.result f c.slot_of-slot.result at x c.area_file-file.ensures c.slot_of-slot.ensures t reads (c.write.ensures.pending (told t)) in
+    let begun = class_begun classes c.args.place first.area c.args.class y z c.start.ensures.started (its _ got) (had c.args.place.file c.args.place.page y in_area names.is_data on_y) in
+    classes_behind classes old new c.args.place.file c.args.place.page x more (class_kept classes z x fills.same_owner fills.same_class begun) had
 
 pub returns-clause-classes : goal.returns-clause-classes
 returns-clause-classes g c = let v = g.D.Disk.view in let old = v c.args.disk.now in let mid = v c.read.new.self in
@@ -245,16 +242,13 @@ returns-clause-classes g c = let v = g.D.Disk.view in let old = v c.args.disk.no
     let first = (slice_index_or c.args.lines.now c.args.from c.index-lines-from.result).0 in
     λ t now was classes its had.
     let left = g.met.D.Disk.content_left c.args.disk.now old.moment t (omega arith) in
-    let same : y ≡ old.content f at = c.in_ok-read.ensures.bytes t ∙ (λ i. old.content (c.area_file-file.ensures i) (c.slot_of-slot.ensures i)) in
-    let there = read_pends old left c.area_file-file.result f c.slot_of-slot.result at y c.area_file-file.ensures c.slot_of-slot.ensures (c.in_ok-read.ensures.bytes t) in
-    let is_page = started_page first c.args.place c.args.class y z names c.start.ensures.started (was.pages.page c.args.place.file c.args.place.page y (area_is first c.args.place names) names.is_data there) in
+    let on_y = read_pends old left c.area_file-file.result f c.slot_of-slot.result at y c.area_file-file.ensures c.slot_of-slot.ensures (c.in_ok-read.ensures.bytes t) in
+    let in_area = area_is first c.args.place names in
+    let is_page = started_page first c.args.place c.args.class y z names c.start.ensures.started (was.pages.page c.args.place.file c.args.place.page y in_area names.is_data on_y) in
     let fills = c.in-Ok.ensures.fills is_page in
-    let on_y = subst (λ (b : List ℕ). HasItsClass classes b) (sym same) (had c.args.place.file c.args.place.page (area_is first c.args.place names) names.is_data) in
-    let on_x = class_kept classes z x fills.same_owner fills.same_class (class_begun classes c.args.place first.area c.args.class y z c.start.ensures.started (its _ got) on_y) in
-    let put : Puts c.area_file-file.result c.slot_of-slot.result x mid.content new.content → HaveTheirClasses classes new.content = λ puts. classes_behind classes old.content new.content c.args.place.file c.args.place.page x names.is_data.is_page.first
-    (elsewhere_behind old mid new c.area_file-file.result c.args.place.file c.args.place.page c.slot_of-slot.result x c.area_file-file.ensures c.slot_of-slot.ensures (reads.keeps t).content puts)
-    (here_at new c.area_file-file.result f c.slot_of-slot.result at x c.area_file-file.ensures c.slot_of-slot.ensures puts.here) on_x had in
-    put (c.in_ok-write.ensures.written (told t))
+    let more = more_behind old mid new c.area_file-file.result f c.slot_of-slot.result at x c.area_file-file.ensures c.slot_of-slot.ensures t reads (c.write.ensures.pending (told t)) in
+    let begun = class_begun classes c.args.place first.area c.args.class y z c.start.ensures.started (its _ got) (had c.args.place.file c.args.place.page y in_area names.is_data on_y) in
+    classes_behind classes old new c.args.place.file c.args.place.page x more (class_kept classes z x fills.same_owner fills.same_class begun) had
 
 pub returns-in_err-read-clause-owners : goal.returns-in_err-read-clause-owners
 returns-in_err-read-clause-owners g c = let v = g.D.Disk.view in let old = v c.args.disk.now in let mid = v c.read.new.self in

@@ -3,8 +3,7 @@ use Rattle.rdb_outside.specs.Disk.{Pending, Puts}
 use Rattle.stable_lines.specs.Slots.{area_file, line_on}
 use Rattle.line_moves.specs.declared.places.Place.{Place}
 use Rattle.line_moves.specs.Changes.{IsForArea}
-use Rattle.line_moves.specs.Classes.{HasItsClass, HaveTheirClasses}
-use Rattle.line_moves.proofs.PageClasses.{owners_stay, owners_behind, classes_read, classes_stay, class_kept, classes_behind}
+use Rattle.line_moves.proofs.PageClasses.{owners_stay, owners_behind, classes_read, class_kept, classes_behind}
 use Rattle.line_moves.proofs.Runs.{reads_once, facts_read, writes_none, writes_one, more_behind, read_pends, here_at, still_tells}
 use Rattle.line_moves.proofs.KeyPlaces.{area_is, place_content}
 use Rattle.rdb_page.specs.Whole.{IsPageOf}
@@ -164,38 +163,30 @@ returns-in_err-write-clause-classes g c = let v = g.D.Disk.view in let old = v c
     let reads = reads_once old mid c.read.result c.read.ensures.counts c.read.ensures.kept in
     let f = area_file c.args.place.file in let at = c.args.place.page - 1 in
     let new = v c.write.new.self in let told = still_tells old mid reads.told in
-    let y = c.read.new.into in let x = c.put_on.new.page in
+    let y = c.read.new.into in let x = c.put_on.new.page in let names = c.requires.place in
     λ t now was classes had.
     let left = g.met.D.Disk.content_left c.args.disk.now old.moment t (omega arith) in
-    let there = read_pends old left c.area_file-file.result f c.slot_of-slot.result at y c.area_file-file.ensures c.slot_of-slot.ensures (c.in_ok-read.ensures.bytes t) in
-    let is_page = was.pages.page c.args.place.file c.args.place.page y (area_is c.args.key c.args.place c.requires.place) c.requires.place.is_data there in
-    let same : y ≡ old.content f at = c.in_ok-read.ensures.bytes t ∙ (λ i. old.content (c.area_file-file.ensures i) (c.slot_of-slot.ensures i)) in
-    let puts_it = c.in-Ok.ensures.puts is_page in
-    let on_y = subst (λ (b : List ℕ). HasItsClass classes b) (sym same) (had c.args.place.file c.args.place.page (area_is c.args.key c.args.place c.requires.place) c.requires.place.is_data) in
-    let on_x = class_kept classes y x puts_it.same_owner puts_it.same_class on_y in
-    let put : Puts c.area_file-file.result c.slot_of-slot.result x mid.content new.content → HaveTheirClasses classes new.content = λ puts. classes_behind classes old.content new.content c.args.place.file c.args.place.page x c.requires.place.is_data.is_page.first
-    (elsewhere_behind old mid new c.area_file-file.result c.args.place.file c.args.place.page c.slot_of-slot.result x c.area_file-file.ensures c.slot_of-slot.ensures (reads.keeps t).content puts)
-    (here_at new c.area_file-file.result f c.slot_of-slot.result at x c.area_file-file.ensures c.slot_of-slot.ensures puts.here) on_x had in
-    ⊎_elim (λ none. classes_stay classes mid.content new.content none (classes_read classes old mid reads t had)) put (c.in_err-write.ensures.failed (told t))
+    let on_y = read_pends old left c.area_file-file.result f c.slot_of-slot.result at y c.area_file-file.ensures c.slot_of-slot.ensures (c.in_ok-read.ensures.bytes t) in
+    let in_area = area_is c.args.key c.args.place names in
+    let puts_it = c.in-Ok.ensures.puts (was.pages.page c.args.place.file c.args.place.page y in_area names.is_data on_y) in
+    let more = more_behind old mid new c.area_file-file.result f c.slot_of-slot.result at x c.area_file-file.ensures c.slot_of-slot.ensures t reads (c.write.ensures.pending (told t)) in
+    classes_behind classes old new c.args.place.file c.args.place.page x more
+    (class_kept classes y x puts_it.same_owner puts_it.same_class (had c.args.place.file c.args.place.page y in_area names.is_data on_y)) had
 
 pub returns-clause-classes : goal.returns-clause-classes
 returns-clause-classes g c = let v = g.D.Disk.view in let old = v c.args.disk.now in let mid = v c.read.new.self in
     let reads = reads_once old mid c.read.result c.read.ensures.counts c.read.ensures.kept in
     let f = area_file c.args.place.file in let at = c.args.place.page - 1 in
     let new = v c.write.new.self in let told = still_tells old mid reads.told in
-    let y = c.read.new.into in let x = c.put_on.new.page in
+    let y = c.read.new.into in let x = c.put_on.new.page in let names = c.requires.place in
     λ t now was classes had.
     let left = g.met.D.Disk.content_left c.args.disk.now old.moment t (omega arith) in
-    let there = read_pends old left c.area_file-file.result f c.slot_of-slot.result at y c.area_file-file.ensures c.slot_of-slot.ensures (c.in_ok-read.ensures.bytes t) in
-    let is_page = was.pages.page c.args.place.file c.args.place.page y (area_is c.args.key c.args.place c.requires.place) c.requires.place.is_data there in
-    let same : y ≡ old.content f at = c.in_ok-read.ensures.bytes t ∙ (λ i. old.content (c.area_file-file.ensures i) (c.slot_of-slot.ensures i)) in
-    let puts_it = c.in-Ok.ensures.puts is_page in
-    let on_y = subst (λ (b : List ℕ). HasItsClass classes b) (sym same) (had c.args.place.file c.args.place.page (area_is c.args.key c.args.place c.requires.place) c.requires.place.is_data) in
-    let on_x = class_kept classes y x puts_it.same_owner puts_it.same_class on_y in
-    let put : Puts c.area_file-file.result c.slot_of-slot.result x mid.content new.content → HaveTheirClasses classes new.content = λ puts. classes_behind classes old.content new.content c.args.place.file c.args.place.page x c.requires.place.is_data.is_page.first
-    (elsewhere_behind old mid new c.area_file-file.result c.args.place.file c.args.place.page c.slot_of-slot.result x c.area_file-file.ensures c.slot_of-slot.ensures (reads.keeps t).content puts)
-    (here_at new c.area_file-file.result f c.slot_of-slot.result at x c.area_file-file.ensures c.slot_of-slot.ensures puts.here) on_x had in
-    put (c.in_ok-write.ensures.written (told t))
+    let on_y = read_pends old left c.area_file-file.result f c.slot_of-slot.result at y c.area_file-file.ensures c.slot_of-slot.ensures (c.in_ok-read.ensures.bytes t) in
+    let in_area = area_is c.args.key c.args.place names in
+    let puts_it = c.in-Ok.ensures.puts (was.pages.page c.args.place.file c.args.place.page y in_area names.is_data on_y) in
+    let more = more_behind old mid new c.area_file-file.result f c.slot_of-slot.result at x c.area_file-file.ensures c.slot_of-slot.ensures t reads (c.write.ensures.pending (told t)) in
+    classes_behind classes old new c.args.place.file c.args.place.page x more
+    (class_kept classes y x puts_it.same_owner puts_it.same_class (had c.args.place.file c.args.place.page y in_area names.is_data on_y)) had
 
 pub returns-in_err-read-clause-owners : goal.returns-in_err-read-clause-owners
 returns-in_err-read-clause-owners g c = let v = g.D.Disk.view in let old = v c.args.disk.now in let mid = v c.read.new.self in

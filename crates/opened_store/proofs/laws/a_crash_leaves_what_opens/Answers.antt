@@ -1,7 +1,8 @@
-use Rattle.std.proofs.Common.{◌≡◌, ⊎_elim, Some}
+use Rattle.std.proofs.Common.{◌≡◌, ◌-◌, ⊎_elim, Some}
 use Rattle.rdb_outside.specs.Disk.{Pending}
 use Rattle.rdb_outside.specs.Moments.{each_slot}
 use Rattle.line_view.specs.Knowledge.{Lines}
+use Rattle.stable_lines.specs.Slots.{area_file}
 use Rattle.stable_lines.specs.Progress.{lines_with}
 use Rattle.stable_lines.proofs.Stands.{stands}
 use Rattle.disk_seats.specs.Ledgers.{Commit, progress_of}
@@ -10,8 +11,8 @@ use Rattle.member_steps.proofs.Left.{by_case}
 use Rattle.store_shows.proofs.Standing.{may_stand}
 use Rattle.opened_store.proofs.laws.a_crash_leaves_what_opens.Goals as goal
 
-pub returns : goal.returns
-returns g c = λ h shown image left.
+pub returns-clause-lines : goal.returns-clause-lines
+returns-clause-lines g c = λ h shown image left.
     let v = g.D.Disk.view c.args.disk.now in
     let now = shown.ledger in
     let pending = each_slot v image left in
@@ -20,3 +21,8 @@ returns g c = λ h shown image left.
     (λ (has : HasLines image now.base.lines). (now.base.lines, has, with now.base.lines has))
     (λ (up : (c : Commit) × (now.commit ≡ Some c) × HasLines image (lines_with now.base c.flight)). (lines_with now.base up.0.flight, up.2, with (lines_with now.base up.0.flight) up.2))
     (by_case v now shown.facts image (stands (Pending v) (progress_of now) shown.facts.facts image pending))
+
+pub returns-clause-classes : goal.returns-clause-classes
+returns-clause-classes g c = λ h shown image left.
+    let v = g.D.Disk.view c.args.disk.now in
+    (shown.tables.classes, λ file number is page. shown.tables.lie file number (image (area_file file) (number - 1)) is page (each_slot v image left (area_file file) (number - 1)))
