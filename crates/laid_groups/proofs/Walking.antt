@@ -261,6 +261,9 @@ pub none_yet : (forward : Forward) (journal : Journal) (last : ℕ) (image : Ima
 unfolding begins
 none_yet forward journal last image = record { at = begins journal; laid = none_laid forward image }
 
+pub at_next : (journal : Journal) (image : Image) → IsJournalOf image journal → (slot number : ℕ) (g : Group) → IsWhole number g → standing image aij_file slot (count_of g) ≡ slots_of g → AtGroup journal slot number → AtGroup journal (slot + (length g.lines + 1)) (number + 1)
+at_next journal image is slot number g whole stands at = let next = found_next image journal is slot number at g whole stands in goes_on image journal is slot number at g next.0 next.1
+
 module _ (forward : Forward) (journal : Journal) (image : Image) (is : IsJournalOf image journal) (last slot number : ℕ) (g : Group) (whole : IsWhole number g) (stands : standing image aij_file slot (count_of g) ≡ slots_of g) where
   pub fits_here : AtGroup journal slot number → FitAll forward (groups_above last journal.groups) → FitAll forward (groups_above last (g ∷ []))
   fits_here at fits = let next = found_next image journal is slot number at g whole stands in
@@ -272,9 +275,6 @@ module _ (forward : Forward) (journal : Journal) (image : Image) (is : IsJournal
     at = goes_on image journal is slot number was.at g next.0 next.1;
     laid = subst (λ (ws : List Write). LaidOver forward ws old new) (writes_both last was.at.passed (g ∷ [])) (laid_on forward (writes_of (groups_above last was.at.passed)) (writes_of (groups_above last (g ∷ []))) old mid new was.laid now);
   }
-
-  pub at_next : AtGroup journal slot number → AtGroup journal (slot + (length g.lines + 1)) (number + 1)
-  at_next at = let next = found_next image journal is slot number at g whole stands in goes_on image journal is slot number at g next.0 next.1
 
 module _ (forward : Forward) (journal : Journal) (image : Image) (is : IsJournalOf image journal) (last slot number : ℕ) (none : (g : Group) → IsWhole number g → standing image aij_file slot (count_of g) ≡ slots_of g → ⊥) where
   pub all_laid : (old new : Image) → LaidUpTo forward journal last slot number old new → LaidOver forward (writes_of (groups_above last journal.groups)) old new

@@ -1,0 +1,6 @@
+//! Tries.
+#![tactic(auto)]
+
+mod passing;
+
+pub use passing::{Reached, pass_journal};
