@@ -10,13 +10,12 @@ use Rattle.guarded_root.specs.Guarded.{IsWrite, IsPendingOr, AddsOnly}
 
 -- a call that writes one slot, or fails
 pub adds_write : {T E : Type 0} (file : FileId) (slot : ℕ) (bytes : List ℕ) (old new : View) (r : Result T E) → IsTrue old.tells → Counts old new r → Adds file slot bytes old new → AddsOnly (IsWrite file slot bytes) old new
-adds_write file slot bytes old new r t counts adds = record {
-  pending = adds;
-  leaves = goes_on old old new P r t (started old P (λ image left f i. inl (each_slot old image left f i))) counts (λ image left f i. adds f i (image f i) (each_slot new image left f i));
-}
-  where
-    abbrev P : Image → Type 0
-    P = IsPendingOr old (IsWrite file slot bytes)
+adds_write file slot bytes old new r t counts adds =
+    let P = IsPendingOr old (IsWrite file slot bytes) in
+    record {
+      pending = adds;
+      leaves = goes_on old old new P r t (started old P (λ image left f i. inl (each_slot old image left f i))) counts (λ image left f i. adds f i (image f i) (each_slot new image left f i));
+    }
 
 -- of more kinds
 pub adds_more : (some more : FileId → ℕ → List ℕ → Type 0) (old new : View) → ((f : FileId) (i : ℕ) (x : List ℕ) → some f i x → more f i x) → AddsOnly some old new → AddsOnly more old new

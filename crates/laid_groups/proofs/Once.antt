@@ -1,5 +1,7 @@
 -- One line laid, as its call tells it.
-use Rattle.std.proofs.Common.{◌≡◌, ℕ, ◌-◌, ◌<◌, ◌^◌, List, [], ◌∷◌, ◌∙◌, sym, subst}
+use Rattle.std.proofs.Common.{◌≡◌, ℕ, ◌-◌, ◌<◌, ◌^◌, List, [], ◌∷◌, inl, inr, ◌∙◌, ap, sym, subst}
+use Rattle.rdb_types.specs.declared.file.FileId.{FileId}
+use Rattle.rdb_types.specs.declared.file.FileKind.TheVariants.{Area}
 use Rattle.rdb_types.specs.declared.keys.Dbkey.{Dbkey}
 use Rattle.rdb_types.specs.declared.keys.Line.{Line}
 use Rattle.rdb_types.specs.declared.keys.Tsn.{Tsn}
@@ -15,10 +17,11 @@ use Rattle.line_moves.specs.declared.places.Place.{Place}
 use Rattle.line_moves.specs.Changes.{IsPlaceOf}
 use Rattle.line_moves.proofs.KeyPlaces.{file_is}
 use Rattle.guarded_root.specs.Guarded.{AddsOnly}
+use Rattle.guarded_root.proofs.Adding.{adds_more}
 use Rattle.guarded_lines.specs.Laying.{HasRoom, LaysOn, IsLaidSlot}
-use Rattle.laid_groups.specs.Forward.{Forward, line_laid, IsReady, KeepsReady, FitsLine, IsUnderWay}
+use Rattle.laid_groups.specs.Forward.{Forward, line_laid, IsReady, IsHeld, KeepsReady, FitsLine, IsUnderWay}
 use Rattle.laid_groups.specs.Laid.{LaidOver}
-use Rattle.laid_groups.proofs.Running.{ready_image, adds_ready}
+use Rattle.laid_groups.proofs.Running.{ready_image}
 use Rattle.laid_groups.proofs.Slots.{page_was, space_was, room, may_slot}
 use Rattle.laid_groups.proofs.Stepping.{allowed, laid_one}
 
@@ -29,7 +32,7 @@ one_place key a b first second =
     let pages = first.page ∙ sym second.page in
     λ i. record { file = files i; page = pages i }
 
-pub with_place : (forward : Forward) (l : GroupLine) (place : Place) → IsPlaceOf l.key place → FitsLine forward l → FitsLine forward l
+abbrev pub with_place : (forward : Forward) (l : GroupLine) (place : Place) → IsPlaceOf l.key place → FitsLine forward l → FitsLine forward l
 with_place forward l place names fits =
     let same = one_place l.key fits.place place fits.names names in
     record {
@@ -79,8 +82,11 @@ module _ (forward : Forward) (old : View) (left : LeftNow old old.content) (tsn 
   pub keeps_one : (new : View) → tsn.number < forward.top
       → (IsPageOf place.file place.page (old.content (area_file place.file) (place.page - 1)) → HasRoom l.key l.class (old.content (area_file place.file) (place.page - 1)) → AddsOnly (IsLaidSlot old.content l.key place l.class value) old new)
       → KeepsReady forward old new
-  keeps_one new few adds = record { ready = λ ready. (both ready).0; leaves = λ ready. (both ready).1 }
+  keeps_one new few adds ready = adds_more (IsLaidSlot old.content l.key place l.class value) (IsHeld forward) old new held (adds (page ready) (has_room ready))
     where
-      both : (ready : IsReady forward old) → _
-      both ready = adds_ready forward (IsLaidSlot old.content l.key place l.class value) old new (adds (page ready) (has_room ready))
-          (λ f i x it. may_slot forward old.content (under ready) tsn l (with_place forward l place names fits) few f i x (subst (λ (v : Line). IsLaidSlot old.content l.key place l.class v f i x) is it)) ready
+      of_area : (f : FileId) (i : ℕ) (x : List ℕ) → IsLaidSlot old.content l.key place l.class value f i x → f.kind ≡ Area
+      of_area f i x (inl it) = ap (λ (g : FileId). g.kind) it.0
+      of_area f i x (inr it) = ap (λ (g : FileId). g.kind) it.0
+
+      held : (f : FileId) (i : ℕ) (x : List ℕ) → IsLaidSlot old.content l.key place l.class value f i x → IsHeld forward f i x
+      held f i x it = (of_area f i x it, may_slot forward old.content (under ready) tsn l (with_place forward l place names fits) few f i x (subst (λ (v : Line). IsLaidSlot old.content l.key place l.class v f i x) is it))

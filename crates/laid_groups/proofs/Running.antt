@@ -1,17 +1,16 @@
 -- Runs behind which each slot holds what it may, and what their writes come to.
 use Rattle.std.proofs.Common.{◌≡◌, ℕ, IsTrue, List, [], ◌∷◌, ◌++◌, Option, ◌⊎◌, inl, inr, ⊎_elim, refl, sym, ◌∙◌, ap, subst}
-use Rattle.rdb_types.specs.declared.file.FileId.{FileId}
 use Rattle.rdb_types.specs.declared.keys.Dbkey.{Dbkey}
-use Rattle.rdb_outside.specs.Disk.{Image, View, LeftNow, Pending, LeavesOnly, IsPending, OnlyReads}
-use Rattle.rdb_outside.specs.Moments.{each_slot, started, weaker}
+use Rattle.rdb_outside.specs.Disk.{Image, View, LeftNow, OnlyReads}
+use Rattle.rdb_outside.specs.Moments.{each_slot}
 use Rattle.area_files.specs.Areas.{IsDataPage}
 use Rattle.line_view.specs.declared.writes.Write.{Write}
-use Rattle.line_opening.proofs.Standing.{leaves_on}
 use Rattle.stable_lines.specs.Slots.{IsAreaFile, line_at}
 use Rattle.line_versions.specs.Lines.{shown}
 use Rattle.rolled_lines.specs.HalfLaid.{line_behind}
-use Rattle.guarded_root.specs.Guarded.{IsPendingOr, AddsOnly}
-use Rattle.laid_groups.specs.Forward.{Forward, MayHold, IsUnderWay, IsReady, KeepsReady, IsWrittenBy}
+use Rattle.guarded_root.specs.Guarded.{AddsOnly}
+use Rattle.guarded_root.proofs.Adding.{adds_none, adds_read, adds_on}
+use Rattle.laid_groups.specs.Forward.{Forward, IsUnderWay, IsReady, IsHeld, KeepsReady, IsWrittenBy}
 use Rattle.laid_groups.specs.Laid.{IsEntered, LaidOver}
 use Rattle.laid_groups.proofs.Behind.{behind_both, written_either}
 
@@ -20,29 +19,17 @@ use Rattle.laid_groups.proofs.Behind.{behind_both, written_either}
 pub ready_image : (forward : Forward) (v : View) → IsReady forward v → (image : Image) → LeftNow v image → IsUnderWay forward image
 ready_image forward v ready image left f i = ready f i (image f i) (each_slot v image left f i)
 
+pub still_ready : (forward : Forward) (old new : View) → AddsOnly (IsHeld forward) old new → IsReady forward old → IsReady forward new
+still_ready forward old new adds is f i x p = ⊎_elim (λ was. is f i x was) (λ it. it.1) (adds.pending f i x p)
+
 pub none_ready : (forward : Forward) (v : View) → KeepsReady forward v v
-none_ready forward v = record {
-  ready = λ is. is;
-  leaves = λ is. started v (IsUnderWay forward) (ready_image forward v is);
-}
+none_ready forward v is = adds_none (IsHeld forward) v
 
 pub read_ready : (forward : Forward) (old new : View) → IsTrue old.tells → OnlyReads old new → KeepsReady forward old new
-read_ready forward old new t reads = record {
-  ready = λ is f i x p. is f i x ((reads.keeps t).pending f i x p);
-  leaves = λ is. weaker old new (IsPending old) (IsUnderWay forward) (λ image each f i. is f i (image f i) (each f i)) (reads.leaves t);
-}
+read_ready forward old new t reads is = adds_read (IsHeld forward) old new t reads
 
 pub ready_on : (forward : Forward) (old mid new : View) → KeepsReady forward old mid → KeepsReady forward mid new → KeepsReady forward old new
-ready_on forward old mid new first second = record {
-  ready = λ is. second.ready (first.ready is);
-  leaves = λ is. leaves_on old mid new (IsUnderWay forward) (first.leaves is) (second.leaves (first.ready is));
-}
-
--- where all that is added may be held
-pub adds_ready : (forward : Forward) (more : FileId → ℕ → List ℕ → Type 0) (old new : View) → AddsOnly more old new → ((f : FileId) (i : ℕ) (x : List ℕ) → more f i x → MayHold forward f i x) → IsReady forward old → IsReady forward new × LeavesOnly old new (IsUnderWay forward)
-adds_ready forward more old new adds may is = (
-    (λ f i x p. ⊎_elim (λ was. is f i x was) (λ it. may f i x it) (adds.pending f i x p)),
-    weaker old new (IsPendingOr old more) (IsUnderWay forward) (λ image each f i. ⊎_elim (λ was. is f i (image f i) was) (λ it. may f i (image f i) it) (each f i)) adds.leaves)
+ready_on forward old mid new first second is = adds_on (IsHeld forward) old mid new (first is) (second (still_ready forward old mid (first is) is))
 
 -- ---- what the writes come to
 

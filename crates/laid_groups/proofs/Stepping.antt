@@ -11,7 +11,7 @@ use Rattle.rdb_types.specs.declared.keys.LineState.TheVariants.{Never, Present, 
 use Rattle.rdb_types.specs.declared.keys.Tsn.{Tsn}
 use Rattle.rdb_types.specs.Order.{dbkey_order}
 use Rattle.rdb_outside.specs.Disk.{Image}
-use Rattle.rdb_page.specs.Lines.{IsAllowedLine, Agrees}
+use Rattle.rdb_page.specs.Lines.{IsAllowedLine, Agrees, never}
 use Rattle.area_files.specs.Areas.{IsDataPage, space_page_of}
 use Rattle.space_pages.specs.Space.{IsSpace, owner_of}
 use Rattle.aij_journal.specs.declared.part.GroupLine.{GroupLine}
@@ -59,8 +59,8 @@ module _ (forward : Forward) (old new : Image) (under : IsUnderWay forward old) 
   on_page : (image : Image) (k : Dbkey) → file_of k ≡ area_file fits.place.file → slot_of k ≡ fits.place.page - 1 → line_at image k ≡ line_on k (image (area_file fits.place.file) (fits.place.page - 1))
   on_page image k file slot = ap (λ (b : List ℕ). line_on k b) (λ i. image (file i) (slot i))
 
-  on_space : (image : Image) (k : Dbkey) → IsSpace (image (area_file fits.place.file) (space_page_of fits.place.page - 1)) (space_page_of fits.place.page) → file_of k ≡ area_file fits.place.file → slot_of k ≡ space_page_of fits.place.page - 1 → line_at image k ≡ line_on k []
-  on_space image k is file slot = ap (λ (b : List ℕ). line_on k b) (λ i. image (file i) (slot i)) ∙ nothing_on k _ (space_owner _ (space_page_of fits.place.page) is) ∙ sym (nothing_on k [] refl)
+  on_space : (image : Image) (k : Dbkey) → IsSpace (image (area_file fits.place.file) (space_page_of fits.place.page - 1)) (space_page_of fits.place.page) → file_of k ≡ area_file fits.place.file → slot_of k ≡ space_page_of fits.place.page - 1 → line_at image k ≡ never
+  on_space image k is file slot = ap (λ (b : List ℕ). line_on k b) (λ i. image (file i) (slot i)) ∙ nothing_on k _ (space_owner _ (space_page_of fits.place.page) is)
 
   other_line : (k : Dbkey) → k ≢ l.key → line_at new k ≡ line_at old k
   other_line k apart = ⊎_elim

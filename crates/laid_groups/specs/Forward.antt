@@ -1,10 +1,11 @@
 -- A roll-forward: what lies below, what is laid over it, and what each slot may hold meanwhile.
 use Rattle.std.specs.Prelude.{ℕ, ◌+◌, ◌-◌, ◌≤◌, ◌<◌, ◌^◌, ◌≡◌, ◌⊎◌, List, length, take, slice_get, Some}
 use Rattle.rdb_types.specs.declared.file.FileId.{FileId}
+use Rattle.rdb_types.specs.declared.file.FileKind.TheVariants.{Area}
 use Rattle.rdb_types.specs.declared.keys.Dbkey.{Dbkey}
 use Rattle.rdb_types.specs.declared.keys.Line.{Line}
 use Rattle.rdb_types.specs.declared.keys.Tsn.{Tsn}
-use Rattle.rdb_outside.specs.Disk.{Image, View, Pending, LeavesOnly, zeros}
+use Rattle.rdb_outside.specs.Disk.{Image, View, Pending, zeros}
 use Rattle.rdb_page.specs.Page.{IsUnused, lines_of}
 use Rattle.rdb_page.specs.Whole.{IsPageOf}
 use Rattle.area_files.specs.Areas.{IsPage, IsDataPage, IsSpacePage, space_page_of}
@@ -21,6 +22,7 @@ use Rattle.line_moves.specs.declared.places.Place.{Place}
 use Rattle.line_moves.specs.Contents.{IsOn}
 use Rattle.line_moves.specs.Changes.{IsPlaceOf}
 use Rattle.rolled_lines.specs.HalfLaid.{line_behind}
+use Rattle.guarded_root.specs.Guarded.{AddsOnly}
 use Rattle.guarded_lines.specs.Laying.{IsOfArea}
 
 -- The lines of the backup and the writes that are laid over them; how many pages an area file may have; a number that no transaction's reaches; and whose each page of an area file is in the end, with its class.
@@ -71,10 +73,13 @@ IsUnderWay forward image = (f : FileId) (i : ℕ) → MayHold forward f i (image
 abbrev pub IsReady : Forward → View → Type 0
 IsReady forward v = (f : FileId) (i : ℕ) (x : List ℕ) → Pending v f i x → MayHold forward f i x
 
--- so at every moment of a run
-pub record KeepsReady (forward : Forward) (old new : View) : Type 0 where
-  pub ready : IsReady forward old → IsReady forward new
-  pub leaves : IsReady forward old → LeavesOnly old new (IsUnderWay forward)
+-- a slot of an area file with what it may hold
+abbrev pub IsHeld : Forward → FileId → ℕ → List ℕ → Type 0
+IsHeld forward f i x = (f.kind ≡ Area) × MayHold forward f i x
+
+-- A run of calls adds none but such slots to what a crash may leave, at every moment.
+abbrev pub KeepsReady : Forward → View → View → Type 0
+KeepsReady forward old new = IsReady forward old → AddsOnly (IsHeld forward) old new
 
 -- ---- which groups may be laid
 

@@ -12,28 +12,28 @@ use Rattle.laid_groups.proofs.Running.{none_ready, none_laid}
 use Rattle.laid_groups.proofs.Walking.{above_one, above_none, its_fit, its_writes}
 use Rattle.laid_groups.proofs.groups.lay_above.Goals as goal
 
-pub returns-then-last-clause-bad : goal.returns-then-last-clause-bad
-returns-then-last-clause-bad g c = λ named at is t forward ready fits.
-    let fit = its_fit forward c.args.last c.args.group c.if-last.true fits in
+pub returns-then-last-group-clause-bad : goal.returns-then-last-group-clause-bad
+returns-then-last-group-clause-bad g c = λ named at is t forward ready fits.
+    let fit = its_fit forward c.args.last c.args.group c.if-last-group.true fits in
     c.lay_lines.ensures.bad named at is t forward ready fit.each fit.tsn fit.few
 
-pub returns-then-last-clause-laid : goal.returns-then-last-clause-laid
-returns-then-last-clause-laid g c = let v = g.D.Disk.view in let old = v c.args.disk.now in let new = v c.lay_lines.new.disk in
+pub returns-then-last-group-clause-laid : goal.returns-then-last-group-clause-laid
+returns-then-last-group-clause-laid g c = let v = g.D.Disk.view in let old = v c.args.disk.now in let new = v c.lay_lines.new.disk in
     on_ok _ _ c.lay_lines.result (λ laid t forward ready fits.
-    let fit = its_fit forward c.args.last c.args.group c.if-last.true fits in
-    subst (λ (ws : List Write). LaidOver forward ws old.content new.content) (its_writes c.args.last c.args.group c.if-last.true) (laid t forward ready fit.each fit.tsn)) c.lay_lines.ensures.laid
+    let fit = its_fit forward c.args.last c.args.group c.if-last-group.true fits in
+    subst (λ (ws : List Write). LaidOver forward ws old.content new.content) (its_writes c.args.last c.args.group c.if-last-group.true) (laid t forward ready fit.each fit.tsn)) c.lay_lines.ensures.laid
 
-pub returns-then-last-clause-ready : goal.returns-then-last-clause-ready
-returns-then-last-clause-ready g c = λ t forward fits.
-    let fit = its_fit forward c.args.last c.args.group c.if-last.true fits in
+pub returns-then-last-group-clause-ready : goal.returns-then-last-group-clause-ready
+returns-then-last-group-clause-ready g c = λ t forward fits.
+    let fit = its_fit forward c.args.last c.args.group c.if-last-group.true fits in
     c.lay_lines.ensures.ready t forward fit.each fit.tsn
 
-pub returns-else-last-clause-runs : goal.returns-else-last-clause-runs
-returns-else-last-clause-runs g c = no_run IsArea (g.D.Disk.view c.args.disk.now)
+pub returns-else-last-group-clause-runs : goal.returns-else-last-group-clause-runs
+returns-else-last-group-clause-runs g c = no_run IsArea (g.D.Disk.view c.args.disk.now)
 
-pub returns-else-last-clause-ready : goal.returns-else-last-clause-ready
-returns-else-last-clause-ready g c = λ t forward fits. none_ready forward (g.D.Disk.view c.args.disk.now)
+pub returns-else-last-group-clause-ready : goal.returns-else-last-group-clause-ready
+returns-else-last-group-clause-ready g c = λ t forward fits. none_ready forward (g.D.Disk.view c.args.disk.now)
 
-pub returns-else-last-clause-laid : goal.returns-else-last-clause-laid
-returns-else-last-clause-laid g c = let old = g.D.Disk.view c.args.disk.now in λ t forward ready fits.
-    subst (λ (gs : List Group). LaidOver forward (writes_of gs) old.content old.content) (sym (above_none c.args.last c.args.group c.if-last.false)) (none_laid forward old.content)
+pub returns-else-last-group-clause-laid : goal.returns-else-last-group-clause-laid
+returns-else-last-group-clause-laid g c = let old = g.D.Disk.view c.args.disk.now in λ t forward ready fits.
+    subst (λ (gs : List Group). LaidOver forward (writes_of gs) old.content old.content) (sym (above_none c.args.last c.args.group c.if-last-group.false)) (none_laid forward old.content)

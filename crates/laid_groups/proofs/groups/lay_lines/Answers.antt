@@ -5,7 +5,7 @@ use Rattle.stable_lines.specs.Journal.{write_of}
 use Rattle.guarded_lines.specs.Laying.{IsArea}
 use Rattle.guarded_root.proofs.Sweeping.{no_run, run_on}
 use Rattle.laid_groups.specs.Laid.{LaidOver}
-use Rattle.laid_groups.proofs.Running.{none_ready, ready_on, none_laid, laid_on}
+use Rattle.laid_groups.proofs.Running.{still_ready, none_ready, ready_on, none_laid, laid_on}
 use Rattle.laid_groups.proofs.Stepping.{lent, next_of, all_of}
 use Rattle.laid_groups.proofs.groups.lay_lines.Goals as goal
 
@@ -17,7 +17,7 @@ pub returns-in_err-lay_one-clause-bad : goal.returns-in_err-lay_one-clause-bad
 returns-in_err-lay_one-clause-bad g c = let v = g.D.Disk.view in let old = v c.args.disk.now in let mid = v c.loop-line.disk in let so_far = c.loop-line.invariant in
     λ named at is t forward ready fits few top.
     let got = lent c.args.lines.now c.loop-line.line-index c.line-item.result c.loop-line-test.true c.line-item.is in
-    c.lay_one.ensures.bad named at (search rules) (still_tells old mid so_far.runs.told t) forward ((so_far.ready t forward fits few).ready ready) (fits c.loop-line.line-index c.line-item.result got) (omega (arith, few, top))
+    c.lay_one.ensures.bad named at (search rules) (still_tells old mid so_far.runs.told t) forward (still_ready forward old mid (so_far.ready t forward fits few ready) ready) (fits c.loop-line.line-index c.line-item.result got) (omega (arith, few, top))
 
 pub returns-in_err-lay_one-clause-runs : goal.returns-in_err-lay_one-clause-runs
 returns-in_err-lay_one-clause-runs g c = let v = g.D.Disk.view in run_on IsArea (v c.args.disk.now) (v c.loop-line.disk) (v c.lay_one.new.disk) c.loop-line.invariant.runs c.lay_one.ensures.runs
@@ -38,7 +38,7 @@ loop-line-preserved g c = let v = g.D.Disk.view in let old = v c.args.disk.now i
       laid = λ t forward ready fits few.
           subst (λ (ws : List Write). LaidOver forward ws old.content new.content) (next_of write_of c.args.lines.now i line got)
           (laid_on forward (map write_of (take i c.args.lines.now)) (write_of line ∷ []) old.content mid.content new.content (so_far.laid t forward ready fits few)
-          (c.in_ok-lay_one.ensures.laid (still_tells old mid so_far.runs.told t) forward ((so_far.ready t forward fits few).ready ready) (fits i line got)));
+          (c.in_ok-lay_one.ensures.laid (still_tells old mid so_far.runs.told t) forward (still_ready forward old mid (so_far.ready t forward fits few ready) ready) (fits i line got)));
     }
 
 pub returns-clause-laid : goal.returns-clause-laid

@@ -6,8 +6,9 @@ use Rattle.line_moves.proofs.Runs.{on_ok, still_tells}
 use Rattle.line_opening.proofs.Passed.{image_same}
 use Rattle.guarded_lines.specs.Laying.{IsArea}
 use Rattle.guarded_root.proofs.Sweeping.{no_run, read_run, run_on}
+use Rattle.laid_groups.specs.Forward.{KeepsReady}
 use Rattle.laid_groups.specs.Passing.{IsJournalIn}
-use Rattle.laid_groups.proofs.Running.{none_ready, read_ready, ready_on, laid_from, laid_to}
+use Rattle.laid_groups.proofs.Running.{still_ready, none_ready, read_ready, ready_on, laid_from, laid_to}
 use Rattle.laid_groups.proofs.Walking.{seen, AtGroup, begins, LaidUpTo, none_yet, fits_here, one_more, at_next, all_laid, last_is, stood_in, none_in, plain_file}
 use Rattle.laid_groups.proofs.journals.lay_groups.Goals as goal
 
@@ -66,8 +67,8 @@ returns-in_err-lay_above-clause-bad g c = let v = g.D.Disk.view in let old = v c
     let still = λ (s : ℕ). (so_far.runs.others t c.args.file (plain_file c.args.file c.requires.size)).content s in
     let stands = stood_in old.content mid.content c.args.file c.loop-group.slot c.in-Some.group still (c.in_ok-group.ensures.stands told c.in-Some.group found) in
     let here = fits_here forward journal (seen old.content c.args.file) is c.args.last c.loop-group.slot c.loop-group.number c.in-Some.group whole stands (so_far.at t journal is same) fits in
-    let before = ready_on forward old mid read (so_far.ready t forward journal is same fits) (read_ready forward mid read told c.group_at.ensures.reads) in
-    c.lay_above.ensures.bad named at (search rules) (still_tells mid read c.group_at.ensures.reads.told told) forward (before.ready ready) here
+    let before : KeepsReady forward old read = ready_on forward old mid read (so_far.ready t forward journal is same fits) (read_ready forward mid read told c.group_at.ensures.reads) in
+    c.lay_above.ensures.bad named at (search rules) (still_tells mid read c.group_at.ensures.reads.told told) forward (still_ready forward old read (before ready) ready) here
 
 pub returns-in_err-lay_above-clause-runs : goal.returns-in_err-lay_above-clause-runs
 returns-in_err-lay_above-clause-runs g c = let v = g.D.Disk.view in let old = v c.args.disk.now in let mid = v c.loop-group.disk in let read = v c.group_at.new.disk in let new = v c.lay_above.new.disk in let so_far = c.loop-group.invariant in
@@ -94,7 +95,7 @@ loop-group-preserved g c = let v = g.D.Disk.view in let old = v c.args.disk.now 
           let whole = c.in_ok-group.ensures.whole c.in-Some.group found in
           let still = λ (s : ℕ). (so_far.runs.others t c.args.file (plain_file c.args.file c.requires.size)).content s in
           let stands = stood_in old.content mid.content c.args.file c.loop-group.slot c.in-Some.group still (c.in_ok-group.ensures.stands told c.in-Some.group found) in
-          subst (λ (n : ℕ). AtGroup journal (c.loop-group.slot + (n + 1)) (c.loop-group.number + 1)) (sym c.len.ensures)
+          subst (λ (n : ℕ). AtGroup journal (c.loop-group.slot + (n + 1)) (c.loop-group.number + 1)) (sym c.len-lines.ensures)
           (at_next journal (seen old.content c.args.file) is c.loop-group.slot c.loop-group.number c.in-Some.group whole stands (so_far.at t journal is same));
       ready = λ t forward journal is same fits. let told = still_tells old mid so_far.runs.told t in
           let found : c.in_ok-group.field-0 ≡ Some c.in-Some.group = search rules in
@@ -109,9 +110,9 @@ loop-group-preserved g c = let v = g.D.Disk.view in let old = v c.args.disk.now 
           let still = λ (s : ℕ). (so_far.runs.others t c.args.file (plain_file c.args.file c.requires.size)).content s in
           let stands = stood_in old.content mid.content c.args.file c.loop-group.slot c.in-Some.group still (c.in_ok-group.ensures.stands told c.in-Some.group found) in
           let here = fits_here forward journal (seen old.content c.args.file) is c.args.last c.loop-group.slot c.loop-group.number c.in-Some.group whole stands (so_far.at t journal is same) fits in
-          let before = ready_on forward old mid read (so_far.ready t forward journal is same fits) (read_ready forward mid read told c.group_at.ensures.reads) in
-          let laid = c.in_ok-lay_above.ensures.laid (still_tells mid read c.group_at.ensures.reads.told told) forward (before.ready ready) here in
-          subst (λ (n : ℕ). LaidUpTo forward journal c.args.last (c.loop-group.slot + (n + 1)) (c.loop-group.number + 1) old.content new.content) (sym c.len.ensures)
+          let before : KeepsReady forward old read = ready_on forward old mid read (so_far.ready t forward journal is same fits) (read_ready forward mid read told c.group_at.ensures.reads) in
+          let laid = c.in_ok-lay_above.ensures.laid (still_tells mid read c.group_at.ensures.reads.told told) forward (still_ready forward old read (before ready) ready) here in
+          subst (λ (n : ℕ). LaidUpTo forward journal c.args.last (c.loop-group.slot + (n + 1)) (c.loop-group.number + 1) old.content new.content) (sym c.len-lines.ensures)
           (one_more forward journal (seen old.content c.args.file) is c.args.last c.loop-group.slot c.loop-group.number c.in-Some.group whole stands old.content mid.content new.content (so_far.laid t forward journal ready is same fits)
           (laid_from forward (writes_of (groups_above c.args.last (c.in-Some.group ∷ []))) mid.content read.content new.content (image_same mid read c.group_at.ensures.reads told) laid));
     }
