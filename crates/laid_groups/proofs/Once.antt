@@ -26,7 +26,7 @@ use Rattle.laid_groups.proofs.Slots.{page_was, space_was, room, may_slot}
 use Rattle.laid_groups.proofs.Stepping.{allowed, laid_one}
 
 -- a line has one place
-one_place : (key : Dbkey) (a b : Place) → IsPlaceOf key a → IsPlaceOf key b → a ≡ b
+pub one_place : (key : Dbkey) (a b : Place) → IsPlaceOf key a → IsPlaceOf key b → a ≡ b
 one_place key a b first second =
     let files = file_is key a first ∙ sym (file_is key b second) in
     let pages = first.page ∙ sym second.page in

@@ -1,4 +1,5 @@
 use Rattle.std.proofs.Common.{rules, ◌≡◌, ◌∙◌, ◌+◌, ◌≤◌, ◌∷◌, [], ℕ, max, Some, None, IsTrue, ap, sym, subst, refl, arith}
+use Rattle.std.proofs.lemmas.Result.{err_from_is_err_and}
 use Rattle.stable_lines.specs.Rolling.{groups_above}
 use Rattle.rolled_lines.specs.HalfLaid.{writes_of}
 use Rattle.rdb_outside.specs.Disk.{Image}
@@ -23,7 +24,9 @@ loop-group-init g c = let before = g.D.Disk.view c.args.disk.now in
     }
 
 pub returns-in_err-group-clause-bad : goal.returns-in_err-group-clause-bad
-returns-in_err-group-clause-bad g c = ?
+returns-in_err-group-clause-bad g c = λ named at is t forward journal ready has same fits.
+    let p = err_from_is_err_and c.from_residual.result c.from_residual.ensures.1 in
+    c.group_at.ensures.no_header (?)
 
 pub returns-in_err-group-clause-runs : goal.returns-in_err-group-clause-runs
 returns-in_err-group-clause-runs g c = let v = g.D.Disk.view in
