@@ -4,3 +4,4 @@ pub mod Slots
 pub mod Stepping
 pub mod Once
 pub mod Walking
+pub mod Faults

@@ -75,7 +75,7 @@ returns-in_err-write_guarded-clause-adds g c = let v = g.D.Disk.view in let old 
     let room_y = subst (λ (b : List ℕ). HasRoom key c.args.class b) (sym same) room in
     let page_z = started_page key place c.args.class y z c.requires.place c.start.ensures.started page_y in
     let with_it : BearsLine key place c.args.class c.args.value.now (old.content f at) x = subst (λ (b : List ℕ). BearsLine key place c.args.class c.args.value.now b x) same
-        (bears key place c.args.class y z c.requires.place c.start.ensures.started room_y c.args.value.now x (c.in-Ok.ensures.puts page_z) (c.in-Ok.ensures.here page_z)) in
+    (bears key place c.args.class y z c.requires.place c.start.ensures.started room_y c.args.value.now x (c.in-Ok.ensures.puts page_z) (c.in-Ok.ensures.here page_z)) in
     adds_on (IsLineSlot old.content key place c.args.class c.args.value.now) old mid new (adds_read (IsLineSlot old.content key place c.args.class c.args.value.now) old mid t reads)
     (adds_more (IsWrite c.area_file-file.result c.slot_of-slot.result x) (IsLineSlot old.content key place c.args.class c.args.value.now) mid new
     (λ g i b is. (is.0 ∙ c.area_file-file.ensures, is.1 ∙ c.slot_of-slot.ensures, subst (λ (l : List ℕ). BearsLine key place c.args.class c.args.value.now (old.content f at) l) (sym is.2) with_it))
@@ -92,7 +92,7 @@ returns-clause-adds g c = let v = g.D.Disk.view in let old = v c.args.disk.now i
     let room_y = subst (λ (b : List ℕ). HasRoom key c.args.class b) (sym same) room in
     let page_z = started_page key place c.args.class y z c.requires.place c.start.ensures.started page_y in
     let with_it : BearsLine key place c.args.class c.args.value.now (old.content f at) x = subst (λ (b : List ℕ). BearsLine key place c.args.class c.args.value.now b x) same
-        (bears key place c.args.class y z c.requires.place c.start.ensures.started room_y c.args.value.now x (c.in-Ok.ensures.puts page_z) (c.in-Ok.ensures.here page_z)) in
+    (bears key place c.args.class y z c.requires.place c.start.ensures.started room_y c.args.value.now x (c.in-Ok.ensures.puts page_z) (c.in-Ok.ensures.here page_z)) in
     adds_on (IsLineSlot old.content key place c.args.class c.args.value.now) old mid new (adds_read (IsLineSlot old.content key place c.args.class c.args.value.now) old mid t reads)
     (adds_more (IsWrite c.area_file-file.result c.slot_of-slot.result x) (IsLineSlot old.content key place c.args.class c.args.value.now) mid new
     (λ g i b is. (is.0 ∙ c.area_file-file.ensures, is.1 ∙ c.slot_of-slot.ensures, subst (λ (l : List ℕ). BearsLine key place c.args.class c.args.value.now (old.content f at) l) (sym is.2) with_it))

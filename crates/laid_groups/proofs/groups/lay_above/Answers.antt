@@ -29,4 +29,3 @@ pub returns-then-last-group-clause-ready : goal.returns-then-last-group-clause-r
 returns-then-last-group-clause-ready g c = λ t forward fits.
     let fit = its_fit forward c.args.last c.args.group c.if-last-group.true fits in
     c.lay_lines.ensures.ready t forward (subst (λ (ls : List GroupLine). FitLines forward ls) (sym c.as_slice.ensures) fit.each) fit.tsn
-

@@ -1,5 +1,6 @@
-use Rattle.std.proofs.Common.{rules, ◌≡◌, ◌∙◌, ◌+◌, ◌≤◌, ◌∷◌, [], ℕ, max, Some, None, IsTrue, ap, sym, subst, refl, arith}
+use Rattle.std.proofs.Common.{rules, ◌≡◌, ◌∙◌, ◌+◌, ◌≤◌, ◌∷◌, [], ℕ, max, Some, None, Err, IsTrue, ap, sym, subst, refl, arith}
 use Rattle.std.proofs.lemmas.Result.{err_from_is_err_and}
+use Rattle.journal_reading.specs.declared.reading.AijFault.{AijFault}
 use Rattle.stable_lines.specs.Rolling.{groups_above}
 use Rattle.rolled_lines.specs.HalfLaid.{writes_of}
 use Rattle.rdb_outside.specs.Disk.{Image}
@@ -9,6 +10,7 @@ use Rattle.guarded_lines.specs.Laying.{IsArea}
 use Rattle.guarded_root.proofs.Sweeping.{no_run, read_run, run_on}
 use Rattle.laid_groups.specs.Forward.{KeepsReady}
 use Rattle.laid_groups.specs.Passing.{IsJournalIn}
+use Rattle.laid_groups.proofs.Faults.{err_same, only_header}
 use Rattle.laid_groups.proofs.Running.{still_ready, none_ready, read_ready, ready_on, laid_from, laid_to}
 use Rattle.laid_groups.proofs.Walking.{seen, AtGroup, begins, LaidUpTo, none_yet, fits_here, one_more, at_next, all_laid, last_is, stood_in, none_in, plain_file}
 use Rattle.laid_groups.proofs.journals.lay_groups.Goals as goal
@@ -26,7 +28,7 @@ loop-group-init g c = let before = g.D.Disk.view c.args.disk.now in
 pub returns-in_err-group-clause-bad : goal.returns-in_err-group-clause-bad
 returns-in_err-group-clause-bad g c = λ named at is t forward journal ready has same fits.
     let p = err_from_is_err_and c.from_residual.result c.from_residual.ensures.1 in
-    c.group_at.ensures.no_header (?)
+    c.group_at.ensures.no_header (c.in_err-group.was ∙ ap (λ (f : AijFault). Err f) (only_header c.in_err-group.field-0.0 named at (sym p.2 ∙ err_same _ _ (sym p.1 ∙ is))))
 
 pub returns-in_err-group-clause-runs : goal.returns-in_err-group-clause-runs
 returns-in_err-group-clause-runs g c = let v = g.D.Disk.view in
