@@ -1,7 +1,7 @@
 -- A roll-forward: what it goes by, what it leaves at each moment, and what behind it.
-use Rattle.std.specs.Prelude.{ℕ, ◌≤◌, ◌<◌, ◌≡◌, ◌⊎◌, List, length, slice_get, Some}
+use Rattle.std.specs.Prelude.{ℕ, ◌≤◌, ◌<◌, ◌≡◌, ◌≢◌, ◌⊎◌, List, length, slice_get, Some}
 use Rattle.rdb_types.specs.declared.file.FileId.{FileId}
-use Rattle.rdb_types.specs.declared.file.FileKind.TheVariants.{Aij, AijBackup}
+use Rattle.rdb_types.specs.declared.file.FileKind.TheVariants.{Area, Aij, AijBackup}
 use Rattle.rdb_types.specs.declared.keys.Dbkey.{Dbkey}
 use Rattle.rdb_outside.specs.Disk.{Image, View, Pending, IsPending}
 use Rattle.root_file.specs.declared.Root.{Root}
@@ -37,6 +37,11 @@ pub record IsRootBefore (root : Root) (slot : List ℕ) : Type 0 where
   pub state : ℕ
   pub is : IsRoot slot (record root { state = state })
   pub before : (state ≡ 3) ⊎ (state ≡ 4)
+
+-- neither the root's file nor that of a storage area
+pub record IsOther (file : FileId) : Type 0 where
+  pub root : file ≢ root_file
+  pub area : file.kind ≢ Area
 
 -- ---- what stands before
 

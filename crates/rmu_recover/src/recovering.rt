@@ -44,3 +44,134 @@ fn standing_root<D: Disk>(disk: &mut D) -> Result<Root, Fault>
         Err(_) => Err(Fault::Bad(root_file(), 0)),
     }
 }
+
+// Lays the groups of the journals behind a root that says that they are laid in part.
+fn carry_out<D: Disk>(
+    alloc: Global,
+    disk: &mut D,
+    copies: &[u32],
+    root: Root,
+    ceiling: u64,
+) -> Result<(), OpeningFault>
+    requires allowed { IsAllowed root }
+    requires first { 1 ≤ ceiling }
+    requires few { ceiling ≤ 2 ^ 62 }
+    ensures told { (D.view disk.new).tells ≡ (D.view disk.old).tells }
+    ensures no_fewer { (D.view disk.old).faults ≤ (D.view disk.new).faults }
+    ensures failed { IsErrOf result OpeningFault.Failed
+        → Rose (D.view disk.old).faults (D.view disk.new).faults }
+    ensures bad { (file : File) (slot : ℕ) → IsErrOf result (OpeningFault.Bad file slot)
+        → IsTrue (D.view disk.old).tells → (former : Content) (forward : Forward)
+        → (journals : List Journal) (groups : List Group) (aij : Journal)
+        → IsToRoll former root forward (D.view disk.old)
+        → IsSource former copies.now root forward journals groups aij → ⊥ }
+    ensures rolled { OnOk result (IsTrue (D.view disk.old).tells → (former : Content) (forward : Forward)
+        → (journals : List Journal) (groups : List Group) (aij : Journal) (classes : ℕ → ℕ)
+        → IsToRoll former root forward (D.view disk.old)
+        → IsSource former copies.now root forward journals groups aij
+        → AreSound forward groups classes → ceiling ≡ forward.top
+        → (image : Content) → LeftNow (D.view disk.new) image
+        → IsRolled classes root forward groups aij image) }
+    ensures within { IsTrue (D.view disk.old).tells → (former : Content) (forward : Forward)
+        → (journals : List Journal) (groups : List Group) (aij : Journal) (classes : ℕ → ℕ)
+        → IsToRoll former root forward (D.view disk.old)
+        → IsSource former copies.now root forward journals groups aij
+        → AreSound forward groups classes → ceiling ≡ forward.top
+        → LeavesOnly (D.view disk.old) (D.view disk.new)
+        (WithinRecover (D.view disk.old) former classes root forward groups aij) }
+    ensures others { IsTrue (D.view disk.old).tells → (file : File) → IsOther file
+        → KeepsFile file (D.view disk.old) (D.view disk.new) }
+{
+    let unfinished = Root {
+        state: 4,
+        ..root
+    };
+    let rolled = Root {
+        state: 1,
+        ceiling,
+        ..root
+    };
+    guard(disk, &unfinished)?;
+    lay_all(alloc, disk, copies, root.applied)?;
+    unguard(disk, &rolled)?;
+    Ok(())
+}
+
+/// Rolls a database that was restored, or rolled forward in part, forward over the copies of its after-image journal of these numbers, in their order, and that journal: each group above the last one that the root says is laid over the pages, and the database is in use behind it. It answers how many groups were laid, and none for a database in use, which it leaves as it is. The journals are read before anything is written; then each again, with one group in memory at a time. Behind a fault the same roll-forward begins again.
+pub fn recover<D: Disk>(
+    alloc: Global,
+    disk: &mut D,
+    copies: &[u32],
+) -> Result<u64, RecoverFault>
+    // It doesn't give up by itself.
+    ensures told { (D.view disk.new).tells ≡ (D.view disk.old).tells }
+    ensures no_fewer { (D.view disk.old).faults ≤ (D.view disk.new).faults }
+    ensures failed { IsErrOf result RecoverFault.Failed
+        → Rose (D.view disk.old).faults (D.view disk.new).faults }
+
+    // Where a group is missing it says which, and has written nothing.
+    ensures gap { (number : ℕ) → IsErrOf result (RecoverFault.Gap number)
+        → IsTrue (D.view disk.old).tells → (former : Content) (root : Values) (forward : Forward)
+        → (journals : List Journal) → IsToRoll former root forward (D.view disk.old)
+        → AreJournalsIn former (files_of copies.now) journals
+        → follow root.applied journals ≡ gap_at number }
+    ensures nothing { (number : ℕ) → IsErrOf result (RecoverFault.Gap number)
+        → OnlyReads (D.view disk.old) (D.view disk.new) }
+
+    // Journals that follow on, with groups that fit, are never refused.
+    ensures bad { (file : File) (slot : ℕ) → IsErrOf result (RecoverFault.Bad file slot)
+        → IsTrue (D.view disk.old).tells → (former : Content) (root : Values) (forward : Forward)
+        → (journals : List Journal) (groups : List Group) (aij : Journal)
+        → IsToRoll former root forward (D.view disk.old)
+        → IsSource former copies.now root forward journals groups aij → ⊥ }
+
+    // A database in use is left as it is.
+    ensures in_use { IsTrue (D.view disk.old).tells → (root : Values)
+        → IsRoot ((D.view disk.old).content root_named 0) root → root.state ≡ 1
+        → OnlyReads (D.view disk.old) (D.view disk.new) }
+
+    // Then each image stands for the lines rolled forward, and is in use.
+    ensures count { IfOk result (λ count. IsTrue (D.view disk.old).tells
+        → (former : Content) (root : Values) (forward : Forward)
+        → (journals : List Journal) (groups : List Group) (aij : Journal)
+        → IsToRoll former root forward (D.view disk.old)
+        → IsSource former copies.now root forward journals groups aij
+        → count ≡ length groups) }
+    ensures rolled { OnOk result (IsTrue (D.view disk.old).tells
+        → (former : Content) (root : Values) (forward : Forward)
+        → (journals : List Journal) (groups : List Group) (aij : Journal) (classes : ℕ → ℕ)
+        → IsToRoll former root forward (D.view disk.old)
+        → IsSource former copies.now root forward journals groups aij
+        → AreSound forward groups classes
+        → (image : Content) → LeftNow (D.view disk.new) image
+        → IsRolled classes root forward groups aij image) }
+
+    // Whatever it answers, a crash at any moment of it leaves what one before might have left, an image that is rolled forward in part, from which this very roll-forward gives the same, or that.
+    ensures within { IsTrue (D.view disk.old).tells
+        → (former : Content) (root : Values) (forward : Forward)
+        → (journals : List Journal) (groups : List Group) (aij : Journal) (classes : ℕ → ℕ)
+        → IsToRoll former root forward (D.view disk.old)
+        → IsSource former copies.now root forward journals groups aij
+        → AreSound forward groups classes
+        → LeavesOnly (D.view disk.old) (D.view disk.new)
+        (WithinRecover (D.view disk.old) former classes root forward groups aij) }
+
+    // Whatever it answers, no other file than the root's and those of areas is written.
+    ensures others { IsTrue (D.view disk.old).tells → (file : File) → IsOther file
+        → KeepsFile file (D.view disk.old) (D.view disk.new) }
+{
+    let root = standing_root(disk)?;
+    if root.state == 1 {
+        return Ok(0);
+    }
+    if root.state == 2 {
+        return Err(RecoverFault::Bad(root_file(), 0));
+    }
+    let at = Reached {
+        last: root.applied,
+        ceiling: root.ceiling,
+    };
+    let reached = pass_all(disk, copies, at)?;
+    carry_out(alloc, disk, copies, root, reached.ceiling)?;
+    Ok(reached.last - root.applied)
+}

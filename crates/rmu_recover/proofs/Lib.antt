@@ -1,0 +1,4 @@
+pub mod Following
+pub mod Walking
+pub mod Ended
+pub mod Course
