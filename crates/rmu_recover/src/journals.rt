@@ -13,8 +13,8 @@ ghost use Rattle.guarded_root.specs.Guarded.{RunsBehind};
 ghost use Rattle.guarded_lines.specs.Laying.{IsArea};
 ghost use Rattle.laid_groups.specs.Forward.{Forward, FitAll, IsReady, KeepsReady};
 ghost use Rattle.laid_groups.specs.Laid.{LaidOver};
-ghost use Rattle.laid_groups.specs.Passing.{IsJournalIn, reached_behind};
-ghost use Rattle.rmu_recover.specs.Journals.{files_of, AreJournalsIn, FollowsTo};
+ghost use Rattle.laid_groups.specs.Passing.{IsJournalIn};
+ghost use Rattle.rmu_recover.specs.Journals.{files_of, AreJournalsIn, Reaches, FollowsTo};
 
 use crate::RecoverFault;
 use laid_groups::{Reached, lay_journal, pass_journal};
@@ -49,10 +49,8 @@ fn pass_next<D: Disk>(disk: &mut D, file: FileId, at: Reached) -> Result<Reached
     ensures gap { (number : ℕ) → IsErrOf result (RecoverFault.Gap number)
         → IsTrue (D.view disk.old).tells → (journal : Journal)
         → IsJournalIn (D.view disk.old).content file journal → at.last + 1 < journal.first }
-    ensures no_gap { IfOk result (λ reached. IsTrue (D.view disk.old).tells → (journal : Journal)
-        → IsJournalIn (D.view disk.old).content file journal → journal.first ≤ at.last + 1) }
     ensures reached { IfOk result (λ reached. IsTrue (D.view disk.old).tells → (journal : Journal)
-        → IsJournalIn (D.view disk.old).content file journal → reached ≡ reached_behind at journal) }
+        → IsJournalIn (D.view disk.old).content file journal → Reaches at journal reached) }
     ensures grows { IfOk result (λ reached. at.last ≤ reached.last) }
     ensures last { IfOk result (λ reached. reached.last < 2 ^ 63) }
     ensures above { IfOk result (λ reached. at.ceiling ≤ reached.ceiling) }

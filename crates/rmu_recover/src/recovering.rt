@@ -64,7 +64,7 @@ fn carry_out<D: Disk>(
         → IsTrue (D.view disk.old).tells → (former : Content) (forward : Forward)
         → (journals : List Journal) (groups : List Group) (aij : Journal)
         → IsToRoll former root forward (D.view disk.old)
-        → IsSource former copies.now root forward journals groups aij → ⊥ }
+        → IsSource former copies.now root forward journals groups aij → ceiling ≡ forward.top → ⊥ }
     ensures rolled { OnOk result (IsTrue (D.view disk.old).tells → (former : Content) (forward : Forward)
         → (journals : List Journal) (groups : List Group) (aij : Journal) (classes : ℕ → ℕ)
         → IsToRoll former root forward (D.view disk.old)
@@ -95,6 +95,64 @@ fn carry_out<D: Disk>(
     lay_all(alloc, disk, copies, root.applied)?;
     unguard(disk, &rolled)?;
     Ok(())
+}
+
+// Rolls a database with this root forward.
+fn roll<D: Disk>(
+    alloc: Global,
+    disk: &mut D,
+    copies: &[u32],
+    root: Root,
+) -> Result<u64, RecoverFault>
+    requires allowed { IsAllowed root }
+    ensures told { (D.view disk.new).tells ≡ (D.view disk.old).tells }
+    ensures no_fewer { (D.view disk.old).faults ≤ (D.view disk.new).faults }
+    ensures failed { IsErrOf result RecoverFault.Failed
+        → Rose (D.view disk.old).faults (D.view disk.new).faults }
+    ensures gap { (number : ℕ) → IsErrOf result (RecoverFault.Gap number)
+        → IsTrue (D.view disk.old).tells → (former : Content) (forward : Forward)
+        → (journals : List Journal) → IsToRoll former root forward (D.view disk.old)
+        → AreJournalsIn former (files_of copies.now) journals
+        → follow root.applied journals ≡ gap_at number }
+    ensures nothing { (number : ℕ) → IsErrOf result (RecoverFault.Gap number)
+        → OnlyReads (D.view disk.old) (D.view disk.new) }
+    ensures bad { (file : File) (slot : ℕ) → IsErrOf result (RecoverFault.Bad file slot)
+        → IsTrue (D.view disk.old).tells → (former : Content) (forward : Forward)
+        → (journals : List Journal) (groups : List Group) (aij : Journal)
+        → IsToRoll former root forward (D.view disk.old)
+        → IsSource former copies.now root forward journals groups aij → ⊥ }
+    ensures count { IfOk result (λ count. IsTrue (D.view disk.old).tells
+        → (former : Content) (forward : Forward)
+        → (journals : List Journal) (groups : List Group) (aij : Journal)
+        → IsToRoll former root forward (D.view disk.old)
+        → IsSource former copies.now root forward journals groups aij
+        → count ≡ length groups) }
+    ensures rolled { OnOk result (IsTrue (D.view disk.old).tells
+        → (former : Content) (forward : Forward)
+        → (journals : List Journal) (groups : List Group) (aij : Journal) (classes : ℕ → ℕ)
+        → IsToRoll former root forward (D.view disk.old)
+        → IsSource former copies.now root forward journals groups aij
+        → AreSound forward groups classes
+        → (image : Content) → LeftNow (D.view disk.new) image
+        → IsRolled classes root forward groups aij image) }
+    ensures within { IsTrue (D.view disk.old).tells
+        → (former : Content) (forward : Forward)
+        → (journals : List Journal) (groups : List Group) (aij : Journal) (classes : ℕ → ℕ)
+        → IsToRoll former root forward (D.view disk.old)
+        → IsSource former copies.now root forward journals groups aij
+        → AreSound forward groups classes
+        → LeavesOnly (D.view disk.old) (D.view disk.new)
+        (WithinRecover (D.view disk.old) former classes root forward groups aij) }
+    ensures others { IsTrue (D.view disk.old).tells → (file : File) → IsOther file
+        → KeepsFile file (D.view disk.old) (D.view disk.new) }
+{
+    let at = Reached {
+        last: root.applied,
+        ceiling: root.ceiling,
+    };
+    let reached = pass_all(disk, copies, at)?;
+    carry_out(alloc, disk, copies, root, reached.ceiling)?;
+    Ok(reached.last - root.applied)
 }
 
 /// Rolls a database that was restored, or rolled forward in part, forward over the copies of its after-image journal of these numbers, in their order, and that journal: each group above the last one that the root says is laid over the pages, and the database is in use behind it. It answers how many groups were laid, and none for a database in use, which it leaves as it is. The journals are read before anything is written; then each again, with one group in memory at a time. Behind a fault the same roll-forward begins again.
@@ -167,11 +225,5 @@ pub fn recover<D: Disk>(
     if root.state == 2 {
         return Err(RecoverFault::Bad(root_file(), 0));
     }
-    let at = Reached {
-        last: root.applied,
-        ceiling: root.ceiling,
-    };
-    let reached = pass_all(disk, copies, at)?;
-    carry_out(alloc, disk, copies, root, reached.ceiling)?;
-    Ok(reached.last - root.applied)
+    roll(alloc, disk, copies, root)
 }
