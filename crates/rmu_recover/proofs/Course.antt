@@ -65,7 +65,7 @@ module _ (former : Image) (root : Root) (forward : Forward) where
       space = λ file number is page space same at. absurd (not_area file same);
       past = λ file is same from less. absurd (not_area file same);
     };
-    root = λ same at. record { state = 4; is = it.2; before = inr refl };
+    root_slot = λ same at. record { state = 4; is = it.2; before = inr refl };
     journal = λ is. absurd (⊎_elim (λ (kind : f.kind ≡ Aij). let bad : RootKind ≡ Aij = sym (kind_is f root_file it.0) ∙ kind in (let no : ⊥ = cc in no)) (λ (kind : f.kind ≡ AijBackup). let bad : RootKind ≡ AijBackup = sym (kind_is f root_file it.0) ∙ kind in (let no : ⊥ = cc in no)) is);
     header = λ member is same at. absurd (not_ruj member same);
     none_named = λ member is same at. absurd (not_ruj member same);
@@ -81,7 +81,7 @@ module _ (former : Image) (root : Root) (forward : Forward) where
   may_area : (f : FileId) (i : ℕ) (x : List ℕ) → IsHeld forward f i x → MayStand former root forward f i x
   may_area f i x it = record {
     hold = it.1;
-    root = λ same at. absurd (let bad : Area ≡ RootKind = sym it.0 ∙ kind_is f root_file same in (let no : ⊥ = cc in no));
+    root_slot = λ same at. absurd (let bad : Area ≡ RootKind = sym it.0 ∙ kind_is f root_file same in (let no : ⊥ = cc in no));
     journal = λ is. absurd (⊎_elim (λ (kind : f.kind ≡ Aij). let bad : Area ≡ Aij = sym it.0 ∙ kind in (let no : ⊥ = cc in no)) (λ (kind : f.kind ≡ AijBackup). let bad : Area ≡ AijBackup = sym it.0 ∙ kind in (let no : ⊥ = cc in no)) is);
     header = λ member is same at. absurd (not_ruj member same);
     none_named = λ member is same at. absurd (not_ruj member same);

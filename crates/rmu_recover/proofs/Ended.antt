@@ -22,12 +22,13 @@ use Rattle.line_view.specs.Knowledge.{Lines, IsInOrder, line_in}
 use Rattle.line_view.specs.Writes.{laid_all}
 use Rattle.new_database.specs.Maker.{root_file, aij_file}
 use Rattle.stable_lines.specs.Slots.{ruj_file, area_file, file_of, slot_of, owner_at, IsMember, IsAreaFile, said_at, line_on, line_at, named}
-use Rattle.stable_lines.specs.Journal.{Journal, IsJournalOf, next_number}
+use Rattle.stable_lines.specs.Journal.{Journal, IsJournalOf, next_number, lines_behind}
 use Rattle.stable_lines.specs.Kept.{Kept, IsWellFormed, IsRujHeader, FitsClass, HasNoCommit}
 use Rattle.stable_lines.specs.Rolling.{laid_groups}
+use Rattle.stable_lines.proofs.Laying.{laid_in_order}
 use Rattle.stable_lines.proofs.Never.{nothing_on, zeros_owner, space_owner}
 use Rattle.rolled_lines.specs.HalfLaid.{line_behind, writes_of}
-use Rattle.rolled_lines.proofs.HalfLaid.{seen_behind, seen_again, in_order, after_writes}
+use Rattle.rolled_lines.proofs.HalfLaid.{seen_behind, seen_again, after_writes}
 use Rattle.rolled_lines.proofs.Restored.{restored_stands}
 use Rattle.guarded_root.specs.Guarded.{IsEndOf}
 use Rattle.laid_groups.specs.Forward.{Forward, MayBePage, MayBeSpace, IsWrittenBy}
@@ -88,6 +89,10 @@ off_pages key x off = ap (λ b. if b then said_at (line_place (class_at x) key.l
 pub ceiling_grows : (ceiling : ℕ) (groups : List Group) → ceiling ≤ ceiling_behind ceiling groups
 ceiling_grows ceiling [] = omega arith
 ceiling_grows ceiling (g ∷ groups) = let rest = ceiling_grows (max ceiling (g.tsn.number + 1)) groups in grind (arith, rest)
+
+groups_in_order : (groups : List Group) (lines : Lines) → IsInOrder lines → IsInOrder (laid_groups groups lines)
+groups_in_order [] lines is = is
+groups_in_order (g ∷ groups) lines is = groups_in_order groups (lines_behind g lines) (laid_in_order g.lines lines is)
 
 -- ---- the image
 
@@ -184,7 +189,7 @@ module _ (former : Image) (copies : List ℕ) (root : Root) (forward : Forward) 
         ∙ ap (line_in key) (sym (after_writes groups forward.base))
 
     sorted : IsInOrder (laid_groups groups forward.base)
-    sorted = subst IsInOrder (sym (after_writes groups forward.base)) (in_order (writes_of groups) forward.base sound.in_order)
+    sorted = groups_in_order groups forward.base sound.in_order
 
     -- ---- a kept image
 

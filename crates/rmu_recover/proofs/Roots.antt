@@ -41,7 +41,7 @@ module _ (former : Image) (root : Root) (forward : Forward) (s : ℕ) where
   pub stand_as : (f : FileId) (i : ℕ) (x : List ℕ) → MayStand former root forward f i x → MayStand former (record root { state = s }) forward f i x
   stand_as f i x it = record {
     hold = it.hold;
-    root = λ same at. let was = it.root same at in record { state = was.state; is = was.is; before = was.before };
+    root_slot = λ same at. let was = it.root_slot same at in record { state = was.state; is = was.is; before = was.before };
     journal = it.journal;
     header = it.header;
     none_named = it.none_named;
@@ -51,7 +51,7 @@ module _ (former : Image) (root : Root) (forward : Forward) (s : ℕ) where
   stand_back : (f : FileId) (i : ℕ) (x : List ℕ) → MayStand former (record root { state = s }) forward f i x → MayStand former root forward f i x
   stand_back f i x it = record {
     hold = it.hold;
-    root = λ same at. let was = it.root same at in record { state = was.state; is = was.is; before = was.before };
+    root_slot = λ same at. let was = it.root_slot same at in record { state = was.state; is = was.is; before = was.before };
     journal = it.journal;
     header = it.header;
     none_named = it.none_named;
@@ -96,14 +96,14 @@ module _ (former : Image) (root : Root) (forward : Forward) (s : ℕ) where
             back image is = again image (subst (λ (r : Root). WithinRecover old former classes r forward groups aij image) same is)
 
 -- the root that is read on such a disk
-pub its_root : (former : Image) (root : Root) (forward : Forward) (v : View) → IsToRoll former root forward v → LeftNow v v.content → (code : Root) → IsRoot (v.content root_file 0) code → (s : ℕ) × ((code ≡ record root { state = s }) × ((s ≡ 3) ⊎ (s ≡ 4)))
+pub its_root : (former : Image) (root : Root) (forward : Forward) (v : View) → IsToRoll former root forward v → LeftNow v v.content → (code : Root) → IsRoot (v.content root_file 0) code → (s : ℕ) × (code ≡ record root { state = s }) × ((s ≡ 3) ⊎ (s ≡ 4))
 its_root former root forward v to_roll left code stands =
-    let it = (content_stands former root forward v to_roll left root_file 0).root refl refl in
-    (it.state, (one_root (v.content root_file 0) code (record root { state = it.state }) stands it.is, it.before))
+    let it = (content_stands former root forward v to_roll left root_file 0).root_slot refl refl in
+    (it.state, one_root (v.content root_file 0) code (record root { state = it.state }) stands it.is, it.before)
 
 pub has_root : (former : Image) (root : Root) (forward : Forward) (v : View) → IsToRoll former root forward v → LeftNow v v.content → (code : Root) × IsRoot (v.content root_file 0) code
 has_root former root forward v to_roll left =
-    let it = (content_stands former root forward v to_roll left root_file 0).root refl refl in
+    let it = (content_stands former root forward v to_roll left root_file 0).root_slot refl refl in
     (record root { state = it.state }, it.is)
 
 -- it isn't that of a database in use, nor an unfinished restore's

@@ -208,7 +208,7 @@ module _ (image : Image) (copies : List ℕ) (groups : List Group) (index last :
   rest_of = follows_rest last found.journal found.journals at.back (ap (λ (l : List Journal). follow last l) (sym found.is) ∙ at.follows)
 
   parts : groups ≡ at.front ++ (groups_above last found.journal.groups ++ rest_of.0)
-  parts = at.all ∙ ap (λ (l : List Group). at.front ++ l) rest_of.2
+  parts = at.all ∙ ap (λ (l : List Group). at.front ++ l) rest_of.1.1
 
   pub fits_here : (forward : Forward) → FitAll forward groups → FitAll forward (groups_above last found.journal.groups)
   fits_here forward fits i g got = fits (length at.front + i) g
@@ -243,7 +243,7 @@ module _ (image : Image) (copies : List ℕ) (groups : List Group) (index last :
         front = at.front ++ groups_above last found.journal.groups;
         back = rest.0;
         all = joined image copies groups index last at (copy_named number) (files_of tail) found;
-        follows = ap (λ (n : ℕ). follow n found.journals) is ∙ rest.1;
+        follows = ap (λ (n : ℕ). follow n found.journals) is ∙ rest.1.0;
       }
 
   -- with the journal itself all are laid
@@ -252,7 +252,7 @@ module _ (image : Image) (copies : List ℕ) (groups : List Group) (index last :
       let found = journal_last none in
       let rest = rest_of image copies groups index last at aij_file [] found in
       let over = none_left image found.journals found.more in
-      let nothing : rest.0 ≡ [] = by rest.0 (sym (ap (λ (l : List Journal). follow (max last (next_number found.journal - 1)) l) over) ∙ rest.1) in
+      let nothing : rest.0 ≡ [] = by rest.0 (sym (ap (λ (l : List Journal). follow (max last (next_number found.journal - 1)) l) over) ∙ rest.1.0) in
       joined image copies groups index last at aij_file [] found ∙ ap (λ (l : List Group). (at.front ++ groups_above last found.journal.groups) ++ l) nothing ∙ nil_last (at.front ++ groups_above last found.journal.groups)
     where
       by : (rest : List Group) → laid [] ≡ laid rest → rest ≡ []

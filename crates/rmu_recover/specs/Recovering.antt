@@ -52,7 +52,7 @@ IsJournalFile file = (file.kind ≡ Aij) ⊎ (file.kind ≡ AijBackup)
 -- A slot of a database that may be rolled forward, which was restored, or rolled forward in part: its root; no before-image journal names a transaction; the journals are as they were.
 pub record MayStand (former : Image) (root : Root) (forward : Forward) (f : FileId) (i : ℕ) (x : List ℕ) : Type 0 where
   pub hold : MayHold forward f i x
-  pub root : f ≡ root_file → i ≡ 0 → IsRootBefore root x
+  pub root_slot : f ≡ root_file → i ≡ 0 → IsRootBefore root x
   pub journal : IsJournalFile f → x ≡ former f i
   pub header : (member : ℕ) → IsMember member → f ≡ ruj_file member → i ≡ 0 → IsRujHeader x
   pub none_named : (member : ℕ) → IsMember member → f ≡ ruj_file member → i ≡ 0 → named x ≡ 0

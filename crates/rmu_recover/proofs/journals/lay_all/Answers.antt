@@ -97,8 +97,8 @@ loop-number-preserved g c = let v = g.D.Disk.view in let old = v c.args.disk.now
           };
     }
 
-pub lay_journal-2-requires : goal.lay_journal-2-requires
-lay_journal-2-requires g c = ap slot_bytes c.aij_file.ensures
+pub lay_journal-requires-2 : goal.lay_journal-requires-2
+lay_journal-requires-2 g c = ap slot_bytes c.aij_file.ensures
 
 pub returns-in_err-lay_journal-clause-bad : goal.returns-in_err-lay_journal-clause-bad
 returns-in_err-lay_journal-clause-bad g c = let v = g.D.Disk.view in let old = v c.args.disk.now in let mid = v c.loop-number.disk in let so_far = c.loop-number.invariant in

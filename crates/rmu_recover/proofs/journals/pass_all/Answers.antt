@@ -74,8 +74,8 @@ loop-number-preserved g c = let v = g.D.Disk.view in let old = v c.args.disk.now
           passed_on old.content c.args.copies.now c.args.at journals c.loop-number.number-index c.loop-number.reached was number next.0 next.1 c.in_ok-reached.reached reaches.begins reaches.is;
     }
 
-pub pass_next-2-requires : goal.pass_next-2-requires
-pass_next-2-requires g c = record { size = ap slot_bytes c.aij_file.ensures; last = c.loop-number.invariant.last; ceiling = c.loop-number.invariant.ceiling }
+pub pass_next-requires-2 : goal.pass_next-requires-2
+pass_next-requires-2 g c = record { size = ap slot_bytes c.aij_file.ensures; last = c.loop-number.invariant.last; ceiling = c.loop-number.invariant.ceiling }
 
 pub returns-clause-reads : goal.returns-clause-reads
 returns-clause-reads g c = let v = g.D.Disk.view in then_reads (v c.args.disk.now) (v c.loop-number.disk) (v c.pass_next-2.new.disk) c.loop-number.invariant.reads c.pass_next-2.ensures.reads

@@ -1,6 +1,0 @@
-//! Tries.
-#![tactic(auto)]
-
-mod passing;
-
-pub use passing::{Reached, pass_journal};
