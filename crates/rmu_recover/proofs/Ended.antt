@@ -50,7 +50,7 @@ storage_is area = by (nat_eq area 1) (nat_eq (area % 2) 0)
 data IsOff (page : ℕ) : Type 0 where
   below : nat_le 1 page ≡ false → IsOff page
   above : nat_le page 65536 ≡ false → IsOff page
-  space : IsPage page → IsSpacePage page → IsOff page
+  on_space : IsPage page → IsSpacePage page → IsOff page
 
 kind_of : (page : ℕ) → IsDataPage page ⊎ IsOff page
 kind_of page = first (nat_le 1 page) refl
@@ -62,7 +62,7 @@ kind_of page = first (nat_le 1 page) refl
     most is = grind (arith, is)
 
     third : IsPage page → (b : Bool) → nat_eq ((page - 1) % 200) 0 ≡ b → IsDataPage page ⊎ IsOff page
-    third is true same = inr (space is (grind (arith, same)))
+    third is true same = inr (on_space is (grind (arith, same)))
     third is false apart = inl (record { is_page = is; plain = λ same. let bad : true ≡ false = sym (ap (λ (n : ℕ). nat_eq n 0) same) ∙ apart in absurd (let no : ⊥ = cc in no) })
 
     second : 1 ≤ page → (b : Bool) → nat_le page 65536 ≡ b → IsDataPage page ⊎ IsOff page
@@ -109,7 +109,7 @@ module _ (former : Image) (copies : List ℕ) (root : Root) (forward : Forward) 
     none_off : (key : Dbkey) → IsOff key.page → line_at start key ≡ never
     none_off key (below off) = off_pages key _ (inl off)
     none_off key (above off) = off_pages key _ (inr off)
-    none_off key (space page is) = nothing_on key _ (space_owner _ key.page (space_at (storage_area key.area) key.page (storage_is key.area) page is).space)
+    none_off key (on_space page is) = nothing_on key _ (space_owner _ key.page (space_at (storage_area key.area) key.page (storage_is key.area) page is).space)
 
     -- no transaction number reaches the top
     line_below : 1 ≤ forward.top → (key : Dbkey) → (line_at start key).tsn.number < forward.top
@@ -131,7 +131,7 @@ module _ (former : Image) (copies : List ℕ) (root : Root) (forward : Forward) 
           where
             bad : (n : ℕ) → nat_le n 65536 ≡ false → n ≤ 65536 → ⊥
             bad n off le = grind (arith, off, le)
-        neither page (space is it) plain = plain.plain it
+        neither page (on_space is it) plain = plain.plain it
 
     -- all writes behind what stands are all writes behind the backup
     behind_all : (key : Dbkey) → line_behind key forward.writes (shown (line_at start key)) ≡ line_behind key forward.writes (line_in key forward.base)

@@ -10,9 +10,9 @@ invariant-loop-number g l =
     let before = g.D.Disk.view l.fn.disk in
     record {
       reads : OnlyReads before (g.D.Disk.view l.disk);
-      grows : l.at.last ≤ l.reached.last;
+      grows : l.fn.at.last ≤ l.reached.last;
       last : l.reached.last < 2 ^ 63;
-      above : l.at.ceiling ≤ l.reached.ceiling;
+      above : l.fn.at.ceiling ≤ l.reached.ceiling;
       ceiling : l.reached.ceiling ≤ 2 ^ 62;
-      passed : IsTrue before.tells → (journals : List Journal) → AreJournalsIn before.content (files_of l.copies) journals → PassedTo before.content l.copies l.at journals l.number-index l.reached;
+      passed : IsTrue before.tells → (journals : List Journal) → AreJournalsIn before.content (files_of l.copies) journals → PassedTo before.content l.copies l.fn.at journals l.number-index l.reached;
     }

@@ -92,51 +92,45 @@ pub returns-clause-others : goal.returns-clause-others
 returns-clause-others g c = let v = g.D.Disk.view in let old = v c.args.disk.now in let first = v c.standing_root.new.disk in let reads = c.standing_root.ensures.reads in let copies = c.args.copies.now in
     λ t file other. file_on old first (v c.roll.new.disk) file (file_read old first reads t file) (c.roll.ensures.others (still_tells old first reads.told t) file other)
 
-pub returns-then-root-clause-in_use : goal.returns-then-root-clause-in_use
-returns-then-root-clause-in_use g c = λ t root is used. c.standing_root.ensures.reads
-
-pub returns-then-root-clause-within : goal.returns-then-root-clause-within
-returns-then-root-clause-within g c = let v = g.D.Disk.view in let old = v c.args.disk.now in let first = v c.standing_root.new.disk in let reads = c.standing_root.ensures.reads in let copies = c.args.copies.now in
+pub returns-then-root-eq1-clause-within : goal.returns-then-root-eq1-clause-within
+returns-then-root-eq1-clause-within g c = let v = g.D.Disk.view in let old = v c.args.disk.now in let first = v c.standing_root.new.disk in let reads = c.standing_root.ensures.reads in let copies = c.args.copies.now in
     λ t former root forward journals groups aij classes to_roll source sound. within_reads former root forward groups aij classes old first reads t
 
-pub returns-then-root-clause-others : goal.returns-then-root-clause-others
-returns-then-root-clause-others g c = let v = g.D.Disk.view in let old = v c.args.disk.now in let first = v c.standing_root.new.disk in let reads = c.standing_root.ensures.reads in let copies = c.args.copies.now in
+pub returns-then-root-eq1-clause-others : goal.returns-then-root-eq1-clause-others
+returns-then-root-eq1-clause-others g c = let v = g.D.Disk.view in let old = v c.args.disk.now in let first = v c.standing_root.new.disk in let reads = c.standing_root.ensures.reads in let copies = c.args.copies.now in
     λ t file other. file_read old first reads t file
 
-pub returns-then-root-2-clause-in_use : goal.returns-then-root-2-clause-in_use
-returns-then-root-2-clause-in_use g c = λ t root is used. c.standing_root.ensures.reads
-
-pub returns-then-root-2-clause-within : goal.returns-then-root-2-clause-within
-returns-then-root-2-clause-within g c = let v = g.D.Disk.view in let old = v c.args.disk.now in let first = v c.standing_root.new.disk in let reads = c.standing_root.ensures.reads in let copies = c.args.copies.now in
+pub returns-then-root-eq2-clause-within : goal.returns-then-root-eq2-clause-within
+returns-then-root-eq2-clause-within g c = let v = g.D.Disk.view in let old = v c.args.disk.now in let first = v c.standing_root.new.disk in let reads = c.standing_root.ensures.reads in let copies = c.args.copies.now in
     λ t former root forward journals groups aij classes to_roll source sound. within_reads former root forward groups aij classes old first reads t
 
-pub returns-then-root-2-clause-others : goal.returns-then-root-2-clause-others
-returns-then-root-2-clause-others g c = let v = g.D.Disk.view in let old = v c.args.disk.now in let first = v c.standing_root.new.disk in let reads = c.standing_root.ensures.reads in let copies = c.args.copies.now in
+pub returns-then-root-eq2-clause-others : goal.returns-then-root-eq2-clause-others
+returns-then-root-eq2-clause-others g c = let v = g.D.Disk.view in let old = v c.args.disk.now in let first = v c.standing_root.new.disk in let reads = c.standing_root.ensures.reads in let copies = c.args.copies.now in
     λ t file other. file_read old first reads t file
 
-pub returns-then-root-clause-count : goal.returns-then-root-clause-count
-returns-then-root-clause-count g c = let old = g.D.Disk.view c.args.disk.now in
+pub returns-then-root-eq1-clause-count : goal.returns-then-root-eq1-clause-count
+returns-then-root-eq1-clause-count g c = let old = g.D.Disk.view c.args.disk.now in
     λ t former root forward journals groups aij to_roll source.
     let left = g.met.D.Disk.content_left c.args.disk.now old.moment t (omega arith) in
     let its = its_root former root forward old to_roll left c.in_ok-root.root (c.in_ok-root.ensures.stands t) in
-    absurd (not_used c.in_ok-root.root root its.0 its.1 its.2 (inl c.if-root.true))
+    absurd (not_used c.in_ok-root.root root its.0 its.1 its.2 (inl c.if-root-eq1.true))
 
-pub returns-then-root-clause-rolled : goal.returns-then-root-clause-rolled
-returns-then-root-clause-rolled g c = let old = g.D.Disk.view c.args.disk.now in
+pub returns-then-root-eq1-clause-rolled : goal.returns-then-root-eq1-clause-rolled
+returns-then-root-eq1-clause-rolled g c = let old = g.D.Disk.view c.args.disk.now in
     λ t former root forward journals groups aij classes to_roll source sound image now.
     let left = g.met.D.Disk.content_left c.args.disk.now old.moment t (omega arith) in
     let its = its_root former root forward old to_roll left c.in_ok-root.root (c.in_ok-root.ensures.stands t) in
-    absurd (not_used c.in_ok-root.root root its.0 its.1 its.2 (inl c.if-root.true))
+    absurd (not_used c.in_ok-root.root root its.0 its.1 its.2 (inl c.if-root-eq1.true))
 
-pub returns-then-root-2-clause-bad : goal.returns-then-root-2-clause-bad
-returns-then-root-2-clause-bad g c = let old = g.D.Disk.view c.args.disk.now in
+pub returns-then-root-eq2-clause-bad : goal.returns-then-root-eq2-clause-bad
+returns-then-root-eq2-clause-bad g c = let old = g.D.Disk.view c.args.disk.now in
     λ file slot is t former root forward journals groups aij to_roll source.
     let left = g.met.D.Disk.content_left c.args.disk.now old.moment t (omega arith) in
     let its = its_root former root forward old to_roll left c.in_ok-root.root (c.in_ok-root.ensures.stands t) in
-    not_used c.in_ok-root.root root its.0 its.1 its.2 (inr c.if-root-2.true)
+    not_used c.in_ok-root.root root its.0 its.1 its.2 (inr c.if-root-eq2.true)
 
 pub returns-clause-in_use : goal.returns-clause-in_use
 returns-clause-in_use g c = let old = g.D.Disk.view c.args.disk.now in
     λ t root is used.
     let same = one_root (old.content root_file 0) c.in_ok-root.root root (c.in_ok-root.ensures.stands t) is in
-    absurd (c.if-root.false (ap (λ (r : Root). r.state) same ∙ used))
+    absurd (c.if-root-eq1.false (ap (λ (r : Root). r.state) same ∙ used))
