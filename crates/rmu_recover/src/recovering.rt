@@ -82,10 +82,7 @@ fn carry_out<D: Disk>(
     ensures others { IsTrue (D.view disk.old).tells → (file : File) → IsOther file
         → KeepsFile file (D.view disk.old) (D.view disk.new) }
 {
-    let unfinished = Root {
-        state: 4,
-        ..root
-    };
+    let unfinished = Root { state: 4, ..root };
     let rolled = Root {
         state: 1,
         ceiling,
@@ -156,11 +153,7 @@ fn roll<D: Disk>(
 }
 
 /// Rolls a database that was restored, or rolled forward in part, forward over the copies of its after-image journal of these numbers, in their order, and that journal: each group above the last one that the root says is laid over the pages, and the database is in use behind it. It answers how many groups were laid, and none for a database in use, which it leaves as it is. The journals are read before anything is written; then each again, with one group in memory at a time. Behind a fault the same roll-forward begins again.
-pub fn recover<D: Disk>(
-    alloc: Global,
-    disk: &mut D,
-    copies: &[u32],
-) -> Result<u64, RecoverFault>
+pub fn recover<D: Disk>(alloc: Global, disk: &mut D, copies: &[u32]) -> Result<u64, RecoverFault>
     // It doesn't give up by itself.
     ensures told { (D.view disk.new).tells ≡ (D.view disk.old).tells }
     ensures no_fewer { (D.view disk.old).faults ≤ (D.view disk.new).faults }

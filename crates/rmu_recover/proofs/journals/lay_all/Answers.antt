@@ -143,5 +143,5 @@ returns-clause-laid g c = let v = g.D.Disk.view in let old = v c.args.disk.now i
     let there_now = journal_there old.content mid.content aij_file found.journal (λ s. (so_far.runs.others t aij_file aij_not).content s) found.here in
     let here = subst (λ (f : FileId). IsJournalIn mid.content f found.journal) (sym c.aij_file.ensures) there_now in
     let over = laid_more old.content c.args.copies.now groups c.loop-number.number-index c.loop-number.behind was aij_file [] found forward old.content mid.content (v c.lay_journal-2.new.disk).content so.laid
-        (c.in_ok-lay_journal.ensures.laid (still_tells old mid so_far.runs.told t) forward found.journal (still_ready forward old mid (so_far.ready t forward journals groups there is fits ready) ready) here (fits_here old.content c.args.copies.now groups c.loop-number.number-index c.loop-number.behind was aij_file [] found forward fits)) in
+    (c.in_ok-lay_journal.ensures.laid (still_tells old mid so_far.runs.told t) forward found.journal (still_ready forward old mid (so_far.ready t forward journals groups there is fits ready) ready) here (fits_here old.content c.args.copies.now groups c.loop-number.number-index c.loop-number.behind was aij_file [] found forward fits)) in
     subst (λ (gs : List Group). LaidOver forward (writes_of gs) old.content (v c.lay_journal-2.new.disk).content) (sym (all_front old.content c.args.copies.now groups c.loop-number.number-index c.loop-number.behind was none)) over
