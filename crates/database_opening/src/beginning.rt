@@ -3,7 +3,8 @@ ghost use Rattle.std.specs.Prelude.{◌≡◌, ◌⊎◌, true, ℕ, IfOk, OnOk,
 ghost use Rattle.rdb_types.specs.declared.file.FileId.{FileId as File};
 ghost use Rattle.rdb_outside.specs.Causes.{Rose};
 ghost use Rattle.rdb_outside.specs.Disk.{OnlyReads, IsStable};
-ghost use Rattle.root_file.specs.Root.{IsAllowed};
+ghost use Rattle.root_file.specs.Root.{IsRoot, IsAllowed};
+ghost use Rattle.new_database.specs.Maker.{root_file as root_named};
 ghost use Rattle.line_view.specs.Knowledge.{Lines};
 ghost use Rattle.stable_lines.specs.Journal.{Journal};
 ghost use Rattle.stable_lines.specs.Kept.{Kept};
@@ -55,6 +56,8 @@ fn read_all<D: Disk>(disk: &mut D) -> Result<Opening, Fault>
         → Kept classes lines journal (D.view disk.old).content → ⊥ }
     ensures stage { IfOk result (λ opening. IsStage opening.stage) }
     ensures root { IfOk result (λ opening. IsAllowed opening.found.root) }
+    ensures its_root { IfOk result (λ opening. IsTrue (D.view disk.old).tells
+        → IsRoot ((D.view disk.old).content root_named 0) opening.found.root) }
     ensures found { IfOk result (λ opening. IsTrue (D.view disk.old).tells → IsStable (D.view disk.old)
         → (classes : ℕ → ℕ) (lines : Lines) (journal : Journal)
         → Kept classes lines journal (D.view disk.old).content
@@ -88,6 +91,8 @@ pub fn begin<D: Disk>(disk: &mut D) -> Result<Opening, Fault>
         → Kept classes lines journal (D.view disk.old).content → ⊥ }
     ensures stage { IfOk result (λ opening. IsStage opening.stage) }
     ensures root { IfOk result (λ opening. IsAllowed opening.found.root) }
+    ensures its_root { IfOk result (λ opening. IsTrue (D.view disk.old).tells
+        → IsRoot ((D.view disk.old).content root_named 0) opening.found.root) }
 
     // What the image stands for are the lines of the opening.
     ensures found { IfOk result (λ opening. IsTrue (D.view disk.old).tells

@@ -3,7 +3,8 @@ ghost use Rattle.std.specs.Prelude.{◌≡◌, ◌≤◌, ◌⊎◌, true, false
 ghost use Rattle.rdb_types.specs.declared.file.FileId.{FileId as File};
 ghost use Rattle.rdb_outside.specs.Causes.{Rose};
 ghost use Rattle.rdb_outside.specs.Disk.{LeavesOnly, IsPending};
-ghost use Rattle.root_file.specs.Root.{IsAllowed};
+ghost use Rattle.root_file.specs.Root.{IsRoot, IsAllowed};
+ghost use Rattle.new_database.specs.Maker.{root_file as root_named};
 ghost use Rattle.line_view.specs.Knowledge.{Lines};
 ghost use Rattle.stable_lines.specs.Journal.{Journal};
 ghost use Rattle.stable_lines.specs.Kept.{Kept};
@@ -37,6 +38,8 @@ pub fn open_database<D: Disk>(disk: &mut D) -> Result<StoreStart, Fault>
 
     ensures root { IfOk result (λ start. IsAllowed start.root) }
     ensures number { IfOk result (λ start. start.next_tsn ≡ start.root.ceiling) }
+    ensures its_root { IfOk result (λ start. IsTrue (D.view disk.old).tells
+        → IsRoot ((D.view disk.old).content root_named 0) start.root) }
 
     // A kept image is never refused.
     ensures bad { (file : File) (slot : ℕ) → IsErrOf result (Fault.Bad file slot)

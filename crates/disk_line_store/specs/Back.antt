@@ -4,7 +4,7 @@ use Rattle.rdb_outside.specs.Disk.{View}
 use Rattle.line_view.specs.Knowledge.{Lines}
 use Rattle.line_store.specs.Shelves.{Shelf}
 use Rattle.line_store.specs.Sights.{Sight}
-use Rattle.store_shows.specs.Shows.{Leaves}
+use Rattle.store_shows.specs.Shows.{AllOpen, Leaves}
 use Rattle.disk_store.specs.Memory.{StoreMemory}
 use Rattle.disk_store.specs.Seats.{stand_at}
 use Rattle.disk_store.specs.Shown.{Shown}
@@ -14,4 +14,5 @@ pub record IsBack (sight : Sight) (v : View) : Type 0 where
   pub held : StoreMemory
   pub shows : (h : Shelf) → sight.shows h → Shown v held h
   pub left : (t : ℕ) (lines : Lines) → Leaves v t lines → sight.left t lines
+  pub opens : (t : ℕ) → sight.opens t → AllOpen v t
   pub stand : (s : ℕ) → sight.stand s ≡ stand_at held.members s

@@ -58,7 +58,7 @@ impl<D: Disk + Drop> DiskStore<D> {
 impl<D: Disk + Drop> LineStore for DiskStore<D> {
     ghost use Rattle.std.proofs.Common.{sym};
     ghost use Rattle.disk_store.specs.Shown.{sight_of};
-    ghost use Rattle.disk_store.proofs.Agreeing.{agreeing, standing};
+    ghost use Rattle.disk_store.proofs.Agreeing.{agreeing, opening, standing};
 
     ghost sight = { λ store. sight_of (D.view store.disk) store.held };
 
@@ -67,6 +67,8 @@ impl<D: Disk + Drop> LineStore for DiskStore<D> {
     ghost counts = { λ store. record { same = λ h shown s. sym (shown.steps s); few = store.few } };
 
     ghost stands = { λ store. standing (D.view store.disk) store.held };
+
+    ghost opens = { λ store. opening (D.view store.disk) store.held };
 
     fn begin(&mut self, s: Session) {
         let held = &mut self.held;

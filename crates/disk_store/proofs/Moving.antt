@@ -179,5 +179,6 @@ module _ (v : View) (held : StoreMemory) (s : ℕ) (m : Member) (next : MemberSt
       shown = shown-behind h shown;
       related = as-asked h (moved (sat h shown).start h) (sat h shown).start (sat h shown).is (moves (sat h shown).start h);
       lasts = record { since = λ t lines early is. inl is };
+      opens = λ t early was. was;
     };
   }

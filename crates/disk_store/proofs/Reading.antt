@@ -16,7 +16,8 @@ use Rattle.disk_seats.specs.Ledgers.{Ledger}
 use Rattle.disk_seats.specs.Members.{LedgerFacts}
 use Rattle.member_steps.proofs.Journals.{read_ledger}
 use Rattle.store_shows.specs.Shows.{ShowsLines}
-use Rattle.store_shows.proofs.Standing.{may_stand, lasts_with}
+use Rattle.store_shows.proofs.Standing.{may_stand, lasts_with, all-open}
+use Rattle.disk_store.proofs.Agreeing.{shown-opens}
 use Rattle.disk_store.specs.declared.member.Member.{Member}
 use Rattle.disk_store.specs.Memory.{StoreMemory}
 use Rattle.disk_store.specs.Seats.{stand_at}
@@ -94,6 +95,7 @@ module _ (v w : View) (held : StoreMemory) (s : ℕ) (reads : OnlyReads v w) whe
       shown = shown-after h shown;
       related = as-asked h (after h shown) (moves h shown) shown.lines.faults refl;
       lasts = lasts_with v w h (after h shown) shown.lines.time (reads-leave v w reads shown.tells) (may_stand v shown.ledger h shown.facts shown.lines) (may_stand w shown.ledger (after h shown) (facts h shown) (lines-stand h shown));
+      opens = all-open v w h shown.lines.time (reads-leave v w reads shown.tells) (shown-opens v held h shown) (shown-opens w held (after h shown) (shown-after h shown));
     };
   }
 

@@ -20,7 +20,8 @@ use Rattle.version_writing.specs.Tables.{HoldsAll}
 use Rattle.ledger_versions.specs.Readers.{ReaderFacts, Waiting}
 use Rattle.ledger_versions.proofs.Written.{reader_ends}
 use Rattle.store_shows.specs.Shows.{Leaves, ShowsLines, IsInFlight}
-use Rattle.store_shows.proofs.Standing.{may_stand, lasts_with}
+use Rattle.store_shows.proofs.Standing.{may_stand, lasts_with, all-open}
+use Rattle.disk_store.proofs.Agreeing.{shown-opens}
 use Rattle.member_memory.specs.Memory.{writes_in}
 use Rattle.disk_store.specs.declared.member.Member.{Member}
 use Rattle.disk_store.specs.declared.member.MemberStage.{MemberStage}
@@ -248,6 +249,7 @@ module _ (v w : View) (held behind : StoreMemory) (s : ℕ) (m n : Member) (was 
           };
         });
         lasts = shelf-lasts h shown (flight h shown);
+        opens = all-open v w h shown.lines.time (leaves shown.tells) (shown-opens v held h shown) (shown-opens w behind (shelf h shown) (shown-behind h shown (flight h shown)));
       };
     }
 

@@ -25,7 +25,7 @@ stays v held s = record {
   mine = refl;
   others = λ t apart. refl;
   steps = λ t apart. refl;
-  each = λ h shown. record { shelf = h; shown = shown; related = refl; lasts = record { since = λ t lines early is. inl is } };
+  each = λ h shown. record { shelf = h; shown = shown; related = refl; lasts = record { since = λ t lines early is. inl is }; opens = λ t early was. was };
 }
 
 module _ (v : View) (held : StoreMemory) (s file class : ℕ) (key : Dbkey) (owner : IsOwner file key.area) where
@@ -52,6 +52,7 @@ module _ (v : View) (held : StoreMemory) (s file class : ℕ) (key : Dbkey) (own
         later = record { later = omega arith; no_fewer = omega arith };
       };
       lasts = record { since = λ t lines early is. inl is };
+      opens = λ t early was. was;
     };
   }
 
@@ -128,5 +129,6 @@ module _ (v : View) (held : StoreMemory) (s file class : ℕ) (key : Dbkey) (own
           later = record { later = omega arith; no_fewer = omega arith };
         };
         lasts = record { since = λ t lines early is. inl is };
+        opens = λ t early was. was;
       };
     }

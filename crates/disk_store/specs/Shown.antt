@@ -31,7 +31,7 @@ use Rattle.committed_tables.specs.Tables.{HasCommitted, WereUsed}
 use Rattle.version_writing.specs.Slots.{SlotTable}
 use Rattle.version_writing.specs.Tables.{HoldsAll}
 use Rattle.ledger_versions.specs.Readers.{ReaderFacts, Waiting, HasVersionOf}
-use Rattle.store_shows.specs.Shows.{Leaves, ShowsLines}
+use Rattle.store_shows.specs.Shows.{AllOpen, Leaves, ShowsLines}
 use Rattle.store_shows.specs.Rooms.{HasPages}
 use Rattle.member_memory.specs.Memory.{Memory, writes_in}
 use Rattle.disk_store.specs.declared.member.Member.{Member}
@@ -175,4 +175,5 @@ sight_of v held = record {
   stand = stand_at held.members;
   steps = steps_at held.members;
   left = Leaves v;
+  opens = AllOpen v;
 }

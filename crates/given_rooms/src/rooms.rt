@@ -18,8 +18,8 @@ use std::marker::Model;
 #[derive(Drop)]
 pub struct Rooms {
     given: Entries<Dbkey, Room>,
-    // The line that was given last.
-    last: Option<Dbkey>,
+    // The line that was given last in each area, also to statements before.
+    ends: Vec<Dbkey>,
 }
 
 impl Model for Rooms {
@@ -60,8 +60,15 @@ impl Rooms {
     {
         Rooms {
             given: Entries::new(alloc),
-            last: None,
+            ends: Vec::new(alloc),
         }
+    }
+
+    /// None is given any more. Where to look on in each area stays as it is.
+    pub fn renew(&mut self, alloc: Global)
+        ensures { self.new ≡ [] }
+    {
+        self.given = Entries::new(alloc);
     }
 
     /// Whether this line was given.
@@ -71,12 +78,27 @@ impl Rooms {
         self.given.find(&key).is_some()
     }
 
-    /// A line of the area behind which to look for the next room: the last that was given, if it is of this area.
+    /// A line of the area behind which to look for the next room: the last that was given in this area.
     pub fn last_in(&self, area: u32) -> Option<Dbkey>
         ensures { IfSome result (λ key. key.area ≡ area) }
     {
-        let last = self.last?;
-        if last.area == area { Some(last) } else { None }
+        for end in &self.ends {
+            if end.area == area {
+                return Some(*end);
+            }
+        }
+        None
+    }
+
+    // Notes that the next room of the line's area is looked for behind it.
+    fn look_behind(&mut self, key: Dbkey) -> Result<(), NoMemory>
+        ensures { self.new ≡ self.old }
+    {
+        match self.ends.iter().position(|end| end.area == key.area) {
+            Some(at) => self.ends[at] = key,
+            None => self.ends.push(key)?,
+        }
+        Ok(())
     }
 
     /// Gives a room this line.
@@ -84,9 +106,8 @@ impl Rooms {
         ensures ok { OnOk result (self.new ≡ put dbkey_order key room self.old) }
         ensures err { OnErr result (self.new ≡ self.old) }
     {
-        self.given.put(key, room)?;
-        self.last = Some(key);
-        Ok(())
+        self.look_behind(key)?;
+        self.given.put(key, room)
     }
 
     /// Makes these rooms known, and no others: of each the line has to be of its area, and known to be absent. So what is known goes on

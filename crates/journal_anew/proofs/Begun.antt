@@ -1,5 +1,5 @@
 -- A journal begun anew, call by call.
-use Rattle.std.proofs.Common.{◌≡◌, ℕ, IsTrue, List, refl, sym, subst, ◌∙◌}
+use Rattle.std.proofs.Common.{◌≡◌, ℕ, IsTrue, List, sym, subst, ◌∙◌}
 use Rattle.rdb_types.specs.declared.file.FileId.{FileId}
 use Rattle.rdb_types.specs.declared.file.FileKind.TheVariants.{Ruj, Aij}
 use Rattle.aij_journal.specs.Header.{IsHeader}
@@ -8,7 +8,7 @@ use Rattle.new_database.specs.Maker.{aij_file}
 use Rattle.line_moves.specs.Calls.{OnlyWrites}
 use Rattle.line_moves.proofs.Runs.{pends, facts_read, still_tells}
 use Rattle.line_opening.proofs.Standing.{written_stands, read_stands, leaves_on}
-use Rattle.stable_lines.specs.Slots.{ruj_file, IsMember, named}
+use Rattle.stable_lines.specs.Slots.{ruj_file}
 use Rattle.stable_lines.specs.Progress.{Progress, begun_anew, settled}
 use Rattle.stable_lines.specs.Facts.{Facts, StandsAs}
 use Rattle.stable_lines.specs.Steps.{NamesNone}

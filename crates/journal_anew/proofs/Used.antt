@@ -1,26 +1,26 @@
 -- A restored database taken into use, call by call.
-use Rattle.std.proofs.Common.{◌≡◌, ℕ, ◌+◌, ◌≤◌, IsTrue, None, Some, inl, inr, refl, sym, ap, subst, ◌∙◌, arith}
+use Rattle.std.proofs.Common.{◌≡◌, ◌≢◌, ℕ, ◌+◌, ◌==◌, Bool, true, false, if◌then◌else◌, IsTrue, None, Some, inl, inr, refl, sym, ap, subst, ◌∙◌, arith}
+use Rattle.std.proofs.lemmas.Bool.{eqb-true}
 use Rattle.rdb_types.specs.declared.file.FileId.{FileId}
 use Rattle.rdb_types.specs.declared.file.FileKind.TheVariants.{Root, Ruj}
 use Rattle.rdb_outside.specs.Disk.{Image, View, Pending, LeavesOnly, OnlyReads}
 use Rattle.rdb_outside.specs.Moments.{weaker}
-use Rattle.root_file.specs.declared.Root.{Root as RootValues}
-use Rattle.new_database.specs.Maker.{root_file, aij_file}
+use Rattle.new_database.specs.Maker.{root_file}
 use Rattle.line_view.specs.Knowledge.{Lines}
 use Rattle.line_moves.specs.Calls.{OnlyWrites}
 use Rattle.line_moves.proofs.Runs.{facts_read, still_tells}
-use Rattle.line_opening.proofs.Standing.{stands_now, written_stands, read_stands, leaves_on}
+use Rattle.line_opening.proofs.Standing.{written_stands, read_stands, leaves_on}
 use Rattle.stable_lines.specs.Slots.{ruj_file}
 use Rattle.stable_lines.specs.Journal.{Journal, next_number}
 use Rattle.stable_lines.specs.Progress.{Progress, begun_anew, settled}
 use Rattle.stable_lines.specs.Facts.{Facts, StandsAs, as_committed, with_former, with_flight}
 use Rattle.stable_lines.specs.Steps.{NamesNone}
-use Rattle.stable_lines.specs.History.{HasState}
+use Rattle.stable_lines.specs.Kept.{Kept}
 use Rattle.database_opening.specs.Others.{KeepsFile}
 use Rattle.database_opening.specs.declared.start.StoreStart.{StoreStart}
 use Rattle.database_opening.specs.Start.{beginning_with, IsStart}
 use Rattle.database_opening.proofs.Others.{file_read, file_apart, file_on}
-use Rattle.journal_anew.specs.Anew.{MayBeginAnew, IsApart, no_groups, IsInUse}
+use Rattle.journal_anew.specs.Anew.{MayBeginAnew, IsApart, no_groups, journal_in_use, start_in_use, StandsInUse, IsInUse}
 use Rattle.journal_anew.proofs.Begun.{closed_read, closed_beside}
 
 roots_apart : (member : ℕ) → ruj_file member ≡ root_file → ⊥
@@ -31,7 +31,7 @@ module _ (classes : ℕ → ℕ) (lines : Lines) (journal : Journal) (start : St
   now = beginning_with classes lines journal start
 
   abbrev IsState : Image → Type 0
-  IsState = HasState (record { lines = lines; classes = classes })
+  IsState = StandsInUse classes lines journal start.root
 
   -- nothing is asked of the caller any more
   pub may_begin : (v : View) → IsStart classes lines journal v start → MayBeginAnew v now (start.next.number + 1)
@@ -44,18 +44,28 @@ module _ (classes : ℕ → ℕ) (lines : Lines) (journal : Journal) (start : St
   }
 
   pub start_state : (image : Image) → StandsAs now image → IsState image
-  start_state image (as_committed kept) = record { journal = journal; kept = kept }
+  start_state image (as_committed kept) = inl kept
   start_state image (with_former former is kept) = let nay : ⊥ = cc in absurd nay
   start_state image (with_flight flight is kept) = let nay : ⊥ = cc in absurd nay
 
-  module _ (first : ℕ) where
+  -- its journal is then the one in use
+  pub begun_in_use : start.root.state ≡ 3 → start.next.number ≡ next_number journal → no_groups (start.next.number + 1) ≡ journal_in_use start.root journal
+  begun_in_use restored numbered = ap (λ (n : ℕ). no_groups (n + 1)) numbered ∙ ap (λ (b : Bool). if b then no_groups (next_number journal + 1) else journal) (sym (ap (λ (n : ℕ). n == 3) restored))
+
+  module _ (first : ℕ) (begun_with : no_groups first ≡ journal_in_use start.root journal) where
+    kept_anew : (image : Image) → Kept classes lines (no_groups first) image → IsState image
+    kept_anew image kept = inr (subst (λ (j : Journal). Kept classes lines j image) begun_with kept)
+
+    former_is : (former : Journal) → (begun_anew first now).former ≡ Some former → former ≡ journal
+    former_is former is = cc
+
     pub anew_state : (image : Image) → StandsAs (begun_anew first now) image → IsState image
-    anew_state image (as_committed kept) = record { journal = no_groups first; kept = kept }
-    anew_state image (with_former former is kept) = record { journal = former; kept = kept }
+    anew_state image (as_committed kept) = kept_anew image kept
+    anew_state image (with_former former is kept) = inl (subst (λ (j : Journal). Kept classes lines j image) (former_is former is) kept)
     anew_state image (with_flight flight is kept) = let nay : ⊥ = cc in absurd nay
 
     settled_state : (image : Image) → StandsAs (settled (begun_anew first now)) image → IsState image
-    settled_state image (as_committed kept) = record { journal = no_groups first; kept = kept }
+    settled_state image (as_committed kept) = kept_anew image kept
     settled_state image (with_former former is kept) = let nay : ⊥ = cc in absurd nay
     settled_state image (with_flight flight is kept) = let nay : ⊥ = cc in absurd nay
 
@@ -82,6 +92,29 @@ module _ (classes : ℕ → ℕ) (lines : Lines) (journal : Journal) (start : St
 
         pub used_closed : NamesNone (Pending begun) → NamesNone (Pending new)
         used_closed closed = closed_read written new reads then_told (closed_beside begun written root_file roots_apart writes told closed)
+
+-- ---- where the store begins
+
+module _ (start : StoreStart) where
+  abbrev anew : StoreStart
+  anew = record {
+    root = record { format = start.root.format; state = 1; limits = start.root.limits; ceiling = start.root.ceiling; applied = start.root.applied };
+    next_tsn = start.next_tsn;
+    next = record { slot = 1; number = start.next.number + 1 };
+  }
+
+  abbrev by : Bool → StoreStart
+  by b = if b then anew else start
+
+  pub used_is : start.root.state ≡ 3 → anew ≡ start_in_use start
+  used_is restored = ap by (sym (ap (λ (n : ℕ). n == 3) restored))
+
+  pub unused_is : start.root.state ≢ 3 → start ≡ start_in_use start
+  unused_is other = ap by (sym (apart (start.root.state == 3) refl))
+    where
+      apart : (b : Bool) → (start.root.state == 3) ≡ b → (start.root.state == 3) ≡ false
+      apart true is = absurd (other (eqb-true start.root.state 3 is))
+      apart false is = is
 
 -- what stands behind it
 pub in_use : (classes : ℕ → ℕ) (lines : Lines) (journal : Journal) (start used : StoreStart) (old new : View) → IsStart classes lines journal old start → used.next_tsn ≡ start.next_tsn → used.root.limits ≡ start.root.limits → used.next.slot ≡ 1 → used.next.number ≡ start.next.number + 1

@@ -6,10 +6,9 @@ ghost use Rattle.rdb_outside.specs.Causes.{Rose};
 ghost use Rattle.rdb_outside.specs.Disk.{LeavesOnly};
 ghost use Rattle.line_view.specs.Knowledge.{Lines};
 ghost use Rattle.stable_lines.specs.Journal.{Journal};
-ghost use Rattle.stable_lines.specs.History.{HasState};
 ghost use Rattle.database_opening.specs.Others.{KeepsFile};
 ghost use Rattle.database_opening.specs.Start.{IsStart};
-ghost use Rattle.journal_anew.specs.Anew.{IsApart, IsInUse};
+ghost use Rattle.journal_anew.specs.Anew.{IsApart, IsInUse, StandsInUse, start_in_use};
 
 use crate::anew::begin_anew;
 use database_opening::StoreStart;
@@ -31,7 +30,10 @@ pub fn take_into_use<D: Disk>(disk: &mut D, start: StoreStart) -> Result<StoreSt
     // It is refused only where the numbers of groups are spent.
     ensures bad { (file : File) (slot : ℕ) → IsErrOf result (Fault.Bad file slot)
         → 2 ^ 62 ≤ start.next.number }
+    ensures restored { (file : File) (slot : ℕ) → IsErrOf result (Fault.Bad file slot)
+        → start.root.state ≡ 3 }
     ensures state { IfOk result (λ used. used.root.state ≢ 3) }
+    ensures is { IfOk result (λ used. used ≡ start_in_use start) }
 
     // The store begins with the same lines.
     ensures used { IfOk result (λ used. IsTrue (D.view disk.old).tells
@@ -39,12 +41,12 @@ pub fn take_into_use<D: Disk>(disk: &mut D, start: StoreStart) -> Result<StoreSt
         → IsStart classes lines journal (D.view disk.old) start
         → IsInUse classes lines journal (D.view disk.new) used) }
 
-    // Whatever it answers, a crash at any moment of it leaves the same lines.
+    // Whatever it answers, a crash at any moment of it leaves the same lines, with the journal or the one in use.
     ensures stands { IsTrue (D.view disk.old).tells
         → (classes : ℕ → ℕ) (lines : Lines) (journal : Journal)
         → IsStart classes lines journal (D.view disk.old) start
         → LeavesOnly (D.view disk.old) (D.view disk.new)
-        (HasState (record { lines = lines; classes = classes })) }
+        (StandsInUse classes lines journal start.root) }
 
     // It writes no file but the journal and the root.
     ensures others { (file : File) → IsApart file → IsTrue (D.view disk.old).tells

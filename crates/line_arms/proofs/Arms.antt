@@ -14,8 +14,7 @@ use Rattle.session_states.specs.Steps.{Step}
 use Rattle.stage_steps.specs.declared.happening.Happening.{Happening}
 use Rattle.stage_steps.specs.declared.happening.Happening.TheVariants.{Quiet}
 use Rattle.stage_steps.specs.Happenings.{events_of, handed_back}
-use Rattle.stage_steps.specs.Nearer.{Nearer}
-use Rattle.stage_steps.specs.Scenes.{Scene, Goes, ComesIn, TakesUpIn, EndsIn, PassesOn, beside, on_shelf}
+use Rattle.stage_steps.specs.Scenes.{Scene, Goes, ComesIn, TakesUpIn, EndsIn, NearerIn, PassesOn, beside, on_shelf}
 use Rattle.stage_steps.specs.Turns.{Comes}
 use Rattle.line_arms.specs.Going.{GoesOn}
 
@@ -34,7 +33,7 @@ module _ (M : Model) (s : ℕ) (old new : Scene) (x y : Phase) where
       (goes-as s x y (λ h g. (dead : ℕ) (ls : List Item) (total : ℕ) → Step M s (on_shelf old h dead) (session (item ∷ ls) total x) (on_shelf new g dead) (session (handed_back e ++ ls) total y) (events_of s e))
       (λ h g. (dead total : ℕ) → Step M s (on_shelf old h dead) (session (item ∷ left) total x) (on_shelf new g dead) (session left total y) (events_of s e)) old new
       (λ h g f dead total. subst (λ (b : List Item). Step M s (on_shelf old h dead) (session (item ∷ left) total x) (on_shelf new g dead) (session (b ++ left) total y) (events_of s e)) none (f dead left total))
-      (λ n total. subst (λ (b : List Item). Nearer s e (beside old) (beside new) (session (item ∷ left) total x) (session (b ++ left) total y)) none (n left total)) t)
+      (λ n total. subst (λ (b : List Item). NearerIn s e old new (session (item ∷ left) total x) (session (b ++ left) total y)) none (n left total)) t)
 
   -- it was taken up, and may be handed back
   pub takes-up : (e : Happening) (item : Item) (left all : List Item) → all ≡ item ∷ left → TakesUpIn M s item old x new y e → GoesOn M s old all x new (handed_back e ++ left) y e

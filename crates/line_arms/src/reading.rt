@@ -73,7 +73,7 @@ fn read_next<S: Statements, L: LineStore>(
 {
     match left.pop() {
         Some(item) => {
-            *allotment = Allotment::new(common.alloc);
+            allotment.renew(common.alloc);
             take_up_reading::<S, L>(&mut common.store, s, terms, item)
         }
         None => leave_reading::<S, L>(&mut common.store, s, terms),

@@ -113,7 +113,7 @@ fn take_next<S: Statements, L: LineStore>(
 {
     match left.pop() {
         Some(item) => {
-            *allotment = Allotment::new(common.alloc);
+            allotment.renew(common.alloc);
             quiet(take_up::<S, L>(&mut common.store, s, terms, item))
         }
         None => quiet(leave::<S, L>(&mut common.store, s, terms)),

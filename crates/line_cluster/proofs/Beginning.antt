@@ -1,5 +1,6 @@
 -- Sessions that have said nothing are sound.
 use Rattle.std.proofs.Common.{◌≡◌, ◌≤◌, ℕ, zero, suc, ◌∷◌, [], List, length, map, refl, ◌∙◌, sym, ap, subst, arith, Some, None, slice_get, inl, inr}
+use Rattle.std.proofs.lemmas.Bool.{false≢true}
 use Rattle.std.proofs.lemmas.Option.{none-some, same_Some}
 use Rattle.rdo_ast.specs.declared.syntax.Item.{Item}
 use Rattle.rdo_ast.specs.Views.{uttered_of}
@@ -8,7 +9,7 @@ use Rattle.line_view.specs.Knowledge.{Lines}
 use Rattle.line_store.specs.Seats.{outside, in_flight}
 use Rattle.line_store.specs.Shelves.{Shelf}
 use Rattle.line_store.specs.Calls.{MayStand}
-use Rattle.line_store.specs.Sights.{Agrees, Stands, bare}
+use Rattle.line_store.specs.Sights.{Agrees, Stands, bare, MayBeOpened}
 use Rattle.session_jobs.specs.Records.{Model, IsOrderly}
 use Rattle.session_states.specs.declared.stage.Member.{Member}
 use Rattle.session_states.specs.declared.stage.Phase.TheVariants.{Outside}
@@ -37,13 +38,14 @@ none-dead : (scripts : List (List Item)) → dead_in (map fresh_member scripts) 
 none-dead [] = refl
 none-dead (items ∷ more) = let e = none-dead more in omega (arith, e)
 
-pub begins : (M : Model) (orderly : IsOrderly M) (told : Type 0) (o : Opening) (c : Scene) (scripts : List (List Item)) → Agrees c.sight → Stands c.sight → ((s : ℕ) → c.sight.stand s ≡ outside) → c.locks.parties ≡ [] → c.locks.trail ≡ [] →
-    FollowsScripts o scripts → (told → IsOpenedBy M o c.word c.sight) → IsSound M told o c (map fresh_member scripts) [] None
-begins M orderly told o c scripts agrees stands away parties trail follows opens = record {
+pub begins : (M : Model) (orderly : IsOrderly M) (told : Type 0) (o : Opening) (faults : ℕ) (c : Scene) (scripts : List (List Item)) → Agrees c.sight → Stands c.sight → MayBeOpened c.sight → ((s : ℕ) → c.sight.stand s ≡ outside) → c.locks.parties ≡ [] → c.locks.trail ≡ [] →
+    FollowsScripts o scripts → (told → IsOpenedBy M o faults c.word c.sight) → IsSound M told o faults c (map fresh_member scripts) [] None
+begins M orderly told o faults c scripts agrees stands open away parties trail follows opens = record {
   legal = λ t. (tells t).kept.right.legal;
   seated = λ none. sits;
   kept = λ none t. tells t;
   images = λ t. told-images M orderly o c.word c.sight stands c.locks (map fresh_member scripts) [] sits (tells t);
+  causes = λ t. let is : IsOpenedBy M o faults c.word c.sight = opens t in record { shelf = is.shelf; shown = is.shown; no_fewer = is.no_fewer; rose = λ h. absurd (false≢true h) };
 }
   where
     fresh-phase : (i : ℕ) (m : Member) → slice_get (map fresh_member scripts) i ≡ Some m → (m.phase ≡ Outside) × (m.life ≡ Alive)
@@ -58,7 +60,7 @@ begins M orderly told o c scripts agrees stands away parties trail follows opens
     now h shown m lines (inr (s, ws, flies, is)) = absurd (none-some ws (sym (ap in_flight (outside-seat (h.seat s) (sym (agrees h shown s) ∙ ap bare (away s)))) ∙ flies))
 
     tells : told → IsTold M o c.word c.sight c.locks (map fresh_member scripts) []
-    tells t = let is : IsOpenedBy M o c.word c.sight = opens t in record {
+    tells t = let is : IsOpenedBy M o faults c.word c.sight = opens t in record {
       shelf = is.shelf;
       shown = is.shown;
       kept = subst (λ (d : ℕ). AreKept M o (sharing c.word is.shelf c.locks d) (map fresh_member scripts) []) (sym (none-dead scripts))
@@ -72,6 +74,7 @@ begins M orderly told o c scripts agrees stands away parties trail follows opens
           }));
       images = record {
         began = is.shelf.clock.time;
+        openable = open is.shelf is.shown;
         opened = (is.opened c.locks parties trail).past;
         going = omega arith;
         opening = λ lines l. record {
@@ -87,12 +90,12 @@ begins M orderly told o c scripts agrees stands away parties trail follows opens
       };
     }
 
-pub starts : (M : Model) (orderly : IsOrderly M) (told : Type 0) (o : Opening) (sessions : ℕ) (c : Scene) (scripts : List (List Item)) (members : List Member) (events : List Declared) → Agrees c.sight → Stands c.sight → ((s : ℕ) → c.sight.stand s ≡ outside) →
-    c.locks.parties ≡ [] → c.locks.trail ≡ [] → FollowsScripts o scripts → (told → IsOpenedBy M o c.word c.sight) → members ≡ map fresh_member scripts → events ≡ [] → length scripts ≡ sessions → sessions ≤ 16 → MayFail o →
-    AreSound M told o sessions c members (map event_of events) None
-starts M orderly told o sessions c scripts members events agrees stands away parties trail follows opens are none count few mortal = record {
-  sound = subst (λ (ms : List Member). IsSound M told o c ms (map event_of events) None) (sym are) (subst (λ (es : List Declared). IsSound M told o c (map fresh_member scripts) (map event_of es) None) (sym none)
-      (begins M orderly told o c scripts agrees stands away parties trail follows opens));
+pub starts : (M : Model) (orderly : IsOrderly M) (told : Type 0) (o : Opening) (faults sessions : ℕ) (c : Scene) (scripts : List (List Item)) (members : List Member) (events : List Declared) → Agrees c.sight → Stands c.sight → MayBeOpened c.sight → ((s : ℕ) → c.sight.stand s ≡ outside) →
+    c.locks.parties ≡ [] → c.locks.trail ≡ [] → FollowsScripts o scripts → (told → IsOpenedBy M o faults c.word c.sight) → members ≡ map fresh_member scripts → events ≡ [] → length scripts ≡ sessions → sessions ≤ 16 → MayFail o →
+    AreSound M told o faults sessions c members (map event_of events) None
+starts M orderly told o faults sessions c scripts members events agrees stands open away parties trail follows opens are none count few mortal = record {
+  sound = subst (λ (ms : List Member). IsSound M told o faults c ms (map event_of events) None) (sym are) (subst (λ (es : List Declared). IsSound M told o faults c (map fresh_member scripts) (map event_of es) None) (sym none)
+      (begins M orderly told o faults c scripts agrees stands open away parties trail follows opens));
   count = ap length are ∙ (as-long fresh_member scripts ∙ count);
   few = few;
   mortal = mortal;

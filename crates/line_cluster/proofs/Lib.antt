@@ -1,3 +1,4 @@
+pub mod Faults
 pub mod Stepping
 pub mod Falling
 pub mod Beginning

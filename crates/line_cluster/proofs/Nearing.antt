@@ -33,7 +33,7 @@ use Rattle.stage_steps.specs.Nearer.{IsUnqueued, Nearer, NearerRecovered, is_pat
 use Rattle.stage_steps.specs.declared.dying.Recovery.{Recovery}
 use Rattle.stage_steps.specs.declared.dying.Recovery.TheVariants.{More, Done}
 use Rattle.stage_steps.specs.Deaths.{RecoversIn, life_behind}
-use Rattle.stage_steps.specs.Scenes.{Scene, beside}
+use Rattle.stage_steps.specs.Scenes.{Scene, NearerIn, beside}
 use Rattle.line_arms.specs.declared.allotment.Allotment.{Allotment}
 use Rattle.line_arms.specs.Going.{GoesOn}
 use Rattle.line_cluster.specs.Going.{IsWriterAt, writes_at}
@@ -53,7 +53,7 @@ unqueued : (locks : State) (s : ℕ) → is_sleeping locks s ≡ false → IsUnq
 unqueued locks s awake w is = subst (λ (o : Option OpenWant). is_queued (granted_at locks.table s) o ≡ false) is awake
 
 -- what happened moves it
-moves : (s : ℕ) (h : Happening) (c d : Beside) (m n : Member) → is_moving h ≡ true → (is_patient_at m.phase ≡ true → is_sleeping c.locks s ≡ false) → Nearer s h c d m n → ComesNearer c d s m n
+moves : (s : ℕ) (h : Happening) (c d : Scene) (m n : Member) → is_moving h ≡ true → (is_patient_at m.phase ≡ true → is_sleeping c.locks s ≡ false) → NearerIn s h c d m n → ComesNearer (beside c) (beside d) s m n
 moves s happens.Quiet c d m n is awake near = near
 moves s (happens.Began kind) c d m n is awake near = near
 moves s (happens.Answered a) c d m n is awake near = near
@@ -114,7 +114,7 @@ module _ (M : Model) (c d : Scene) (members : List Member) (each : List Allotmen
       (subst (λ (k : ℕ). Nears k (rounds_at (slice_set each at b) (suc at)) (beside c) (beside d) (suc at) m n) (sym before-is)
       (subst (λ (l : ℕ). Nears a.rounds l (beside c) (beside d) (suc at) m n) (sym behind-is)
       (as-lives (λ (u v : Member). Nears a.rounds b.rounds (beside c) (beside d) (suc at) u v)
-      ((moves (suc at) h (beside c) (beside d) (session m.left m.total m.phase) (session rest m.total y) moving awake (goes.nearer m.total)).nears a.rounds b.rounds rounds))))
+      ((moves (suc at) h c d (session m.left m.total m.phase) (session rest m.total y) moving awake (goes.nearer m.total)).nears a.rounds b.rounds rounds))))
 
   -- it found a notice due, which was served
   pub falls-served : (u : ℕ) (node : Node) (mode : Mode) (x : Asking) → h ≡ happens.Noticed u node mode x → (behind : State) → behind.parties ≡ d.locks.parties → IsWriterAt (slice_set members at n) u → LocksFall u d.locks behind →
@@ -122,7 +122,7 @@ module _ (M : Model) (c d : Scene) (members : List Member) (each : List Allotmen
   falls-served u node mode x is behind same writer served =
       let e : Beside = record { locks = behind; steps = d.sight.steps } in
       let opened : (v : ℕ) → unopened (opened_of behind v) ≡ unopened (opened_of d.locks v) = λ v. ap (λ (ps : Parties). unopened (party_of ps v).opened) same in
-      let near : Nearer (suc at) (happens.Noticed u node mode x) (beside c) (beside d) (session m.left m.total m.phase) (session rest m.total y) = subst (λ (g : Happening). Nearer (suc at) g (beside c) (beside d) (session m.left m.total m.phase) (session rest m.total y)) is (goes.nearer m.total) in
+      let near : Nearer (suc at) (happens.Noticed u node mode x) (beside c) (beside d) (session m.left m.total m.phase) (session rest m.total y) = subst (λ (g : Happening). NearerIn (suc at) g c d (session m.left m.total m.phase) (session rest m.total y)) is (goes.nearer m.total) in
       all-fall-served (suc at) at (rounds_at each) (rounds_at (slice_set each at b)) (beside c) members m n (omega arith) found (beside d) e u
       (λ v w other. same-weight (rounds_at each v) (rounds_at (slice_set each at b) v) v (beside c) e w (rounds-apart each at v b other) (opened v ∙ ap (λ (p : Party). unopened p.opened) (goes.parties v other)) (goes.does.steps v other))
       (among-from u 1 writer.at (slice_set members at n) writer.member (omega (arith, writer.number)) writer.found)
@@ -205,7 +205,7 @@ module _ (M : Model) (s at : ℕ) (c d : Scene) (members put : List Member) (eac
 
   -- that notice was due
   pub is-due : (n : Notice) → IsNoticed n h → is_spare (granted_at d.locks.table n.to.number) (party_of d.locks.parties n.to.number) n.node ≡ true
-  is-due n noticed = (subst (λ (g : Happening). Nearer s g (beside c) (beside d) (session m.left m.total m.phase) (session rest m.total y)) noticed.is (goes.nearer m.total)).1
+  is-due n noticed = (subst (λ (g : Happening). NearerIn s g c d (session m.left m.total m.phase) (session rest m.total y)) noticed.is (goes.nearer m.total)).1
 
 -- ---- a step of a recovery
 

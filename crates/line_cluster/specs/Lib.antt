@@ -1,3 +1,4 @@
+pub mod Deaths
 pub mod Going
 pub mod Sound
 pub mod Turned

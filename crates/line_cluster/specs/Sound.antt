@@ -19,20 +19,22 @@ use Rattle.session_states.specs.Kept.{IsOpened}
 use Rattle.session_stands.specs.Sessions.{AreSeated, IsTold, sharing}
 use Rattle.stage_steps.specs.Scenes.{Scene}
 use Rattle.line_cluster.specs.declared.sessions.Halt.{Halt}
+use Rattle.line_cluster.specs.Deaths.{CountsFaults, has_device_deaths}
 
--- The store shows a shelf at whose moment each map of lines that a crash may leave stands for what the account has committed, or for that with the one in flight; and each that a crash might have left since the sessions began, or since a commit, for what was committed then, or more.
+-- The store shows a shelf at whose moment each map of lines that a crash may leave stands for what the account has committed, or for that with the one in flight; and each that a crash might have left since the sessions began, or since a commit, for what was committed then, or more. A store can be opened from each image since they began.
 pub record HasImages (M : Model) (o : Opening) (sight : Sight) (events : List Event) : Type 0 where
   pub shelf : Shelf
   pub shown : sight.shows shelf
   pub now : (lines : Lines) → sight.left shelf.clock.time lines → IsNow M o (place o events) lines
-  pub since : AreLeft M o events sight.left shelf.clock.time
+  pub since : AreLeft M o events sight.left sight.opens shelf.clock.time
 
--- Where the opening told what the store holds, the account is legal, and a crash leaves what was committed. As long as no halt has come, each session stands where its phase has it, and what is shown is kept.
-pub record IsSound (M : Model) (told : Type 0) (o : Opening) (c : Scene) (members : List Member) (events : List Event) (halt : Option Halt) : Type 0 where
+-- Where the opening told what the store holds, the account is legal, a crash leaves what was committed, and faults rose since the opening, at which there were so many, where a session died of a device. As long as no halt has come, each session stands where its phase has it, and what is shown is kept.
+pub record IsSound (M : Model) (told : Type 0) (o : Opening) (faults : ℕ) (c : Scene) (members : List Member) (events : List Event) (halt : Option Halt) : Type 0 where
   pub legal : told → IsLegal o events
   pub seated : halt ≡ None → AreSeated c.sight.stand c.locks members
   pub kept : halt ≡ None → told → IsTold M o c.word c.sight c.locks members events
   pub images : told → HasImages M o c.sight events
+  pub causes : told → CountsFaults faults (has_device_deaths events ≡ true) c.sight
 
 -- session s is one of these
 pub record IsOneOf (members : List Member) (s : ℕ) : Type 0 where
@@ -44,10 +46,11 @@ pub record IsOneOf (members : List Member) (s : ℕ) : Type 0 where
 abbrev pub FollowsScripts : Opening → List (List Item) → Type 0
 FollowsScripts o scripts = (i : ℕ) (items : List Item) → slice_get scripts i ≡ Some items → o.script (suc i) ≡ map uttered_of items
 
--- a shelf is shown as an account opens
-pub record IsOpenedBy (M : Model) (o : Opening) (word : List ℕ) (sight : Sight) : Type 0 where
+-- a shelf is shown as an account opens, by whose clock there are no fewer faults than these
+pub record IsOpenedBy (M : Model) (o : Opening) (faults : ℕ) (word : List ℕ) (sight : Sight) : Type 0 where
   pub shelf : Shelf
   pub shown : sight.shows shelf
+  pub no_fewer : faults ≤ shelf.clock.faults
   pub opened : (locks : State) → locks.parties ≡ [] → locks.trail ≡ [] → IsOpened M o (sharing word shelf locks 0)
 
 -- the store shows a shelf whose committed lines stand for the tables behind all commits of the account
@@ -64,8 +67,8 @@ abbrev pub MayFail : Opening → Type 0
 MayFail o = (s : ℕ) → o.may_die s Device ≡ true
 
 -- they are sound, and so many: no more than the tree of locks has owners
-pub record AreSound (M : Model) (told : Type 0) (o : Opening) (sessions : ℕ) (c : Scene) (members : List Member) (events : List Event) (halt : Option Halt) : Type 0 where
-  pub sound : IsSound M told o c members events halt
+pub record AreSound (M : Model) (told : Type 0) (o : Opening) (faults sessions : ℕ) (c : Scene) (members : List Member) (events : List Event) (halt : Option Halt) : Type 0 where
+  pub sound : IsSound M told o faults c members events halt
   pub count : length members ≡ sessions
   pub few : sessions ≤ 16
   pub mortal : MayFail o

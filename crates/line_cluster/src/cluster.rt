@@ -8,6 +8,7 @@ ghost use Rattle.line_store.specs.Seats.{Seat, outside};
 ghost use Rattle.line_store.specs.Sights.{bare};
 ghost use Rattle.lock_tree_laws.specs.Forest.{IsWhole};
 ghost use Rattle.session_stands.specs.Sessions.{AreSeated};
+ghost use Rattle.line_cluster.specs.Deaths.{CountsFaults, has_device_deaths, is_device};
 ghost use Rattle.line_cluster.specs.Measured.{IsBounded};
 ghost use Rattle.line_cluster.specs.Sound.{FollowsScripts, HasImages, IsLeft, IsOpenedBy, IsSession, MayFail, fresh_member};
 ghost use Rattle.line_cluster.specs.Turned.{Came, DeathCame, HasNothingLeft, HaveAllEnded, HaveEnded, IsAtEnd, RecoveryCame, Rests};
@@ -56,7 +57,7 @@ impl<O: Origin, S: Statements, L: LineStore + Drop> Model for LineCluster<O, S, 
 
     ghost view = { λ c. sessions c.core.members.items c.core.events.items c.core.allotments (L.sight c.core.common.store) c.core.common.tree c.core.halt };
 
-    ghost invariant = { λ c. AreSound S.stands O.told O.opening O.sessions (scene c.core.common.word (L.sight c.core.common.store) c.core.common.tree) c.core.members.items (map event_of c.core.events.items) c.core.halt };
+    ghost invariant = { λ c. AreSound S.stands O.told O.opening O.faults O.sessions (scene c.core.common.word (L.sight c.core.common.store) c.core.common.tree) c.core.members.items (map event_of c.core.events.items) c.core.halt };
 }
 
 // A session of each script, which has said nothing.
@@ -87,7 +88,7 @@ impl<O: Origin, S: Reserves + Reaches, L: LineStore + Drop> LineCluster<O, S, L>
         requires short { All (λ items. length items < 2 ^ 32) scripts.items }
         requires outside { (s : ℕ) → (L.sight store).stand s ≡ outside }
         requires mortal { MayFail O.opening }
-        requires opened { O.told → IsOpenedBy S.stands O.opening word (L.sight store) }
+        requires opened { O.told → IsOpenedBy S.stands O.opening O.faults word (L.sight store) }
         ensures events { IfOk result (λ c. c.events ≡ []) }
         ensures members { IfOk result (λ c. c.members ≡ map fresh_member scripts.items) }
         ensures going { IfOk result (λ c. c.halted ≡ false) }
@@ -126,10 +127,11 @@ impl<O: Origin, S: Reserves + Reaches, L: LineStore + Drop> LineCluster<O, S, L>
         self.core.turn(s)
     }
 
-    /// A session dies where it stands, unless it has nothing left to do.
+    /// A session dies where it stands, unless it has nothing left to do. (It dies of a device in its turn alone, where a call of the store failed.)
     pub fn die(&mut self, s: Session, cause: Cause)
         requires session { IsSession O.sessions s.number }
         requires mortal { (O.opening.may_die s.number cause && not (is_stop cause)) ≡ true }
+        requires own { is_device cause ≡ false }
         ensures came { DeathCame s.number cause self.old self.new }
     {
         self.core.die(s, cause);
@@ -196,6 +198,7 @@ impl<O: Origin, S: Reserves + Reaches, L: LineStore + Drop> LineCluster<O, S, L>
         ensures events { result.events ≡ self.events }
         ensures left { O.told → self.halted ≡ false → IsLeft S.stands O.opening (L.sight result.store) (map event_of self.events) }
         ensures images { O.told → HasImages S.stands O.opening (L.sight result.store) (map event_of self.events) }
+        ensures faults { O.told → CountsFaults O.faults (has_device_deaths (map event_of self.events) ≡ true) (L.sight result.store) }
         ensures outside { self.halted ≡ false → HaveEnded self.members → (s : ℕ) → bare ((L.sight result.store).stand s) ≡ outside }
     {
         let LineCluster { core } = self;

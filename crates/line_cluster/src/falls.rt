@@ -8,6 +8,7 @@ ghost use Rattle.session_states.specs.declared.stage.Member.{Member as MemberVal
 ghost use Rattle.session_stands.specs.Sessions.{dead_in};
 ghost use Rattle.stage_steps.specs.Deaths.{life_behind as life_behind_it};
 ghost use Rattle.stage_steps.specs.Scenes.{scene};
+ghost use Rattle.line_cluster.specs.Deaths.{CountsFaults, is_device};
 ghost use Rattle.line_cluster.specs.Going.{IsDeadAt, is_dead as is_dead_at};
 ghost use Rattle.line_cluster.specs.Sound.{IsSound, IsOneOf};
 ghost use Rattle.line_cluster.specs.Turned.{DeathCame, GoesOn, RecoveryCame, sessions, with_life};
@@ -53,12 +54,13 @@ fn life_behind(step: &Result<Recovery, Fault>) -> Life
 }
 
 impl<O: Origin, S: Reserves + Reaches, L: LineStore> Core<O, S, L> {
-    /// A session dies where it stands. Nothing changes where it has nothing left to do, nor behind a halt.
+    /// A session dies where it stands, of something other than a device. Nothing changes where it has nothing left to do, nor behind a halt.
     pub fn die(&mut self, s: Session, cause: Cause)
         requires one { IsOneOf self.old.members.items s.number }
         requires mortal { (O.opening.may_die s.number cause && not (is_stop cause)) ≡ true }
-        requires sound { IsSound S.stands O.told O.opening (scene self.old.common.word (L.sight self.old.common.store) self.old.common.tree) self.old.members.items (map event_of self.old.events.items) self.old.halt }
-        ensures sound { IsSound S.stands O.told O.opening (scene self.new.common.word (L.sight self.new.common.store) self.new.common.tree) self.new.members.items (map event_of self.new.events.items) self.new.halt }
+        requires own { is_device cause ≡ false }
+        requires sound { IsSound S.stands O.told O.opening O.faults (scene self.old.common.word (L.sight self.old.common.store) self.old.common.tree) self.old.members.items (map event_of self.old.events.items) self.old.halt }
+        ensures sound { IsSound S.stands O.told O.opening O.faults (scene self.new.common.word (L.sight self.new.common.store) self.new.common.tree) self.new.members.items (map event_of self.new.events.items) self.new.halt }
         ensures count { length self.new.members.items ≡ length self.old.members.items }
         ensures came { DeathCame s.number cause (sessions self.old.members.items self.old.events.items self.old.allotments (L.sight self.old.common.store) self.old.common.tree self.old.halt) (sessions self.new.members.items self.new.events.items self.new.allotments (L.sight self.new.common.store) self.new.common.tree self.new.halt) }
     {
@@ -76,16 +78,17 @@ impl<O: Origin, S: Reserves + Reaches, L: LineStore> Core<O, S, L> {
         self.fall(s, at, cause);
     }
 
-    /// A session that lives dies where it stands, and keeps its locks.
+    /// A session that lives dies where it stands, and keeps its locks. It dies of a device only where faults rose.
     pub(crate) fn fall(&mut self, s: Session, at: usize, cause: Cause)
         requires one { IsOneOf self.old.members.items s.number }
         requires at { at ≡ s.number - 1 }
         requires mortal { (O.opening.may_die s.number cause && not (is_stop cause)) ≡ true }
-        requires sound { IsSound S.stands O.told O.opening (scene self.old.common.word (L.sight self.old.common.store) self.old.common.tree) self.old.members.items (map event_of self.old.events.items) self.old.halt }
+        requires caused { O.told → CountsFaults O.faults (is_device cause ≡ true) (L.sight self.old.common.store) }
+        requires sound { IsSound S.stands O.told O.opening O.faults (scene self.old.common.word (L.sight self.old.common.store) self.old.common.tree) self.old.members.items (map event_of self.old.events.items) self.old.halt }
         requires going { self.old.halt ≡ None }
         requires room { vec_len self.old.events + 6 ≤ vec_capacity self.old.events }
         requires lives { (m : MemberValue) → slice_get self.old.members.items at ≡ Some m → m.life ≡ Life.Alive }
-        ensures sound { IsSound S.stands O.told O.opening (scene self.new.common.word (L.sight self.new.common.store) self.new.common.tree) self.new.members.items (map event_of self.new.events.items) self.new.halt }
+        ensures sound { IsSound S.stands O.told O.opening O.faults (scene self.new.common.word (L.sight self.new.common.store) self.new.common.tree) self.new.members.items (map event_of self.new.events.items) self.new.halt }
         ensures count { length self.new.members.items ≡ length self.old.members.items }
         ensures died { (m : MemberValue) → slice_get self.old.members.items at ≡ Some m → self.new.members.items ≡ slice_set self.old.members.items at (with_life Life.Dead m) }
         ensures events { map event_of self.new.events.items ≡ map event_of self.old.events.items ++ Died s.number cause ∷ [] }
@@ -111,8 +114,8 @@ impl<O: Origin, S: Reserves + Reaches, L: LineStore> Core<O, S, L> {
     /// A step of the recovery of the first session that died.
     pub fn recover(&mut self) -> Turn
         requires few { length self.old.members.items ≤ 16 }
-        requires sound { IsSound S.stands O.told O.opening (scene self.old.common.word (L.sight self.old.common.store) self.old.common.tree) self.old.members.items (map event_of self.old.events.items) self.old.halt }
-        ensures sound { IsSound S.stands O.told O.opening (scene self.new.common.word (L.sight self.new.common.store) self.new.common.tree) self.new.members.items (map event_of self.new.events.items) self.new.halt }
+        requires sound { IsSound S.stands O.told O.opening O.faults (scene self.old.common.word (L.sight self.old.common.store) self.old.common.tree) self.old.members.items (map event_of self.old.events.items) self.old.halt }
+        ensures sound { IsSound S.stands O.told O.opening O.faults (scene self.new.common.word (L.sight self.new.common.store) self.new.common.tree) self.new.members.items (map event_of self.new.events.items) self.new.halt }
         ensures count { length self.new.members.items ≡ length self.old.members.items }
         ensures came { RecoveryCame (sessions self.old.members.items self.old.events.items self.old.allotments (L.sight self.old.common.store) self.old.common.tree self.old.halt) (sessions self.new.members.items self.new.events.items self.new.allotments (L.sight self.new.common.store) self.new.common.tree self.new.halt) result }
         ensures nearer { result ≡ Turn.Moved → Less (sessions self.new.members.items self.new.events.items self.new.allotments (L.sight self.new.common.store) self.new.common.tree self.new.halt).measure (sessions self.old.members.items self.old.events.items self.old.allotments (L.sight self.old.common.store) self.old.common.tree self.old.halt).measure }
@@ -131,11 +134,11 @@ impl<O: Origin, S: Reserves + Reaches, L: LineStore> Core<O, S, L> {
 
     fn recover_at(&mut self, at: usize) -> Turn
         requires few { length self.old.members.items ≤ 16 }
-        requires sound { IsSound S.stands O.told O.opening (scene self.old.common.word (L.sight self.old.common.store) self.old.common.tree) self.old.members.items (map event_of self.old.events.items) self.old.halt }
+        requires sound { IsSound S.stands O.told O.opening O.faults (scene self.old.common.word (L.sight self.old.common.store) self.old.common.tree) self.old.members.items (map event_of self.old.events.items) self.old.halt }
         requires going { self.old.halt ≡ None }
         requires room { vec_len self.old.events + 6 ≤ vec_capacity self.old.events }
         requires dead { IsDeadAt self.old.members.items at }
-        ensures sound { IsSound S.stands O.told O.opening (scene self.new.common.word (L.sight self.new.common.store) self.new.common.tree) self.new.members.items (map event_of self.new.events.items) self.new.halt }
+        ensures sound { IsSound S.stands O.told O.opening O.faults (scene self.new.common.word (L.sight self.new.common.store) self.new.common.tree) self.new.members.items (map event_of self.new.events.items) self.new.halt }
         ensures count { length self.new.members.items ≡ length self.old.members.items }
         ensures came { RecoveryCame (sessions self.old.members.items self.old.events.items self.old.allotments (L.sight self.old.common.store) self.old.common.tree self.old.halt) (sessions self.new.members.items self.new.events.items self.new.allotments (L.sight self.new.common.store) self.new.common.tree self.new.halt) result }
         ensures nearer { result ≡ Turn.Moved → Less (sessions self.new.members.items self.new.events.items self.new.allotments (L.sight self.new.common.store) self.new.common.tree self.new.halt).measure (sessions self.old.members.items self.old.events.items self.old.allotments (L.sight self.old.common.store) self.old.common.tree self.old.halt).measure }

@@ -11,6 +11,9 @@ pub trait Origin {
     /// How many sessions it has, which are numbered from 1.
     ghost sessions: { ℕ };
 
+    /// How many faults the store's clock had counted before it.
+    ghost faults: { ℕ };
+
     /// Whether the opening told what the store holds.
     ghost told: { Type 0 };
 }
@@ -31,6 +34,8 @@ impl Origin for Brand {
     } };
 
     ghost sessions = { 0 };
+
+    ghost faults = { 0 };
 
     ghost told = { Unit {0} };
 }

@@ -1,11 +1,12 @@
 //! The sessions as drivers see them.
-ghost use Rattle.std.specs.Prelude.{◌≡◌, ◌≤◌, ℕ, [], drop, length, map, false, is_some};
+ghost use Rattle.std.specs.Prelude.{◌≡◌, ◌≤◌, ℕ, [], drop, length, map, false, true, is_some};
 ghost use Rattle.rdb_account.specs.Events.{event_of};
 ghost use Rattle.rdb_account.specs.Legal.{IsLegal};
 ghost use Rattle.rdb_drive.specs.Boards.{IsSession, AllEnded, answers};
 ghost use Rattle.rdb_drive.specs.Steps.{StepOf};
 ghost use Rattle.line_store.specs.Seats.{outside};
 ghost use Rattle.line_store.specs.Sights.{bare};
+ghost use Rattle.line_cluster.specs.Deaths.{CountsFaults, has_device_deaths};
 ghost use Rattle.line_cluster.specs.Sound.{HasImages, IsLeft};
 ghost use Rattle.line_cluster.specs.Turned.{HaveAllEnded};
 ghost use Rattle.line_drive.specs.Boards.{board_of, marks_of};
@@ -123,6 +124,7 @@ impl<O: Origin, S: Reserves + Reaches, L: LineStore + Drop> LineDriver<O, S, L> 
         ensures events { result.events ≡ self.events }
         ensures left { O.told → self.halted ≡ false → IsLeft S.stands O.opening (L.sight result.store) (map event_of self.events) }
         ensures images { O.told → HasImages S.stands O.opening (L.sight result.store) (map event_of self.events) }
+        ensures faults { O.told → CountsFaults O.faults (has_device_deaths (map event_of self.events) ≡ true) (L.sight result.store) }
         ensures outside { self.halted ≡ false → AllEnded O.sessions (board_of O.told O.opening self) → (s : ℕ) → bare ((L.sight result.store).stand s) ≡ outside }
     {
         let LineDriver {

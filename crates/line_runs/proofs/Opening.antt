@@ -18,8 +18,8 @@ pub at-moment : (image : Image) (journal : Journal) (moment : ℕ) (o : Opening)
 at-moment image journal moment o h = record { root = h.root; is = h.is; limits = h.limits; owners = h.owners; slots = h.slots; past = from-none o.moment moment h.past }
 
 -- Where one sight shows what another does, an account that opens with that opens with this.
-pub same-shown : (M : Model) (o : Opening) (word : List ℕ) (old new : Sight) → ((h : Shelf) → old.shows h → new.shows h) → IsOpenedBy M o word old → IsOpenedBy M o word new
-same-shown M o word old new shows h = record { shelf = h.shelf; shown = shows h.shelf h.shown; opened = h.opened }
+pub same-shown : (M : Model) (o : Opening) (faults : ℕ) (word : List ℕ) (old new : Sight) → ((h : Shelf) → old.shows h → new.shows h) → IsOpenedBy M o faults word old → IsOpenedBy M o faults word new
+same-shown M o faults word old new shows h = record { shelf = h.shelf; shown = shows h.shelf h.shown; no_fewer = h.no_fewer; opened = h.opened }
 
 pub same-fault : (a b : OpeningFault) (x : Option OpeningFault) → x ≡ Some a → x ≡ Some b → a ≡ b
 same-fault a b x h k = grind arith

@@ -1,65 +1,63 @@
 -- What a crash leaves of the disk, of what the store over it had.
-use Rattle.std.proofs.Common.{◌≡◌, ◌∙◌, ℕ, List, Some, None, sym, ap, subst, ◌⊎◌, inl, inr, ⊎_elim}
+use Rattle.std.proofs.Common.{◌≡◌, ◌∙◌, ◌-◌, ℕ, List, Some, None, sym, ap, subst, ◌⊎◌, inl, inr, ⊎_elim}
 use Rattle.std.proofs.lemmas.Option.{none-some}
-use Rattle.rdb_outside.specs.Disk.{Image, View, LeftNow, Pending}
+use Rattle.rdb_outside.specs.Disk.{Image, View, LeftNow, Pending, IsPending}
 use Rattle.rdb_outside.specs.Moments.{each_slot}
 use Rattle.rdb_account.specs.Events.{Event}
 use Rattle.rdb_account.specs.Places.{Opening, Commit, place}
 use Rattle.line_view.specs.declared.writes.Write.{Write}
 use Rattle.line_view.specs.Knowledge.{Lines}
+use Rattle.stable_lines.specs.Slots.{area_file}
 use Rattle.stable_lines.specs.Progress.{lines_with}
 use Rattle.stable_lines.proofs.Stands.{stands}
-use Rattle.disk_seats.specs.Ledgers.{Commit as Going, progress_of}
+use Rattle.disk_seats.specs.Ledgers.{Commit as Going, Ledger, progress_of}
 use Rattle.member_steps.specs.Standing.{HasLines}
 use Rattle.member_steps.proofs.Left.{by_case}
 use Rattle.store_shows.specs.Shows.{Leaves}
 use Rattle.disk_store.specs.Memory.{StoreMemory}
 use Rattle.disk_store.specs.Shown.{Shown}
 use Rattle.disk_line_store.specs.Back.{IsBack}
-use Rattle.disk_store.proofs.Agreeing.{agreeing, standing}
+use Rattle.disk_store.proofs.Agreeing.{agreeing, shown-opens, standing}
 use Rattle.line_store.specs.Seats.{Seat, outside, beginning, writing, changing, prepared, committing, rolling_back, closing, reading, dead, in_flight}
 use Rattle.line_store.specs.Shelves.{Shelf}
 use Rattle.line_store.specs.Calls.{MayStand}
 use Rattle.line_store.specs.Sights.{Sight, bare}
 use Rattle.session_jobs.specs.Records.{Model}
 use Rattle.session_stands.proofs.Seats.{outside-seat}
+use Rattle.line_cluster.specs.Deaths.{CountsFaults, has_device_deaths}
 use Rattle.line_cluster.specs.Sound.{HasImages, IsLeft}
+use Rattle.store_shows.specs.Shows.{OpensTo}
 use Rattle.line_runs.specs.Prefix.{IsPrefix, HoldsAll, HoldsPrefix}
-
--- opening can start from each image that a crash may leave
-opens : (v : View) (held : StoreMemory) (h : Shelf) → Shown v held h → (image : Image) → LeftNow v image → (lines : Lines) × HasLines image lines
-opens v held h shown image left =
-    let now = shown.ledger in
-    let pending = each_slot v image left in
-    ⊎_elim
-    (λ (has : HasLines image now.base.lines). (now.base.lines, has))
-    (λ (up : (c : Going) × (now.commit ≡ Some c) × HasLines image (lines_with now.base c.flight)). (lines_with now.base up.0.flight, up.2))
-    (by_case v now shown.facts image (stands (Pending v) (progress_of now) shown.facts.facts image pending))
 
 -- as the store has it
 leaves-now : (v : View) (held : StoreMemory) (h : Shelf) → Shown v held h → (image : Image) (lines : Lines) → LeftNow v image → HasLines image lines → Leaves v h.clock.time lines
 leaves-now v held h shown image lines left has = record { image = image; left = subst (λ (t : ℕ). v.left_since t image) (sym shown.lines.time) left; stands = has }
+
+-- the faults that the store counted are the disk's
+pub harmed : (v : View) (events : List Event) (sight : Sight) → IsBack sight v → (faults : ℕ) → CountsFaults faults (has_device_deaths events ≡ true) sight → has_device_deaths events ≡ true → Rose faults v.faults
+harmed v events sight back faults k died = subst (λ (n : ℕ). Rose faults n) (back.shows k.shelf k.shown).lines.faults (k.rose died)
 
 module _ (M : Model) (o : Opening) (v : View) (events : List Event) (sight : Sight) (back : IsBack sight v) where
   pub holds-prefix : HasImages M o sight events → HoldsPrefix M o v events
   holds-prefix has = record {
     now = λ image l.
         let shown = back.shows has.shelf has.shown in
-        let it = opens v back.held has.shelf shown image l in
-        record { lines = it.0; has = it.1; stands = has.now it.0 (back.left has.shelf.clock.time it.0 (leaves-now v back.held has.shelf shown image it.0 l it.1)) };
+        let it = shown-opens v back.held has.shelf shown image (each_slot v image l) in
+        record { lines = it.0; opens = it.1; stands = has.now it.0 (back.left has.shelf.clock.time it.0 (leaves-now v back.held has.shelf shown image it.0 l it.1.has)) };
     since = λ k c found image l lines is. has.since.each k c found lines (back.left c.moment lines (record { image = image; left = l; stands = is }));
     began = has.since.began;
     opened = has.since.opened;
     later = has.since.later;
     opening = λ image l lines is. has.since.opening lines (back.left has.since.began lines (record { image = image; left = l; stands = is }));
+    openable = back.opens has.since.began has.since.openable;
   }
 
   pub holds-all : IsLeft M o sight events → ((s : ℕ) → bare (sight.stand s) ≡ outside) → HoldsAll M o v events
   holds-all it rests = record {
     each = λ image l.
         let shown = back.shows it.shelf it.shown in
-        let has = opens v back.held it.shelf shown image l in
-        (has.0, has.1, still has.0 (standing v back.held it.shelf shown has.0 (leaves-now v back.held it.shelf shown image has.0 l has.1)));
+        let has = shown-opens v back.held it.shelf shown image (each_slot v image l) in
+        (has.0, has.1, still has.0 (standing v back.held it.shelf shown has.0 (leaves-now v back.held it.shelf shown image has.0 l has.1.has)));
   }
     where
       idle : (s : ℕ) → it.shelf.seat s ≡ outside

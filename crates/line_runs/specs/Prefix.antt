@@ -3,22 +3,23 @@ use Rattle.std.specs.Prelude.{ℕ, suc, ◌≤◌, ◌≡◌, List, Some, slice_
 use Rattle.rdb_outside.specs.Disk.{Image, View, LeftNow}
 use Rattle.line_view.specs.Knowledge.{Lines}
 use Rattle.member_steps.specs.Standing.{HasLines}
+use Rattle.store_shows.specs.Shows.{AllOpen, OpensTo}
 use Rattle.rdb_account.specs.Events.{Event}
 use Rattle.rdb_account.specs.Places.{Opening, Commit, place}
 use Rattle.session_jobs.specs.Records.{Model}
 use Rattle.line_steps.specs.Images.{IsLeft, IsNow}
 
--- the image stands for what the account has committed, or for that with the one in flight, and opening can start from it
+-- the image stands for what the account has committed, or for that with the one in flight, and an opening shows that
 pub record IsPrefix (M : Model) (o : Opening) (events : List Event) (image : Image) : Type 0 where
   pub lines : Lines
-  pub has : HasLines image lines
+  pub opens : OpensTo image lines
   pub stands : IsNow M o (place o events) lines
 
 -- whatever lines the image stands for, they stand for what was committed at a place of the account with at least k commits before it, or for that with the one in flight there
 abbrev pub IsFrom : Model → Opening → List Event → ℕ → Image → Type 0
 IsFrom M o events k image = (lines : Lines) → HasLines image lines → IsLeft M o events k lines
 
--- Opening can start from each image that a crash may leave now, and it stands for all commits. One that a crash might have left since a commit stands for that commit or a later one; and so since the sessions began, which was not before the opening's moment.
+-- Each image that a crash may leave now, or might have left since the sessions began, which was not before the opening's moment, can be opened. What may be left now stands for all commits; what might have been left since a commit, for that commit or a later one; and so since the sessions began.
 pub record HoldsPrefix (M : Model) (o : Opening) (v : View) (events : List Event) : Type 0 where
   pub now : (image : Image) → LeftNow v image → IsPrefix M o events image
   pub since : (k : ℕ) (c : Commit) → slice_get (place o events).commits k ≡ Some c → (image : Image) → v.left_since c.moment image → IsFrom M o events (suc k) image
@@ -26,7 +27,8 @@ pub record HoldsPrefix (M : Model) (o : Opening) (v : View) (events : List Event
   pub opened : o.moment ≤ began
   pub later : (k : ℕ) (c : Commit) → slice_get (place o events).commits k ≡ Some c → began ≤ c.moment
   pub opening : (image : Image) → v.left_since began image → IsFrom M o events 0 image
+  pub openable : AllOpen v began
 
--- each image that a crash may leave stands for the tables of all commits
+-- each image that a crash may leave can be opened, and stands for the tables of all commits
 pub record HoldsAll (M : Model) (o : Opening) (v : View) (events : List Event) : Type 0 where
-  pub each : (image : Image) → LeftNow v image → (lines : Lines) × HasLines image lines × M lines (place o events).tables
+  pub each : (image : Image) → LeftNow v image → (lines : Lines) × OpensTo image lines × M lines (place o events).tables

@@ -8,6 +8,7 @@ ghost use Rattle.line_store.specs.Seats.{outside};
 ghost use Rattle.line_store.specs.Sights.{bare};
 ghost use Rattle.rdb_account.specs.Legal.{IsLegal};
 ghost use Rattle.rdb_drive.specs.Boards.{IsSession, MayDie};
+ghost use Rattle.line_cluster.specs.Deaths.{CountsFaults, has_device_deaths};
 ghost use Rattle.line_cluster.specs.Sound.{FollowsScripts, HasImages, IsLeft, MayFail};
 ghost use Rattle.line_cluster.specs.Turned.{HaveAllEnded};
 ghost use Rattle.line_drive.specs.Boards.{mortals_of};
@@ -73,6 +74,7 @@ fn begin<O: Origin, D: Disk + Drop>(
     requires mortal { MayFail O.opening }
     requires word { said.word ≡ O.opening.word }
     requires opens { O.told → OpensWith ⟦<ReservingStatements as Statements>⟧.stands (D.view disk) O.opening }
+    requires faults { O.told → O.faults ≡ (D.view disk).faults }
     ensures events { IfOk result (λ c. c.events ≡ []) }
     ensures failed { IfErr result (λ u. u.fault ≡ OpeningFault.Failed → Rose (D.view disk).faults (D.view u.disk).faults) }
     ensures bad { (file : File) (slot : ℕ) → IfErr result (λ u. u.fault ≡ OpeningFault.Bad file slot → HasNoNumbers (D.view disk)) }
@@ -112,6 +114,7 @@ fn ended<D: Disk + Drop>(ran: Ran<DiskStore<D>>) -> LineRun<D>
     ensures events { result.events ≡ ran.events }
     ensures is_whole { result.is_whole ≡ ran.is_whole }
     ensures fault { result.fault ≡ None }
+    ensures faults { (faults : ℕ) (events : List Event) → CountsFaults faults (has_device_deaths events ≡ true) (⟦<DiskStore<D> as LineStore>⟧.sight ran.store) → has_device_deaths events ≡ true → Rose faults (D.view result.disk).faults }
     ensures images { (o : Opening) (events : List Event) → HasImages ⟦<ReservingStatements as Statements>⟧.stands o (⟦<DiskStore<D> as LineStore>⟧.sight ran.store) events → HoldsPrefix ⟦<ReservingStatements as Statements>⟧.stands o (D.view result.disk) events }
     ensures left { (o : Opening) (events : List Event) → IsLeft ⟦<ReservingStatements as Statements>⟧.stands o (⟦<DiskStore<D> as LineStore>⟧.sight ran.store) events → ((s : ℕ) → bare ((⟦<DiskStore<D> as LineStore>⟧.sight ran.store).stand s) ≡ outside) → HoldsAll ⟦<ReservingStatements as Statements>⟧.stands o (D.view result.disk) events }
 {
@@ -140,11 +143,13 @@ pub fn say_in_order<O: Origin, D: Disk + Drop, G: Gate>(
     requires word { said.word ≡ O.opening.word }
     requires mortals { MayDie (G.mortals gate.now) (mortals_of O.opening O.sessions) }
     requires opens { O.told → OpensWith ⟦<ReservingStatements as Statements>⟧.stands (D.view disk) O.opening }
+    requires faults { O.told → O.faults ≡ (D.view disk).faults }
     ensures legal { O.told → IsLegal O.opening (map event_of result.events) }
     ensures whole { O.told → result.is_whole ≡ true → HaveAllEnded O.opening O.sessions (map event_of result.events) }
     ensures order { O.told → result.is_whole ≡ true → KeepsTurns O.opening O.sessions order.now result.events }
     ensures images { O.told → result.fault ≡ None → HoldsPrefix ⟦<ReservingStatements as Statements>⟧.stands O.opening (D.view result.disk) (map event_of result.events) }
     ensures left { O.told → result.is_whole ≡ true → HoldsAll ⟦<ReservingStatements as Statements>⟧.stands O.opening (D.view result.disk) (map event_of result.events) }
+    ensures harmed { O.told → has_device_deaths (map event_of result.events) ≡ true → Rose (D.view disk).faults (D.view result.disk).faults }
     ensures failed { result.fault ≡ Some OpeningFault.Failed → Rose (D.view disk).faults (D.view result.disk).faults }
     ensures bad { (file : File) (slot : ℕ) → result.fault ≡ Some (OpeningFault.Bad file slot) → HasNoNumbers (D.view disk) }
     ensures unsaid { (result.fault ≡ None → ⊥) → result.events ≡ [] }
@@ -171,10 +176,12 @@ pub fn say_in_threads<
     requires word { said.word ≡ O.opening.word }
     requires mortals { MayDie (G.mortals gate.now) (mortals_of O.opening O.sessions) }
     requires opens { O.told → OpensWith ⟦<ReservingStatements as Statements>⟧.stands (D.view disk) O.opening }
+    requires faults { O.told → O.faults ≡ (D.view disk).faults }
     ensures legal { O.told → IsLegal O.opening (map event_of result.events) }
     ensures whole { O.told → result.is_whole ≡ true → HaveAllEnded O.opening O.sessions (map event_of result.events) }
     ensures images { O.told → result.fault ≡ None → HoldsPrefix ⟦<ReservingStatements as Statements>⟧.stands O.opening (D.view result.disk) (map event_of result.events) }
     ensures left { O.told → result.is_whole ≡ true → HoldsAll ⟦<ReservingStatements as Statements>⟧.stands O.opening (D.view result.disk) (map event_of result.events) }
+    ensures harmed { O.told → has_device_deaths (map event_of result.events) ≡ true → Rose (D.view disk).faults (D.view result.disk).faults }
     ensures failed { result.fault ≡ Some OpeningFault.Failed → Rose (D.view disk).faults (D.view result.disk).faults }
     ensures bad { (file : File) (slot : ℕ) → result.fault ≡ Some (OpeningFault.Bad file slot) → HasNoNumbers (D.view disk) }
     ensures unsaid { (result.fault ≡ None → ⊥) → result.events ≡ [] }

@@ -58,9 +58,10 @@ module _ (M : Model) (orderly : IsOrderly M) where
       }
 
   -- events alone, with no commit
-  pub left-more : (o : Opening) (events es : List Event) (left : ℕ → Lines → Type 0) (time : ℕ) → (place o (events ++ es)).commits ≡ (place o events).commits → AreLeft M o events left time → AreLeft M o (events ++ es) left time
-  left-more o events es left time same h = record {
+  pub left-more : (o : Opening) (events es : List Event) (left : ℕ → Lines → Type 0) (opens : ℕ → Type 0) (time : ℕ) → (place o (events ++ es)).commits ≡ (place o events).commits → AreLeft M o events left opens time → AreLeft M o (events ++ es) left opens time
+  left-more o events es left opens time same h = record {
     began = h.began;
+    openable = h.openable;
     opened = h.opened;
     going = h.going;
     later = λ k c found. h.later k c (ap (λ cs. slice_get cs k) (sym same) ∙ found);
@@ -70,13 +71,15 @@ module _ (M : Model) (orderly : IsOrderly M) where
   }
 
   -- A call of a store, and events behind it: what may stand before it and behind it stands at the places before and behind the events, and a commit among them bears this moment.
-  pub left-goes-on : (o : Opening) (events es : List Event) (before behind : ℕ → Lines → Type 0) (old new : Shelf) → ((lines : Lines) → behind new.clock.time lines → MayStand new lines) → Lasts before behind old new → old.clock.time ≤ new.clock.time →
+  pub left-goes-on : (o : Opening) (events es : List Event) (before behind : ℕ → Lines → Type 0) (opened-before opened-behind : ℕ → Type 0) (old new : Shelf) → ((lines : Lines) → behind new.clock.time lines → MayStand new lines) → Lasts before behind old new →
+      ((t : ℕ) → t ≤ old.clock.time → opened-before t → opened-behind t) → old.clock.time ≤ new.clock.time →
       ((lines : Lines) → MayStand old lines → IsNow M o (place o events) lines) → ((lines : Lines) → MayStand new lines → IsNow M o (place o (events ++ es)) lines) →
       ((k : ℕ) (c : Commit) → slice_get (place o (events ++ es)).commits k ≡ Some c → (slice_get (place o events).commits k ≡ Some c) ⊎ (c.moment ≡ new.clock.time)) →
       length (place o events).commits ≤ length (place o (events ++ es)).commits →
-      AreLeft M o events before old.clock.time → AreLeft M o (events ++ es) behind new.clock.time
-  left-goes-on o events es before behind old new stands lasts later was now grown more h = record {
+      AreLeft M o events before opened-before old.clock.time → AreLeft M o (events ++ es) behind opened-behind new.clock.time
+  left-goes-on o events es before behind opened-before opened-behind old new stands lasts opens later was now grown more h = record {
     began = h.began;
+    openable = opens h.began h.going h.openable;
     opened = h.opened;
     going = omega (arith, h.going, later);
     opening = λ lines l. since 0 h.began h.going (omega arith) lines (h.opening lines) (lasts.since h.began lines h.going l);

@@ -1,5 +1,5 @@
 -- What a store shows of what it holds. A store on a disk holds its lines there, so that its memory alone doesn't say which they are: it shows a shelf, and which one is a relation.
-use Rattle.std.specs.Prelude.{take, ◌≡◌, ◌<◌, ◌==◌, ◌^◌, ℕ, true, false, List, [], Option, Some, None, Result, Ok, Err, is_some}
+use Rattle.std.specs.Prelude.{take, ◌≡◌, ◌≤◌, ◌<◌, ◌==◌, ◌^◌, ℕ, true, false, List, [], Option, Some, None, Result, Ok, Err, is_some}
 use Rattle.rdb_types.specs.declared.keys.Dbkey.{Dbkey}
 use Rattle.line_view.specs.Knowledge.{Lines, line_in, lines_in}
 use Rattle.line_view.specs.Held.{Held, with_line, with_area}
@@ -22,6 +22,8 @@ pub record Sight : Type 1 where
   pub steps : ℕ → ℕ
   -- the maps of lines for which the images stand that a crash since a moment might have left
   pub left : ℕ → Lines → Type 0
+  -- whether a store can be opened from each image that a crash since a moment might have left
+  pub opens : ℕ → Type 0
 
 -- a seat without lines
 abbrev pub bare : Seat → Seat
@@ -49,14 +51,19 @@ pub record Counts (sight : Sight) : Type 0 where
 abbrev pub Stands : Sight → Type 0
 Stands sight = (h : Shelf) → sight.shows h → (lines : Lines) → sight.left h.clock.time lines → MayStand h lines
 
+-- a store can be opened from what a crash may leave now
+abbrev pub MayBeOpened : Sight → Type 0
+MayBeOpened sight = (h : Shelf) → sight.shows h → sight.opens h.clock.time
+
 -- ---- calls
 
--- A shelf is shown behind the call that is related to the one before it.
+-- A shelf is shown behind the call that is related to the one before it. From what a crash might have left a store can be opened as before it.
 pub record Behind (old new : Sight) (R : Shelf → Shelf → Type 0) (before : Shelf) : Type 0 where
   pub shelf : Shelf
   pub shown : new.shows shelf
   pub related : R before shelf
   pub lasts : Lasts old.left new.left before shelf
+  pub opens : (t : ℕ) → t ≤ before.clock.time → old.opens t → new.opens t
 
 -- Session s comes to stand there, and others stand as they did and have as many steps. Where a shelf was shown, one is shown that is related to it.
 pub record Does (s : ℕ) (there : Seat) (R : Shelf → Shelf → Type 0) (old new : Sight) : Type 0 where

@@ -19,7 +19,7 @@ pub trait LineStore {
     ghost use Rattle.line_store.specs.Shelves.{Shelf, seen_by};
     ghost use Rattle.line_store.specs.Rooms.{IsRoom, IsFull, Takes, IsTaken};
     ghost use Rattle.line_store.specs.Calls.{Moves, Changes, MayStopChange, MayStopCommit};
-    ghost use Rattle.line_store.specs.Sights.{Sight, Agrees, Counts, Stands, Does, Stays, BeginsReading, Prepares, GivesBack, BeginsCommit, RollsBack, Dies, Reads, LearnsLine, LearnsArea, LearnsSome, Steps, IsLess, MayAnswer, stepped_to, StandsAlone};
+    ghost use Rattle.line_store.specs.Sights.{Sight, Agrees, Counts, Stands, Does, Stays, BeginsReading, Prepares, GivesBack, BeginsCommit, RollsBack, Dies, Reads, LearnsLine, LearnsArea, LearnsSome, Steps, IsLess, MayAnswer, MayBeOpened, stepped_to, StandsAlone};
 
     /// What the store shows of what it holds.
     ghost sight: { Self → Sight };
@@ -32,6 +32,9 @@ pub trait LineStore {
 
     /// A crash leaves what is committed, or has the commit that is under way.
     ghost stands: { (store : Self) → Stands (sight store) };
+
+    /// A store can be opened from what a crash leaves.
+    ghost opens: { (store : Self) → MayBeOpened (sight store) };
 
     /// Begins a read-write transaction.
     fn begin(&mut self, s: Session)

@@ -77,6 +77,7 @@ pub fn begin_members<D: Disk>(disk: &mut D, next_tsn: u64) -> Result<Root, Fault
 
     // The root is the one that stands then.
     ensures allowed { IfOk result IsAllowed }
+    ensures state { IfOk result (λ root. root.state ≡ 1) }
     ensures ceiling { IfOk result (λ root. root.ceiling ≡ next_tsn + 64) }
     ensures limits { IfOk result (λ root. IsTrue (D.view disk.old).tells → (base : Progress)
         → Facts (Pending (D.view disk.old)) base → root.limits ≡ base.limits) }

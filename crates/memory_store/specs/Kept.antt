@@ -103,9 +103,13 @@ shelf_of k = record {
 abbrev pub left_of : Kept → ℕ → Lines → Type 0
 left_of k t lines = ⊥
 
+-- so none has to be opened
+abbrev pub none_of : Kept → ℕ → Type 0
+none_of k t = (lines : Lines) → left_of k t lines → ⊥
+
 -- it shows the one shelf that it holds
 abbrev pub sight_of : Kept → Sight
-sight_of k = record { shows = λ h. h ≡ shelf_of k; stand = seat_at k.seats; steps = λ s. 0; left = left_of k }
+sight_of k = record { shows = λ h. h ≡ shelf_of k; stand = seat_at k.seats; steps = λ s. 0; left = left_of k; opens = none_of k }
 
 -- no step is ever left
 pub none_left : 0 < 2 ^ 64

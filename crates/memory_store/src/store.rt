@@ -89,6 +89,8 @@ impl LineStore for MemoryStore {
 
     ghost stands = { λ store h shown lines left. absurd left };
 
+    ghost opens = { λ store h shown lines left. absurd left };
+
     fn begin(&mut self, s: Session) {
         self.put(s, Seat::Beginning);
     }

@@ -1,5 +1,5 @@
 -- What a store shows behind the opening, in terms of the image before it.
-use Rattle.std.proofs.Common.{◌≡◌, ℕ, ◌+◌, ◌-◌, ◌≤◌, not, Bool, true, false, List, length, Option, Some, None, is_some, IsTrue, refl, sym, ap, subst, ◌∙◌, arith}
+use Rattle.std.proofs.Common.{◌≡◌, ◌≢◌, ℕ, ◌+◌, ◌-◌, ◌^◌, ◌<◌, not, Bool, true, false, List, length, Option, Some, None, is_some, IsTrue, refl, sym, ap, subst, ◌∙◌, arith}
 use Rattle.std.proofs.lemmas.Bool.{true≢false}
 use Rattle.rdb_types.specs.declared.file.FileId.{FileId}
 use Rattle.rdb_types.specs.declared.file.FileKind.TheVariants.{Root as OfRoot, Area}
@@ -9,14 +9,14 @@ use Rattle.root_file.specs.declared.Root.{Root}
 use Rattle.root_file.specs.Root.{IsRoot}
 use Rattle.root_file.proofs.Readings.{one_root}
 use Rattle.rdb_outside.specs.Disk.{Image, View, LeftNow, Pending, IsStable, OnlyReads}
-use Rattle.rdb_outside.specs.Moments.{each_slot}
-use Rattle.area_files.specs.Areas.{IsDataPage}
+use Rattle.area_files.specs.Areas.{IsPage, IsSpacePage, IsDataPage}
 use Rattle.new_database.specs.Maker.{root_file}
 use Rattle.line_view.specs.Knowledge.{Lines, line_in}
 use Rattle.line_versions.specs.Lines.{storage_area}
 use Rattle.stable_lines.specs.Slots.{area_file}
 use Rattle.stable_lines.specs.Journal.{Journal, slots_in}
 use Rattle.line_opening.specs.declared.groups.NextGroup.{NextGroup}
+use Rattle.line_opening.specs.Passing.{IsNext}
 use Rattle.line_opening.proofs.Passed.{image_same}
 use Rattle.line_moves.specs.declared.places.Place.{Place}
 use Rattle.line_moves.specs.Changes.{IsPlaceOf}
@@ -26,12 +26,11 @@ use Rattle.line_moves.proofs.Runs.{still_tells}
 use Rattle.database_opening.specs.declared.start.StoreStart.{StoreStart}
 use Rattle.database_opening.specs.Start.{IsStart, beginning_with}
 use Rattle.database_opening.specs.Owners.{owner_said}
-use Rattle.database_opening.specs.Untouched.{KeepsRootAndSpaces}
+use Rattle.journal_anew.specs.Anew.{journal_in_use}
 use Rattle.database_opening.proofs.Begun.{stable_read}
 use Rattle.disk_seats.specs.Ledgers.{new_ledger}
 use Rattle.disk_seats.specs.Members.{LedgerFacts}
 use Rattle.member_steps.specs.Beginning.{HasCeiling}
-use Rattle.member_steps.proofs.Begun.{limits_read}
 use Rattle.member_steps.proofs.Journals.{read_ledger}
 use Rattle.store_shows.specs.Rooms.{is_free}
 use Rattle.store_shows.proofs.Taken.{not_free}
@@ -41,7 +40,7 @@ use Rattle.disk_store.specs.Memory.{StoreMemory}
 use Rattle.disk_store.specs.Opening.{AreFresh, HasAllFree}
 use Rattle.disk_store.specs.Shown.{pages_of, Shown, sight_of}
 use Rattle.opened_store.specs.Tables.{AreTablesOf}
-use Rattle.opened_store.specs.Opened.{is_taken_in, BeginsFrom}
+use Rattle.opened_store.specs.Opened.{is_taken_in, BeginsFrom, LacksNumbers}
 use Rattle.opened_store.proofs.Free.{none-in-use}
 use Rattle.opened_store.proofs.TakenPages.{taken-there, same-said}
 use Rattle.opened_store.proofs.First.{IsHeldOf, few-pages, first_shelf, first-shown, has-committed}
@@ -57,18 +56,15 @@ pub record IsMadeOf (start : StoreStart) (tables : Tables) (held : StoreMemory) 
   pub members : AreFresh held.members
   pub free : HasAllFree held
 
--- what a ceiling that was read is at least
-pub ceiling-read : (v : View) (left : LeftNow v v.content) (classes : ℕ → ℕ) (lines : Lines) (journal : Journal) (start : StoreStart) (root : Root) → IsStart classes lines journal v start → IsRoot (v.content root_file 0) root → start.next_tsn ≤ root.ceiling
-ceiling-read v left classes lines journal start root begins is =
-    let stands = begins.facts.root (v.content root_file 0) (each_slot v v.content left root_file 0) in
-    subst (λ (r : Root). start.next_tsn ≤ r.ceiling) (one_root (v.content root_file 0) stands.root root stands.is is) stands.ceiling
+-- the numbers don't suffice for what a store would begin with
+pub lacks-numbers : (its : Journal) (root : Root) (start : StoreStart) → IsNext its start.next → start.root.limits ≡ root.limits → 2 ^ 62 + start.next.slot < start.next.number + start.root.limits.slots → LacksNumbers its root
+lacks-numbers its root start next same few =
+    let in_slot = next.in_slot in let numbered = next.numbered in let slots = ap (λ (l : Limits). l.slots) same in
+    omega (arith, few, in_slot, numbered, slots)
 
--- the limits of the image are those of the start
-pub limits-kept : (old mid : View) → LeftNow mid mid.content → (classes : ℕ → ℕ) (lines : Lines) (journal : Journal) (start : StoreStart) → IsStart classes lines journal mid start
-    → KeepsRootAndSpaces old.content mid.content → (root : Root) → IsRoot (old.content root_file 0) root → root.limits ≡ start.root.limits
-limits-kept old mid left classes lines journal start begins untouched root is =
-    limits_read mid (beginning_with classes lines journal start) (mid.content root_file 0) root begins.facts (each_slot mid mid.content left root_file 0)
-    (subst (λ (b : List ℕ). IsRoot b root) (sym untouched.root) is)
+-- a root that isn't one of a restored database
+pub whole-root : (slot : List ℕ) (root other : Root) → IsRoot slot root → root.state ≡ 1 → IsRoot slot other → other.state ≢ 3
+whole-root slot root other is whole its restored = let same = ap (λ (r : Root). r.state) (one_root slot root other is its) in omega (arith, same, whole, restored)
 
 area-apart : (file : ℕ) → area_file file ≡ root_file → ⊥
 area-apart file e = let kind : Area ≡ OfRoot = ap (λ (f : FileId). f.kind) e in absurd (cc)
@@ -79,13 +75,16 @@ some-line None is = absurd (cc)
 
 -- the root was raised behind the opening, and the tables were read behind that
 module _ (old mid raised v : View) (t : IsTrue old.tells) (told : mid.tells ≡ old.tells) (told_on : raised.tells ≡ mid.tells) (reads : OnlyReads raised v)
-    (left_mid : LeftNow mid mid.content) (left : LeftNow v v.content)
-    (classes : ℕ → ℕ) (lines : Lines) (journal : Journal) (start : StoreStart) (begins : IsStart classes lines journal mid start)
-    (untouched : KeepsRootAndSpaces old.content mid.content)
+    (left : LeftNow v v.content)
+    (classes : ℕ → ℕ) (lines : Lines) (before : Journal) (root : Root) (is_root : IsRoot (old.content root_file 0) root) (start : StoreStart) (begins : IsStart classes lines (journal_in_use root before) mid start)
+    (limits : start.root.limits ≡ root.limits) (spaces : (file page : ℕ) → IsPage page → IsSpacePage page → mid.content (area_file file) (page - 1) ≡ old.content (area_file file) (page - 1))
     (others : (file : FileId) (slot : ℕ) → (file ≡ root_file → ⊥) → raised.content file slot ≡ mid.content file slot)
-    (ledger : LedgerFacts raised (new_ledger (beginning_with classes lines journal start) raised.moment)) (ceiling : HasCeiling (Pending raised) (start.next_tsn + 64)) (stable : IsStable raised)
+    (ledger : LedgerFacts raised (new_ledger (beginning_with classes lines (journal_in_use root before) start) raised.moment)) (ceiling : HasCeiling (Pending raised) (start.next_tsn + 64)) (stable : IsStable raised)
     (tables : Tables) (are : AreTablesOf raised.content start.root.limits.pages tables)
     (held : StoreMemory) (made : IsMadeOf start tables held) (by_area : ℕ → ℕ) (lie : IsClassed by_area mid.content) where
+  abbrev journal : Journal
+  journal = journal_in_use root before
+
   t_mid : IsTrue mid.tells
   t_mid = still_tells old mid told t
 
@@ -122,7 +121,7 @@ module _ (old mid raised v : View) (t : IsTrue old.tells) (told : mid.tells ≡ 
   }
 
   said : (file page : ℕ) → IsDataPage page → owner_said v.content file page ≡ owner_said old.content file page
-  said = same-said old.content v.content (λ file page is space. same-pages file (page - 1) ∙ untouched.spaces file page is space)
+  said = same-said old.content v.content (λ file page is space. same-pages file (page - 1) ∙ spaces file page is space)
 
   taken-before : (file page : ℕ) → not (is_free (pages_of held.tables file) page) ≡ true → is_taken_in old.content held.limits.pages file page ≡ true
   taken-before file page is = subst (λ (l : Limits). is_taken_in old.content l.pages file page ≡ true) (sym has.limits)
@@ -152,15 +151,19 @@ module _ (old mid raised v : View) (t : IsTrue old.tells) (told : mid.tells ≡ 
           let none : line_in key lines ≡ None = nowhere v left (new_ledger (beginning_with classes lines journal start) raised.moment) facts key (λ place names. true≢false (sym (placed place names) ∙ isnt)) in
           absurd (true≢false (sym some ∙ ap (λ (o : Option (List ℕ)). is_some o) none))
 
-  pub begins-from : BeginsFrom old.content lines journal (sight_of v held)
+  slots-in-use : (other : Root) → IsRoot (old.content root_file 0) other → held.next.slot - 1 ≡ length (slots_in (journal_in_use other before))
+  slots-in-use other is = subst (λ (r : Root). held.next.slot - 1 ≡ length (slots_in (journal_in_use r before))) (one_root (old.content root_file 0) root other is_root is)
+      (let at : held.next.slot ≡ length (slots_in journal) + 1 = has.group.in_slot in omega (arith, at))
+
+  pub begins-from : BeginsFrom old.content lines before (sight_of v held)
   begins-from = record {
     shelf = first_shelf v held lines;
     shown = is-shown;
     now = refl;
     seats = λ s. refl;
-    limits = λ other is. has.limits ∙ sym (limits-kept old mid left_mid classes lines journal start begins untouched other is);
+    limits = λ other is. has.limits ∙ limits ∙ ap (λ (r : Root). r.limits) (one_root (old.content root_file 0) root other is_root is);
     taken = taken-before;
     lie = lies;
     snaps = none-in-use held has.free;
-    slots = let at : held.next.slot ≡ length (slots_in journal) + 1 = has.group.in_slot in omega (arith, at);
+    slots = slots-in-use;
   }

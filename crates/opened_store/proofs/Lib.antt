@@ -3,6 +3,7 @@ pub mod Fresh
 pub mod TakenPages
 pub mod First
 pub mod Behind
+pub mod Using
 pub mod Moments
 pub mod ThreeTables
 pub mod Snapless

@@ -11,8 +11,8 @@ ghost use Rattle.line_store.specs.Calls.{MayStand};
 ghost use Rattle.stable_lines.specs.Journal.{Journal};
 ghost use Rattle.stable_lines.specs.Kept.{Kept};
 ghost use Rattle.line_moves.specs.Classes.{IsClassed};
-ghost use Rattle.member_steps.specs.Standing.{HasLines};
 ghost use Rattle.disk_store.specs.Shown.{Shown};
+ghost use Rattle.store_shows.specs.Shows.{OpensTo};
 
 use disk_store::Held;
 use rdb_outside::Disk;
@@ -25,12 +25,9 @@ pub fn a_new_database_opens()
 
 /// Whatever a crash leaves of a store, opening can start from it, and shows its lines. It stands for the committed lines, or for those with the commit that is under way, and its pages have the classes of their areas.
 pub fn a_crash_leaves_what_opens<D: Disk>(disk: &D, held: &Held)
-    ensures lines { (h : Shelf) → Shown (D.view disk.now) held.now h
+    ensures { (h : Shelf) → Shown (D.view disk.now) held.now h
         → (image : Image) → LeftNow (D.view disk.now) image
-        → (lines : Lines) × HasLines image lines × MayStand h lines }
-    ensures classes { (h : Shelf) → Shown (D.view disk.now) held.now h
-        → (image : Image) → LeftNow (D.view disk.now) image
-        → (by_area : ℕ → ℕ) × IsClassed by_area image }
+        → (lines : Lines) × OpensTo image lines × MayStand h lines }
 {}
 
 /// An opening needs no slot of a snapshot file: an image is kept, whatever they hold.

@@ -1,8 +1,11 @@
 // A database is opened as a store of lines.
-ghost use Rattle.std.specs.Prelude.{◌≡◌, ◌⊎◌, ◌+◌, ◌^◌, ◌≤◌, ◌<◌, ℕ, true, false, IfOk, IsErrOf, IsTrue};
+ghost use Rattle.std.specs.Prelude.{◌≡◌, ◌≢◌, ◌+◌, ◌^◌, ◌≤◌, ◌<◌, ℕ, true, false, IfOk, IsErrOf, IsTrue};
 ghost use Rattle.rdb_types.specs.declared.file.FileId.{FileId as File};
 ghost use Rattle.rdb_outside.specs.Causes.{Rose};
-ghost use Rattle.rdb_outside.specs.Disk.{LeavesOnly, IsPending};
+ghost use Rattle.rdb_outside.specs.Disk.{LeavesOnly};
+ghost use Rattle.root_file.specs.declared.Root.{Root};
+ghost use Rattle.root_file.specs.Root.{IsRoot};
+ghost use Rattle.new_database.specs.Maker.{root_file as root_named};
 ghost use Rattle.line_view.specs.Knowledge.{Lines};
 ghost use Rattle.line_store.specs.Seats.{outside};
 ghost use Rattle.stable_lines.specs.Journal.{Journal};
@@ -10,10 +13,10 @@ ghost use Rattle.stable_lines.specs.Kept.{Kept};
 ghost use Rattle.line_moves.specs.Classes.{IsClassed};
 ghost use Rattle.disk_store.specs.Seats.{stand_at};
 ghost use Rattle.disk_store.specs.Shown.{sight_of};
-ghost use Rattle.opened_store.specs.Opened.{AreUsedUp, BeginsFrom};
+ghost use Rattle.opened_store.specs.Opened.{AreUsedUp, BeginsFrom, IsLeft};
 
 use crate::tables::read_tables;
-use database_opening::open_database;
+use crate::using::open_in_use;
 use disk_store::{Held, Numbers};
 use line_moves::aij_file;
 use line_opening::{NextGroup, OpeningFault};
@@ -32,7 +35,7 @@ fn has_numbers(slots: u32, next: NextGroup) -> bool
     next.number.saturating_add(u64::from(slots)) <= LAST_GROUP + u64::from(next.slot)
 }
 
-/// Opens a database, whatever a crash left of it: what an earlier run left open is undone, the ceiling of the transaction numbers is raised, and the tables of pages are read. Behind it nobody has a transaction. It takes the memory of the store, which doesn't grow with the lines.
+/// Opens a database, whatever a crash left of it: what an earlier run left open is undone, one that was restored is taken into use, the ceiling of the transaction numbers is raised, and the tables of pages are read. Behind it nobody has a transaction. It takes the memory of the store, which doesn't grow with the lines.
 pub fn open<D: Disk>(alloc: Global, disk: &mut D) -> Result<Held, OpeningFault>
     ensures told { (D.view disk.new).tells ≡ (D.view disk.old).tells }
     ensures no_fewer { (D.view disk.old).faults ≤ (D.view disk.new).faults }
@@ -54,14 +57,18 @@ pub fn open<D: Disk>(alloc: Global, disk: &mut D) -> Result<Held, OpeningFault>
         → (by_area : ℕ → ℕ) → IsClassed by_area (D.view disk.old).content
         → BeginsFrom (D.view disk.old).content lines journal (sight_of (D.view disk.new) held)) }
 
-    // Whatever it answers, a crash at any moment of it leaves what one before might have left, or an image of these lines.
+    // Whatever it answers, a crash at any moment of it leaves what one before might have left, or an image of these lines, before its journal is the one in use or behind that.
     ensures stands { IsTrue (D.view disk.old).tells
         → (classes : ℕ → ℕ) (lines : Lines) (journal : Journal)
-        → Kept classes lines journal (D.view disk.old).content
+        → (kept : Kept classes lines journal (D.view disk.old).content)
         → LeavesOnly (D.view disk.old) (D.view disk.new)
-        (λ image. IsPending (D.view disk.old) image ⊎ Kept classes lines journal image) }
+        (IsLeft (D.view disk.old) classes lines journal kept.root) }
+
+    // A restored database is in use behind it: the root that reads give doesn't say any more that it is one.
+    ensures used { IfOk result (λ held. IsTrue (D.view disk.old).tells → (root : Root)
+        → IsRoot ((D.view disk.new).content root_named 0) root → root.state ≢ 3) }
 {
-    let start = open_database(disk)?;
+    let start = open_in_use(disk)?;
     let limits = start.root.limits;
     if !has_numbers(limits.slots, start.next) {
         return Err(OpeningFault::Bad(aij_file(), 0));

@@ -13,6 +13,7 @@ ghost use Rattle.script_streams.specs.Fronts.{WritesFront};
 ghost use Rattle.rdb_drive.specs.Boards.{IsSession, MayDie};
 ghost use Rattle.rdb_account.specs.Events.{event_of};
 ghost use Rattle.rdb_account.specs.Legal.{IsLegal};
+ghost use Rattle.line_cluster.specs.Deaths.{has_device_deaths};
 ghost use Rattle.line_cluster.specs.Sound.{FollowsScripts, MayFail};
 ghost use Rattle.line_cluster.specs.Turned.{HaveAllEnded};
 ghost use Rattle.line_drive.specs.Boards.{mortals_of};
@@ -129,11 +130,13 @@ fn run_of<R: Threads + Wait + Sync, O: Origin + Send, D: Disk + Drop + Send, G: 
     requires word { said.word ≡ O.opening.word }
     requires mortals { MayDie (G.mortals gate.now) (mortals_of O.opening O.sessions) }
     requires opens { O.told → OpensWith ⟦<ReservingStatements as Statements>⟧.stands (D.view disk) O.opening }
+    requires faults { O.told → O.faults ≡ (D.view disk).faults }
     ensures legal { O.told → IsLegal O.opening (map event_of result.events) }
     ensures whole { O.told → result.is_whole ≡ true → HaveAllEnded O.opening O.sessions (map event_of result.events) }
     ensures order { given.has_order ≡ true → O.told → result.is_whole ≡ true → KeepsTurns O.opening O.sessions order.now result.events }
     ensures images { O.told → result.fault ≡ None → HoldsPrefix ⟦<ReservingStatements as Statements>⟧.stands O.opening (D.view result.disk) (map event_of result.events) }
     ensures left { O.told → result.is_whole ≡ true → HoldsAll ⟦<ReservingStatements as Statements>⟧.stands O.opening (D.view result.disk) (map event_of result.events) }
+    ensures harmed { O.told → has_device_deaths (map event_of result.events) ≡ true → Rose (D.view disk).faults (D.view result.disk).faults }
     ensures unsaid { (result.fault ≡ None → ⊥) → result.events ≡ [] }
     ensures failed { result.fault ≡ Some OpeningFault.Failed → Rose (D.view disk).faults (D.view result.disk).faults }
     ensures bad { (file : File) (slot : ℕ) → result.fault ≡ Some (OpeningFault.Bad file slot) → HasNoNumbers (D.view disk) }
@@ -195,6 +198,7 @@ fn say_scripts<R: Threads + Wait + Sync, O: Origin, D: Disk + Drop + Send, G: Ga
         KeepsTurns (said_to (letting asked.entry.given.death O.opening) (word_of asked.entry.words.now) scripts.items) asked.entry.given.count (order_in asked.entry.words.now) result.events }
     ensures images { O.told → result.fault ≡ None → HoldsPrefix ⟦<ReservingStatements as Statements>⟧.stands (said_to (letting asked.entry.given.death O.opening) (word_of asked.entry.words.now) scripts.items) (D.view result.disk) (map event_of result.events) }
     ensures left { O.told → result.is_whole ≡ true → HoldsAll ⟦<ReservingStatements as Statements>⟧.stands (said_to (letting asked.entry.given.death O.opening) (word_of asked.entry.words.now) scripts.items) (D.view result.disk) (map event_of result.events) }
+    ensures harmed { O.told → has_device_deaths (map event_of result.events) ≡ true → Rose (D.view disk).faults (D.view result.disk).faults }
     ensures unsaid { (result.fault ≡ None → ⊥) → result.events ≡ [] }
     ensures failed { result.fault ≡ Some OpeningFault.Failed → Rose (D.view disk).faults (D.view result.disk).faults }
     ensures bad { (file : File) (slot : ℕ) → result.fault ≡ Some (OpeningFault.Bad file slot) → HasNoNumbers (D.view disk) }
@@ -310,6 +314,7 @@ fn run_rdo<
     ensures unread { (result.status ≡ 2) ⊎ (result.status ≡ 10) → result.events ≡ [] }
     ensures died { result.status ≡ 8 → has_death result.events ≡ true }
     ensures lived { result.status ≡ 0 → has_death result.events ≡ false }
+    ensures harmed { O.told → has_device_deaths (map event_of result.events) ≡ true → Rose (D.view disk).faults (D.view result.disk).faults }
     ensures account { O.told → OfSomeScripts asked.entry.given.count (S.tells scripts.old ≡ true) (scripts_of (S.left scripts.old) asked.entry.given.count)
         (IsRun O.opening (word_of asked.entry.words.now) asked.entry.given (order_in asked.entry.words.now) result.status result.events) }
     ensures legal { O.told → S.tells scripts.old ≡ true →
@@ -405,6 +410,8 @@ where
     // Some session died, or none.
     ensures died { result.status ≡ 8 → has_death result.events ≡ true }
     ensures lived { (given : GivenScripts) → command_for words.now ≡ Some (Command.Rdo given) → result.status ≡ 0 → has_death result.events ≡ false }
+    // A session died of a device only where a device call failed in this run.
+    ensures harmed { (given : GivenScripts) → command_for words.now ≡ Some (Command.Rdo given) → O.told → has_device_deaths (map event_of result.events) ≡ true → Rose (D.view disk).faults (D.view result.disk).faults }
     // The events keep to the order that the words name.
     ensures order { (given : GivenScripts) → command_for words.now ≡ Some (Command.Rdo given) → given.has_order ≡ true → O.told → S.tells scripts.old ≡ true → IsWhole result.status →
         KeepsTurns (said_to (letting given.death O.opening) (word_of words.now) (scripts_of (S.left scripts.old) given.count)) given.count (order_in words.now) result.events }

@@ -1,7 +1,7 @@
 -- A restore call by call: what each image is, and which files are as they were.
 use Rattle.std.proofs.Common.{◌≡◌, ◌≢◌, ℕ, ◌-◌, ◌≤◌, List, inl, inr, IsTrue, sym, ap, subst, ◌∙◌, arith}
 use Rattle.rdb_types.specs.declared.file.FileId.{FileId}
-use Rattle.rdb_types.specs.declared.file.FileKind.TheVariants.{Root as RootKind, Area, Ruj, Aij, Backup}
+use Rattle.rdb_types.specs.declared.file.FileKind.TheVariants.{Root as RootKind, Area, Snap, Ruj, Aij, Backup}
 use Rattle.rdb_outside.specs.Disk.{Image, View, LeavesOnly, IsPending, OnlyReads, zeros}
 use Rattle.rdb_outside.specs.Moments.{weaker}
 use Rattle.new_database.specs.Maker.{root_file, aij_file}
@@ -31,14 +31,16 @@ backup_apart number is = let bad : Backup ≡ RootKind = ap (λ (f : FileId). f.
 
 backup_not : (number : ℕ) → IsWritten (file_of number) → ⊥
 backup_not number (inl is) = let bad : Backup ≡ Area = is in cc
-backup_not number (inr is) = let bad : Backup ≡ Ruj = is in cc
+backup_not number (inr (inl is)) = let bad : Backup ≡ Ruj = is in cc
+backup_not number (inr (inr is)) = let bad : Backup ≡ Snap = is in cc
 
 aij_apart : aij_file ≢ root_file
 aij_apart is = let bad : Aij ≡ RootKind = ap (λ (f : FileId). f.kind) is in cc
 
 aij_not : IsWritten aij_file → ⊥
 aij_not (inl is) = let bad : Aij ≡ Area = is in cc
-aij_not (inr is) = let bad : Aij ≡ Ruj = is in cc
+aij_not (inr (inl is)) = let bad : Aij ≡ Ruj = is in cc
+aij_not (inr (inr is)) = let bad : Aij ≡ Snap = is in cc
 
 aij_not_area : IsArea aij_file → ⊥
 aij_not_area is = let bad : Aij ≡ Area = is in cc
@@ -48,7 +50,8 @@ ruj_not_area m is = let bad : Ruj ≡ Area = is in cc
 
 other_not : (file : FileId) → IsOther file → IsWritten file → ⊥
 other_not file other (inl is) = other.area is
-other_not file other (inr is) = other.journal is
+other_not file other (inr (inl is)) = other.journal is
+other_not file other (inr (inr is)) = other.snapshot is
 
 -- ---- a backup whose slots are as they were
 

@@ -1,7 +1,7 @@
 -- The lines of a backup, laid one by one on pages that were never used.
 use Rattle.std.specs.Prelude.{ℕ, ◌-◌, ◌≤◌, ◌≡◌, ◌≢◌, ◌⊎◌, true, List, [], ◌∷◌, ◌++◌, slice_get, Some}
 use Rattle.rdb_types.specs.declared.file.FileId.{FileId}
-use Rattle.rdb_types.specs.declared.file.FileKind.TheVariants.{Area, Ruj}
+use Rattle.rdb_types.specs.declared.file.FileKind.TheVariants.{Area, Snap, Ruj}
 use Rattle.rdb_types.specs.declared.keys.Dbkey.{Dbkey}
 use Rattle.rdb_types.specs.declared.keys.Line.{Line}
 use Rattle.rdb_types.specs.declared.keys.LineState.TheVariants.{Present}
@@ -23,15 +23,19 @@ use Rattle.guarded_lines.specs.Laying.{IsArea, IsOfArea, page_of}
 abbrev pub IsJournal : FileId → Type 0
 IsJournal file = file.kind ≡ Ruj
 
+abbrev pub IsSnapshot : FileId → Type 0
+IsSnapshot file = file.kind ≡ Snap
+
 -- the files that a restore writes, beside the root
 abbrev pub IsWritten : FileId → Type 0
-IsWritten file = IsArea file ⊎ IsJournal file
+IsWritten file = IsArea file ⊎ IsJournal file ⊎ IsSnapshot file
 
 -- neither of these, nor the root
 pub record IsOther (file : FileId) : Type 0 where
   pub root : file ≢ root_file
   pub area : file.kind ≢ Area
   pub journal : file.kind ≢ Ruj
+  pub snapshot : file.kind ≢ Snap
 
 -- no page was ever used, and no journal says anything
 pub record IsBlank (image : Image) : Type 0 where

@@ -134,7 +134,7 @@ fn carry_out<D: Disk>(disk: &mut D, number: u32, plan: Plan) -> Result<(), Fault
     Ok(())
 }
 
-/// Makes the database anew as the backup of this number has it: restored, and not yet used. The after-image journal stays as it is. The backup and the journal are read before anything is written; then each slot of the areas and of the before-image journals is written with zeros, and each line on its page. It takes some 20 bytes for each page that the lines stand on.
+/// Makes the database anew as the backup of this number has it: restored, and not yet used. The after-image journal stays as it is. The backup and the journal are read before anything is written; then each slot of the areas and of the before-image journals is written with zeros, and each line on its page; files of the database that are gone are made anew. It takes some 20 bytes for each page that the lines stand on.
 pub fn restore<D: Disk>(alloc: Global, disk: &mut D, number: u32) -> Result<(), OpeningFault>
     // It doesn't give up by itself.
     ensures told { (D.view disk.new).tells ≡ (D.view disk.old).tells }
@@ -162,7 +162,7 @@ pub fn restore<D: Disk>(alloc: Global, disk: &mut D, number: u32) -> Result<(), 
         → LeavesOnly (D.view disk.old) (D.view disk.new)
         (WithinRestore (D.view disk.old) classes head lines journal) }
 
-    // Whatever it answers, the after-image journal, its copies, the backups and the snapshots are as they were, at every moment: a restore that was stopped is done again from the same backup.
+    // Whatever it answers, the after-image journal, its copies and the backups are as they were, at every moment: a restore that was stopped is done again from the same backup.
     ensures others { IsTrue (D.view disk.old).tells → (file : File) → IsOther file
         → KeepsFile file (D.view disk.old) (D.view disk.new) }
 {

@@ -64,7 +64,7 @@ fn take_on<S: Statements, L: LineStore>(
     match common.store.take_room(s, given.key, given.room.class) {
         Ok(true) => quiet(terms.at(round.on(next))),
         Ok(false) => {
-            *rooms = Rooms::new(common.alloc);
+            rooms.renew(common.alloc);
             let_go::<S, L>(common, s, terms, rooms, round)
         }
         Err(_) => forgo::<S, L>(common, s, terms, round.item),
@@ -95,7 +95,7 @@ fn take_last<S: Statements, L: LineStore>(
     match common.store.take_room(s, given.key, given.room.class) {
         Ok(true) => quiet(terms.at(Stage::Working(round.item, Work::Due))),
         Ok(false) => {
-            *rooms = Rooms::new(common.alloc);
+            rooms.renew(common.alloc);
             terms.known.forget_rooms();
             quiet(terms.at(Stage::Working(round.item, Work::Due)))
         }

@@ -1,5 +1,6 @@
 // A line is looked for that may stand for a room.
-ghost use Rattle.std.specs.Prelude.{◌≡◌, true, false};
+ghost use Rattle.std.specs.Prelude.{◌≡◌, ℕ, true, false};
+ghost use Rattle.rdb_page.specs.Page.{IsOwner, IsClass};
 ghost use Rattle.line_store.specs.Rooms.{IsBehind};
 ghost use Rattle.kept_apart.specs.Guards.{line_node as node_at};
 ghost use Rattle.lock_tree_laws.specs.Forest.{party_of};
@@ -74,23 +75,23 @@ fn is_behind(from: Option<Dbkey>, key: Dbkey) -> bool
     }
 }
 
-/// Names a line for a room: the store's next behind the last one that was given in this area. A line that another session has got or
-/// wants a need on is passed over while the store names one behind it, and so is one that was given to another room.
-pub(crate) fn name_line<L: LineStore>(
+// Looks for a line behind another, as the store names them. A line that another session has got or wants a need on is passed over while
+// the store names one behind it, and so is one that was given to another room.
+fn look_from<L: LineStore>(
     store: &L,
     tree: &Tree,
     s: Session,
     rooms: &Rooms,
     room: Room,
+    from: Option<Dbkey>,
 ) -> Named
     requires member { IsMember s.number }
     requires writing { IsWriting ((L.sight store.now).stand s.number) }
+    requires area { (file : ℕ) × IsOwner file room.area }
+    requires class { IsClass room.class }
     ensures { IsNamed (L.sight store.now) tree.now s.number room rooms.now result }
 {
-    if !is_of_pages(room.area, room.class) {
-        return Named::Unfit;
-    }
-    let mut from = rooms.last_in(room.area);
+    let mut from = from;
     for _ in 0..u64::MAX {
         let key = match store.room(s, room.area, room.class, from) {
             Ok(key) => key,
@@ -110,4 +111,29 @@ pub(crate) fn name_line<L: LineStore>(
         from = Some(key);
     }
     Named::Unfit
+}
+
+/// Names a line for a room: the first that may be one behind the last line that was given in this area, else the first in all of the
+/// area, since lines before that one may have come free.
+pub(crate) fn name_line<L: LineStore>(
+    store: &L,
+    tree: &Tree,
+    s: Session,
+    rooms: &Rooms,
+    room: Room,
+) -> Named
+    requires member { IsMember s.number }
+    requires writing { IsWriting ((L.sight store.now).stand s.number) }
+    ensures { IsNamed (L.sight store.now) tree.now s.number room rooms.now result }
+{
+    if !is_of_pages(room.area, room.class) {
+        return Named::Unfit;
+    }
+    if let Some(last) = rooms.last_in(room.area) {
+        let behind = look_from(store, tree, s, rooms, room, Some(last));
+        if let Named::Line(_) = behind {
+            return behind;
+        }
+    }
+    look_from(store, tree, s, rooms, room, None)
 }

@@ -30,11 +30,11 @@ dead-same (x ∷ xs) (suc i) m n found same = ap (λ k. one_dead x.life + k) (de
 module _ (M : Model) (orderly : IsOrderly M) (o : Opening) (word then : List ℕ) (old new : Sight) (locks behind : State) (members : List Member) (events es : List Event) (i : ℕ) (m n : Member) (there : Seat) (found : slice_get members i ≡ Some m)
     (stands : Stands new) (was : AreSeated old.stand locks members) (is : AreSeated new.stand behind (slice_set members i n)) where
   -- what a crash might have left goes on standing for what was committed
-  left-on : (k : IsTold M o word old locks members events) (shelf : Shelf) → new.shows shelf → Lasts old.left new.left k.shelf shelf → KeepsOthers (suc i) k.shelf shelf → AreAt shelf.clock.time es →
-      AreKept M o (sharing then shelf behind (dead_in (slice_set members i n))) (slice_set members i n) (events ++ es) → AreLeft M o (events ++ es) new.left shelf.clock.time
-  left-on k shelf shown lasts others at kept =
+  left-on : (k : IsTold M o word old locks members events) (shelf : Shelf) → new.shows shelf → Lasts old.left new.left k.shelf shelf → ((t : ℕ) → t ≤ k.shelf.clock.time → old.opens t → new.opens t) → KeepsOthers (suc i) k.shelf shelf → AreAt shelf.clock.time es →
+      AreKept M o (sharing then shelf behind (dead_in (slice_set members i n))) (slice_set members i n) (events ++ es) → AreLeft M o (events ++ es) new.left new.opens shelf.clock.time
+  left-on k shelf shown lasts opens others at kept =
       let grown : place o (events ++ es) ≡ place_from o (place o events) es = place-grown o (start o) events es in
-      left-goes-on M orderly o events es old.left new.left k.shelf shelf (stands shelf shown) lasts others.later.later
+      left-goes-on M orderly o events es old.left new.left old.opens new.opens k.shelf shelf (stands shelf shown) lasts opens others.later.later
       (stand-now M o (sharing word k.shelf locks (dead_in members)) members events k.kept old.stand was orderly)
       (stand-now M o (sharing then shelf behind (dead_in (slice_set members i n))) (slice_set members i n) (events ++ es) kept new.stand is orderly)
       (λ j c e. is-new o (place o events) es shelf.clock.time at j c (ap (λ (p : Place). slice_get p.commits j) (sym grown) ∙ e))
@@ -53,7 +53,7 @@ module _ (M : Model) (orderly : IsOrderly M) (o : Opening) (word then : List ℕ
         shelf = it.shelf;
         shown = it.shown;
         kept = still;
-        images = left-on k it.shelf it.shown it.lasts step.others.store step.moments still;
+        images = left-on k it.shelf it.shown it.lasts it.opens step.others.store step.moments still;
       }
 
   pub falls : Does (suc i) there (λ h g. Fall M o (suc i) (sharing word h locks (dead_in members)) m (sharing then g behind (dead_in (slice_set members i n))) n es) old new →
@@ -65,5 +65,5 @@ module _ (M : Model) (orderly : IsOrderly M) (o : Opening) (word then : List ℕ
         shelf = it.shelf;
         shown = it.shown;
         kept = still;
-        images = left-on k it.shelf it.shown it.lasts it.related.others.store it.related.moments still;
+        images = left-on k it.shelf it.shown it.lasts it.opens it.related.others.store it.related.moments still;
       }

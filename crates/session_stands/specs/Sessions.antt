@@ -51,4 +51,4 @@ pub record IsTold (M : Model) (o : Opening) (word : List ℕ) (sight : Sight) (l
   pub shelf : Shelf
   pub shown : sight.shows shelf
   pub kept : AreKept M o (sharing word shelf locks (dead_in members)) members events
-  pub images : AreLeft M o events sight.left shelf.clock.time
+  pub images : AreLeft M o events sight.left sight.opens shelf.clock.time

@@ -6,7 +6,8 @@ use Rattle.line_view.specs.Writes.{laid_all}
 use Rattle.lock_tree_laws.specs.Forest.{State, KeepsParties}
 use Rattle.line_store.specs.Seats.{Seat, outside, beginning, writing, changing, prepared, committing, rolling_back, closing, reading, dead, in_flight, prepared_by}
 use Rattle.line_store.specs.Shelves.{Shelf}
-use Rattle.line_store.specs.Calls.{Moves, MayStand}
+use Rattle.line_store.specs.declared.answers.Fault.{Fault}
+use Rattle.line_store.specs.Calls.{Moves, Fails, MayStand}
 use Rattle.line_store.specs.Sights.{Sight, Does, IsSame, bare}
 use Rattle.line_store.proofs.InTurn.{does-nothing, does-as, does-in-turn}
 use Rattle.session_jobs.specs.Records.{Model}
@@ -15,7 +16,7 @@ use Rattle.session_states.specs.declared.stage.Life.{Life}
 use Rattle.session_states.specs.declared.stage.Life.TheVariants.{Alive}
 use Rattle.session_stands.specs.Seated.{LivesAt}
 use Rattle.stage_steps.specs.declared.happening.Happening.{Happening}
-use Rattle.stage_steps.specs.Scenes.{Scene, Goes, ComesIn, scene}
+use Rattle.stage_steps.specs.Scenes.{Scene, Goes, HasFailed, ComesIn, scene}
 use Rattle.stage_steps.proofs.Seated.{sits-on}
 
 -- it stands where it stands
@@ -37,6 +38,10 @@ goes-still s x from y to Q old new same lives parties nearer all = record {
   nearer = nearer;
   does = subst (λ (v : Sight). Does s (v.stand s) Q old.sight v) (sym same) (does-nothing s Q old.sight all);
 }
+
+-- a call that failed so
+pub has-failed : (s : ℕ) (seat : Seat) (R : Shelf → Shelf → Type 0) (fault : Fault) (a b : Sight) → ((h g : Shelf) → R h g → Fails s fault h g) → Does s seat R a b → HasFailed s fault a b
+has-failed s seat R fault a b fails d = (does-as s seat R (Fails s fault) a b (λ h g shown told. fails h g) d).each
 
 -- ---- two calls
 

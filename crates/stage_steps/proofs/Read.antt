@@ -17,5 +17,8 @@ was-more s old new x e h = let r : GoesOn s old new = subst (λ (y : Progress). 
 pub was-forgone : (s : ℕ) (old new : Shelf) (x : ReadStop) → x ≡ stop.NoMemory → IsRead s old new (Err x) → Moves s (old.seat s) old new
 was-forgone s old new x e h = subst (λ (y : ReadStop). IsRead s old new (Err y)) e h
 
+pub was-failed : (s : ℕ) (old new : Shelf) (x : ReadStop) (fault : Fault) → x ≡ stop.Fault fault → IsRead s old new (Err x) → Fails s fault old new
+was-failed s old new x fault e h = subst (λ (y : ReadStop). IsRead s old new (Err y)) e h
+
 pub was-fault : (s : ℕ) (old new : Shelf) (x : ReadStop) (fault : Fault) → x ≡ stop.Fault fault → IsRead s old new (Err x) → Moves s (old.seat s) old new
-was-fault s old new x fault e h = let r : Fails s fault old new = subst (λ (y : ReadStop). IsRead s old new (Err y)) e h in r.moves
+was-fault s old new x fault e h = (was-failed s old new x fault e h).moves

@@ -95,4 +95,4 @@ module _ (M : Model) (orderly : IsOrderly M) (s : ℕ) (word : List ℕ) (locks 
 
   -- a device call failed
   pub on-fault : (fault : Fault) → Does s (a.stand s) (Fails s fault) a b → ComesIn M s (scene word a locks) x (scene word b locks) x (Failed fault)
-  on-fault fault d = on-move (Fails s fault) (λ h g r. r.moves) (λ left total. tt) d
+  on-fault fault d = on-move (Fails s fault) (λ h g r. r.moves) (λ left total. d.each) d

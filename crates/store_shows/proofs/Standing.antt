@@ -1,5 +1,5 @@
 -- An image that the ledger allows stands for lines that may stand.
-use Rattle.std.proofs.Common.{◌≡◌, ◌≤◌, ℕ, Some, inl, inr, ◌⊎◌, ⊎_elim, sym, subst, ◌∙◌}
+use Rattle.std.proofs.Common.{◌≡◌, ◌≤◌, ◌-◌, ℕ, Some, inl, inr, ◌⊎◌, ⊎_elim, sym, subst, ◌∙◌}
 use Rattle.rdb_outside.specs.Disk.{View, Image, Pending, LeavesOnly, IsPending}
 use Rattle.rdb_outside.specs.Moments.{each_slot}
 use Rattle.line_view.specs.Knowledge.{Lines}
@@ -15,7 +15,9 @@ use Rattle.disk_seats.specs.Ledgers.{Commit, Ledger, progress_of}
 use Rattle.disk_seats.specs.Members.{LedgerFacts}
 use Rattle.member_steps.specs.Standing.{HasLines}
 use Rattle.member_steps.proofs.Left.{by_case}
-use Rattle.store_shows.specs.Shows.{Leaves, ShowsLines}
+use Rattle.stable_lines.specs.Slots.{area_file}
+use Rattle.line_moves.specs.Classes.{HaveTheirClasses}
+use Rattle.store_shows.specs.Shows.{AllOpen, Leaves, OpensTo, ShowsLines}
 
 -- an image stands for one map of lines
 same_lines : (image : Image) (a b : Lines) → HasLines image a → HasLines image b → a ≡ b
@@ -49,3 +51,20 @@ lasts_with v w old new time leaves before behind = record {
       (λ pending. inr (⊎_elim (λ was. inl (before it.image lines was it.stands)) (λ is. inr (behind it.image lines is it.stands)) pending))
       (leaves.before t it.image (subst (λ (n : ℕ). t ≤ n) time le) it.left);
 }
+
+-- an image of pending contents can be opened, where pages have the classes of their areas in each of these
+pub pending-opens : (v : View) (g : Ledger) → LedgerFacts v g → (classes : ℕ → ℕ) → HaveTheirClasses classes (Pending v) → (image : Image) → IsPending v image → (lines : Lines) × OpensTo image lines
+pending-opens v g was classes lie image pending = ⊎_elim
+    (λ (has : HasLines image g.base.lines). (g.base.lines, made g.base.lines has))
+    (λ (up : (c : Commit) × (g.commit ≡ Some c) × HasLines image (lines_with g.base c.flight)). (lines_with g.base up.0.flight, made (lines_with g.base up.0.flight) up.2))
+    (by_case v g was image (stands (Pending v) (progress_of g) was.facts image pending))
+  where
+    made : (lines : Lines) → HasLines image lines → OpensTo image lines
+    made lines has = record { has = has; by_area = classes; lie = λ file number is page. lie file number (image (area_file file) (number - 1)) is page (pending (area_file file) (number - 1)) }
+
+-- and so can each that a run leaves whose images are of contents that were pending before it or are behind it
+pub all-open : (v w : View) (old : Shelf) → old.clock.time ≡ v.moment → LeavesOnly v w (λ image. IsPending v image ⊎ IsPending w image)
+    → ((image : Image) → IsPending v image → (lines : Lines) × OpensTo image lines) → ((image : Image) → IsPending w image → (lines : Lines) × OpensTo image lines)
+    → (t : ℕ) → t ≤ old.clock.time → AllOpen v t → AllOpen w t
+all-open v w old time leaves before behind t le was image left = ⊎_elim (was image) (⊎_elim (before image) (behind image))
+    (leaves.before t image (subst (λ (n : ℕ). t ≤ n) time le) left)

@@ -7,6 +7,7 @@ use Rattle.line_view.specs.Writes.{laid_all}
 use Rattle.line_store.specs.Seats.{Seat, in_flight}
 use Rattle.line_store.specs.Shelves.{Shelf}
 use Rattle.stable_lines.specs.Progress.{Flight, lines_with}
+use Rattle.line_moves.specs.Classes.{IsClassed}
 use Rattle.disk_seats.specs.Ledgers.{Commit, Ledger}
 use Rattle.member_steps.specs.Standing.{HasLines}
 
@@ -15,6 +16,16 @@ pub record Leaves (v : View) (t : ℕ) (lines : Lines) : Type 0 where
   pub image : Image
   pub left : v.left_since t image
   pub stands : HasLines image lines
+
+-- An image behind whose opening these lines are shown: it stands for them, and its pages have the classes of their areas.
+pub record OpensTo (image : Image) (lines : Lines) : Type 0 where
+  pub has : HasLines image lines
+  pub by_area : ℕ → ℕ
+  pub lie : IsClassed by_area image
+
+-- Each image that a crash since this moment might have left can be opened.
+abbrev pub AllOpen : View → ℕ → Type 0
+AllOpen v t = (image : Image) → v.left_since t image → (lines : Lines) × OpensTo image lines
 
 -- The seat has a commit that is under way, and its writes come to the lines of the group.
 pub record IsInFlight (g : Ledger) (f : Flight) (seat : Seat) : Type 0 where

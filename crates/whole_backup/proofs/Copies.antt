@@ -1,5 +1,10 @@
 -- The copies of all lines are a whole backup.
-use Rattle.std.proofs.Common.{◌≡◌, ℕ, ◌-◌, ◌≤◌, ◌<◌, false, List, ◌⊎◌, inl, inr, refl, sym, ap, subst, ◌∙◌, arith}
+use Rattle.std.proofs.Common.{◌≡◌, ℕ, zero, suc, ◌-◌, ◌≤◌, ◌<◌, true, false, cond, List, [], ◌∷◌, slice_get, Some, None, ◌⊎◌, inl, inr, refl, sym, ap, subst, ◌∙◌, arith}
+use Rattle.std.specs.Ordering.{is_eq}
+use Rattle.std.specs.Cmp.{tied_itself}
+use Rattle.rdb_types.specs.declared.keys.Dbkey.{Dbkey}
+use Rattle.rdb_types.specs.Order.{dbkey_order}
+use Rattle.rdb_types.specs.OrderLaws.{dbkey_total}
 use Rattle.rdb_outside.specs.Disk.{View, LeftNow, Pending, zeros}
 use Rattle.rdb_page.specs.Page.{IsOwner, lines_of, class_at}
 use Rattle.root_file.specs.Root.{AreLimits}
@@ -8,10 +13,11 @@ use Rattle.backup_file.specs.declared.line.BackupLine.{BackupLine}
 use Rattle.backup_file.specs.Whole.{HasPage, SharePages, IsWhole, lines_in}
 use Rattle.backup_making.specs.declared.making.Backup.{Backup}
 use Rattle.backup_making.specs.Making.{Former, head_of}
-use Rattle.line_view.specs.Knowledge.{Lines}
-use Rattle.stable_lines.specs.Slots.{area_file, ruj_file, owner_at, IsAreaFile, IsMember, named}
+use Rattle.line_versions.specs.Lines.{storage_area}
+use Rattle.line_view.specs.Knowledge.{Lines, line_in}
+use Rattle.stable_lines.specs.Slots.{area_file, ruj_file, file_of, slot_of, owner_at, IsAreaFile, IsMember, named}
 use Rattle.stable_lines.specs.Journal.{Journal}
-use Rattle.stable_lines.specs.Kept.{Kept}
+use Rattle.stable_lines.specs.Kept.{Kept, FitsClass}
 use Rattle.stable_lines.specs.Progress.{Progress}
 use Rattle.stable_lines.specs.Facts.{Facts}
 use Rattle.stable_lines.proofs.Unique.{one_lines}
@@ -28,6 +34,18 @@ file_of_owner : (file area : ℕ) → IsOwner file area → IsAreaFile file
 file_of_owner file area (inl is) = let at = is.0 in record { first = omega (arith, at); last = omega (arith, at) }
 file_of_owner file area (inr (inl is)) = let at = is.0 in record { first = omega (arith, at); last = omega (arith, at) }
 file_of_owner file area (inr (inr is)) = let at = is.0 in record { first = omega (arith, at); last = omega (arith, at) }
+
+-- a line of the copies is one of the map
+some_there : (copies : List BackupLine) (i : ℕ) (line : BackupLine) → slice_get copies i ≡ Some line → (bytes : List ℕ) × (line_in line.key (lines_in copies) ≡ Some bytes)
+some_there [] i line got = let bad : None ≡ Some line = got in absurd (cc)
+some_there (l ∷ copies) zero line got =
+    let same : l ≡ line = cc in
+    (l.image, ap (λ (k : Dbkey). line_in k (lines_in (l ∷ copies))) (sym (ap (λ (x : BackupLine). x.key) same)) ∙ ap (λ r. cond (is_eq r) (Some l.image) (line_in l.key (lines_in copies))) (tied_itself dbkey_total l.key))
+some_there (l ∷ copies) (suc i) line got =
+    elim (is_eq (dbkey_order line.key l.key)) as (λ b. (bytes : List ℕ) × (cond b (Some l.image) (line_in line.key (lines_in copies)) ≡ Some bytes)) [
+      | true ↦ (l.image, refl)
+      | false ↦ some_there copies i line got
+    ]
 
 module _ (v : View) (now : Progress) (left : LeftNow v v.content) (facts : Facts (Pending v) now) where
   -- what is past the limit was never used
@@ -85,3 +103,14 @@ module _ (v : View) (now : Progress) (left : LeftNow v v.content) (facts : Facts
       → lines_in copying.lines ≡ lines
   copies_same former w b copying classes lines journal kept closed = one_lines v.content journal.groups (lines_in copying.lines) lines
       (restored_stands v.content journal.groups (lines_in copying.lines) copying.holds.in_order closed (λ key. sym (copying.holds.each key refl))) kept.stands
+
+  -- each has the class of its area
+  pub copies_class : (former : Former) (w : View) (b : Backup) (copying : Copying former v.content now (λ key. false) w b) (classes : ℕ → ℕ) (lines : Lines) (journal : Journal) → Kept classes lines journal v.content → lines_in copying.lines ≡ lines
+      → (i : ℕ) (line : BackupLine) → slice_get copying.lines i ≡ Some line → line.class ≡ classes line.key.area
+  copies_class former w b copying classes lines journal kept same i line got =
+      let there = some_there copying.lines i line got in
+      let on = copying.on_pages i line got in
+      let owner : IsOwner on.file line.key.area = subst (λ (a : ℕ). IsOwner on.file a) on.area on.stands.owner in
+      let home : IsOwner (storage_area line.key.area) line.key.area = subst (λ (f : ℕ). IsOwner f line.key.area) (file_of_area on.file line.key.area owner) owner in
+      let fits : FitsClass (v.content (file_of line.key) (slot_of line.key)) (classes line.key.area) there.0 = kept.class line.key there.0 (subst (λ (ls : Lines). line_in line.key ls ≡ Some there.0) same there.1) in
+      (area_there line (storage_area line.key.area) on home).1 ∙ fits.same

@@ -1,5 +1,5 @@
 -- What a crash leaves at the moments of a backup, in the words of its clauses.
-use Rattle.std.proofs.Common.{◌≡◌, ℕ, ◌+◌, IsTrue, List, length, ⊎_elim, refl, sym, subst}
+use Rattle.std.proofs.Common.{◌≡◌, ℕ, ◌+◌, IsTrue, List, length, slice_get, Some, ⊎_elim, refl, sym, subst}
 use Rattle.rdb_outside.specs.Disk.{Image, View, LeftNow, Pending, LeavesOnly, IsPending, OnlyReads}
 use Rattle.rdb_outside.specs.Moments.{each_slot, weaker}
 use Rattle.backup_file.specs.declared.header.BackupHead.{BackupHead}
@@ -38,13 +38,14 @@ module _ (classes : ℕ → ℕ) (lines : Lines) (journal : Journal) (start : St
     rolls : (image : Image) → StandsAs now image → Rolls lines last image
     rolls image is = image_rolls (Pending v) now lines last image facts refl (behind_begins (Pending v) now last facts next) is
 
-    module _ (number : ℕ) (head : BackupHead) (copies : List BackupLine) (group : head.last_group ≡ last) (whole : IsWhole head copies) (same : lines_in copies ≡ lines) where
-      backed_up : (image : Image) → StandsAs now image → Stores (slots_of image (file_of number)) head copies → IsBackedUp lines number image
+    module _ (number : ℕ) (head : BackupHead) (copies : List BackupLine) (group : head.last_group ≡ last) (whole : IsWhole head copies) (same : lines_in copies ≡ lines) (class : (i : ℕ) (line : BackupLine) → slice_get copies i ≡ Some line → line.class ≡ classes line.key.area) where
+      backed_up : (image : Image) → StandsAs now image → Stores (slots_of image (file_of number)) head copies → IsBackedUp classes lines number image
       backed_up image is stores = record {
         head = head;
         copies = copies;
         is = record { stores = stores; whole = whole };
         has = same;
+        class = class;
         rolls = subst (λ (n : ℕ). Rolls lines n image) (sym group) (rolls image is);
       }
 

@@ -1,8 +1,9 @@
 -- A whole backup, call by call.
-use Rattle.std.proofs.Common.{◌≡◌, ℕ, ◌+◌, false, IsTrue, refl, ap, subst, ◌∙◌}
+use Rattle.std.proofs.Common.{◌≡◌, ℕ, ◌+◌, false, IsTrue, slice_get, Some, refl, ap, subst, ◌∙◌}
 use Rattle.rdb_outside.specs.Disk.{Image, View, LeftNow, Pending, LeavesOnly, OnlyReads}
 use Rattle.rdb_outside.specs.Moments.{weaker}
 use Rattle.backup_file.specs.declared.header.BackupHead.{BackupHead}
+use Rattle.backup_file.specs.declared.line.BackupLine.{BackupLine}
 use Rattle.backup_file.specs.Whole.{IsWhole, lines_in}
 use Rattle.backup_making.specs.declared.making.Backup.{Backup}
 use Rattle.backup_making.specs.declared.making.Stage.TheVariants.{Open}
@@ -21,7 +22,7 @@ use Rattle.database_opening.specs.Start.{beginning_with, IsStart}
 use Rattle.copied_lines.specs.Copying.{Copying, SameAreas, IsStopped}
 use Rattle.whole_backup.specs.BackedUp.{HasBackup, MightHold, WithinBackup}
 use Rattle.whole_backup.specs.Making.{IsBeginning, IsEnding}
-use Rattle.whole_backup.proofs.Copies.{copies_whole, copies_same}
+use Rattle.whole_backup.proofs.Copies.{copies_whole, copies_same, copies_class}
 use Rattle.whole_backup.proofs.Moments.{kept_image, ended_backup, ending_within, stopped_within, beginning_within, read_within}
 
 -- how a backup of this number begins
@@ -73,6 +74,9 @@ module _ (classes : ℕ → ℕ) (lines : Lines) (journal : Journal) (start : St
   pub its_lines : lines_in copying.lines ≡ lines
   its_lines = copies_same old (beginning_with classes lines journal start) content begins.facts former w b copying classes lines journal kept closed
 
+  pub its_class : (i : ℕ) (line : BackupLine) → slice_get copying.lines i ≡ Some line → line.class ≡ classes line.key.area
+  its_class = copies_class old (beginning_with classes lines journal start) content begins.facts former w b copying classes lines journal kept its_lines
+
   pub is_whole : b.limits ≡ start.root.limits → IsWhole (head_of b copying.lines) copying.lines
   is_whole same = copies_whole old (beginning_with classes lines journal start) content begins.facts former w b copying same
 
@@ -100,10 +104,13 @@ module _ (classes : ℕ → ℕ) (lines : Lines) (journal : Journal) (start : St
   same : lines_in copying.lines ≡ lines
   same = its_lines classes lines journal start old t content begins former w b copying
 
+  class : (i : ℕ) (line : BackupLine) → slice_get copying.lines i ≡ Some line → line.class ≡ classes line.key.area
+  class = its_class classes lines journal start old t content begins former w b copying
+
   pub ending_leaves : (new : View) → LeavesOnly w new (IsEnding (beginning_with classes lines journal start) its_head copying.lines b.number) → LeavesOnly w new (WithinBackup classes lines former number)
   ending_leaves new ending = weaker w new (IsEnding (beginning_with classes lines journal start) its_head copying.lines b.number) (WithinBackup classes lines former number)
-      (λ image at. subst (λ (n : ℕ). WithinBackup classes lines former n image) its_number (ending_within classes lines journal start old begins.facts last comes_next b.number its_head copying.lines its_group whole same former image at)) ending
+      (λ image at. subst (λ (n : ℕ). WithinBackup classes lines former n image) its_number (ending_within classes lines journal start old begins.facts last comes_next b.number its_head copying.lines its_group whole same class former image at)) ending
 
   pub ended_run : (new : View) → Facts (Pending new) (beginning_with classes lines journal start) → IsEnded new (file_of b.number) its_head copying.lines → (image : Image) → LeftNow new image → HasBackup classes lines number image
   ended_run new facts ended image left = subst (λ (n : ℕ). HasBackup classes lines n image) its_number
-      (ended_backup classes lines journal start old begins.facts last comes_next b.number its_head copying.lines its_group whole same new facts refl ended image left)
+      (ended_backup classes lines journal start old begins.facts last comes_next b.number its_head copying.lines its_group whole same class new facts refl ended image left)

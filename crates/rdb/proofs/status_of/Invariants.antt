@@ -16,5 +16,6 @@ ghosts-run g a = record {
     may_die = λ s cause. true;
   };
   sessions = 0;
+  faults = 0;
   told = ⊥;
 }

@@ -1,7 +1,9 @@
 use Rattle.std.specs.Prelude.{OnOk, Ok, Err}
-use Rattle.std.proofs.Common.{Result, sym, subst}
+use Rattle.std.proofs.Common.{Result, List, ℕ, sym, subst}
 use Rattle.rdb_outside.specs.Disk.{Image}
 use Rattle.rdb_outside.specs.Runs.{then_reads}
+use Rattle.root_file.specs.Root.{IsRoot}
+use Rattle.new_database.specs.Maker.{root_file}
 use Rattle.stable_lines.specs.Kept.{Kept}
 use Rattle.line_moves.proofs.Runs.{still_tells}
 use Rattle.line_opening.proofs.Counted.{if_ok}
@@ -30,3 +32,7 @@ returns-clause-found g c = let v = g.D.Disk.view in let old = v c.args.disk.now 
 pub returns-clause-stable : goal.returns-clause-stable
 returns-clause-stable g c = let v = g.D.Disk.view in let old = v c.args.disk.now in let mid = v c.make_stable.new.disk in
     on_any _ c.read_all.result (λ t. stable_read mid (v c.read_all.new.disk) c.read_all.ensures.reads (still_tells old mid c.make_stable.ensures.reads.told t) (c.in_ok-make_stable.ensures.stable t))
+
+pub returns-clause-its_root : goal.returns-clause-its_root
+returns-clause-its_root g c = let v = g.D.Disk.view in let old = v c.args.disk.now in let mid = v c.make_stable.new.disk in let reads = c.make_stable.ensures.reads in
+    if_ok _ _ c.read_all.result (λ opening there t. subst (λ (b : List ℕ). IsRoot b opening.found.root) ((reads.keeps t).content root_file 0) (there (still_tells old mid reads.told t))) c.read_all.ensures.its_root

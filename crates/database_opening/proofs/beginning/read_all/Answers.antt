@@ -71,3 +71,6 @@ returns-clause-found g c = let v = g.D.Disk.view in let old = v c.args.disk.now 
     (subst (λ (image : Image). AreCounted image c.find_open.new.numbers c.in_ok-counts.counts) from3 (c.in_ok-counts.ensures.counts (still_tells old three reads3.told t)))
     (c.in_ok-next.ensures.next told2 journal journal_is)
     c.first_stage-stage.result c.first_stage-stage.ensures
+
+pub returns-clause-its_root : goal.returns-clause-its_root
+returns-clause-its_root g c = λ t. (c.in_ok-root.ensures.found t).is

@@ -1,4 +1,7 @@
-use Rattle.std.proofs.Common.{rules, ◌≡◌, ◌∙◌, subst, arith}
+use Rattle.std.proofs.Common.{rules, ◌≡◌, ◌∙◌, sym, subst, arith}
+use Rattle.root_file.specs.declared.Root.{Root}
+use Rattle.root_file.specs.Root.{IsRoot}
+use Rattle.new_database.specs.Maker.{root_file}
 use Rattle.line_moves.proofs.Runs.{still_tells}
 use Rattle.database_opening.specs.Stages.{OpeningFacts}
 use Rattle.database_opening.specs.declared.stages.OpeningStage.{OpeningStage}
@@ -102,3 +105,7 @@ returns-in_err-stage-clause-others g c = let v = g.D.Disk.view in let old = v c.
 
 pub returns-clause-others : goal.returns-clause-others
 returns-clause-others g c = λ t file other. c.steps.invariant.others t file other
+
+pub returns-clause-its_root : goal.returns-clause-its_root
+returns-clause-its_root g c = let v = g.D.Disk.view in
+    λ t. subst (λ (root : Root). IsRoot ((v c.args.disk.now).content root_file 0) root) (sym c.start_of.ensures.root) (c.in_ok-opening.ensures.its_root t)

@@ -2,6 +2,7 @@ use Rattle.std.proofs.Common.{◌≡◌, Bool, true, false, not, ap, map, refl, 
 use Rattle.std.proofs.lemmas.Bool.{false≢true}
 use Rattle.rdb_account.specs.Events.{event_of}
 use Rattle.rdb_account.specs.Legal.{AreWhole, IsLegal}
+use Rattle.line_cluster.specs.Deaths.{CountsFaults, has_device_deaths}
 use Rattle.line_cluster.specs.Sound.{HasImages, IsLeft}
 use Rattle.line_cluster.specs.Turned.{HaveAllEnded, is_session}
 use Rattle.line_drive.specs.Turns.{has_deaths}
@@ -52,6 +53,10 @@ returns-clause-left g c whole told =
 pub returns-clause-images : goal.returns-clause-images
 returns-clause-images g c told =
     subst (λ es. HasImages g.S.Statements.stands g.O.Origin.opening (g.L.LineStore.sight c.end-events.result.store) (map event_of es)) (sym c.end-events.ensures.events) (c.end-events.ensures.images told)
+
+pub returns-clause-faults : goal.returns-clause-faults
+returns-clause-faults g c told =
+    subst (λ es. CountsFaults g.O.Origin.faults (has_device_deaths (map event_of es) ≡ true) (g.L.LineStore.sight c.end-events.result.store)) (sym c.end-events.ensures.events) (c.end-events.ensures.faults told)
 
 pub returns-clause-outside : goal.returns-clause-outside
 returns-clause-outside g c whole = c.end-events.ensures.outside (returns-clause-going g c whole) (c.requires.ended (returns-clause-ended g c whole))

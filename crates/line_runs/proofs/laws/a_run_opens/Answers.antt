@@ -12,12 +12,13 @@ same-file : (area : ℕ) → storage_area area ≡ file_of area
 same-file area = refl
 
 pub returns : goal.returns
-returns g c = λ image lines journal word o begins opens named stands.
+returns g c = λ image lines journal word o faults begins opens named stands few.
     let h = begins.shelf in
     let limits : h.space.limits ≡ opens.root.limits = begins.limits opens.root opens.is in
     record {
       shelf = h;
       shown = begins.shown;
+      no_fewer = subst (λ (n : ℕ). faults ≤ n) (sym begins.shown.lines.faults) few;
       opened = λ locks parties trail. record {
         word = named;
         stands = subst (λ (l : Lines). g.S.Statements.stands l o.tables) (sym begins.now) stands;

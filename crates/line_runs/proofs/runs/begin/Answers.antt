@@ -1,4 +1,4 @@
-use Rattle.std.proofs.Common.{ap, sym, Err}
+use Rattle.std.proofs.Common.{◌≤◌, ℕ, ap, sym, subst, Err}
 use Rattle.disk_store.specs.Shown.{sight_of}
 use Rattle.line_runs.proofs.Opening.{at-moment, same-shown}
 use Rattle.line_runs.proofs.runs.begin.Goals as goal
@@ -13,5 +13,6 @@ start-requires-clause-opened g c = λ told.
     let v = g.D.Disk.view c.open.new.disk in
     let begins = c.in-Ok.ensures.begins w.tells w.classes w.lines w.journal w.kept w.by_area w.lie in
     let content = (g.D.Disk.view c.args.disk).content in
-    same-shown _ o c.args.said.word (sight_of v c.in-Ok.held) _ (λ h shown. (c.new-store.ensures.shows h).1 shown)
-    (c.a_run_opens.ensures content w.lines w.journal c.args.said.word o begins (at-moment content w.journal v.moment o w.opens) (sym c.requires.word) w.stands)
+    same-shown _ o g.O.Origin.faults c.args.said.word (sight_of v c.in-Ok.held) _ (λ h shown. (c.new-store.ensures.shows h).1 shown)
+    (c.a_run_opens.ensures content w.lines w.journal c.args.said.word o g.O.Origin.faults begins (at-moment content w.journal v.moment o w.opens) (sym c.requires.word) w.stands
+    (subst (λ (n : ℕ). n ≤ v.faults) (sym (c.requires.faults told)) c.open.ensures.no_fewer))

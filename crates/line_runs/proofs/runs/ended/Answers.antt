@@ -1,8 +1,11 @@
-use Rattle.line_runs.proofs.Prefix.{holds-prefix, holds-all}
+use Rattle.line_runs.proofs.Prefix.{harmed, holds-prefix, holds-all}
 use Rattle.line_runs.proofs.runs.ended.Goals as goal
 
 pub returns-clause-images : goal.returns-clause-images
 returns-clause-images g c o events has = holds-prefix _ o (g.D.Disk.view c.into_disk.result) events _ c.into_disk.ensures has
+
+pub returns-clause-faults : goal.returns-clause-faults
+returns-clause-faults g c faults events k died = harmed (g.D.Disk.view c.into_disk.result) events _ c.into_disk.ensures faults k died
 
 pub returns-clause-left : goal.returns-clause-left
 returns-clause-left g c o events it rests = holds-all _ o (g.D.Disk.view c.into_disk.result) events _ c.into_disk.ensures it rests

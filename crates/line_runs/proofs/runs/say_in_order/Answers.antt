@@ -1,7 +1,9 @@
-use Rattle.std.proofs.Common.{map, sym, ◌∙◌}
+use Rattle.std.proofs.Common.{◌≡◌, true, map, subst, sym, ◌∙◌}
 use Rattle.std.proofs.lemmas.Bool.{false≢true}
 use Rattle.std.proofs.lemmas.Option.{none-some}
+use Rattle.rdb_outside.specs.Causes.{Rose}
 use Rattle.rdb_account.specs.Events.{event_of}
+use Rattle.line_cluster.specs.Deaths.{has_device_deaths}
 use Rattle.line_runs.proofs.Opening.{same-fault}
 use Rattle.line_runs.proofs.runs.say_in_order.Goals as goal
 
@@ -18,6 +20,13 @@ pub returns-in-Ok-clause-left : goal.returns-in-Ok-clause-left
 returns-in-Ok-clause-left g c told whole =
     let ended = sym c.ended.ensures.is_whole ∙ whole in
     rw c.ended.ensures.events (c.ended.ensures.left g.O.Origin.opening (map event_of c.run_in_order.result.events) (c.run_in_order.ensures.left ended told) (c.run_in_order.ensures.outside ended))
+
+pub returns-in-Ok-clause-harmed : goal.returns-in-Ok-clause-harmed
+returns-in-Ok-clause-harmed g c told =
+    rw c.ended.ensures.events (λ died. subst (λ n. Rose n (g.D.Disk.view c.ended.result.disk).faults) (c.requires.faults told) (c.ended.ensures.faults g.O.Origin.faults (map event_of c.run_in_order.result.events) (c.run_in_order.ensures.faults told) died))
+
+pub returns-in-Err-clause-harmed : goal.returns-in-Err-clause-harmed
+returns-in-Err-clause-harmed g c told died = absurd (false≢true (subst (λ es. has_device_deaths (map event_of es) ≡ true) c.unsaid.ensures.events died))
 
 pub returns-in-Err-clause-images : goal.returns-in-Err-clause-images
 returns-in-Err-clause-images g c told opened = absurd (none-some c.in-Err.unopened.fault (sym opened ∙ c.unsaid.ensures.fault))

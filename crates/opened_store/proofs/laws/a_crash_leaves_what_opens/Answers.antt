@@ -9,20 +9,21 @@ use Rattle.disk_seats.specs.Ledgers.{Commit, progress_of}
 use Rattle.member_steps.specs.Standing.{HasLines}
 use Rattle.member_steps.proofs.Left.{by_case}
 use Rattle.store_shows.proofs.Standing.{may_stand}
+use Rattle.store_shows.specs.Shows.{OpensTo}
 use Rattle.opened_store.proofs.laws.a_crash_leaves_what_opens.Goals as goal
 
-pub returns-clause-lines : goal.returns-clause-lines
-returns-clause-lines g c = λ h shown image left.
+pub returns : goal.returns
+returns g c = λ h shown image left.
     let v = g.D.Disk.view c.args.disk.now in
     let now = shown.ledger in
     let pending = each_slot v image left in
+    let opens = λ (lines : Lines) (has : HasLines image lines). let to : OpensTo image lines = record {
+      has = has;
+      by_area = shown.tables.classes;
+      lie = λ file number is page. shown.tables.lie file number (image (area_file file) (number - 1)) is page (pending (area_file file) (number - 1));
+    } in to in
     let with = λ (lines : Lines) (has : HasLines image lines). may_stand v now h shown.facts shown.lines image lines pending has in
     ⊎_elim
-    (λ (has : HasLines image now.base.lines). (now.base.lines, has, with now.base.lines has))
-    (λ (up : (c : Commit) × (now.commit ≡ Some c) × HasLines image (lines_with now.base c.flight)). (lines_with now.base up.0.flight, up.2, with (lines_with now.base up.0.flight) up.2))
+    (λ (has : HasLines image now.base.lines). (now.base.lines, opens now.base.lines has, with now.base.lines has))
+    (λ (up : (c : Commit) × (now.commit ≡ Some c) × HasLines image (lines_with now.base c.flight)). (lines_with now.base up.0.flight, opens (lines_with now.base up.0.flight) up.2, with (lines_with now.base up.0.flight) up.2))
     (by_case v now shown.facts image (stands (Pending v) (progress_of now) shown.facts.facts image pending))
-
-pub returns-clause-classes : goal.returns-clause-classes
-returns-clause-classes g c = λ h shown image left.
-    let v = g.D.Disk.view c.args.disk.now in
-    (shown.tables.classes, λ file number is page. shown.tables.lie file number (image (area_file file) (number - 1)) is page (each_slot v image left (area_file file) (number - 1)))

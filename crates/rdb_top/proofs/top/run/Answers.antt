@@ -17,6 +17,9 @@ returns-in-Some-Rdo-clause-legal g c given row told tells =
     subst (λ n. IsLegal (said_to (letting n.death g.O.Origin.opening) (word_of c.args.words.now) (scripts_of (g.S.Source.left c.args.scripts.now) n.count)) (map event_of c.run_rdo.result.events))
     (same-given c.in-Some-Rdo.given given _ (ap Some (sym c.in-Some-Rdo.field-0-is) ∙ c.in-Some-Rdo.ensures.row) row) (c.run_rdo.ensures.legal told tells)
 
+pub returns-in-Some-Rdo-clause-harmed : goal.returns-in-Some-Rdo-clause-harmed
+returns-in-Some-Rdo-clause-harmed g c given row told died = c.run_rdo.ensures.harmed told died
+
 pub returns-in-Some-Rdo-clause-whole : goal.returns-in-Some-Rdo-clause-whole
 returns-in-Some-Rdo-clause-whole g c given row told tells whole =
     subst (λ n. HaveAllEnded (said_to (letting n.death g.O.Origin.opening) (word_of c.args.words.now) (scripts_of (g.S.Source.left c.args.scripts.now) n.count)) n.count (map event_of c.run_rdo.result.events))

@@ -8,7 +8,7 @@ use Rattle.command_words.specs.Words.{word_of, order_in}
 use Rattle.rdb_top.specs.Deaths.{letting}
 use Rattle.rdb_top.specs.Runs.{scripts_of, IsWhole}
 use Rattle.rdb_top.proofs.Saying.{prefix-of-scripts, all-of-scripts}
-use Rattle.rdb_top.proofs.Unsaid.{is-opened, nothing-said, stop-is-no-end}
+use Rattle.rdb_top.proofs.Unsaid.{is-opened, nobody-died, nothing-said, stop-is-no-end}
 use Rattle.rdb_top.proofs.Upward.{scripts-length}
 use Rattle.rdb_top.proofs.top.run_rdo.Goals as goal
 
@@ -46,6 +46,12 @@ returns-in-Err-clause-account g c told =
       (λ tells. refl),
       (rw c.unsaid.ensures.events (nothing-said _), (λ whole. absurd (unended whole)), (λ has_order whole. absurd (unended whole))),
     )
+
+pub returns-in-Ok-clause-harmed : goal.returns-in-Ok-clause-harmed
+returns-in-Ok-clause-harmed g c told = rw c.finish_scripts.ensures.events (rw c.finish_scripts.ensures.disk (c.say_scripts-ran.ensures.harmed told))
+
+pub returns-in-Err-clause-harmed : goal.returns-in-Err-clause-harmed
+returns-in-Err-clause-harmed g c told died = absurd (nobody-died c.unsaid.result.events c.unsaid.ensures.events died)
 
 pub returns-in-Ok-clause-unopened : goal.returns-in-Ok-clause-unopened
 returns-in-Ok-clause-unopened g c is =

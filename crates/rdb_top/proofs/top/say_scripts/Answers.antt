@@ -1,4 +1,4 @@
-use Rattle.std.proofs.Common.{Option, ◌++◌, length, map, subst, sym, ◌∙◌}
+use Rattle.std.proofs.Common.{Option, ◌++◌, length, map, refl, subst, sym, ◌∙◌}
 use Rattle.std.proofs.lemmas.Bool.{false≢true}
 use Rattle.std.proofs.lemmas.Option.{none-some}
 use Rattle.rdb_drive.specs.Boards.{MayDie}
@@ -13,6 +13,7 @@ use Rattle.command_words.specs.declared.deaths.Death.{Death}
 use Rattle.rdb_top.specs.Deaths.{letting, sessions_dying}
 use Rattle.rdb_top.proofs.Deaths.{may-fail, mortals}
 use Rattle.rdb_top.proofs.Saying.{opens, prefix-of-word, all-of-word}
+use Rattle.rdb_top.proofs.Unsaid.{nobody-died}
 use Rattle.rdb_top.proofs.top.say_scripts.Goals as goal
 
 pub run_of-requires-clause-mortals : goal.run_of-requires-clause-mortals
@@ -28,6 +29,15 @@ run_of-requires-clause-mortal g c κs within = may-fail c.args.asked.given.death
 pub run_of-requires-clause-opens : goal.run_of-requires-clause-opens
 run_of-requires-clause-opens g c κs within =
     λ told. opens _ (g.D.Disk.view c.args.disk) c.args.asked.given.death g.O.Origin.opening c.in-Ok.field-0.word c.args.scripts.items (c.requires.opens told)
+
+pub run_of-requires-clause-faults : goal.run_of-requires-clause-faults
+run_of-requires-clause-faults g c κs within = λ told. refl
+
+pub returns-in-Ok-clause-harmed : goal.returns-in-Ok-clause-harmed
+returns-in-Ok-clause-harmed g c told died = c.run_of.ensures.harmed told died
+
+pub returns-in-Err-clause-harmed : goal.returns-in-Err-clause-harmed
+returns-in-Err-clause-harmed g c told died = absurd (nobody-died c.unopened.result.events c.unopened.ensures.events died)
 
 pub returns-in-Ok-clause-legal : goal.returns-in-Ok-clause-legal
 returns-in-Ok-clause-legal g c told =

@@ -7,5 +7,6 @@ abbrev pub ghosts-run_of : goal.ghosts-run_of
 ghosts-run_of g a = record {
   opening = said_to (letting a.given.death g.O.Origin.opening) a.said.word a.said.scripts.items;
   sessions = length a.said.scripts.items;
+  faults = (g.D.Disk.view a.disk).faults;
   told = g.O.Origin.told;
 }

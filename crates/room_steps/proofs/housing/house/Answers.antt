@@ -27,14 +27,14 @@ returns-in-Awaited g c = c.want_line-in-Awaited.ensures
 
 pub returns-in-Full : goal.returns-in-Full
 returns-in-Full g c =
-    let b = beside (scene c.args.common.now.word (g.L.LineStore.sight c.args.common.now.store) c.args.common.now.tree) in
+    let b = scene c.args.common.now.word (g.L.LineStore.sight c.args.common.now.store) c.args.common.now.tree in
     let x = at_stage c.args.terms (Gathering c.args.round.item (Locking (RoomOf c.args.room)) c.args.round.later c.args.round.place) in
     let y = at_stage c.args.terms (Working c.args.round.item (Lacking (RoomOf c.args.room))) in
     comes-behind g.S.Statements.stands g.met.S.Statements.orderly c.args.s.number x y _ c.args.common.now.word (g.L.LineStore.sight c.args.common.now.store) c.args.common.now.tree _ _
     (λ h dead left total. drops-on g.S.Statements.stands g.met.S.Statements.orderly c.args.s.number (shared c.args.common.now.word h c.args.common.now.tree dead) left total c.args.terms.standing c.args.terms.known c.args.terms.spoken c.args.terms.waits c.args.round.item (RoomOf c.args.room) c.args.round.later c.args.round.place)
     (λ f. rests-at _ _ c.args.s.number _ f.seat f.wants f.needs f.statement)
     (λ left total. nearer-first c.args.s.number c.refuse_full.result.happened b _ (session left total x) (session left total y) (session left total c.refuse_full.result.phase)
-    (λ k l r. (r, by-round k k c.args.s.number b b (session left total x) (session left total y) refl refl refl refl (omega arith))) (λ waits. waits) (c.refuse_full.ensures.nearer left total))
+    (λ k l r. (r, by-round k k c.args.s.number (beside b) (beside b) (session left total x) (session left total y) refl refl refl refl (omega arith))) (λ waits. waits) (c.refuse_full.ensures.nearer left total))
     c.refuse_full.ensures
 
 pub returns-in-Unfit : goal.returns-in-Unfit

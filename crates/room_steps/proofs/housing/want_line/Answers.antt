@@ -20,12 +20,12 @@ use Rattle.room_steps.proofs.housing.want_line.Goals as goal
 pub returns : goal.returns
 returns g c =
     let then = (subst (λ (x : Stage). ComesIn g.S.Statements.stands c.args.s.number (scene c.args.common.now.word (g.L.LineStore.sight c.args.common.now.store) c.args.common.now.tree) (at_stage c.args.terms x) (scene c.want.new.common.word (g.L.LineStore.sight c.want.new.common.store) c.want.new.common.tree) c.want.result.phase c.want.result.happened) c.at-stage.ensures c.want.ensures) in
-    let b = beside (scene c.args.common.now.word (g.L.LineStore.sight c.args.common.now.store) c.args.common.now.tree) in
+    let b = scene c.args.common.now.word (g.L.LineStore.sight c.args.common.now.store) c.args.common.now.tree in
     let x = at_stage c.args.terms (Gathering c.args.round.item (Locking (RoomOf c.args.room)) c.args.round.later c.args.round.place) in
     let y = at_stage c.args.terms (Gathering c.args.round.item (Housing c.args.room c.args.key) c.args.round.later c.args.round.place) in
     comes-behind g.S.Statements.stands g.met.S.Statements.orderly c.args.s.number x y _ c.args.common.now.word (g.L.LineStore.sight c.args.common.now.store) c.args.common.now.tree _ _
     (λ h dead left total. houses-in-turn g.S.Statements.stands g.met.S.Statements.orderly c.args.s.number (shared c.args.common.now.word h c.args.common.now.tree dead) left total c.args.terms.standing c.args.terms.known c.args.terms.spoken c.args.terms.waits c.args.round.item c.args.room c.args.key c.args.round.later c.args.round.place c.requires.area)
     (λ f. house-seat _ _ c.args.s.number c.args.terms.standing c.args.terms.known c.args.terms.spoken c.args.terms.waits c.args.round.item f.seat c.requires.closed f.needs f.statement c.args.room c.args.key c.args.round.later c.args.round.place)
     (λ left total. nearer-first c.args.s.number c.want.result.happened b _ (session left total x) (session left total y) (session left total c.want.result.phase)
-    (λ k l r. (r, by-place k k c.args.s.number b b (session left total x) (session left total y) refl refl refl refl refl (housed (length c.args.round.later - c.args.round.place)))) (λ waits. waits) (then.nearer left total))
+    (λ k l r. (r, by-place k k c.args.s.number (beside b) (beside b) (session left total x) (session left total y) refl refl refl refl refl (housed (length c.args.round.later - c.args.round.place)))) (λ waits. waits) (then.nearer left total))
     then

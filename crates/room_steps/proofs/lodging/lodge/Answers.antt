@@ -7,10 +7,11 @@ use Rattle.session_states.specs.States.{session}
 use Rattle.session_states.proofs.InTurn.{steps-on}
 use Rattle.session_measure.proofs.Nearer.{nearer-by-steps}
 use Rattle.stage_steps.specs.Turns.{at_stage, shared}
-use Rattle.stage_steps.proofs.Goes.{goes, goes-behind, comes-as}
+use Rattle.stage_steps.proofs.Goes.{goes, goes-behind, has-failed, comes-as}
+use Rattle.stage_steps.proofs.Nearer.{near-in}
 use Rattle.stage_steps.proofs.Resting.{as-before}
 use Rattle.stage_steps.proofs.Seated.{rests-at}
-use Rattle.stage_steps.proofs.Read.{was-read, was-more, was-forgone, was-fault}
+use Rattle.stage_steps.proofs.Read.{was-read, was-more, was-forgone, was-fault, was-failed}
 use Rattle.room_steps.proofs.Lodged.{lodging-read}
 use Rattle.room_steps.proofs.lodging.lodge.Goals as goal
 
@@ -21,7 +22,7 @@ returns-in-Ok-Done g c =
     (λ h m r. (was-read c.args.s.number h m _ c.in-Ok-Done.field-0-is r)) (λ h. refl)
     (λ h m k shown told r q dead left total. steps-on g.S.Statements.stands g.met.S.Statements.orderly c.args.s.number (shared c.args.common.now.word h c.args.common.now.tree dead) (shared c.args.common.now.word m c.args.common.now.tree dead) _ (session left total (at_stage c.args.terms (Gathering c.args.round.item (LodgingOf c.args.given.room c.args.given.key) c.args.round.later c.args.round.place))) (session left total (at_stage (record { standing = c.args.terms.standing; known = c.fetch.new.known; spoken = c.args.terms.spoken; waits = c.args.terms.waits }) (Gathering c.args.round.item (LodgingOf c.args.given.room c.args.given.key) c.args.round.later c.args.round.place))) _ [] _ refl tt
     (lodging-read g.S.Statements.stands g.met.S.Statements.orderly c.args.s.number (shared c.args.common.now.word h c.args.common.now.tree dead) left total c.args.terms.standing c.args.terms.known c.fetch.new.known c.args.terms.spoken c.args.terms.waits c.args.round.item c.args.given.room c.args.given.key c.args.round.later c.args.round.place m (was-read c.args.s.number h m _ c.in-Ok-Done.field-0-is r) (record { agrees = c.fetch.ensures.agrees h shown; guarded = c.fetch.ensures.guarded }) c.fetch.ensures.more) (q dead left total))
-    c.in-Ok-Done.ensures.read c.settle.ensures.comes (c.settle.ensures.nearer _ _ c.args.terms c.args.given.room c.args.given.key)
+    c.in-Ok-Done.ensures.read c.settle.ensures.comes (λ left total. near-in c.args.s.number _ _ _ _ _ (c.settle.ensures.nearer _ _ c.args.terms c.args.given.room c.args.given.key left total))
 
 pub returns-in-Ok-More : goal.returns-in-Ok-More
 returns-in-Ok-More g c =
@@ -37,11 +38,11 @@ returns-in-Err-NoMemory g c =
     (λ h m r. (was-forgone c.args.s.number h m _ c.in-Err-NoMemory.field-0-is r)) (λ h. refl)
     (λ h m k shown told r q dead left total. steps-on g.S.Statements.stands g.met.S.Statements.orderly c.args.s.number (shared c.args.common.now.word h c.args.common.now.tree dead) (shared c.args.common.now.word m c.args.common.now.tree dead) _ (session left total (at_stage c.args.terms (Gathering c.args.round.item (LodgingOf c.args.given.room c.args.given.key) c.args.round.later c.args.round.place))) (session left total (at_stage (record { standing = c.args.terms.standing; known = c.fetch.new.known; spoken = c.args.terms.spoken; waits = c.args.terms.waits }) (Gathering c.args.round.item (LodgingOf c.args.given.room c.args.given.key) c.args.round.later c.args.round.place))) _ [] _ refl tt
     (lodging-read g.S.Statements.stands g.met.S.Statements.orderly c.args.s.number (shared c.args.common.now.word h c.args.common.now.tree dead) left total c.args.terms.standing c.args.terms.known c.fetch.new.known c.args.terms.spoken c.args.terms.waits c.args.round.item c.args.given.room c.args.given.key c.args.round.later c.args.round.place m (was-forgone c.args.s.number h m _ c.in-Err-NoMemory.field-0-is r) (record { agrees = c.fetch.ensures.agrees h shown; guarded = c.fetch.ensures.guarded }) c.fetch.ensures.more) (q dead left total))
-    c.in-Err-NoMemory.ensures.read (c.forgo.ensures.forgoes c.args.common.now.tree (Gathering c.args.round.item (LodgingOf c.args.given.room c.args.given.key) c.args.round.later c.args.round.place) (as-before c.args.common.now.tree) refl refl) (λ left total. c.forgo.ensures.nearer _ _ _ left total refl)
+    c.in-Err-NoMemory.ensures.read (c.forgo.ensures.forgoes c.args.common.now.tree (Gathering c.args.round.item (LodgingOf c.args.given.room c.args.given.key) c.args.round.later c.args.round.place) (as-before c.args.common.now.tree) refl refl) (λ left total. near-in c.args.s.number _ _ _ _ _ (c.forgo.ensures.nearer _ _ _ left total refl))
 
 pub returns-in-Err-Fault : goal.returns-in-Err-Fault
 returns-in-Err-Fault g c =
     comes-as g.S.Statements.stands c.args.s.number _ _ _ _ _ _ _ (c.failed.ensures.phase ∙ c.at-in-Err-Fault-2.ensures ∙ ap (λ (x : Stage). at_stage (record { standing = c.args.terms.standing; known = c.fetch.new.known; spoken = c.args.terms.spoken; waits = c.args.terms.waits }) x) (c.at-in-Err-Fault.ensures ∙ ap (λ y. Gathering c.args.round.item y c.args.round.later c.args.round.place) c.lodging-in-Err-Fault.ensures)) c.failed.ensures.happened
-    (goes c.args.s.number _ Alive _ Alive _ _ _ _ _ (λ e f. rests-at _ _ c.args.s.number _ (e ∙ f.seat) f.wants f.needs f.statement) (λ u other. refl) (λ left total. tt)
+    (goes c.args.s.number _ Alive _ Alive _ _ _ _ _ (λ e f. rests-at _ _ c.args.s.number _ (e ∙ f.seat) f.wants f.needs f.statement) (λ u other. refl) (λ left total. has-failed c.args.s.number _ _ c.in-Err-Fault.fault _ _ (λ h k r. was-failed c.args.s.number h k _ c.in-Err-Fault.fault c.in-Err-Fault.field-0-is r) c.in-Err-Fault.ensures.read)
     (λ h k shown told r dead left total. lodging-read g.S.Statements.stands g.met.S.Statements.orderly c.args.s.number (shared c.args.common.now.word h c.args.common.now.tree dead) left total c.args.terms.standing c.args.terms.known c.fetch.new.known c.args.terms.spoken c.args.terms.waits c.args.round.item c.args.given.room c.args.given.key c.args.round.later c.args.round.place k (was-fault c.args.s.number h k _ c.in-Err-Fault.fault c.in-Err-Fault.field-0-is r) (record { agrees = c.fetch.ensures.agrees h shown; guarded = c.fetch.ensures.guarded }) c.fetch.ensures.more)
     c.in-Err-Fault.ensures.read)

@@ -2,4 +2,4 @@ use Rattle.session_cases.proofs.Opening.{opening}
 use Rattle.session_cases.proofs.stores.run_in_memory.Given as goal
 
 abbrev pub ghosts-run : goal.ghosts-run
-ghosts-run a = record { opening = opening a.scripts.items; sessions = 4; told = ⊥ }
+ghosts-run a = record { opening = opening a.scripts.items; sessions = 4; faults = 0; told = ⊥ }

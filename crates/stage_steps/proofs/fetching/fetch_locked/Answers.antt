@@ -7,10 +7,11 @@ use Rattle.session_states.proofs.InTurn.{steps-on}
 use Rattle.session_states.proofs.Resting.{rests-by}
 use Rattle.session_measure.proofs.Nearer.{nearer-in-round, nearer-by-steps}
 use Rattle.stage_steps.specs.Turns.{at_stage, shared}
-use Rattle.stage_steps.proofs.Goes.{goes, goes-still, goes-behind, comes-as}
+use Rattle.stage_steps.proofs.Goes.{goes, goes-still, goes-behind, has-failed, comes-as}
 use Rattle.stage_steps.proofs.Resting.{as-before}
 use Rattle.stage_steps.proofs.Seated.{rests-at}
-use Rattle.stage_steps.proofs.Read.{was-read, was-more, was-forgone, was-fault}
+use Rattle.stage_steps.proofs.Nearer.{near-in}
+use Rattle.stage_steps.proofs.Read.{was-read, was-more, was-forgone, was-fault, was-failed}
 use Rattle.stage_steps.proofs.Fetched.{read-on, read-up}
 use Rattle.stage_steps.proofs.fetching.fetch_locked.Goals as goal
 
@@ -37,12 +38,12 @@ returns-in-Err-NoMemory g c =
     (λ h m k shown told r q dead left total. steps-on g.S.Statements.stands g.met.S.Statements.orderly c.args.s.number (shared c.args.common.now.word h c.args.common.now.tree dead) (shared c.args.common.now.word m c.args.common.now.tree dead) _ (session left total (at_stage c.args.terms (Working c.args.item (Fetching c.args.need)))) (session left total y) _ [] _ refl tt
     (read-on g.S.Statements.stands g.met.S.Statements.orderly c.args.s.number (shared c.args.common.now.word h c.args.common.now.tree dead) m c.args.terms.standing c.args.terms.known c.fetch.new.known c.args.item c.args.need (was-forgone c.args.s.number h m _ c.in-Err-NoMemory.field-0-is r) (c.fetch.ensures.agrees h shown) c.args.terms.spoken c.args.terms.waits (c.fetch.ensures.guarded) left total) (q dead left total))
     c.in-Err-NoMemory.ensures.read (c.forgo.ensures.forgoes c.args.common.now.tree (Working c.args.item (Fetching c.args.need)) (as-before c.args.common.now.tree) refl refl)
-    (λ left total. c.forgo.ensures.nearer _ _ _ left total refl)
+    (λ left total. near-in c.args.s.number _ _ _ _ _ (c.forgo.ensures.nearer _ _ _ left total refl))
 
 pub returns-in-Err-Fault : goal.returns-in-Err-Fault
 returns-in-Err-Fault g c =
     comes-as g.S.Statements.stands c.args.s.number _ _ _ _ _ _ _ (c.failed.ensures.phase ∙ c.at-in-Err-Fault.ensures) c.failed.ensures.happened
-    (goes c.args.s.number _ Alive _ Alive _ _ _ _ _ (λ e f. rests-at _ _ c.args.s.number _ (e ∙ f.seat) f.wants f.needs f.statement) (λ u other. refl) (λ left total. tt)
+    (goes c.args.s.number _ Alive _ Alive _ _ _ _ _ (λ e f. rests-at _ _ c.args.s.number _ (e ∙ f.seat) f.wants f.needs f.statement) (λ u other. refl) (λ left total. has-failed c.args.s.number _ _ c.in-Err-Fault.fault _ _ (λ h k r. was-failed c.args.s.number h k _ c.in-Err-Fault.fault c.in-Err-Fault.field-0-is r) c.in-Err-Fault.ensures.read)
     (λ h k shown told r dead. read-on g.S.Statements.stands g.met.S.Statements.orderly c.args.s.number (shared c.args.common.now.word h c.args.common.now.tree dead) k c.args.terms.standing c.args.terms.known c.fetch.new.known c.args.item c.args.need (was-fault c.args.s.number h k _ c.in-Err-Fault.fault c.in-Err-Fault.field-0-is r) (c.fetch.ensures.agrees h shown) c.args.terms.spoken c.args.terms.waits (c.fetch.ensures.guarded))
     c.in-Err-Fault.ensures.read)
 

@@ -14,6 +14,7 @@ use Rattle.stage_steps.specs.declared.happening.Happening.TheVariants.{Quiet, Un
 use Rattle.stage_steps.specs.Scenes.{ComesIn, scene}
 use Rattle.stage_steps.specs.Turns.{reads_at, shared}
 use Rattle.stage_steps.proofs.Goes.{goes-still, comes-as}
+use Rattle.stage_steps.proofs.Nearer.{near-in}
 use Rattle.stage_steps.proofs.Seated.{reads-on}
 use Rattle.stage_steps.proofs.reading.compute_reading.Goals as goal
 
@@ -27,7 +28,7 @@ returns-in-Done-clause-comes g c locks =
     let same : c.into_parts-job.result.0.word ≡ c.args.word.now = ap (λ (j : Job). j.word) e ∙ c.in-Ok.ensures in
     let r : IsFoundFor g.S.Statements.stands c.into_parts-job.result.0 (Done c.in-Done.worked) = subst (λ (f : Found). IsFoundFor g.S.Statements.stands c.into_parts-job.result.0 f) c.in-Done.is c.into_parts-job.ensures.right in
     subst (λ (j : Job). ComesIn g.S.Statements.stands c.args.s.number here (reads_at (record { standing = j.standing; known = j.known; spoken = c.args.terms.spoken }) (Working j.item Out)) here c.say_reading.result.phase c.say_reading.result.happened) e
-    (goes-still c.args.s.number _ Alive _ Alive _ _ _ refl (λ f. rw c.say_reading.ensures.phase (reads-on _ _ locks c.args.s.number _ _ refl f)) (λ u other. refl) (λ left total. c.say_reading.ensures.nearer c.args.s.number _ _ _ left total refl)
+    (goes-still c.args.s.number _ Alive _ Alive _ _ _ refl (λ f. rw c.say_reading.ensures.phase (reads-on _ _ locks c.args.s.number _ _ refl f)) (λ u other. refl) (λ left total. near-in c.args.s.number _ _ _ _ _ (c.say_reading.ensures.nearer c.args.s.number _ _ _ left total refl))
     (λ h shown dead. c.say_reading.ensures.says c.args.s.number (shared c.args.word.now h locks dead) (subst (λ (w : List ℕ). IsFound g.S.Statements.stands w c.into_parts-job.result.0.standing (uttered_of c.into_parts-job.result.0.item) (knows c.into_parts-job.result.0.known) (Done c.in-Done.worked)) same r)))
 
 pub returns-clause-comes : goal.returns-clause-comes

@@ -3,6 +3,7 @@ use Rattle.std.proofs.lemmas.Bool.{false≢true}
 use Rattle.rdb_account.specs.Events.{Died, event_of}
 use Rattle.session_states.specs.declared.stage.Member.{Member}
 use Rattle.line_cluster.proofs.Coming.{has-died, looked}
+use Rattle.line_cluster.proofs.Faults.{counts-otherwise}
 use Rattle.line_cluster.proofs.Stepping.{work-alive}
 use Rattle.line_cluster.proofs.sessions.Core.die.Goals as goal
 
@@ -14,6 +15,9 @@ returns-then-is_over-clause-came g c = inl (refl, record { member = c.member_at.
 
 pub returns-then-is_err-clause-came : goal.returns-then-is_err-clause-came
 returns-then-is_err-clause-came g c = inr (inl (record { halted = c.stop-turn.ensures.halted; members = c.stop-turn.ensures.members; events = c.stop-turn.ensures.events ∙ c.reserve_step.ensures.same; rests = λ stopped. absurd (false≢true (sym (sym c.is_some.ensures ∙ c.if-is_some.false) ∙ stopped)) }))
+
+pub fall-requires-clause-caused : goal.fall-requires-clause-caused
+fall-requires-clause-caused g c = λ told. counts-otherwise g.O.Origin.faults _ (g.L.LineStore.sight c.args.self.now.common.store) c.args.cause c.requires.own (c.requires.sound.causes told)
 
 pub fall-requires-clause-lives : goal.fall-requires-clause-lives
 fall-requires-clause-lives g c = λ m found. work-alive m (looked c.args.self.now.members.items (c.args.s.number - 1) c.member_at.result.now m false (ap (λ (ms : List Member). slice_get ms (c.args.s.number - 1)) (sym c.deref.ensures.value) ∙ c.member_at.ensures) (sym c.is_over.ensures ∙ c.if-is_over.false) found)

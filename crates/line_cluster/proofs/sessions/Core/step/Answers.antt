@@ -2,14 +2,16 @@ use Rattle.std.proofs.Common.{◌∙◌, ◌++◌, ◌&&◌, ℕ, Bool, true, Li
 use Rattle.rdb_account.specs.Events.{event_of}
 use Rattle.line_store.specs.Sights.{Sight}
 use Rattle.session_states.specs.declared.stage.Member.{Member}
+use Rattle.session_states.specs.States.{session}
 use Rattle.rdb_drive.specs.Boards.{Less}
 use Rattle.stage_steps.specs.declared.happening.Happening.{Happening}
 use Rattle.stage_steps.specs.Happenings.{events_of, handed_back}
-use Rattle.stage_steps.specs.Scenes.{Scene, beside, scene}
+use Rattle.stage_steps.specs.Scenes.{Scene, NearerIn, beside, scene}
 use Rattle.line_arms.specs.declared.allotment.Allotment.{Allotment}
 use Rattle.line_cluster.specs.Measured.{measure_by}
 use Rattle.line_cluster.specs.Turned.{Sessions, sessions, rounds_at}
 use Rattle.line_cluster.proofs.Coming.{went, went-served, came-by, fell}
+use Rattle.line_cluster.proofs.Faults.{counts-failed}
 use Rattle.line_cluster.proofs.Measured.{set-found}
 use Rattle.line_cluster.proofs.Nearing.{lives-on, turned-nearer, served-nearer, is-due}
 use Rattle.line_cluster.proofs.Stepping.{among, seated-at, work-alive, going-on, moving-keeps, noticed-keeps, put-lives, turned}
@@ -26,17 +28,17 @@ go_on-turned-requires-clause-going g c = going-on c.take_member-left.result (wor
 
 pub returns-in-Nothing-clause-sound : goal.returns-in-Nothing-clause-sound
 returns-in-Nothing-clause-sound g c =
-    turned g.S.Statements.stands g.met.S.Statements.orderly g.O.Origin.told g.O.Origin.opening _ _ (g.L.LineStore.stands c.go_on-turned.new.common.store) _ _ _ _ c.args.s.number c.args.at c.take_member-left.result _ _ _ _ _ c.requires.one.first c.requires.at c.requires.going c.requires.lives c.take_member-left.ensures.taken
+    turned g.S.Statements.stands g.met.S.Statements.orderly g.O.Origin.told g.O.Origin.opening g.O.Origin.faults _ _ (g.L.LineStore.stands c.go_on-turned.new.common.store) _ _ _ _ c.args.s.number c.args.at c.take_member-left.result _ _ _ _ _ c.requires.one.first c.requires.at c.requires.going c.requires.lives c.take_member-left.ensures.taken
     (work-alive c.take_member-left.result (c.requires.work c.take_member-left.result c.take_member-left.ensures.taken)) c.requires.sound c.go_on-turned.ensures.goes c.go_on-turned.ensures.some (λ none. moving-keeps _ (c.behind_of-then.ensures.nothing c.in-Nothing.is)) (c.put_member.ensures ∙ c.take_member-left.ensures.rest _) c.record.ensures
 
 pub returns-in-Stop-clause-sound : goal.returns-in-Stop-clause-sound
 returns-in-Stop-clause-sound g c =
-    turned g.S.Statements.stands g.met.S.Statements.orderly g.O.Origin.told g.O.Origin.opening _ _ (g.L.LineStore.stands c.go_on-turned.new.common.store) _ _ _ _ c.args.s.number c.args.at c.take_member-left.result _ _ _ _ _ c.requires.one.first c.requires.at c.requires.going c.requires.lives c.take_member-left.ensures.taken
+    turned g.S.Statements.stands g.met.S.Statements.orderly g.O.Origin.told g.O.Origin.opening g.O.Origin.faults _ _ (g.L.LineStore.stands c.go_on-turned.new.common.store) _ _ _ _ c.args.s.number c.args.at c.take_member-left.result _ _ _ _ _ c.requires.one.first c.requires.at c.requires.going c.requires.lives c.take_member-left.ensures.taken
     (work-alive c.take_member-left.result (c.requires.work c.take_member-left.result c.take_member-left.ensures.taken)) c.requires.sound c.go_on-turned.ensures.goes c.go_on-turned.ensures.some (λ none. cc none) (c.put_member.ensures ∙ c.take_member-left.ensures.rest _) c.record.ensures
 
 pub serve_notice-requires-clause-sound : goal.serve_notice-requires-clause-sound
 serve_notice-requires-clause-sound g c =
-    turned g.S.Statements.stands g.met.S.Statements.orderly g.O.Origin.told g.O.Origin.opening _ _ (g.L.LineStore.stands c.go_on-turned.new.common.store) _ _ _ _ c.args.s.number c.args.at c.take_member-left.result _ _ _ _ _ c.requires.one.first c.requires.at c.requires.going c.requires.lives c.take_member-left.ensures.taken
+    turned g.S.Statements.stands g.met.S.Statements.orderly g.O.Origin.told g.O.Origin.opening g.O.Origin.faults _ _ (g.L.LineStore.stands c.go_on-turned.new.common.store) _ _ _ _ c.args.s.number c.args.at c.take_member-left.result _ _ _ _ _ c.requires.one.first c.requires.at c.requires.going c.requires.lives c.take_member-left.ensures.taken
     (work-alive c.take_member-left.result (c.requires.work c.take_member-left.result c.take_member-left.ensures.taken)) c.requires.sound c.go_on-turned.ensures.goes c.go_on-turned.ensures.some (λ none. noticed-keeps _ _ (c.behind_of-then.ensures.serve c.in-Serve.notice c.in-Serve.is)) (c.put_member.ensures ∙ c.take_member-left.ensures.rest _) c.record.ensures
 
 pub serve_notice-requires-clause-lives : goal.serve_notice-requires-clause-lives
@@ -106,9 +108,20 @@ returns-in-Serve-clause-nearer g c = λ moved.
 pub fall-requires-clause-sound : goal.fall-requires-clause-sound
 fall-requires-clause-sound g c =
     let failed = c.behind_of-then.ensures.die c.in-Die.is in
-    turned g.S.Statements.stands g.met.S.Statements.orderly g.O.Origin.told g.O.Origin.opening _ _ (g.L.LineStore.stands c.go_on-turned.new.common.store) _ _ _ _ c.args.s.number c.args.at c.take_member-left.result _ _ _ _ _ c.requires.one.first c.requires.at c.requires.going c.requires.lives c.take_member-left.ensures.taken
+    turned g.S.Statements.stands g.met.S.Statements.orderly g.O.Origin.told g.O.Origin.opening g.O.Origin.faults _ _ (g.L.LineStore.stands c.go_on-turned.new.common.store) _ _ _ _ c.args.s.number c.args.at c.take_member-left.result _ _ _ _ _ c.requires.one.first c.requires.at c.requires.going c.requires.lives c.take_member-left.ensures.taken
     (work-alive c.take_member-left.result (c.requires.work c.take_member-left.result c.take_member-left.ensures.taken)) c.requires.sound c.go_on-turned.ensures.goes c.go_on-turned.ensures.some (λ none. ap handed_back failed) (c.put_member.ensures ∙ c.take_member-left.ensures.rest _)
     (sym (append-nil (map event_of c.args.self.now.events.items)) ∙ ap (λ (h : Happening). map event_of c.args.self.now.events.items ++ events_of c.args.s.number h) (sym failed))
+
+pub fall-requires-clause-caused : goal.fall-requires-clause-caused
+fall-requires-clause-caused g c = λ told.
+    let sight = g.L.LineStore.sight in
+    let was : Scene = scene c.args.self.now.common.word (sight c.args.self.now.common.store) c.args.self.now.common.tree in
+    let is : Scene = scene c.go_on-turned.new.common.word (sight c.go_on-turned.new.common.store) c.go_on-turned.new.common.tree in
+    let failed = c.behind_of-then.ensures.die c.in-Die.is in
+    let m = session c.take_member-left.result.left c.take_member-left.result.total c.take_member-left.result.phase in
+    let n = session c.go_on-turned.new.left c.take_member-left.result.total c.go_on-turned.result.phase in
+    counts-failed g.O.Origin.faults c.args.s.number (sight c.args.self.now.common.store) (sight c.go_on-turned.new.common.store) _ _
+    (subst (λ (h : Happening). NearerIn c.args.s.number h was is m n) failed ((c.go_on-turned.ensures.goes (ap handed_back failed)).nearer c.take_member-left.result.total)) (c.requires.sound.causes told)
 
 pub fall-requires-clause-lives : goal.fall-requires-clause-lives
 fall-requires-clause-lives g c =

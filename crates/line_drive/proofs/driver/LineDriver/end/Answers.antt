@@ -1,8 +1,9 @@
-use Rattle.std.proofs.Common.{◌≡◌, ℕ, false, map, subst}
+use Rattle.std.proofs.Common.{◌≡◌, ℕ, false, true, map, subst}
 use Rattle.rdb_account.specs.Events.{event_of}
 use Rattle.rdb_drive.specs.Boards.{AllEnded}
 use Rattle.line_store.specs.Seats.{outside}
 use Rattle.line_store.specs.Sights.{bare}
+use Rattle.line_cluster.specs.Deaths.{CountsFaults, has_device_deaths}
 use Rattle.line_cluster.specs.Sound.{HasImages, IsLeft}
 use Rattle.line_cluster.specs.Turned.{Sessions}
 use Rattle.line_drive.specs.Boards.{board_of}
@@ -16,6 +17,10 @@ returns-clause-left g c =
 pub returns-clause-images : goal.returns-clause-images
 returns-clause-images g c =
     subst (λ (v : Sessions). g.O.Origin.told → HasImages g.S.Statements.stands g.O.Origin.opening (g.L.LineStore.sight c.end.result.store) (map event_of v.events)) c.self.view_is c.end.ensures.images
+
+pub returns-clause-faults : goal.returns-clause-faults
+returns-clause-faults g c =
+    subst (λ (v : Sessions). g.O.Origin.told → CountsFaults g.O.Origin.faults (has_device_deaths (map event_of v.events) ≡ true) (g.L.LineStore.sight c.end.result.store)) c.self.view_is c.end.ensures.faults
 
 pub returns-clause-outside : goal.returns-clause-outside
 returns-clause-outside g c =
