@@ -5,8 +5,7 @@ use Rattle.journal_reading.specs.declared.reading.AijFault.{AijFault}
 use Rattle.journal_reading.specs.declared.reading.AijFault.TheVariants as reading
 use Rattle.line_store.specs.declared.answers.Fault.{Fault}
 use Rattle.line_store.specs.declared.answers.Fault.TheVariants as call
-use Rattle.line_opening.specs.declared.fault.OpeningFault.{OpeningFault}
-use Rattle.line_opening.specs.declared.fault.OpeningFault.TheVariants.{Failed, NoMemory, Bad}
+use Rattle.line_opening.specs.declared.fault.OpeningFault.TheVariants.{Bad}
 use Rattle.line_opening.specs.Faults.{of_call, of_journal}
 
 pub err_same : {A E : Type 0} (a b : E) → ◌≡◌ {A = Result A E} (Err a) (Err b) → a ≡ b

@@ -1,17 +1,15 @@
 -- Runs behind which each slot holds what it may, and what their writes come to.
-use Rattle.std.proofs.Common.{◌≡◌, ℕ, IsTrue, List, [], ◌∷◌, ◌++◌, Option, ◌⊎◌, inl, inr, ⊎_elim, refl, sym, ◌∙◌, ap, subst}
-use Rattle.rdb_types.specs.declared.keys.Dbkey.{Dbkey}
+use Rattle.std.proofs.Common.{◌≡◌, ℕ, IsTrue, List, [], ◌++◌, Option, inl, inr, ⊎_elim, refl, sym, ◌∙◌, ap, subst}
 use Rattle.rdb_outside.specs.Disk.{Image, View, LeftNow, OnlyReads}
 use Rattle.rdb_outside.specs.Moments.{each_slot}
-use Rattle.area_files.specs.Areas.{IsDataPage}
 use Rattle.line_view.specs.declared.writes.Write.{Write}
-use Rattle.stable_lines.specs.Slots.{IsAreaFile, line_at}
+use Rattle.stable_lines.specs.Slots.{line_at}
 use Rattle.line_versions.specs.Lines.{shown}
 use Rattle.rolled_lines.specs.HalfLaid.{line_behind}
 use Rattle.guarded_root.specs.Guarded.{AddsOnly}
 use Rattle.guarded_root.proofs.Adding.{adds_none, adds_read, adds_on}
 use Rattle.laid_groups.specs.Forward.{Forward, IsUnderWay, IsReady, IsHeld, KeepsReady, IsWrittenBy}
-use Rattle.laid_groups.specs.Laid.{IsEntered, LaidOver}
+use Rattle.laid_groups.specs.Laid.{LaidOver}
 use Rattle.laid_groups.proofs.Behind.{behind_both, written_either}
 
 -- ---- at every moment

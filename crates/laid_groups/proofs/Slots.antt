@@ -1,12 +1,11 @@
 -- What laying a line puts into slots is what they may hold.
-use Rattle.std.proofs.Common.{◌≡◌, ◌≢◌, ℕ, suc, ◌+◌, ◌-◌, ◌%◌, ◌≤◌, ◌<◌, List, Option, ◌⊎◌, inl, inr, ⊎_elim, refl, sym, ◌∙◌, ap, subst, arith}
+use Rattle.std.proofs.Common.{◌≡◌, ℕ, suc, ◌-◌, ◌%◌, ◌≤◌, ◌<◌, List, inl, inr, ⊎_elim, refl, sym, ◌∙◌, ap, subst, arith}
 use Rattle.rdb_types.specs.declared.file.FileId.{FileId}
 use Rattle.rdb_types.specs.declared.keys.Dbkey.{Dbkey}
 use Rattle.rdb_types.specs.declared.keys.Line.{Line}
 use Rattle.rdb_types.specs.declared.keys.Tsn.{Tsn}
-use Rattle.rdb_outside.specs.Disk.{Image, zeros}
-use Rattle.rdb_page.specs.Whole.{IsPageOf}
-use Rattle.area_files.specs.Areas.{IsPage, IsDataPage, IsSpacePage, space_page_of}
+use Rattle.rdb_outside.specs.Disk.{Image}
+use Rattle.area_files.specs.Areas.{IsPage, space_page_of}
 use Rattle.space_pages.specs.Space.{owner_of}
 use Rattle.aij_journal.specs.declared.part.GroupLine.{GroupLine}
 use Rattle.line_versions.specs.Lines.{shown}
@@ -14,14 +13,12 @@ use Rattle.line_view.specs.Knowledge.{line_in}
 use Rattle.stable_lines.specs.Slots.{area_file, IsAreaFile, line_on}
 use Rattle.stable_lines.specs.Journal.{write_of}
 use Rattle.line_moves.specs.declared.places.Place.{Place}
-use Rattle.line_moves.specs.Contents.{IsOn}
 use Rattle.line_moves.proofs.KeyPlaces.{area_is}
 use Rattle.line_moves.proofs.LinePut.{same_key}
 use Rattle.line_moves.proofs.PageWrite.{space_apart}
 use Rattle.line_moves.proofs.Putting.{nat_cases}
-use Rattle.rolled_lines.specs.HalfLaid.{line_behind}
-use Rattle.guarded_lines.specs.Laying.{IsOfArea, HasRoom, SaysOwner, BearsLine, IsLaidSlot}
-use Rattle.laid_groups.specs.Forward.{Forward, line_laid, IsWrittenBy, IsHalfLaid, MayBePage, MayBeSpace, MayHold, IsUnderWay, FitsLine}
+use Rattle.guarded_lines.specs.Laying.{HasRoom, SaysOwner, BearsLine, IsLaidSlot}
+use Rattle.laid_groups.specs.Forward.{Forward, line_laid, IsHalfLaid, MayBePage, MayBeSpace, MayHold, IsUnderWay, FitsLine}
 use Rattle.laid_groups.proofs.Behind.{behind_last}
 
 pub same_page : (a b : ℕ) → 1 ≤ a → 1 ≤ b → a - 1 ≡ b - 1 → a ≡ b

@@ -1,11 +1,10 @@
 -- A line more is laid.
-use Rattle.std.proofs.Common.{◌≡◌, ◌≢◌, ℕ, zero, suc, ◌+◌, ◌-◌, ◌≤◌, ◌<◌, ◌^◌, Bool, true, false, cond, List, [], ◌∷◌, ◌++◌, map, take, length, Option, Some, slice_get, ◌⊎◌, inl, inr, ⊎_elim, refl, sym, ◌∙◌, ap, subst, arith}
+use Rattle.std.proofs.Common.{◌≡◌, ◌≢◌, ℕ, zero, suc, ◌+◌, ◌-◌, ◌≤◌, ◌<◌, ◌^◌, Bool, true, false, cond, List, [], ◌∷◌, ◌++◌, map, take, length, Option, Some, slice_get, ⊎_elim, refl, sym, ◌∙◌, ap, subst, arith}
 use Rattle.std.specs.Ordering.{is_eq}
 use Rattle.std.specs.Prelude.{slice_index_or}
 use Rattle.std.proofs.lemmas.Option.{slice_get-get_or}
 use Rattle.rdb_types.specs.declared.file.FileId.{FileId}
 use Rattle.rdb_types.specs.declared.keys.Dbkey.{Dbkey}
-use Rattle.rdb_types.specs.declared.keys.Line.{Line}
 use Rattle.rdb_types.specs.declared.keys.LineState.{LineState}
 use Rattle.rdb_types.specs.declared.keys.LineState.TheVariants.{Never, Present, Erased}
 use Rattle.rdb_types.specs.declared.keys.Tsn.{Tsn}
@@ -18,7 +17,7 @@ use Rattle.aij_journal.specs.declared.part.GroupLine.{GroupLine}
 use Rattle.aij_journal.specs.Part.{LeavesLine}
 use Rattle.line_versions.specs.Lines.{storage_area, shown}
 use Rattle.line_view.specs.declared.writes.Write.{Write}
-use Rattle.stable_lines.specs.Slots.{area_file, file_of, slot_of, IsAreaFile, line_on, line_at}
+use Rattle.stable_lines.specs.Slots.{area_file, file_of, slot_of, line_on, line_at}
 use Rattle.stable_lines.specs.Journal.{write_of}
 use Rattle.stable_lines.proofs.Never.{nothing_on, space_owner}
 use Rattle.line_moves.specs.Contents.{IsOn}

@@ -1,5 +1,5 @@
 -- A roll-forward: what lies below, what is laid over it, and what each slot may hold meanwhile.
-use Rattle.std.specs.Prelude.{ℕ, ◌+◌, ◌-◌, ◌≤◌, ◌<◌, ◌^◌, ◌≡◌, ◌⊎◌, List, length, take, slice_get, Some}
+use Rattle.std.specs.Prelude.{ℕ, ◌-◌, ◌≤◌, ◌<◌, ◌^◌, ◌≡◌, ◌⊎◌, List, take, slice_get, Some}
 use Rattle.rdb_types.specs.declared.file.FileId.{FileId}
 use Rattle.rdb_types.specs.declared.file.FileKind.TheVariants.{Area}
 use Rattle.rdb_types.specs.declared.keys.Dbkey.{Dbkey}

@@ -1,7 +1,6 @@
 -- A roll-forward call by call: what each image is, and which files are as they were.
-use Rattle.std.proofs.Common.{◌≡◌, ◌≢◌, ℕ, zero, suc, ◌+◌, ◌-◌, ◌^◌, ◌≤◌, ◌<◌, max, IsTrue, List, [], ◌∷◌, Some, slice_get, ◌⊎◌, inl, inr, ⊎_elim, refl, sym, ◌∙◌, ap, subst, arith}
+use Rattle.std.proofs.Common.{◌≡◌, ℕ, zero, suc, ◌+◌, ◌^◌, ◌≤◌, ◌<◌, max, IsTrue, List, [], ◌∷◌, Some, slice_get, ◌⊎◌, inl, inr, ⊎_elim, refl, sym, ◌∙◌, ap, subst, arith}
 use Rattle.rdb_types.specs.declared.file.FileId.{FileId}
-use Rattle.rdb_types.specs.declared.file.FileKind.{FileKind}
 use Rattle.rdb_types.specs.declared.file.FileKind.TheVariants.{Root as RootKind, Area, Ruj, Aij, AijBackup}
 use Rattle.rdb_outside.specs.Disk.{Image, View, LeftNow, Pending, LeavesOnly, IsPending, OnlyReads}
 use Rattle.rdb_outside.specs.Moments.{each_slot, weaker}
@@ -15,7 +14,7 @@ use Rattle.stable_lines.specs.Journal.{Journal}
 use Rattle.rolled_lines.specs.HalfLaid.{writes_of}
 use Rattle.journal_backup.specs.Copied.{copy_named}
 use Rattle.guarded_root.specs.Guarded.{IsEndOf, PendingOrEnd, IsRootSlot, IsPendingOr, AddsOnly}
-use Rattle.laid_groups.specs.Forward.{Forward, IsReady, IsHeld, FitsGroup, FitAll}
+use Rattle.laid_groups.specs.Forward.{Forward, IsReady, IsHeld, FitAll}
 use Rattle.laid_groups.specs.Laid.{LaidOver}
 use Rattle.laid_groups.specs.Passing.{ceiling_behind}
 use Rattle.rmu_recover.specs.Journals.{files_of, AreJournalsIn}

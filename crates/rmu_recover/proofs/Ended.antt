@@ -1,10 +1,10 @@
 -- Behind the root of the end the image stands for the lines rolled forward.
-use Rattle.std.proofs.Common.{◌≡◌, ◌≢◌, ℕ, zero, suc, ◌+◌, ◌-◌, ◌%◌, ◌≤◌, ◌<◌, max, nat_le, nat_eq, ◌&&◌, Bool, true, false, if◌then◌else◌, List, [], ◌∷◌, length, take, Option, Some, None, ◌⊎◌, inl, inr, ⊎_elim, refl, sym, ◌∙◌, ap, subst, arith}
+use Rattle.std.proofs.Common.{◌≡◌, ◌≢◌, ℕ, ◌+◌, ◌-◌, ◌%◌, ◌≤◌, ◌<◌, max, nat_le, nat_eq, ◌&&◌, Bool, true, false, if◌then◌else◌, List, [], ◌∷◌, Option, Some, None, ◌⊎◌, inl, inr, ⊎_elim, refl, sym, ◌∙◌, ap, subst, arith}
 use Rattle.rdb_types.specs.declared.file.FileId.{FileId}
 use Rattle.rdb_types.specs.declared.file.FileKind.TheVariants.{Root as RootKind, Area, Ruj, Aij}
 use Rattle.rdb_types.specs.declared.keys.Dbkey.{Dbkey}
 use Rattle.rdb_types.specs.declared.keys.Line.{Line}
-use Rattle.rdb_outside.specs.Disk.{Image, zeros}
+use Rattle.rdb_outside.specs.Disk.{Image}
 use Rattle.root_file.specs.declared.Root.{Root}
 use Rattle.rdb_page.specs.Lines.{line_place, never}
 use Rattle.rdb_page.specs.Page.{class_at}
@@ -12,15 +12,13 @@ use Rattle.rdb_page.specs.Whole.{IsPageOf}
 use Rattle.area_files.specs.Areas.{IsPage, IsDataPage, IsSpacePage, space_page_of}
 use Rattle.space_pages.specs.Space.{IsSpace, owner_of}
 use Rattle.aij_journal.specs.Header.{IsHeader}
-use Rattle.ruj_journal.specs.declared.entry.RujEntry.{RujEntry}
 use Rattle.ruj_journal.specs.Entry.{IsEntry}
 use Rattle.journal_scan.specs.declared.group.Group.{Group}
 use Rattle.journal_scan.specs.Standing.{what_stands}
 use Rattle.line_versions.specs.Lines.{storage_area, shown}
 use Rattle.line_view.specs.declared.writes.Write.{Write}
 use Rattle.line_view.specs.Knowledge.{Lines, IsInOrder, line_in}
-use Rattle.line_view.specs.Writes.{laid_all}
-use Rattle.new_database.specs.Maker.{root_file, aij_file}
+use Rattle.new_database.specs.Maker.{aij_file}
 use Rattle.stable_lines.specs.Slots.{ruj_file, area_file, file_of, slot_of, owner_at, IsMember, IsAreaFile, said_at, line_on, line_at, named}
 use Rattle.stable_lines.specs.Journal.{Journal, IsJournalOf, next_number, lines_behind}
 use Rattle.stable_lines.specs.Kept.{Kept, IsWellFormed, IsRujHeader, FitsClass, HasNoCommit}

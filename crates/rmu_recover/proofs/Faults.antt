@@ -1,12 +1,11 @@
 -- What stopped a roll-forward, of what stopped a call or the laying of groups.
-use Rattle.std.proofs.Common.{◌≡◌, ℕ, refl}
+use Rattle.std.proofs.Common.{◌≡◌, ℕ}
 use Rattle.rdb_types.specs.declared.file.FileId.{FileId}
 use Rattle.line_store.specs.declared.answers.Fault.{Fault}
 use Rattle.line_store.specs.declared.answers.Fault.TheVariants as call
 use Rattle.line_opening.specs.declared.fault.OpeningFault.{OpeningFault}
 use Rattle.line_opening.specs.declared.fault.OpeningFault.TheVariants as laying
-use Rattle.rmu_recover.specs.declared.fault.RecoverFault.{RecoverFault}
-use Rattle.rmu_recover.specs.declared.fault.RecoverFault.TheVariants.{Failed, NoMemory, Gap, Bad}
+use Rattle.rmu_recover.specs.declared.fault.RecoverFault.TheVariants.{Gap, Bad}
 use Rattle.rmu_recover.specs.Faults.{of_call, of_laying}
 
 pub call_bad : (fault : Fault) (file : FileId) (slot : ℕ) → of_call fault ≡ Bad file slot → fault ≡ call.Bad file slot

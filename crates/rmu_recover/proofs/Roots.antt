@@ -1,5 +1,5 @@
 -- The root that is read, and the one that a roll-forward goes by: they differ in their states alone.
-use Rattle.std.proofs.Common.{◌≡◌, ℕ, ◌+◌, ◌-◌, ◌≤◌, IsTrue, List, length, ◌⊎◌, refl, sym, ◌∙◌, ap, subst, arith}
+use Rattle.std.proofs.Common.{◌≡◌, ℕ, ◌-◌, List, length, ◌⊎◌, refl, sym, ◌∙◌, ap, subst, arith}
 use Rattle.rdb_types.specs.declared.file.FileId.{FileId}
 use Rattle.rdb_outside.specs.Disk.{Image, View, LeftNow, LeavesOnly}
 use Rattle.rdb_outside.specs.Moments.{weaker}
@@ -9,12 +9,12 @@ use Rattle.root_file.proofs.Readings.{one_root}
 use Rattle.journal_scan.specs.declared.group.Group.{Group}
 use Rattle.new_database.specs.Maker.{root_file}
 use Rattle.stable_lines.specs.Journal.{Journal}
-use Rattle.rolled_lines.specs.Journals.{Found, follow, laid}
+use Rattle.rolled_lines.specs.Journals.{follow, laid}
 use Rattle.laid_groups.specs.declared.passing.Reached.{Reached}
 use Rattle.laid_groups.specs.Forward.{Forward}
 use Rattle.laid_groups.specs.Passing.{ceiling_behind}
 use Rattle.rmu_recover.specs.Journals.{FollowsTo}
-use Rattle.rmu_recover.specs.Recovering.{MayStand, MayBeRolled, IsToRoll, IsSource, IsRolled, WithinRecover, as_before, unfinished, rolled}
+use Rattle.rmu_recover.specs.Recovering.{MayStand, IsToRoll, IsSource, IsRolled, WithinRecover, as_before, unfinished, rolled}
 use Rattle.rmu_recover.proofs.Course.{content_stands}
 
 -- ---- how far the journals go

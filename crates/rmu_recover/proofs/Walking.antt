@@ -1,5 +1,5 @@
 -- The copies and the journal, one behind another.
-use Rattle.std.proofs.Common.{◌≡◌, ℕ, zero, suc, ◌+◌, ◌-◌, ◌≤◌, ◌<◌, max, List, [], ◌∷◌, ◌++◌, length, map, Some, None, slice_get, refl, sym, ◌∙◌, ap, subst, arith, length-append}
+use Rattle.std.proofs.Common.{◌≡◌, ℕ, suc, ◌+◌, ◌-◌, ◌≤◌, ◌<◌, max, List, [], ◌∷◌, ◌++◌, length, map, Some, None, slice_get, refl, sym, ◌∙◌, ap, subst, arith, length-append}
 use Rattle.rdb_types.specs.declared.file.FileId.{FileId}
 use Rattle.rdb_outside.specs.Disk.{Image}
 use Rattle.journal_scan.specs.declared.group.Group.{Group}
@@ -16,10 +16,10 @@ use Rattle.laid_groups.specs.Forward.{Forward, FitAll}
 use Rattle.laid_groups.specs.Laid.{LaidOver}
 use Rattle.laid_groups.specs.Passing.{IsJournalIn, ceiling_behind, reached_behind}
 use Rattle.laid_groups.proofs.Behind.{flat_both}
-use Rattle.laid_groups.proofs.Running.{none_laid, laid_on}
+use Rattle.laid_groups.proofs.Running.{laid_on}
 use Rattle.laid_groups.proofs.Walking.{seen_same, ceiling_both}
 use Rattle.rmu_recover.specs.Journals.{files_of, AreJournalsIn, FollowsTo}
-use Rattle.rmu_recover.proofs.Following.{none_behind, goes_on, too_late, follows_first, follows_rest, counted, behind_more, behind_gap, behind_laid}
+use Rattle.rmu_recover.proofs.Following.{none_behind, goes_on, too_late, follows_rest, counted, behind_more, behind_gap}
 
 some_same : {A : Type 0} (a b : A) → Some a ≡ Some b → a ≡ b
 some_same a b same = cc

@@ -11,7 +11,7 @@ use Rattle.ruj_journal.specs.declared.entry.RujEntry.{RujEntry}
 use Rattle.ruj_journal.specs.Entry.{IsEntry}
 use Rattle.journal_scan.specs.declared.group.Group.{Group}
 use Rattle.line_versions.specs.Lines.{storage_area}
-use Rattle.line_view.specs.Knowledge.{Lines, IsInOrder, line_in}
+use Rattle.line_view.specs.Knowledge.{IsInOrder, line_in}
 use Rattle.new_database.specs.Maker.{root_file}
 use Rattle.stable_lines.specs.Slots.{ruj_file, IsMember, named}
 use Rattle.stable_lines.specs.Journal.{Journal, IsJournalOf, next_number}

@@ -1,17 +1,11 @@
-use Rattle.std.proofs.Common.{rules, ◌∷◌, [], List, map, sym, ap, subst, ◌∙◌, arith}
+use Rattle.std.proofs.Common.{List, map, sym, subst}
 use Rattle.aij_journal.specs.declared.part.GroupLine.{GroupLine}
-use Rattle.journal_scan.specs.declared.group.Group.{Group}
 use Rattle.line_view.specs.declared.writes.Write.{Write}
 use Rattle.line_moves.proofs.Runs.{on_ok}
 use Rattle.stable_lines.specs.Journal.{write_of}
-use Rattle.stable_lines.specs.Rolling.{groups_above}
-use Rattle.rolled_lines.specs.HalfLaid.{writes_of}
-use Rattle.guarded_lines.specs.Laying.{IsArea}
-use Rattle.guarded_root.proofs.Sweeping.{no_run}
 use Rattle.laid_groups.specs.Forward.{FitLines}
 use Rattle.laid_groups.specs.Laid.{LaidOver}
-use Rattle.laid_groups.proofs.Running.{none_ready, none_laid}
-use Rattle.laid_groups.proofs.Walking.{above_one, above_none, its_fit, its_writes}
+use Rattle.laid_groups.proofs.Walking.{its_fit, its_writes}
 use Rattle.laid_groups.proofs.groups.lay_above.Goals as goal
 
 pub returns-then-last-group-clause-bad : goal.returns-then-last-group-clause-bad

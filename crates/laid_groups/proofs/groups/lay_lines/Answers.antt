@@ -1,4 +1,4 @@
-use Rattle.std.proofs.Common.{rules, ◌∷◌, [], ◌++◌, List, map, take, subst, arith}
+use Rattle.std.proofs.Common.{rules, ◌∷◌, [], List, map, take, subst, arith}
 use Rattle.line_view.specs.declared.writes.Write.{Write}
 use Rattle.line_moves.proofs.Runs.{still_tells}
 use Rattle.stable_lines.specs.Journal.{write_of}

@@ -1,17 +1,16 @@
-use Rattle.std.proofs.Common.{rules, ◌≡◌, ◌∙◌, ◌+◌, ◌≤◌, ◌∷◌, [], ℕ, max, Some, None, Err, IsTrue, ap, sym, subst, refl, arith}
+use Rattle.std.proofs.Common.{rules, ◌≡◌, ◌∙◌, ◌+◌, ◌∷◌, [], ℕ, max, Some, None, Err, ap, sym, subst, arith}
 use Rattle.std.proofs.lemmas.Result.{err_from_is_err_and}
 use Rattle.journal_reading.specs.declared.reading.AijFault.{AijFault}
 use Rattle.stable_lines.specs.Rolling.{groups_above}
 use Rattle.rolled_lines.specs.HalfLaid.{writes_of}
 use Rattle.rdb_outside.specs.Disk.{Image}
-use Rattle.line_moves.proofs.Runs.{on_ok, still_tells}
+use Rattle.line_moves.proofs.Runs.{still_tells}
 use Rattle.line_opening.proofs.Passed.{image_same}
 use Rattle.guarded_lines.specs.Laying.{IsArea}
 use Rattle.guarded_root.proofs.Sweeping.{no_run, read_run, run_on}
 use Rattle.laid_groups.specs.Forward.{KeepsReady}
-use Rattle.laid_groups.specs.Passing.{IsJournalIn}
 use Rattle.laid_groups.proofs.Faults.{err_same, only_header}
-use Rattle.laid_groups.proofs.Running.{still_ready, none_ready, read_ready, ready_on, laid_from, laid_to}
+use Rattle.laid_groups.proofs.Running.{still_ready, none_ready, read_ready, ready_on, laid_from}
 use Rattle.laid_groups.proofs.Walking.{seen, AtGroup, begins, LaidUpTo, none_yet, fits_here, one_more, at_next, all_laid, last_is, stood_in, none_in, plain_file}
 use Rattle.laid_groups.proofs.journals.lay_groups.Goals as goal
 

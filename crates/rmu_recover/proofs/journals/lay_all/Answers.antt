@@ -1,13 +1,12 @@
 use Rattle.std.specs.Prelude.{slice_index_or}
 use Rattle.std.proofs.lemmas.Option.{slice_get-get_or}
-use Rattle.std.proofs.Common.{rules, ◌≡◌, ◌∙◌, ◌++◌, ℕ, List, [], Some, IsTrue, ap, sym, subst, refl, arith}
+use Rattle.std.proofs.Common.{rules, ◌≡◌, ℕ, List, [], ap, sym, subst}
 use Rattle.rdb_types.specs.File.{slot_bytes}
 use Rattle.rdb_types.specs.declared.file.FileId.{FileId}
 use Rattle.rdb_types.specs.declared.file.FileKind.TheVariants.{Area, Aij, AijBackup}
 use Rattle.journal_scan.specs.declared.group.Group.{Group}
 use Rattle.new_database.specs.Maker.{aij_file}
 use Rattle.line_moves.proofs.Runs.{still_tells}
-use Rattle.stable_lines.specs.Rolling.{groups_above}
 use Rattle.rolled_lines.specs.HalfLaid.{writes_of}
 use Rattle.journal_backup.specs.Copied.{copy_named}
 use Rattle.guarded_lines.specs.Laying.{IsArea}

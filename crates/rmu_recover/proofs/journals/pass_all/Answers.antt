@@ -1,6 +1,6 @@
 use Rattle.std.specs.Prelude.{slice_index_or}
 use Rattle.std.proofs.lemmas.Option.{slice_get-get_or}
-use Rattle.std.proofs.Common.{rules, ◌≡◌, ◌∙◌, ◌+◌, ◌≤◌, ℕ, List, [], Some, IsTrue, ap, sym, subst, refl, arith}
+use Rattle.std.proofs.Common.{rules, ◌∙◌, [], ap, sym, subst, arith}
 use Rattle.rdb_types.specs.File.{slot_bytes}
 use Rattle.rdb_types.specs.declared.file.FileId.{FileId}
 use Rattle.rdb_outside.specs.Runs.{no_calls, then_reads}

@@ -1,7 +1,3 @@
-use Rattle.std.proofs.Common.{rules, ◌≡◌, ◌∙◌, Some, None, Err, ap, sym}
-use Rattle.std.proofs.lemmas.Result.{err_from_is_err_and}
-use Rattle.laid_groups.proofs.Faults.{err_same}
-use Rattle.rmu_recover.proofs.Faults.{call_no_gap}
 use Rattle.rmu_recover.proofs.journals.pass_next.Goals as goal
 
 pub returns-in-Some-clause-reached : goal.returns-in-Some-clause-reached

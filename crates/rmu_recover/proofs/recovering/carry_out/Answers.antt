@@ -1,4 +1,4 @@
-use Rattle.std.proofs.Common.{rules, ◌≡◌, ◌∙◌, ◌≤◌, ℕ, List, sym, subst, arith}
+use Rattle.std.proofs.Common.{rules, ℕ, subst, arith}
 use Rattle.rdb_outside.specs.Disk.{LeavesOnly}
 use Rattle.line_moves.proofs.Runs.{still_tells}
 use Rattle.database_opening.proofs.Others.{file_on}

@@ -1,4 +1,4 @@
-use Rattle.std.proofs.Common.{rules, ◌≡◌, ◌∙◌, ◌≤◌, ℕ, List, [], Err, length, inl, inr, sym, ap, refl, arith}
+use Rattle.std.proofs.Common.{rules, ◌∙◌, ℕ, [], inl, inr, sym, ap, arith}
 use Rattle.std.proofs.lemmas.Result.{err_from_is_err_and}
 use Rattle.root_file.specs.declared.Root.{Root}
 use Rattle.root_file.proofs.Readings.{one_root}

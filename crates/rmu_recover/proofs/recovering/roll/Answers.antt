@@ -1,4 +1,4 @@
-use Rattle.std.proofs.Common.{rules, ◌≡◌, ◌∙◌, ◌≤◌, ℕ, List, Err, length, sym, refl, arith}
+use Rattle.std.proofs.Common.{rules, ◌∙◌, ℕ, sym, refl, arith}
 use Rattle.std.proofs.lemmas.Result.{err_from_is_err_and}
 use Rattle.line_moves.proofs.Runs.{still_tells}
 use Rattle.database_opening.proofs.Others.{file_read, file_on}
