@@ -17,7 +17,7 @@ use Rattle.line_moves.proofs.KeyPlaces.{area_is, is_on, place_content}
 use Rattle.line_moves.proofs.OnlyPut.{on_or_same, space_keeps}
 use Rattle.line_moves.proofs.PageWrite.{space_apart}
 use Rattle.line_moves.proofs.Putting.{nat_cases}
-use Rattle.guarded_lines.specs.Laying.{IsOfArea, page_of, Enters, PutsOn, Lays}
+use Rattle.guarded_lines.specs.Laying.{IsOfArea, page_of, SaysOwner, Enters, BearsLine, PutsOn, LaysOn, Lays}
 
 same_page : (a b : ℕ) → 1 ≤ a → 1 ≤ b → a - 1 ≡ b - 1 → a ≡ b
 same_page a b la lb e = omega (arith, la, lb, e)
@@ -37,6 +37,20 @@ not_data n page first some is plain same = plain (ap (λ (k : ℕ). k % 200) (sy
 
 ruj_not_area : (member file : ℕ) → ruj_file member ≡ area_file file → ⊥
 ruj_not_area member file same = let k : Ruj ≡ Area = ap (λ (f : FileId). f.kind) same in cc
+
+-- what both writes come to
+pub lays_on : (key : Dbkey) (place : Place) (class : ℕ) (value : Line) (old mid new : Image) → IsPlaceOf key place → Enters place key.area old mid → PutsOn key place class value mid new → LaysOn key place class value old new
+lays_on key place class value old mid new names enters puts = record {
+  says = subst (λ (b : List ℕ). SaysOwner place key.area (old (area_file place.file) (space_page_of place.page - 1)) b) (sym space_still) enters.says;
+  bears = subst (λ (b : List ℕ). BearsLine key place class value b (new (area_file place.file) (place.page - 1))) entered puts.bears;
+  apart = λ f i off_space off_page. puts.apart f i off_page ∙ enters.apart f i off_space;
+}
+  where
+    space_still : new (area_file place.file) (space_page_of place.page - 1) ≡ mid (area_file place.file) (space_page_of place.page - 1)
+    space_still = puts.apart (area_file place.file) (space_page_of place.page - 1) (λ same at. space_apart place.page place.page names.is_data.is_page.first names.is_data.plain at names.is_data.is_page.first)
+
+    entered : mid (area_file place.file) (place.page - 1) ≡ old (area_file place.file) (place.page - 1)
+    entered = enters.apart (area_file place.file) (place.page - 1) (λ same at. space_apart place.page place.page names.is_data.is_page.first names.is_data.plain (sym at) names.is_data.is_page.first)
 
 pub space_there : (pages : ℕ) (image : Image) (key : Dbkey) (place : Place) → IsPlaceOf key place → IsWellFormed image pages → IsSpace (image (area_file place.file) (space_page_of place.page - 1)) (space_page_of place.page)
 space_there pages image key place names was =
@@ -80,14 +94,14 @@ module _ (pages : ℕ) (key : Dbkey) (place : Place) (class : ℕ) (value : Line
 
   data_page : (f n : ℕ) → IsAreaFile f → IsDataPage n → IsPageOf f n (new (area_file f) (n - 1))
   data_page f n file_is is = ⊎_elim
-      (λ it. subst (λ (g : ℕ). IsPageOf g n (new (area_file g) (n - 1))) (sym it.0) (subst (λ (m : ℕ). IsPageOf place.file m (new (area_file place.file) (m - 1))) (sym it.1) puts.page))
+      (λ it. subst (λ (g : ℕ). IsPageOf g n (new (area_file g) (n - 1))) (sym it.0) (subst (λ (m : ℕ). IsPageOf place.file m (new (area_file place.file) (m - 1))) (sym it.1) puts.bears.page))
       (λ off. subst (IsPageOf f n) (sym (other_page f n is off)) (was.page f n file_is is)) (it_or_other f n)
 
   space_page : (f n : ℕ) → IsAreaFile f → IsPage n → IsSpacePage n → IsSpace (new (area_file f) (n - 1)) n
   space_page f n file_is page is = ⊎_elim
       (λ same. ⊎_elim
       (λ at. subst (λ (g : ℕ). IsSpace (new (area_file g) (n - 1)) n) (sym same) (subst (λ (m : ℕ). IsSpace (new (area_file place.file) (m - 1)) m) (sym at)
-      (subst (λ (b : List ℕ). IsSpace b (space_page_of place.page)) (sym its_space) enters.space)))
+      (subst (λ (b : List ℕ). IsSpace b (space_page_of place.page)) (sym its_space) enters.says.space)))
       (λ off. kept (λ _ at. off at)) (nat_cases n (space_page_of place.page)))
       (λ off. kept (λ same. absurd (off same))) (nat_cases f place.file)
     where
@@ -101,7 +115,7 @@ module _ (pages : ℕ) (key : Dbkey) (place : Place) (class : ℕ) (value : Line
   IsOwned f n = owner_of n (new (area_file f) (space_page_of n - 1)) ≡ owner_at (new (area_file f) (n - 1))
 
   its_owner : IsOwned place.file place.page
-  its_owner = ap (λ (b : List ℕ). owner_of place.page b) its_space ∙ enters.here ∙ sym puts.of_area.owner
+  its_owner = ap (λ (b : List ℕ). owner_of place.page b) its_space ∙ enters.says.here ∙ sym puts.bears.of_area.owner
 
   owned : (f n : ℕ) → IsAreaFile f → IsDataPage n → 1 ≤ owner_at (new (area_file f) (n - 1)) → IsOwned f n
   owned f n file_is is some = ⊎_elim
@@ -115,7 +129,7 @@ module _ (pages : ℕ) (key : Dbkey) (place : Place) (class : ℕ) (value : Line
           → owner_of n (new (area_file f) (space_page_of n - 1)) ≡ owner_of n (old (area_file f) (space_page_of n - 1))
       beside same space apart = subst (λ (g : ℕ). owner_of n (new (area_file g) (space_page_of n - 1)) ≡ owner_of n (old (area_file g) (space_page_of n - 1))) (sym same)
           (subst (λ (m : ℕ). owner_of n (new (area_file place.file) (m - 1)) ≡ owner_of n (old (area_file place.file) (m - 1))) (sym space)
-          (ap (λ (b : List ℕ). owner_of n b) its_space ∙ enters.beside n (record { is_page = is; same = space; apart = apart })))
+          (ap (λ (b : List ℕ). owner_of n b) its_space ∙ enters.says.beside n (record { is_page = is; same = space; apart = apart })))
 
       off_it : (f ≡ place.file → space_page_of n ≢ space_page_of place.page) → owner_of n (new (area_file f) (space_page_of n - 1)) ≡ owner_of n (old (area_file f) (space_page_of n - 1))
       off_it off = ap (λ (b : List ℕ). owner_of n b) (other_space f (space_page_of n) (space_first n is.is_page.first) (is_space n is.is_page.first) off)
@@ -137,20 +151,23 @@ module _ (pages : ℕ) (key : Dbkey) (place : Place) (class : ℕ) (value : Line
 
   other_line : (k : Dbkey) → k ≢ key → line_at new k ≡ line_at old k
   other_line k apart = ⊎_elim on_it (λ same. same) (on_or_same mid new place.file place.page puts.apart k)
-      ∙ space_keeps old mid place.file (space_page_of place.page) _ _ refl (space_there pages old key place names was) enters.space refl enters.apart k
+      ∙ space_keeps old mid place.file (space_page_of place.page) _ _ refl (space_there pages old key place names was) enters.says.space refl enters.apart k
     where
       on_it : IsOn place.file place.page k → line_at new k ≡ line_at mid k
-      on_it on = ap (λ (b : List ℕ). line_on k b) (λ i. new (on.in_file i) (on.in_slot i)) ∙ puts.others k on apart ∙ ap (λ (b : List ℕ). line_on k b) (sym (λ i. mid (on.in_file i) (on.in_slot i)))
+      on_it on = ap (λ (b : List ℕ). line_on k b) (λ i. new (on.in_file i) (on.in_slot i)) ∙ puts.bears.others k on apart ∙ ap (λ (b : List ℕ). line_on k b) (sym (λ i. mid (on.in_file i) (on.in_slot i)))
 
   pub lays : Lays pages key class value old new
   lays = record {
     well_formed = record { page = data_page; space = space_page; header = header; owner = owned; past = past };
-    stands = ap (λ (b : List ℕ). line_on key b) (sym (place_content new key place names)) ∙ puts.here;
-    page = subst (IsOfArea key.area class) (place_content new key place names) puts.of_area;
+    stands = ap (λ (b : List ℕ). line_on key b) (sym (place_content new key place names)) ∙ puts.bears.here;
+    page = subst (IsOfArea key.area class) (place_content new key place names) puts.bears.of_area;
     others = other_line;
     apart = λ f n is off. other_page f n is (λ same at. off ((is_on key place names).in_file ∙ ap area_file (sym same)) ((is_on key place names).in_slot ∙ ap (λ (k : ℕ). k - 1) (sym at)));
   }
 
 -- the page of the line, behind the entry
+pub entered_page : (key : Dbkey) (place : Place) (old mid : Image) → IsPlaceOf key place → Enters place key.area old mid → old (area_file place.file) (place.page - 1) ≡ mid (area_file place.file) (place.page - 1)
+entered_page key place old mid names enters = sym (enters.apart (area_file place.file) (place.page - 1) (λ same at. space_apart place.page place.page names.is_data.is_page.first names.is_data.plain (sym at) names.is_data.is_page.first))
+
 pub page_still : (key : Dbkey) (place : Place) (old mid : Image) → IsPlaceOf key place → Enters place key.area old mid → page_of old key ≡ mid (area_file place.file) (place.page - 1)
-page_still key place old mid names enters = sym (place_content old key place names) ∙ sym (enters.apart (area_file place.file) (place.page - 1) (λ same at. space_apart place.page place.page names.is_data.is_page.first names.is_data.plain (sym at) names.is_data.is_page.first))
+page_still key place old mid names enters = sym (place_content old key place names) ∙ entered_page key place old mid names enters

@@ -17,7 +17,7 @@ use Rattle.line_moves.proofs.KeyPlaces.{some_area}
 use Rattle.line_moves.proofs.OnlyPut.{IsElsewhere}
 use Rattle.line_moves.proofs.Reading.{owner_is, class_is}
 use Rattle.line_moves.proofs.Spots.{place_has}
-use Rattle.guarded_lines.specs.Laying.{IsOfArea, HasRoom, PutsOn}
+use Rattle.guarded_lines.specs.Laying.{IsOfArea, HasRoom, BearsLine, PutsOn}
 
 module _ (key : Dbkey) (place : Place) (class : ℕ) (y z : List ℕ) (names : IsPlaceOf key place) (started : IsStarted place key.area class y z) (room : HasRoom key class y) where
   -- with its head it is of the area and the class
@@ -41,13 +41,19 @@ module _ (key : Dbkey) (place : Place) (class : ℕ) (y z : List ℕ) (names : I
           let same : class ≡ used.head.class = sym of_area.class ∙ class_is z used.head head in
           place_has key place z used.head names head owned (subst (λ (c : ℕ). key.line < lines_of c) same room.line)
 
-  -- the line is put on it, and it is written
+  -- the line is put on it
+  pub bears : (value : Line) (x : List ℕ) → PutsLine place.file place.page key z x → line_on key x ≡ value → BearsLine key place class value y x
+  bears value x puts is = record {
+    page = puts.page;
+    of_area = record { owner = puts.same_owner ∙ of_area.owner; class = puts.same_class ∙ of_area.class };
+    here = is;
+    others = λ k on apart. puts.others k on apart ∙ same_lines place key.area class y z started k on;
+  }
+
+  -- and it is written
   pub puts_on : (value : Line) (old new : Image) (x : List ℕ) → y ≡ old (area_file place.file) (place.page - 1) → PutsLine place.file place.page key z x → line_on key x ≡ value → new (area_file place.file) (place.page - 1) ≡ x
       → IsElsewhere place.file place.page old new → PutsOn key place class value old new
   puts_on value old new x read puts is here elsewhere = record {
-    page = subst (IsPageOf place.file place.page) (sym here) puts.page;
-    of_area = subst (IsOfArea key.area class) (sym here) (record { owner = puts.same_owner ∙ of_area.owner; class = puts.same_class ∙ of_area.class });
-    here = ap (λ (b : List ℕ). line_on key b) here ∙ is;
-    others = λ k on apart. ap (λ (b : List ℕ). line_on k b) here ∙ puts.others k on apart ∙ same_lines place key.area class y z started k on ∙ ap (λ (b : List ℕ). line_on k b) read;
+    bears = subst (λ (b : List ℕ). BearsLine key place class value b (new (area_file place.file) (place.page - 1))) read (subst (λ (b : List ℕ). BearsLine key place class value y b) (sym here) (bears value x puts is));
     apart = elsewhere;
   }

@@ -37,21 +37,45 @@ abbrev pub IsApart : FileId → ℕ → Image → Image → Type 0
 IsApart file slot old new = (f : FileId) (i : ℕ) → (f ≡ file → i ≢ slot) → new f i ≡ old f i
 
 -- The space page says that the area owns the page, and of the other pages what it said.
+pub record SaysOwner (place : Place) (area : ℕ) (old new : List ℕ) : Type 0 where
+  pub here : owner_of place.page new ≡ area
+  pub beside : (other : ℕ) → IsBeside place.page other → owner_of other new ≡ owner_of other old
+  pub space : IsSpace new (space_page_of place.page)
+
+-- so it does in the image, and all else is as it was
 pub record Enters (place : Place) (area : ℕ) (old new : Image) : Type 0 where
-  pub here : owner_of place.page (new (area_file place.file) (space_page_of place.page - 1)) ≡ area
-  pub beside : (other : ℕ) → IsBeside place.page other
-      → owner_of other (new (area_file place.file) (space_page_of place.page - 1)) ≡ owner_of other (old (area_file place.file) (space_page_of place.page - 1))
-  pub space : IsSpace (new (area_file place.file) (space_page_of place.page - 1)) (space_page_of place.page)
+  pub says : SaysOwner place area (old (area_file place.file) (space_page_of place.page - 1)) (new (area_file place.file) (space_page_of place.page - 1))
   pub apart : IsApart (area_file place.file) (space_page_of place.page - 1) old new
 
 -- The line stands on the page, with the others that were there.
+pub record BearsLine (key : Dbkey) (place : Place) (class : ℕ) (value : Line) (old new : List ℕ) : Type 0 where
+  pub page : IsPageOf place.file place.page new
+  pub of_area : IsOfArea key.area class new
+  pub here : line_on key new ≡ value
+  pub others : (k : Dbkey) → IsOn place.file place.page k → k ≢ key → line_on k new ≡ line_on k old
+
+-- so it does in the image, and all else is as it was
 pub record PutsOn (key : Dbkey) (place : Place) (class : ℕ) (value : Line) (old new : Image) : Type 0 where
-  pub page : IsPageOf place.file place.page (new (area_file place.file) (place.page - 1))
-  pub of_area : IsOfArea key.area class (new (area_file place.file) (place.page - 1))
-  pub here : line_on key (new (area_file place.file) (place.page - 1)) ≡ value
-  pub others : (k : Dbkey) → IsOn place.file place.page k → k ≢ key
-      → line_on k (new (area_file place.file) (place.page - 1)) ≡ line_on k (old (area_file place.file) (place.page - 1))
+  pub bears : BearsLine key place class value (old (area_file place.file) (place.page - 1)) (new (area_file place.file) (place.page - 1))
   pub apart : IsApart (area_file place.file) (place.page - 1) old new
+
+-- The space page says that the line's area owns its page, the line stands there, and all else is as it was.
+pub record LaysOn (key : Dbkey) (place : Place) (class : ℕ) (value : Line) (old new : Image) : Type 0 where
+  pub says : SaysOwner place key.area (old (area_file place.file) (space_page_of place.page - 1)) (new (area_file place.file) (space_page_of place.page - 1))
+  pub bears : BearsLine key place class value (old (area_file place.file) (place.page - 1)) (new (area_file place.file) (place.page - 1))
+  pub apart : (f : FileId) (i : ℕ) → (f ≡ area_file place.file → i ≢ space_page_of place.page - 1) → (f ≡ area_file place.file → i ≢ place.page - 1) → new f i ≡ old f i
+
+-- the slot of the space page, saying so
+abbrev pub IsEntrySlot : Image → Place → ℕ → FileId → ℕ → List ℕ → Type 0
+IsEntrySlot old place area f i x = (f ≡ area_file place.file) × (i ≡ space_page_of place.page - 1) × SaysOwner place area (old (area_file place.file) (space_page_of place.page - 1)) x
+
+-- the slot of the page, with the line
+abbrev pub IsLineSlot : Image → Dbkey → Place → ℕ → Line → FileId → ℕ → List ℕ → Type 0
+IsLineSlot old key place class value f i x = (f ≡ area_file place.file) × (i ≡ place.page - 1) × BearsLine key place class value (old (area_file place.file) (place.page - 1)) x
+
+-- what laying the line may put into a slot
+abbrev pub IsLaidSlot : Image → Dbkey → Place → ℕ → Line → FileId → ℕ → List ℕ → Type 0
+IsLaidSlot old key place class value f i x = IsEntrySlot old place key.area f i x ⊎ IsLineSlot old key place class value f i x
 
 -- The line stands in the image on a page of its area and class, each other line is as it was, and so is each other data page.
 pub record Lays (pages : ℕ) (key : Dbkey) (class : ℕ) (value : Line) (old new : Image) : Type 0 where

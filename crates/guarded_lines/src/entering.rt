@@ -5,8 +5,8 @@ ghost use Rattle.rdb_outside.specs.Causes.{Rose};
 ghost use Rattle.area_files.specs.Areas.{IsDataPage, space_page_of as space_of};
 ghost use Rattle.space_pages.specs.Space.{IsSpace};
 ghost use Rattle.stable_lines.specs.Slots.{area_file as file_named, IsAreaFile};
-ghost use Rattle.guarded_root.specs.Guarded.{RunsBehind};
-ghost use Rattle.guarded_lines.specs.Laying.{IsArea, Enters};
+ghost use Rattle.guarded_root.specs.Guarded.{AddsOnly, RunsBehind};
+ghost use Rattle.guarded_lines.specs.Laying.{IsArea, IsEntrySlot, Enters};
 
 use area_files::{slot_of, space_page_of};
 use guarded_root::write_guarded;
@@ -30,6 +30,8 @@ pub(crate) fn enter_owner<D: Disk>(disk: &mut D, place: Place, area: u32) -> Res
 
     // Whatever it answers.
     ensures runs { RunsBehind IsArea (D.view disk.old) (D.view disk.new) }
+    ensures adds { IsTrue (D.view disk.old).tells
+        → AddsOnly (IsEntrySlot (D.view disk.old).content place area) (D.view disk.old) (D.view disk.new) }
 {
     let file = area_file(place.file);
     let space_page = space_page_of(place.page);

@@ -5,12 +5,14 @@ ghost use Rattle.rdb_outside.specs.Causes.{Rose};
 ghost use Rattle.rdb_page.specs.Lines.{IsAllowedLine};
 ghost use Rattle.rdb_page.specs.Page.{IsClass};
 ghost use Rattle.rdb_page.specs.Whole.{IsPageOf};
+ghost use Rattle.area_files.specs.Areas.{space_page_of as space_of};
+ghost use Rattle.space_pages.specs.Space.{IsSpace};
 ghost use Rattle.stable_lines.specs.Slots.{area_file as file_named};
 ghost use Rattle.stable_lines.specs.Kept.{IsWellFormed};
 ghost use Rattle.line_moves.specs.Changes.{IsPlaceOf};
 ghost use Rattle.line_moves.specs.Lines.{IsStarted};
-ghost use Rattle.guarded_root.specs.Guarded.{RunsBehind};
-ghost use Rattle.guarded_lines.specs.Laying.{IsArea, HasRoom, page_of, PutsOn, Lays};
+ghost use Rattle.guarded_root.specs.Guarded.{AddsOnly, RunsBehind};
+ghost use Rattle.guarded_lines.specs.Laying.{IsArea, HasRoom, page_of, PutsOn, LaysOn, IsLineSlot, IsLaidSlot, Lays};
 
 use crate::entering::enter_owner;
 use area_files::slot_of;
@@ -64,6 +66,10 @@ fn put<D: Disk>(
 
     // Whatever it answers.
     ensures runs { RunsBehind IsArea (D.view disk.old) (D.view disk.new) }
+    ensures adds { IsTrue (D.view disk.old).tells
+        → let old = (D.view disk.old).content (file_named place.file) (place.page - 1) in
+        IsPageOf place.file place.page old → HasRoom key class old
+        → AddsOnly (IsLineSlot (D.view disk.old).content key place class value.now) (D.view disk.old) (D.view disk.new) }
 {
     let file = area_file(place.file);
     let slot = slot_of(place.page);
@@ -92,10 +98,18 @@ pub fn lay_line<D: Disk>(
 
     // It is refused only where a page fails its decoder, or where the page has no room for the line.
     ensures bad { (file : File) (slot : ℕ) → IsErrOf result (Fault.Bad file slot)
-        → IsTrue (D.view disk.old).tells → (pages : ℕ) → IsWellFormed (D.view disk.old).content pages
-        → HasRoom key class (page_of (D.view disk.old).content key) → IsAllowedLine class value.now → ⊥ }
+        → IsTrue (D.view disk.old).tells
+        → IsSpace ((D.view disk.old).content (file_named place.file) (space_of place.page - 1)) (space_of place.page)
+        → let old = (D.view disk.old).content (file_named place.file) (place.page - 1) in
+        IsPageOf place.file place.page old → HasRoom key class old → IsAllowedLine class value.now → ⊥ }
 
-    // The line stands, and all else is as it was.
+    // The line stands on its page, and the space page says whose that is; all else is as it was.
+    ensures slots { OnOk result (IsTrue (D.view disk.old).tells
+        → let old = (D.view disk.old).content (file_named place.file) (place.page - 1) in
+        IsPageOf place.file place.page old → HasRoom key class old
+        → LaysOn key place class value.now (D.view disk.old).content (D.view disk.new).content) }
+
+    // So, where the content is well-formed, it stays so, the line stands, and the others are as they were.
     ensures laid { OnOk result (IsTrue (D.view disk.old).tells
         → (pages : ℕ) → IsWellFormed (D.view disk.old).content pages → key.page ≤ pages
         → HasRoom key class (page_of (D.view disk.old).content key)
@@ -103,6 +117,12 @@ pub fn lay_line<D: Disk>(
 
     // Whatever it answers, it writes none but area files.
     ensures runs { RunsBehind IsArea (D.view disk.old) (D.view disk.new) }
+
+    // Whatever it answers, it adds to what a crash may leave those two slots alone, at every moment.
+    ensures adds { IsTrue (D.view disk.old).tells
+        → let old = (D.view disk.old).content (file_named place.file) (place.page - 1) in
+        IsPageOf place.file place.page old → HasRoom key class old
+        → AddsOnly (IsLaidSlot (D.view disk.old).content key place class value.now) (D.view disk.old) (D.view disk.new) }
 {
     enter_owner(disk, place, key.area)?;
     put(disk, key, place, class, value)

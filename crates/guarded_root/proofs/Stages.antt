@@ -7,7 +7,7 @@ use Rattle.rdb_outside.specs.Moments.{each_slot, started, goes_on}
 use Rattle.root_file.specs.declared.Root.{Root}
 use Rattle.root_file.specs.Root.{IsRoot}
 use Rattle.new_database.specs.Maker.{root_file}
-use Rattle.guarded_root.specs.Guarded.{IsRootIn, IsInState, IsGuarded, BeforeOrIn, IsEndOf, InOrEnd}
+use Rattle.guarded_root.specs.Guarded.{IsRootIn, IsInState, IsGuarded, BeforeOrIn, IsEndOf, InOrEnd, PendingOrEnd}
 
 -- a run of calls: the disk tells, and every crash so far leaves what has P
 pub record Goes (P : Image → Type 0) (old new : View) : Type 0 where
@@ -82,6 +82,25 @@ in_or_end state content bytes root new is was ending image left = ⊎_elim (λ s
     ends : image root_file 0 ≡ bytes → IsEndOf content root image
     ends here = record {
       is = subst (λ s. IsRoot s root) (sym here) is;
+      others = λ f i other. ⊎_elim (λ same. same) (λ there. absurd (other there.0 there.1)) (slot f i);
+    }
+
+-- the same of what a crash might have left before
+pub pending_or_end : (old : View) (bytes : List ℕ) (root : Root) (new : View) → IsRoot bytes root → LeftNow old old.content → IsEnding old.content bytes new → (image : Image) → LeftNow new image → PendingOrEnd old root image
+pending_or_end old bytes root new is left_now ending image left = ⊎_elim (λ same. inl (before same)) (λ there. inr (ends there.2)) (slot root_file 0)
+  where
+    slot : (f : FileId) (i : ℕ) → (image f i ≡ old.content f i) ⊎ ((f ≡ root_file) × (i ≡ 0) × (image f i ≡ bytes))
+    slot f i = ending f i (image f i) (each_slot new image left f i)
+
+    here : (f : FileId) (i : ℕ) → image f i ≡ old.content f i → Pending old f i (image f i)
+    here f i same = subst (λ (x : List ℕ). Pending old f i x) (sym same) (each_slot old old.content left_now f i)
+
+    before : image root_file 0 ≡ old.content root_file 0 → IsPending old image
+    before same f i = ⊎_elim (λ is_same. here f i is_same) (λ there. subst (λ (n : ℕ). Pending old f n (image f n)) (sym there.1) (subst (λ (g : FileId). Pending old g 0 (image g 0)) (sym there.0) (here root_file 0 same))) (slot f i)
+
+    ends : image root_file 0 ≡ bytes → IsEndOf old.content root image
+    ends at = record {
+      is = subst (λ s. IsRoot s root) (sym at) is;
       others = λ f i other. ⊎_elim (λ same. same) (λ there. absurd (other there.0 there.1)) (slot f i);
     }
 

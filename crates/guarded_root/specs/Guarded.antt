@@ -37,6 +37,31 @@ pub record IsEndOf (content : Image) (root : Root) (image : Image) : Type 0 wher
 abbrev pub InOrEnd : ℕ → Image → Root → Image → Type 0
 InOrEnd state content root image = IsInState state image ⊎ IsEndOf content root image
 
+-- what a crash might have left at the beginning, or the end
+abbrev pub PendingOrEnd : View → Root → Image → Type 0
+PendingOrEnd v root image = IsPending v image ⊎ IsEndOf v.content root image
+
+-- ---- what calls add to what a crash may leave
+
+-- this slot of this file, with these bytes
+abbrev pub IsWrite : FileId → ℕ → List ℕ → FileId → ℕ → List ℕ → Type 0
+IsWrite file slot bytes f i x = (f ≡ file) × (i ≡ slot) × (x ≡ bytes)
+
+-- the slot of the root, with this root
+abbrev pub IsRootSlot : Root → FileId → ℕ → List ℕ → Type 0
+IsRootSlot root f i x = (f ≡ root_file) × (i ≡ 0) × IsRoot x root
+
+-- each slot of the image has what a crash might have left there, or one of these
+abbrev pub IsPendingOr : View → (FileId → ℕ → List ℕ → Type 0) → Image → Type 0
+IsPendingOr v more image = (file : FileId) (slot : ℕ) → Pending v file slot (image file slot) ⊎ more file slot (image file slot)
+
+-- Behind a run of calls a crash leaves in each slot what it might have left there before, or one of these, and so at every moment of it.
+pub record AddsOnly (more : FileId → ℕ → List ℕ → Type 0) (old new : View) : Type 0 where
+  pub pending : (file : FileId) (slot : ℕ) (bytes : List ℕ) → Pending new file slot bytes → Pending old file slot bytes ⊎ more file slot bytes
+  pub leaves : LeavesOnly old new (IsPendingOr old more)
+
+-- ---- runs
+
 -- this file, and no other
 abbrev pub IsFile : FileId → FileId → Type 0
 IsFile file other = other ≡ file

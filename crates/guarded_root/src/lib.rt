@@ -1,15 +1,15 @@
 //! Work on the files of a database behind a root that says that it is unfinished.
 #![tactic(auto)]
 
-ghost use Rattle.std.specs.Prelude.{◌≡◌, ◌≢◌, ◌≤◌, ◌⊎◌, OnOk, IsErr, IsTrue, length};
+ghost use Rattle.std.specs.Prelude.{ℕ, List, ◌≡◌, ◌≢◌, ◌≤◌, ◌⊎◌, OnOk, IsErr, IsTrue, length};
 ghost use Rattle.rdb_types.specs.File.{slot_bytes};
 ghost use Rattle.rdb_types.specs.declared.file.FileId.{FileId as File};
 ghost use Rattle.root_file.specs.Root.{IsRoot, IsAllowed};
-ghost use Rattle.rdb_outside.specs.Disk.{Image, View, LeftNow, LeavesOnly, Puts, zeros, IsPending};
+ghost use Rattle.rdb_outside.specs.Disk.{Image, View, LeftNow, LeavesOnly, Puts, zeros, IsPending, Pending};
 ghost use Rattle.rdb_outside.specs.Causes.{Rose};
 ghost use Rattle.new_database.specs.Maker.{root_file};
 ghost use Rattle.database_opening.specs.Others.{KeepsFile};
-ghost use Rattle.guarded_root.specs.Guarded.{IsInState, IsGuarded, KeepsOthers, BeforeOrIn, IsEndOf, InOrEnd, IsFile, RunsBehind};
+ghost use Rattle.guarded_root.specs.Guarded.{IsInState, IsGuarded, KeepsOthers, BeforeOrIn, IsEndOf, InOrEnd, PendingOrEnd, IsWrite, IsRootSlot, AddsOnly, IsFile, RunsBehind};
 
 use rdb_outside::{Disk, Failed};
 use rdb_types::{FileId, FileKind};
@@ -37,6 +37,12 @@ pub fn guard<D: Disk>(disk: &mut D, root: &Root) -> Result<(), Failed>
     ensures any_moment { IsTrue (D.view disk.old).tells
         → LeavesOnly (D.view disk.old) (D.view disk.new) (BeforeOrIn (D.view disk.old) root.now.state) }
 
+    // It adds this root alone to what a crash may leave, at every moment, and then it is sure.
+    ensures adds { IsTrue (D.view disk.old).tells
+        → AddsOnly (IsRootSlot root.now) (D.view disk.old) (D.view disk.new) }
+    ensures held { OnOk result (IsTrue (D.view disk.old).tells → (bytes : List ℕ)
+        → Pending (D.view disk.new) root_file 0 bytes → IsRoot bytes root.now) }
+
     // Each other file is as it was, at every moment.
     ensures others { IsTrue (D.view disk.old).tells → (file : File) → file ≢ root_file
         → KeepsFile file (D.view disk.old) (D.view disk.new) }
@@ -63,6 +69,8 @@ pub fn write_guarded<D: Disk>(
 
     // Whatever it answers.
     ensures runs { RunsBehind (IsFile file) (D.view disk.old) (D.view disk.new) }
+    ensures adds { IsTrue (D.view disk.old).tells
+        → AddsOnly (IsWrite file slot bytes.now) (D.view disk.old) (D.view disk.new) }
 {
     disk.write(file, slot, bytes)
 }
@@ -84,6 +92,10 @@ pub fn unguard<D: Disk>(disk: &mut D, root: &Root) -> Result<(), Failed>
         → IsGuarded state (D.view disk.old)
         → LeavesOnly (D.view disk.old) (D.view disk.new)
         (InOrEnd state (D.view disk.old).content root.now) }
+
+    // It leaves what one before might have left, slot by slot, or a finished image.
+    ensures slots { IsTrue (D.view disk.old).tells
+        → LeavesOnly (D.view disk.old) (D.view disk.new) (PendingOrEnd (D.view disk.old) root.now) }
 
     // Each other file is as it was, at every moment.
     ensures others { IsTrue (D.view disk.old).tells → (file : File) → file ≢ root_file

@@ -16,11 +16,11 @@ all_above number last (g ∷ gs) whole lt =
     ap (λ b. cond b (g ∷ groups_above last gs) (groups_above last gs)) here ∙ ap (λ rest. g ∷ rest) (all_above (number + 1) last gs whole.1 (omega (arith, lt)))
 
 -- these groups are whole behind the one of this number, and end at that one
-abbrev IsUpTo : ℕ → List Group → ℕ → Type 0
+abbrev pub IsUpTo : ℕ → List Group → ℕ → Type 0
 IsUpTo last groups end = AreWhole (last + 1) groups × (end + 1 ≡ last + 1 + length groups)
 
 -- of whole groups those above a number are whole behind it
-from_whole : (number last : ℕ) (groups : List Group) → AreWhole number groups → number ≤ last + 1 → IsUpTo last (groups_above last groups) (max last (number + length groups - 1))
+pub from_whole : (number last : ℕ) (groups : List Group) → AreWhole number groups → number ≤ last + 1 → IsUpTo last (groups_above last groups) (max last (number + length groups - 1))
 from_whole number last [] whole le = (tt, none number last le)
   where
     none : (number last : ℕ) → number ≤ last + 1 → max last (number + 0 - 1) + 1 ≡ last + 1 + 0
@@ -53,7 +53,7 @@ whole_both : (number : ℕ) (a b : List Group) → AreWhole number a → AreWhol
 whole_both number [] b one two = subst (λ n. AreWhole n b) (let same : number + 0 ≡ number = omega arith in same) two
 whole_both number (g ∷ gs) b one two = (one.0, whole_both (number + 1) gs b one.1 (subst (λ n. AreWhole n b) (let same : number + suc (length gs) ≡ number + 1 + length gs = omega arith in same) two))
 
-is_laid : (groups more : List Group) (found : Found) → behind groups found ≡ laid more → (rest : List Group) × ((found ≡ laid rest) × (more ≡ groups ++ rest))
+pub is_laid : (groups more : List Group) (found : Found) → behind groups found ≡ laid more → (rest : List Group) × ((found ≡ laid rest) × (more ≡ groups ++ rest))
 is_laid groups more (laid rest) same = (rest, ((λ i. laid rest), (let is : more ≡ groups ++ rest = cc in is)))
 is_laid groups more (gap number) same = let bad : ⊥ = cc in absurd bad
 

@@ -46,7 +46,7 @@ put_or_missed key (x ∷ ws) = pick (put_or_missed key ws) (is_eq (dbkey_order k
     pick rest false here = ⊎_elim (λ (p : IsPut key ws). inl (λ v w. p (cond (is_eq (dbkey_order key x.key)) x.image v) (cond (is_eq (dbkey_order key x.key)) x.image w))) (λ none. inr (here, none)) rest
 
 -- writes, and behind some of them all of them
-seen_again : (key : Dbkey) (count : ℕ) (ws : List Write) (what : Option (List ℕ)) → line_behind key ws (line_behind key (take count ws) what) ≡ line_behind key ws what
+pub seen_again : (key : Dbkey) (count : ℕ) (ws : List Write) (what : Option (List ℕ)) → line_behind key ws (line_behind key (take count ws) what) ≡ line_behind key ws what
 seen_again key count ws what = ⊎_elim (λ (p : IsPut key ws). p (line_behind key (take count ws) what) what)
     (λ none. ap (λ w. line_behind key ws w) (missed key (take count ws) what (missed_front key count ws none))) (put_or_missed key ws)
 

@@ -1,8 +1,10 @@
-use Rattle.std.proofs.Common.{sym, subst}
+use Rattle.std.proofs.Common.{List, ℕ, sym, subst}
 use Rattle.rdb_types.specs.declared.keys.Line.{Line}
 use Rattle.rdb_page.specs.Lines.{IsAllowedLine}
+use Rattle.line_moves.proofs.KeyPlaces.{area_is, place_content}
 use Rattle.line_moves.proofs.Runs.{on_ok}
-use Rattle.guarded_lines.specs.Laying.{Lays}
+use Rattle.guarded_lines.specs.Laying.{HasRoom, Lays}
+use Rattle.guarded_lines.proofs.Laid.{space_there}
 use Rattle.rmu_restore.specs.Laying.{line_of}
 use Rattle.rmu_restore.proofs.laying.lay_copy.Goals as goal
 
@@ -11,9 +13,11 @@ lay_line-requires g c = record { place = c.requires.place; class = c.requires.al
 
 pub returns-clause-bad : goal.returns-clause-bad
 returns-clause-bad g c = λ file slot is t pages was room.
-    let copy = c.args.copy in let allowed = c.requires.allowed in
+    let copy = c.args.copy in let place = c.args.place in let names = c.requires.place in let allowed = c.requires.allowed in
+    let old = (g.D.Disk.view c.args.disk.now).content in
     let fits : IsAllowedLine copy.class (line_of copy) = record { tsn = allowed.tsn; image = allowed.image; agrees = tt } in
-    c.lay_line.ensures.bad file slot is t pages was room (subst (λ (l : Line). IsAllowedLine copy.class l) (sym c.line_of-line.ensures) fits)
+    c.lay_line.ensures.bad file slot is t (space_there pages old copy.key place names was) (was.page place.file place.page (area_is copy.key place names) names.is_data)
+    (subst (λ (b : List ℕ). HasRoom copy.key copy.class b) (sym (place_content old copy.key place names)) room) (subst (λ (l : Line). IsAllowedLine copy.class l) (sym c.line_of-line.ensures) fits)
 
 pub returns-clause-laid : goal.returns-clause-laid
 returns-clause-laid g c = let v = g.D.Disk.view in let copy = c.args.copy in

@@ -1,0 +1,6 @@
+pub mod Following
+pub mod Walking
+pub mod Ended
+pub mod Course
+pub mod Faults
+pub mod Roots

@@ -1,0 +1,110 @@
+use Rattle.std.proofs.Common.{rules, ◌∙◌, ℕ, sym, refl, arith}
+use Rattle.std.proofs.lemmas.Result.{err_from_is_err_and}
+use Rattle.line_moves.proofs.Runs.{still_tells}
+use Rattle.database_opening.proofs.Others.{file_read, file_on}
+use Rattle.laid_groups.proofs.Faults.{err_same}
+use Rattle.rmu_recover.proofs.Faults.{laying_no_gap}
+use Rattle.rmu_recover.proofs.Course.{content_stands, journals_now, to_roll_read, within_reads, within_behind}
+use Rattle.rmu_recover.proofs.Roots.{top_is, count_is}
+use Rattle.rmu_recover.proofs.recovering.roll.Goals as goal
+
+pub pass_all-requires : goal.pass_all-requires
+pass_all-requires g c = let few = c.requires.allowed.applied in record { last = omega (arith, few); ceiling = c.requires.allowed.ceiling.1 }
+
+pub returns-in_err-reached-clause-gap : goal.returns-in_err-reached-clause-gap
+returns-in_err-reached-clause-gap g c = let v = g.D.Disk.view in let old = v c.args.disk.now in let mid = v c.pass_all.new.disk in let reads = c.pass_all.ensures.reads in let root = c.args.root in let copies = c.args.copies.now in
+    λ number is t former forward journals to_roll stand.
+    let left = g.met.D.Disk.content_left c.args.disk.now old.moment t (omega arith) in
+    let there = journals_now former c.args.root forward copies journals old.content (content_stands former c.args.root forward old to_roll left) stand in
+    c.pass_all.ensures.gap number (search rules) t journals there
+
+pub returns-in_err-reached-clause-bad : goal.returns-in_err-reached-clause-bad
+returns-in_err-reached-clause-bad g c = let v = g.D.Disk.view in let old = v c.args.disk.now in let mid = v c.pass_all.new.disk in let reads = c.pass_all.ensures.reads in let root = c.args.root in let copies = c.args.copies.now in
+    λ file slot is t former forward journals groups aij to_roll source.
+    let left = g.met.D.Disk.content_left c.args.disk.now old.moment t (omega arith) in
+    let there = journals_now former c.args.root forward copies journals old.content (content_stands former c.args.root forward old to_roll left) source.journals_stand in
+    c.pass_all.ensures.bad file slot (search rules) t journals there
+
+pub returns-in_err-reached-clause-within : goal.returns-in_err-reached-clause-within
+returns-in_err-reached-clause-within g c = let v = g.D.Disk.view in let old = v c.args.disk.now in let mid = v c.pass_all.new.disk in let reads = c.pass_all.ensures.reads in let root = c.args.root in let copies = c.args.copies.now in
+    λ t former forward journals groups aij classes to_roll source sound. within_reads former c.args.root forward groups aij classes old mid reads t
+
+pub returns-in_err-reached-clause-others : goal.returns-in_err-reached-clause-others
+returns-in_err-reached-clause-others g c = let v = g.D.Disk.view in let old = v c.args.disk.now in let mid = v c.pass_all.new.disk in let reads = c.pass_all.ensures.reads in let root = c.args.root in let copies = c.args.copies.now in
+    λ t file other. file_read old mid reads t file
+
+pub carry_out-requires : goal.carry_out-requires
+carry_out-requires g c = let some = c.requires.allowed.ceiling.0 in let above = c.in_ok-reached.ensures.above in record { allowed = c.requires.allowed; first = omega (arith, some, above); few = c.in_ok-reached.ensures.ceiling }
+
+pub returns-in_err-carry_out-clause-gap : goal.returns-in_err-carry_out-clause-gap
+returns-in_err-carry_out-clause-gap g c = λ number is t former forward journals to_roll stand.
+    let p = err_from_is_err_and c.from_residual-in_err-carry_out.result c.from_residual-in_err-carry_out.ensures.1 in
+    absurd (laying_no_gap c.in_err-carry_out.field-0.0 number (sym p.2 ∙ err_same _ _ (sym p.1 ∙ is)))
+
+pub returns-in_err-carry_out-clause-nothing : goal.returns-in_err-carry_out-clause-nothing
+returns-in_err-carry_out-clause-nothing g c = λ number is.
+    let p = err_from_is_err_and c.from_residual-in_err-carry_out.result c.from_residual-in_err-carry_out.ensures.1 in
+    absurd (laying_no_gap c.in_err-carry_out.field-0.0 number (sym p.2 ∙ err_same _ _ (sym p.1 ∙ is)))
+
+pub returns-in_err-carry_out-clause-bad : goal.returns-in_err-carry_out-clause-bad
+returns-in_err-carry_out-clause-bad g c = let v = g.D.Disk.view in let old = v c.args.disk.now in let mid = v c.pass_all.new.disk in let reads = c.pass_all.ensures.reads in let root = c.args.root in let copies = c.args.copies.now in
+    λ file slot is t former forward journals groups aij to_roll source.
+    let left = g.met.D.Disk.content_left c.args.disk.now old.moment t (omega arith) in
+    let there = journals_now former c.args.root forward copies journals old.content (content_stands former c.args.root forward old to_roll left) source.journals_stand in
+    let follows = c.in_ok-reached.ensures.reached t journals there in
+    let told = still_tells old mid reads.told t in
+    let to_roll_mid = to_roll_read former c.args.root forward groups aij (λ (n : ℕ). n) old mid reads t to_roll in
+    let same = top_is former copies c.args.root forward journals groups aij source _ c.in_ok-reached.reached refl refl follows in
+    c.carry_out.ensures.bad file slot (search rules) told former forward journals groups aij to_roll_mid source same
+
+pub returns-in_err-carry_out-clause-within : goal.returns-in_err-carry_out-clause-within
+returns-in_err-carry_out-clause-within g c = let v = g.D.Disk.view in let old = v c.args.disk.now in let mid = v c.pass_all.new.disk in let reads = c.pass_all.ensures.reads in let root = c.args.root in let copies = c.args.copies.now in
+    λ t former forward journals groups aij classes to_roll source sound.
+    let left = g.met.D.Disk.content_left c.args.disk.now old.moment t (omega arith) in
+    let there = journals_now former c.args.root forward copies journals old.content (content_stands former c.args.root forward old to_roll left) source.journals_stand in
+    let follows = c.in_ok-reached.ensures.reached t journals there in
+    let told = still_tells old mid reads.told t in
+    let to_roll_mid = to_roll_read former c.args.root forward groups aij (λ (n : ℕ). n) old mid reads t to_roll in
+    let same = top_is former copies c.args.root forward journals groups aij source _ c.in_ok-reached.reached refl refl follows in
+    within_behind former root forward groups aij classes old mid reads t (v c.carry_out.new.disk) (c.carry_out.ensures.within told former forward journals groups aij classes to_roll_mid source sound same)
+
+pub returns-in_err-carry_out-clause-others : goal.returns-in_err-carry_out-clause-others
+returns-in_err-carry_out-clause-others g c = let v = g.D.Disk.view in let old = v c.args.disk.now in let mid = v c.pass_all.new.disk in let reads = c.pass_all.ensures.reads in let root = c.args.root in let copies = c.args.copies.now in
+    λ t file other. file_on old mid (v c.carry_out.new.disk) file (file_read old mid reads t file) (c.carry_out.ensures.others (still_tells old mid reads.told t) file other)
+
+pub returns-clause-count : goal.returns-clause-count
+returns-clause-count g c = let v = g.D.Disk.view in let old = v c.args.disk.now in let mid = v c.pass_all.new.disk in let reads = c.pass_all.ensures.reads in let root = c.args.root in let copies = c.args.copies.now in
+    λ t former forward journals groups aij to_roll source.
+    let left = g.met.D.Disk.content_left c.args.disk.now old.moment t (omega arith) in
+    let there = journals_now former c.args.root forward copies journals old.content (content_stands former c.args.root forward old to_roll left) source.journals_stand in
+    let follows = c.in_ok-reached.ensures.reached t journals there in
+    let told = still_tells old mid reads.told t in
+    let to_roll_mid = to_roll_read former c.args.root forward groups aij (λ (n : ℕ). n) old mid reads t to_roll in
+    let same = top_is former copies c.args.root forward journals groups aij source _ c.in_ok-reached.reached refl refl follows in
+    count_is former copies c.args.root forward journals groups aij source _ c.in_ok-reached.reached refl follows
+
+pub returns-clause-rolled : goal.returns-clause-rolled
+returns-clause-rolled g c = let v = g.D.Disk.view in let old = v c.args.disk.now in let mid = v c.pass_all.new.disk in let reads = c.pass_all.ensures.reads in let root = c.args.root in let copies = c.args.copies.now in
+    λ t former forward journals groups aij classes to_roll source sound image now.
+    let left = g.met.D.Disk.content_left c.args.disk.now old.moment t (omega arith) in
+    let there = journals_now former c.args.root forward copies journals old.content (content_stands former c.args.root forward old to_roll left) source.journals_stand in
+    let follows = c.in_ok-reached.ensures.reached t journals there in
+    let told = still_tells old mid reads.told t in
+    let to_roll_mid = to_roll_read former c.args.root forward groups aij (λ (n : ℕ). n) old mid reads t to_roll in
+    let same = top_is former copies c.args.root forward journals groups aij source _ c.in_ok-reached.reached refl refl follows in
+    c.in_ok-carry_out.ensures.rolled told former forward journals groups aij classes to_roll_mid source sound same image now
+
+pub returns-clause-within : goal.returns-clause-within
+returns-clause-within g c = let v = g.D.Disk.view in let old = v c.args.disk.now in let mid = v c.pass_all.new.disk in let reads = c.pass_all.ensures.reads in let root = c.args.root in let copies = c.args.copies.now in
+    λ t former forward journals groups aij classes to_roll source sound.
+    let left = g.met.D.Disk.content_left c.args.disk.now old.moment t (omega arith) in
+    let there = journals_now former c.args.root forward copies journals old.content (content_stands former c.args.root forward old to_roll left) source.journals_stand in
+    let follows = c.in_ok-reached.ensures.reached t journals there in
+    let told = still_tells old mid reads.told t in
+    let to_roll_mid = to_roll_read former c.args.root forward groups aij (λ (n : ℕ). n) old mid reads t to_roll in
+    let same = top_is former copies c.args.root forward journals groups aij source _ c.in_ok-reached.reached refl refl follows in
+    within_behind former root forward groups aij classes old mid reads t (v c.carry_out.new.disk) (c.carry_out.ensures.within told former forward journals groups aij classes to_roll_mid source sound same)
+
+pub returns-clause-others : goal.returns-clause-others
+returns-clause-others g c = let v = g.D.Disk.view in let old = v c.args.disk.now in let mid = v c.pass_all.new.disk in let reads = c.pass_all.ensures.reads in let root = c.args.root in let copies = c.args.copies.now in
+    λ t file other. file_on old mid (v c.carry_out.new.disk) file (file_read old mid reads t file) (c.carry_out.ensures.others (still_tells old mid reads.told t) file other)
