@@ -30,8 +30,7 @@ class Took:
         return Took(min(self.clock, other.clock), min(self.processor, other.processor))
 
     def less(self, other):
-        # (never none, so that a ratio can be told)
-        return Took(max(self.clock - other.clock, 1e-4), max(self.processor - other.processor, 1e-4))
+        return Took(max(self.clock - other.clock, 0), max(self.processor - other.processor, 0))
 
 
 @dataclasses.dataclass
@@ -242,8 +241,8 @@ class Bench:
             answer, theirs = self.best(Sqlite(journal), f"{key}-{journal}", before, whole)
             if printed != answer:
                 stop(f"{name}: the outputs differ")
-            line += f"; sqlite3 {told(theirs)}; ratio {ours.processor / theirs.processor:.2f} of processor, {ours.clock / theirs.clock:.2f} by the clock"
-        print(f"{line}; 4 times the work takes {ours.processor / fourth.processor:.1f} times as much processor, {ours.clock / fourth.clock:.1f} times as long", flush=True)
+            line += f"; sqlite3 {told(theirs)}; ratio {ratio(ours.processor, theirs.processor)} of processor, {ratio(ours.clock, theirs.clock)} by the clock"
+        print(f"{line}; 4 times the work takes {ratio(ours.processor, fourth.processor)} times as much processor, {ratio(ours.clock, fourth.clock)} times as long", flush=True)
 
     def asked(self, name, question, count, times=10):
         """A statement over all rows, beside the shell, and beside one over a quarter of the rows."""
@@ -255,8 +254,8 @@ class Bench:
             answer, theirs = self.best(Sqlite("DELETE"), f"rows-{count}", table("R", count), both)
             if printed != answer:
                 stop(f"{name}: the outputs differ")
-            line += f"; sqlite3 {told(theirs)}; ratio {ours.processor / theirs.processor:.2f} of processor"
-        print(f"{line}; 4 times the rows take {ours.processor / fourth.processor:.1f} times as much processor", flush=True)
+            line += f"; sqlite3 {told(theirs)}; ratio {ratio(ours.processor, theirs.processor)} of processor"
+        print(f"{line}; 4 times the rows take {ratio(ours.processor, fourth.processor)} times as much processor", flush=True)
 
     def threads(self, name, make, count, *more):
         """Four sessions, each on its own relation, beside one."""
@@ -264,7 +263,7 @@ class Bench:
         before, count = tables(names, 2000 // self.scale), count // self.scale
         _, one = self.best(self.rdb, "four", before, at_once(make, names[:1], count, *more))
         _, four = self.best(self.rdb, "four", before, at_once(make, names, count, *more))
-        print(f"{count:,} {name} each, 4 sessions on 4 relations: {told(four)}; one alone: {told(one)}; 4 times the work takes {four.processor / one.processor:.1f} times as much processor, {four.clock / one.clock:.1f} times as long", flush=True)
+        print(f"{count:,} {name} each, 4 sessions on 4 relations: {told(four)}; one alone: {told(one)}; 4 times the work takes {ratio(four.processor, one.processor)} times as much processor, {ratio(four.clock, one.clock)} times as long", flush=True)
 
     def sizes(self, small, large, count):
         """Look-ups by key in a large relation beside a small one."""
@@ -273,7 +272,12 @@ class Bench:
         for below in (small, large):
             _, took = self.best(self.rdb, f"rows-{below}", table("R", below), finds("R", count, below))
             times.append(took)
-        print(f"{count:,} look-ups by key in {large:,} rows: {told(times[1])}; in {small:,} rows: {told(times[0])}; ratio {times[1].processor / times[0].processor:.2f} of processor", flush=True)
+        print(f"{count:,} look-ups by key in {large:,} rows: {told(times[1])}; in {small:,} rows: {told(times[0])}; ratio {ratio(times[1].processor, times[0].processor)} of processor", flush=True)
+
+
+def ratio(one, other):
+    """How often one time has the other in it, where that is long enough to tell."""
+    return f"{one / other:.2f}" if other >= 0.001 else "(too short to tell)"
 
 
 def told(took):
