@@ -53,10 +53,11 @@ fn drive_one<R: Wait, X: Driven, G: Gate>(
     let mut done = None;
     let mut count: u64 = 0;
     let mut is_asked = true;
+    // (what the next step is, is looked at behind the last one, so that each step locks once)
+    let mut point = shared.lock(rt).point(s);
     for _ in rt.forever() {
         let mut act = Act::Go;
         if is_asked {
-            let point = shared.lock(rt).point(s);
             count = count.wrapping_add(1);
             act = gate.pass(s, count, point);
         }
@@ -73,6 +74,7 @@ fn drive_one<R: Wait, X: Driven, G: Gate>(
                     Some(value) => x.give(s, value),
                     None => x.next(s),
                 };
+                point = x.point(s);
                 match step {
                     Step::Compute(piece) => {
                         drop(x);
@@ -80,7 +82,7 @@ fn drive_one<R: Wait, X: Driven, G: Gate>(
                     }
                     Step::Moved => bell.notify_all(),
                     Step::Asleep => {
-                        let _x = bell.wait(rt, x);
+                        point = bell.wait(rt, x).point(s);
                     }
                     Step::Frozen => {
                         let step = x.recover_step();
