@@ -1,5 +1,4 @@
 //! The events of a run.
-use rdb_meaning::Tables;
 use rdb_types::{Cause, Items, Keys, Moment, Node, Session};
 use rdo_ast::reply::{Reply, Standing};
 use rdo_ast::syntax::Item;
@@ -27,10 +26,3 @@ pub enum Event {
 
 /// The events of a run, in their order.
 pub type Events = Items<Event>;
-
-/// A run: the tables that it began with, and its events.
-#[derive(Drop)]
-pub struct Account {
-    pub opening: Tables,
-    pub events: Events,
-}

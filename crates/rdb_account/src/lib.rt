@@ -4,5 +4,5 @@
 mod event;
 mod text;
 
-pub use event::{Account, Event, Events};
+pub use event::{Event, Events};
 pub use text::{render, transcript};

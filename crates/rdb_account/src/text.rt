@@ -3,7 +3,7 @@ ghost use Rattle.std.specs.Prelude.{◌≡◌, [], ◌∷◌, ◌++◌, ◌≤�
 ghost use Rattle.std.specs.List.{flat_map};
 ghost use Rattle.rdb_account.specs.Transcript.{pointed as text_pointed, value_text as text_of_value, scaled_text as text_of_scaled, row_line as line_of_row, sessions_text as text_of_sessions, named as line_named, counted as line_counted, reply_text as text_of_reply, death_text as text_of_death, transcript as transcript_of};
 
-use crate::{Account, Event};
+use crate::Event;
 use itoa::Buffer;
 use rdb_types::{Bytes, Cause, Chars, NoMemory, Printed, Scaled, Session, Value};
 use rdo_ast::reply::Reply;
@@ -194,10 +194,10 @@ fn death_line(cause: Cause, out: &mut Bytes) -> Result<(), NoMemory>
 }
 
 /// Adds what a session writes in a run: its replies in their order, and a last line where it died.
-pub fn transcript(account: &Account, session: Session, out: &mut Bytes) -> Result<(), NoMemory>
-    ensures { OnOk result (out.new ≡ out.old ++ transcript_of session.number account.now.events) }
+pub fn transcript(events: &[Event], session: Session, out: &mut Bytes) -> Result<(), NoMemory>
+    ensures { OnOk result (out.new ≡ out.old ++ transcript_of session.number events.now) }
 {
-    for event in account.events.as_slice() {
+    for event in events {
         match event {
             Event::Said(said, _, _, reply) if said.number == session.number => render(reply, out)?,
             Event::Died(died, cause) if died.number == session.number => death_line(*cause, out)?,

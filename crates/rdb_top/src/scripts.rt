@@ -6,9 +6,7 @@ ghost use Rattle.rdb_drive.specs.Boards.{IsSession};
 ghost use Rattle.script_streams.specs.Fronts.{WritesFront};
 ghost use Rattle.rdb_top.specs.Runs.{has_death, scripts_of, transcripts};
 
-use ordered_entries::Entries;
-use rdb_account::{Account, Event, Events, transcript};
-use rdb_meaning::Tables;
+use rdb_account::{Event, transcript};
 use rdb_outside::{Sink, Source};
 use rdb_types::{Bytes, NoMemory, Session};
 use rdo_parser::Script;
@@ -73,55 +71,32 @@ pub fn read_scripts<S: Source>(
     Ok(scripts)
 }
 
-/// An account with these events, to be written. No transcript asks for its tables.
-pub fn account_of(alloc: Global, events: Events) -> Account
-    ensures { result.events ≡ events }
-{
-    Account {
-        opening: Tables {
-            globals: Entries::new(alloc),
-            relations: Entries::new(alloc),
-            indexes: Entries::new(alloc),
-        },
-        events,
-    }
-}
-
 /// Whether some session died.
-pub fn some_died(account: &Account) -> bool
-    ensures { result ≡ has_death account.now.events }
+pub fn some_died(events: &[Event]) -> bool
+    ensures { result ≡ has_death events.now }
 {
-    account
-        .events
-        .as_slice()
-        .iter()
-        .any(|event| matches!(event, Event::Died(..)))
+    events.iter().any(|event| matches!(event, Event::Died(..)))
 }
 
 // All transcripts, one after another.
-fn render_all(alloc: Global, account: &Account, sessions: u32) -> Result<Bytes, NoMemory>
-    ensures { IfOk result (λ bytes. bytes ≡ transcripts sessions account.now.events) }
+fn render_all(alloc: Global, events: &[Event], sessions: u32) -> Result<Bytes, NoMemory>
+    ensures { IfOk result (λ bytes. bytes ≡ transcripts sessions events.now) }
 {
     let mut bytes = Bytes::new(alloc);
     for done in 0..sessions {
-        transcript(account, Session { number: done + 1 }, &mut bytes)?;
+        transcript(events, Session { number: done + 1 }, &mut bytes)?;
     }
     Ok(bytes)
 }
 
 /// Writes what the sessions were answered, in their order, and gives the status.
-pub fn write_transcripts<K: Sink>(
-    alloc: Global,
-    account: &Account,
-    sessions: u32,
-    out: &mut K,
-) -> u8
+pub fn write_transcripts<K: Sink>(alloc: Global, events: &[Event], sessions: u32, out: &mut K) -> u8
     ensures status { (result ≡ 0) ⊎ (result ≡ 5) ⊎ (result ≡ 6) }
-    ensures whole { K.tells out.old ≡ true → result ≡ 0 → K.taken out.new ≡ K.taken out.old ++ transcripts sessions account.now.events }
-    ensures front { K.tells out.old ≡ true → WritesFront (K.taken out.old) (K.taken out.new) (transcripts sessions account.now.events) }
+    ensures whole { K.tells out.old ≡ true → result ≡ 0 → K.taken out.new ≡ K.taken out.old ++ transcripts sessions events.now }
+    ensures front { K.tells out.old ≡ true → WritesFront (K.taken out.old) (K.taken out.new) (transcripts sessions events.now) }
     ensures cause { result ≡ 6 → Rose (K.faults out.old) (K.faults out.new) }
 {
-    match render_all(alloc, account, sessions) {
+    match render_all(alloc, events, sessions) {
         Err(_) => 5,
         Ok(bytes) => match write_all(out, bytes.as_slice()) {
             Ok(()) => 0,

@@ -31,13 +31,13 @@ ghost use Rattle.rdb_top.specs.Runs.{IsRun, IsWhole, IsWritten, has_death, OfSom
 ghost use Rattle.rdb_top.specs.Deaths.{letting};
 
 use crate::dying::Dying;
-use crate::scripts::{account_of, read_scripts, some_died, write_transcripts};
+use crate::scripts::{read_scripts, some_died, write_transcripts};
 use command_words::{Command, Scripts, command_of, order_of};
 use line_cluster::Origin;
 use line_opening::OpeningFault;
 use line_runs::{LineRun, Said, say_in_order, say_in_threads};
 use new_database::{NewFault, make_new};
-use rdb_account::{Account, Events};
+use rdb_account::{Event, Events};
 use rdb_drive::Gate;
 use rdb_outside::{Disk, Sink, Source};
 use rdb_types::{Copied, Items, Limits, NoMemory, Word};
@@ -219,15 +219,15 @@ fn say_scripts<R: Threads + Wait + Sync, O: Origin, D: Disk + Drop + Send, G: Ga
 }
 
 // The status of a run that is whole, by that of the writing: some session died, and nothing else is to be told.
-fn status_whole(written: u8, account: &Account) -> u8
+fn status_whole(written: u8, events: &[Event]) -> u8
     requires written { (written ≡ 0) ⊎ (written ≡ 5) ⊎ (written ≡ 6) }
     ensures status { (result ≡ 0) ⊎ (result ≡ 5) ⊎ (result ≡ 6) ⊎ (result ≡ 8) }
     ensures wrote { IsWritten result → written ≡ 0 }
     ensures sink { result ≡ 6 → written ≡ 6 }
-    ensures died { result ≡ 8 → has_death account.now.events ≡ true }
-    ensures lived { result ≡ 0 → has_death account.now.events ≡ false }
+    ensures died { result ≡ 8 → has_death events.now ≡ true }
+    ensures lived { result ≡ 0 → has_death events.now ≡ false }
 {
-    if written == 0 && some_died(account) {
+    if written == 0 && some_died(events) {
         8
     } else {
         written
@@ -261,12 +261,12 @@ fn finish_scripts<D: Drop, K: Sink>(
         is_whole,
         fault,
     } = ran;
-    let account = account_of(alloc, events);
     let status = match fault {
         Some(fault) => status_unopened(fault),
         None => {
             if is_whole {
-                status_whole(write_transcripts(alloc, &account, sessions, out), &account)
+                let written = write_transcripts(alloc, events.as_slice(), sessions, out);
+                status_whole(written, events.as_slice())
             } else {
                 5
             }
@@ -275,7 +275,7 @@ fn finish_scripts<D: Drop, K: Sink>(
     Finish {
         status,
         disk,
-        events: account.events,
+        events,
         earlier: Items::new(alloc),
     }
 }

@@ -5,4 +5,4 @@ use Rattle.rdb_top.proofs.scripts.render_all.Goals as goal
 
 pub loop-done-preserved : goal.loop-done-preserved
 loop-done-preserved c =
-    c.in_ok-transcript.ensures ∙ (ap (λ bs. bs ++ transcript (c.loop-done.done + 1) c.args.account.now.events) c.loop-done.invariant ∙ sym (transcripts-more c.loop-done.done c.args.account.now.events))
+    c.in_ok-transcript.ensures ∙ (ap (λ bs. bs ++ transcript (c.loop-done.done + 1) c.args.events.now) c.loop-done.invariant ∙ sym (transcripts-more c.loop-done.done c.args.events.now))
