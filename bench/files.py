@@ -41,6 +41,14 @@ class Both:
     sql: str
 
 
+@dataclasses.dataclass
+class Upkeep:
+    """A command of RMU, and what does the same by the shell."""
+
+    words: list
+    sql: str
+
+
 def stop(text):
     sys.exit(f"bench: {text}")
 
@@ -83,6 +91,8 @@ class Rdb:
                 stop(f"the set-up was answered {printed.splitlines()[0]}")
 
     def work(self, both, folder):
+        if isinstance(both, Upkeep):
+            return run([self.program, *both.words], "", folder)
         return self.said(both.rdo, folder)
 
     def nothing(self, folder):
@@ -211,6 +221,10 @@ def at_once(make, names, count, *more):
     return Both([it.rdo[0] for it in each], "".join(it.sql for it in each))
 
 
+VERIFY = Upkeep(["RMU/VERIFY", "BANK"], "PRAGMA integrity_check;\n")
+BACKUP = Upkeep(["RMU/BACKUP", "BANK", "1"], ".backup copy.db\n")
+
+
 # ---- what is told
 
 
@@ -257,6 +271,17 @@ class Bench:
             line += f"; sqlite3 {told(theirs)}; ratio {ratio(ours.processor, theirs.processor)} of processor"
         print(f"{line}; 4 times the rows take {ratio(ours.processor, fourth.processor)} times as much processor", flush=True)
 
+    def kept(self, name, upkeep, count):
+        """A command over so many rows, beside the shell, and beside a quarter of the rows."""
+        count //= self.scale
+        _, ours = self.best(self.rdb, f"rows-{count}", table("R", count), upkeep)
+        _, fourth = self.best(self.rdb, f"rows-{count // 4}", table("R", count // 4), upkeep)
+        line = f"{name} of {count:,} rows: rdb {told(ours)}"
+        if SQLITE is not None:
+            _, theirs = self.best(Sqlite("DELETE"), f"rows-{count}", table("R", count), upkeep)
+            line += f"; sqlite3 {told(theirs)}; ratio {ratio(ours.processor, theirs.processor)} of processor, {ratio(ours.clock, theirs.clock)} by the clock"
+        print(f"{line}; 4 times the rows take {ratio(ours.processor, fourth.processor)} times as much processor", flush=True)
+
     def threads(self, name, make, count, *more):
         """Four sessions, each on its own relation, beside one."""
         names = ["R1", "R2", "R3", "R4"]
@@ -301,6 +326,8 @@ def works(bench):
         "sorts": lambda: bench.asked("sorts of", SORT, 20000),
         "thread-finds": lambda: bench.threads("look-ups by key", finds, 5000, 2000 // bench.scale),
         "thread-transfers": lambda: bench.threads("transfers, each committed", transfers, 200, below),
+        "verifies": lambda: bench.kept("a verification", VERIFY, 100000),
+        "backups": lambda: bench.kept("a backup", BACKUP, 100000),
         "sizes": lambda: bench.sizes(1000, 100000, 10000),
     }
 
