@@ -17,8 +17,8 @@ use rdo_ast::syntax::Item;
 use session_jobs::Statements;
 use session_states::{ItemQueue, Reader, ReaderStage, ReaderWork};
 use stage_steps::{
-    Common, ReaderTerms, Turned, compute_reading, fetch_reading, forgo_reading, hand_out_reading,
-    leave_reading, quiet, take_up_reading,
+    Common, ReaderRound, ReaderTerms, Turned, compute_reading, fetch_reading, forgo_reading,
+    hand_out_reading, leave_reading, quiet, take_up_reading,
 };
 
 /// One step of a read-only transaction.
@@ -52,6 +52,10 @@ pub(crate) fn go_on_reading<S: Statements, L: LineStore>(
         ReaderStage::Between => read_next::<S, L>(common, s, left, allotment, terms),
         ReaderStage::Working(item, work) => {
             look::<S, L>(common, s, terms, allotment, item, work)
+        }
+        ReaderStage::Gathering(item, need, later, place) => {
+            let round = ReaderRound { item, later, place };
+            fetch_reading::<S, L>(common.alloc, &mut common.store, s, terms, round, need)
         }
     }
 }
@@ -106,9 +110,6 @@ fn look<S: Statements, L: LineStore>(
         ReaderWork::Out => {
             let store = &mut common.store;
             compute_reading::<S, L>(common.alloc, &common.word, store, s, terms, item)
-        }
-        ReaderWork::Fetching(need) => {
-            fetch_reading::<S, L>(common.alloc, &mut common.store, s, terms, item, need)
         }
     }
 }

@@ -96,6 +96,7 @@ stage-few (Ending end) = more (end_rank end) (end-few end)
 reader-few : (x : ReaderStage) → reader_rank x ≤ 14
 reader-few look.Between = omega arith
 reader-few (look.Working item w) = omega arith
+reader-few (look.Gathering item n later place) = omega arith
 
 rank-few : (x : Phase) → rank x ≤ 14
 rank-few Outside = omega arith
@@ -124,11 +125,11 @@ stage-left-few (Ending end) = omega arith
 reader-work-few : (w : ReaderWork) → reader_work_left w ≤ 8
 reader-work-few work.Due = omega arith
 reader-work-few work.Out = omega arith
-reader-work-few (work.Fetching n) = omega arith
 
 reader-left-few : (x : ReaderStage) → reader_left x ≤ 8
 reader-left-few look.Between = omega arith
 reader-left-few (look.Working item w) = reader-work-few w
+reader-left-few (look.Gathering item n later place) = omega arith
 
 round-few : (x : Phase) → round_left x ≤ 8
 round-few Outside = omega arith

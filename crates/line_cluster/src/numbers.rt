@@ -1,6 +1,6 @@
 //! The numbers of the measure are bounded, since memory counts what they count.
 ghost use Rattle.std.specs.Prelude.{◌≡◌, ◌≤◌, ◌<◌, ◌^◌, length};
-ghost use Rattle.session_measure.specs.Weights.{places_in, places_left};
+ghost use Rattle.session_measure.specs.Weights.{places_in, places_left, reader_places};
 ghost use Rattle.line_cluster.specs.Measured.{IsBounded};
 ghost use Rattle.line_cluster.specs.Turned.{sessions};
 
@@ -10,7 +10,7 @@ use crate::sessions::Core;
 use line_store::LineStore;
 use rdb_types::Session;
 use session_jobs::Statements;
-use session_states::{Member, Phase, Stage};
+use session_states::{Member, Phase, ReaderStage, Stage};
 
 // So much of a stage is done one after another.
 fn count_places(stage: &Stage)
@@ -30,14 +30,25 @@ fn count_places(stage: &Stage)
     }
 }
 
+// So much of a reader's stage is.
+fn count_needs(stage: &ReaderStage)
+    ensures { reader_places stage.now < 2 ^ 68 }
+{
+    if let ReaderStage::Gathering(_, _, later, _) = stage {
+        let _count = later.len();
+    }
+}
+
 // What a session has before it beside the locks and the store.
 fn count_session(member: &Member)
     ensures items { length member.now.left < 2 ^ 64 }
     ensures places { places_left member.now.phase < 2 ^ 68 }
 {
     let _items = member.left.len();
-    if let Phase::Writing(writer) = &member.phase {
-        count_places(&writer.stage);
+    match &member.phase {
+        Phase::Writing(writer) => count_places(&writer.stage),
+        Phase::Reading(reader) => count_needs(&reader.stage),
+        Phase::Outside | Phase::Closing | Phase::Over => {}
     }
 }
 

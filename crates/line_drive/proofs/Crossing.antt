@@ -59,7 +59,10 @@ stage_send = enum_send (E.shape Stage.the_type) (
 )
 
 reader_stage_send : IsSend (ReaderStage.the_field).row
-reader_stage_send = enum_send (E.shape ReaderStage.the_type) (tt, ((item_field_send, (reader_work.the_field_send, tt)), tt))
+reader_stage_send = enum_send (E.shape ReaderStage.the_type) (
+  tt,
+  ((item_field_send, (reader_work.the_field_send, tt)), ((item_field_send, (need.the_field_send, (items.the_send _ need.the_send, (search sendable, tt)))), tt)),
+)
 
 writer_send : IsSend (Writer.the_field).row
 writer_send = struct_send (S.shape Writer.the_type) (standing.the_field_send, (known.the_send, (search sendable, (search sendable, (stage_send, tt)))))

@@ -21,7 +21,7 @@ is_between stage = false
 
 abbrev pub is_reader_between : ReaderStage → Bool
 is_reader_between look.Between = true
-is_reader_between (look.Working item work) = false
+is_reader_between stage = false
 
 abbrev pub takes_next : Phase → Bool
 takes_next Outside = true

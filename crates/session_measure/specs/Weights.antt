@@ -73,6 +73,7 @@ stage_rank (Ending end) = end_rank end
 abbrev pub reader_rank : ReaderStage → ℕ
 reader_rank look.Between = 12
 reader_rank (look.Working item work) = 10
+reader_rank (look.Gathering item n later place) = 10
 
 abbrev pub rank : Phase → ℕ
 rank Outside = 13
@@ -99,12 +100,12 @@ stage_left stage = 0
 
 abbrev pub reader_work_left : ReaderWork → ℕ
 reader_work_left work.Out = 8
-reader_work_left (work.Fetching n) = 2
 reader_work_left work.Due = 0
 
 abbrev pub reader_left : ReaderStage → ℕ
 reader_left look.Between = 0
 reader_left (look.Working item work) = reader_work_left work
+reader_left (look.Gathering item n later place) = 6
 
 abbrev pub round_left : Phase → ℕ
 round_left (Writing w) = stage_left w.stage
@@ -124,8 +125,14 @@ places_in (Reserving item r locks place) = length locks - place
 places_in (Saying item r (Claiming place)) = length r.writes - place
 places_in stage = 0
 
+-- a reader's needs, which it locks none of
+abbrev pub reader_places : ReaderStage → ℕ
+reader_places (look.Gathering item n later place) = length later - place
+reader_places stage = 0
+
 abbrev pub places_left : Phase → ℕ
 places_left (Writing w) = places_in w.stage
+places_left (Reading r) = reader_places r.stage
 places_left x = 0
 
 -- ---- a want that isn't open yet

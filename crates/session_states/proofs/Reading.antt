@@ -26,19 +26,18 @@ use Rattle.lock_ties.proofs.Places.{at-same}
 use Rattle.lock_ties.proofs.Got.{ended-tied}
 use Rattle.line_steps.specs.Members.{member, outside, reading}
 use Rattle.line_steps.specs.Right.{Desk, Ground, Reads, with_desk}
-use Rattle.line_steps.specs.Steps.{Steps}
+use Rattle.line_steps.specs.Steps.{Here, Steps}
 use Rattle.line_steps.proofs.Common.{desk-same}
 use Rattle.line_steps.proofs.Reading.{begins-reading, takes-up-reading, learns-reading}
 use Rattle.line_steps.proofs.Saying.{answers-reading, refuses-reading}
 use Rattle.line_steps.proofs.Kept.{arrives, in-turn, elapses}
-use Rattle.session_states.specs.declared.stage.ReaderWork.{ReaderWork}
 use Rattle.session_states.specs.declared.stage.ReaderWork.TheVariants.{Due, Out}
 use Rattle.session_states.specs.declared.stage.ReaderStage.{ReaderStage}
 use Rattle.session_states.specs.declared.stage.ReaderStage.TheVariants.{Between, Working}
 use Rattle.session_states.specs.declared.stage.Phase.TheVariants.{Outside, Reading}
-use Rattle.session_states.specs.States.{reader, session}
+use Rattle.session_states.specs.States.{reader, reader_item, session}
 use Rattle.session_states.specs.Shared.{Shared, with_shelf}
-use Rattle.session_states.specs.Fits.{has_said, ReaderFits}
+use Rattle.session_states.specs.Fits.{has_said, ReaderFits, ReaderStageFits}
 use Rattle.session_states.specs.Steps.{Step}
 use Rattle.session_states.proofs.Basics.{at_time}
 use Rattle.session_states.proofs.Forgoing.{and-undone}
@@ -118,40 +117,40 @@ module _ (M : Model) (orderly : IsOrderly M) where
     };
   }
 
-  -- its job goes on without a lock
-  pub goes-to-read : (s : ℕ) (c : Shared) (left : List Item) (total : ℕ) (standing : Standing) (known : Held) (spoken : Bool) (item : Item) (a b : ReaderWork) →
-      Step M s c (session left total (Reading (reader standing known spoken (Working item a)))) c (session left total (Reading (reader standing known spoken (Working item b)))) []
-  goes-to-read s c left total standing known spoken item a b =
-      rests-by M orderly s c left total (Reading (reader standing known spoken (Working item a))) (Reading (reader standing known spoken (Working item b))) refl
-      (λ o p g f. record { known = f.fits.phase.known; seat = f.fits.phase.seat; spoken = f.fits.phase.spoken; needless = f.fits.phase.needless; stage = f.fits.phase.stage; wants = f.fits.phase.wants })
+  -- its statement goes on without a lock
+  pub goes-to-read : (s : ℕ) (c : Shared) (left : List Item) (total : ℕ) (standing : Standing) (known : Held) (spoken : Bool) (x y : ReaderStage) → reader_item x ≡ reader_item y → (ReaderStageFits spoken x → ReaderStageFits spoken y) →
+      Step M s c (session left total (Reading (reader standing known spoken x))) c (session left total (Reading (reader standing known spoken y))) []
+  goes-to-read s c left total standing known spoken x y same fits =
+      rests-by M orderly s c left total (Reading (reader standing known spoken x)) (Reading (reader standing known spoken y)) (ap (λ (u : Option Uttered). reading standing u) same)
+      (λ o p g f. record { known = f.fits.phase.known; seat = f.fits.phase.seat; spoken = f.fits.phase.spoken; needless = f.fits.phase.needless; stage = fits f.fits.phase.stage; wants = f.fits.phase.wants })
 
   -- what it lacked is read from the lines at its start
-  pub reads-more : (s : ℕ) (c : Shared) (shelf : Shelf) (left : List Item) (total : ℕ) (standing : Standing) (known new : Held) (spoken : Bool) (item : Item) (a b : ReaderWork) →
+  pub reads-more : (s : ℕ) (c : Shared) (shelf : Shelf) (left : List Item) (total : ℕ) (standing : Standing) (known new : Held) (spoken : Bool) (x y : ReaderStage) → reader_item x ≡ reader_item y → (ReaderStageFits spoken x → ReaderStageFits spoken y) →
       KeepsOthers s c.shelf shelf → shelf.now ≡ c.shelf.now → shelf.seat s ≡ c.shelf.seat s → KeepsSpace c.shelf.space shelf.space → (IsInOrder (seen_by s c.shelf) → Agrees (knows known) (seen_by s c.shelf) → Agrees (knows new) (seen_by s c.shelf)) →
-      Step M s c (session left total (Reading (reader standing known spoken (Working item a)))) (with_shelf shelf c) (session left total (Reading (reader standing new spoken (Working item b)))) []
-  reads-more s c shelf left total standing known new spoken item a b others now mine space more = record {
+      Step M s c (session left total (Reading (reader standing known spoken x))) (with_shelf shelf c) (session left total (Reading (reader standing new spoken y))) []
+  reads-more s c shelf left total standing known new spoken x y same fits others now mine space more = record {
     word = refl;
     others = record { store = others; locks = λ u other. refl };
     moments = tt;
     leaves = λ o p g f.
         let items = map uttered_of left in
-        let i = uttered_of item in
-        let m = member items (reading standing (Some i)) total in
-        let w : Reads M p g s standing (Some i) = f.here.stands.state in
+        let i = reader_item x in
+        let m = member items (reading standing i) total in
+        let w : Reads M p g s standing i = f.here.stands.state in
         let d : Desk = record { known = knows new; writes = (g.desk s).writes; start = (g.desk s).start } in
         let h : Ground = with_desk s d g in
         let k : Ground = at_time shelf.clock.time h in
-        let e : seen_by s c.shelf ≡ (g.desk s).start = ap (λ (x : Seat). seen_from x c.shelf.now) f.fits.phase.seat in
+        let e : seen_by s c.shelf ≡ (g.desk s).start = ap (λ (a : Seat). seen_from a c.shelf.now) f.fits.phase.seat in
         let good : Agrees (knows new) (g.desk s).start = subst (λ (l : Lines). Agrees (knows new) l) e
         (more (subst (λ (l : Lines). IsInOrder l) (sym e) (orderly (g.desk s).start w.transaction.base w.is.stands))
         (subst (λ (l : Lines). Agrees (knows known) l) (sym e) (subst (λ u. Agrees u (g.desk s).start) f.fits.phase.known w.is.agrees))) in
-        let x : Steps M o p g s m h [] = learns-reading M orderly o p g s items total standing (Some i) (knows new) f.here good in
-        let y : Steps M o x.to h s m k [] = elapses M orderly o x.to h s items (reading standing (Some i)) total shelf.clock.time
-        (found-here M orderly o x.to h s m (arrives M orderly o p g h s m m [] (none-dead M orderly o p g s m f.here) f.here x))
-        (time-later M orderly o p g s c shelf left total (Reading (reader standing known spoken (Working item a))) others f) in
+        let a : Steps M o p g s m h [] = learns-reading M orderly o p g s items total standing i (knows new) f.here good in
+        let b : Steps M o a.to h s m k [] = elapses M orderly o a.to h s items (reading standing i) total shelf.clock.time
+        (found-here M orderly o a.to h s m (arrives M orderly o p g h s m m [] (none-dead M orderly o p g s m f.here) f.here a))
+        (time-later M orderly o p g s c shelf left total (Reading (reader standing known spoken x)) others f) in
         record {
           ground = k;
-          steps = in-turn M orderly o p g h k s m m [] [] x y;
+          steps = subst (λ (u : Option Uttered). Steps M o p g s (member items (reading standing u) total) k []) same (in-turn M orderly o p g h k s m m [] [] a b);
           fits = record {
             ground = record { now = f.fits.ground.now ∙ sym now; time = refl; dead = f.fits.ground.dead };
             tied = f.fits.tied;
@@ -160,7 +159,7 @@ module _ (M : Model) (orderly : IsOrderly M) where
               seat = mine ∙ (f.fits.phase.seat ∙ ap (λ (z : Desk). seat_reading z.start) (sym (desk-same s d g)));
               spoken = f.fits.phase.spoken;
               needless = f.fits.phase.needless;
-              stage = f.fits.phase.stage;
+              stage = fits f.fits.phase.stage;
               wants = f.fits.phase.wants;
             };
           };
@@ -213,24 +212,25 @@ module _ (M : Model) (orderly : IsOrderly M) where
   }
 
   -- no memory was found for it
-  pub forgoes-to-reader : (s : ℕ) (c : Shared) (left : List Item) (total : ℕ) (standing : Standing) (known : Held) (spoken : Bool) (item : Item) (work : ReaderWork) → (spoken || not (leaves_none (uttered_of item))) ≡ true →
-      Step M s c (session left total (Reading (reader standing known spoken (Working item work)))) c (session left total (Reading (reader ReadOnly known true Between))) (Said s (uttered_of item) [] NoMemory ∷ [])
-  forgoes-to-reader s c left total standing known spoken item work may = record {
+  pub forgoes-to-reader : (s : ℕ) (c : Shared) (left : List Item) (total : ℕ) (standing : Standing) (known : Held) (spoken : Bool) (item : Item) (stage : ReaderStage) → reader_item stage ≡ Some (uttered_of item) → (spoken || not (leaves_none (uttered_of item))) ≡ true →
+      Step M s c (session left total (Reading (reader standing known spoken stage))) c (session left total (Reading (reader ReadOnly known true Between))) (Said s (uttered_of item) [] NoMemory ∷ [])
+  forgoes-to-reader s c left total standing known spoken item stage is may = record {
     word = refl;
     others = leaves-others s c;
     moments = (tt, tt);
     leaves = λ o p g f.
         let i = uttered_of item in
-        let w : Reads M p g s standing (Some i) = f.here.stands.state in
+        let here : Here M o p g s (member (map uttered_of left) (reading standing (Some i)) total) = subst (λ (u : Option Uttered). Here M o p g s (member (map uttered_of left) (reading standing u) total)) is f.here in
+        let w : Reads M p g s standing (Some i) = here.stands.state in
         let l : Line = record { item = i; choices = []; reply = NoMemory } in
         record {
           ground = g;
-          steps = refuses-reading M orderly o p g s (map uttered_of left) total standing l f.here refl (λ t sound. tt) refl
+          steps = refuses-reading M orderly o p g s (map uttered_of left) total standing l here refl (λ t sound. tt) refl
               (stays-open (p.transaction s) spoken i NoMemory f.fits.phase.spoken (still spoken (leaves_none i) may)) (and-undone (ends_by i));
           fits = record {
             ground = record { now = f.fits.ground.now; time = f.fits.ground.time; dead = f.fits.ground.dead };
             tied = line-tied o p c s w.transaction l w.is_open f.fits.phase.wants f.fits.tied;
-            phase = line-fits o p g c s standing known spoken (Working item work) w.transaction l w.is_open f.fits.phase;
+            phase = line-fits o p g c s standing known spoken stage w.transaction l w.is_open f.fits.phase;
           };
           counted = counted-events o p (Said s i [] NoMemory ∷ []) c.shelf (tt, tt) f.counted;
         };

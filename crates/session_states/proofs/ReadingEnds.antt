@@ -3,7 +3,7 @@ use Rattle.std.proofs.Common.{◌≡◌, ℕ, ◌∷◌, [], ◌==◌, ◌&&◌,
 use Rattle.rdo_ast.specs.declared.reply.Reply.TheVariants.{Done, NoMemory}
 use Rattle.rdo_ast.specs.declared.reply.Standing.{Standing}
 use Rattle.rdo_ast.specs.declared.syntax.Item.{Item}
-use Rattle.rdo_ast.specs.Tree.{said, commit, rollback}
+use Rattle.rdo_ast.specs.Tree.{Uttered, said, commit, rollback}
 use Rattle.rdo_ast.specs.Views.{uttered_of}
 use Rattle.rdb_account.specs.Events.{Said, Committed, RolledBack}
 use Rattle.rdb_account.specs.Places.{Place, Transaction, Line, after, leaves_none}
@@ -23,10 +23,10 @@ use Rattle.line_steps.proofs.Reading.{takes-up-reading, reader-commits}
 use Rattle.line_steps.proofs.Starting.{start-refused}
 use Rattle.line_steps.proofs.Ending.{rolls-back, ends}
 use Rattle.line_steps.proofs.Kept.{arrives, in-turn, elapses}
-use Rattle.session_states.specs.declared.stage.ReaderWork.{ReaderWork}
-use Rattle.session_states.specs.declared.stage.ReaderStage.TheVariants.{Between, Working}
+use Rattle.session_states.specs.declared.stage.ReaderStage.{ReaderStage}
+use Rattle.session_states.specs.declared.stage.ReaderStage.TheVariants.{Between}
 use Rattle.session_states.specs.declared.stage.Phase.TheVariants.{Outside, Reading, Over}
-use Rattle.session_states.specs.States.{reader, session}
+use Rattle.session_states.specs.States.{reader, reader_item, session}
 use Rattle.session_states.specs.Shared.{Shared, with_shelf, RestsWith}
 use Rattle.session_states.specs.Fits.{has_said}
 use Rattle.session_states.specs.Steps.{Step}
@@ -139,9 +139,9 @@ module _ (M : Model) (orderly : IsOrderly M) where
   }
 
   -- no memory was found for a START_TRANSACTION, which leaves no transaction
-  pub reader-unstarted-on : (s : ℕ) (c : Shared) (shelf : Shelf) (left : List Item) (total : ℕ) (standing : Standing) (known : Held) (item : Item) (work : ReaderWork) → leaves_none (uttered_of item) ≡ true → Moves s seat_outside c.shelf shelf →
-      Step M s c (session left total (Reading (reader standing known false (Working item work)))) (with_shelf shelf c) (session left total Outside) (Said s (uttered_of item) [] NoMemory ∷ RolledBack s ∷ [])
-  reader-unstarted-on s c shelf left total standing known item work starts moves = record {
+  pub reader-unstarted-on : (s : ℕ) (c : Shared) (shelf : Shelf) (left : List Item) (total : ℕ) (standing : Standing) (known : Held) (item : Item) (stage : ReaderStage) → reader_item stage ≡ Some (uttered_of item) → leaves_none (uttered_of item) ≡ true → Moves s seat_outside c.shelf shelf →
+      Step M s c (session left total (Reading (reader standing known false stage))) (with_shelf shelf c) (session left total Outside) (Said s (uttered_of item) [] NoMemory ∷ RolledBack s ∷ [])
+  reader-unstarted-on s c shelf left total standing known item stage is starts moves = record {
     word = refl;
     others = record { store = moves.others; locks = λ u other. refl };
     moments = (tt, (tt, tt));
@@ -149,14 +149,15 @@ module _ (M : Model) (orderly : IsOrderly M) where
         let items = map uttered_of left in
         let i = uttered_of item in
         let m = member items (reading standing (Some i)) total in
-        let w : Reads M p g s standing (Some i) = f.here.stands.state in
+        let here : Here M o p g s m = subst (λ (u : Option Uttered). Here M o p g s (member items (reading standing u) total)) is f.here in
+        let w : Reads M p g s standing (Some i) = here.stands.state in
         let x = w.transaction in
         let l : Line = record { item = i; choices = []; reply = NoMemory } in
         let silent : not (length x.lines == 0) ≡ false = sym (ap has_said w.is_open) ∙ f.fits.phase.spoken in
         record {
           ground = at_time shelf.clock.time (with_desk s (last_desk g) g);
           steps = start-refused M orderly o p g s m items x l (last_desk g) shelf.clock.time
-              (time-later M orderly o p g s c shelf left total (Reading (reader standing known false (Working item work))) moves.others f) f.here w.is_open refl f.here.stands.lives
+              (time-later M orderly o p g s c shelf left total (Reading (reader standing known false stage)) moves.others f) here w.is_open refl here.stands.lives
               (first (length x.lines == 0) (leaves_none i) silent starts) (and-undone (ends_by i))
               (rw w.reads (reader-excused M orderly o.word o p s (g.desk s).start x.base x.lines (g.desk s).known l refl w.is refl (λ t sound. tt) refl));
           fits = record {

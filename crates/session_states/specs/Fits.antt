@@ -176,6 +176,7 @@ pub record WriterFits (M : Model) (p : Place) (g : Ground) (c : Shared) (s : ℕ
 abbrev pub ReaderStageFits : Bool → ReaderStage → Type 0
 ReaderStageFits spoken look.Between = spoken ≡ true
 ReaderStageFits spoken (look.Working item work) = ends_by (uttered_of item) ≡ false
+ReaderStageFits spoken (look.Gathering item n later place) = ends_by (uttered_of item) ≡ false
 
 -- a reader has no lock, and the store has it at the lines at its start
 pub record ReaderFits (p : Place) (g : Ground) (c : Shared) (s : ℕ) (r : Reader) : Type 0 where

@@ -42,6 +42,7 @@ item_of (Ending end) = item_at_end end
 abbrev pub reader_item : ReaderStage → Option Uttered
 reader_item look.Between = None
 reader_item (look.Working item work) = Some (uttered_of item)
+reader_item (look.Gathering item n later place) = Some (uttered_of item)
 
 -- whether the store has nothing to do or taken at this stage
 abbrev pub is_at_rest : Stage → Bool

@@ -102,8 +102,6 @@ pub enum ReaderWork {
     Due,
     /// The job is handed out.
     Out,
-    /// What the job lacked is read.
-    Fetching(Need),
 }
 
 /// How far a read-only transaction has come.
@@ -113,6 +111,8 @@ pub enum ReaderStage {
     Between,
     /// A statement is worked.
     Working(Item, ReaderWork),
+    /// All that a statement's job named is read in turn, before it is due again: this need, and then those from this place on.
+    Gathering(Item, Need, Needs, usize),
 }
 
 /// A read-only transaction. It wants no lock.

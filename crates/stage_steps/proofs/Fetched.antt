@@ -16,13 +16,10 @@ use Rattle.session_jobs.specs.Records.{Model, IsOrderly}
 use Rattle.stepped_jobs.specs.Needs.{IsLocked}
 use Rattle.session_states.specs.declared.stage.Work.TheVariants.{Due, Fetching}
 use Rattle.session_states.specs.declared.stage.Stage.TheVariants.{Working}
-use Rattle.session_states.specs.declared.stage.Phase.TheVariants.{Writing, Reading}
-use Rattle.session_states.specs.declared.stage.ReaderWork.{ReaderWork}
-use Rattle.session_states.specs.declared.stage.ReaderStage.TheVariants as look
-use Rattle.session_states.specs.States.{writer, reader}
+use Rattle.session_states.specs.declared.stage.Phase.TheVariants.{Writing}
+use Rattle.session_states.specs.States.{writer}
 use Rattle.session_states.specs.Shared.{Shared, with_shelf}
 use Rattle.session_states.proofs.Working.{reads}
-use Rattle.session_states.proofs.Reading.{reads-more}
 use Rattle.stage_steps.specs.Turns.{Comes}
 
 module _ (M : Model) (orderly : IsOrderly M) (s : ℕ) (c : Shared) (shelf : Shelf) (standing : Standing) (known new : Held) (item : Item) (n : Need) (moves : Moves s (c.shelf.seat s) c.shelf shelf)
@@ -41,7 +38,3 @@ module _ (M : Model) (orderly : IsOrderly M) (s : ℕ) (c : Shared) (shelf : She
     read-up left total =
         reads M orderly s c shelf left total standing known new spoken waits item (Fetching n) Due n
         (λ got h. h) (λ got h. tt) (λ ws seat h. h) (λ ws seat h. h) (λ p h. tt) counted refl moves.others moves.now moves.mine (record { agrees = agrees; guarded = guarded })
-
-  -- by a reader
-  pub reader-reads : (spoken : Bool) (a b : ReaderWork) → Comes M s c (Reading (reader standing known spoken (look.Working item a))) (with_shelf shelf c) (Reading (reader standing new spoken (look.Working item b))) []
-  reader-reads spoken a b left total = reads-more M orderly s c shelf left total standing known new spoken item a b moves.others moves.now moves.mine moves.space agrees

@@ -6,6 +6,7 @@ pub mod Jobs
 pub mod Tests
 pub mod Read
 pub mod Fetched
+pub mod ReaderRounds
 pub mod Firsts
 pub mod Unchanged
 pub mod Asked

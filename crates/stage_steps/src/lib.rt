@@ -13,6 +13,7 @@ mod items;
 mod journal;
 mod limits;
 mod outside;
+mod reader_round;
 mod reading;
 mod saying;
 mod serving;
@@ -31,6 +32,7 @@ pub use items::refused;
 pub use journal::want_journal;
 pub use limits::refuse_at_limit;
 pub use outside::{put_away, start};
+pub use reader_round::ReaderRound;
 pub use reading::{
     compute_reading, fetch_reading, forgo_reading, hand_out_reading, leave_reading, take_up_reading,
 };

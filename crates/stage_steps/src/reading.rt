@@ -1,5 +1,5 @@
 //! A read-only transaction, which wants no lock and has nothing to undo.
-ghost use Rattle.std.specs.Prelude.{◌≡◌, ◌||◌, ℕ, List, [], not, true, false};
+ghost use Rattle.std.specs.Prelude.{◌≡◌, ◌||◌, ℕ, List, [], not, true, false, Some};
 ghost use Rattle.rdo_ast.specs.Views.{uttered_of};
 ghost use Rattle.line_store.specs.Seats.{IsMember, IsReader};
 ghost use Rattle.line_view.specs.Held.{knows};
@@ -7,11 +7,11 @@ ghost use Rattle.session_jobs.specs.Jobs.{IsFound};
 ghost use Rattle.lock_tree_laws.specs.Forest.{State};
 ghost use Rattle.rdo_ast.specs.declared.syntax.Item.{Item as ItemValue};
 ghost use Rattle.session_states.specs.Shared.{Shared};
-ghost use Rattle.session_states.specs.States.{session};
+ghost use Rattle.session_states.specs.States.{reader_item, session};
 ghost use Rattle.session_states.specs.declared.stage.Phase.{Phase as PhaseValue};
 ghost use Rattle.session_measure.specs.Weights.{Beside, items_in};
 ghost use Rattle.session_measure.specs.Nearer.{has_out};
-ghost use Rattle.session_states.specs.declared.stage.ReaderWork.{ReaderWork as ReaderWorkValue};
+ghost use Rattle.session_states.specs.declared.stage.ReaderStage.{ReaderStage as ReaderStageValue};
 ghost use Rattle.stage_steps.specs.Happenings.{events_of};
 ghost use Rattle.stage_steps.specs.Leaving.{OnUnworked};
 ghost use Rattle.stage_steps.specs.Nearer.{Nearer};
@@ -20,6 +20,7 @@ ghost use Rattle.stage_steps.specs.Turns.{Comes, reads_at};
 
 use crate::happening::{Answer, Happening, Turned, failed, quiet};
 use crate::items::{End, end_of, goes_on, refused};
+use crate::reader_round::ReaderRound;
 use crate::terms::ReaderTerms;
 use line_store::{LineStore, Progress, ReadStop};
 use line_view::Need;
@@ -109,7 +110,7 @@ pub fn forgo_reading<S: Statements, L: LineStore>(
 ) -> Turned
     requires member { IsMember s.number }
     requires seat { IsReader ((L.sight store.old).stand s.number) }
-    ensures forgoes { (word : List ℕ) (locks : State) (work : ReaderWorkValue) → ComesIn S.stands s.number (scene word (L.sight store.old) locks) (reads_at terms (ReaderStage.Working item work)) (scene word (L.sight store.new) locks) result.phase result.happened }
+    ensures forgoes { (word : List ℕ) (locks : State) (stage : ReaderStageValue) → reader_item stage ≡ Some (uttered_of item) → ComesIn S.stands s.number (scene word (L.sight store.old) locks) (reads_at terms stage) (scene word (L.sight store.new) locks) result.phase result.happened }
     ensures worked { OnUnworked result.happened ⊥ }
     ensures rests { has_out result.phase ≡ false }
     ensures nearer { (c d : Beside) (x : PhaseValue) (left : List ItemValue) (total : ℕ) → items_in x ≡ 1 → Nearer s.number result.happened c d (session left total x) (session left total result.phase) }
@@ -145,7 +146,7 @@ fn say_reading<S: Statements>(terms: ReaderTerms, item: Item, worked: TxRecord) 
     }
 }
 
-/// Works the job of a statement at once, and takes what it came to: it is said, or what it lacks is read.
+/// Works the job of a statement at once, and takes what it came to: it is said, or all that it named is read.
 pub fn compute_reading<S: Statements, L: LineStore>(
     alloc: Global,
     word: &Word,
@@ -177,8 +178,13 @@ pub fn compute_reading<S: Statements, L: LineStore>(
     };
     match found {
         Found::Done(worked) => say_reading::<S>(back, job.item, worked),
-        Found::Missing { next, later: _ } => {
-            quiet(back.at(ReaderStage::Working(job.item, ReaderWork::Fetching(next))))
+        Found::Missing { next, later } => {
+            let round = ReaderRound {
+                item: job.item,
+                later,
+                place: 0,
+            };
+            quiet(back.at(round.at(next)))
         }
         // There is no such line.
         Found::Bad(_) => quiet(back.at(ReaderStage::Working(job.item, ReaderWork::Due))),
@@ -190,35 +196,28 @@ pub fn compute_reading<S: Statements, L: LineStore>(
     }
 }
 
-/// Reads what the job of a statement lacked; then the job is due again.
+/// Reads a need of a statement; then the next one is read, and behind the last the job is due again.
 pub fn fetch_reading<S: Statements, L: LineStore>(
     alloc: Global,
     store: &mut L,
     s: Session,
     terms: ReaderTerms,
-    item: Item,
+    round: ReaderRound,
     need: Need,
 ) -> Turned
     requires member { IsMember s.number }
     requires seat { IsReader ((L.sight store.old).stand s.number) }
-    ensures { (word : List ℕ) (locks : State) → ComesIn S.stands s.number (scene word (L.sight store.old) locks) (reads_at terms (ReaderStage.Working item (ReaderWork.Fetching need))) (scene word (L.sight store.new) locks) result.phase result.happened }
+    ensures { (word : List ℕ) (locks : State) → ComesIn S.stands s.number (scene word (L.sight store.old) locks) (reads_at terms (ReaderStage.Gathering round.item need round.later round.place)) (scene word (L.sight store.new) locks) result.phase result.happened }
 {
     // (readers write on no room)
     if let Need::Room(_) = need {
-        return quiet(terms.at(ReaderStage::Working(item, ReaderWork::Due)));
+        return quiet(terms.at(round.behind()));
     }
     let mut terms = terms;
     match fetch(store, s, need, &mut terms.known) {
-        Ok(Progress::Done) => quiet(terms.at(ReaderStage::Working(item, ReaderWork::Due))),
-        Ok(Progress::More) => {
-            quiet(terms.at(ReaderStage::Working(item, ReaderWork::Fetching(need))))
-        }
-        Err(ReadStop::NoMemory) => forgo_reading::<S, L>(alloc, store, s, terms, item),
-        Err(ReadStop::Fault(fault)) => {
-            failed(
-                fault,
-                terms.at(ReaderStage::Working(item, ReaderWork::Fetching(need))),
-            )
-        }
+        Ok(Progress::Done) => quiet(terms.at(round.behind())),
+        Ok(Progress::More) => quiet(terms.at(round.at(need))),
+        Err(ReadStop::NoMemory) => forgo_reading::<S, L>(alloc, store, s, terms, round.item),
+        Err(ReadStop::Fault(fault)) => failed(fault, terms.at(round.at(need))),
     }
 }

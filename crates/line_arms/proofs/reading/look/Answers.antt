@@ -1,3 +1,5 @@
+use Rattle.std.proofs.Common.{refl}
+use Rattle.session_states.specs.declared.stage.ReaderStage.TheVariants.{Working}
 use Rattle.stage_steps.specs.Scenes.{scene}
 use Rattle.line_arms.proofs.Arms.{quiet-comes, passes}
 use Rattle.line_arms.proofs.reading.look.Goals as goal
@@ -5,8 +7,5 @@ use Rattle.line_arms.proofs.reading.look.Goals as goal
 pub returns-else-allotment-eq0-clause-comes : goal.returns-else-allotment-eq0-clause-comes
 returns-else-allotment-eq0-clause-comes g c = rw c.in-Due.is (quiet-comes _ _ _ _ _ _ _ _ c.quiet.ensures.phase c.quiet.ensures.happened (passes _ c.args.s.number (scene c.args.common.now.word (g.L.LineStore.sight c.args.common.now.store) c.args.common.now.tree) _ _ c.hand_out_reading.ensures.passes))
 
-pub returns-in-Fetching-clause-comes : goal.returns-in-Fetching-clause-comes
-returns-in-Fetching-clause-comes g c = rw c.in-Fetching.is (c.fetch_reading.ensures c.args.common.now.word c.args.common.now.tree)
-
 pub returns-then-allotment-eq0-clause-comes : goal.returns-then-allotment-eq0-clause-comes
-returns-then-allotment-eq0-clause-comes g c = c.forgo_reading.ensures.forgoes c.args.common.now.word c.args.common.now.tree c.args.work
+returns-then-allotment-eq0-clause-comes g c = c.forgo_reading.ensures.forgoes c.args.common.now.word c.args.common.now.tree (Working c.args.item c.args.work) refl

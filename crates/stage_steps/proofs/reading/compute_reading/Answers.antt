@@ -6,8 +6,9 @@ use Rattle.session_jobs.specs.declared.jobs.Job.{Job}
 use Rattle.session_jobs.specs.declared.jobs.Found.{Found}
 use Rattle.session_jobs.specs.declared.jobs.Found.TheVariants.{Done}
 use Rattle.session_jobs.specs.Jobs.{IsFoundFor, IsFound}
-use Rattle.session_states.specs.declared.stage.ReaderWork.TheVariants.{Due, Out, Fetching}
-use Rattle.session_states.specs.declared.stage.ReaderStage.TheVariants.{Working}
+use Rattle.session_states.specs.declared.stage.ReaderWork.TheVariants.{Due, Out}
+use Rattle.session_states.specs.declared.stage.ReaderStage.{ReaderStage}
+use Rattle.session_states.specs.declared.stage.ReaderStage.TheVariants.{Working, Gathering}
 use Rattle.session_states.proofs.Reading.{goes-to-read}
 use Rattle.session_measure.proofs.Nearer.{nearer-in-round}
 use Rattle.stage_steps.specs.declared.happening.Happening.TheVariants.{Quiet, Unworked}
@@ -19,7 +20,7 @@ use Rattle.stage_steps.proofs.Seated.{reads-on}
 use Rattle.stage_steps.proofs.reading.compute_reading.Goals as goal
 
 pub returns-in_default-clause-comes : goal.returns-in_default-clause-comes
-returns-in_default-clause-comes g c locks = c.forgo_reading.ensures.forgoes c.args.word.now locks Out
+returns-in_default-clause-comes g c locks = c.forgo_reading.ensures.forgoes c.args.word.now locks (Working c.args.item Out) refl
 
 pub returns-in-Done-clause-comes : goal.returns-in-Done-clause-comes
 returns-in-Done-clause-comes g c locks =
@@ -33,15 +34,15 @@ returns-in-Done-clause-comes g c locks =
 
 pub returns-clause-comes : goal.returns-clause-comes
 returns-clause-comes g c locks =
-    subst (λ (j : Job). ComesIn g.S.Statements.stands c.args.s.number (scene c.args.word.now (g.L.LineStore.sight c.args.store.now) locks) (reads_at (record { standing = j.standing; known = j.known; spoken = c.args.terms.spoken }) (Working j.item Out)) (scene c.args.word.now (g.L.LineStore.sight c.forgo_reading-in-NoMemory.new.store) locks) c.forgo_reading-in-NoMemory.result.phase c.forgo_reading-in-NoMemory.result.happened) (c.into_parts-job.ensures.job ∙ c.of.ensures) (c.forgo_reading-in-NoMemory.ensures.forgoes c.args.word.now locks Out)
+    subst (λ (j : Job). ComesIn g.S.Statements.stands c.args.s.number (scene c.args.word.now (g.L.LineStore.sight c.args.store.now) locks) (reads_at (record { standing = j.standing; known = j.known; spoken = c.args.terms.spoken }) (Working j.item Out)) (scene c.args.word.now (g.L.LineStore.sight c.forgo_reading-in-NoMemory.new.store) locks) c.forgo_reading-in-NoMemory.result.phase c.forgo_reading-in-NoMemory.result.happened) (c.into_parts-job.ensures.job ∙ c.of.ensures) (c.forgo_reading-in-NoMemory.ensures.forgoes c.args.word.now locks (Working c.into_parts-job.result.0.item Out) refl)
 
 pub returns-in-Missing-clause-comes : goal.returns-in-Missing-clause-comes
 returns-in-Missing-clause-comes g c locks =
     let here = scene c.args.word.now (g.L.LineStore.sight c.args.store.now) locks in
     let job = c.into_parts-job.result.0 in
-    comes-as g.S.Statements.stands c.args.s.number _ _ _ _ _ _ _ (c.quiet.ensures.phase ∙ c.at.ensures) c.quiet.ensures.happened (subst (λ (j : Job). ComesIn g.S.Statements.stands c.args.s.number here (reads_at (record { standing = j.standing; known = j.known; spoken = c.args.terms.spoken }) (Working j.item Out)) here (reads_at (record { standing = job.standing; known = job.known; spoken = c.args.terms.spoken }) (Working job.item (Fetching c.in-Missing.next))) Quiet) (c.into_parts-job.ensures.job ∙ c.of.ensures)
+    comes-as g.S.Statements.stands c.args.s.number _ _ _ _ _ _ _ (c.quiet.ensures.phase ∙ c.at-2.ensures ∙ ap (λ (x : ReaderStage). reads_at (record { standing = job.standing; known = job.known; spoken = c.args.terms.spoken }) x) c.at.ensures) c.quiet.ensures.happened (subst (λ (j : Job). ComesIn g.S.Statements.stands c.args.s.number here (reads_at (record { standing = j.standing; known = j.known; spoken = c.args.terms.spoken }) (Working j.item Out)) here (reads_at (record { standing = job.standing; known = job.known; spoken = c.args.terms.spoken }) (Gathering job.item c.in-Missing.next c.in-Missing.later 0)) Quiet) (c.into_parts-job.ensures.job ∙ c.of.ensures)
     (goes-still c.args.s.number _ Alive _ Alive _ _ _ refl (λ f. reads-on _ _ locks c.args.s.number _ _ refl f) (λ u other. refl) (nearer-in-round c.args.s.number _ _ _ _ refl refl refl refl (omega arith))
-    (λ h shown dead left total. goes-to-read g.S.Statements.stands g.met.S.Statements.orderly c.args.s.number (shared c.args.word.now h locks dead) left total job.standing job.known c.args.terms.spoken job.item Out (Fetching c.in-Missing.next))))
+    (λ h shown dead left total. goes-to-read g.S.Statements.stands g.met.S.Statements.orderly c.args.s.number (shared c.args.word.now h locks dead) left total job.standing job.known c.args.terms.spoken (Working job.item Out) (Gathering job.item c.in-Missing.next c.in-Missing.later 0) refl (λ stays. stays))))
 
 pub returns-in-Bad-clause-comes : goal.returns-in-Bad-clause-comes
 returns-in-Bad-clause-comes g c locks =
@@ -49,7 +50,7 @@ returns-in-Bad-clause-comes g c locks =
     let job = c.into_parts-job.result.0 in
     comes-as g.S.Statements.stands c.args.s.number _ _ _ _ _ _ _ (c.quiet-in-Bad.ensures.phase ∙ c.at-in-Bad.ensures) c.quiet-in-Bad.ensures.happened (subst (λ (j : Job). ComesIn g.S.Statements.stands c.args.s.number here (reads_at (record { standing = j.standing; known = j.known; spoken = c.args.terms.spoken }) (Working j.item Out)) here (reads_at (record { standing = job.standing; known = job.known; spoken = c.args.terms.spoken }) (Working job.item Due)) Quiet) (c.into_parts-job.ensures.job ∙ c.of.ensures)
     (goes-still c.args.s.number _ Alive _ Alive _ _ _ refl (λ f. reads-on _ _ locks c.args.s.number _ _ refl f) (λ u other. refl) (nearer-in-round c.args.s.number _ _ _ _ refl refl refl refl (omega arith))
-    (λ h shown dead left total. goes-to-read g.S.Statements.stands g.met.S.Statements.orderly c.args.s.number (shared c.args.word.now h locks dead) left total job.standing job.known c.args.terms.spoken job.item Out Due)))
+    (λ h shown dead left total. goes-to-read g.S.Statements.stands g.met.S.Statements.orderly c.args.s.number (shared c.args.word.now h locks dead) left total job.standing job.known c.args.terms.spoken (Working job.item Out) (Working job.item Due) refl (λ stays. stays))))
 
 pub returns-in-Unworked-clause-comes : goal.returns-in-Unworked-clause-comes
 returns-in-Unworked-clause-comes g c locks =
@@ -57,4 +58,4 @@ returns-in-Unworked-clause-comes g c locks =
     let job = c.into_parts-job.result.0 in
     rw c.at-in-Unworked.ensures (subst (λ (j : Job). ComesIn g.S.Statements.stands c.args.s.number here (reads_at (record { standing = j.standing; known = j.known; spoken = c.args.terms.spoken }) (Working j.item Out)) here (reads_at (record { standing = job.standing; known = job.known; spoken = c.args.terms.spoken }) (Working job.item Due)) Unworked) (c.into_parts-job.ensures.job ∙ c.of.ensures)
     (goes-still c.args.s.number _ Alive _ Alive _ _ _ refl (λ f. reads-on _ _ locks c.args.s.number _ _ refl f) (λ u other. refl) (λ left total. tt)
-    (λ h shown dead left total. goes-to-read g.S.Statements.stands g.met.S.Statements.orderly c.args.s.number (shared c.args.word.now h locks dead) left total job.standing job.known c.args.terms.spoken job.item Out Due)))
+    (λ h shown dead left total. goes-to-read g.S.Statements.stands g.met.S.Statements.orderly c.args.s.number (shared c.args.word.now h locks dead) left total job.standing job.known c.args.terms.spoken (Working job.item Out) (Working job.item Due) refl (λ stays. stays))))

@@ -10,15 +10,15 @@ use Rattle.stage_steps.proofs.Tests.{first-starts}
 use Rattle.stage_steps.proofs.reading.forgo_reading.Goals as goal
 
 pub returns-then-goes_on-clause-forgoes : goal.returns-then-goes_on-clause-forgoes
-returns-then-goes_on-clause-forgoes g c word locks work =
+returns-then-goes_on-clause-forgoes g c word locks stage is =
     rw (c.refused.ensures, c.spoken.ensures) (goes-still c.args.s.number _ Alive _ Alive _ _ _ refl (λ f. reads-on _ _ locks c.args.s.number _ _ refl f) (λ u other. refl) (nearer-answered c.args.s.number _ _ _ _ (omega arith))
-    (λ h shown dead left total. forgoes-to-reader g.S.Statements.stands g.met.S.Statements.orderly c.args.s.number (shared word h locks dead) left total c.args.terms.standing c.args.terms.known c.args.terms.spoken c.args.item work (sym c.goes_on.ensures ∙ c.if-goes_on.true)))
+    (λ h shown dead left total. forgoes-to-reader g.S.Statements.stands g.met.S.Statements.orderly c.args.s.number (shared word h locks dead) left total c.args.terms.standing c.args.terms.known c.args.terms.spoken c.args.item stage is (sym c.goes_on.ensures ∙ c.if-goes_on.true)))
 
 pub returns-clause-forgoes : goal.returns-clause-forgoes
-returns-clause-forgoes g c word locks work =
+returns-clause-forgoes g c word locks stage is =
     let first = first-starts c.args.terms.spoken _ (sym c.goes_on.ensures ∙ c.if-goes_on.false) in
     rw (c.refused-2.ensures, first.0) (goes c.args.s.number _ Alive _ Alive _ _ _ _ _ (λ e f. reads-out _ _ locks c.args.s.number _ e f) (λ u other. refl) (nearer-answered c.args.s.number _ _ _ _ (omega arith))
-    (λ h k shown told r dead left total. reader-unstarted-on g.S.Statements.stands g.met.S.Statements.orderly c.args.s.number (shared word h locks dead) k left total c.args.terms.standing c.args.terms.known c.args.item work first.1 r)
+    (λ h k shown told r dead left total. reader-unstarted-on g.S.Statements.stands g.met.S.Statements.orderly c.args.s.number (shared word h locks dead) k left total c.args.terms.standing c.args.terms.known c.args.item stage is first.1 r)
     c.end_reading.ensures.does)
 
 pub returns-then-goes_on-clause-nearer : goal.returns-then-goes_on-clause-nearer
