@@ -89,8 +89,8 @@ module _ (M : Model) (orderly : IsOrderly M) (told : Type 0) (o : Opening) (faul
               g.does;
         } in
         let counted : told → CountsFaults faults (failures (events ++ Died (suc i) cause ∷ []) halt) d.sight = λ t.
-            counts-fewer faults (failures (events ++ Died (suc i) cause ∷ []) halt) (device_deaths events + faults_of cause) d.sight (one-death events (suc i) cause halt going)
-            (counts-fallen _ (Died (suc i) cause ∷ []) (session left total x) (dead_session left total x) halt found refl goes (device_deaths events + faults_of cause) (caused t)) in
+        counts-fewer faults (failures (events ++ Died (suc i) cause ∷ []) halt) (device_deaths events + faults_of cause) d.sight (one-death events (suc i) cause halt going)
+        (counts-fallen _ (Died (suc i) cause ∷ []) (session left total x) (dead_session left total x) halt found refl goes (device_deaths events + faults_of cause) (caused t)) in
         fallen _ (Died (suc i) cause ∷ []) (session left total x) (dead_session left total x) halt found refl goes counted
 
     life-of-behind : (result : Result Recovery Fault) → (recovered_by result left total x).life ≡ life_behind result
@@ -124,8 +124,8 @@ module _ (M : Model) (orderly : IsOrderly M) (told : Type 0) (o : Opening) (faul
         } in
         let on : told → CountsFaults faults (failures events None) d.sight = λ t. counts-fallen _ (recovery_events (suc i) result) (dead_session left total x) (recovered_by result left total x) halt found (phase-of-behind result) goes (failures events None) (was.causes t) in
         let counted : told → CountsFaults faults (failures (events ++ recovery_events (suc i) result) halt) d.sight = λ t.
-            counts-fewer faults (failures (events ++ recovery_events (suc i) result) halt) (failures events None + failed_in result) d.sight (recovery-fails events (suc i) result None halt says)
-            (counts-recovered faults (suc i) (failures events None) c d left total x result (g.nearer left total) (was.causes t) (on t)) in
+        counts-fewer faults (failures (events ++ recovery_events (suc i) result) halt) (failures events None + failed_in result) d.sight (recovery-fails events (suc i) result None halt says)
+        (counts-recovered faults (suc i) (failures events None) c d left total x result (g.nearer left total) (was.causes t) (on t)) in
         fallen _ (recovery_events (suc i) result) (dead_session left total x) (recovered_by result left total x) halt found (phase-of-behind result) goes counted
 
 -- ---- as the code has it
