@@ -1,6 +1,5 @@
 -- Sessions that have said nothing are sound.
 use Rattle.std.proofs.Common.{◌≡◌, ◌≤◌, ℕ, zero, suc, ◌∷◌, [], List, length, map, refl, ◌∙◌, sym, ap, subst, arith, Some, None, slice_get, inl, inr}
-use Rattle.std.proofs.lemmas.Bool.{false≢true}
 use Rattle.std.proofs.lemmas.Option.{none-some, same_Some}
 use Rattle.rdo_ast.specs.declared.syntax.Item.{Item}
 use Rattle.rdo_ast.specs.Views.{uttered_of}
@@ -24,6 +23,7 @@ use Rattle.rdb_account.specs.Events.{event_of}
 use Rattle.rdb_account.specs.declared.event.Event.{Event as Declared}
 use Rattle.line_cluster.proofs.Stepping.{told-images}
 use Rattle.line_cluster.specs.Sound.{IsSound, AreSound, FollowsScripts, IsOpenedBy, MayFail, fresh_member}
+use Rattle.line_cluster.proofs.Faults.{rose-none}
 
 map-got : {A B : Type 0} (f : A → B) (xs : List A) (i : ℕ) (y : B) → slice_get (map f xs) i ≡ Some y → (x : A) × (slice_get xs i ≡ Some x) × (f x ≡ y)
 map-got f [] i y h = absurd (none-some y h)
@@ -45,7 +45,7 @@ begins M orderly told o faults c scripts agrees stands openable away parties tra
   seated = λ none. sits;
   kept = λ none t. tells t;
   images = λ t. told-images M orderly o c.word c.sight stands c.locks (map fresh_member scripts) [] sits (tells t);
-  causes = λ t. let is : IsOpenedBy M o faults c.word c.sight = opens t in record { shelf = is.shelf; shown = is.shown; no_fewer = is.no_fewer; rose = λ h. absurd (false≢true h) };
+  causes = λ t. let is : IsOpenedBy M o faults c.word c.sight = opens t in record { shelf = is.shelf; shown = is.shown; rose = rose-none faults is.shelf.clock.faults is.no_fewer };
 }
   where
     fresh-phase : (i : ℕ) (m : Member) → slice_get (map fresh_member scripts) i ≡ Some m → (m.phase ≡ Outside) × (m.life ≡ Alive)

@@ -1,9 +1,10 @@
 -- How many faults are counted, and why.
-use Rattle.std.proofs.Common.{◌≡◌, ◌≤◌, ◌||◌, ℕ, Bool, true, false, List, [], ◌∷◌, ◌++◌, refl, sym, ◌∙◌, arith, Option, Some, None, Result, Ok, Err}
-use Rattle.std.proofs.lemmas.Bool.{false≢true}
-use Rattle.std.proofs.lemmas.List.Folds.{list_any-append}
+use Rattle.std.proofs.Common.{◌≡◌, ◌≤◌, ◌+◌, ℕ, Bool, false, cond, List, [], ◌∷◌, ◌++◌, refl, ap, sym, subst, arith, Option, Some, None, Result, Ok, Err}
+use Rattle.std.proofs.lemmas.List.Sums.{sum_by-append}
 use Rattle.rdb_types.specs.declared.node.Node.{Node}
 use Rattle.rdb_types.specs.declared.session.Cause.{Cause}
+use Rattle.rdb_types.specs.declared.session.Cause.TheVariants.{Device}
+use Rattle.rdo_ast.specs.declared.syntax.Item.{Item}
 use Rattle.rdb_outside.specs.Causes.{Rose}
 use Rattle.rdb_account.specs.Events.{Event, Died}
 use Rattle.lock_needs.specs.declared.need.Need.{Need}
@@ -15,75 +16,65 @@ use Rattle.line_store.specs.Seats.{Seat}
 use Rattle.line_store.specs.Shelves.{Shelf, Elapses}
 use Rattle.line_store.specs.Calls.{Fails}
 use Rattle.line_store.specs.Sights.{Sight, Behind, Does}
+use Rattle.session_states.specs.declared.stage.Phase.{Phase}
 use Rattle.stage_steps.specs.declared.dying.Recovery.{Recovery}
 use Rattle.stage_steps.specs.declared.dying.Recovery.TheVariants.{More, Done}
 use Rattle.stage_steps.specs.declared.happening.Happening.{Happening}
 use Rattle.stage_steps.specs.declared.happening.Happening.TheVariants.{Quiet, Began, Answered, Unstarted, Asleep, Noticed, Got, Refused, RefusedStart, Committed, RolledBack, Left, Failed, Unlaid, Unworked, Unanswered}
-use Rattle.stage_steps.specs.Deaths.{recovery_events}
 use Rattle.stage_steps.specs.Happenings.{events_of}
 use Rattle.stage_steps.specs.Notices.{demoted_by}
-use Rattle.stage_steps.specs.Scenes.{HasFailed}
-use Rattle.line_cluster.specs.Deaths.{is_device, is_device_death, has_device_deaths, CountsFaults}
+use Rattle.stage_steps.specs.Scenes.{Scene, HasFailed}
+use Rattle.stage_steps.specs.Deaths.{NearerRecoveredIn, recovery_events}
+use Rattle.line_cluster.specs.declared.sessions.Halt.{Halt}
+use Rattle.line_cluster.specs.declared.sessions.Halt.TheVariants as halts
+use Rattle.line_cluster.specs.Deaths.{is_device, is_device_death, device_deaths, failures, faults_in, faults_of, CountsFaults, RoseBy}
 
 -- ---- counts
 
-no-fewer : (a b c : ℕ) → a ≤ b → b ≤ c → a ≤ c
-no-fewer a b c h k = omega (arith, h, k)
+rose-on : (n a b c : ℕ) → b ≤ c → RoseBy n a b → RoseBy n a c
+rose-on n a b c later rose = omega (arith, later, rose)
 
-rose-on : (a b c : ℕ) → b ≤ c → Rose a b → Rose a c
-rose-on a b c later rose = omega (arith, later, rose)
+rose-more : (n a b c : ℕ) → RoseBy n a b → Rose b c → RoseBy (n + 1) a c
+rose-more n a b c before rose = omega (arith, before, rose)
 
-rose-behind : (a b c : ℕ) → a ≤ b → Rose b c → Rose a c
-rose-behind a b c before rose = omega (arith, before, rose)
+rose-fewer : (m n a b : ℕ) → m ≤ n → RoseBy n a b → RoseBy m a b
+rose-fewer m n a b fewer rose = omega (arith, fewer, rose)
+
+pub rose-none : (a b : ℕ) → a ≤ b → RoseBy 0 a b
+rose-none a b later = omega (arith, later)
 
 module _ (faults s : ℕ) (old new : Sight) where
   -- a call goes on from each shelf
-  pub counts-on : (risen then : Type 0) (there : Seat) (R : Shelf → Shelf → Type 0) → (then → risen) → ((h g : Shelf) → R h g → Elapses h.clock g.clock) → Does s there R old new → CountsFaults faults risen old → CountsFaults faults then new
-  counts-on risen then there R back later does k =
+  pub counts-on : (n : ℕ) (there : Seat) (R : Shelf → Shelf → Type 0) → ((h g : Shelf) → R h g → Elapses h.clock g.clock) → Does s there R old new → CountsFaults faults n old → CountsFaults faults n new
+  counts-on n there R later does k =
       let it : Behind old new R k.shelf = does.each k.shelf k.shown in
       let on : Elapses (k.shelf).clock (it.shelf).clock = later k.shelf it.shelf it.related in
-      record {
-        shelf = it.shelf;
-        shown = it.shown;
-        no_fewer = no-fewer faults k.shelf.clock.faults it.shelf.clock.faults k.no_fewer on.no_fewer;
-        rose = λ h. rose-on faults k.shelf.clock.faults it.shelf.clock.faults on.no_fewer (k.rose (back h));
-      }
+      record { shelf = it.shelf; shown = it.shown; rose = rose-on n faults k.shelf.clock.faults it.shelf.clock.faults on.no_fewer k.rose }
 
   -- a device call failed
-  pub counts-failed : (risen then : Type 0) → HasFailed s fault.Failed old new → CountsFaults faults risen old → CountsFaults faults then new
-  counts-failed risen then failed k =
+  pub counts-failed : (n : ℕ) → HasFailed s fault.Failed old new → CountsFaults faults n old → CountsFaults faults (n + 1) new
+  counts-failed n failed k =
       let it : Behind old new (Fails s fault.Failed) k.shelf = failed k.shelf k.shown in
       let fails : Fails s fault.Failed k.shelf it.shelf = it.related in
-      record {
-        shelf = it.shelf;
-        shown = it.shown;
-        no_fewer = no-fewer faults k.shelf.clock.faults it.shelf.clock.faults k.no_fewer fails.moves.others.later.no_fewer;
-        rose = λ h. rose-behind faults k.shelf.clock.faults it.shelf.clock.faults k.no_fewer fails.cause;
-      }
+      record { shelf = it.shelf; shown = it.shown; rose = rose-more n faults k.shelf.clock.faults it.shelf.clock.faults k.rose fails.cause }
+
+pub counts-fewer : (faults m n : ℕ) (sight : Sight) → m ≤ n → CountsFaults faults n sight → CountsFaults faults m sight
+counts-fewer faults m n sight fewer k = record { shelf = k.shelf; shown = k.shown; rose = rose-fewer m n faults k.shelf.clock.faults fewer k.rose }
 
 -- ---- events
 
-or-first : (a b : Bool) → b ≡ false → (a || b) ≡ true → a ≡ true
-or-first true b none h = refl
-or-first false b none h = absurd (false≢true (sym none ∙ h))
+deaths-append : (events es : List Event) → device_deaths (events ++ es) ≡ device_deaths events + device_deaths es
+deaths-append events es = sum_by-append (λ e. cond (is_device_death e) 1 0) events es
 
--- where the new events tell of no death of a device, those before do
-pub died-before : (events es : List Event) → has_device_deaths es ≡ false → has_device_deaths (events ++ es) ≡ true → has_device_deaths events ≡ true
-died-before events es none h = or-first (has_device_deaths events) (has_device_deaths es) none (sym (list_any-append is_device_death events es) ∙ h)
-
-wanted-alive : (s : ℕ) (n : Need) (nodes : List Node) → has_device_deaths (wanted_at s n nodes) ≡ false
+wanted-alive : (s : ℕ) (n : Need) (nodes : List Node) → device_deaths (wanted_at s n nodes) ≡ 0
 wanted-alive s n [] = refl
-wanted-alive s n (m ∷ ms) = wanted-alive s n ms
+wanted-alive s n (m ∷ ms) = let e = wanted-alive s n ms in omega (arith, e)
 
-neither-died : (es fs : List Event) → has_device_deaths es ≡ false → has_device_deaths fs ≡ false → has_device_deaths (es ++ fs) ≡ false
-neither-died es fs h k = list_any-append is_device_death es fs ∙ neither (has_device_deaths es) (has_device_deaths fs) h k
-  where
-    neither : (a b : Bool) → a ≡ false → b ≡ false → (a || b) ≡ false
-    neither true b h k = h
-    neither false b h k = k
+neither-died : (es fs : List Event) → device_deaths es ≡ 0 → device_deaths fs ≡ 0 → device_deaths (es ++ fs) ≡ 0
+neither-died es fs h k = let e = deaths-append es fs in omega (arith, e, h, k)
 
 -- nobody dies in a step
-pub step-alive : (s : ℕ) (h : Happening) → has_device_deaths (events_of s h) ≡ false
+pub step-alive : (s : ℕ) (h : Happening) → device_deaths (events_of s h) ≡ 0
 step-alive s Quiet = refl
 step-alive s (Began kind) = refl
 step-alive s (Answered a) = refl
@@ -101,29 +92,70 @@ step-alive s (Unlaid key) = refl
 step-alive s Unworked = refl
 step-alive s (Unanswered item) = refl
 
-pub demotion-alive : (s : ℕ) (node : Node) (d : Option Demotion) → has_device_deaths (demoted_by s node d) ≡ false
+pub demotion-alive : (s : ℕ) (node : Node) (d : Option Demotion) → device_deaths (demoted_by s node d) ≡ 0
 demotion-alive s node (Some d) = refl
 demotion-alive s node None = refl
 
-pub recovery-alive : (s : ℕ) (r : Result Recovery Fault) → has_device_deaths (recovery_events s r) ≡ false
+recovery-alive : (s : ℕ) (r : Result Recovery Fault) → device_deaths (recovery_events s r) ≡ 0
 recovery-alive s (Ok (Done committed moment)) = refl
 recovery-alive s (Ok More) = refl
 recovery-alive s (Err fault) = refl
 
--- ---- a death
+-- ---- failures
 
-alone : (a : Bool) → a ≡ false → (a || false) ≡ false
-alone true e = e
-alone false e = refl
+-- where nobody died of a device in the new events, and no session was stopped for a device's fault, it tells of no more
+pub no-more : (events es : List Event) (old new : Option Halt) → device_deaths es ≡ 0 → faults_in new ≡ 0 → failures (events ++ es) new ≤ failures events old
+no-more events es old new alive quiet = let e = deaths-append events es in omega (arith, e, alive, quiet)
 
--- a death of a device for which they rose, or one of something else
-pub counts-died : (faults : ℕ) (sight : Sight) (events : List Event) (s : ℕ) (cause : Cause) → CountsFaults faults (has_device_deaths events ≡ true) sight → CountsFaults faults (is_device cause ≡ true) sight → CountsFaults faults (has_device_deaths (events ++ Died s cause ∷ []) ≡ true) sight
-counts-died faults sight events s cause before caused = by (is_device cause) refl
-  where
-    by : (b : Bool) → is_device cause ≡ b → CountsFaults faults (has_device_deaths (events ++ Died s cause ∷ []) ≡ true) sight
-    by true is = record { shelf = caused.shelf; shown = caused.shown; no_fewer = caused.no_fewer; rose = λ h. caused.rose is }
-    by false is = record { shelf = before.shelf; shown = before.shown; no_fewer = before.no_fewer; rose = λ h. before.rose (died-before events (Died s cause ∷ []) (alone (is_device cause) is) h) }
+-- who was stopped for something else
+pub stopped-no-more : (events : List Event) (old new : Option Halt) → faults_in new ≡ 0 → failures events new ≤ failures events old
+stopped-no-more events old new quiet = omega (arith, quiet)
 
--- one of something else
-pub counts-otherwise : (faults : ℕ) (risen : Type 0) (sight : Sight) (cause : Cause) → is_device cause ≡ false → CountsFaults faults risen sight → CountsFaults faults (is_device cause ≡ true) sight
-counts-otherwise faults risen sight cause other k = record { shelf = k.shelf; shown = k.shown; no_fewer = k.no_fewer; rose = λ is. absurd (false≢true (sym other ∙ is)) }
+death-of : (s : ℕ) (cause : Cause) → device_deaths (Died s cause ∷ []) ≡ faults_of cause + 0
+death-of s cause = refl
+
+-- a death, and the fault for it
+pub one-death : (events : List Event) (s : ℕ) (cause : Cause) (halt : Option Halt) → faults_in halt ≡ 0 → failures (events ++ Died s cause ∷ []) halt ≤ device_deaths events + faults_of cause
+one-death events s cause halt going = let e = deaths-append events (Died s cause ∷ []) in let d = death-of s cause in omega (arith, e, d, going)
+
+-- of a device whose call failed just now
+pub failed-death : (events : List Event) (halt : Option Halt) → device_deaths events + faults_of Device ≤ failures events halt + 1
+failed-death events halt = omega arith
+
+-- of something else than a device
+pub other-death : (events : List Event) (cause : Cause) (halt : Option Halt) → is_device cause ≡ false → device_deaths events + faults_of cause ≤ failures events halt
+other-death events cause halt other = let e : faults_of cause ≡ 0 = ap (λ (b : Bool). cond b 1 0) other in omega (arith, e)
+
+-- ---- a recovery
+
+-- how many device calls failed in its step
+abbrev pub failed_in : Result Recovery Fault → ℕ
+failed_in (Err fault.Failed) = 1
+failed_in _ = 0
+
+pub recovery-fails : (events : List Event) (s : ℕ) (r : Result Recovery Fault) (old new : Option Halt) → faults_in new ≤ failed_in r → failures (events ++ recovery_events s r) new ≤ failures events old + failed_in r
+recovery-fails events s r old new says = let e = deaths-append events (recovery_events s r) in let alive = recovery-alive s r in omega (arith, e, alive, says)
+
+says-fault : (fault : Fault) → faults_in (Some (halts.Device fault)) ≤ failed_in (Err fault)
+says-fault fault.Failed = omega arith
+says-fault (fault.Bad file slot) = omega arith
+
+-- the halt tells of no more than failed
+pub fault-within : (r : Result Recovery Fault) (fault : Fault) → r ≡ Err fault → faults_in (Some (halts.Device fault)) ≤ failed_in r
+fault-within r fault is = subst (λ (x : Result Recovery Fault). faults_in (Some (halts.Device fault)) ≤ failed_in x) (sym is) (says-fault fault)
+
+from-none : (n m : ℕ) → n ≡ 0 → n ≤ m
+from-none n m none = omega (arith, none)
+
+pub quiet-within : (r : Result Recovery Fault) (halt : Option Halt) → halt ≡ None → faults_in halt ≤ failed_in r
+quiet-within r halt none = from-none (faults_in halt) (failed_in r) (ap faults_in none)
+
+module _ (faults s n : ℕ) (c d : Scene) (left : List Item) (total : ℕ) (x : Phase) where
+  none-failed : (r : Result Recovery Fault) → failed_in r ≡ 0 → CountsFaults faults n d.sight → CountsFaults faults (n + failed_in r) d.sight
+  none-failed r none k = counts-fewer faults (n + failed_in r) n d.sight (omega (arith, none)) k
+
+  -- its fault is counted
+  pub counts-recovered : (r : Result Recovery Fault) → NearerRecoveredIn s r c d left total x → CountsFaults faults n c.sight → CountsFaults faults n d.sight → CountsFaults faults (n + failed_in r) d.sight
+  counts-recovered (Err fault.Failed) near before on = counts-failed faults s c.sight d.sight n near before
+  counts-recovered (Err (fault.Bad file slot)) near before on = none-failed (Err (fault.Bad file slot)) refl on
+  counts-recovered (Ok step) near before on = none-failed (Ok step) refl on

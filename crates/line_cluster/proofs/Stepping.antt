@@ -40,9 +40,9 @@ use Rattle.line_cluster.specs.declared.behind.Notice.{Notice}
 use Rattle.line_cluster.specs.Behind.{IsNoticed, is_moving}
 use Rattle.line_cluster.proofs.Places.{suc-less, set-same}
 use Rattle.line_cluster.proofs.Measured.{set-found}
-use Rattle.line_cluster.specs.Deaths.{CountsFaults, has_device_deaths}
+use Rattle.line_cluster.specs.Deaths.{CountsFaults, device_deaths, failures, faults_in}
 use Rattle.line_cluster.specs.Sound.{HasImages, IsSound}
-use Rattle.line_cluster.proofs.Faults.{counts-on, died-before, step-alive}
+use Rattle.line_cluster.proofs.Faults.{counts-fewer, counts-on, no-more, step-alive, stopped-no-more}
 
 -- what a crash leaves, of what is told
 pub told-images : (M : Model) → IsOrderly M → (o : Opening) (word : List ℕ) (sight : Sight) → Stands sight → (locks : State) (members : List Member) (events : List Event) → AreSeated sight.stand locks members → IsTold M o word sight locks members events → HasImages M o sight events
@@ -52,6 +52,17 @@ told-images M orderly o word sight stands locks members events sits k = record {
   now = λ lines l. stand-now M o (sharing word k.shelf locks (dead_in members)) members events k.kept sight.stand sits orderly lines (stands k.shelf k.shown lines l);
   since = k.images;
 }
+
+-- no session goes on any more, for something else than a device
+pub stops : (M : Model) (told : Type 0) (o : Opening) (faults : ℕ) (c : Scene) (members : List Member) (events more : List Event) (old : Option Halt) (halt : Halt) → more ≡ events → faults_in (Some halt) ≡ 0 →
+    IsSound M told o faults c members events old → IsSound M told o faults c members more (Some halt)
+stops M told o faults c members events more old halt same quiet was = subst (λ (es : List Event). IsSound M told o faults c members es (Some halt)) (sym same) (record {
+  legal = was.legal;
+  seated = λ none. cc none;
+  kept = λ none. cc none;
+  images = was.images;
+  causes = λ t. counts-fewer faults (failures events (Some halt)) (failures events old) c.sight (stopped-no-more events old (Some halt) quiet) (was.causes t);
+})
 
 -- what is handed back is no event
 back-quiet : (s : ℕ) (h : Happening) (item : Item) (more : List Item) → handed_back h ≡ item ∷ more → events_of s h ≡ []
@@ -94,30 +105,30 @@ module _ (M : Model) (orderly : IsOrderly M) (told : Type 0) (o : Opening) (faul
       (was.kept refl t)
 
   -- faults are counted on
-  goes-counted : (es : List Event) → has_device_deaths es ≡ false → (N : Type 0) → GoesWith es N → CountsFaults faults (has_device_deaths events ≡ true) c.sight → CountsFaults faults (has_device_deaths (events ++ es) ≡ true) d.sight
-  goes-counted es alive N g = counts-on faults (suc i) c.sight d.sight (has_device_deaths events ≡ true) (has_device_deaths (events ++ es) ≡ true) (d.sight.stand (suc i))
-      (λ h k. (dead n : ℕ) → Step M (suc i) (on_shelf c h dead) (session left n x) (on_shelf d k dead) (session rest n y) es)
-      (died-before events es alive) (λ h k all. (all 0 0).others.store.later) g.does
+  goes-counted : (es : List Event) (halt : Option Halt) → device_deaths es ≡ 0 → faults_in halt ≡ 0 → (N : Type 0) → GoesWith es N → CountsFaults faults (failures events None) c.sight → CountsFaults faults (failures (events ++ es) halt) d.sight
+  goes-counted es halt alive quiet N g k = counts-fewer faults (failures (events ++ es) halt) (failures events None) d.sight (no-more events es None halt alive quiet)
+      (counts-on faults (suc i) c.sight d.sight (failures events None) (d.sight.stand (suc i)) (λ h k. (dead n : ℕ) → Step M (suc i) (on_shelf c h dead) (session left n x) (on_shelf d k dead) (session rest n y) es)
+      (λ h k all. (all 0 0).others.store.later) g.does k)
 
   -- the session went on
-  pub moved : (N : Type 0) (es : List Event) (halt : Option Halt) → has_device_deaths es ≡ false → GoesWith es N → IsSound M told o faults d (slice_set members i (session rest total y)) (events ++ es) halt
-  moved N es halt alive g = record {
+  pub moved : (N : Type 0) (es : List Event) (halt : Option Halt) → device_deaths es ≡ 0 → faults_in halt ≡ 0 → GoesWith es N → IsSound M told o faults d (slice_set members i (session rest total y)) (events ++ es) halt
+  moved N es halt alive quiet g = record {
     legal = λ t. (tells N es g t).kept.right.legal;
     seated = λ none. sits N es g;
     kept = λ none t. tells N es g t;
     images = λ t. told-images M orderly o d.word d.sight stands d.locks (slice_set members i (session rest total y)) (events ++ es) (sits N es g) (tells N es g t);
-    causes = λ t. goes-counted es alive N g (was.causes t);
+    causes = λ t. goes-counted es halt alive quiet N g (was.causes t);
   }
 
 module _ (M : Model) (orderly : IsOrderly M) (told : Type 0) (o : Opening) (faults : ℕ) (c d : Scene) (stands : Stands d.sight) (members : List Member) (events : List Event) (i : ℕ) (left rest : List Item) (total : ℕ) (x y : Phase)
     (lives : dead_in members ≡ 0) (found : slice_get members i ≡ Some (session left total x)) (was : IsSound M told o faults c members events None) where
   -- it went on, or its item was handed back, and no session goes on
-  pub stepped : (h : Happening) (halt : Option Halt) → (handed_back h ≡ [] → GoesOn M (suc i) c left x d rest y h) → (ls : List Item) × GoesOn M (suc i) c left x d ls y h → (halt ≡ None → handed_back h ≡ []) →
+  pub stepped : (h : Happening) (halt : Option Halt) → (handed_back h ≡ [] → GoesOn M (suc i) c left x d rest y h) → (ls : List Item) × GoesOn M (suc i) c left x d ls y h → (halt ≡ None → handed_back h ≡ []) → faults_in halt ≡ 0 →
       IsSound M told o faults d (slice_set members i (session rest total y)) (events ++ events_of (suc i) h) halt
-  stepped h halt goes some going = by (handed_back h) refl
+  stepped h halt goes some going quiet = by (handed_back h) refl
     where
       by : (back : List Item) → handed_back h ≡ back → IsSound M told o faults d (slice_set members i (session rest total y)) (events ++ events_of (suc i) h) halt
-      by [] e = moved M orderly told o faults c d stands members events i left rest total x y lives found was _ (events_of (suc i) h) halt (step-alive (suc i) h) (goes e)
+      by [] e = moved M orderly told o faults c d stands members events i left rest total x y lives found was _ (events_of (suc i) h) halt (step-alive (suc i) h) quiet (goes e)
       by (item ∷ more) e = record {
         legal = λ t. subst (λ (es : List Event). IsLegal o es) (sym (append-nil events) ∙ ap (λ es. events ++ es) (sym (back-quiet (suc i) h item more e))) (was.legal t);
         seated = λ none. cc (sym e ∙ going none);
@@ -125,7 +136,7 @@ module _ (M : Model) (orderly : IsOrderly M) (told : Type 0) (o : Opening) (faul
         images = λ t. told-images M orderly o d.word d.sight stands d.locks (slice_set members i (session some.0 total y)) (events ++ events_of (suc i) h)
             (sits M orderly told o faults c d stands members events i left some.0 total x y lives found was _ (events_of (suc i) h) some.1)
             (tells M orderly told o faults c d stands members events i left some.0 total x y lives found was _ (events_of (suc i) h) some.1 t);
-        causes = λ t. goes-counted M orderly told o faults c d stands members events i left some.0 total x y lives found was (events_of (suc i) h) (step-alive (suc i) h) _ some.1 (was.causes t);
+        causes = λ t. goes-counted M orderly told o faults c d stands members events i left some.0 total x y lives found was (events_of (suc i) h) halt (step-alive (suc i) h) quiet _ some.1 (was.causes t);
       }
 
 -- ---- a notice
@@ -155,8 +166,8 @@ alive-writer m h = by m.phase m.life refl refl h
 
 pub served : (M : Model) (orderly : IsOrderly M) (told : Type 0) (o : Opening) (faults : ℕ) (word : List ℕ) (sight : Sight) (stands : Stands sight) (locks behind : State) (members : List Member) (events more es : List Event) (s : ℕ) (old halt : Option Halt) →
     old ≡ None → dead_in members ≡ 0 → IsWriterAt members s → IsSound M told o faults (scene word sight locks) members events old → behind.parties ≡ locks.parties →
-    ((c : Shared) (w : Writer) → Comes M s (with_locks locks c) (Writing w) (with_locks behind c) (Writing w) es) → has_device_deaths es ≡ false → more ≡ events ++ es → IsSound M told o faults (scene word sight behind) members more halt
-served M orderly told o faults word sight stands locks behind members events more es s old halt none lives is was parties comes alive more-is =
+    ((c : Shared) (w : Writer) → Comes M s (with_locks locks c) (Writing w) (with_locks behind c) (Writing w) es) → device_deaths es ≡ 0 → faults_in halt ≡ 0 → more ≡ events ++ es → IsSound M told o faults (scene word sight behind) members more halt
+served M orderly told o faults word sight stands locks behind members events more es s old halt none lives is was parties comes alive quiet more-is =
     let at = alive-writer is.member is.writes in
     let w : Writer = at.0 in
     let left : List Item = is.member.left in
@@ -167,7 +178,7 @@ served M orderly told o faults word sight stands locks behind members events mor
     subst (λ (xs : List Event). IsSound M told o faults (scene word sight behind) members xs halt) (sym more-is)
     (subst (λ (ms : List Member). IsSound M told o faults (scene word sight behind) ms (events ++ es) halt) (set-same members is.at (session left total (Writing w)) found)
     (moved M orderly told o faults (scene word sight locks) (scene word sight behind) stands members events is.at left left total (Writing w) (Writing w) lives found
-    (subst (λ (x : Option Halt). IsSound M told o faults (scene word sight locks) members events x) none was) (Unit {0}) es halt alive (record {
+    (subst (λ (x : Option Halt). IsSound M told o faults (scene word sight locks) members events x) none was) (Unit {0}) es halt alive quiet (record {
       lives = seated-on sight.stand locks behind (suc is.at) (Writing w) parties;
       parties = λ u other. ap (λ (ps : Parties). party_of ps u) parties;
       nearer = tt;
@@ -229,16 +240,16 @@ seated-at stand locks members s at m first is found alive k =
 
 pub turned : (M : Model) (orderly : IsOrderly M) (told : Type 0) (o : Opening) (faults : ℕ) (c d : Scene) (stands : Stands d.sight) (members put : List Member) (events more : List Event) (s at : ℕ) (m : Member) (rest : List Item) (y : Phase) (h : Happening) (old halt : Option Halt) →
     1 ≤ s → at ≡ s - 1 → old ≡ None → dead_in members ≡ 0 → slice_get members at ≡ Some m → m.life ≡ Alive → IsSound M told o faults c members events old →
-    (handed_back h ≡ [] → GoesOn M s c m.left m.phase d rest y h) → (ls : List Item) × GoesOn M s c m.left m.phase d ls y h → (halt ≡ None → handed_back h ≡ []) →
+    (handed_back h ≡ [] → GoesOn M s c m.left m.phase d rest y h) → (ls : List Item) × GoesOn M s c m.left m.phase d ls y h → (halt ≡ None → handed_back h ≡ []) → faults_in halt ≡ 0 →
     put ≡ slice_set members at (record { left = rest; total = m.total; phase = y; life = m.life }) → more ≡ events ++ events_of s h → IsSound M told o faults d put more halt
-turned M orderly told o faults c d stands members put events more s at m rest y h old halt first is none lives found alive was goes some going put-is more-is =
+turned M orderly told o faults c d stands members put events more s at m rest y h old halt first is none lives found alive was goes some going quiet put-is more-is =
     let e : s ≡ suc at = sym (ap suc is ∙ suc-less s first) in
     let behind : record { left = rest; total = m.total; phase = y; life = m.life } ≡ session rest m.total y = ap (λ (l : Life). record { left = rest; total = m.total; phase = y; life = l }) alive in
     let put-at : slice_set members at (session rest m.total y) ≡ put = ap (λ (x : Member). slice_set members at x) (sym behind) ∙ sym put-is in
     let events-at : events ++ events_of (suc at) h ≡ more = ap (λ (t : ℕ). events ++ events_of t h) (sym e) ∙ sym more-is in
     subst (λ (ms : List Member). IsSound M told o faults d ms more halt) put-at (subst (λ (es : List Event). IsSound M told o faults d (slice_set members at (session rest m.total y)) es halt) events-at
     (stepped M orderly told o faults c d stands members events at m.left rest m.total m.phase y lives (found ∙ ap Some (session-of m alive)) (subst (λ (x : Option Halt). IsSound M told o faults c members events x) none was) h halt
-    (λ back. subst (λ (t : ℕ). GoesOn M t c m.left m.phase d rest y h) e (goes back)) (some.0, subst (λ (t : ℕ). GoesOn M t c m.left m.phase d some.0 y h) e some.1) going))
+    (λ back. subst (λ (t : ℕ). GoesOn M t c m.left m.phase d rest y h) e (goes back)) (some.0, subst (λ (t : ℕ). GoesOn M t c m.left m.phase d some.0 y h) e some.1) going quiet))
 
 -- who was put back lives
 pub put-lives : (members put : List Member) (at : ℕ) (m n : Member) → slice_get members at ≡ Some m → put ≡ slice_set members at n → n.life ≡ Alive → (x : Member) → slice_get put at ≡ Some x → x.life ≡ Alive

@@ -1,9 +1,12 @@
 -- What is done behind a step.
-use Rattle.std.specs.Prelude.{◌≡◌, Bool, true, false}
+use Rattle.std.specs.Prelude.{◌≡◌, Bool, true, false, Option, None, Some}
 use Rattle.stage_steps.specs.declared.happening.Asking.{Asking}
 use Rattle.stage_steps.specs.declared.happening.Happening.{Happening}
 use Rattle.stage_steps.specs.declared.happening.Happening.TheVariants.{Noticed, Failed, Unlaid, Unworked, Unanswered}
+use Rattle.line_cluster.specs.declared.behind.Behind.{Behind}
+use Rattle.line_cluster.specs.declared.behind.Behind.TheVariants.{Stop}
 use Rattle.line_cluster.specs.declared.behind.Notice.{Notice}
+use Rattle.line_cluster.specs.declared.sessions.Halt.{Halt}
 
 -- what happened brings its session nearer to its end by itself, where its want wasn't queued before
 abbrev pub is_moving : Happening → Bool
@@ -13,6 +16,11 @@ is_moving (Unlaid key) = false
 is_moving Unworked = false
 is_moving (Unanswered item) = false
 is_moving happened = true
+
+-- why no session goes on behind it
+abbrev pub halt_behind : Behind → Option Halt
+halt_behind (Stop halt) = Some halt
+halt_behind then = None
 
 -- this notice was found due
 pub record IsNoticed (n : Notice) (happened : Happening) : Type 0 where

@@ -1,12 +1,14 @@
--- Deaths of a device in an account, and the faults that are counted for them.
-use Rattle.std.specs.Prelude.{◌≡◌, ◌≤◌, ℕ, Bool, true, false, List}
-use Rattle.std.specs.List.{list_any}
+-- Deaths of a device in an account, and the faults that are counted for them and for a halt.
+use Rattle.std.specs.Prelude.{◌≤◌, ◌+◌, ◌-◌, ◌^◌, ℕ, min, Bool, true, false, cond, List, Option, Some}
+use Rattle.std.specs.List.{count_by}
 use Rattle.rdb_types.specs.declared.session.Cause.{Cause}
 use Rattle.rdb_types.specs.declared.session.Cause.TheVariants.{Device}
-use Rattle.rdb_outside.specs.Causes.{Rose}
 use Rattle.rdb_account.specs.Events.{Event, Died}
+use Rattle.line_store.specs.declared.answers.Fault.TheVariants as fault
 use Rattle.line_store.specs.Shelves.{Shelf}
 use Rattle.line_store.specs.Sights.{Sight}
+use Rattle.line_cluster.specs.declared.sessions.Halt.{Halt}
+use Rattle.line_cluster.specs.declared.sessions.Halt.TheVariants as halts
 
 abbrev pub is_device : Cause → Bool
 is_device Device = true
@@ -16,13 +18,29 @@ abbrev pub is_device_death : Event → Bool
 is_device_death (Died s cause) = is_device cause
 is_device_death event = false
 
--- a session died of a device
-abbrev pub has_device_deaths : List Event → Bool
-has_device_deaths events = list_any is_device_death events
+-- how many sessions died of a device
+abbrev pub device_deaths : List Event → ℕ
+device_deaths events = count_by is_device_death events
 
--- A shelf is shown whose clock counts no fewer faults than these, and where this is so, they rose.
-pub record CountsFaults (faults : ℕ) (risen : Type 0) (sight : Sight) : Type 0 where
+-- how many device calls failed for a death of this cause
+abbrev pub faults_of : Cause → ℕ
+faults_of cause = cond (is_device cause) 1 0
+
+-- how many failed in a recovery: no session goes on behind the first
+abbrev pub faults_in : Option Halt → ℕ
+faults_in (Some (halts.Device fault.Failed)) = 1
+faults_in _ = 0
+
+-- the device calls that failed of which an account and a halt tell
+abbrev pub failures : List Event → Option Halt → ℕ
+failures events halt = device_deaths events + faults_in halt
+
+-- A count of faults rose by so many between two moments, or stands at the last value of its type.
+abbrev pub RoseBy : ℕ → ℕ → ℕ → Type 0
+RoseBy more before now = min (before + more) (2 ^ 64 - 1) ≤ now
+
+-- A shelf is shown by whose clock these faults rose by so many.
+pub record CountsFaults (faults more : ℕ) (sight : Sight) : Type 0 where
   pub shelf : Shelf
   pub shown : sight.shows shelf
-  pub no_fewer : faults ≤ shelf.clock.faults
-  pub rose : risen → Rose faults shelf.clock.faults
+  pub rose : RoseBy more faults shelf.clock.faults

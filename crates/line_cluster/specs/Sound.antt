@@ -19,7 +19,7 @@ use Rattle.session_states.specs.Kept.{IsOpened}
 use Rattle.session_stands.specs.Sessions.{AreSeated, IsTold, sharing}
 use Rattle.stage_steps.specs.Scenes.{Scene}
 use Rattle.line_cluster.specs.declared.sessions.Halt.{Halt}
-use Rattle.line_cluster.specs.Deaths.{CountsFaults, has_device_deaths}
+use Rattle.line_cluster.specs.Deaths.{CountsFaults, failures}
 
 -- The store shows a shelf at whose moment each map of lines that a crash may leave stands for what the account has committed, or for that with the one in flight; and each that a crash might have left since the sessions began, or since a commit, for what was committed then, or more. A store can be opened from each image since they began.
 pub record HasImages (M : Model) (o : Opening) (sight : Sight) (events : List Event) : Type 0 where
@@ -28,13 +28,13 @@ pub record HasImages (M : Model) (o : Opening) (sight : Sight) (events : List Ev
   pub now : (lines : Lines) → sight.left shelf.clock.time lines → IsNow M o (place o events) lines
   pub since : AreLeft M o events sight.left sight.opens shelf.clock.time
 
--- Where the opening told what the store holds, the account is legal, a crash leaves what was committed, and faults rose since the opening, at which there were so many, where a session died of a device. As long as no halt has come, each session stands where its phase has it, and what is shown is kept.
+-- Where the opening told what the store holds, the account is legal, a crash leaves what was committed, and faults rose since the opening, at which there were so many, by one for each session that died of a device, and by one where a recovery failed of it. As long as no halt has come, each session stands where its phase has it, and what is shown is kept.
 pub record IsSound (M : Model) (told : Type 0) (o : Opening) (faults : ℕ) (c : Scene) (members : List Member) (events : List Event) (halt : Option Halt) : Type 0 where
   pub legal : told → IsLegal o events
   pub seated : halt ≡ None → AreSeated c.sight.stand c.locks members
   pub kept : halt ≡ None → told → IsTold M o c.word c.sight c.locks members events
   pub images : told → HasImages M o c.sight events
-  pub causes : told → CountsFaults faults (has_device_deaths events ≡ true) c.sight
+  pub causes : told → CountsFaults faults (failures events halt) c.sight
 
 -- session s is one of these
 pub record IsOneOf (members : List Member) (s : ℕ) : Type 0 where

@@ -1,6 +1,7 @@
 //! What is done behind a step.
 ghost use Rattle.std.specs.Prelude.{◌≡◌, true};
-ghost use Rattle.line_cluster.specs.Behind.{IsNoticed, is_moving};
+ghost use Rattle.line_cluster.specs.Behind.{IsNoticed, halt_behind, is_moving};
+ghost use Rattle.line_cluster.specs.Deaths.{faults_in};
 ghost use Rattle.line_cluster.specs.declared.behind.Notice.{Notice as NoticeValue};
 
 use crate::sessions::Halt;
@@ -32,10 +33,11 @@ fn behind_fault(fault: Fault) -> Behind
     ensures nothing { result ≡ Behind.Nothing → ⊥ }
     ensures serve { (notice : NoticeValue) → result ≡ Behind.Serve notice → ⊥ }
     ensures die { result ≡ Behind.Die → fault ≡ Fault.Failed }
+    ensures stop { faults_in (halt_behind result) ≡ 0 }
 {
     match fault {
         Fault::Failed => Behind::Die,
-        Fault::Bad(..) => Behind::Stop(Halt::Device(fault)),
+        Fault::Bad(file, slot) => Behind::Stop(Halt::Device(Fault::Bad(file, slot))),
     }
 }
 
@@ -44,6 +46,7 @@ pub(crate) fn behind_of(happened: &Happening) -> Behind
     ensures nothing { result ≡ Behind.Nothing → is_moving happened.now ≡ true }
     ensures serve { (notice : NoticeValue) → result ≡ Behind.Serve notice → IsNoticed notice happened.now }
     ensures die { result ≡ Behind.Die → happened.now ≡ Happening.Failed Fault.Failed }
+    ensures stop { faults_in (halt_behind result) ≡ 0 }
 {
     match happened {
         Happening::Noticed(to, node, mode, _) => Behind::Serve(Notice {

@@ -8,7 +8,7 @@ ghost use Rattle.line_store.specs.Seats.{Seat, outside};
 ghost use Rattle.line_store.specs.Sights.{bare};
 ghost use Rattle.lock_tree_laws.specs.Forest.{IsWhole};
 ghost use Rattle.session_stands.specs.Sessions.{AreSeated};
-ghost use Rattle.line_cluster.specs.Deaths.{CountsFaults, has_device_deaths, is_device};
+ghost use Rattle.line_cluster.specs.Deaths.{CountsFaults, failures, is_device};
 ghost use Rattle.line_cluster.specs.Measured.{IsBounded};
 ghost use Rattle.line_cluster.specs.Sound.{FollowsScripts, HasImages, IsLeft, IsOpenedBy, IsSession, MayFail, fresh_member};
 ghost use Rattle.line_cluster.specs.Turned.{Came, DeathCame, HasNothingLeft, HaveAllEnded, HaveEnded, IsAtEnd, RecoveryCame, Rests};
@@ -35,11 +35,12 @@ pub struct LineCluster<O: Origin, S: Statements, L: LineStore + Drop> {
     core: Core<O, S, L>,
 }
 
-/// What a run leaves: its events, and its store.
+/// What a run leaves: its events, its store, and why no session goes on, where that is so.
 #[derive(Drop)]
 pub struct Finished<L> {
     pub events: Events,
     pub store: L,
+    pub halt: Option<Halt>,
 }
 
 impl<O: Origin, S: Statements, L: LineStore + Drop> Model for LineCluster<O, S, L> {
@@ -164,13 +165,6 @@ impl<O: Origin, S: Reserves + Reaches, L: LineStore + Drop> LineCluster<O, S, L>
         self.core.halt.is_some()
     }
 
-    /// Why no session goes on, once that is so.
-    pub fn halt(&self) -> Option<Halt>
-        ensures { is_some result ≡ self.now.halted }
-    {
-        self.core.halt
-    }
-
     /// What happened so far.
     pub fn events(&self) -> &[Event]
         ensures { result.now ≡ self.now.events }
@@ -198,13 +192,15 @@ impl<O: Origin, S: Reserves + Reaches, L: LineStore + Drop> LineCluster<O, S, L>
         ensures events { result.events ≡ self.events }
         ensures left { O.told → self.halted ≡ false → IsLeft S.stands O.opening (L.sight result.store) (map event_of self.events) }
         ensures images { O.told → HasImages S.stands O.opening (L.sight result.store) (map event_of self.events) }
-        ensures faults { O.told → CountsFaults O.faults (has_device_deaths (map event_of self.events) ≡ true) (L.sight result.store) }
+        ensures halt { is_some result.halt ≡ self.halted }
+        ensures faults { O.told → CountsFaults O.faults (failures (map event_of self.events) result.halt) (L.sight result.store) }
         ensures outside { self.halted ≡ false → HaveEnded self.members → (s : ℕ) → bare ((L.sight result.store).stand s) ≡ outside }
     {
         let LineCluster { core } = self;
         Finished {
             events: Items::from_vec(core.events),
             store: core.common.store,
+            halt: core.halt,
         }
     }
 }

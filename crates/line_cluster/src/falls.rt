@@ -8,7 +8,7 @@ ghost use Rattle.session_states.specs.declared.stage.Member.{Member as MemberVal
 ghost use Rattle.session_stands.specs.Sessions.{dead_in};
 ghost use Rattle.stage_steps.specs.Deaths.{life_behind as life_behind_it};
 ghost use Rattle.stage_steps.specs.Scenes.{scene};
-ghost use Rattle.line_cluster.specs.Deaths.{CountsFaults, is_device};
+ghost use Rattle.line_cluster.specs.Deaths.{CountsFaults, device_deaths, faults_of, is_device};
 ghost use Rattle.line_cluster.specs.Going.{IsDeadAt, is_dead as is_dead_at};
 ghost use Rattle.line_cluster.specs.Sound.{IsSound, IsOneOf};
 ghost use Rattle.line_cluster.specs.Turned.{DeathCame, GoesOn, RecoveryCame, sessions, with_life};
@@ -78,12 +78,12 @@ impl<O: Origin, S: Reserves + Reaches, L: LineStore> Core<O, S, L> {
         self.fall(s, at, cause);
     }
 
-    /// A session that lives dies where it stands, and keeps its locks. It dies of a device only where faults rose.
+    /// A session that lives dies where it stands, and keeps its locks. A death of a device has a fault of its own.
     pub(crate) fn fall(&mut self, s: Session, at: usize, cause: Cause)
         requires one { IsOneOf self.old.members.items s.number }
         requires at { at ≡ s.number - 1 }
         requires mortal { (O.opening.may_die s.number cause && not (is_stop cause)) ≡ true }
-        requires caused { O.told → CountsFaults O.faults (is_device cause ≡ true) (L.sight self.old.common.store) }
+        requires caused { O.told → CountsFaults O.faults (device_deaths (map event_of self.old.events.items) + faults_of cause) (L.sight self.old.common.store) }
         requires sound { IsSound S.stands O.told O.opening O.faults (scene self.old.common.word (L.sight self.old.common.store) self.old.common.tree) self.old.members.items (map event_of self.old.events.items) self.old.halt }
         requires going { self.old.halt ≡ None }
         requires room { vec_len self.old.events + 6 ≤ vec_capacity self.old.events }

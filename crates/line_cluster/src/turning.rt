@@ -10,6 +10,7 @@ ghost use Rattle.lock_tree_laws.specs.Progress.{is_spare, Falls as LocksFall};
 ghost use Rattle.lock_tree.specs.Sleeping.{is_sleeping};
 ghost use Rattle.stage_steps.specs.Nearer.{is_patient_at};
 ghost use Rattle.stage_steps.specs.Scenes.{scene};
+ghost use Rattle.line_cluster.specs.Deaths.{faults_in};
 ghost use Rattle.line_cluster.specs.Sound.{IsSound, IsOneOf, MayFail};
 ghost use Rattle.line_cluster.specs.Going.{IsWriterAt, is_over as is_over_at};
 ghost use Rattle.line_cluster.specs.Turned.{Came, GoesOn, GrowsQuietly, Rests, Waits, sessions};
@@ -31,8 +32,9 @@ use stage_steps::serve;
 use std::mem::forget;
 
 impl<O: Origin, S: Reserves + Reaches, L: LineStore> Core<O, S, L> {
-    // No session goes on.
+    // No session goes on, for something else than a device.
     pub(crate) fn stop(&mut self, halt: Halt) -> Turn
+        requires cause { faults_in (Some halt) ≡ 0 }
         requires sound { IsSound S.stands O.told O.opening O.faults (scene self.old.common.word (L.sight self.old.common.store) self.old.common.tree) self.old.members.items (map event_of self.old.events.items) self.old.halt }
         ensures sound { IsSound S.stands O.told O.opening O.faults (scene self.new.common.word (L.sight self.new.common.store) self.new.common.tree) self.new.members.items (map event_of self.new.events.items) self.new.halt }
         ensures members { self.new.members.items ≡ self.old.members.items }

@@ -6,13 +6,13 @@ ghost use Rattle.rdb_drive.specs.Boards.{IsSession, AllEnded, answers};
 ghost use Rattle.rdb_drive.specs.Steps.{StepOf};
 ghost use Rattle.line_store.specs.Seats.{outside};
 ghost use Rattle.line_store.specs.Sights.{bare};
-ghost use Rattle.line_cluster.specs.Deaths.{CountsFaults, has_device_deaths};
+ghost use Rattle.line_cluster.specs.Deaths.{CountsFaults, failures};
 ghost use Rattle.line_cluster.specs.Sound.{HasImages, IsLeft};
 ghost use Rattle.line_cluster.specs.Turned.{HaveAllEnded};
 ghost use Rattle.line_drive.specs.Boards.{board_of, marks_of};
 ghost use Rattle.line_drive.specs.Turns.{step_for};
 
-use line_cluster::{Finished, Halt, LineCluster, Origin, Turn};
+use line_cluster::{Finished, LineCluster, Origin, Turn};
 use line_store::LineStore;
 use rdb_account::Event;
 use rdb_drive::{Driven, Point, Step};
@@ -103,13 +103,6 @@ impl<O: Origin, S: Reserves + Reaches, L: LineStore + Drop> LineDriver<O, S, L> 
         step_of(turn)
     }
 
-    /// Why no session goes on though some may have something left to do, where that is so.
-    pub fn halt(&self) -> Option<Halt>
-        ensures { is_some result ≡ self.now.halted }
-    {
-        self.cluster.halt()
-    }
-
     /// What is true of the sessions at every moment.
     pub fn facts(&self)
         ensures legal { O.told → IsLegal O.opening (map event_of self.now.events) }
@@ -124,7 +117,8 @@ impl<O: Origin, S: Reserves + Reaches, L: LineStore + Drop> LineDriver<O, S, L> 
         ensures events { result.events ≡ self.events }
         ensures left { O.told → self.halted ≡ false → IsLeft S.stands O.opening (L.sight result.store) (map event_of self.events) }
         ensures images { O.told → HasImages S.stands O.opening (L.sight result.store) (map event_of self.events) }
-        ensures faults { O.told → CountsFaults O.faults (has_device_deaths (map event_of self.events) ≡ true) (L.sight result.store) }
+        ensures halt { is_some result.halt ≡ self.halted }
+        ensures faults { O.told → CountsFaults O.faults (failures (map event_of self.events) result.halt) (L.sight result.store) }
         ensures outside { self.halted ≡ false → AllEnded O.sessions (board_of O.told O.opening self) → (s : ℕ) → bare ((L.sight result.store).stand s) ≡ outside }
     {
         let LineDriver {

@@ -5,7 +5,7 @@ ghost use Rattle.rdb_account.specs.Legal.{AreWhole, IsLegal};
 ghost use Rattle.rdb_drive.specs.Boards.{AllEnded, IsSession, MayDie};
 ghost use Rattle.line_store.specs.Seats.{outside};
 ghost use Rattle.line_store.specs.Sights.{bare};
-ghost use Rattle.line_cluster.specs.Deaths.{CountsFaults, has_device_deaths};
+ghost use Rattle.line_cluster.specs.Deaths.{CountsFaults, failures};
 ghost use Rattle.line_cluster.specs.Sound.{HasImages, IsLeft};
 ghost use Rattle.line_cluster.specs.Turned.{HaveAllEnded, is_session};
 ghost use Rattle.line_drive.specs.Boards.{board_of, mortals_of};
@@ -48,13 +48,16 @@ fn ran_of<O: Origin, S: Reserves + Reaches, L: LineStore + Drop>(
     ensures unharmed { result.is_whole ≡ true → O.told → has_deaths (map event_of result.events) ≡ false → AreWhole (is_session O.sessions) O.opening (map event_of result.events) }
     ensures left { result.is_whole ≡ true → O.told → IsLeft S.stands O.opening (L.sight result.store) (map event_of result.events) }
     ensures images { O.told → HasImages S.stands O.opening (L.sight result.store) (map event_of result.events) }
-    ensures faults { O.told → CountsFaults O.faults (has_device_deaths (map event_of result.events) ≡ true) (L.sight result.store) }
+    ensures faults { O.told → CountsFaults O.faults (failures (map event_of result.events) result.halt) (L.sight result.store) }
     ensures outside { result.is_whole ≡ true → (s : ℕ) → bare ((L.sight result.store).stand s) ≡ outside }
 {
     driver.facts();
-    let halt = driver.halt();
+    let Finished {
+        events,
+        store,
+        halt,
+    } = driver.end();
     let is_whole = has_ended && !halt.is_some();
-    let Finished { events, store } = driver.end();
     Ran {
         events,
         store,
@@ -83,7 +86,7 @@ pub fn run_in_order<O: Origin, S: Reserves + Reaches, L: LineStore + Drop, G: Ga
     ensures unharmed { result.is_whole ≡ true → O.told → has_deaths (map event_of result.events) ≡ false → AreWhole (is_session O.sessions) O.opening (map event_of result.events) }
     ensures left { result.is_whole ≡ true → O.told → IsLeft S.stands O.opening (L.sight result.store) (map event_of result.events) }
     ensures images { O.told → HasImages S.stands O.opening (L.sight result.store) (map event_of result.events) }
-    ensures faults { O.told → CountsFaults O.faults (has_device_deaths (map event_of result.events) ≡ true) (L.sight result.store) }
+    ensures faults { O.told → CountsFaults O.faults (failures (map event_of result.events) result.halt) (L.sight result.store) }
     ensures outside { result.is_whole ≡ true → (s : ℕ) → bare ((L.sight result.store).stand s) ≡ outside }
     ensures order { result.is_whole ≡ true → O.told → KeepsTurns O.opening O.sessions order.now result.events }
 {
@@ -113,7 +116,7 @@ where
     ensures unharmed { result.is_whole ≡ true → O.told → has_deaths (map event_of result.events) ≡ false → AreWhole (is_session O.sessions) O.opening (map event_of result.events) }
     ensures left { result.is_whole ≡ true → O.told → IsLeft S.stands O.opening (L.sight result.store) (map event_of result.events) }
     ensures images { O.told → HasImages S.stands O.opening (L.sight result.store) (map event_of result.events) }
-    ensures faults { O.told → CountsFaults O.faults (has_device_deaths (map event_of result.events) ≡ true) (L.sight result.store) }
+    ensures faults { O.told → CountsFaults O.faults (failures (map event_of result.events) result.halt) (L.sight result.store) }
     ensures outside { result.is_whole ≡ true → (s : ℕ) → bare ((L.sight result.store).stand s) ≡ outside }
 {
     let shared = Mutex::new(LineDriver::new(cluster));

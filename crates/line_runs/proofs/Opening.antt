@@ -6,6 +6,7 @@ use Rattle.rdb_account.specs.Places.{Opening}
 use Rattle.session_jobs.specs.Records.{Model}
 use Rattle.line_store.specs.Shelves.{Shelf}
 use Rattle.line_store.specs.Sights.{Sight}
+use Rattle.line_cluster.specs.Deaths.{RoseBy}
 use Rattle.line_cluster.specs.Sound.{IsOpenedBy}
 use Rattle.line_opening.specs.declared.fault.OpeningFault.{OpeningFault}
 use Rattle.line_runs.specs.Openings.{IsOpeningOf}
@@ -20,6 +21,10 @@ at-moment image journal moment o h = record { root = h.root; is = h.is; limits =
 -- Where one sight shows what another does, an account that opens with that opens with this.
 pub same-shown : (M : Model) (o : Opening) (faults : ℕ) (word : List ℕ) (old new : Sight) → ((h : Shelf) → old.shows h → new.shows h) → IsOpenedBy M o faults word old → IsOpenedBy M o faults word new
 same-shown M o faults word old new shows h = record { shelf = h.shelf; shown = shows h.shelf h.shown; no_fewer = h.no_fewer; opened = h.opened }
+
+-- no fault was counted for what never happened
+pub rose-none : (a b : ℕ) → a ≤ b → RoseBy 0 a b
+rose-none a b later = omega (arith, later)
 
 pub same-fault : (a b : OpeningFault) (x : Option OpeningFault) → x ≡ Some a → x ≡ Some b → a ≡ b
 same-fault a b x h k = grind arith

@@ -1,7 +1,6 @@
 -- What a crash leaves of the disk, of what the store over it had.
-use Rattle.std.proofs.Common.{◌≡◌, ◌∙◌, ℕ, List, true, sym, ap, subst, inl, inr}
+use Rattle.std.proofs.Common.{◌≡◌, ◌≤◌, ◌∙◌, ℕ, List, true, sym, ap, subst, inl, inr}
 use Rattle.std.proofs.lemmas.Option.{none-some}
-use Rattle.rdb_outside.specs.Causes.{Rose}
 use Rattle.rdb_outside.specs.Disk.{Image, View, LeftNow}
 use Rattle.rdb_outside.specs.Moments.{each_slot}
 use Rattle.rdb_account.specs.Events.{Event}
@@ -19,8 +18,8 @@ use Rattle.line_store.specs.Calls.{MayStand}
 use Rattle.line_store.specs.Sights.{Sight, bare}
 use Rattle.session_jobs.specs.Records.{Model}
 use Rattle.session_stands.proofs.Seats.{outside-seat}
-use Rattle.line_cluster.specs.Deaths.{CountsFaults, has_device_deaths}
-use Rattle.line_cluster.specs.Sound.{HasImages, IsLeft}
+use Rattle.line_cluster.specs.Deaths.{CountsFaults, RoseBy}
+use Rattle.line_cluster.specs.Sound.{HasImages, IsLeft, IsOpenedBy}
 use Rattle.line_runs.specs.Prefix.{HoldsAll, HoldsPrefix}
 
 -- as the store has it
@@ -28,8 +27,12 @@ leaves-now : (v : View) (held : StoreMemory) (h : Shelf) → Shown v held h → 
 leaves-now v held h shown image lines left has = record { image = image; left = subst (λ (t : ℕ). v.left_since t image) (sym shown.lines.time) left; stands = has }
 
 -- the faults that the store counted are the disk's
-pub harmed : (v : View) (events : List Event) (sight : Sight) → IsBack sight v → (faults : ℕ) → CountsFaults faults (has_device_deaths events ≡ true) sight → has_device_deaths events ≡ true → Rose faults v.faults
-harmed v events sight back faults k died = subst (λ (n : ℕ). Rose faults n) (back.shows k.shelf k.shown).lines.faults (k.rose died)
+pub harmed : (v : View) (sight : Sight) → IsBack sight v → (faults more : ℕ) → CountsFaults faults more sight → RoseBy more faults v.faults
+harmed v sight back faults more k = subst (λ (n : ℕ). RoseBy more faults n) (back.shows k.shelf k.shown).lines.faults k.rose
+
+-- it counted them as it opened
+pub no-fewer : (M : Model) (o : Opening) (v : View) (sight : Sight) → IsBack sight v → (faults : ℕ) (word : List ℕ) → IsOpenedBy M o faults word sight → faults ≤ v.faults
+no-fewer M o v sight back faults word is = subst (λ (n : ℕ). faults ≤ n) (back.shows is.shelf is.shown).lines.faults is.no_fewer
 
 module _ (M : Model) (o : Opening) (v : View) (events : List Event) (sight : Sight) (back : IsBack sight v) where
   pub holds-prefix : HasImages M o sight events → HoldsPrefix M o v events

@@ -8,7 +8,7 @@ ghost use Rattle.line_store.specs.Seats.{outside};
 ghost use Rattle.line_store.specs.Sights.{bare};
 ghost use Rattle.rdb_account.specs.Legal.{IsLegal};
 ghost use Rattle.rdb_drive.specs.Boards.{IsSession, MayDie};
-ghost use Rattle.line_cluster.specs.Deaths.{CountsFaults, has_device_deaths};
+ghost use Rattle.line_cluster.specs.Deaths.{CountsFaults, RoseBy, failures};
 ghost use Rattle.line_cluster.specs.Sound.{FollowsScripts, HasImages, IsLeft, MayFail};
 ghost use Rattle.line_cluster.specs.Turned.{HaveAllEnded};
 ghost use Rattle.line_drive.specs.Boards.{mortals_of};
@@ -18,7 +18,7 @@ ghost use Rattle.line_runs.specs.Prefix.{HoldsPrefix, HoldsAll};
 
 use crate::laws::a_run_opens;
 use disk_line_store::DiskStore;
-use line_cluster::{LineCluster, Origin};
+use line_cluster::{Halt, LineCluster, Origin};
 use line_drive::{Ran, run_in_order, run_in_threads};
 use line_opening::OpeningFault;
 use line_store::LineStore;
@@ -49,13 +49,14 @@ pub struct Unopened<D: Drop> {
     pub fault: OpeningFault,
 }
 
-/// What a run came to: its events, whether every session came to its end, or died and was recovered, and why the database wasn't opened, if it wasn't.
+/// What a run came to: its events, whether every session came to its end, or died and was recovered, why the database wasn't opened, if it wasn't, and why the sessions were stopped, if they were.
 #[derive(Drop)]
 pub struct LineRun<D: Drop> {
     pub disk: D,
     pub events: Events,
     pub is_whole: bool,
     pub fault: Option<OpeningFault>,
+    pub halt: Option<Halt>,
 }
 
 /// The sessions over an opened database.
@@ -76,6 +77,7 @@ fn begin<O: Origin, D: Disk + Drop>(
     requires opens { O.told → OpensWith ⟦<ReservingStatements as Statements>⟧.stands (D.view disk) O.opening }
     requires faults { O.told → O.faults ≡ (D.view disk).faults }
     ensures events { IfOk result (λ c. c.events ≡ []) }
+    ensures later { O.told → IfErr result (λ u. (D.view disk).faults ≤ (D.view u.disk).faults) }
     ensures failed { IfErr result (λ u. u.fault ≡ OpeningFault.Failed → Rose (D.view disk).faults (D.view u.disk).faults) }
     ensures bad { (file : File) (slot : ℕ) → IfErr result (λ u. u.fault ≡ OpeningFault.Bad file slot → HasNoNumbers (D.view disk)) }
 {
@@ -101,12 +103,14 @@ fn unsaid<D: Drop>(alloc: Global, unopened: Unopened<D>) -> LineRun<D>
     ensures disk { result.disk ≡ unopened.disk }
     ensures is_whole { result.is_whole ≡ false }
     ensures fault { result.fault ≡ Some unopened.fault }
+    ensures halt { result.halt ≡ None }
 {
     LineRun {
         disk: unopened.disk,
         events: Items::new(alloc),
         is_whole: false,
         fault: Some(unopened.fault),
+        halt: None,
     }
 }
 
@@ -114,7 +118,8 @@ fn ended<D: Disk + Drop>(ran: Ran<DiskStore<D>>) -> LineRun<D>
     ensures events { result.events ≡ ran.events }
     ensures is_whole { result.is_whole ≡ ran.is_whole }
     ensures fault { result.fault ≡ None }
-    ensures faults { (faults : ℕ) (events : List Event) → CountsFaults faults (has_device_deaths events ≡ true) (⟦<DiskStore<D> as LineStore>⟧.sight ran.store) → has_device_deaths events ≡ true → Rose faults (D.view result.disk).faults }
+    ensures halt { result.halt ≡ ran.halt }
+    ensures faults { (faults more : ℕ) → CountsFaults faults more (⟦<DiskStore<D> as LineStore>⟧.sight ran.store) → RoseBy more faults (D.view result.disk).faults }
     ensures images { (o : Opening) (events : List Event) → HasImages ⟦<ReservingStatements as Statements>⟧.stands o (⟦<DiskStore<D> as LineStore>⟧.sight ran.store) events → HoldsPrefix ⟦<ReservingStatements as Statements>⟧.stands o (D.view result.disk) events }
     ensures left { (o : Opening) (events : List Event) → IsLeft ⟦<ReservingStatements as Statements>⟧.stands o (⟦<DiskStore<D> as LineStore>⟧.sight ran.store) events → ((s : ℕ) → bare ((⟦<DiskStore<D> as LineStore>⟧.sight ran.store).stand s) ≡ outside) → HoldsAll ⟦<ReservingStatements as Statements>⟧.stands o (D.view result.disk) events }
 {
@@ -123,6 +128,7 @@ fn ended<D: Disk + Drop>(ran: Ran<DiskStore<D>>) -> LineRun<D>
         events: ran.events,
         is_whole: ran.is_whole,
         fault: None,
+        halt: ran.halt,
     }
 }
 
@@ -149,7 +155,7 @@ pub fn say_in_order<O: Origin, D: Disk + Drop, G: Gate>(
     ensures order { O.told → result.is_whole ≡ true → KeepsTurns O.opening O.sessions order.now result.events }
     ensures images { O.told → result.fault ≡ None → HoldsPrefix ⟦<ReservingStatements as Statements>⟧.stands O.opening (D.view result.disk) (map event_of result.events) }
     ensures left { O.told → result.is_whole ≡ true → HoldsAll ⟦<ReservingStatements as Statements>⟧.stands O.opening (D.view result.disk) (map event_of result.events) }
-    ensures harmed { O.told → has_device_deaths (map event_of result.events) ≡ true → Rose (D.view disk).faults (D.view result.disk).faults }
+    ensures harmed { O.told → RoseBy (failures (map event_of result.events) result.halt) (D.view disk).faults (D.view result.disk).faults }
     ensures failed { result.fault ≡ Some OpeningFault.Failed → Rose (D.view disk).faults (D.view result.disk).faults }
     ensures bad { (file : File) (slot : ℕ) → result.fault ≡ Some (OpeningFault.Bad file slot) → HasNoNumbers (D.view disk) }
     ensures unsaid { (result.fault ≡ None → ⊥) → result.events ≡ [] }
@@ -181,7 +187,7 @@ pub fn say_in_threads<
     ensures whole { O.told → result.is_whole ≡ true → HaveAllEnded O.opening O.sessions (map event_of result.events) }
     ensures images { O.told → result.fault ≡ None → HoldsPrefix ⟦<ReservingStatements as Statements>⟧.stands O.opening (D.view result.disk) (map event_of result.events) }
     ensures left { O.told → result.is_whole ≡ true → HoldsAll ⟦<ReservingStatements as Statements>⟧.stands O.opening (D.view result.disk) (map event_of result.events) }
-    ensures harmed { O.told → has_device_deaths (map event_of result.events) ≡ true → Rose (D.view disk).faults (D.view result.disk).faults }
+    ensures harmed { O.told → RoseBy (failures (map event_of result.events) result.halt) (D.view disk).faults (D.view result.disk).faults }
     ensures failed { result.fault ≡ Some OpeningFault.Failed → Rose (D.view disk).faults (D.view result.disk).faults }
     ensures bad { (file : File) (slot : ℕ) → result.fault ≡ Some (OpeningFault.Bad file slot) → HasNoNumbers (D.view disk) }
     ensures unsaid { (result.fault ≡ None → ⊥) → result.events ≡ [] }

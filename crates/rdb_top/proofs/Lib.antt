@@ -5,3 +5,4 @@ mod Unsaid
 mod Fewness
 mod Saying
 mod Deaths
+mod Failures

@@ -3,6 +3,7 @@
 
 mod dying;
 mod scripts;
+mod stopping;
 mod top;
 
 pub use top::{Finish, run};

@@ -1,4 +1,4 @@
-ghost use Rattle.std.specs.Prelude.{◌≡◌, ◌≢◌, ◌⊎◌, ◌↔◌, ◌<◌, ◌≤◌, ◌^◌, ℕ, true, false, None, Some, ◌++◌, length, map, [], All, IsTrue, IfOk};
+ghost use Rattle.std.specs.Prelude.{◌≡◌, ◌≢◌, ◌⊎◌, ◌↔◌, ◌+◌, ◌<◌, ◌≤◌, ◌^◌, ℕ, true, false, None, Some, ◌++◌, length, map, [], All, IsTrue, IfOk};
 ghost use Rattle.rdb_types.specs.declared.file.FileId.{FileId as File};
 ghost use Rattle.rdb_types.specs.declared.keys.Limits.{Limits};
 ghost use Rattle.rdb_outside.specs.Causes.{Rose};
@@ -13,7 +13,7 @@ ghost use Rattle.script_streams.specs.Fronts.{WritesFront};
 ghost use Rattle.rdb_drive.specs.Boards.{IsSession, MayDie};
 ghost use Rattle.rdb_account.specs.Events.{event_of};
 ghost use Rattle.rdb_account.specs.Legal.{IsLegal};
-ghost use Rattle.line_cluster.specs.Deaths.{has_device_deaths};
+ghost use Rattle.line_cluster.specs.Deaths.{RoseBy, device_deaths, failures};
 ghost use Rattle.line_cluster.specs.Sound.{FollowsScripts, MayFail};
 ghost use Rattle.line_cluster.specs.Turned.{HaveAllEnded};
 ghost use Rattle.line_drive.specs.Boards.{mortals_of};
@@ -32,10 +32,12 @@ ghost use Rattle.rdb_top.specs.Deaths.{letting};
 
 use crate::dying::Dying;
 use crate::scripts::{read_scripts, some_died, write_transcripts};
+use crate::stopping::{status_stopped, unwatched};
 use command_words::{Command, Scripts, command_of, order_of};
-use line_cluster::Origin;
+use line_cluster::{Halt, Origin};
 use line_opening::OpeningFault;
 use line_runs::{LineRun, Said, say_in_order, say_in_threads};
+use line_store::Fault;
 use new_database::{NewFault, make_new};
 use rdb_account::{Event, Events};
 use rdb_drive::Gate;
@@ -51,6 +53,7 @@ use std::alloc::Global;
 use std::marker::{Brand, Send};
 use std::sync::Wait;
 use std::thread::Threads;
+use watched_disk::{Beginning, WatchedDisk};
 
 /// How a run ended, and what happened in it.
 #[derive(Drop)]
@@ -111,16 +114,14 @@ fn unsaid<D: Drop>(alloc: Global, status: u8, disk: D) -> Finish<D>
     }
 }
 
-// Runs the sessions of an origin: by the order, where the words have one, else in threads.
-fn run_of<R: Threads + Wait + Sync, O: Origin + Send, D: Disk + Drop + Send, G: Gate + Sync>(
-    rt: &R,
-    alloc: Global,
-    disk: D,
-    said: Said,
-    given: Scripts,
-    order: &[u32],
-    gate: &G,
-) -> LineRun<D>
+// Runs the sessions of an origin: by the order, where the words have one, else in threads. The disk is watched meanwhile.
+fn run_of<
+    R: Threads + Wait + Sync,
+    O: Origin + Send,
+    B: Beginning + Send,
+    D: Disk + Drop + Send,
+    G: Gate + Sync,
+>(rt: &R, alloc: Global, disk: D, said: Said, given: Scripts, order: &[u32], gate: &G) -> LineRun<D>
     requires sessions { length said.scripts.items ≡ O.sessions }
     requires few { O.sessions ≤ 16 }
     requires short { All (λ items. length items < 2 ^ 32) said.scripts.items }
@@ -131,20 +132,23 @@ fn run_of<R: Threads + Wait + Sync, O: Origin + Send, D: Disk + Drop + Send, G: 
     requires mortals { MayDie (G.mortals gate.now) (mortals_of O.opening O.sessions) }
     requires opens { O.told → OpensWith ⟦<ReservingStatements as Statements>⟧.stands (D.view disk) O.opening }
     requires faults { O.told → O.faults ≡ (D.view disk).faults }
+    requires began { B.faults ≡ (D.view disk).faults }
     ensures legal { O.told → IsLegal O.opening (map event_of result.events) }
     ensures whole { O.told → result.is_whole ≡ true → HaveAllEnded O.opening O.sessions (map event_of result.events) }
     ensures order { given.has_order ≡ true → O.told → result.is_whole ≡ true → KeepsTurns O.opening O.sessions order.now result.events }
     ensures images { O.told → result.fault ≡ None → HoldsPrefix ⟦<ReservingStatements as Statements>⟧.stands O.opening (D.view result.disk) (map event_of result.events) }
     ensures left { O.told → result.is_whole ≡ true → HoldsAll ⟦<ReservingStatements as Statements>⟧.stands O.opening (D.view result.disk) (map event_of result.events) }
-    ensures harmed { O.told → has_device_deaths (map event_of result.events) ≡ true → Rose (D.view disk).faults (D.view result.disk).faults }
+    ensures harmed { O.told → RoseBy (failures (map event_of result.events) result.halt) (D.view disk).faults (D.view result.disk).faults }
+    ensures stopped { (why : Halt) → result.halt ≡ Some why → Rose (D.view disk).faults (D.view result.disk).faults }
     ensures unsaid { (result.fault ≡ None → ⊥) → result.events ≡ [] }
     ensures failed { result.fault ≡ Some OpeningFault.Failed → Rose (D.view disk).faults (D.view result.disk).faults }
     ensures bad { (file : File) (slot : ℕ) → result.fault ≡ Some (OpeningFault.Bad file slot) → HasNoNumbers (D.view disk) }
 {
+    let disk = WatchedDisk::<B, D>::new(disk);
     if given.has_order {
-        say_in_order::<O, D, G>(alloc, disk, said, order, gate)
+        unwatched(say_in_order::<O, WatchedDisk<B, D>, G>(alloc, disk, said, order, gate))
     } else {
-        say_in_threads::<R, O, D, G>(rt, alloc, disk, said, gate)
+        unwatched(say_in_threads::<R, O, WatchedDisk<B, D>, G>(rt, alloc, disk, said, gate))
     }
 }
 
@@ -167,12 +171,14 @@ fn unopened<D: Drop>(alloc: Global, disk: D) -> LineRun<D>
     ensures events { result.events ≡ [] }
     ensures is_whole { result.is_whole ≡ false }
     ensures fault { result.fault ≡ Some OpeningFault.NoMemory }
+    ensures halt { result.halt ≡ None }
 {
     LineRun {
         disk,
         events: Items::new(alloc),
         is_whole: false,
         fault: Some(OpeningFault::NoMemory),
+        halt: None,
     }
 }
 
@@ -198,7 +204,8 @@ fn say_scripts<R: Threads + Wait + Sync, O: Origin, D: Disk + Drop + Send, G: Ga
         KeepsTurns (said_to (letting asked.entry.given.death O.opening) (word_of asked.entry.words.now) scripts.items) asked.entry.given.count (order_in asked.entry.words.now) result.events }
     ensures images { O.told → result.fault ≡ None → HoldsPrefix ⟦<ReservingStatements as Statements>⟧.stands (said_to (letting asked.entry.given.death O.opening) (word_of asked.entry.words.now) scripts.items) (D.view result.disk) (map event_of result.events) }
     ensures left { O.told → result.is_whole ≡ true → HoldsAll ⟦<ReservingStatements as Statements>⟧.stands (said_to (letting asked.entry.given.death O.opening) (word_of asked.entry.words.now) scripts.items) (D.view result.disk) (map event_of result.events) }
-    ensures harmed { O.told → has_device_deaths (map event_of result.events) ≡ true → Rose (D.view disk).faults (D.view result.disk).faults }
+    ensures harmed { O.told → RoseBy (failures (map event_of result.events) result.halt) (D.view disk).faults (D.view result.disk).faults }
+    ensures stopped { (why : Halt) → result.halt ≡ Some why → Rose (D.view disk).faults (D.view result.disk).faults }
     ensures unsaid { (result.fault ≡ None → ⊥) → result.events ≡ [] }
     ensures failed { result.fault ≡ Some OpeningFault.Failed → Rose (D.view disk).faults (D.view result.disk).faults }
     ensures bad { (file : File) (slot : ℕ) → result.fault ≡ Some (OpeningFault.Bad file slot) → HasNoNumbers (D.view disk) }
@@ -206,7 +213,7 @@ fn say_scripts<R: Threads + Wait + Sync, O: Origin, D: Disk + Drop + Send, G: Ga
     let given = asked.given;
     match named_by(alloc, asked) {
         Err(_) => unopened(alloc, disk),
-        Ok(Named { word, order }) => run_of::<R, Brand, D, Dying<'_, G>>(
+        Ok(Named { word, order }) => run_of::<R, Brand, Brand, D, Dying<'_, G>>(
             rt,
             alloc,
             disk,
@@ -234,7 +241,7 @@ fn status_whole(written: u8, events: &[Event]) -> u8
     }
 }
 
-// Writes what the sessions were answered, where all came to their ends.
+// Writes what the sessions were answered, where all came to their ends, or a device failed in a recovery.
 fn finish_scripts<D: Drop, K: Sink>(
     alloc: Global,
     ran: LineRun<D>,
@@ -249,7 +256,7 @@ fn finish_scripts<D: Drop, K: Sink>(
     ensures whole { IsWhole result.status → ran.is_whole ≡ true }
     ensures died { result.status ≡ 8 → has_death ran.events ≡ true }
     ensures lived { result.status ≡ 0 → has_death ran.events ≡ false }
-    ensures failed { result.status ≡ 3 → ran.fault ≡ Some OpeningFault.Failed }
+    ensures failed { result.status ≡ 3 → (ran.fault ≡ Some OpeningFault.Failed) ⊎ (ran.halt ≡ Some (Halt.Device Fault.Failed)) }
     ensures bad { result.status ≡ 4 → (file : File) × (slot : ℕ) × (ran.fault ≡ Some (OpeningFault.Bad file slot)) }
     ensures sink { result.status ≡ 6 → Rose (K.faults out.old) (K.faults out.new) }
     ensures written { K.tells out.old ≡ true → IsWritten result.status → K.taken out.new ≡ K.taken out.old ++ transcripts sessions ran.events }
@@ -260,6 +267,7 @@ fn finish_scripts<D: Drop, K: Sink>(
         events,
         is_whole,
         fault,
+        halt,
     } = ran;
     let status = match fault {
         Some(fault) => status_unopened(fault),
@@ -268,7 +276,7 @@ fn finish_scripts<D: Drop, K: Sink>(
                 let written = write_transcripts(alloc, events.as_slice(), sessions, out);
                 status_whole(written, events.as_slice())
             } else {
-                5
+                status_stopped(alloc, halt, events.as_slice(), sessions, out)
             }
         }
     };
@@ -314,7 +322,8 @@ fn run_rdo<
     ensures unread { (result.status ≡ 2) ⊎ (result.status ≡ 10) → result.events ≡ [] }
     ensures died { result.status ≡ 8 → has_death result.events ≡ true }
     ensures lived { result.status ≡ 0 → has_death result.events ≡ false }
-    ensures harmed { O.told → has_device_deaths (map event_of result.events) ≡ true → Rose (D.view disk).faults (D.view result.disk).faults }
+    ensures harmed { O.told → RoseBy (device_deaths (map event_of result.events)) (D.view disk).faults (D.view result.disk).faults }
+    ensures stopped { O.told → result.status ≡ 3 → RoseBy (device_deaths (map event_of result.events) + 1) (D.view disk).faults (D.view result.disk).faults }
     ensures account { O.told → OfSomeScripts asked.entry.given.count (S.tells scripts.old ≡ true) (scripts_of (S.left scripts.old) asked.entry.given.count)
         (IsRun O.opening (word_of asked.entry.words.now) asked.entry.given (order_in asked.entry.words.now) result.status result.events) }
     ensures legal { O.told → S.tells scripts.old ≡ true →
@@ -410,8 +419,9 @@ where
     // Some session died, or none.
     ensures died { result.status ≡ 8 → has_death result.events ≡ true }
     ensures lived { (given : GivenScripts) → command_for words.now ≡ Some (Command.Rdo given) → result.status ≡ 0 → has_death result.events ≡ false }
-    // A session died of a device only where a device call failed in this run.
-    ensures harmed { (given : GivenScripts) → command_for words.now ≡ Some (Command.Rdo given) → O.told → has_device_deaths (map event_of result.events) ≡ true → Rose (D.view disk).faults (D.view result.disk).faults }
+    // As many device calls failed in this run as sessions died of a device, and under status 3 one more.
+    ensures harmed { (given : GivenScripts) → command_for words.now ≡ Some (Command.Rdo given) → O.told → RoseBy (device_deaths (map event_of result.events)) (D.view disk).faults (D.view result.disk).faults }
+    ensures stopped { (given : GivenScripts) → command_for words.now ≡ Some (Command.Rdo given) → O.told → result.status ≡ 3 → RoseBy (device_deaths (map event_of result.events) + 1) (D.view disk).faults (D.view result.disk).faults }
     // The events keep to the order that the words name.
     ensures order { (given : GivenScripts) → command_for words.now ≡ Some (Command.Rdo given) → given.has_order ≡ true → O.told → S.tells scripts.old ≡ true → IsWhole result.status →
         KeepsTurns (said_to (letting given.death O.opening) (word_of words.now) (scripts_of (S.left scripts.old) given.count)) given.count (order_in words.now) result.events }

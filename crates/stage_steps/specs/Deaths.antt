@@ -15,7 +15,7 @@ use Rattle.session_states.specs.States.{session, dead_session, gone_session}
 use Rattle.session_states.specs.Steps.{Fall}
 use Rattle.session_measure.specs.Weights.{Falls}
 use Rattle.stage_steps.specs.Nearer.{NearerRecovered}
-use Rattle.stage_steps.specs.Scenes.{Scene, Goes, on_shelf, beside}
+use Rattle.stage_steps.specs.Scenes.{Scene, Goes, HasFailed, on_shelf, beside}
 use Rattle.stage_steps.specs.declared.dying.Recovery.{Recovery}
 use Rattle.stage_steps.specs.declared.dying.Recovery.TheVariants.{More, Done}
 
@@ -49,10 +49,15 @@ recovery_events s (Ok (Done committed moment)) = Recovered s committed moment.nu
 recovery_events s (Ok More) = []
 recovery_events s (Err fault) = []
 
+-- Where a device call is said to have failed, one did; else the dead session comes nearer.
+abbrev pub NearerRecoveredIn : ℕ → Result Recovery Fault → Scene → Scene → List Item → ℕ → Phase → Type 0
+NearerRecoveredIn s (Err fault) old new left total x = HasFailed s fault old.sight new.sight
+NearerRecoveredIn s result old new left total x = NearerRecovered s result (beside old) (beside new) left total x
+
 -- a step of the recovery of a session that died in this phase
 abbrev pub RecoversIn : Model → ℕ → Phase → Scene → Scene → Result Recovery Fault → Type 0
 RecoversIn M s x old new result = Goes s x Dead x (life_behind result)
     (λ h g. (o : Opening) (dead : ℕ) (left : List Item) (total : ℕ) →
     Fall M o s (on_shelf old h dead) (dead_session left total x) (on_shelf new g (dead_behind result dead)) (recovered_by result left total x) (recovery_events s result))
-    ((left : List Item) (total : ℕ) → NearerRecovered s result (beside old) (beside new) left total x)
+    ((left : List Item) (total : ℕ) → NearerRecoveredIn s result old new left total x)
     old new

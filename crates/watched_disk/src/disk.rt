@@ -10,7 +10,7 @@ use std::marker::PhantomData;
 /// A disk, and whether a call of it has failed since the beginning. It is the disk in all that it tells.
 #[derive(Drop)]
 pub struct WatchedDisk<B: Beginning, D: Disk + Drop> {
-    disk: D,
+    pub disk: D,
     has_failed: bool,
     of: PhantomData<B>,
     ghost no_fewer: { B.faults ≤ (D.view disk).faults },

@@ -1,8 +1,8 @@
-use Rattle.std.proofs.Common.{◌≡◌, Bool, true, false, not, ap, map, refl, subst, sym, ◌∙◌}
+use Rattle.std.proofs.Common.{Bool, true, false, ◌≡◌, not, ap, map, refl, subst, sym, ◌∙◌}
 use Rattle.std.proofs.lemmas.Bool.{false≢true}
 use Rattle.rdb_account.specs.Events.{event_of}
 use Rattle.rdb_account.specs.Legal.{AreWhole, IsLegal}
-use Rattle.line_cluster.specs.Deaths.{CountsFaults, has_device_deaths}
+use Rattle.line_cluster.specs.Deaths.{CountsFaults, failures}
 use Rattle.line_cluster.specs.Sound.{HasImages, IsLeft}
 use Rattle.line_cluster.specs.Turned.{HaveAllEnded, is_session}
 use Rattle.line_drive.specs.Turns.{has_deaths}
@@ -19,7 +19,7 @@ returns-clause-ended g c whole = elim c.if-has_ended.branch [
 
 pub returns-clause-going : goal.returns-clause-going
 returns-clause-going g c whole = elim c.if-has_ended.branch [
-  | then-has_ended w ↦ sym c.halt-halt.ensures ∙ (sym w.is_some.ensures ∙ not-true w.is_some.result (sym w.is_whole-is ∙ whole))
+  | then-has_ended w ↦ sym c.end-events.ensures.halt ∙ (sym w.is_some.ensures ∙ not-true w.is_some.result (sym w.is_whole-is ∙ whole))
   | else-has_ended w ↦ absurd (false≢true (sym w.if-has_ended.false ∙ (sym w.is_whole-is ∙ whole)))
 ]
 
@@ -30,7 +30,7 @@ not-not false = refl
 pub returns-clause-halt : goal.returns-clause-halt
 returns-clause-halt g c = elim c.if-has_ended.branch [
   | then-has_ended w ↦ sym w.is_some.ensures ∙ (not-not w.is_some.result ∙ ap not (sym w.is_whole-is))
-  | else-has_ended w ↦ (c.halt-halt.ensures ∙ c.requires.stopped w.if-has_ended.false) ∙ ap not (sym (w.is_whole-is ∙ w.if-has_ended.false))
+  | else-has_ended w ↦ (c.end-events.ensures.halt ∙ c.requires.stopped w.if-has_ended.false) ∙ ap not (sym (w.is_whole-is ∙ w.if-has_ended.false))
 ]
 
 pub returns-clause-legal : goal.returns-clause-legal
@@ -56,7 +56,7 @@ returns-clause-images g c told =
 
 pub returns-clause-faults : goal.returns-clause-faults
 returns-clause-faults g c told =
-    subst (λ es. CountsFaults g.O.Origin.faults (has_device_deaths (map event_of es) ≡ true) (g.L.LineStore.sight c.end-events.result.store)) (sym c.end-events.ensures.events) (c.end-events.ensures.faults told)
+    subst (λ es. CountsFaults g.O.Origin.faults (failures (map event_of es) c.end-events.result.halt) (g.L.LineStore.sight c.end-events.result.store)) (sym c.end-events.ensures.events) (c.end-events.ensures.faults told)
 
 pub returns-clause-outside : goal.returns-clause-outside
 returns-clause-outside g c whole = c.end-events.ensures.outside (returns-clause-going g c whole) (c.requires.ended (returns-clause-ended g c whole))

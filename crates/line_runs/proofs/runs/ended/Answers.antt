@@ -5,7 +5,7 @@ pub returns-clause-images : goal.returns-clause-images
 returns-clause-images g c o events has = holds-prefix _ o (g.D.Disk.view c.into_disk.result) events _ c.into_disk.ensures has
 
 pub returns-clause-faults : goal.returns-clause-faults
-returns-clause-faults g c faults events k died = harmed (g.D.Disk.view c.into_disk.result) events _ c.into_disk.ensures faults k died
+returns-clause-faults g c faults more k = harmed (g.D.Disk.view c.into_disk.result) _ c.into_disk.ensures faults more k
 
 pub returns-clause-left : goal.returns-clause-left
 returns-clause-left g c o events it rests = holds-all _ o (g.D.Disk.view c.into_disk.result) events _ c.into_disk.ensures it rests

@@ -1,10 +1,9 @@
-use Rattle.std.proofs.Common.{◌≡◌, true, map, subst, sym, ◌∙◌}
+use Rattle.std.proofs.Common.{map, subst, sym, ◌∙◌}
 use Rattle.std.proofs.lemmas.Bool.{false≢true}
 use Rattle.std.proofs.lemmas.Option.{none-some}
-use Rattle.rdb_outside.specs.Causes.{Rose}
 use Rattle.rdb_account.specs.Events.{event_of}
-use Rattle.line_cluster.specs.Deaths.{has_device_deaths}
-use Rattle.line_runs.proofs.Opening.{same-fault}
+use Rattle.line_cluster.specs.Deaths.{RoseBy, failures}
+use Rattle.line_runs.proofs.Opening.{rose-none, same-fault}
 use Rattle.line_runs.proofs.runs.say_in_order.Goals as goal
 
 pub returns-in-Err-clause-bad : goal.returns-in-Err-clause-bad
@@ -23,10 +22,11 @@ returns-in-Ok-clause-left g c told whole =
 
 pub returns-in-Ok-clause-harmed : goal.returns-in-Ok-clause-harmed
 returns-in-Ok-clause-harmed g c told =
-    rw c.ended.ensures.events (λ died. subst (λ n. Rose n (g.D.Disk.view c.ended.result.disk).faults) (c.requires.faults told) (c.ended.ensures.faults g.O.Origin.faults (map event_of c.run_in_order.result.events) (c.run_in_order.ensures.faults told) died))
+    let more = failures (map event_of c.run_in_order.result.events) c.run_in_order.result.halt in
+    rw c.ended.ensures.events (rw c.ended.ensures.halt (subst (λ n. RoseBy more n (g.D.Disk.view c.ended.result.disk).faults) (c.requires.faults told) (c.ended.ensures.faults g.O.Origin.faults more (c.run_in_order.ensures.faults told))))
 
 pub returns-in-Err-clause-harmed : goal.returns-in-Err-clause-harmed
-returns-in-Err-clause-harmed g c told died = absurd (false≢true (subst (λ es. has_device_deaths (map event_of es) ≡ true) c.unsaid.ensures.events died))
+returns-in-Err-clause-harmed g c told = rw c.unsaid.ensures.events (rw c.unsaid.ensures.halt (rw c.unsaid.ensures.disk (rose-none _ _ (c.in-Err.ensures.later told))))
 
 pub returns-in-Err-clause-images : goal.returns-in-Err-clause-images
 returns-in-Err-clause-images g c told opened = absurd (none-some c.in-Err.unopened.fault (sym opened ∙ c.unsaid.ensures.fault))

@@ -21,7 +21,10 @@ returns-in-Some-Rdo-clause-legal g c given row told tells =
     (same-given c.in-Some-Rdo.given given _ (ap Some (sym c.in-Some-Rdo.field-0-is) ∙ c.in-Some-Rdo.ensures.row) row) (c.run_rdo.ensures.legal told tells)
 
 pub returns-in-Some-Rdo-clause-harmed : goal.returns-in-Some-Rdo-clause-harmed
-returns-in-Some-Rdo-clause-harmed g c given row told died = c.run_rdo.ensures.harmed told died
+returns-in-Some-Rdo-clause-harmed g c given row told = c.run_rdo.ensures.harmed told
+
+pub returns-in-Some-Rdo-clause-stopped : goal.returns-in-Some-Rdo-clause-stopped
+returns-in-Some-Rdo-clause-stopped g c given row told is = c.run_rdo.ensures.stopped told is
 
 pub returns-in-Some-Rdo-clause-whole : goal.returns-in-Some-Rdo-clause-whole
 returns-in-Some-Rdo-clause-whole g c given row told tells whole =

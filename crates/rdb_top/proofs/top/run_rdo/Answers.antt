@@ -1,4 +1,5 @@
-use Rattle.std.proofs.Common.{map, subst, refl, ◌∙◌}
+use Rattle.std.proofs.Common.{None, inl, inr, map, subst, sym, refl, ◌∙◌}
+use Rattle.std.proofs.lemmas.Option.{none-some}
 use Rattle.rdb_account.specs.Events.{event_of}
 use Rattle.rdb_account.specs.Legal.{IsLegal}
 use Rattle.line_cluster.specs.Turned.{HaveAllEnded}
@@ -8,7 +9,8 @@ use Rattle.command_words.specs.Words.{word_of, order_in}
 use Rattle.rdb_top.specs.Deaths.{letting}
 use Rattle.rdb_top.specs.Runs.{scripts_of, IsWhole}
 use Rattle.rdb_top.proofs.Saying.{prefix-of-scripts, all-of-scripts}
-use Rattle.rdb_top.proofs.Unsaid.{is-opened, nobody-died, nothing-said, stop-is-no-end}
+use Rattle.rdb_top.proofs.Failures.{rose-deaths, rose-stopped, rose-unopened}
+use Rattle.rdb_top.proofs.Unsaid.{is-opened, nobody-died, nothing-said, stop-is-no-end, stop-is-no-failure}
 use Rattle.rdb_top.proofs.Upward.{scripts-length}
 use Rattle.rdb_top.proofs.top.run_rdo.Goals as goal
 
@@ -48,10 +50,27 @@ returns-in-Err-clause-account g c told =
     )
 
 pub returns-in-Ok-clause-harmed : goal.returns-in-Ok-clause-harmed
-returns-in-Ok-clause-harmed g c told = rw c.finish_scripts.ensures.events (rw c.finish_scripts.ensures.disk (c.say_scripts-ran.ensures.harmed told))
+returns-in-Ok-clause-harmed g c told = rw c.finish_scripts.ensures.events (rw c.finish_scripts.ensures.disk (rose-deaths (map event_of c.say_scripts-ran.result.events) c.say_scripts-ran.result.halt _ _ (c.say_scripts-ran.ensures.harmed told)))
 
 pub returns-in-Err-clause-harmed : goal.returns-in-Err-clause-harmed
-returns-in-Err-clause-harmed g c told died = absurd (nobody-died c.unsaid.result.events c.unsaid.ensures.events died)
+returns-in-Err-clause-harmed g c told = rw c.unsaid.ensures.disk (nobody-died c.unsaid.result.events None _ c.unsaid.ensures.events refl)
+
+pub returns-in-Ok-clause-device : goal.returns-in-Ok-clause-device
+returns-in-Ok-clause-device g c is = rw c.finish_scripts.ensures.disk (elim (c.finish_scripts.ensures.failed is) [
+  | inl unopened ↦ c.say_scripts-ran.ensures.failed unopened
+  | inr halt ↦ c.say_scripts-ran.ensures.stopped _ halt
+])
+
+pub returns-in-Ok-clause-stopped : goal.returns-in-Ok-clause-stopped
+returns-in-Ok-clause-stopped g c told is =
+    let events = map event_of c.say_scripts-ran.result.events in
+    rw c.finish_scripts.ensures.events (rw c.finish_scripts.ensures.disk (elim (c.finish_scripts.ensures.failed is) [
+      | inl unopened ↦ rose-unopened c.say_scripts-ran.result.events _ _ (c.say_scripts-ran.ensures.unsaid (λ none. none-some _ (sym none ∙ unopened))) (c.say_scripts-ran.ensures.failed unopened)
+      | inr halt ↦ rose-stopped events c.say_scripts-ran.result.halt _ _ halt (c.say_scripts-ran.ensures.harmed told)
+    ]))
+
+pub returns-in-Err-clause-stopped : goal.returns-in-Err-clause-stopped
+returns-in-Err-clause-stopped g c told is = absurd (stop-is-no-failure c.in-Err.stop (sym (c.unsaid.ensures.status ∙ c.status_of.ensures) ∙ is))
 
 pub returns-in-Ok-clause-unopened : goal.returns-in-Ok-clause-unopened
 returns-in-Ok-clause-unopened g c is =

@@ -33,11 +33,17 @@ run_of-requires-clause-opens g c κs within =
 pub run_of-requires-clause-faults : goal.run_of-requires-clause-faults
 run_of-requires-clause-faults g c κs within = λ told. refl
 
+pub run_of-requires-clause-began : goal.run_of-requires-clause-began
+run_of-requires-clause-began g c κs within = refl
+
 pub returns-in-Ok-clause-harmed : goal.returns-in-Ok-clause-harmed
-returns-in-Ok-clause-harmed g c told died = c.run_of.ensures.harmed told died
+returns-in-Ok-clause-harmed g c told = c.run_of.ensures.harmed told
 
 pub returns-in-Err-clause-harmed : goal.returns-in-Err-clause-harmed
-returns-in-Err-clause-harmed g c told died = absurd (nobody-died c.unopened.result.events c.unopened.ensures.events died)
+returns-in-Err-clause-harmed g c told = rw c.unopened.ensures.disk (nobody-died c.unopened.result.events c.unopened.result.halt _ c.unopened.ensures.events c.unopened.ensures.halt)
+
+pub returns-in-Err-clause-stopped : goal.returns-in-Err-clause-stopped
+returns-in-Err-clause-stopped g c why is = absurd (none-some why (sym c.unopened.ensures.halt ∙ is))
 
 pub returns-in-Ok-clause-legal : goal.returns-in-Ok-clause-legal
 returns-in-Ok-clause-legal g c told =

@@ -1,8 +1,8 @@
-use Rattle.std.proofs.Common.{◌≡◌, ℕ, false, true, map, subst}
+use Rattle.std.proofs.Common.{◌≡◌, ℕ, false, is_some, map, refl, subst}
 use Rattle.rdb_account.specs.Events.{event_of}
 use Rattle.line_store.specs.Seats.{outside}
 use Rattle.line_store.specs.Sights.{bare}
-use Rattle.line_cluster.specs.Deaths.{CountsFaults, has_device_deaths}
+use Rattle.line_cluster.specs.Deaths.{CountsFaults, failures}
 use Rattle.line_cluster.specs.Sound.{HasImages, IsLeft}
 use Rattle.line_cluster.specs.Turned.{Sessions, HaveEnded}
 use Rattle.line_cluster.proofs.Coming.{none-from}
@@ -19,9 +19,12 @@ returns-clause-images g c =
     subst (λ (v : Sessions). g.O.Origin.told → HasImages g.S.Statements.stands g.O.Origin.opening (g.L.LineStore.sight c.self.inside.core.common.store) (map event_of v.events)) c.self.view_is
     c.self.invariant.sound.images
 
+pub returns-clause-halt : goal.returns-clause-halt
+returns-clause-halt g c = subst (λ (v : Sessions). is_some c.self.inside.core.halt ≡ v.halted) c.self.view_is refl
+
 pub returns-clause-faults : goal.returns-clause-faults
 returns-clause-faults g c =
-    subst (λ (v : Sessions). g.O.Origin.told → CountsFaults g.O.Origin.faults (has_device_deaths (map event_of v.events) ≡ true) (g.L.LineStore.sight c.self.inside.core.common.store)) c.self.view_is
+    subst (λ (v : Sessions). g.O.Origin.told → CountsFaults g.O.Origin.faults (failures (map event_of v.events) c.self.inside.core.halt) (g.L.LineStore.sight c.self.inside.core.common.store)) c.self.view_is
     c.self.invariant.sound.causes
 
 pub returns-clause-outside : goal.returns-clause-outside

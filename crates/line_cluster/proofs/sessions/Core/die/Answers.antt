@@ -1,9 +1,10 @@
-use Rattle.std.proofs.Common.{◌≡◌, ◌-◌, ◌∙◌, ◌++◌, ◌∷◌, [], sym, ap, refl, map, slice_get, List, Some, inl, inr, false}
+use Rattle.std.proofs.Common.{◌≡◌, ◌+◌, ◌-◌, ◌∙◌, ◌++◌, ◌∷◌, [], sym, ap, subst, refl, map, slice_get, List, Some, inl, inr, false}
 use Rattle.std.proofs.lemmas.Bool.{false≢true}
 use Rattle.rdb_account.specs.Events.{Died, event_of}
 use Rattle.session_states.specs.declared.stage.Member.{Member}
 use Rattle.line_cluster.proofs.Coming.{has-died, looked}
-use Rattle.line_cluster.proofs.Faults.{counts-otherwise}
+use Rattle.line_cluster.specs.Deaths.{CountsFaults, device_deaths, faults_of}
+use Rattle.line_cluster.proofs.Faults.{counts-fewer, other-death}
 use Rattle.line_cluster.proofs.Stepping.{work-alive}
 use Rattle.line_cluster.proofs.sessions.Core.die.Goals as goal
 
@@ -17,7 +18,9 @@ pub returns-then-is_err-clause-came : goal.returns-then-is_err-clause-came
 returns-then-is_err-clause-came g c = inr (inl (record { halted = c.stop-turn.ensures.halted; members = c.stop-turn.ensures.members; events = c.stop-turn.ensures.events ∙ c.reserve_step.ensures.same; rests = λ stopped. absurd (false≢true (sym (sym c.is_some.ensures ∙ c.if-is_some.false) ∙ stopped)) }))
 
 pub fall-requires-clause-caused : goal.fall-requires-clause-caused
-fall-requires-clause-caused g c = λ told. counts-otherwise g.O.Origin.faults _ (g.L.LineStore.sight c.args.self.now.common.store) c.args.cause c.requires.own (c.requires.sound.causes told)
+fall-requires-clause-caused g c = λ told.
+    subst (λ es. CountsFaults g.O.Origin.faults (device_deaths (map event_of es) + faults_of c.args.cause) (g.L.LineStore.sight c.args.self.now.common.store)) (sym c.reserve_step.ensures.same)
+    (counts-fewer g.O.Origin.faults _ _ (g.L.LineStore.sight c.args.self.now.common.store) (other-death (map event_of c.args.self.now.events.items) c.args.cause c.args.self.now.halt c.requires.own) (c.requires.sound.causes told))
 
 pub fall-requires-clause-lives : goal.fall-requires-clause-lives
 fall-requires-clause-lives g c = λ m found. work-alive m (looked c.args.self.now.members.items (c.args.s.number - 1) c.member_at.result.now m false (ap (λ (ms : List Member). slice_get ms (c.args.s.number - 1)) (sym c.deref.ensures.value) ∙ c.member_at.ensures) (sym c.is_over.ensures ∙ c.if-is_over.false) found)

@@ -9,6 +9,7 @@ use Rattle.stage_steps.specs.Scenes.{scene}
 use Rattle.line_cluster.specs.Turned.{with_life}
 use Rattle.line_cluster.proofs.Coming.{has-recovered-on, put-back}
 use Rattle.line_cluster.proofs.Falling.{has-recovered, dead-stands, died-at}
+use Rattle.line_cluster.proofs.Faults.{fault-within, quiet-within}
 use Rattle.line_cluster.proofs.Nearing.{recovered-nearer}
 use Rattle.line_cluster.proofs.sessions.Core.recover_at.Goals as goal
 
@@ -17,13 +18,13 @@ recover-step-requires-clause-died g c = dead-stands (g.L.LineStore.sight c.args.
 
 pub returns-in-Ok-clause-sound : goal.returns-in-Ok-clause-sound
 returns-in-Ok-clause-sound g c =
-    has-recovered g.S.Statements.stands g.met.S.Statements.orderly g.O.Origin.told g.O.Origin.opening g.O.Origin.faults _ _ (g.L.LineStore.stands c.recover-step.new.common.store) _ _ _ _ c.args.at c.take_member-left.result c.recover-step.result _ _ c.requires.going c.take_member-left.ensures.taken (died-at c.args.self.now.members.items c.args.at c.take_member-left.result c.requires.dead c.take_member-left.ensures.taken) c.requires.sound (c.recover-step.ensures c.take_member-left.result.phase)
+    has-recovered g.S.Statements.stands g.met.S.Statements.orderly g.O.Origin.told g.O.Origin.opening g.O.Origin.faults _ _ (g.L.LineStore.stands c.recover-step.new.common.store) _ _ _ _ c.args.at c.take_member-left.result c.recover-step.result _ _ c.requires.going c.take_member-left.ensures.taken (died-at c.args.self.now.members.items c.args.at c.take_member-left.result c.requires.dead c.take_member-left.ensures.taken) c.requires.sound (quiet-within c.recover-step.result c.args.self.now.halt c.requires.going) (c.recover-step.ensures c.take_member-left.result.phase)
     (c.put_member.ensures ∙ (c.take_member-left.ensures.rest _ ∙ ap (λ (l : Life). slice_set c.args.self.now.members.items c.args.at (record { left = c.take_member-left.result.left; total = c.take_member-left.result.total; phase = c.take_member-left.result.phase; life = l })) c.life_behind.ensures))
     (c.record_recovery.ensures ∙ ap (λ (r : Result Recovery Fault). map event_of c.args.self.now.events.items ++ recovery_events (c.args.at + 1) r) (sym c.in-Ok.is))
 
 pub returns-in-Err-clause-sound : goal.returns-in-Err-clause-sound
 returns-in-Err-clause-sound g c =
-    has-recovered g.S.Statements.stands g.met.S.Statements.orderly g.O.Origin.told g.O.Origin.opening g.O.Origin.faults _ _ (g.L.LineStore.stands c.recover-step.new.common.store) _ _ _ _ c.args.at c.take_member-left.result c.recover-step.result _ _ c.requires.going c.take_member-left.ensures.taken (died-at c.args.self.now.members.items c.args.at c.take_member-left.result c.requires.dead c.take_member-left.ensures.taken) c.requires.sound (c.recover-step.ensures c.take_member-left.result.phase)
+    has-recovered g.S.Statements.stands g.met.S.Statements.orderly g.O.Origin.told g.O.Origin.opening g.O.Origin.faults _ _ (g.L.LineStore.stands c.recover-step.new.common.store) _ _ _ _ c.args.at c.take_member-left.result c.recover-step.result _ _ c.requires.going c.take_member-left.ensures.taken (died-at c.args.self.now.members.items c.args.at c.take_member-left.result c.requires.dead c.take_member-left.ensures.taken) c.requires.sound (fault-within c.recover-step.result c.in-Err.fault c.in-Err.is) (c.recover-step.ensures c.take_member-left.result.phase)
     (c.put_member.ensures ∙ (c.take_member-left.ensures.rest _ ∙ ap (λ (l : Life). slice_set c.args.self.now.members.items c.args.at (record { left = c.take_member-left.result.left; total = c.take_member-left.result.total; phase = c.take_member-left.result.phase; life = l })) c.life_behind.ensures))
     (sym (append-nil _) ∙ ap (λ (r : Result Recovery Fault). map event_of c.args.self.now.events.items ++ recovery_events (c.args.at + 1) r) (sym c.in-Err.is))
 

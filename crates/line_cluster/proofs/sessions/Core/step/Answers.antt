@@ -1,4 +1,5 @@
-use Rattle.std.proofs.Common.{◌∙◌, ◌++◌, ◌&&◌, ℕ, Bool, true, List, refl, sym, ap, subst, map, is_some, slice_get, append-nil}
+use Rattle.std.proofs.Common.{◌∙◌, ◌+◌, ◌++◌, ◌&&◌, ℕ, Bool, true, List, refl, sym, ap, subst, map, is_some, slice_get, append-nil}
+use Rattle.rdb_types.specs.declared.session.Cause.TheVariants.{Device}
 use Rattle.rdb_account.specs.Events.{event_of}
 use Rattle.line_store.specs.Sights.{Sight}
 use Rattle.session_states.specs.declared.stage.Member.{Member}
@@ -8,10 +9,13 @@ use Rattle.stage_steps.specs.declared.happening.Happening.{Happening}
 use Rattle.stage_steps.specs.Happenings.{events_of, handed_back}
 use Rattle.stage_steps.specs.Scenes.{Scene, NearerIn, beside, scene}
 use Rattle.line_arms.specs.declared.allotment.Allotment.{Allotment}
+use Rattle.line_cluster.specs.declared.behind.Behind.{Behind}
+use Rattle.line_cluster.specs.Behind.{halt_behind}
+use Rattle.line_cluster.specs.Deaths.{device_deaths, failures, faults_in, faults_of}
 use Rattle.line_cluster.specs.Measured.{measure_by}
 use Rattle.line_cluster.specs.Turned.{Sessions, sessions, rounds_at}
 use Rattle.line_cluster.proofs.Coming.{went, went-served, came-by, fell}
-use Rattle.line_cluster.proofs.Faults.{counts-failed}
+use Rattle.line_cluster.proofs.Faults.{counts-failed, counts-fewer, failed-death}
 use Rattle.line_cluster.proofs.Measured.{set-found}
 use Rattle.line_cluster.proofs.Nearing.{lives-on, turned-nearer, served-nearer, is-due}
 use Rattle.line_cluster.proofs.Stepping.{among, seated-at, work-alive, going-on, moving-keeps, noticed-keeps, put-lives, turned}
@@ -29,17 +33,17 @@ go_on-turned-requires-clause-going g c = going-on c.take_member-left.result (wor
 pub returns-in-Nothing-clause-sound : goal.returns-in-Nothing-clause-sound
 returns-in-Nothing-clause-sound g c =
     turned g.S.Statements.stands g.met.S.Statements.orderly g.O.Origin.told g.O.Origin.opening g.O.Origin.faults _ _ (g.L.LineStore.stands c.go_on-turned.new.common.store) _ _ _ _ c.args.s.number c.args.at c.take_member-left.result _ _ _ _ _ c.requires.one.first c.requires.at c.requires.going c.requires.lives c.take_member-left.ensures.taken
-    (work-alive c.take_member-left.result (c.requires.work c.take_member-left.result c.take_member-left.ensures.taken)) c.requires.sound c.go_on-turned.ensures.goes c.go_on-turned.ensures.some (λ none. moving-keeps _ (c.behind_of-then.ensures.nothing c.in-Nothing.is)) (c.put_member.ensures ∙ c.take_member-left.ensures.rest _) c.record.ensures
+    (work-alive c.take_member-left.result (c.requires.work c.take_member-left.result c.take_member-left.ensures.taken)) c.requires.sound c.go_on-turned.ensures.goes c.go_on-turned.ensures.some (λ none. moving-keeps _ (c.behind_of-then.ensures.nothing c.in-Nothing.is)) (ap faults_in c.requires.going) (c.put_member.ensures ∙ c.take_member-left.ensures.rest _) c.record.ensures
 
 pub returns-in-Stop-clause-sound : goal.returns-in-Stop-clause-sound
 returns-in-Stop-clause-sound g c =
     turned g.S.Statements.stands g.met.S.Statements.orderly g.O.Origin.told g.O.Origin.opening g.O.Origin.faults _ _ (g.L.LineStore.stands c.go_on-turned.new.common.store) _ _ _ _ c.args.s.number c.args.at c.take_member-left.result _ _ _ _ _ c.requires.one.first c.requires.at c.requires.going c.requires.lives c.take_member-left.ensures.taken
-    (work-alive c.take_member-left.result (c.requires.work c.take_member-left.result c.take_member-left.ensures.taken)) c.requires.sound c.go_on-turned.ensures.goes c.go_on-turned.ensures.some (λ none. cc none) (c.put_member.ensures ∙ c.take_member-left.ensures.rest _) c.record.ensures
+    (work-alive c.take_member-left.result (c.requires.work c.take_member-left.result c.take_member-left.ensures.taken)) c.requires.sound c.go_on-turned.ensures.goes c.go_on-turned.ensures.some (λ none. cc none) (ap (λ (b : Behind). faults_in (halt_behind b)) (sym c.in-Stop.is) ∙ c.behind_of-then.ensures.stop) (c.put_member.ensures ∙ c.take_member-left.ensures.rest _) c.record.ensures
 
 pub serve_notice-requires-clause-sound : goal.serve_notice-requires-clause-sound
 serve_notice-requires-clause-sound g c =
     turned g.S.Statements.stands g.met.S.Statements.orderly g.O.Origin.told g.O.Origin.opening g.O.Origin.faults _ _ (g.L.LineStore.stands c.go_on-turned.new.common.store) _ _ _ _ c.args.s.number c.args.at c.take_member-left.result _ _ _ _ _ c.requires.one.first c.requires.at c.requires.going c.requires.lives c.take_member-left.ensures.taken
-    (work-alive c.take_member-left.result (c.requires.work c.take_member-left.result c.take_member-left.ensures.taken)) c.requires.sound c.go_on-turned.ensures.goes c.go_on-turned.ensures.some (λ none. noticed-keeps _ _ (c.behind_of-then.ensures.serve c.in-Serve.notice c.in-Serve.is)) (c.put_member.ensures ∙ c.take_member-left.ensures.rest _) c.record.ensures
+    (work-alive c.take_member-left.result (c.requires.work c.take_member-left.result c.take_member-left.ensures.taken)) c.requires.sound c.go_on-turned.ensures.goes c.go_on-turned.ensures.some (λ none. noticed-keeps _ _ (c.behind_of-then.ensures.serve c.in-Serve.notice c.in-Serve.is)) (ap faults_in c.requires.going) (c.put_member.ensures ∙ c.take_member-left.ensures.rest _) c.record.ensures
 
 pub serve_notice-requires-clause-lives : goal.serve_notice-requires-clause-lives
 serve_notice-requires-clause-lives g c = lives-on _ _ c.args.at c.take_member-left.result _ _ c.take_member-left.ensures.taken (c.put_member.ensures ∙ c.take_member-left.ensures.rest _) c.requires.lives
@@ -109,7 +113,7 @@ pub fall-requires-clause-sound : goal.fall-requires-clause-sound
 fall-requires-clause-sound g c =
     let failed = c.behind_of-then.ensures.die c.in-Die.is in
     turned g.S.Statements.stands g.met.S.Statements.orderly g.O.Origin.told g.O.Origin.opening g.O.Origin.faults _ _ (g.L.LineStore.stands c.go_on-turned.new.common.store) _ _ _ _ c.args.s.number c.args.at c.take_member-left.result _ _ _ _ _ c.requires.one.first c.requires.at c.requires.going c.requires.lives c.take_member-left.ensures.taken
-    (work-alive c.take_member-left.result (c.requires.work c.take_member-left.result c.take_member-left.ensures.taken)) c.requires.sound c.go_on-turned.ensures.goes c.go_on-turned.ensures.some (λ none. ap handed_back failed) (c.put_member.ensures ∙ c.take_member-left.ensures.rest _)
+    (work-alive c.take_member-left.result (c.requires.work c.take_member-left.result c.take_member-left.ensures.taken)) c.requires.sound c.go_on-turned.ensures.goes c.go_on-turned.ensures.some (λ none. ap handed_back failed) (ap faults_in c.requires.going) (c.put_member.ensures ∙ c.take_member-left.ensures.rest _)
     (sym (append-nil (map event_of c.args.self.now.events.items)) ∙ ap (λ (h : Happening). map event_of c.args.self.now.events.items ++ events_of c.args.s.number h) (sym failed))
 
 pub fall-requires-clause-caused : goal.fall-requires-clause-caused
@@ -120,8 +124,10 @@ fall-requires-clause-caused g c = λ told.
     let failed = c.behind_of-then.ensures.die c.in-Die.is in
     let m = session c.take_member-left.result.left c.take_member-left.result.total c.take_member-left.result.phase in
     let n = session c.go_on-turned.new.left c.take_member-left.result.total c.go_on-turned.result.phase in
-    counts-failed g.O.Origin.faults c.args.s.number (sight c.args.self.now.common.store) (sight c.go_on-turned.new.common.store) _ _
-    (subst (λ (h : Happening). NearerIn c.args.s.number h was is m n) failed ((c.go_on-turned.ensures.goes (ap handed_back failed)).nearer c.take_member-left.result.total)) (c.requires.sound.causes told)
+    let events = map event_of c.args.self.now.events.items in
+    counts-fewer g.O.Origin.faults (device_deaths events + faults_of Device) (failures events c.args.self.now.halt + 1) (sight c.go_on-turned.new.common.store) (failed-death events c.args.self.now.halt)
+    (counts-failed g.O.Origin.faults c.args.s.number (sight c.args.self.now.common.store) (sight c.go_on-turned.new.common.store) (failures events c.args.self.now.halt)
+    (subst (λ (h : Happening). NearerIn c.args.s.number h was is m n) failed ((c.go_on-turned.ensures.goes (ap handed_back failed)).nearer c.take_member-left.result.total)) (c.requires.sound.causes told))
 
 pub fall-requires-clause-lives : goal.fall-requires-clause-lives
 fall-requires-clause-lives g c =

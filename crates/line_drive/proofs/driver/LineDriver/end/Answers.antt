@@ -1,9 +1,9 @@
-use Rattle.std.proofs.Common.{◌≡◌, ℕ, false, true, map, subst}
+use Rattle.std.proofs.Common.{◌≡◌, ℕ, false, is_some, map, subst}
 use Rattle.rdb_account.specs.Events.{event_of}
 use Rattle.rdb_drive.specs.Boards.{AllEnded}
 use Rattle.line_store.specs.Seats.{outside}
 use Rattle.line_store.specs.Sights.{bare}
-use Rattle.line_cluster.specs.Deaths.{CountsFaults, has_device_deaths}
+use Rattle.line_cluster.specs.Deaths.{CountsFaults, failures}
 use Rattle.line_cluster.specs.Sound.{HasImages, IsLeft}
 use Rattle.line_cluster.specs.Turned.{Sessions}
 use Rattle.line_drive.specs.Boards.{board_of}
@@ -18,9 +18,12 @@ pub returns-clause-images : goal.returns-clause-images
 returns-clause-images g c =
     subst (λ (v : Sessions). g.O.Origin.told → HasImages g.S.Statements.stands g.O.Origin.opening (g.L.LineStore.sight c.end.result.store) (map event_of v.events)) c.self.view_is c.end.ensures.images
 
+pub returns-clause-halt : goal.returns-clause-halt
+returns-clause-halt g c = subst (λ (v : Sessions). is_some c.end.result.halt ≡ v.halted) c.self.view_is c.end.ensures.halt
+
 pub returns-clause-faults : goal.returns-clause-faults
 returns-clause-faults g c =
-    subst (λ (v : Sessions). g.O.Origin.told → CountsFaults g.O.Origin.faults (has_device_deaths (map event_of v.events) ≡ true) (g.L.LineStore.sight c.end.result.store)) c.self.view_is c.end.ensures.faults
+    subst (λ (v : Sessions). g.O.Origin.told → CountsFaults g.O.Origin.faults (failures (map event_of v.events) c.end.result.halt) (g.L.LineStore.sight c.end.result.store)) c.self.view_is c.end.ensures.faults
 
 pub returns-clause-outside : goal.returns-clause-outside
 returns-clause-outside g c =

@@ -1,0 +1,69 @@
+//! Sessions that were stopped, and what a disk that is watched tells of them.
+ghost use Rattle.std.specs.Prelude.{◌≡◌, ◌⊎◌, true, None, Some};
+ghost use Rattle.rdb_outside.specs.Causes.{Rose};
+ghost use Rattle.script_streams.specs.Fronts.{WritesFront};
+ghost use Rattle.rdb_top.specs.Runs.{transcripts};
+
+use crate::scripts::write_transcripts;
+use line_cluster::Halt;
+use line_runs::LineRun;
+use line_store::Fault;
+use rdb_account::Event;
+use rdb_outside::{Disk, Sink};
+use std::alloc::Global;
+use watched_disk::{Beginning, WatchedDisk};
+
+// Why the sessions were stopped, where a call of the disk was seen to fail. (Where a device stopped them it was.)
+fn seen(halt: Option<Halt>, has_failed: bool) -> Option<Halt>
+    ensures halt { (result ≡ halt) ⊎ (result ≡ None) }
+    ensures failed { (why : Halt) → result ≡ Some why → has_failed ≡ true }
+{
+    if has_failed { halt } else { None }
+}
+
+/// What was run over a watched disk, over the disk. Why the sessions were stopped is told where a call of the disk failed.
+pub fn unwatched<B: Beginning, D: Disk + Drop>(ran: LineRun<WatchedDisk<B, D>>) -> LineRun<D>
+    ensures disk { result.disk ≡ (ran.disk).disk }
+    ensures events { result.events ≡ ran.events }
+    ensures is_whole { result.is_whole ≡ ran.is_whole }
+    ensures fault { result.fault ≡ ran.fault }
+    ensures halt { (result.halt ≡ ran.halt) ⊎ (result.halt ≡ None) }
+    ensures stopped { (why : Halt) → result.halt ≡ Some why → Rose B.faults (D.view result.disk).faults }
+{
+    let LineRun {
+        disk,
+        events,
+        is_whole,
+        fault,
+        halt,
+    } = ran;
+    let halt = seen(halt, disk.has_failed());
+    LineRun {
+        disk: disk.into_disk(),
+        events,
+        is_whole,
+        fault,
+        halt,
+    }
+}
+
+/// The status of a run whose sessions were stopped. Where a device failed in a recovery, what they were answered is written still.
+pub fn status_stopped<K: Sink>(
+    alloc: Global,
+    halt: Option<Halt>,
+    events: &[Event],
+    sessions: u32,
+    out: &mut K,
+) -> u8
+    ensures status { (result ≡ 3) ⊎ (result ≡ 5) }
+    ensures failed { result ≡ 3 → halt ≡ Some (Halt.Device Fault.Failed) }
+    ensures front { K.tells out.old ≡ true → WritesFront (K.taken out.old) (K.taken out.new) (transcripts sessions events.now) }
+{
+    match halt {
+        Some(Halt::Device(Fault::Failed)) => {
+            let _written = write_transcripts(alloc, events, sessions, out);
+            3
+        }
+        _ => 5,
+    }
+}
