@@ -1,11 +1,12 @@
 -- Some command lines, worked.
 use Rattle.std.proofs.Common.{◌≡◌, ℕ, zero, suc, List, [], ◌∷◌, Option, Some, None, refl}
 use Rattle.std.specs.Prelude.{codes, replicate, ◌++◌, true, false}
+use Rattle.command_words.specs.Copies.{copies_in}
 use Rattle.command_words.specs.Orders.{is_order}
 use Rattle.command_words.specs.Words.{command_of, database_place, word_of, order_in}
 use Rattle.command_words.specs.declared.deaths.DeathPoint.TheVariants.{Step, Barrier}
 use Rattle.command_words.specs.declared.words.Command.{Command}
-use Rattle.command_words.specs.declared.words.Command.TheVariants.{Rdo, Verify, Dump, DumpPage, Backup, BackupJournal, Restore}
+use Rattle.command_words.specs.declared.words.Command.TheVariants.{Rdo, Verify, Dump, DumpPage, Backup, BackupJournal, Restore, Recover}
 
 -- `RDO --ORDER=1,2 PERS a b`
 in_turns : List (List ℕ)
@@ -146,3 +147,30 @@ restore-place = refl
 -- no number, 0, 10, two numbers, no database
 no_copies : (command_of (codes "RMU/BACKUP" ∷ codes "A" ∷ []) ≡ None) × (command_of (codes "RMU/BACKUP" ∷ codes "A" ∷ codes "0" ∷ []) ≡ None) × (command_of (codes "RMU/RESTORE" ∷ codes "A" ∷ codes "10" ∷ []) ≡ None) × (command_of (codes "RMU/RESTORE" ∷ codes "A" ∷ codes "1" ∷ codes "2" ∷ []) ≡ None) × (command_of (codes "RMU/BACKUP/AFTER_JOURNAL" ∷ codes "1" ∷ codes "1" ∷ []) ≡ None)
 no_copies = (refl, refl, refl, refl, refl)
+
+-- a roll-forward over no copy, and over two of which one is named twice
+recover : command_of (codes "RMU/RECOVER" ∷ codes "PERS" ∷ []) ≡ Some (Recover 0)
+recover = refl
+
+over_copies : List (List ℕ)
+over_copies = codes "rmu/recover" ∷ codes "PERS" ∷ codes "3" ∷ codes "01" ∷ codes "3" ∷ []
+
+over_copies-row : command_of over_copies ≡ Some (Recover 3)
+unfolding over_copies
+over_copies-row = refl
+
+over_copies-place : database_place over_copies ≡ Some 1
+unfolding over_copies
+over_copies-place = refl
+
+over_copies-numbers : copies_in over_copies ≡ 3 ∷ 1 ∷ 3 ∷ []
+unfolding over_copies
+over_copies-numbers = refl
+
+-- nine copies
+nine : command_of (codes "RMU/RECOVER" ∷ codes "A" ∷ replicate 9 (codes "9")) ≡ Some (Recover 9)
+nine = refl
+
+-- ten copies, 0, 10, no database
+no_rolls : (command_of (codes "RMU/RECOVER" ∷ codes "A" ∷ replicate 10 (codes "9")) ≡ None) × (command_of (codes "RMU/RECOVER" ∷ codes "A" ∷ codes "1" ∷ codes "0" ∷ []) ≡ None) × (command_of (codes "RMU/RECOVER" ∷ codes "A" ∷ codes "10" ∷ []) ≡ None) × (command_of (codes "RMU/RECOVER" ∷ []) ≡ None) × (command_of (codes "RMU/RECOVER" ∷ codes "1" ∷ []) ≡ None)
+no_rolls = (refl, refl, refl, refl, refl)

@@ -1,4 +1,5 @@
 pub mod Bytes
+pub mod Copies
 pub mod Deaths
 pub mod Options
 pub mod Orders

@@ -5,6 +5,7 @@ use Rattle.rdb_types.specs.declared.keys.Limits.{Limits}
 use Rattle.std.specs.Char.{is_ascii_alphabetic, is_ascii_digit}
 use Rattle.root_file.specs.Root.{AreLimits}
 use Rattle.command_words.specs.Bytes.{behind, is_command}
+use Rattle.command_words.specs.Copies.{is_copy}
 use Rattle.command_words.specs.Deaths.{death_in}
 use Rattle.command_words.specs.Options.{ask, limits_of, nothing_asked, number_in}
 use Rattle.command_words.specs.Orders.{is_order, sessions_in}
@@ -13,7 +14,7 @@ use Rattle.command_words.specs.declared.options.Asked.{Asked}
 use Rattle.command_words.specs.declared.words.Scripts.{Scripts}
 use Rattle.command_words.specs.declared.words.Command.{Command}
 use Rattle.command_words.specs.declared.words.PagePlace.{PagePlace}
-use Rattle.command_words.specs.declared.words.Command.TheVariants.{New, Rdo, Verify, Dump, DumpPage, Backup, BackupJournal, Restore}
+use Rattle.command_words.specs.declared.words.Command.TheVariants.{New, Rdo, Verify, Dump, DumpPage, Backup, BackupJournal, Restore, Recover}
 
 -- a letter, a digit or `_`
 abbrev pub is_database_byte : ℕ → Bool
@@ -129,12 +130,22 @@ keeping_of c (Some number) =
 abbrev pub keeping_command : List ℕ → List (List ℕ) → Option Command
 keeping_command c ws = keeping_of c (copy_words ws)
 
+-- a database, and up to 9 numbers of copies of the journal
+abbrev pub roll_words : List (List ℕ) → Option ℕ
+roll_words [] = None
+roll_words (d ∷ ns) = if is_database d && (nat_le (length ns) 9 && list_all is_copy ns) then Some (length ns) else None
+
+abbrev pub as_roll : Option ℕ → Option Command
+as_roll None = None
+as_roll (Some count) = Some (Recover count)
+
 -- a command of RMU, and the words behind it
 abbrev pub rmu_command : List ℕ → List (List ℕ) → Option Command
 rmu_command c ws =
     if is_command (codes "RMU/VERIFY") c then (if is_one_database ws then Some Verify else None)
     else (if is_command (codes "RMU/DUMP") c then (if is_one_database ws then Some Dump else None)
-    else (if is_command (codes "RMU/DUMP/PAGE") c then as_page (page_words ws) else keeping_command c ws))
+    else (if is_command (codes "RMU/DUMP/PAGE") c then as_page (page_words ws)
+    else (if is_command (codes "RMU/RECOVER") c then as_roll (roll_words ws) else keeping_command c ws)))
 
 -- the row of the table of commands that the words are
 abbrev pub command_of : List (List ℕ) → Option Command
@@ -154,6 +165,7 @@ place_for n (Some (DumpPage p)) = Some (n - 3)
 place_for n (Some (Backup number)) = Some (n - 2)
 place_for n (Some (BackupJournal number)) = Some (n - 2)
 place_for n (Some (Restore number)) = Some (n - 2)
+place_for n (Some (Recover count)) = Some (n - 1 - count)
 
 abbrev pub database_place : List (List ℕ) → Option ℕ
 database_place words = place_for (length words) (command_of words)
@@ -201,6 +213,7 @@ order_for (Some (DumpPage p)) order = []
 order_for (Some (Backup number)) order = []
 order_for (Some (BackupJournal number)) order = []
 order_for (Some (Restore number)) order = []
+order_for (Some (Recover count)) order = []
 order_for (Some (Rdo s)) order = sessions_said s.count order
 
 -- the sessions that `--ORDER` names, in order
@@ -238,12 +251,13 @@ only_reads (Some (DumpPage p)) = true
 only_reads (Some (Backup number)) = false
 only_reads (Some (BackupJournal number)) = false
 only_reads (Some (Restore number)) = false
+only_reads (Some (Recover count)) = false
 
 -- backups, and copies of the journal, count from 1 to 9
 abbrev pub IsCopyNumber : ℕ → Type 0
 IsCopyNumber number = (1 ≤ number) × (number ≤ 9)
 
--- the limits of a command, the page and the number that it names are within their ranges, and its scripts within its words
+-- the limits of a command, the page, the number and the count that it names are within their ranges, and its scripts within its words
 abbrev pub IsAllowedCommand : List (List ℕ) → Command → Type 0
 IsAllowedCommand words (New limits) = AreLimits limits
 IsAllowedCommand words (Rdo scripts) = AreLast words scripts
@@ -253,3 +267,4 @@ IsAllowedCommand words (DumpPage place) = IsAllowedPlace place
 IsAllowedCommand words (Backup number) = IsCopyNumber number
 IsAllowedCommand words (BackupJournal number) = IsCopyNumber number
 IsAllowedCommand words (Restore number) = IsCopyNumber number
+IsAllowedCommand words (Recover count) = count ≤ 9

@@ -7,11 +7,12 @@ ghost use Rattle.command_words.specs.Words.{is_database_byte as database_byte, i
 ghost use Rattle.command_words.specs.Words.{order_text as text_said, death_text as death_said, scripts_at as scripts_from, with_order as ordered, with_death as dying_at, behind_order as behind_order_of, behind_death as behind_death_of, rdo_words as rdo_of, order_first as first_order, said_order as order_said};
 ghost use Rattle.command_words.specs.Words.{command_of as command_for, IsAllowedCommand, database_place, word_of, order_in};
 ghost use Rattle.command_words.specs.Words.{is_one_database as is_one_database_of, place_of as place_for_numbers, page_words as page_words_of, rmu_command as rmu_command_for, only_reads as only_reads_for, IsAllowedPlace};
-ghost use Rattle.command_words.specs.Words.{copy_words as copy_words_of, keeping_command as keeping_command_for, IsCopyNumber};
+ghost use Rattle.command_words.specs.Words.{copy_words as copy_words_of, roll_words as roll_words_of, keeping_command as keeping_command_for, IsCopyNumber};
 ghost use Rattle.command_words.specs.Options.{nothing_asked, number_in as number_in_range};
 ghost use Rattle.root_file.specs.Root.{AreLimits};
 
 use crate::bytes::{behind, is_named, to_upper};
+use crate::copies::{MOST_COPIES, are_copies};
 use crate::deaths::{Death, death_in};
 use crate::options::{Asked, ask, limits_of, number_in};
 use crate::orders::{is_order, sessions_of};
@@ -62,6 +63,8 @@ pub enum Command {
     BackupJournal(u32),
     /// `RMU/RESTORE db number` makes a database anew from its backup of this number, from 1 to 9.
     Restore(u32),
+    /// `RMU/RECOVER db [number ...]` rolls a database forward over so many copies of its after-image journal, up to 9, and that journal.
+    Recover(u32),
 }
 
 fn is_database_byte(b: u8) -> bool
@@ -306,6 +309,25 @@ fn keeping_command(command: &[u8], words: &[Word]) -> Option<Command>
     }
 }
 
+/// How many copies of the journal stand behind a database.
+fn roll_words(words: &[Word]) -> Option<u32>
+    ensures value { result ≡ roll_words_of words.now }
+    ensures few { IfSome result (λ count. count ≤ 9) }
+{
+    match words {
+        [] => None,
+        [database, numbers @ ..] => {
+            let is_good = is_database(database.as_slice());
+            let are_copies = are_copies(numbers);
+            if is_good && numbers.len() <= MOST_COPIES && are_copies {
+                Some(numbers.len() as u32)
+            } else {
+                None
+            }
+        }
+    }
+}
+
 /// The command of RMU of a command word and the words behind it.
 fn rmu_command(command: &[u8], words: &[Word]) -> Option<Command>
     ensures row { result ≡ rmu_command_for command.now words.now }
@@ -326,6 +348,11 @@ fn rmu_command(command: &[u8], words: &[Word]) -> Option<Command>
     } else if is_named(b"RMU/DUMP/PAGE", command) {
         match page_words(words) {
             Some(place) => Some(Command::DumpPage(place)),
+            None => None,
+        }
+    } else if is_named(b"RMU/RECOVER", command) {
+        match roll_words(words) {
+            Some(count) => Some(Command::Recover(count)),
             None => None,
         }
     } else {
@@ -375,6 +402,9 @@ pub fn database_word(words: &[Word]) -> Option<usize>
         Some(Command::Backup(_)) => Some(words.len().saturating_sub(2)),
         Some(Command::BackupJournal(_)) => Some(words.len().saturating_sub(2)),
         Some(Command::Restore(_)) => Some(words.len().saturating_sub(2)),
+        Some(Command::Recover(count)) => Some(
+            words.len().saturating_sub(1).saturating_sub(count as usize),
+        ),
         None => None,
     }
 }
@@ -392,6 +422,7 @@ pub fn only_reads(words: &[Word]) -> bool
         Some(Command::Backup(_)) => false,
         Some(Command::BackupJournal(_)) => false,
         Some(Command::Restore(_)) => false,
+        Some(Command::Recover(_)) => false,
         None => false,
     }
 }

@@ -17,7 +17,7 @@ use Rattle.line_opening.specs.declared.fault.OpeningFault.TheVariants as fault
 use Rattle.line_runs.specs.Openings.{said_to}
 use Rattle.command_words.specs.declared.words.Scripts.{Scripts}
 use Rattle.command_words.specs.declared.words.Command.{Command}
-use Rattle.command_words.specs.declared.words.Command.TheVariants.{New, Rdo, Verify, Dump, DumpPage, Backup, BackupJournal, Restore}
+use Rattle.command_words.specs.declared.words.Command.TheVariants.{New, Rdo, Verify, Dump, DumpPage, Backup, BackupJournal, Restore, Recover}
 use Rattle.rdb_top.specs.Deaths.{letting}
 use Rattle.script_streams.specs.declared.read.ReadStop.{ReadStop}
 use Rattle.script_streams.specs.declared.read.ReadStop.TheVariants.{Failed, OutOfMemory, TooLong}
@@ -41,6 +41,7 @@ sessions_of (Some (DumpPage place)) = 0
 sessions_of (Some (Backup number)) = 0
 sessions_of (Some (BackupJournal number)) = 0
 sessions_of (Some (Restore number)) = 0
+sessions_of (Some (Recover count)) = 0
 
 -- a command that makes a copy of a database, or a database of one
 abbrev pub keeps_copies : Option Command → Bool
@@ -53,6 +54,20 @@ keeps_copies (Some (DumpPage place)) = false
 keeps_copies (Some (Backup number)) = true
 keeps_copies (Some (BackupJournal number)) = true
 keeps_copies (Some (Restore number)) = true
+keeps_copies (Some (Recover count)) = false
+
+-- a command that rolls a database forward, and writes how far
+abbrev pub rolls_forward : Option Command → Bool
+rolls_forward None = false
+rolls_forward (Some (New limits)) = false
+rolls_forward (Some (Rdo scripts)) = false
+rolls_forward (Some Verify) = false
+rolls_forward (Some Dump) = false
+rolls_forward (Some (DumpPage place)) = false
+rolls_forward (Some (Backup number)) = false
+rolls_forward (Some (BackupJournal number)) = false
+rolls_forward (Some (Restore number)) = false
+rolls_forward (Some (Recover count)) = true
 
 -- the statuses at which everything was written
 abbrev pub IsWritten : ℕ → Type 0

@@ -2,6 +2,8 @@
 #![tactic(auto)]
 
 mod dying;
+mod making;
+mod recovering;
 mod scripts;
 mod stopping;
 mod top;

@@ -3,11 +3,11 @@ ghost use Rattle.rdb_types.specs.declared.file.FileId.{FileId as File};
 ghost use Rattle.rdb_types.specs.declared.keys.Limits.{Limits};
 ghost use Rattle.rdb_outside.specs.Causes.{Rose};
 ghost use Rattle.rdb_outside.specs.Disk.{Image, LeftNow, LeavesOnly, Keeps, OnlyReads};
-ghost use Rattle.root_file.specs.Root.{AreLimits};
 ghost use Rattle.new_database.specs.Maker.{IsUnmade, HasRoot};
 ghost use Rattle.new_database.specs.New.{IsNewDatabase, IsNewDatabaseOrNone};
 ghost use Rattle.command_words.specs.declared.words.Scripts.{Scripts as GivenScripts};
 ghost use Rattle.command_words.specs.declared.words.PagePlace.{PagePlace as GivenPage};
+ghost use Rattle.command_words.specs.Copies.{copies_in};
 ghost use Rattle.command_words.specs.Words.{command_of as command_for, word_of, order_in, only_reads, AreLast};
 ghost use Rattle.script_streams.specs.Fronts.{WritesFront};
 ghost use Rattle.rdb_drive.specs.Boards.{IsSession, MayDie};
@@ -24,13 +24,17 @@ ghost use Rattle.backup_making.specs.Making.{file_of as backup_named};
 ghost use Rattle.database_opening.specs.Others.{KeepsFile};
 ghost use Rattle.journal_backup.specs.Copied.{copy_named};
 ghost use Rattle.rmu_restore.specs.Laying.{IsOther};
+ghost use Rattle.rmu_recover.specs.Recovering.{IsOther as IsBesideRoll};
 ghost use Rattle.rmu_keeping.specs.Keeping.{is_keeping_status, IsKept, MayBeOpened, MayBeRestored, BacksUp, BacksUpWithin, CopiesJournal, CopiesJournalWithin, Restores, RestoresWithin};
+ghost use Rattle.rmu_keeping.specs.Rolling.{is_recover_status, HasRolled, MayBeRecovered, LacksGroup, IsUsed, Rolls, RollsWithin, TellsGroups};
 ghost use Rattle.rmu_commands.specs.Usable.{HasRootInUse, IsUsable, IsDumped};
 ghost use Rattle.rmu_commands.specs.Written.{Verifies, Dumps, DumpsPage, IsCleanDatabase, is_verify_status, is_dump_status};
-ghost use Rattle.rdb_top.specs.Runs.{IsRun, IsWhole, IsWritten, has_death, OfSomeScripts, keeps_copies, is_status, is_script_status, status_at, unopened_status, scripts_of, transcripts, sessions_of};
+ghost use Rattle.rdb_top.specs.Runs.{IsRun, IsWhole, IsWritten, has_death, OfSomeScripts, keeps_copies, rolls_forward, is_status, is_script_status, status_at, unopened_status, scripts_of, transcripts, sessions_of};
 ghost use Rattle.rdb_top.specs.Deaths.{letting};
 
 use crate::dying::Dying;
+use crate::making::run_new;
+use crate::recovering::run_recover;
 use crate::scripts::{read_scripts, some_died, write_transcripts};
 use crate::stopping::{status_stopped, unwatched};
 use command_words::{Command, Scripts, command_of, order_of};
@@ -38,11 +42,10 @@ use line_cluster::{Halt, Origin};
 use line_opening::OpeningFault;
 use line_runs::{LineRun, Said, say_in_order, say_in_threads};
 use line_store::Fault;
-use new_database::{NewFault, make_new};
 use rdb_account::{Event, Events};
 use rdb_drive::Gate;
 use rdb_outside::{Disk, Sink, Source};
-use rdb_types::{Copied, Items, Limits, NoMemory, Word};
+use rdb_types::{Copied, Items, NoMemory, Word};
 use rdo_reserving::ReservingStatements;
 use rmu_commands::{dump_command, page_command, verify_command};
 use rmu_keeping::{backup_command, journal_command, restore_command};
@@ -349,27 +352,7 @@ fn run_rdo<
     }
 }
 
-/// Makes a database, and answers the status.
-fn run_new<D: Disk>(disk: &mut D, limits: Limits) -> u8
-    requires { AreLimits limits }
-    ensures status { (result ≡ 0) ⊎ (result ≡ 3) ⊎ (result ≡ 9) }
-    ensures device { result ≡ 3 → Rose (D.view disk.old).faults (D.view disk.new).faults }
-    ensures made { result ≡ 0 → IsTrue (D.view disk.old).tells → IsUnmade (D.view disk.old) →
-        (image : Image) → LeftNow (D.view disk.new) image → IsNewDatabase limits image }
-    ensures any_moment { IsTrue (D.view disk.old).tells → IsUnmade (D.view disk.old) →
-        LeavesOnly (D.view disk.old) (D.view disk.new) (IsNewDatabaseOrNone limits) }
-    ensures taken { result ≡ 9 → IsTrue (D.view disk.old).tells → HasRoot (D.view disk.old).content }
-    ensures standing { IsTrue (D.view disk.old).tells → HasRoot (D.view disk.old).content →
-        ((result ≡ 0 → ⊥) × Keeps (D.view disk.old) (D.view disk.new)) }
-{
-    match make_new(disk, limits) {
-        Ok(()) => 0,
-        Err(NewFault::Failed) => 3,
-        Err(NewFault::NotEmpty) => 9,
-    }
-}
-
-/// Runs a command: `NEW` makes a database, `RDO` says 1 to 16 scripts to a database, each by a session of its own, `RMU/VERIFY` lists the faults of a database, `RMU/DUMP` and `RMU/DUMP/PAGE` tell what it holds, `RMU/BACKUP` and `RMU/BACKUP/AFTER_JOURNAL` copy a database and its journal, and `RMU/RESTORE` makes a database of a backup.
+/// Runs a command: `NEW` makes a database, `RDO` says 1 to 16 scripts to a database, each by a session of its own, `RMU/VERIFY` lists the faults of a database, `RMU/DUMP` and `RMU/DUMP/PAGE` tell what it holds, `RMU/BACKUP` and `RMU/BACKUP/AFTER_JOURNAL` copy a database and its journal, `RMU/RESTORE` makes a database of a backup, and `RMU/RECOVER` rolls it forward over its journals.
 pub fn run<R, O, D, S, K, G>(
     rt: &R,
     alloc: Global,
@@ -433,10 +416,10 @@ where
     // Where every session that lived came to its end, for the tables of all commits.
     ensures left { (given : GivenScripts) → command_for words.now ≡ Some (Command.Rdo given) → O.told → S.tells scripts.old ≡ true → IsWhole result.status →
         HoldsAll ⟦<ReservingStatements as Statements>⟧.stands (said_to (letting given.death O.opening) (word_of words.now) (scripts_of (S.left scripts.old) given.count)) (D.view result.disk) (map event_of result.events) }
-    // What was written are the transcripts in the order of the sessions, or a front of them, but for the commands that write what they read.
-    ensures written { only_reads (command_for words.now) ≡ false → K.tells out.old ≡ true → IsWritten result.status →
+    // What was written are the transcripts in the order of the sessions, or a front of them, but for the commands that write what they read or how far they rolled.
+    ensures written { only_reads (command_for words.now) ≡ false → rolls_forward (command_for words.now) ≡ false → K.tells out.old ≡ true → IsWritten result.status →
         K.taken out.new ≡ K.taken out.old ++ transcripts (sessions_of (command_for words.now)) result.events }
-    ensures front { only_reads (command_for words.now) ≡ false → K.tells out.old ≡ true →
+    ensures front { only_reads (command_for words.now) ≡ false → rolls_forward (command_for words.now) ≡ false → K.tells out.old ≡ true →
         WritesFront (K.taken out.old) (K.taken out.new) (transcripts (sessions_of (command_for words.now)) result.events) }
     // Every crash behind NEW leaves the new database.
     ensures made { (limits : Limits) → command_for words.now ≡ Some (Command.New limits) → result.status ≡ 0 →
@@ -479,7 +462,7 @@ where
     ensures faults { result.status ≡ 7 → command_for words.now ≡ Some Command.Verify }
     // A database can't be read or opened.
     ensures unread_root { result.status ≡ 4 → (only_reads (command_for words.now) ≡ true) ⊎ (keeps_copies (command_for words.now) ≡ true)
-        ⊎ ((given : GivenScripts) × (command_for words.now ≡ Some (Command.Rdo given))) }
+        ⊎ (rolls_forward (command_for words.now) ≡ true) ⊎ ((given : GivenScripts) × (command_for words.now ≡ Some (Command.Rdo given))) }
     // Scripts: a database that a crash of this engine may leave is opened, but where its numbers are used up.
     ensures unopened { (given : GivenScripts) → command_for words.now ≡ Some (Command.Rdo given) → result.status ≡ 4 → HasNoNumbers (D.view disk) }
     // VERIFY: its root isn't one in use, or the header of a journal is none.
@@ -536,6 +519,29 @@ where
     // Nothing is said by these three, and their statuses.
     ensures copies_silent { keeps_copies (command_for words.now) ≡ true → result.events ≡ [] }
     ensures copies_statuses { keeps_copies (command_for words.now) ≡ true → is_keeping_status result.status ≡ true }
+    // Every crash behind RECOVER leaves a database in use that stands for the lines of the backup with the groups of its journals laid over them.
+    ensures rolled { rolls_forward (command_for words.now) ≡ true → HasRolled result.status →
+        IsTrue (D.view disk).tells → Rolls (D.view disk) (D.view result.disk) (copies_in words.now) }
+    // A crash at any moment of RECOVER leaves what one before might have left, an image from which it gives the same again, or that.
+    ensures rolling { rolls_forward (command_for words.now) ≡ true →
+        IsTrue (D.view disk).tells → RollsWithin (D.view disk) (D.view result.disk) (copies_in words.now) }
+    // RECOVER writes how many groups it laid.
+    ensures counts { rolls_forward (command_for words.now) ≡ true →
+        TellsGroups (D.view disk) (copies_in words.now) result.status (K.tells out.old ≡ true) (K.taken out.old) (K.taken out.new) }
+    // RECOVER leaves the journal, its copies, the backups and the undo journals as they were, at every moment.
+    ensures beside_roll { rolls_forward (command_for words.now) ≡ true →
+        IsTrue (D.view disk).tells → (file : File) → IsBesideRoll file → KeepsFile file (D.view disk) (D.view result.disk) }
+    // RECOVER: journals that follow on, with groups that fit, are never refused, and neither is a database in use.
+    ensures no_roll { rolls_forward (command_for words.now) ≡ true → result.status ≡ 4 →
+        IsTrue (D.view disk).tells → MayBeRecovered (D.view disk) (copies_in words.now) ⊎ IsUsed (D.view disk).content → ⊥ }
+    // Where a group is missing RECOVER isn't carried out and changes nothing, and a database in use is left as it is.
+    ensures lacking { rolls_forward (command_for words.now) ≡ true → IsTrue (D.view disk).tells → LacksGroup (D.view disk) (copies_in words.now) →
+        (HasRolled result.status → ⊥) × OnlyReads (D.view disk) (D.view result.disk) }
+    ensures rolled_before { rolls_forward (command_for words.now) ≡ true → IsTrue (D.view disk).tells → IsUsed (D.view disk).content →
+        OnlyReads (D.view disk) (D.view result.disk) }
+    // Nothing is said by RECOVER, and its statuses.
+    ensures roll_silent { rolls_forward (command_for words.now) ≡ true → result.events ≡ [] }
+    ensures roll_statuses { rolls_forward (command_for words.now) ≡ true → is_recover_status result.status ≡ true }
 {
     let mut disk = disk;
     match command_of(words) {
@@ -566,6 +572,10 @@ where
         }
         Some(Command::Restore(number)) => {
             let status = restore_command(alloc, &mut disk, number);
+            unsaid(alloc, status, disk)
+        }
+        Some(Command::Recover(_)) => {
+            let status = run_recover(alloc, words, &mut disk, out);
             unsaid(alloc, status, disk)
         }
         Some(Command::Rdo(given)) => {

@@ -1,3 +1,4 @@
 pub mod Causes
 pub mod Opened
+pub mod Rolled
 pub mod Sources

@@ -1,11 +1,11 @@
 -- What stopped a roll-forward, of what stopped a call or the laying of groups.
-use Rattle.std.proofs.Common.{◌≡◌, ℕ}
+use Rattle.std.proofs.Common.{◌≡◌, ℕ, refl}
 use Rattle.rdb_types.specs.declared.file.FileId.{FileId}
 use Rattle.line_store.specs.declared.answers.Fault.{Fault}
 use Rattle.line_store.specs.declared.answers.Fault.TheVariants as call
 use Rattle.line_opening.specs.declared.fault.OpeningFault.{OpeningFault}
 use Rattle.line_opening.specs.declared.fault.OpeningFault.TheVariants as laying
-use Rattle.rmu_recover.specs.declared.fault.RecoverFault.TheVariants.{Gap, Bad}
+use Rattle.rmu_recover.specs.declared.fault.RecoverFault.TheVariants.{Failed, Gap, Bad}
 use Rattle.rmu_recover.specs.Faults.{of_call, of_laying}
 
 pub call_bad : (fault : Fault) (file : FileId) (slot : ℕ) → of_call fault ≡ Bad file slot → fault ≡ call.Bad file slot
@@ -18,6 +18,11 @@ call_bad (call.Bad other at) file slot is =
 pub call_no_gap : (fault : Fault) (number : ℕ) → of_call fault ≡ Gap number → ⊥
 call_no_gap call.Failed number is = let bad : ⊥ = cc in bad
 call_no_gap (call.Bad file slot) number is = let bad : ⊥ = cc in bad
+
+-- a call that met no bad slot failed
+pub call_failed : (fault : Fault) → ((file : FileId) (slot : ℕ) → fault ≡ call.Bad file slot → ⊥) → of_call fault ≡ Failed
+call_failed call.Failed good = refl
+call_failed (call.Bad file slot) good = absurd (good file slot refl)
 
 pub laying_bad : (fault : OpeningFault) (file : FileId) (slot : ℕ) → of_laying fault ≡ Bad file slot → fault ≡ laying.Bad file slot
 laying_bad laying.Failed file slot is = let bad : ⊥ = cc in absurd bad

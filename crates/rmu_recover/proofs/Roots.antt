@@ -9,7 +9,7 @@ use Rattle.root_file.proofs.Readings.{one_root}
 use Rattle.journal_scan.specs.declared.group.Group.{Group}
 use Rattle.new_database.specs.Maker.{root_file}
 use Rattle.stable_lines.specs.Journal.{Journal}
-use Rattle.rolled_lines.specs.Journals.{follow, laid}
+use Rattle.rolled_lines.specs.Journals.{follow, laid, gap}
 use Rattle.laid_groups.specs.declared.passing.Reached.{Reached}
 use Rattle.laid_groups.specs.Forward.{Forward}
 use Rattle.laid_groups.specs.Passing.{ceiling_behind}
@@ -34,6 +34,13 @@ count_is former copies root forward journals groups aij source at reached last f
     let far = follows.last in
     let same : length follows.groups ≡ length groups = ap length (its_groups former copies root forward journals groups aij source at reached last follows) in
     omega (arith, far, same, last)
+
+-- where a group is missing no pass comes to an end
+pub no_pass : (journals : List Journal) (number : ℕ) (at reached : Reached) → FollowsTo at journals reached → follow at.last journals ≡ gap number → ⊥
+no_pass journals number at reached follows missing = laid_is_no_gap follows.groups number (sym follows.follows ∙ missing)
+  where
+    laid_is_no_gap : (groups : List Group) (n : ℕ) → laid groups ≡ gap n → ⊥
+    laid_is_no_gap groups n same = let bad : ⊥ = cc in bad
 
 -- ---- of another state
 

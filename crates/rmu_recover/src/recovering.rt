@@ -1,5 +1,5 @@
 // A roll-forward as a whole.
-ghost use Rattle.std.specs.Prelude.{◌≡◌, ◌≤◌, ◌⊎◌, ◌^◌, ◌-◌, ℕ, List, length, IfOk, OnOk, IsErrOf, IsTrue};
+ghost use Rattle.std.specs.Prelude.{◌≡◌, ◌≤◌, ◌⊎◌, ◌^◌, ◌-◌, ℕ, List, Ok, length, IfOk, IsErr, OnOk, IsErrOf, IsTrue};
 ghost use Rattle.rdb_types.specs.declared.file.FileId.{FileId as File};
 ghost use Rattle.root_file.specs.declared.Root.{Root as Values};
 ghost use Rattle.root_file.specs.Root.{IsRoot, IsAllowed};
@@ -113,6 +113,11 @@ fn roll<D: Disk>(
         → follow root.applied journals ≡ gap_at number }
     ensures nothing { (number : ℕ) → IsErrOf result (RecoverFault.Gap number)
         → OnlyReads (D.view disk.old) (D.view disk.new) }
+    ensures missing { IsTrue (D.view disk.old).tells → (former : Content) (forward : Forward)
+        → (journals : List Journal) (number : ℕ) → IsToRoll former root forward (D.view disk.old)
+        → AreJournalsIn former (files_of copies.now) journals
+        → follow root.applied journals ≡ gap_at number
+        → IsErr result × OnlyReads (D.view disk.old) (D.view disk.new) }
     ensures bad { (file : File) (slot : ℕ) → IsErrOf result (RecoverFault.Bad file slot)
         → IsTrue (D.view disk.old).tells → (former : Content) (forward : Forward)
         → (journals : List Journal) (groups : List Group) (aij : Journal)
@@ -168,6 +173,12 @@ pub fn recover<D: Disk>(alloc: Global, disk: &mut D, copies: &[u32]) -> Result<u
         → follow root.applied journals ≡ gap_at number }
     ensures nothing { (number : ℕ) → IsErrOf result (RecoverFault.Gap number)
         → OnlyReads (D.view disk.old) (D.view disk.new) }
+    ensures missing { IsTrue (D.view disk.old).tells
+        → (former : Content) (root : Values) (forward : Forward)
+        → (journals : List Journal) (number : ℕ) → IsToRoll former root forward (D.view disk.old)
+        → AreJournalsIn former (files_of copies.now) journals
+        → follow root.applied journals ≡ gap_at number
+        → IsErr result × OnlyReads (D.view disk.old) (D.view disk.new) }
 
     // Journals that follow on, with groups that fit, are never refused.
     ensures bad { (file : File) (slot : ℕ) → IsErrOf result (RecoverFault.Bad file slot)
@@ -176,10 +187,13 @@ pub fn recover<D: Disk>(alloc: Global, disk: &mut D, copies: &[u32]) -> Result<u
         → IsToRoll former root forward (D.view disk.old)
         → IsSource former copies.now root forward journals groups aij → ⊥ }
 
-    // A database in use is left as it is.
+    // A database in use is left as it is, and nothing is laid.
     ensures in_use { IsTrue (D.view disk.old).tells → (root : Values)
         → IsRoot ((D.view disk.old).content root_named 0) root → root.state ≡ 1
         → OnlyReads (D.view disk.old) (D.view disk.new) }
+    ensures idle { IsTrue (D.view disk.old).tells → (root : Values)
+        → IsRoot ((D.view disk.old).content root_named 0) root → root.state ≡ 1
+        → (result ≡ Ok 0) ⊎ IsErrOf result RecoverFault.Failed }
 
     // Then each image stands for the lines rolled forward, and is in use.
     ensures count { IfOk result (λ count. IsTrue (D.view disk.old).tells

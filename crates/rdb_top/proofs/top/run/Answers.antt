@@ -2,6 +2,7 @@ use Rattle.std.proofs.Common.{◌≡◌, ◌≢◌, ◌∙◌, ℕ, true, Some, 
 use Rattle.backup_making.specs.Making.{file_of}
 use Rattle.journal_backup.specs.Copied.{copy_named}
 use Rattle.rmu_keeping.specs.Keeping.{BacksUp, BacksUpWithin, CopiesJournal, CopiesJournalWithin, Restores, RestoresWithin}
+use Rattle.rmu_keeping.specs.Rolling.{HasRolled, TellsGroups}
 use Rattle.rdb_account.specs.Events.{event_of}
 use Rattle.rdb_account.specs.Legal.{IsLegal}
 use Rattle.line_cluster.specs.Turned.{HaveAllEnded}
@@ -38,7 +39,7 @@ returns-in-Some-Rdo-clause-order g c given row has_order told tells whole =
     (c.run_rdo.ensures.order (ap (λ (n : Scripts). n.has_order) (same-given c.in-Some-Rdo.given given _ (ap Some (sym c.in-Some-Rdo.field-0-is) ∙ c.in-Some-Rdo.ensures.row) row) ∙ has_order) told tells whole)
 
 pub returns-in-Some-Rdo-clause-front : goal.returns-in-Some-Rdo-clause-front
-returns-in-Some-Rdo-clause-front g c writes tells =
+returns-in-Some-Rdo-clause-front g c writes rolls tells =
     rw (sym c.in-Some-Rdo.ensures.row) (rw c.in-Some-Rdo.field-0-is (c.run_rdo.ensures.front tells))
 
 pub returns-in-Some-Rdo-clause-account : goal.returns-in-Some-Rdo-clause-account
@@ -101,3 +102,29 @@ pub returns-in-Some-Restore-clause-beside_restore : goal.returns-in-Some-Restore
 returns-in-Some-Restore-clause-beside_restore g c number row told file other =
     let v = g.D.Disk.view in let old = v c.args.disk in let new = v c.restore_command-status.new.disk in
     rw c.unsaid-in-Some-Restore.ensures.disk (c.restore_command-status.ensures.others told file other)
+
+pub returns-in-Some-Recover-clause-rolled : goal.returns-in-Some-Recover-clause-rolled
+returns-in-Some-Recover-clause-rolled g c rolls has told =
+    rw c.unsaid-in-Some-Recover.ensures.disk (c.run_recover-status.ensures.rolled (subst HasRolled c.unsaid-in-Some-Recover.ensures.status has) told)
+
+pub returns-in-Some-Recover-clause-rolling : goal.returns-in-Some-Recover-clause-rolling
+returns-in-Some-Recover-clause-rolling g c rolls told = rw c.unsaid-in-Some-Recover.ensures.disk (c.run_recover-status.ensures.within told)
+
+pub returns-in-Some-Recover-clause-counts : goal.returns-in-Some-Recover-clause-counts
+returns-in-Some-Recover-clause-counts g c rolls = rw c.unsaid-in-Some-Recover.ensures.status c.run_recover-status.ensures.tells
+
+pub returns-in-Some-Recover-clause-beside_roll : goal.returns-in-Some-Recover-clause-beside_roll
+returns-in-Some-Recover-clause-beside_roll g c rolls told file other = rw c.unsaid-in-Some-Recover.ensures.disk (c.run_recover-status.ensures.others told file other)
+
+pub returns-in-Some-Recover-clause-no_roll : goal.returns-in-Some-Recover-clause-no_roll
+returns-in-Some-Recover-clause-no_roll g c rolls is told either =
+    let four = sym c.unsaid-in-Some-Recover.ensures.status ∙ is in
+    ⊎_elim (λ may. c.run_recover-status.ensures.refused four told may) (λ used. c.run_recover-status.ensures.taken four told used) either
+
+pub returns-in-Some-Recover-clause-lacking : goal.returns-in-Some-Recover-clause-lacking
+returns-in-Some-Recover-clause-lacking g c rolls told lacks =
+    let gap = c.run_recover-status.ensures.gap told lacks in
+    (λ has. gap.0 (subst HasRolled c.unsaid-in-Some-Recover.ensures.status has), rw c.unsaid-in-Some-Recover.ensures.disk gap.1)
+
+pub returns-in-Some-Recover-clause-rolled_before : goal.returns-in-Some-Recover-clause-rolled_before
+returns-in-Some-Recover-clause-rolled_before g c rolls told used = rw c.unsaid-in-Some-Recover.ensures.disk (c.run_recover-status.ensures.in_use told used)

@@ -1,4 +1,4 @@
-use Rattle.std.proofs.Common.{rules, ◌∙◌, ℕ, [], inl, inr, sym, ap, arith}
+use Rattle.std.proofs.Common.{rules, ◌∙◌, ℕ, Err, [], inl, inr, sym, ap, arith}
 use Rattle.std.proofs.lemmas.Result.{err_from_is_err_and}
 use Rattle.root_file.specs.declared.Root.{Root}
 use Rattle.root_file.proofs.Readings.{one_root}
@@ -9,7 +9,7 @@ use Rattle.line_opening.proofs.Counted.{if_ok}
 use Rattle.database_opening.proofs.Others.{file_read, file_on}
 use Rattle.laid_groups.proofs.Faults.{err_same}
 use Rattle.rolled_lines.specs.Journals.{follow}
-use Rattle.rmu_recover.proofs.Faults.{call_no_gap}
+use Rattle.rmu_recover.proofs.Faults.{call_no_gap, call_failed}
 use Rattle.rmu_recover.proofs.Course.{to_roll_read, within_reads, within_behind}
 use Rattle.rmu_recover.proofs.Roots.{its_root, has_root, not_used, to_roll_code, source_code, rolled_code, within_code}
 use Rattle.rmu_recover.proofs.recovering.recover.Goals as goal
@@ -131,6 +131,46 @@ returns-then-root-eq2-clause-bad g c = let old = g.D.Disk.view c.args.disk.now i
 
 pub returns-clause-in_use : goal.returns-clause-in_use
 returns-clause-in_use g c = let old = g.D.Disk.view c.args.disk.now in
+    λ t root is used.
+    let same = one_root (old.content root_file 0) c.in_ok-root.root root (c.in_ok-root.ensures.stands t) is in
+    absurd (c.if-root-eq1.false (ap (λ (r : Root). r.state) same ∙ used))
+
+pub returns-in_err-root-clause-missing : goal.returns-in_err-root-clause-missing
+returns-in_err-root-clause-missing g c = λ t former root forward journals number to_roll stand gap. (search rules, c.standing_root.ensures.reads)
+
+pub returns-in_err-root-clause-idle : goal.returns-in_err-root-clause-idle
+returns-in_err-root-clause-idle g c = λ t root is used.
+    let p = err_from_is_err_and c.from_residual.result c.from_residual.ensures.1 in
+    inr (p.1 ∙ ap Err (p.2 ∙ call_failed c.in_err-root.field-0.0 (λ file slot bad. c.standing_root.ensures.bad file slot (search rules) t root is)))
+
+pub returns-then-root-eq1-clause-missing : goal.returns-then-root-eq1-clause-missing
+returns-then-root-eq1-clause-missing g c = let old = g.D.Disk.view c.args.disk.now in
+    λ t former root forward journals number to_roll stand gap.
+    let left = g.met.D.Disk.content_left c.args.disk.now old.moment t (omega arith) in
+    let its = its_root former root forward old to_roll left c.in_ok-root.root (c.in_ok-root.ensures.stands t) in
+    absurd (not_used c.in_ok-root.root root its.0 its.1 its.2 (inl c.if-root-eq1.true))
+
+pub returns-then-root-eq2-clause-missing : goal.returns-then-root-eq2-clause-missing
+returns-then-root-eq2-clause-missing g c = λ t former root forward journals number to_roll stand gap. (search rules, c.standing_root.ensures.reads)
+
+pub returns-then-root-eq2-clause-idle : goal.returns-then-root-eq2-clause-idle
+returns-then-root-eq2-clause-idle g c = let old = g.D.Disk.view c.args.disk.now in
+    λ t root is used.
+    let same = one_root (old.content root_file 0) c.in_ok-root.root root (c.in_ok-root.ensures.stands t) is in
+    absurd (c.if-root-eq1.false (ap (λ (r : Root). r.state) same ∙ used))
+
+pub returns-clause-missing : goal.returns-clause-missing
+returns-clause-missing g c = let v = g.D.Disk.view in let old = v c.args.disk.now in let first = v c.standing_root.new.disk in let reads = c.standing_root.ensures.reads in let copies = c.args.copies.now in
+    λ t former root forward journals number to_roll stand gap.
+    let left = g.met.D.Disk.content_left c.args.disk.now old.moment t (omega arith) in
+    let its = its_root former root forward old to_roll left c.in_ok-root.root (c.in_ok-root.ensures.stands t) in
+    let told = still_tells old first reads.told t in
+    let to_roll_first = to_roll_read former c.in_ok-root.root forward [] (record { first = 0; groups = [] }) (λ (n : ℕ). n) old first reads t (to_roll_code former root forward its.0 copies journals [] (record { first = 0; groups = [] }) c.in_ok-root.root its.1 old to_roll) in
+    let missing = c.roll.ensures.missing told former forward journals number to_roll_first stand (ap (λ (r : Root). follow r.applied journals) its.1 ∙ gap) in
+    (missing.0, then_reads old first (v c.roll.new.disk) reads missing.1)
+
+pub returns-clause-idle : goal.returns-clause-idle
+returns-clause-idle g c = let old = g.D.Disk.view c.args.disk.now in
     λ t root is used.
     let same = one_root (old.content root_file 0) c.in_ok-root.root root (c.in_ok-root.ensures.stands t) is in
     absurd (c.if-root-eq1.false (ap (λ (r : Root). r.state) same ∙ used))

@@ -5,7 +5,7 @@ use Rattle.database_opening.proofs.Others.{file_read, file_on}
 use Rattle.laid_groups.proofs.Faults.{err_same}
 use Rattle.rmu_recover.proofs.Faults.{laying_no_gap}
 use Rattle.rmu_recover.proofs.Course.{content_stands, journals_now, to_roll_read, within_reads, within_behind}
-use Rattle.rmu_recover.proofs.Roots.{top_is, count_is}
+use Rattle.rmu_recover.proofs.Roots.{top_is, count_is, no_pass}
 use Rattle.rmu_recover.proofs.recovering.roll.Goals as goal
 
 pub pass_all-requires : goal.pass_all-requires
@@ -108,3 +108,20 @@ returns-clause-within g c = let v = g.D.Disk.view in let old = v c.args.disk.now
 pub returns-clause-others : goal.returns-clause-others
 returns-clause-others g c = let v = g.D.Disk.view in let old = v c.args.disk.now in let mid = v c.pass_all.new.disk in let reads = c.pass_all.ensures.reads in let root = c.args.root in let copies = c.args.copies.now in
     λ t file other. file_on old mid (v c.carry_out.new.disk) file (file_read old mid reads t file) (c.carry_out.ensures.others (still_tells old mid reads.told t) file other)
+
+pub returns-in_err-reached-clause-missing : goal.returns-in_err-reached-clause-missing
+returns-in_err-reached-clause-missing g c = λ t former forward journals number to_roll stand gap. (search rules, c.pass_all.ensures.reads)
+
+pub returns-in_err-carry_out-clause-missing : goal.returns-in_err-carry_out-clause-missing
+returns-in_err-carry_out-clause-missing g c = let v = g.D.Disk.view in let old = v c.args.disk.now in
+    λ t former forward journals number to_roll stand gap.
+    let left = g.met.D.Disk.content_left c.args.disk.now old.moment t (omega arith) in
+    let there = journals_now former c.args.root forward c.args.copies.now journals old.content (content_stands former c.args.root forward old to_roll left) stand in
+    absurd (no_pass journals number _ c.in_ok-reached.reached (c.in_ok-reached.ensures.reached t journals there) gap)
+
+pub returns-clause-missing : goal.returns-clause-missing
+returns-clause-missing g c = let v = g.D.Disk.view in let old = v c.args.disk.now in
+    λ t former forward journals number to_roll stand gap.
+    let left = g.met.D.Disk.content_left c.args.disk.now old.moment t (omega arith) in
+    let there = journals_now former c.args.root forward c.args.copies.now journals old.content (content_stands former c.args.root forward old to_roll left) stand in
+    absurd (no_pass journals number _ c.in_ok-reached.reached (c.in_ok-reached.ensures.reached t journals there) gap)

@@ -1,0 +1,50 @@
+-- A roll-forward that gave up, by its status, and one that was carried out.
+use Rattle.std.proofs.Common.{◌≡◌, ◌⊎◌, inl, inr, ℕ, refl, sym, ◌∙◌, arith}
+use Rattle.rdb_types.specs.declared.file.FileId.{FileId}
+use Rattle.rmu_recover.specs.declared.fault.RecoverFault.{RecoverFault}
+use Rattle.rmu_recover.specs.declared.fault.RecoverFault.TheVariants.{Failed, NoMemory, Gap, Bad}
+use Rattle.rmu_keeping.specs.Rolling.{rolling_status, HasRolled}
+
+-- a status of one that gave up
+abbrev pub GaveUp : ℕ → Type 0
+GaveUp status = (status ≡ 3) ⊎ (status ≡ 4) ⊎ (status ≡ 5)
+
+pub gave_up : (fault : RecoverFault) (status : ℕ) → status ≡ rolling_status fault → GaveUp status
+gave_up Failed status is = inl is
+gave_up NoMemory status is = inr (inr is)
+gave_up (Gap number) status is = inr (inl is)
+gave_up (Bad file slot) status is = inr (inl is)
+
+pub not_rolled : (status : ℕ) → GaveUp status → HasRolled status → ⊥
+not_rolled status gave has = omega (arith, gave, has)
+
+-- one that was carried out ends so
+abbrev pub Wrote : ℕ → Type 0
+Wrote status = (status ≡ 0) ⊎ (status ≡ 5) ⊎ (status ≡ 6)
+
+pub not_three : (status : ℕ) → Wrote status → status ≡ 3 → ⊥
+not_three status wrote is = omega (arith, wrote, is)
+
+pub not_four : (status : ℕ) → Wrote status → status ≡ 4 → ⊥
+not_four status wrote is = omega (arith, wrote, is)
+
+pub no_memory : (status : ℕ) → Wrote status → GaveUp status → status ≡ 5
+no_memory status wrote gave = omega (arith, wrote, gave)
+
+-- ---- its causes
+
+pub failed : (fault : RecoverFault) (status : ℕ) → status ≡ rolling_status fault → status ≡ 3 → fault ≡ Failed
+failed Failed status is three = refl
+failed NoMemory status is three = absurd (let no : 5 ≡ 3 = sym is ∙ three in omega (arith, no))
+failed (Gap number) status is three = absurd (let no : 4 ≡ 3 = sym is ∙ three in omega (arith, no))
+failed (Bad file slot) status is three = absurd (let no : 4 ≡ 3 = sym is ∙ three in omega (arith, no))
+
+-- a group that is missing, or a slot that isn't what it has to be
+abbrev pub Refused : RecoverFault → Type 0
+Refused fault = ((number : ℕ) × (fault ≡ Gap number)) ⊎ ((file : FileId) × (slot : ℕ) × (fault ≡ Bad file slot))
+
+pub refused : (fault : RecoverFault) (status : ℕ) → status ≡ rolling_status fault → status ≡ 4 → Refused fault
+refused Failed status is four = absurd (let no : 3 ≡ 4 = sym is ∙ four in omega (arith, no))
+refused NoMemory status is four = absurd (let no : 5 ≡ 4 = sym is ∙ four in omega (arith, no))
+refused (Gap number) status is four = inl (number, refl)
+refused (Bad file slot) status is four = inr (file, slot, refl)
