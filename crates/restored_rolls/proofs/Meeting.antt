@@ -70,18 +70,16 @@ first_is file number (x ∷ ls) l found = by (λ rest. first_is file number ls l
         record { index = suc rest.index; is = rest.is; there = rest.there }
 
 -- it is a write of that page
-its_file : (area file page number : ℕ) → ((storage_area area == file) && (page == number)) ≡ true → storage_area area ≡ file
-its_file area file page number is = by (storage_area area) file (page == number) is
-  where
-    by : (a b : ℕ) (c : Bool) → ((a == b) && c) ≡ true → a ≡ b
-    by a b c is = grind (arith, is)
+first_true : (a b : Bool) → (a && b) ≡ true → a ≡ true
+first_true true b is = refl
+first_true false b is = is
 
-its_page : (area file page number : ℕ) → ((storage_area area == file) && (page == number)) ≡ true → page ≡ number
-its_page area file page number is = by (storage_area area == file) page number is
-  where
-    by : (c : Bool) (a b : ℕ) → (c && (a == b)) ≡ true → a ≡ b
-    by true a b is = grind (arith, is)
-    by false a b is = let bad : ⊥ = cc in absurd bad
+second_true : (a b : Bool) → (a && b) ≡ true → b ≡ true
+second_true true b is = is
+second_true false b is = let bad : false ≡ true = is in let no : ⊥ = cc in absurd no
+
+same_number : (a b : ℕ) → (a == b) ≡ true → a ≡ b
+same_number a b is = grind (arith, is)
 
 pub first_writes : (groups : List Group) (file number : ℕ) (l : GroupLine) → first_there file number (lines_among groups) ≡ Some l → IsWrittenBy (writes_of groups) file number
 first_writes groups file number l found =
@@ -91,8 +89,8 @@ first_writes groups file number l found =
       write = write_of l;
       is = is_write groups first.index l first.is;
       on = record {
-        in_file = ap area_file (its_file l.key.area file l.key.page number first.there);
-        in_slot = ap (λ (n : ℕ). n - 1) (its_page l.key.area file l.key.page number first.there);
+        in_file = ap area_file (same_number (storage_area l.key.area) file (first_true (storage_area l.key.area == file) (l.key.page == number) first.there));
+        in_slot = ap (λ (n : ℕ). n - 1) (same_number l.key.page number (second_true (storage_area l.key.area == file) (l.key.page == number) first.there));
       };
     }
 

@@ -58,8 +58,8 @@ module _ (image : Image) (classes : ℕ → ℕ) (lines : Lines) (journal : Jour
   -- no transaction is open, so a line is as it stands
   as_committed : (key : Dbkey) (line : Line) → LineIs image journal.groups key line → line ≡ line_at image key
   as_committed key line (as_it_stands ended same) = same
-  as_committed key line (put_back member open before) = let none = none_named member open.is_member in let some = open.number in let names = open.names in absurd (omega (arith, none, some, names))
-  as_committed key line (not_found member open none same) = same
+  as_committed key line (put_back member is_open before) = let none = none_named member is_open.is_member in let some = is_open.number in let names = is_open.names in absurd (omega (arith, none, some, names))
+  as_committed key line (not_found member is_open none same) = same
 
   pub as_it_is : (key : Dbkey) → shown (line_at image key) ≡ line_in key lines
   as_it_is key = let there = kept.stands.each key in ap shown (sym (as_committed key there.line there.is)) ∙ there.shows

@@ -1,5 +1,6 @@
 -- Groups that follow on from the backup and fit the pages of a restored image are what is laid.
 use Rattle.std.proofs.Common.{◌≡◌, ℕ, ◌+◌, ◌≤◌, ◌<◌, List, slice_get, Option, Some, None, inl, refl, sym, ◌∙◌, ap, subst, arith}
+use Rattle.rdb_types.specs.declared.keys.Limits.{Limits}
 use Rattle.rdb_outside.specs.Disk.{Image}
 use Rattle.aij_journal.specs.declared.part.GroupLine.{GroupLine}
 use Rattle.aij_journal.specs.Header.{IsHeader}
@@ -60,7 +61,7 @@ module _ (was image : Image) (classes : ℕ → ℕ) (head : BackupHead) (lines 
         record {
           place = it.place;
           names = it.names;
-          within = subst (λ (n : ℕ). l.key.page ≤ n) (ap (λ limits. limits.pages) (sym is.says.limits)) within;
+          within = subst (λ (n : ℕ). l.key.page ≤ n) (ap (λ (limits : Limits). limits.pages) (sym is.says.limits)) within;
           line = it.line;
           owner = it.owner;
           size = it.class;

@@ -24,18 +24,18 @@ abbrev pub KeepsJournals : Image → Image → Type 0
 KeepsJournals was image = (file : FileId) (slot : ℕ) → IsJournalFile file → image file slot ≡ was file slot
 
 -- In this image a backup is whole, and of the copies and the journal those groups follow on from the backup's last one.
-pub record HasBoth (was : Image) (number : ℕ) (head : BackupHead) (lines : List BackupLine) (copies : List ℕ) (journals : List Journal) (groups : List Group) : Type 0 where
+pub record HasBackupAndGroups (was : Image) (number : ℕ) (head : BackupHead) (lines : List BackupLine) (copies : List ℕ) (journals : List Journal) (groups : List Group) : Type 0 where
   pub backup : IsBackupOf was number head lines
   pub stand : AreJournalsIn was (files_of copies) journals
   pub follows : follow head.last_group journals ≡ laid groups
 
 -- The image was kept, and stood for the backup's lines with all the groups laid over them.
-pub record WasRolled (was : Image) (classes : ℕ → ℕ) (now : Lines) (lines : List BackupLine) (groups : List Group) (journal : Journal) : Type 0 where
+pub record StoodBehind (was : Image) (classes : ℕ → ℕ) (now : Lines) (lines : List BackupLine) (groups : List Group) (journal : Journal) : Type 0 where
   pub kept : Kept classes now journal was
   pub behind : now ≡ laid_groups groups (lines_in lines)
 
 -- The restored database, as its pages are: the groups fit these, and behind them the lines have the classes of their areas.
-pub record MayMeet (image : Image) (head : BackupHead) (lines : List BackupLine) (groups : List Group) (classes : ℕ → ℕ) : Type 0 where
+pub record TakesGroups (image : Image) (head : BackupHead) (lines : List BackupLine) (groups : List Group) (classes : ℕ → ℕ) : Type 0 where
   pub fit : FitPages image head.limits.pages groups
   pub classes_are : HaveClasses image groups (lines_in lines) classes
 

@@ -16,7 +16,7 @@ ghost use Rattle.rmu_restore.specs.Restored.{IsRestored};
 ghost use Rattle.rmu_recover.specs.Journals.{files_of, AreJournalsIn};
 ghost use Rattle.rmu_recover.specs.Recovering.{MayBeRolled, IsToRoll, IsSource, AreSound, IsRolled};
 ghost use Rattle.restored_rolls.specs.Meeting.{forward_over, FitPages, HaveClasses};
-ghost use Rattle.restored_rolls.specs.Forth.{KeepsJournals, HasBoth, WasRolled, MayMeet, IsReadyToRoll};
+ghost use Rattle.restored_rolls.specs.Forth.{KeepsJournals, HasBackupAndGroups, StoodBehind, TakesGroups, IsReadyToRoll};
 
 use rdb_outside::Disk;
 
@@ -77,16 +77,16 @@ pub fn what_was_lost_comes_back()
     ensures ready { (was image : Image) (classes now : ℕ → ℕ) (head : BackupHead)
         (lines : List BackupLine) (journal : Journal) (groups : List Group) (number : ℕ)
         (copies : List ℕ) (journals : List Journal)
-        → HasBoth was number head lines copies journals groups
+        → HasBackupAndGroups was number head lines copies journals groups
         → KeepsJournals was image → (is : IsRestored was classes head lines journal image)
-        → MayMeet image head lines groups now
+        → TakesGroups image head lines groups now
         → IsReadyToRoll was copies is.root (forward_over image is.root (lines_in lines) groups)
         journals groups journal now image }
 
     // Rolled forward it is in use, and stands for what was lost, with the journal that was there.
     ensures back { (was image end : Image) (now : ℕ → ℕ) (root : Root) (lost : Lines)
         (lines : List BackupLine) (groups : List Group) (journal : Journal)
-        → WasRolled was now lost lines groups journal
+        → StoodBehind was now lost lines groups journal
         → IsRolled now root (forward_over image root (lines_in lines) groups) groups journal end
         → Kept now lost journal end }
 {}
