@@ -24,7 +24,7 @@ use Rattle.line_moves.proofs.KeyPlaces.{file_is}
 use Rattle.rmu_restore.specs.Restored.{IsRestored}
 use Rattle.rmu_restore.proofs.Finding.{some_found}
 use Rattle.rmu_recover.specs.Recovering.{AreSound}
-use Rattle.restored_rolls.specs.Meeting.{lines_among, first_there, page_in, class_behind, forward_over, FitPages, HaveClasses}
+use Rattle.restored_rolls.specs.Meeting.{lines_among, first_there, page_in, class_behind, forward_over, FitPages, HaveClasses, AreOfClasses}
 use Rattle.restored_rolls.proofs.Meeting.{IsAmong, in_front, behind_front, class_stays}
 use Rattle.restored_rolls.proofs.Slots.{as_it_is}
 
@@ -62,10 +62,7 @@ whose_line (g ∷ gs) lines key bytes is = ⊎_elim
     (found_behind key g.lines lines))
     (whose_line gs (lines_behind g lines) key bytes is)
 
-module _ (was image : Image) (classes now : ℕ → ℕ) (head : BackupHead) (lines : List BackupLine) (journal : Journal) (groups : List Group) (number : ℕ) (backup : IsBackupOf was number head lines) (is : IsRestored was classes head lines journal image) (fit : FitPages image head.limits.pages groups) (have : HaveClasses image groups (lines_in lines) now) where
-  lie : (key : Dbkey) (bytes : List ℕ) → line_in key (lines_in lines) ≡ Some bytes → IsDataPage key.page
-  lie key bytes got = let found = some_found lines key bytes got in subst (λ (k : Dbkey). IsDataPage k.page) found.keys (backup.whole.on_pages found.index found.line found.is).page
-
+module _ (was image : Image) (classes : ℕ → ℕ) (head : BackupHead) (lines : List BackupLine) (journal : Journal) (groups : List Group) (is : IsRestored was classes head lines journal image) (fit : FitPages image head.limits.pages groups) where
   -- a page with a line has an owner
   some_owner : (key : Dbkey) (bytes : List ℕ) → line_in key (lines_in lines) ≡ Some bytes → 1 ≤ owner_at (image (file_of key) (slot_of key))
   some_owner key bytes got = by (owner_at (image (file_of key) (slot_of key))) refl
@@ -74,25 +71,42 @@ module _ (was image : Image) (classes now : ℕ → ℕ) (head : BackupHead) (li
       by zero none = let bad : None ≡ Some bytes = sym (ap shown (nothing_on key (image (file_of key) (slot_of key)) none)) ∙ as_it_is image classes (lines_in lines) journal is.kept is.root is.is is.says.state key ∙ got in absurd (let no : ⊥ = cc in no)
       by (suc n) some = omega (arith, some)
 
-  -- the bytes fit the class of the page
-  of_backup : (key : Dbkey) (bytes : List ℕ) → line_in key (lines_in lines) ≡ Some bytes → length bytes ≤ class_behind image groups (storage_area key.area) key.page
-  of_backup key bytes got =
-      let there = is.kept.class key bytes got in
-      let same : class_behind image groups (storage_area key.area) key.page ≡ classes key.area = class_stays (owner_at (image (file_of key) (slot_of key))) (class_at (image (file_of key) (slot_of key))) (first_there (storage_area key.area) key.page (lines_among groups)) (some_owner key bytes got) ∙ there.same in
-      subst (λ (n : ℕ). length bytes ≤ n) (sym same) there.fits
+  -- ---- the class of the page of a line
 
-  of_groups : (key : Dbkey) (bytes : List ℕ) → IsOfGroups groups key bytes → length bytes ≤ class_behind image groups (storage_area key.area) key.page
+  of_backup : (key : Dbkey) (bytes : List ℕ) → line_in key (lines_in lines) ≡ Some bytes → class_behind image groups (storage_area key.area) key.page ≡ classes key.area
+  of_backup key bytes got = class_stays (owner_at (image (file_of key) (slot_of key))) (class_at (image (file_of key) (slot_of key))) (first_there (storage_area key.area) key.page (lines_among groups)) (some_owner key bytes got) ∙ (is.kept.class key bytes got).same
+
+  of_groups : (key : Dbkey) (bytes : List ℕ) (of : IsOfGroups groups key bytes) → class_behind image groups (storage_area key.area) key.page ≡ of.line.class
   of_groups key bytes of =
       let it = fit of.among.index of.line of.among.is in
       let page : it.place.page ≡ key.page = it.names.page ∙ ap (λ (k : Dbkey). k.page) of.same_key in
       let file : it.place.file ≡ storage_area key.area = file_is of.line.key it.place it.names ∙ ap (λ (k : Dbkey). storage_area k.area) of.same_key in
-      let class : class_behind image groups (storage_area key.area) key.page ≡ of.line.class = sym (ap (λ (f : ℕ). class_behind image groups f it.place.page) file ∙ ap (class_behind image groups (storage_area key.area)) page) ∙ it.class in
-      subst (λ (n : ℕ). length bytes ≤ n) (sym class) (subst (λ (b : List ℕ). length b ≤ of.line.class) of.bytes_are it.allowed.image)
+      sym (ap (λ (f : ℕ). class_behind image groups f it.place.page) file ∙ ap (class_behind image groups (storage_area key.area)) page) ∙ it.class
 
-  pub sound : AreSound (forward_over image is.root (lines_in lines) groups) groups now
-  sound = record {
-    in_order = is.kept.stands.in_order;
-    lie = lie;
-    class = have;
-    fits = λ key bytes got. subst (λ (n : ℕ). length bytes ≤ n) (have key bytes got) (⊎_elim (of_groups key bytes) (of_backup key bytes) (whose_line groups (lines_in lines) key bytes got));
-  }
+  -- the bytes fit it
+  fits_class : (key : Dbkey) (bytes : List ℕ) → line_in key (laid_groups groups (lines_in lines)) ≡ Some bytes → length bytes ≤ class_behind image groups (storage_area key.area) key.page
+  fits_class key bytes got = ⊎_elim
+      (λ (of : IsOfGroups groups key bytes). subst (λ (n : ℕ). length bytes ≤ n) (sym (of_groups key bytes of)) (subst (λ (b : List ℕ). length b ≤ of.line.class) of.bytes_are (fit of.among.index of.line of.among.is).allowed.image))
+      (λ (there : line_in key (lines_in lines) ≡ Some bytes). subst (λ (n : ℕ). length bytes ≤ n) (sym (of_backup key bytes there)) (is.kept.class key bytes there).fits)
+      (whose_line groups (lines_in lines) key bytes got)
+
+  -- lines of the classes of their areas give pages of these
+  pub have_classes : AreOfClasses groups classes → HaveClasses image groups (lines_in lines) classes
+  have_classes each key bytes got = ⊎_elim
+      (λ (of : IsOfGroups groups key bytes). of_groups key bytes of ∙ each of.among.index of.line of.among.is ∙ ap (λ (k : Dbkey). classes k.area) of.same_key)
+      (of_backup key bytes)
+      (whose_line groups (lines_in lines) key bytes got)
+
+  -- ---- what is rolled forward
+
+  module _ (number : ℕ) (backup : IsBackupOf was number head lines) where
+    lie : (key : Dbkey) (bytes : List ℕ) → line_in key (lines_in lines) ≡ Some bytes → IsDataPage key.page
+    lie key bytes got = let found = some_found lines key bytes got in subst (λ (k : Dbkey). IsDataPage k.page) found.keys (backup.whole.on_pages found.index found.line found.is).page
+
+    pub sound : (now : ℕ → ℕ) → HaveClasses image groups (lines_in lines) now → AreSound (forward_over image is.root (lines_in lines) groups) groups now
+    sound now have = record {
+      in_order = is.kept.stands.in_order;
+      lie = lie;
+      class = have;
+      fits = λ key bytes got. subst (λ (n : ℕ). length bytes ≤ n) (have key bytes got) (fits_class key bytes got);
+    }

@@ -89,6 +89,10 @@ pub record FitsPage (image : Image) (pages : ℕ) (groups : List Group) (l : Gro
 abbrev pub FitPages : Image → ℕ → List Group → Type 0
 FitPages image pages groups = (i : ℕ) (l : GroupLine) → slice_get (lines_among groups) i ≡ Some l → FitsPage image pages groups l
 
+-- each of them has the class of its logical area
+abbrev pub AreOfClasses : List Group → (ℕ → ℕ) → Type 0
+AreOfClasses groups classes = (i : ℕ) (l : GroupLine) → slice_get (lines_among groups) i ≡ Some l → l.class ≡ classes l.key.area
+
 -- behind the groups each line lies on a page of the class of its logical area
 abbrev pub HaveClasses : Image → List Group → Lines → (ℕ → ℕ) → Type 0
 HaveClasses image groups lines classes = (key : Dbkey) (bytes : List ℕ) → line_in key (laid_groups groups lines) ≡ Some bytes → class_behind image groups (storage_area key.area) key.page ≡ classes key.area

@@ -15,7 +15,7 @@ ghost use Rattle.rolled_lines.specs.Journals.{follow, laid};
 ghost use Rattle.rmu_restore.specs.Restored.{IsRestored};
 ghost use Rattle.rmu_recover.specs.Journals.{files_of, AreJournalsIn};
 ghost use Rattle.rmu_recover.specs.Recovering.{MayBeRolled, IsToRoll, IsSource, AreSound, IsRolled};
-ghost use Rattle.restored_rolls.specs.Meeting.{forward_over, FitPages, HaveClasses};
+ghost use Rattle.restored_rolls.specs.Meeting.{forward_over, FitPages, HaveClasses, AreOfClasses};
 ghost use Rattle.restored_rolls.specs.Forth.{KeepsJournals, HasBackupAndGroups, StoodBehind, TakesGroups, IsReadyToRoll};
 
 use rdb_outside::Disk;
@@ -36,12 +36,18 @@ pub fn restored_may_be_rolled()
         → FitPages image head.limits.pages groups
         → IsSource was copies is.root (forward_over image is.root (lines_in lines) groups) journals groups journal }
 
-    // The lines are sound behind it where each then lies on a page of its class.
+    // They are sound where behind them each line lies on a page of its class.
     ensures sound { (was image : Image) (classes now : ℕ → ℕ) (head : BackupHead) (lines : List BackupLine)
         (journal : Journal) (groups : List Group) (number : ℕ) → IsBackupOf was number head lines
         → (is : IsRestored was classes head lines journal image)
         → FitPages image head.limits.pages groups → HaveClasses image groups (lines_in lines) now
         → AreSound (forward_over image is.root (lines_in lines) groups) groups now }
+
+    // So it is where the lines of the groups have the classes that the lines of the backup have.
+    ensures classes { (was image : Image) (classes : ℕ → ℕ) (head : BackupHead) (lines : List BackupLine)
+        (journal : Journal) (groups : List Group) → IsRestored was classes head lines journal image
+        → FitPages image head.limits.pages groups → AreOfClasses groups classes
+        → HaveClasses image groups (lines_in lines) classes }
 {}
 
 /// A disk that holds a restored image may be rolled forward.

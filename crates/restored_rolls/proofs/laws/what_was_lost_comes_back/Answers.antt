@@ -10,7 +10,7 @@ returns-clause-ready c = λ was image classes now head lines journal groups numb
     record {
       may = source.may was image classes head lines journal groups keeps is;
       source = source.source was image classes head lines journal groups keeps is meets.fit copies journals has.stand has.follows;
-      sound = sound.sound was image classes now head lines journal groups number has.backup is meets.fit meets.classes_are;
+      sound = sound.sound was image classes head lines journal groups is meets.fit number has.backup now meets.classes_are;
     }
 
 pub returns-clause-back : goal.returns-clause-back
