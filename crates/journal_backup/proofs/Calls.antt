@@ -3,7 +3,7 @@ use Rattle.std.specs.Prelude.{OnOk, OnErr, Ok, Err}
 use Rattle.std.proofs.Common.{◌≡◌, ◌≢◌, ℕ, zero, suc, ◌+◌, ◌<◌, ◌≤◌, IsTrue, Result, ◌⊎◌, inl, inr, sym, ◌∙◌, ap, arith}
 use Rattle.rdb_types.specs.declared.file.FileId.{FileId}
 use Rattle.rdb_types.specs.declared.file.FileKind.TheVariants.{Root, Area, Ruj, Aij, AijBackup}
-use Rattle.rdb_outside.specs.Disk.{Image, View, Pending, LeavesOnly, OnlyReads}
+use Rattle.rdb_outside.specs.Disk.{Image, View, Pending, LeavesOnly, OnlyReads, zeros}
 use Rattle.new_database.specs.Maker.{root_file, aij_file}
 use Rattle.line_moves.specs.Calls.{OnlyWrites}
 use Rattle.line_opening.proofs.Standing.{written_stands, read_stands, leaves_on}
@@ -97,3 +97,20 @@ copied_whole number end old blanked slots sure headed new before keeps copied re
 copied_whole number end old blanked slots sure headed new before keeps copied reads told writes then_told header last last_told (suc n) less =
     (last.keeps last_told).content (copy_named number) (suc n) ∙ writes.content then_told (copy_named number) (suc n) (λ same is. let bad : suc n ≡ 0 = is in absurd (omega (arith, bad)))
     ∙ (reads.keeps told).content (copy_named number) (suc n) ∙ copied (suc n) (omega arith) less ∙ (before aij_file (groups_apart number)).content (suc n)
+
+-- ---- zeros behind what was copied
+
+abbrev pub IsEndedAt : ℕ → ℕ → Image → Type 0
+IsEndedAt number end image = image (copy_named number) end ≡ zeros (copy_named number)
+
+-- they stay while the header is copied
+pub ended_whole : (number end : ℕ) (slots sure headed new : View) → 1 ≤ end → IsEndedAt number end slots.content → OnlyReads slots sure → IsTrue slots.tells → OnlyWrites (copy_named number) 0 sure headed → IsTrue sure.tells
+    → OnlyReads headed new → IsTrue headed.tells → IsEndedAt number end new.content
+ended_whole number end slots sure headed new first ended reads told writes then_told last last_told =
+    (last.keeps last_told).content (copy_named number) end ∙ writes.content then_told (copy_named number) end (λ same is. let bad : end ≡ 0 = is in absurd (omega (arith, first, bad)))
+    ∙ (reads.keeps told).content (copy_named number) end ∙ ended
+
+-- the slots stay while they are written
+pub copied_still : (number end : ℕ) (old mid new : View) → AreCopied number 1 end old.content mid.content → OnlyWrites (copy_named number) end mid new → IsTrue mid.tells → AreCopied number 1 end old.content new.content
+copied_still number end old mid new copied writes told slot first less =
+    writes.content told (copy_named number) slot (λ same is. let bad : slot ≡ end = is in absurd (omega (arith, less, bad))) ∙ copied slot first less

@@ -11,12 +11,13 @@ use Rattle.aij_journal.specs.Header.{IsHeader}
 use Rattle.journal_scan.specs.declared.group.Group.{Group}
 use Rattle.journal_scan.specs.Standing.{what_stands}
 use Rattle.journal_scan.specs.Whole.{slots_of, slots_from}
+use Rattle.journal_reading.proofs.Standing.{nothing_stands}
 use Rattle.line_view.specs.Knowledge.{Lines}
 use Rattle.new_database.specs.Maker.{aij_file}
 use Rattle.line_moves.proofs.Runs.{pends}
 use Rattle.line_opening.proofs.Standing.{leaves_on}
 use Rattle.stable_lines.specs.Slots.{ruj_file}
-use Rattle.stable_lines.specs.Journal.{Journal, slots_in, next_number}
+use Rattle.stable_lines.specs.Journal.{Journal, slots_in, next_number, next_slot}
 use Rattle.stable_lines.specs.Kept.{Kept}
 use Rattle.stable_lines.specs.Progress.{Progress, begun_anew, settled}
 use Rattle.stable_lines.specs.Facts.{Facts, StandsAs, as_committed, with_former, with_flight}
@@ -26,7 +27,7 @@ use Rattle.database_opening.specs.declared.start.StoreStart.{StoreStart}
 use Rattle.database_opening.specs.Start.{beginning_with, IsStart}
 use Rattle.journal_anew.specs.Anew.{MayBeginAnew, no_groups}
 use Rattle.journal_backup.specs.Copied.{copy_named, HasCopy, HasEachGroup, in_journal, in_copy, IsBackedUp, none, emptied}
-use Rattle.journal_backup.proofs.Calls.{KeepsAll, facts_beside, journal_apart}
+use Rattle.journal_backup.proofs.Calls.{KeepsAll, IsEndedAt, facts_beside, journal_apart}
 
 some_same : {A : Type 0} (a b : A) → Some a ≡ Some b → a ≡ b
 some_same a b same = cc
@@ -43,6 +44,17 @@ no_slots first (g ∷ gs) e =
     let long : length (slots_of g ++ flat_map slots_of gs) ≡ length (slots_of g) + length (flat_map slots_of gs) = length-append (slots_of g) (flat_map slots_of gs) in
     let one : 1 ≤ length (slots_of g) = first_slot g 0 g.lines in
     absurd (omega (arith, e, long, one))
+
+-- where nothing stands no group begins
+begins_none : (g : Group) (slot : ℕ) (at : ℕ → Option AijPart) → at slot ≡ None → ((i : ℕ) (what : Option AijPart) → slice_get (slots_of g) i ≡ Some what → at (slot + i) ≡ what) → ⊥
+begins_none g slot at nothing stands = by g.lines stands
+  where
+    no : (part : AijPart) → at (slot + 0) ≡ Some part → ⊥
+    no part is = let here : at slot ≡ Some part = ap at (let e : slot ≡ slot + 0 = omega arith in e) ∙ is in let bad : None ≡ Some part = sym nothing ∙ here in absurd (cc)
+
+    by : (ls : List GroupLine) → ((i : ℕ) (what : Option AijPart) → slice_get (slots_from g 0 ls) i ≡ Some what → at (slot + i) ≡ what) → ⊥
+    by [] there = no _ (there 0 _ refl)
+    by (l ∷ ls) there = no _ (there 0 _ refl)
 
 -- what two facts leave together
 both : (old new : View) (P Q : Image → Type 0) → LeavesOnly old new P → LeavesOnly old new Q → LeavesOnly old new (λ image. P image × Q image)
@@ -82,7 +94,7 @@ module _ (classes : ℕ → ℕ) (lines : Lines) (journal : Journal) (start : St
     slot_there : (i : ℕ) (what : Option AijPart) → slice_get (slots_in journal) i ≡ Some what → what_stands (old.content aij_file (i + 1)) ≡ what
     slot_there i what got = begins.facts.journal.groups.stand i what (old.content aij_file (i + 1)) got (pends old content aij_file (i + 1))
 
-    module _ (mid : View) (keeps : KeepsAll number old mid) (copied : (slot : ℕ) → slot < start.next.slot → mid.content (copy_named number) slot ≡ old.content aij_file slot) (stable : IsStable mid) where
+    module _ (mid : View) (keeps : KeepsAll number old mid) (copied : (slot : ℕ) → slot < start.next.slot → mid.content (copy_named number) slot ≡ old.content aij_file slot) (ended : IsEndedAt number start.next.slot mid.content) (stable : IsStable mid) where
       has_copy : (image : Image) → ((slot : ℕ) → Pending mid (copy_named number) slot (image (copy_named number) slot)) → HasCopy image number journal
       has_copy image slots =
           let at = begins.next.in_slot in
@@ -92,6 +104,7 @@ module _ (classes : ℕ → ℕ) (lines : Lines) (journal : Journal) (start : St
             stand = λ i what got.
                 let within : i < length (slots_in journal) = slice_get_within (slots_in journal) i what got in
                 ap what_stands (same (i + 1) ∙ copied (i + 1) (omega (arith, at, within))) ∙ slot_there i what got;
+            no_more = λ g is stands. begins_none g (next_slot journal) (λ slot. what_stands (image (copy_named number) slot)) (ap (λ (n : ℕ). what_stands (image (copy_named number) n)) (sym at) ∙ ap what_stands (same start.next.slot ∙ ended) ∙ nothing_stands) stands;
           }
         where
           same : (slot : ℕ) → image (copy_named number) slot ≡ mid.content (copy_named number) slot

@@ -41,9 +41,9 @@ returns-in_err-begin_anew-clause-within g c = let v = g.D.Disk.view in let old =
     let content = g.met.D.Disk.content_left c.args.disk.now old.moment t (omega arith) in
     let now = beginning_with classes lines journal start in
     let told = still_tells old mid c.copy_journal.ensures.told t in
-    let keeps = c.copy_journal.ensures.others t in let copied = c.in_ok-copy_journal.ensures.copied t in let stable = c.in_ok-copy_journal.ensures.stable t in
-    emptying_leaves classes lines journal start number old content begins mid keeps copied stable new (c.begin_anew.ensures.others (copy_named number) (copies_apart number) told)
-    (c.copy_journal.ensures.stands t now begins.facts) (c.begin_anew.ensures.stands told now (may_empty classes lines journal start number old content begins mid keeps copied stable))
+    let keeps = c.copy_journal.ensures.others t in let copied = c.in_ok-copy_journal.ensures.copied t in let stable = c.in_ok-copy_journal.ensures.stable t in let ended = c.in_ok-copy_journal.ensures.ended t (let at = begins.next.in_slot in omega (arith, at)) in
+    emptying_leaves classes lines journal start number old content begins mid keeps copied ended stable new (c.begin_anew.ensures.others (copy_named number) (copies_apart number) told)
+    (c.copy_journal.ensures.stands t now begins.facts) (c.begin_anew.ensures.stands told now (may_empty classes lines journal start number old content begins mid keeps copied ended stable))
 
 pub returns-in_err-begin_anew-clause-others : goal.returns-in_err-begin_anew-clause-others
 returns-in_err-begin_anew-clause-others g c = let v = g.D.Disk.view in let old = v c.args.disk.now in let mid = v c.copy_journal.new.disk in
@@ -55,9 +55,9 @@ returns-clause-within g c = let v = g.D.Disk.view in let old = v c.args.disk.now
     let content = g.met.D.Disk.content_left c.args.disk.now old.moment t (omega arith) in
     let now = beginning_with classes lines journal start in
     let told = still_tells old mid c.copy_journal.ensures.told t in
-    let keeps = c.copy_journal.ensures.others t in let copied = c.in_ok-copy_journal.ensures.copied t in let stable = c.in_ok-copy_journal.ensures.stable t in
-    emptying_leaves classes lines journal start number old content begins mid keeps copied stable new (c.begin_anew.ensures.others (copy_named number) (copies_apart number) told)
-    (c.copy_journal.ensures.stands t now begins.facts) (c.begin_anew.ensures.stands told now (may_empty classes lines journal start number old content begins mid keeps copied stable))
+    let keeps = c.copy_journal.ensures.others t in let copied = c.in_ok-copy_journal.ensures.copied t in let stable = c.in_ok-copy_journal.ensures.stable t in let ended = c.in_ok-copy_journal.ensures.ended t (let at = begins.next.in_slot in omega (arith, at)) in
+    emptying_leaves classes lines journal start number old content begins mid keeps copied ended stable new (c.begin_anew.ensures.others (copy_named number) (copies_apart number) told)
+    (c.copy_journal.ensures.stands t now begins.facts) (c.begin_anew.ensures.stands told now (may_empty classes lines journal start number old content begins mid keeps copied ended stable))
 
 pub returns-clause-others : goal.returns-clause-others
 returns-clause-others g c = let v = g.D.Disk.view in let old = v c.args.disk.now in let mid = v c.copy_journal.new.disk in
@@ -69,6 +69,6 @@ returns-clause-backed_up g c = let v = g.D.Disk.view in let old = v c.args.disk.
     let content = g.met.D.Disk.content_left c.args.disk.now old.moment t (omega arith) in
     let now = beginning_with classes lines journal start in
     let told = still_tells old mid c.copy_journal.ensures.told t in
-    let keeps = c.copy_journal.ensures.others t in let copied = c.in_ok-copy_journal.ensures.copied t in let stable = c.in_ok-copy_journal.ensures.stable t in
-    emptied_left classes lines journal start number old content begins mid keeps copied stable new (c.begin_anew.ensures.others (copy_named number) (copies_apart number) told)
-    (c.in_ok-begin_anew.ensures.begun told now (may_empty classes lines journal start number old content begins mid keeps copied stable)) image left
+    let keeps = c.copy_journal.ensures.others t in let copied = c.in_ok-copy_journal.ensures.copied t in let stable = c.in_ok-copy_journal.ensures.stable t in let ended = c.in_ok-copy_journal.ensures.ended t (let at = begins.next.in_slot in omega (arith, at)) in
+    emptied_left classes lines journal start number old content begins mid keeps copied ended stable new (c.begin_anew.ensures.others (copy_named number) (copies_apart number) told)
+    (c.in_ok-begin_anew.ensures.begun told now (may_empty classes lines journal start number old content begins mid keeps copied ended stable)) image left

@@ -1,0 +1,5 @@
+pub mod Meeting
+pub mod Slots
+pub mod Sound
+pub mod Source
+pub mod Following
