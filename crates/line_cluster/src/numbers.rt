@@ -34,8 +34,11 @@ fn count_places(stage: &Stage)
 fn count_needs(stage: &ReaderStage)
     ensures { reader_places stage.now < 2 ^ 68 }
 {
-    if let ReaderStage::Gathering(_, _, later, _) = stage {
-        let _count = later.len();
+    match stage {
+        ReaderStage::Gathering(_, _, later, _) => {
+            let _count = later.len();
+        }
+        ReaderStage::Between | ReaderStage::Working(_, _) => {}
     }
 }
 

@@ -27,7 +27,7 @@ use line_view::Need;
 use rdb_types::{Copied, Session, Word};
 use rdo_ast::reply::{Reply, Standing};
 use rdo_ast::syntax::Item;
-use session_jobs::{Found, Job, Outcome, Statements, TxRecord};
+use session_jobs::{Found, Job, Needs, Outcome, Statements, TxRecord};
 use session_states::{Phase, ReaderStage, ReaderWork};
 use std::alloc::Global;
 use stepped_jobs::fetch;
@@ -146,6 +146,18 @@ fn say_reading<S: Statements>(terms: ReaderTerms, item: Item, worked: TxRecord) 
     }
 }
 
+// What a job lacked is read: this need first, and then those behind it.
+fn read_in_turn(terms: ReaderTerms, item: Item, next: Need, later: Needs) -> Phase
+    ensures { result ≡ reads_at terms (ReaderStage.Gathering item next later 0) }
+{
+    let round = ReaderRound {
+        item,
+        later,
+        place: 0,
+    };
+    terms.at(round.at(next))
+}
+
 /// Works the job of a statement at once, and takes what it came to: it is said, or all that it named is read.
 pub fn compute_reading<S: Statements, L: LineStore>(
     alloc: Global,
@@ -178,14 +190,7 @@ pub fn compute_reading<S: Statements, L: LineStore>(
     };
     match found {
         Found::Done(worked) => say_reading::<S>(back, job.item, worked),
-        Found::Missing { next, later } => {
-            let round = ReaderRound {
-                item: job.item,
-                later,
-                place: 0,
-            };
-            quiet(back.at(round.at(next)))
-        }
+        Found::Missing { next, later } => quiet(read_in_turn(back, job.item, next, later)),
         // There is no such line.
         Found::Bad(_) => quiet(back.at(ReaderStage::Working(job.item, ReaderWork::Due))),
         Found::Unworked => Turned {

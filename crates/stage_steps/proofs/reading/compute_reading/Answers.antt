@@ -7,7 +7,6 @@ use Rattle.session_jobs.specs.declared.jobs.Found.{Found}
 use Rattle.session_jobs.specs.declared.jobs.Found.TheVariants.{Done}
 use Rattle.session_jobs.specs.Jobs.{IsFoundFor, IsFound}
 use Rattle.session_states.specs.declared.stage.ReaderWork.TheVariants.{Due, Out}
-use Rattle.session_states.specs.declared.stage.ReaderStage.{ReaderStage}
 use Rattle.session_states.specs.declared.stage.ReaderStage.TheVariants.{Working, Gathering}
 use Rattle.session_states.proofs.Reading.{goes-to-read}
 use Rattle.session_measure.proofs.Nearer.{nearer-in-round}
@@ -40,7 +39,7 @@ pub returns-in-Missing-clause-comes : goal.returns-in-Missing-clause-comes
 returns-in-Missing-clause-comes g c locks =
     let here = scene c.args.word.now (g.L.LineStore.sight c.args.store.now) locks in
     let job = c.into_parts-job.result.0 in
-    comes-as g.S.Statements.stands c.args.s.number _ _ _ _ _ _ _ (c.quiet.ensures.phase ∙ c.at-2.ensures ∙ ap (λ (x : ReaderStage). reads_at (record { standing = job.standing; known = job.known; spoken = c.args.terms.spoken }) x) c.at.ensures) c.quiet.ensures.happened (subst (λ (j : Job). ComesIn g.S.Statements.stands c.args.s.number here (reads_at (record { standing = j.standing; known = j.known; spoken = c.args.terms.spoken }) (Working j.item Out)) here (reads_at (record { standing = job.standing; known = job.known; spoken = c.args.terms.spoken }) (Gathering job.item c.in-Missing.next c.in-Missing.later 0)) Quiet) (c.into_parts-job.ensures.job ∙ c.of.ensures)
+    comes-as g.S.Statements.stands c.args.s.number _ _ _ _ _ _ _ (c.quiet.ensures.phase ∙ c.read_in_turn.ensures) c.quiet.ensures.happened (subst (λ (j : Job). ComesIn g.S.Statements.stands c.args.s.number here (reads_at (record { standing = j.standing; known = j.known; spoken = c.args.terms.spoken }) (Working j.item Out)) here (reads_at (record { standing = job.standing; known = job.known; spoken = c.args.terms.spoken }) (Gathering job.item c.in-Missing.next c.in-Missing.later 0)) Quiet) (c.into_parts-job.ensures.job ∙ c.of.ensures)
     (goes-still c.args.s.number _ Alive _ Alive _ _ _ refl (λ f. reads-on _ _ locks c.args.s.number _ _ refl f) (λ u other. refl) (nearer-in-round c.args.s.number _ _ _ _ refl refl refl refl (omega arith))
     (λ h shown dead left total. goes-to-read g.S.Statements.stands g.met.S.Statements.orderly c.args.s.number (shared c.args.word.now h locks dead) left total job.standing job.known c.args.terms.spoken (Working job.item Out) (Gathering job.item c.in-Missing.next c.in-Missing.later 0) refl (λ stays. stays))))
 
@@ -48,7 +47,7 @@ pub returns-in-Bad-clause-comes : goal.returns-in-Bad-clause-comes
 returns-in-Bad-clause-comes g c locks =
     let here = scene c.args.word.now (g.L.LineStore.sight c.args.store.now) locks in
     let job = c.into_parts-job.result.0 in
-    comes-as g.S.Statements.stands c.args.s.number _ _ _ _ _ _ _ (c.quiet-in-Bad.ensures.phase ∙ c.at-in-Bad.ensures) c.quiet-in-Bad.ensures.happened (subst (λ (j : Job). ComesIn g.S.Statements.stands c.args.s.number here (reads_at (record { standing = j.standing; known = j.known; spoken = c.args.terms.spoken }) (Working j.item Out)) here (reads_at (record { standing = job.standing; known = job.known; spoken = c.args.terms.spoken }) (Working job.item Due)) Quiet) (c.into_parts-job.ensures.job ∙ c.of.ensures)
+    comes-as g.S.Statements.stands c.args.s.number _ _ _ _ _ _ _ (c.quiet-in-Bad.ensures.phase ∙ c.at.ensures) c.quiet-in-Bad.ensures.happened (subst (λ (j : Job). ComesIn g.S.Statements.stands c.args.s.number here (reads_at (record { standing = j.standing; known = j.known; spoken = c.args.terms.spoken }) (Working j.item Out)) here (reads_at (record { standing = job.standing; known = job.known; spoken = c.args.terms.spoken }) (Working job.item Due)) Quiet) (c.into_parts-job.ensures.job ∙ c.of.ensures)
     (goes-still c.args.s.number _ Alive _ Alive _ _ _ refl (λ f. reads-on _ _ locks c.args.s.number _ _ refl f) (λ u other. refl) (nearer-in-round c.args.s.number _ _ _ _ refl refl refl refl (omega arith))
     (λ h shown dead left total. goes-to-read g.S.Statements.stands g.met.S.Statements.orderly c.args.s.number (shared c.args.word.now h locks dead) left total job.standing job.known c.args.terms.spoken (Working job.item Out) (Working job.item Due) refl (λ stays. stays))))
 
