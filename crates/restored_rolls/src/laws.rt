@@ -8,10 +8,11 @@ ghost use Rattle.backup_file.specs.declared.header.BackupHead.{BackupHead};
 ghost use Rattle.backup_file.specs.declared.line.BackupLine.{BackupLine};
 ghost use Rattle.backup_file.specs.Whole.{lines_in};
 ghost use Rattle.backup_reading.specs.Reading.{IsBackupOf};
-ghost use Rattle.stable_lines.specs.Journal.{Journal, next_number};
+ghost use Rattle.stable_lines.specs.Journal.{Journal, IsJournalOf, next_number};
 ghost use Rattle.stable_lines.specs.Kept.{Kept};
 ghost use Rattle.stable_lines.specs.Rolling.{laid_groups, groups_above, rolled};
 ghost use Rattle.rolled_lines.specs.Journals.{follow, laid};
+ghost use Rattle.journal_backup.specs.Copied.{HasCopy};
 ghost use Rattle.rmu_restore.specs.Restored.{IsRestored};
 ghost use Rattle.rmu_recover.specs.Journals.{files_of, AreJournalsIn};
 ghost use Rattle.rmu_recover.specs.Recovering.{MayBeRolled, IsToRoll, IsSource, AreSound, IsRolled};
@@ -58,6 +59,15 @@ pub fn restored_disks_may_be_rolled<D: Disk>(disk: &D)
         → (is : IsRestored was classes head lines journal (D.view disk.now).content)
         → IsToRoll was is.root (forward_over (D.view disk.now).content is.root (lines_in lines) groups)
         (D.view disk.now) }
+{}
+
+/// Copies that were taken of the journal, and the journal behind them, are journals in the files that a roll-forward reads.
+pub fn copies_stand()
+    ensures journal { (image : Image) (journal : Journal) → IsJournalOf image journal
+        → AreJournalsIn image (files_of []) (journal ∷ []) }
+    ensures copy { (image : Image) (number : ℕ) (copy : Journal) (copies : List ℕ) (journals : List Journal)
+        → HasCopy image number copy → AreJournalsIn image (files_of copies) journals
+        → AreJournalsIn image (files_of (number ∷ copies)) (copy ∷ journals) }
 {}
 
 /// Groups that follow on from a backup, in the journal and in copies that were taken of it.

@@ -4,5 +4,6 @@
 mod laws;
 
 pub use laws::{
-    copies_follow, restored_disks_may_be_rolled, restored_may_be_rolled, what_was_lost_comes_back,
+    copies_follow, copies_stand, restored_disks_may_be_rolled, restored_may_be_rolled,
+    what_was_lost_comes_back,
 };
