@@ -1,6 +1,6 @@
 // The words of the command line.
 use command_words::{
-    Command, Death, DeathPoint, PagePlace, command_of, database_word, order_of, script_words,
+    Command, Death, DeathPoint, PagePlace, command_of, copies_of, database_word, order_of, script_words,
 };
 use rdb_types::{Items, Limits, NoMemory, Word};
 use std::alloc::Global;
@@ -63,10 +63,26 @@ fn tell_row(rt: &HostRuntime, words: &[Word]) {
         Some(Command::Restore(number)) => {
             let _ = println!(rt; "  restore of backup {number}");
         }
+        Some(Command::Recover(count)) => {
+            let _ = println!(rt; "  roll-forward over {count} copies");
+        }
         None => {
             let _ = println!(rt; "  refused");
         }
     }
+}
+
+// The copies of a roll-forward.
+fn tell_copies(rt: &HostRuntime, words: &[Word]) -> Result<(), NoMemory> {
+    if !matches!(command_of(words), Some(Command::Recover(_))) {
+        return Ok(());
+    }
+    let _ = print!(rt; "  copies");
+    for number in copies_of(rt.alloc(), words)?.as_slice() {
+        let _ = print!(rt; " {number}");
+    }
+    let _ = println!(rt; "");
+    Ok(())
 }
 
 fn tell_places(rt: &HostRuntime, words: &[Word]) {
@@ -81,6 +97,7 @@ fn tell_places(rt: &HostRuntime, words: &[Word]) {
 pub fn tell_command(rt: &HostRuntime, line: &str) -> Result<(), NoMemory> {
     let words = words_of(rt.alloc(), line)?;
     tell_row(rt, words.as_slice());
+    tell_copies(rt, words.as_slice())?;
     tell_places(rt, words.as_slice());
     let _ = print!(rt; "  order");
     for session in order_of(rt.alloc(), words.as_slice())?.as_slice() {
