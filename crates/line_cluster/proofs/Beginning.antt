@@ -1,7 +1,7 @@
 -- Sessions that have said nothing are sound.
-use Rattle.std.proofs.Common.{◌≡◌, ◌≤◌, ℕ, zero, suc, ◌∷◌, [], List, length, map, refl, ◌∙◌, sym, ap, subst, arith, Some, None, slice_get, inl, inr}
+use Rattle.std.proofs.Common.{◌≡◌, ◌≤◌, ℕ, zero, suc, ◌∷◌, [], Bool, List, length, map, refl, ◌∙◌, sym, ap, subst, arith, Some, None, slice_get, inl, inr}
+use Rattle.std.proofs.lemmas.Bool.{false≢true}
 use Rattle.std.proofs.lemmas.Option.{none-some, same_Some}
-use Rattle.rdo_ast.specs.declared.syntax.Item.{Item}
 use Rattle.rdo_ast.specs.Views.{uttered_of}
 use Rattle.rdb_account.specs.Places.{Opening}
 use Rattle.line_view.specs.Knowledge.{Lines}
@@ -10,6 +10,7 @@ use Rattle.line_store.specs.Shelves.{Shelf}
 use Rattle.line_store.specs.Calls.{MayStand}
 use Rattle.line_store.specs.Sights.{Agrees, Stands, bare, MayBeOpened}
 use Rattle.session_jobs.specs.Records.{Model, IsOrderly}
+use Rattle.session_states.specs.declared.item_queue.WholeScript.{WholeScript}
 use Rattle.session_states.specs.declared.stage.Member.{Member}
 use Rattle.session_states.specs.declared.stage.Phase.TheVariants.{Outside}
 use Rattle.session_states.specs.declared.stage.Life.TheVariants.{Alive}
@@ -22,7 +23,7 @@ use Rattle.stage_steps.specs.Scenes.{Scene}
 use Rattle.rdb_account.specs.Events.{event_of}
 use Rattle.rdb_account.specs.declared.event.Event.{Event as Declared}
 use Rattle.line_cluster.proofs.Stepping.{told-images}
-use Rattle.line_cluster.specs.Sound.{IsSound, AreSound, FollowsScripts, IsOpenedBy, MayFail, fresh_member}
+use Rattle.line_cluster.specs.Sound.{IsSound, AreSound, FollowsScripts, IsOpenedBy, MayFail, fresh_member, stop_of}
 use Rattle.line_cluster.proofs.Faults.{rose-none}
 
 map-got : {A B : Type 0} (f : A → B) (xs : List A) (i : ℕ) (y : B) → slice_get (map f xs) i ≡ Some y → (x : A) × (slice_get xs i ≡ Some x) × (f x ≡ y)
@@ -34,11 +35,11 @@ as-long : {A B : Type 0} (f : A → B) (xs : List A) → length (map f xs) ≡ l
 as-long f [] = refl
 as-long f (x ∷ xs) = ap suc (as-long f xs)
 
-none-dead : (scripts : List (List Item)) → dead_in (map fresh_member scripts) ≡ 0
+none-dead : (scripts : List WholeScript) → dead_in (map fresh_member scripts) ≡ 0
 none-dead [] = refl
-none-dead (items ∷ more) = let e = none-dead more in omega (arith, e)
+none-dead (x ∷ more) = let e = none-dead more in omega (arith, e)
 
-pub begins : (M : Model) (orderly : IsOrderly M) (told : Type 0) (o : Opening) (faults : ℕ) (c : Scene) (scripts : List (List Item)) → Agrees c.sight → Stands c.sight → MayBeOpened c.sight → ((s : ℕ) → c.sight.stand s ≡ outside) → c.locks.parties ≡ [] → c.locks.trail ≡ [] →
+pub begins : (M : Model) (orderly : IsOrderly M) (told : Type 0) (o : Opening) (faults : ℕ) (c : Scene) (scripts : List WholeScript) → Agrees c.sight → Stands c.sight → MayBeOpened c.sight → ((s : ℕ) → c.sight.stand s ≡ outside) → c.locks.parties ≡ [] → c.locks.trail ≡ [] →
     FollowsScripts o scripts → (told → IsOpenedBy M o faults c.word c.sight) → IsSound M told o faults c (map fresh_member scripts) [] None
 begins M orderly told o faults c scripts agrees stands openable away parties trail follows opens = record {
   legal = λ t. (tells t).kept.right.legal;
@@ -65,11 +66,11 @@ begins M orderly told o faults c scripts agrees stands openable away parties tra
       shown = is.shown;
       kept = subst (λ (d : ℕ). AreKept M o (sharing c.word is.shelf c.locks d) (map fresh_member scripts) []) (sym (none-dead scripts))
           (opened M orderly o (sharing c.word is.shelf c.locks 0) (map fresh_member scripts) (is.opened c.locks parties trail) (λ i m h. let at = map-got fresh_member scripts i m h in record {
-            left = at.0;
-            all = length at.0;
+            left = at.0.items;
+            all = length at.0.items;
             is = sym at.2;
-            script = follows i at.0 at.1;
-            total = as-long uttered_of at.0;
+            script = (follows i at.0 at.1).0;
+            total = as-long uttered_of at.0.items;
             seat = outside-seat (is.shelf.seat (suc i)) (sym (agrees is.shelf is.shown (suc i)) ∙ ap bare (away (suc i)));
           }));
       images = record {
@@ -90,13 +91,17 @@ begins M orderly told o faults c scripts agrees stands openable away parties tra
       };
     }
 
-pub starts : (M : Model) (orderly : IsOrderly M) (told : Type 0) (o : Opening) (faults sessions : ℕ) (c : Scene) (scripts : List (List Item)) (members : List Member) (events : List Declared) → Agrees c.sight → Stands c.sight → MayBeOpened c.sight → ((s : ℕ) → c.sight.stand s ≡ outside) →
-    c.locks.parties ≡ [] → c.locks.trail ≡ [] → FollowsScripts o scripts → (told → IsOpenedBy M o faults c.word c.sight) → members ≡ map fresh_member scripts → events ≡ [] → length scripts ≡ sessions → sessions ≤ 16 → MayFail o →
-    AreSound M told o faults sessions c members (map event_of events) None
-starts M orderly told o faults sessions c scripts members events agrees stands openable away parties trail follows opens are none count few mortal = record {
+pub starts : (M : Model) (orderly : IsOrderly M) (told : Type 0) (o : Opening) (faults sessions : ℕ) (c : Scene) (scripts : List WholeScript) (members : List Member) (events : List Declared) (stops : List Bool) → Agrees c.sight → Stands c.sight → MayBeOpened c.sight → ((s : ℕ) → c.sight.stand s ≡ outside) →
+    c.locks.parties ≡ [] → c.locks.trail ≡ [] → FollowsScripts o scripts → (told → IsOpenedBy M o faults c.word c.sight) → members ≡ map fresh_member scripts → stops ≡ map stop_of scripts → events ≡ [] → length scripts ≡ sessions → sessions ≤ 16 → MayFail o →
+    AreSound M told o faults sessions c members (map event_of events) None stops
+starts M orderly told o faults sessions c scripts members events stops agrees stands openable away parties trail follows opens are ends none count few mortal = record {
   sound = subst (λ (ms : List Member). IsSound M told o faults c ms (map event_of events) None) (sym are) (subst (λ (es : List Declared). IsSound M told o faults c (map fresh_member scripts) (map event_of es) None) (sym none)
       (begins M orderly told o faults c scripts agrees stands openable away parties trail follows opens));
   count = ap length are ∙ (as-long fresh_member scripts ∙ count);
   few = few;
   mortal = mortal;
+  ends = record {
+    count = ap length ends ∙ (as-long stop_of scripts ∙ count);
+    each = λ i b found. let at = map-got stop_of scripts i b (ap (λ (bs : List Bool). slice_get bs i) (sym ends) ∙ found) in sym at.2 ∙ sym (follows i at.0 at.1).1;
+  };
 }

@@ -9,9 +9,9 @@ use Rattle.rdb_account.specs.Events.{Event, Died, event_of}
 use Rattle.session_states.specs.declared.stage.Life.{Life}
 use Rattle.session_states.specs.declared.stage.Life.TheVariants.{Alive, Dead, Gone}
 use Rattle.rdb_types.specs.declared.session.Cause.{Cause}
-use Rattle.rdb_types.specs.declared.session.Cause.TheVariants.{Device}
 use Rattle.session_states.specs.declared.stage.Member.{Member}
 use Rattle.session_stands.specs.Sessions.{dead_in, one_dead}
+use Rattle.line_cluster.specs.Deaths.{is_own}
 use Rattle.line_cluster.specs.Going.{IsDeadAt, is_alive_life, is_dead_life, is_over}
 use Rattle.rdb_account.specs.Places.{Opening}
 use Rattle.line_store.specs.declared.answers.Fault.{Fault}
@@ -27,8 +27,8 @@ use Rattle.line_cluster.proofs.Marks.{IsOf, all-append, answers-append, step-mar
 use Rattle.line_cluster.proofs.Places.{set-same, set-set}
 
 -- nothing happened
-pub still : (s : ℕ) (c d : Sessions) → d.members ≡ c.members → d.events ≡ c.events → GoesFurther s c d
-still s c d members events = record {
+pub still : (stops : ℕ → Bool) (s : ℕ) (c d : Sessions) → d.members ≡ c.members → d.events ≡ c.events → GoesFurther stops s c d
+still stops s c d members events = record {
   members = inl members;
   events = record { more = []; grown = ap (λ es. map event_of es) events ∙ sym (append-nil (map event_of c.events)); of_s = tt; one = omega arith };
 }
@@ -57,27 +57,29 @@ some-found ms slice None e f h = absurd (false≢true h)
 some-found ms slice (Some at) e f h = subst (λ (xs : List Member). 0 < dead_in xs) e (some-dead slice at f)
 
 -- where the session doesn't rest, nothing is said of the locks before
-pub came-from : (s : ℕ) (old then new : Sessions) (t : Turn) → then.members ≡ old.members → then.events ≡ old.events → GoesOn t → Came s then new t → Came s old new t
-came-from s old then new t e f on came = by t on came
+pub came-from : (stops : ℕ → Bool) (s : ℕ) (old then new : Sessions) (t : Turn) → then.members ≡ old.members → then.events ≡ old.events → GoesOn t → Came stops s then new t → Came stops s old new t
+came-from stops s old then new t e f on came = by t on came
   where
-    further : GoesFurther s then new → GoesFurther s old new
+    further : GoesFurther stops s then new → GoesFurther stops s old new
     further g = record {
-      members = subst (λ (ms : List Member). (new.members ≡ ms) ⊎ IsAnother s ms new.members) e g.members;
+      members = subst (λ (ms : List Member). (new.members ≡ ms) ⊎ IsAnother stops s ms new.members) e g.members;
       events = subst (λ (es : List Declared). Grows s es new.events) f g.events;
     }
 
-    fell : HasFallen s then new → HasFallen s old new
+    fell : HasFallen stops s then new → HasFallen stops s old new
     fell g = record {
+      cause = g.cause;
+      own = g.own;
       before = g.before;
       found = subst (λ (ms : List Member). slice_get ms (s - 1) ≡ Some g.before) e g.found;
       going = g.going;
       behind = g.behind;
       died = g.died;
       is = subst (λ (ms : List Member). new.members ≡ slice_set ms (s - 1) g.behind) e g.is;
-      grown = subst (λ (es : List Declared). map event_of new.events ≡ map event_of es ++ Died s Device ∷ []) f g.grown;
+      grown = subst (λ (es : List Declared). map event_of new.events ≡ map event_of es ++ Died s g.cause ∷ []) f g.grown;
     }
 
-    by : (t : Turn) → GoesOn t → Came s then new t → Came s old new t
+    by : (t : Turn) → GoesOn t → Came stops s then new t → Came stops s old new t
     by turn.Moved on g = further g
     by turn.Stopped on g = (g.0, further g.1)
     by turn.Died on g = fell g
@@ -94,9 +96,9 @@ on-rests o s c turn.Frozen on = absurd on
 on-rests o s c turn.Ended on = absurd on
 
 -- a session took a step
-pub went : (s at : ℕ) (old new : Sessions) (m n : Member) (h : Happening) → at ≡ s - 1 → slice_get old.members at ≡ Some m → is_over m m.life ≡ false → n.life ≡ m.life →
-    new.members ≡ slice_set old.members at n → map event_of new.events ≡ map event_of old.events ++ events_of s h → GoesFurther s old new
-went s at old new m n h is found going lives put grown = record {
+pub went : (stops : ℕ → Bool) (s at : ℕ) (old new : Sessions) (m n : Member) (h : Happening) → at ≡ s - 1 → slice_get old.members at ≡ Some m → is_over (stops s) m m.life ≡ false → n.life ≡ m.life →
+    new.members ≡ slice_set old.members at n → map event_of new.events ≡ map event_of old.events ++ events_of s h → GoesFurther stops s old new
+went stops s at old new m n h is found going lives put grown = record {
   members = inr (record {
     before = m;
     found = subst (λ (i : ℕ). slice_get old.members i ≡ Some m) is found;
@@ -113,8 +115,8 @@ none-from None e = refl
 none-from (Some x) e = absurd (false≢true (sym e))
 
 -- who is found is the one that was looked at
-pub looked : (ms : List Member) (i : ℕ) (m n : Member) (b : Bool) → slice_get ms i ≡ Some m → is_over m m.life ≡ b → slice_get ms i ≡ Some n → is_over n n.life ≡ b
-looked ms i m n b found is there = subst (λ (x : Member). is_over x x.life ≡ b) (same_Some m n (sym found ∙ there)) is
+pub looked : (stops : Bool) (ms : List Member) (i : ℕ) (m n : Member) (b : Bool) → slice_get ms i ≡ Some m → is_over stops m m.life ≡ b → slice_get ms i ≡ Some n → is_over stops n n.life ≡ b
+looked stops ms i m n b found is there = subst (λ (x : Member). is_over stops x x.life ≡ b) (same_Some m n (sym found ∙ there)) is
 
 -- ---- and a notice was served
 
@@ -124,12 +126,12 @@ nobodys-of s (Says t ∷ ms) h = absurd h.0
 nobodys-of s (Does t ∷ ms) h = absurd h.0
 nobodys-of s (Other ∷ ms) h = let more = nobodys-of s ms h.1 in let none = more.1 in ((tt, more.0), omega (arith, none))
 
-pub went-served : (s : ℕ) (old mid new : Sessions) → GoesFurther s old mid → new.members ≡ mid.members → GrowsQuietly mid.events new.events → GoesFurther s old new
-went-served s old mid new g same quiet =
+pub went-served : (stops : ℕ → Bool) (s : ℕ) (old mid new : Sessions) → GoesFurther stops s old mid → new.members ≡ mid.members → GrowsQuietly mid.events new.events → GoesFurther stops s old new
+went-served stops s old mid new g same quiet =
     let marks : map mark_of ((g.events).more ++ quiet.more) ≡ map mark_of (g.events).more ++ map mark_of quiet.more = map-append mark_of (g.events).more quiet.more in
     let none = nobodys-of s (map mark_of quiet.more) quiet.nobodys in
     record {
-      members = subst (λ (ms : List Member). (ms ≡ old.members) ⊎ IsAnother s old.members ms) (sym same) g.members;
+      members = subst (λ (ms : List Member). (ms ≡ old.members) ⊎ IsAnother stops s old.members ms) (sym same) g.members;
       events = record {
         more = (g.events).more ++ quiet.more;
         grown = quiet.grown ∙ (ap (λ (es : List Event). es ++ quiet.more) (g.events).grown ∙ append_assoc (map event_of old.events) (g.events).more quiet.more);
@@ -138,20 +140,22 @@ went-served s old mid new g same quiet =
       };
     }
 
-pub came-by : (s : ℕ) (old new : Sessions) (t : Turn) → GoesOn t → (t ≡ turn.Died → ⊥) → GoesFurther s old new → (t ≡ turn.Stopped → new.halted ≡ true) → Came s old new t
-came-by s old new turn.Moved on lives g halted = g
-came-by s old new turn.Stopped on lives g halted = (halted refl, g)
-came-by s old new (turn.Asleep u) on lives g halted = absurd on
-came-by s old new turn.Died on lives g halted = absurd (lives refl)
-came-by s old new turn.Frozen on lives g halted = absurd on
-came-by s old new turn.Ended on lives g halted = absurd on
+pub came-by : (stops : ℕ → Bool) (s : ℕ) (old new : Sessions) (t : Turn) → GoesOn t → (t ≡ turn.Died → ⊥) → GoesFurther stops s old new → (t ≡ turn.Stopped → new.halted ≡ true) → Came stops s old new t
+came-by stops s old new turn.Moved on lives g halted = g
+came-by stops s old new turn.Stopped on lives g halted = (halted refl, g)
+came-by stops s old new (turn.Asleep u) on lives g halted = absurd on
+came-by stops s old new turn.Died on lives g halted = absurd (lives refl)
+came-by stops s old new turn.Frozen on lives g halted = absurd on
+came-by stops s old new turn.Ended on lives g halted = absurd on
 
 -- ---- deaths
 
--- a session took a step in which a device call failed
-pub fell : (s at : ℕ) (old new : Sessions) (put : List Member) (m n : Member) → at ≡ s - 1 → slice_get old.members at ≡ Some m → is_over m m.life ≡ false → put ≡ slice_set old.members at n →
-    new.members ≡ slice_set put at (with_life Dead n) → map event_of new.events ≡ map event_of old.events ++ Died s Device ∷ [] → HasFallen s old new
-fell s at old new put m n is found going put-is died grown = record {
+-- a session took a step, of which it died
+pub fell : (stops : ℕ → Bool) (s at : ℕ) (cause : Cause) (old new : Sessions) (put : List Member) (m n : Member) → is_own cause ≡ true → at ≡ s - 1 → slice_get old.members at ≡ Some m → is_over (stops s) m m.life ≡ false → put ≡ slice_set old.members at n →
+    new.members ≡ slice_set put at (with_life Dead n) → map event_of new.events ≡ map event_of old.events ++ Died s cause ∷ [] → HasFallen stops s old new
+fell stops s at cause old new put m n own is found going put-is died grown = record {
+  cause = cause;
+  own = own;
   before = m;
   found = subst (λ (i : ℕ). slice_get old.members i ≡ Some m) is found;
   going = going;
@@ -162,9 +166,24 @@ fell s at old new put m n is found going put-is died grown = record {
   grown = grown;
 }
 
-pub has-died : (s at : ℕ) (cause : Cause) (old new : Sessions) (m : Member) → old.halted ≡ false → at ≡ s - 1 → slice_get old.members at ≡ Some m → is_over m m.life ≡ false →
-    new.members ≡ slice_set old.members at (with_life Dead m) → map event_of new.events ≡ map event_of old.events ++ Died s cause ∷ [] → IsDeath s cause old new
-has-died s at cause old new m going is found unfinished put grown = record {
+-- a session died where it stood, in its turn
+pub died-here : (stops : ℕ → Bool) (s at : ℕ) (cause : Cause) (old new : Sessions) (m : Member) → is_own cause ≡ true → at ≡ s - 1 → slice_get old.members at ≡ Some m → is_over (stops s) m m.life ≡ false →
+    new.members ≡ slice_set old.members at (with_life Dead m) → map event_of new.events ≡ map event_of old.events ++ Died s cause ∷ [] → HasFallen stops s old new
+died-here stops s at cause old new m own is found going put grown = record {
+  cause = cause;
+  own = own;
+  before = m;
+  found = subst (λ (i : ℕ). slice_get old.members i ≡ Some m) is found;
+  going = going;
+  behind = with_life Dead m;
+  died = refl;
+  is = subst (λ (i : ℕ). new.members ≡ slice_set old.members i (with_life Dead m)) is put;
+  grown = grown;
+}
+
+pub has-died : (stops : ℕ → Bool) (s at : ℕ) (cause : Cause) (old new : Sessions) (m : Member) → old.halted ≡ false → at ≡ s - 1 → slice_get old.members at ≡ Some m → is_over (stops s) m m.life ≡ false →
+    new.members ≡ slice_set old.members at (with_life Dead m) → map event_of new.events ≡ map event_of old.events ++ Died s cause ∷ [] → IsDeath stops s cause old new
+has-died stops s at cause old new m going is found unfinished put grown = record {
   going = going;
   before = m;
   found = subst (λ (i : ℕ). slice_get old.members i ≡ Some m) is found;
@@ -203,8 +222,8 @@ has-recovered-on at old new m r found died put grown = record {
 pub put-back : (ms : List Member) (at : ℕ) (m : Member) → slice_get ms at ≡ Some m → m.life ≡ Dead → slice_set ms at (with_life Dead m) ≡ ms
 put-back ms at m found died = set-same ms at (with_life Dead m) (found ∙ ap (λ (l : Life). Some (with_life l m)) died)
 
-pub death-from : (s : ℕ) (cause : Cause) (old then new : Sessions) → then.members ≡ old.members → then.events ≡ old.events → then.halted ≡ old.halted → IsDeath s cause then new → IsDeath s cause old new
-death-from s cause old then new members events halted d = record {
+pub death-from : (stops : ℕ → Bool) (s : ℕ) (cause : Cause) (old then new : Sessions) → then.members ≡ old.members → then.events ≡ old.events → then.halted ≡ old.halted → IsDeath stops s cause then new → IsDeath stops s cause old new
+death-from stops s cause old then new members events halted d = record {
   going = sym halted ∙ d.going;
   before = d.before;
   found = subst (λ (ms : List Member). slice_get ms (s - 1) ≡ Some d.before) members d.found;

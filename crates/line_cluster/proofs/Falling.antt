@@ -1,11 +1,12 @@
 -- Sessions die and are recovered, and all of them stay sound.
-use Rattle.std.proofs.Common.{◌≡◌, ◌≤◌, ◌+◌, ◌-◌, ℕ, zero, suc, ◌++◌, ◌∷◌, [], ◌&&◌, not, true, List, refl, ◌∙◌, sym, ap, subst, arith, Option, Some, None, Result, Ok, Err, slice_get, slice_set}
+use Rattle.std.proofs.Common.{◌≡◌, ◌≤◌, ◌+◌, ◌-◌, ℕ, zero, suc, ◌++◌, ◌∷◌, [], ◌&&◌, not, Bool, true, false, List, refl, ◌∙◌, sym, ap, subst, arith, Option, Some, None, Result, Ok, Err, slice_get, slice_set}
+use Rattle.std.proofs.lemmas.Bool.{false≢true, and_parts}
 use Rattle.std.proofs.lemmas.Option.{none-some, same_Some}
 use Rattle.rdb_types.specs.declared.session.Cause.{Cause}
+use Rattle.rdb_types.specs.declared.session.Cause.TheVariants.{Device, Gate, Stop, Memory}
 use Rattle.rdo_ast.specs.declared.syntax.Item.{Item}
 use Rattle.rdb_account.specs.Events.{Event, Died}
 use Rattle.rdb_account.specs.Places.{Opening}
-use Rattle.rdb_account.specs.Legal.{is_stop}
 use Rattle.line_store.specs.declared.answers.Fault.{Fault}
 use Rattle.lock_tree_laws.specs.Forest.{State}
 use Rattle.line_store.specs.Seats.{Seat, outside, beginning, writing, changing, prepared, committing, rolling_back, closing, reading, dead, done_at, IsAlive}
@@ -22,7 +23,7 @@ use Rattle.session_states.specs.declared.stage.End.TheVariants.{Preparing, Journ
 use Rattle.session_states.specs.declared.stage.Stage.{Stage}
 use Rattle.session_states.specs.declared.stage.Stage.TheVariants.{Between, Working, Gathering, Reserving, Saying, Ending}
 use Rattle.session_states.specs.declared.stage.Phase.TheVariants.{Outside, Closing, Writing, Reading, Over}
-use Rattle.session_states.specs.States.{commits_in, session, dead_session, gone_session}
+use Rattle.session_states.specs.States.{commits_in, has_said_all, may_die_in, session, dead_session, gone_session}
 use Rattle.session_states.specs.Steps.{Fall}
 use Rattle.session_stands.specs.Seated.{stand_of, IsStandOf, HasFallen, LivesAt}
 use Rattle.session_stands.specs.Sessions.{AreSeated, IsTold, dead_in, one_dead}
@@ -34,12 +35,12 @@ use Rattle.stage_steps.specs.declared.dying.Recovery.TheVariants.{More, Done}
 use Rattle.stage_steps.specs.Deaths.{DiesIn, RecoversIn, life_behind, recovered_by, dead_behind, recovery_events}
 use Rattle.stage_steps.specs.Scenes.{Scene, Goes, on_shelf}
 use Rattle.line_cluster.specs.declared.sessions.Halt.{Halt}
-use Rattle.line_cluster.specs.Deaths.{CountsFaults, device_deaths, failures, faults_in, faults_of}
+use Rattle.line_cluster.specs.Deaths.{CountsFaults, device_deaths, failures, faults_in, faults_of, is_stop}
 use Rattle.line_cluster.specs.Sound.{IsSound}
 use Rattle.line_cluster.proofs.Faults.{counts-fewer, counts-on, counts-recovered, failed_in, one-death, recovery-fails}
 use Rattle.line_cluster.proofs.Places.{suc-less}
 use Rattle.line_cluster.proofs.Stepping.{session-of, seated-at, is-dead, told-images}
-use Rattle.line_cluster.specs.Going.{IsDeadAt, is_dead}
+use Rattle.line_cluster.specs.Going.{IsDeadAt, is_dead, is_stopping}
 
 -- how many are dead where one has another life
 pub dead-moved : (ms : List Member) (i : ℕ) (m n : Member) → slice_get ms i ≡ Some m → dead_in (slice_set ms i n) + one_dead m.life ≡ dead_in ms + one_dead n.life
@@ -73,7 +74,7 @@ module _ (M : Model) (orderly : IsOrderly M) (told : Type 0) (o : Opening) (faul
     }
 
   module _ (left : List Item) (total : ℕ) (x : Phase) (halt : Option Halt) where
-    pub dies : slice_get members i ≡ Some (session left total x) → (cause : Cause) → (o.may_die (suc i) cause && not (is_stop cause)) ≡ true → faults_in halt ≡ 0 → (told → CountsFaults faults (device_deaths events + faults_of cause) c.sight) → DiesIn M (suc i) x c d →
+    pub dies : slice_get members i ≡ Some (session left total x) → (cause : Cause) → may_die_in o (suc i) left x cause ≡ true → faults_in halt ≡ 0 → (told → CountsFaults faults (device_deaths events + faults_of cause) c.sight) → DiesIn M (suc i) x c d →
         IsSound M told o faults d (slice_set members i (dead_session left total x)) (events ++ Died (suc i) cause ∷ []) halt
     dies found cause may going caused g =
         let more : dead_in (slice_set members i (dead_session left total x)) ≡ dead_in members + 1 = (let e = dead-moved members i (session left total x) (dead_session left total x) found in omega (arith, e)) in
@@ -82,7 +83,7 @@ module _ (M : Model) (orderly : IsOrderly M) (told : Type 0) (o : Opening) (faul
           parties = g.parties;
           nearer = g.nearer;
           does = does-as (suc i) (d.sight.stand (suc i))
-              (λ h k. (p : Opening) (dead : ℕ) (ls : List Item) (n : ℕ) (a : Cause) → (p.may_die (suc i) a && not (is_stop a)) ≡ true → Fall M p (suc i) (on_shelf c h dead) (session ls n x) (on_shelf d k (dead + 1)) (dead_session ls n x) (Died (suc i) a ∷ []))
+              (λ h k. (p : Opening) (dead : ℕ) (ls : List Item) (n : ℕ) (a : Cause) → may_die_in p (suc i) ls x a ≡ true → Fall M p (suc i) (on_shelf c h dead) (session ls n x) (on_shelf d k (dead + 1)) (dead_session ls n x) (Died (suc i) a ∷ []))
               (λ h k. Fall M o (suc i) (on_shelf c h (dead_in members)) (session left total x) (on_shelf d k (dead_in (slice_set members i (dead_session left total x)))) (dead_session left total x) (Died (suc i) cause ∷ []))
               c.sight d.sight
               (λ h k shown then all. subst (λ (n : ℕ). Fall M o (suc i) (on_shelf c h (dead_in members)) (session left total x) (on_shelf d k n) (dead_session left total x) (Died (suc i) cause ∷ [])) (sym more) (all o (dead_in members) left total cause may))
@@ -131,14 +132,14 @@ module _ (M : Model) (orderly : IsOrderly M) (told : Type 0) (o : Opening) (faul
 -- ---- as the code has it
 
 pub has-died : (M : Model) (orderly : IsOrderly M) (told : Type 0) (o : Opening) (faults : ℕ) (c d : Scene) (stands : Stands d.sight) (members put : List Member) (events more : List Event) (s at : ℕ) (m : Member) (cause : Cause) (old halt : Option Halt) →
-    1 ≤ s → at ≡ s - 1 → old ≡ None → slice_get members at ≡ Some m → m.life ≡ Alive → IsSound M told o faults c members events old → (o.may_die s cause && not (is_stop cause)) ≡ true → faults_in halt ≡ 0 → (told → CountsFaults faults (device_deaths events + faults_of cause) c.sight) → DiesIn M s m.phase c d →
+    1 ≤ s → at ≡ s - 1 → old ≡ None → slice_get members at ≡ Some m → m.life ≡ Alive → IsSound M told o faults c members events old → may_die_in o s m.left m.phase cause ≡ true → faults_in halt ≡ 0 → (told → CountsFaults faults (device_deaths events + faults_of cause) c.sight) → DiesIn M s m.phase c d →
     put ≡ slice_set members at (record { left = m.left; total = m.total; phase = m.phase; life = Dead }) → more ≡ events ++ Died s cause ∷ [] → IsSound M told o faults d put more halt
 has-died M orderly told o faults c d stands members put events more s at m cause old halt first is none found alive was may going caused dies-in put-is more-is =
     let e : s ≡ suc at = sym (ap suc is ∙ suc-less s first) in
     subst (λ (ms : List Member). IsSound M told o faults d ms more halt) (sym put-is)
     (subst (λ (es : List Event). IsSound M told o faults d (slice_set members at (dead_session m.left m.total m.phase)) es halt) (ap (λ (t : ℕ). events ++ Died t cause ∷ []) (sym e) ∙ sym more-is)
     (dies M orderly told o faults c d stands members events at (subst (λ (x : Option Halt). IsSound M told o faults c members events x) none was) m.left m.total m.phase halt (found ∙ ap Some (session-of m alive)) cause
-    (subst (λ (t : ℕ). (o.may_die t cause && not (is_stop cause)) ≡ true) e may) going caused (subst (λ (t : ℕ). DiesIn M t m.phase c d) e dies-in)))
+    (subst (λ (t : ℕ). may_die_in o t m.left m.phase cause ≡ true) e may) going caused (subst (λ (t : ℕ). DiesIn M t m.phase c d) e dies-in)))
 
 behind-is : (result : Result Recovery Fault) (left : List Item) (total : ℕ) (x : Phase) → recovered_by result left total x ≡ record { left = left; total = total; phase = x; life = life_behind result }
 behind-is (Ok (Done committed moment)) left total x = refl
@@ -220,3 +221,16 @@ alive-stands stand locks members s at m first is found alive k = bare-lives (sta
 -- the session that was taken out is the one that died
 pub died-at : (members : List Member) (at : ℕ) (m : Member) → IsDeadAt members at → slice_get members at ≡ Some m → m.life ≡ Dead
 died-at members at m d found = is-dead m (subst (λ (x : Member). is_dead x ≡ true) (same_Some d.member m (sym d.found ∙ found)) d.dead)
+
+-- ---- of what it may die
+
+-- of what is no stop it may die anywhere
+pub let-die : (o : Opening) (s : ℕ) (left : List Item) (x : Phase) (cause : Cause) → (o.may_die s cause && not (is_stop cause)) ≡ true → may_die_in o s left x cause ≡ true
+let-die o s left x Device h = (and_parts (o.may_die s Device) true h).0
+let-die o s left x Gate h = (and_parts (o.may_die s Gate) true h).0
+let-die o s left x Stop h = absurd (false≢true ((and_parts (o.may_die s Stop) false h).1))
+let-die o s left x Memory h = (and_parts (o.may_die s Memory) true h).0
+
+-- of its stop it may die where it has come to it
+pub stop-may : (o : Opening) (s : ℕ) (stops : Bool) (m : Member) → stops ≡ o.stops s → is_stopping stops m ≡ true → may_die_in o s m.left m.phase Stop ≡ true
+stop-may o s stops m is stopping = subst (λ (b : Bool). (b && has_said_all m.left m.phase) ≡ true) is stopping

@@ -61,25 +61,32 @@ empty-left (x ∷ xs) h = absurd (none (length xs) h)
     none : (n : ℕ) → (suc n == 0) ≡ true → ⊥
     none n h = grind arith
 
--- It has said all, has no transaction open, and hasn't died.
-record HasSaidAll (p : Place) (s : ℕ) (m : Seen) : Type 0 where
+-- It has said all, with no stop behind it, has no transaction open, and hasn't died.
+record HasSaidAll (stops : Bool) (p : Place) (s : ℕ) (m : Seen) : Type 0 where
   pub left : left_of m ≡ []
+  pub goes_on : stops ≡ false
   pub closed : p.transaction s ≡ None
   pub lives : has_not_died (p.life s) ≡ true
 
-module _ (M : Model) (o : Opening) (p : Place) (g : Ground) (s : ℕ) where
-  at-end : (left : List Item) (total : ℕ) (x : Phase) (l : Life) → l ≡ Alive → is_over (record { left = left; total = total; phase = x; life = l }) l ≡ true →
-      Stands M o p g s (seen (record { left = left; total = total; phase = x; life = l })) → HasSaidAll p s (seen (record { left = left; total = total; phase = x; life = l }))
-  at-end left total Outside Alive alive over st = record { left = ap (λ items. map uttered_of items) (empty-left left over); closed = st.state; lives = ap has_not_died st.lives }
-  at-end left total Over Alive alive over st = record { left = st.state.1; closed = st.state.0; lives = ap has_not_died st.lives }
-  at-end left total Closing Alive alive over st = absurd (false≢true over)
-  at-end left total (Writing w) Alive alive over st = absurd (false≢true over)
-  at-end left total (Reading r) Alive alive over st = absurd (false≢true over)
-  at-end left total x Dead alive over st = cc alive
-  at-end left total x Gone alive over st = cc alive
+no-stop : (stops : Bool) → not stops ≡ true → stops ≡ false
+no-stop true h = absurd (false≢true h)
+no-stop false h = refl
 
-  said-all : (m : Member) → m.life ≡ Alive → is_over m m.life ≡ true → Stands M o p g s (seen m) → HasSaidAll p s (seen m)
-  said-all m alive over st = at-end m.left m.total m.phase m.life alive over st
+module _ (M : Model) (o : Opening) (p : Place) (g : Ground) (s : ℕ) where
+  at-end : (stops : Bool) (left : List Item) (total : ℕ) (x : Phase) (l : Life) → l ≡ Alive → is_over stops (record { left = left; total = total; phase = x; life = l }) l ≡ true →
+      Stands M o p g s (seen (record { left = left; total = total; phase = x; life = l })) → HasSaidAll stops p s (seen (record { left = left; total = total; phase = x; life = l }))
+  at-end stops left total Outside Alive alive over st =
+      let parts = and_parts (length left == 0) (not stops) over in
+      record { left = ap (λ items. map uttered_of items) (empty-left left parts.0); goes_on = no-stop stops parts.1; closed = st.state; lives = ap has_not_died st.lives }
+  at-end stops left total Over Alive alive over st = record { left = st.state.1; goes_on = no-stop stops (and_parts true (not stops) over).1; closed = st.state.0; lives = ap has_not_died st.lives }
+  at-end stops left total Closing Alive alive over st = absurd (false≢true over)
+  at-end stops left total (Writing w) Alive alive over st = absurd (false≢true over)
+  at-end stops left total (Reading r) Alive alive over st = absurd (false≢true over)
+  at-end stops left total x Dead alive over st = cc alive
+  at-end stops left total x Gone alive over st = cc alive
+
+  said-all : (stops : Bool) (m : Member) → m.life ≡ Alive → is_over stops m m.life ≡ true → Stands M o p g s (seen m) → HasSaidAll stops p s (seen m)
+  said-all stops m alive over st = at-end stops m.left m.total m.phase m.life alive over st
 
   none-next : (m : Seen) → Stands M o p g s m → left_of m ≡ [] → next_item o p s ≡ None
   none-next m st none = rw st.script (rw st.count (none-behind st.answered (left_of m) none))
@@ -166,12 +173,13 @@ module _ (M : Model) (o : Opening) (word : List ℕ) (sight : Sight) (locks : St
   stands : (i : ℕ) (m : Member) → slice_get members i ≡ Some m → Stands M o (place o events) told.kept.ground (suc i) (seen m)
   stands i m found = told.kept.right.each i (seen m) (map-get seen members i m found)
 
-  over-rests : (i : ℕ) (m : Member) → slice_get members i ≡ Some m → m.life ≡ Alive → is_over m m.life ≡ true → next_item o (place o events) (suc i) ≡ None
+  over-rests : (i : ℕ) (m : Member) → slice_get members i ≡ Some m → m.life ≡ Alive → is_over (o.stops (suc i)) m m.life ≡ true → (next_item o (place o events) (suc i) ≡ None) × (o.stops (suc i) ≡ false)
   over-rests i m found alive over =
       let st = stands i m found in
-      none-next M o (place o events) told.kept.ground (suc i) (seen m) st (said-all M o (place o events) told.kept.ground (suc i) m alive over st).left
+      let all = said-all M o (place o events) told.kept.ground (suc i) (o.stops (suc i)) m alive over st in
+      (none-next M o (place o events) told.kept.ground (suc i) (seen m) st all.left, all.goes_on)
 
-  pub over-left : (i : ℕ) (m : Member) → slice_get members i ≡ Some m → is_over m m.life ≡ true → HasNothingLeft o (place o events) (suc i)
+  pub over-left : (i : ℕ) (m : Member) → slice_get members i ≡ Some m → is_over (o.stops (suc i)) m m.life ≡ true → HasNothingLeft o (place o events) (suc i)
   over-left i m found over = by m.life refl
     where
       by : (l : Life) → m.life ≡ l → HasNothingLeft o (place o events) (suc i)
@@ -180,15 +188,16 @@ module _ (M : Model) (o : Opening) (word : List ℕ) (sight : Sight) (locks : St
       by Gone is = inr (has-died M o (place o events) told.kept.ground (suc i) m Gone is refl (stands i m found))
 
   -- those that haven't died have said their scripts to the ends
-  pub all-whole : (sessions : ℕ) → length members ≡ sessions → HaveEnded members → HaveAllEnded o sessions events
+  pub all-whole : (sessions : ℕ) → length members ≡ sessions → HaveEnded o.stops members → HaveAllEnded o sessions events
   all-whole sessions count ended = record {
     whole = λ s is.
         let parts = and_parts (is_session sessions s) (has_not_died ((place o events).life s)) is in
         let at = member-within members s (first-of sessions s parts.0) (within s parts.0) in
         let e = ended at.0 at.1 at.3 in
         let st = subst (λ (t : ℕ). Stands M o (place o events) told.kept.ground t (seen at.1)) (sym at.2) (stands at.0 at.1 at.3) in
-        let all = said-all M o (place o events) told.kept.ground s at.1 (unfallen s at.1 at.1.life refl st parts.1) e.0 st in
-        (all.lives, all-said M o (place o events) told.kept.ground s (seen at.1) st all.left, all.closed);
+        let over = subst (λ (t : ℕ). is_over (o.stops t) at.1 at.1.life ≡ true) (sym at.2) e.0 in
+        let all = said-all M o (place o events) told.kept.ground s (o.stops s) at.1 (unfallen s at.1 at.1.life refl st parts.1) over st in
+        (all.lives, all-said M o (place o events) told.kept.ground s (seen at.1) st all.left, all.closed, all.goes_on);
     recovered = told.kept.right.fit.dead ∙ (told.kept.is_ground.dead ∙ none-mourned members (λ i m found. (ended i m found).1));
   }
     where
@@ -214,9 +223,10 @@ numbered : (s : ℕ) → 1 ≤ s → suc (s - 1) ≡ s
 numbered s h = omega arith
 
 pub over-left-at : (M : Model) (o : Opening) (word : List ℕ) (sight : Sight) (locks : State) (members : List Member) (events : List Event) (s : ℕ) (m : Member) → IsTold M o word sight locks members events → 1 ≤ s →
-    slice_get members (s - 1) ≡ Some m → is_over m m.life ≡ true → HasNothingLeft o (place o events) s
+    slice_get members (s - 1) ≡ Some m → is_over (o.stops s) m m.life ≡ true → HasNothingLeft o (place o events) s
 over-left-at M o word sight locks members events s m told first found over =
-    subst (λ (t : ℕ). HasNothingLeft o (place o events) t) (numbered s first) (over-left M o word sight locks members events told (s - 1) m found over)
+    subst (λ (t : ℕ). HasNothingLeft o (place o events) t) (numbered s first)
+    (over-left M o word sight locks members events told (s - 1) m found (subst (λ (t : ℕ). is_over (o.stops t) m m.life ≡ true) (sym (numbered s first)) over))
 
 pub asleep-rests-at : (M : Model) (o : Opening) (word : List ℕ) (sight : Sight) (locks : State) (members : List Member) (events : List Event) (s t : ℕ) (c : Sessions) → IsTold M o word sight locks members events → 1 ≤ s →
     Waits s t (record { members = members; events = c.events; measure = c.measure; locks = locks; halted = c.halted }) → SleepsFor o (place o events) s t
@@ -233,8 +243,8 @@ left-behind M o word sight locks members events told = record {
   stands = subst (λ (all : Lines). M all (place o events).tables) told.kept.is_ground.now told.kept.right.fit.stands;
 }
 
-module _ (stand : ℕ → Seat) (locks : State) (s : ℕ) (left : List Item) (total : ℕ) where
-  ended-outside : (x : Phase) (l : Life) → is_dead_life l ≡ false → is_over (record { left = left; total = total; phase = x; life = l }) l ≡ true → LivesAt stand locks s x l → bare (stand s) ≡ outside
+module _ (stand : ℕ → Seat) (locks : State) (s : ℕ) (stops : Bool) (left : List Item) (total : ℕ) where
+  ended-outside : (x : Phase) (l : Life) → is_dead_life l ≡ false → is_over stops (record { left = left; total = total; phase = x; life = l }) l ≡ true → LivesAt stand locks s x l → bare (stand s) ≡ outside
   ended-outside Outside Alive undead over k = k.seat
   ended-outside Over Alive undead over k = k.seat
   ended-outside Closing Alive undead over k = absurd (false≢true over)
@@ -243,10 +253,10 @@ module _ (stand : ℕ → Seat) (locks : State) (s : ℕ) (left : List Item) (to
   ended-outside x Dead undead over k = absurd (false≢true (sym undead))
   ended-outside x Gone undead over k = k.seat
 
-pub all-outside : (stand : ℕ → Seat) (locks : State) (members : List Member) → AreSeated stand locks members → HaveEnded members → (s : ℕ) → bare (stand s) ≡ outside
-all-outside stand locks members k ended zero = k.outsiders zero refl
-all-outside stand locks members k ended (suc i) = by (slice_get members i) refl
+pub all-outside : (stops : ℕ → Bool) (stand : ℕ → Seat) (locks : State) (members : List Member) → AreSeated stand locks members → HaveEnded stops members → (s : ℕ) → bare (stand s) ≡ outside
+all-outside stops stand locks members k ended zero = k.outsiders zero refl
+all-outside stops stand locks members k ended (suc i) = by (slice_get members i) refl
   where
     by : (found : Option Member) → slice_get members i ≡ found → bare (stand (suc i)) ≡ outside
     by None e = k.outsiders (suc i) e
-    by (Some m) e = let end = ended i m e in ended-outside stand locks (suc i) m.left m.total m.phase m.life end.1 end.0 (k.each (suc i) m e)
+    by (Some m) e = let end = ended i m e in ended-outside stand locks (suc i) (stops (suc i)) m.left m.total m.phase m.life end.1 end.0 (k.each (suc i) m e)

@@ -1,5 +1,5 @@
 -- One session steps, and all of them stay sound.
-use Rattle.std.proofs.Common.{◌≡◌, ◌≤◌, ◌-◌, ℕ, suc, true, false, ◌++◌, ◌∷◌, [], List, refl, ◌∙◌, sym, ap, subst, Option, Some, None, slice_get, slice_set, append-nil}
+use Rattle.std.proofs.Common.{◌≡◌, ◌≤◌, ◌-◌, ℕ, suc, ◌&&◌, not, Bool, true, false, ◌++◌, ◌∷◌, [], List, refl, ◌∙◌, sym, ap, subst, Option, Some, None, slice_get, slice_set, append-nil}
 use Rattle.std.proofs.lemmas.Bool.{false≢true}
 use Rattle.std.proofs.lemmas.Option.{same_Some}
 use Rattle.rdo_ast.specs.declared.syntax.Item.{Item}
@@ -19,7 +19,7 @@ use Rattle.session_states.specs.declared.stage.Phase.TheVariants.{Outside, Closi
 use Rattle.session_states.specs.declared.stage.Life.{Life}
 use Rattle.session_states.specs.declared.stage.Life.TheVariants.{Alive, Dead, Gone}
 use Rattle.session_states.specs.declared.stage.Member.{Member}
-use Rattle.session_states.specs.States.{session}
+use Rattle.session_states.specs.States.{session, has_said_all}
 use Rattle.session_states.specs.Steps.{Step}
 use Rattle.session_states.specs.Shared.{Shared, with_locks}
 use Rattle.session_states.specs.Fits.{WantsAtMost}
@@ -35,7 +35,7 @@ use Rattle.stage_steps.specs.Scenes.{Scene, Goes, scene, on_shelf}
 use Rattle.stage_steps.specs.Turns.{Comes}
 use Rattle.line_cluster.specs.declared.sessions.Halt.{Halt}
 use Rattle.line_arms.specs.Going.{GoesOn, IsAmong, is_done}
-use Rattle.line_cluster.specs.Going.{IsWriterAt, writes_at, is_over, is_dead, is_dead_life}
+use Rattle.line_cluster.specs.Going.{IsWriterAt, writes_at, is_over, is_stopping, is_dead, is_dead_life}
 use Rattle.line_cluster.specs.declared.behind.Notice.{Notice}
 use Rattle.line_cluster.specs.Behind.{IsNoticed, is_moving}
 use Rattle.line_cluster.proofs.Places.{suc-less, set-same}
@@ -210,13 +210,33 @@ moving-keeps (Unanswered i) is = absurd (false≢true is)
 pub noticed-keeps : (n : Notice) (h : Happening) → IsNoticed n h → handed_back h ≡ []
 noticed-keeps n h is = ap handed_back is.is
 
-over-alive : (m : Member) (l : Life) → is_over m l ≡ false → l ≡ Alive
-over-alive m Alive h = refl
-over-alive m Dead h = absurd (false≢true (sym h))
-over-alive m Gone h = absurd (false≢true (sym h))
+over-alive : (stops : Bool) (m : Member) (l : Life) → is_over stops m l ≡ false → l ≡ Alive
+over-alive stops m Alive h = refl
+over-alive stops m Dead h = absurd (false≢true (sym h))
+over-alive stops m Gone h = absurd (false≢true (sym h))
 
-pub work-alive : (m : Member) → is_over m m.life ≡ false → m.life ≡ Alive
-work-alive m h = over-alive m m.life h
+pub work-alive : (stops : Bool) (m : Member) → is_over stops m m.life ≡ false → m.life ≡ Alive
+work-alive stops m h = over-alive stops m m.life h
+
+-- whose items aren't all said has something left to do
+pub has-work : (stops : Bool) (m : Member) → m.life ≡ Alive → is_done m.left m.phase ≡ false → is_over stops m m.life ≡ false
+has-work stops m alive undone = ap (λ (l : Life). is_over stops m l) alive ∙ ap (λ (b : Bool). b && not stops) undone
+
+unsaid-undone : (left : List Item) (x : Phase) → has_said_all left x ≡ false → is_done left x ≡ false
+unsaid-undone left Outside h = h
+unsaid-undone left Closing h = refl
+unsaid-undone left (Writing w) h = refl
+unsaid-undone left (Reading r) h = refl
+unsaid-undone left Over h = h
+
+and-true : (b : Bool) → (b && true) ≡ false → b ≡ false
+and-true true h = h
+and-true false h = refl
+
+-- who has something left to do, and no stop, has an item or an end before it
+pub going-on : (stops : Bool) (m : Member) → m.life ≡ Alive → is_over stops m m.life ≡ false → is_stopping stops m ≡ false → is_done m.left m.phase ≡ false
+going-on true m alive work goes = unsaid-undone m.left m.phase goes
+going-on false m alive work goes = and-true (is_done m.left m.phase) (subst (λ (l : Life). is_over false m l ≡ false) alive work)
 
 dead-true : (l : Life) → is_dead_life l ≡ true → l ≡ Dead
 dead-true Alive h = absurd (false≢true h)
@@ -228,9 +248,6 @@ is-dead m h = dead-true m.life h
 
 pub session-of : (m : Member) → m.life ≡ Alive → m ≡ session m.left m.total m.phase
 session-of m e = ap (λ (l : Life). record { left = m.left; total = m.total; phase = m.phase; life = l }) e
-
-pub going-on : (m : Member) → m.life ≡ Alive → is_over m m.life ≡ false → is_done m.left m.phase ≡ false
-going-on m e h = subst (λ (l : Life). is_over m l ≡ false) e h
 
 -- where session s stands
 pub seated-at : (stand : ℕ → Seat) (locks : State) (members : List Member) (s at : ℕ) (m : Member) → 1 ≤ s → at ≡ s - 1 → slice_get members at ≡ Some m → m.life ≡ Alive → AreSeated stand locks members → IsSeated stand locks s m.phase

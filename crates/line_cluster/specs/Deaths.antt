@@ -2,7 +2,7 @@
 use Rattle.std.specs.Prelude.{◌≤◌, ◌+◌, ◌-◌, ◌^◌, ℕ, min, Bool, true, false, cond, List, Option, Some}
 use Rattle.std.specs.List.{count_by}
 use Rattle.rdb_types.specs.declared.session.Cause.{Cause}
-use Rattle.rdb_types.specs.declared.session.Cause.TheVariants.{Device}
+use Rattle.rdb_types.specs.declared.session.Cause.TheVariants.{Device, Stop}
 use Rattle.rdb_account.specs.Events.{Event, Died}
 use Rattle.line_store.specs.declared.answers.Fault.TheVariants as fault
 use Rattle.line_store.specs.Shelves.{Shelf}
@@ -13,6 +13,16 @@ use Rattle.line_cluster.specs.declared.sessions.Halt.TheVariants as halts
 abbrev pub is_device : Cause → Bool
 is_device Device = true
 is_device _ = false
+
+abbrev pub is_stop : Cause → Bool
+is_stop Stop = true
+is_stop _ = false
+
+-- a session dies so in a turn of its own: a device call failed, or its script has come to a stop
+abbrev pub is_own : Cause → Bool
+is_own Device = true
+is_own Stop = true
+is_own _ = false
 
 abbrev pub is_device_death : Event → Bool
 is_device_death (Died s cause) = is_device cause

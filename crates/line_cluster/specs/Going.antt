@@ -1,16 +1,22 @@
 -- Which sessions live, are dead, or have nothing left to do.
-use Rattle.std.specs.Prelude.{◌≡◌, ℕ, suc, Bool, true, false, List, Some, slice_get}
+use Rattle.std.specs.Prelude.{◌≡◌, ℕ, suc, Bool, true, false, not, ◌&&◌, List, Some, slice_get}
 use Rattle.session_states.specs.declared.stage.Phase.{Phase}
 use Rattle.session_states.specs.declared.stage.Phase.TheVariants.{Writing}
 use Rattle.session_states.specs.declared.stage.Life.{Life}
 use Rattle.session_states.specs.declared.stage.Life.TheVariants.{Alive, Dead, Gone}
 use Rattle.session_states.specs.declared.stage.Member.{Member}
+use Rattle.session_states.specs.States.{has_said_all}
 use Rattle.line_arms.specs.Going.{is_done}
 
-abbrev pub is_over : Member → Life → Bool
-is_over m Alive = is_done m.left m.phase
-is_over m Dead = true
-is_over m Gone = true
+-- Whether a session has nothing left to do. Where its script ends in a stop it has that before it as long as it lives.
+abbrev pub is_over : (stops : Bool) → Member → Life → Bool
+is_over stops m Alive = is_done m.left m.phase && not stops
+is_over stops m Dead = true
+is_over stops m Gone = true
+
+-- its script has come to the stop in which it ends
+abbrev pub is_stopping : (stops : Bool) → Member → Bool
+is_stopping stops m = stops && has_said_all m.left m.phase
 
 abbrev pub is_dead_life : Life → Bool
 is_dead_life Alive = false

@@ -1,7 +1,6 @@
 -- What is true of the sessions of a run at every moment.
-use Rattle.std.specs.Prelude.{◌≡◌, ◌≤◌, ℕ, suc, true, List, [], length, map, Option, Some, None, slice_get}
+use Rattle.std.specs.Prelude.{◌≡◌, ◌≤◌, ℕ, suc, Bool, true, List, [], length, map, Option, Some, None, slice_get}
 use Rattle.rdb_types.specs.declared.session.Cause.TheVariants.{Device}
-use Rattle.rdo_ast.specs.declared.syntax.Item.{Item}
 use Rattle.rdo_ast.specs.Views.{uttered_of}
 use Rattle.rdb_account.specs.Events.{Event}
 use Rattle.rdb_account.specs.Places.{Opening, place}
@@ -14,6 +13,7 @@ use Rattle.line_steps.specs.Images.{AreLeft, IsNow}
 use Rattle.session_jobs.specs.Records.{Model}
 use Rattle.session_states.specs.declared.stage.Phase.TheVariants.{Outside}
 use Rattle.session_states.specs.declared.stage.Member.{Member}
+use Rattle.session_states.specs.declared.item_queue.WholeScript.{WholeScript}
 use Rattle.session_states.specs.States.{session}
 use Rattle.session_states.specs.Kept.{IsOpened}
 use Rattle.session_stands.specs.Sessions.{AreSeated, IsTold, sharing}
@@ -42,9 +42,9 @@ pub record IsOneOf (members : List Member) (s : ℕ) : Type 0 where
   pub last : s ≤ length members
   pub few : length members ≤ 16
 
--- the scripts are those of the opening
-abbrev pub FollowsScripts : Opening → List (List Item) → Type 0
-FollowsScripts o scripts = (i : ℕ) (items : List Item) → slice_get scripts i ≡ Some items → o.script (suc i) ≡ map uttered_of items
+-- the scripts are those of the opening, and end in a stop where it says so
+abbrev pub FollowsScripts : Opening → List WholeScript → Type 0
+FollowsScripts o scripts = (i : ℕ) (x : WholeScript) → slice_get scripts i ≡ Some x → (o.script (suc i) ≡ map uttered_of x.items) × (o.stops (suc i) ≡ x.stops)
 
 -- a shelf is shown as an account opens, by whose clock there are no fewer faults than these
 pub record IsOpenedBy (M : Model) (o : Opening) (faults : ℕ) (word : List ℕ) (sight : Sight) : Type 0 where
@@ -59,19 +59,28 @@ pub record IsLeft (M : Model) (o : Opening) (sight : Sight) (events : List Event
   pub shown : sight.shows shelf
   pub stands : M shelf.now (place o events).tables
 
-abbrev pub fresh_member : List Item → Member
-fresh_member script = session script (length script) Outside
+abbrev pub stop_of : WholeScript → Bool
+stop_of x = x.stops
+
+abbrev pub fresh_member : WholeScript → Member
+fresh_member x = session x.items (length x.items) Outside
+
+-- for each of so many sessions, whether its script ends in a stop
+pub record AreStops (o : Opening) (sessions : ℕ) (stops : List Bool) : Type 0 where
+  pub count : length stops ≡ sessions
+  pub each : (i : ℕ) (b : Bool) → slice_get stops i ≡ Some b → b ≡ o.stops (suc i)
 
 -- any session may die of a device call that fails
 abbrev pub MayFail : Opening → Type 0
 MayFail o = (s : ℕ) → o.may_die s Device ≡ true
 
--- they are sound, and so many: no more than the tree of locks has owners
-pub record AreSound (M : Model) (told : Type 0) (o : Opening) (faults sessions : ℕ) (c : Scene) (members : List Member) (events : List Event) (halt : Option Halt) : Type 0 where
+-- They are sound, and so many: no more than the tree of locks has owners. Of each it is known whether its script ends in a stop.
+pub record AreSound (M : Model) (told : Type 0) (o : Opening) (faults sessions : ℕ) (c : Scene) (members : List Member) (events : List Event) (halt : Option Halt) (stops : List Bool) : Type 0 where
   pub sound : IsSound M told o faults c members events halt
   pub count : length members ≡ sessions
   pub few : sessions ≤ 16
   pub mortal : MayFail o
+  pub ends : AreStops o sessions stops
 
 abbrev pub IsSession : ℕ → ℕ → Type 0
 IsSession sessions s = (1 ≤ s) × (s ≤ sessions)

@@ -1,7 +1,6 @@
 -- What a turn of a session comes to, as who drives sessions sees it.
 use Rattle.std.specs.Prelude.{◌≡◌, ◌≤◌, ◌<◌, ◌-◌, ◌⊎◌, ◌&&◌, not, nat_le, ℕ, zero, suc, Bool, true, false, List, [], ◌∷◌, ◌++◌, map, Option, Some, None, is_some, slice_get, slice_set}
 use Rattle.rdb_types.specs.declared.session.Cause.{Cause}
-use Rattle.rdb_types.specs.declared.session.Cause.TheVariants.{Device}
 use Rattle.rdb_drive.specs.Boards.{Mark, Says, Does, Other, AllOf, AllNobodys, answers}
 use Rattle.rdb_account.specs.declared.event.Event.{Event as Declared}
 use Rattle.rdb_account.specs.Events.{Event, Began, Wanted, Got, Demoted, Said, Committed, RolledBack, Died, Recovered, event_of}
@@ -21,6 +20,7 @@ use Rattle.line_cluster.specs.Measured.{measure_by}
 use Rattle.line_cluster.specs.declared.sessions.Halt.{Halt}
 use Rattle.line_cluster.specs.declared.sessions.Turn.{Turn}
 use Rattle.line_cluster.specs.declared.sessions.Turn.TheVariants as turn
+use Rattle.line_cluster.specs.Deaths.{is_own}
 use Rattle.line_cluster.specs.Going.{is_alive_life, is_dead, is_over}
 
 -- the sessions as contracts see them: each with what it has left, what happened, what falls, the locks, and whether no session goes on
@@ -62,17 +62,17 @@ mark_of (Recovered s committed moment) = Other
 abbrev pub SleepsFor : Opening → Place → ℕ → ℕ → Type 0
 SleepsFor o p s t = (waits p s t ≡ true) × ((is_nowait (p.transaction s) && not (is_committing (next_item o p s))) ≡ false)
 
--- s has said its whole script, or has died
+-- s has said its whole script, in which no stop stands behind that, or has died
 abbrev pub HasNothingLeft : Opening → Place → ℕ → Type 0
-HasNothingLeft o p s = (next_item o p s ≡ None) ⊎ (has_not_died (p.life s) ≡ false)
+HasNothingLeft o p s = ((next_item o p s ≡ None) × (o.stops s ≡ false)) ⊎ (has_not_died (p.life s) ≡ false)
 
--- ---- a turn
+-- ---- a turn. Which scripts end in a stop tells who has something left to do.
 
 -- session s, which had something left to do, is another, and lives as before
-pub record IsAnother (s : ℕ) (old new : List Member) : Type 0 where
+pub record IsAnother (stops : ℕ → Bool) (s : ℕ) (old new : List Member) : Type 0 where
   pub before : Member
   pub found : slice_get old (s - 1) ≡ Some before
-  pub going : is_over before before.life ≡ false
+  pub going : is_over (stops s) before before.life ≡ false
   pub behind : Member
   pub lives : behind.life ≡ before.life
   pub is : new ≡ slice_set old (s - 1) behind
@@ -90,19 +90,21 @@ pub record GrowsQuietly (old new : List Declared) : Type 0 where
   pub grown : map event_of new ≡ map event_of old ++ more
   pub nobodys : AllNobodys (map mark_of more)
 
-pub record GoesFurther (s : ℕ) (old new : Sessions) : Type 0 where
-  pub members : (new.members ≡ old.members) ⊎ IsAnother s old.members new.members
+pub record GoesFurther (stops : ℕ → Bool) (s : ℕ) (old new : Sessions) : Type 0 where
+  pub members : (new.members ≡ old.members) ⊎ IsAnother stops s old.members new.members
   pub events : Grows s old.events new.events
 
--- a device call failed in a step of session s, which had something left to do, and it died of that
-pub record HasFallen (s : ℕ) (old new : Sessions) : Type 0 where
+-- session s, which had something left to do, died in its turn: a device call failed in its step, or its script has come to a stop
+pub record HasFallen (stops : ℕ → Bool) (s : ℕ) (old new : Sessions) : Type 0 where
+  pub cause : Cause
+  pub own : is_own cause ≡ true
   pub before : Member
   pub found : slice_get old.members (s - 1) ≡ Some before
-  pub going : is_over before before.life ≡ false
+  pub going : is_over (stops s) before before.life ≡ false
   pub behind : Member
   pub died : behind.life ≡ Dead
   pub is : new.members ≡ slice_set old.members (s - 1) behind
-  pub grown : map event_of new.events ≡ map event_of old.events ++ Died s Device ∷ []
+  pub grown : map event_of new.events ≡ map event_of old.events ++ Died s cause ∷ []
 
 -- session s waits, and for whom. None that died awaits its recovery
 pub record Waits (s t : ℕ) (c : Sessions) : Type 0 where
@@ -115,18 +117,18 @@ pub record Waits (s t : ℕ) (c : Sessions) : Type 0 where
   pub blocked : IsBlockedBy c.locks s t
 
 -- session s has nothing left to do
-pub record IsAtEnd (s : ℕ) (c : Sessions) : Type 0 where
+pub record IsAtEnd (stops : ℕ → Bool) (s : ℕ) (c : Sessions) : Type 0 where
   pub member : Member
   pub found : slice_get c.members (s - 1) ≡ Some member
-  pub over : is_over member member.life ≡ true
+  pub over : is_over (stops s) member member.life ≡ true
 
-abbrev pub Came : ℕ → Sessions → Sessions → Turn → Type 0
-Came s old new turn.Moved = GoesFurther s old new
-Came s old new (turn.Asleep t) = (new ≡ old) × Waits s t.number old
-Came s old new turn.Died = HasFallen s old new
-Came s old new turn.Frozen = (new ≡ old) × (0 < dead_in old.members)
-Came s old new turn.Ended = (new ≡ old) × IsAtEnd s old × (dead_in old.members ≡ 0)
-Came s old new turn.Stopped = (new.halted ≡ true) × GoesFurther s old new
+abbrev pub Came : (stops : ℕ → Bool) → ℕ → Sessions → Sessions → Turn → Type 0
+Came stops s old new turn.Moved = GoesFurther stops s old new
+Came stops s old new (turn.Asleep t) = (new ≡ old) × Waits s t.number old
+Came stops s old new turn.Died = HasFallen stops s old new
+Came stops s old new turn.Frozen = (new ≡ old) × (0 < dead_in old.members)
+Came stops s old new turn.Ended = (new ≡ old) × IsAtEnd stops s old × (dead_in old.members ≡ 0)
+Came stops s old new turn.Stopped = (new.halted ≡ true) × GoesFurther stops s old new
 
 -- ---- who goes on
 
@@ -161,17 +163,17 @@ abbrev pub with_life : Life → Member → Member
 with_life l m = record { left = m.left; total = m.total; phase = m.phase; life = l }
 
 -- session s, which had something left to do, is dead
-pub record IsDeath (s : ℕ) (cause : Cause) (old new : Sessions) : Type 0 where
+pub record IsDeath (stops : ℕ → Bool) (s : ℕ) (cause : Cause) (old new : Sessions) : Type 0 where
   pub going : old.halted ≡ false
   pub before : Member
   pub found : slice_get old.members (s - 1) ≡ Some before
-  pub unfinished : is_over before before.life ≡ false
+  pub unfinished : is_over (stops s) before before.life ≡ false
   pub is : new.members ≡ slice_set old.members (s - 1) (with_life Dead before)
   pub grown : map event_of new.events ≡ map event_of old.events ++ Died s cause ∷ []
 
 -- what a death comes to: nothing, where s has nothing left to do
-abbrev pub DeathCame : ℕ → Cause → Sessions → Sessions → Type 0
-DeathCame s cause old new = ((new ≡ old) × IsAtEnd s old) ⊎ (IsHalt old new ⊎ IsDeath s cause old new)
+abbrev pub DeathCame : (stops : ℕ → Bool) → ℕ → Cause → Sessions → Sessions → Type 0
+DeathCame stops s cause old new = ((new ≡ old) × IsAtEnd stops s old) ⊎ (IsHalt old new ⊎ IsDeath stops s cause old new)
 
 -- one that died goes on in its recovery, or is recovered. What happened is nobody's
 pub record IsRecovery (old new : Sessions) : Type 0 where
@@ -198,8 +200,8 @@ RecoveryCame old new turn.Stopped = IsHalt old new
 -- ---- the end
 
 -- each has nothing left to do, and none awaits its recovery
-abbrev pub HaveEnded : List Member → Type 0
-HaveEnded members = (i : ℕ) (m : Member) → slice_get members i ≡ Some m → (is_over m m.life ≡ true) × (is_dead m ≡ false)
+abbrev pub HaveEnded : (stops : ℕ → Bool) → List Member → Type 0
+HaveEnded stops members = (i : ℕ) (m : Member) → slice_get members i ≡ Some m → (is_over (stops (suc i)) m m.life ≡ true) × (is_dead m ≡ false)
 
 abbrev pub is_session : ℕ → ℕ → Bool
 is_session sessions s = nat_le 1 s && nat_le s sessions
@@ -208,7 +210,7 @@ is_session sessions s = nat_le 1 s && nat_le s sessions
 abbrev pub has_lived : ℕ → Place → ℕ → Bool
 has_lived sessions p s = is_session sessions s && has_not_died (p.life s)
 
--- Those that haven't died have said their scripts to the ends, and have no transaction open. Who died is recovered.
+-- Those that haven't died have said their scripts to the ends, at which no stop stands, and have no transaction open. Who died is recovered.
 pub record HaveAllEnded (o : Opening) (sessions : ℕ) (events : List Event) : Type 0 where
   pub whole : AreWhole (has_lived sessions (place o events)) o events
   pub recovered : (place o events).frozen ≡ 0

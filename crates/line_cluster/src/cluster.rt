@@ -1,20 +1,20 @@
 //! The sessions of a run, of one origin.
-ghost use Rattle.std.specs.Prelude.{◌≡◌, ◌≤◌, ◌<◌, ◌^◌, ◌&&◌, ℕ, All, [], length, map, not, false, is_some, true, IfOk, IfErr};
+ghost use Rattle.std.specs.Prelude.{◌≡◌, ◌≤◌, ◌<◌, ◌^◌, ◌&&◌, ℕ, Bool, All, [], length, map, not, false, is_some, true, IfOk, IfErr};
 ghost use Rattle.rdb_account.specs.Events.{event_of};
-ghost use Rattle.rdb_account.specs.Legal.{IsLegal, is_stop};
+ghost use Rattle.rdb_account.specs.Legal.{IsLegal};
 ghost use Rattle.rdb_drive.specs.Boards.{Less};
 ghost use Rattle.rdb_account.specs.Places.{place};
 ghost use Rattle.line_store.specs.Seats.{Seat, outside};
 ghost use Rattle.line_store.specs.Sights.{bare};
 ghost use Rattle.lock_tree_laws.specs.Forest.{IsWhole};
 ghost use Rattle.session_stands.specs.Sessions.{AreSeated};
-ghost use Rattle.line_cluster.specs.Deaths.{CountsFaults, failures, is_device};
+ghost use Rattle.line_cluster.specs.Deaths.{CountsFaults, failures, is_device, is_stop};
 ghost use Rattle.line_cluster.specs.Measured.{IsBounded};
-ghost use Rattle.line_cluster.specs.Sound.{FollowsScripts, HasImages, IsLeft, IsOpenedBy, IsSession, MayFail, fresh_member};
+ghost use Rattle.line_cluster.specs.Sound.{FollowsScripts, HasImages, IsLeft, IsOpenedBy, IsSession, MayFail, fresh_member, stop_of};
 ghost use Rattle.line_cluster.specs.Turned.{Came, DeathCame, HasNothingLeft, HaveAllEnded, HaveEnded, IsAtEnd, RecoveryCame, Rests};
 
 use crate::allotments::Allotments;
-use crate::members::takes_item;
+use crate::members::{is_stopping, takes_item};
 use crate::origin::Origin;
 use crate::sessions::{Core, Halt, Turn};
 use line_store::LineStore;
@@ -24,7 +24,7 @@ use rdb_types::{Cause, Items, NoMemory, Session, Word};
 use reached_changes::Reaches;
 use reserved_locks::Reserves;
 use session_jobs::Statements;
-use session_states::{ItemQueue, Life, Member, Phase};
+use session_states::{Life, Member, Phase, WholeScript};
 use stage_steps::Common;
 use std::alloc::Global;
 use std::marker::{Model, PhantomData};
@@ -33,6 +33,8 @@ use std::marker::{Model, PhantomData};
 #[derive(Drop)]
 pub struct LineCluster<O: Origin, S: Statements, L: LineStore + Drop> {
     core: Core<O, S, L>,
+    /// Whether the script of each session ends in a stop.
+    stops: Vec<bool>,
 }
 
 /// What a run leaves: its events, its store, and why no session goes on, where that is so.
@@ -58,16 +60,31 @@ impl<O: Origin, S: Statements, L: LineStore + Drop> Model for LineCluster<O, S, 
 
     ghost view = { λ c. sessions c.core.members.items c.core.events.items c.core.allotments (L.sight c.core.common.store) c.core.common.tree c.core.halt };
 
-    ghost invariant = { λ c. AreSound S.stands O.told O.opening O.faults O.sessions (scene c.core.common.word (L.sight c.core.common.store) c.core.common.tree) c.core.members.items (map event_of c.core.events.items) c.core.halt };
+    ghost invariant = { λ c. AreSound S.stands O.told O.opening O.faults O.sessions (scene c.core.common.word (L.sight c.core.common.store) c.core.common.tree) c.core.members.items (map event_of c.core.events.items) c.core.halt c.stops.items };
+}
+
+// Whether each script ends in a stop.
+fn stops_of(alloc: Global, scripts: &[WholeScript]) -> Result<Vec<bool>, NoMemory>
+    ensures { IfOk result (λ stops. stops.items ≡ map stop_of scripts.now) }
+{
+    let mut stops = Vec::new(alloc);
+    for script in scripts {
+        stops.push(script.stops)?;
+    }
+    Ok(stops)
 }
 
 // A session of each script, which has said nothing.
-fn members_of(alloc: Global, scripts: Vec<ItemQueue>) -> Result<Vec<Member>, NoMemory>
-    requires short { All (λ items. length items < 2 ^ 32) scripts.items }
+fn members_of(alloc: Global, scripts: Vec<WholeScript>) -> Result<Vec<Member>, NoMemory>
+    requires short { All (λ script. length script.items < 2 ^ 32) scripts.items }
     ensures { IfOk result (λ members. members.items ≡ map fresh_member scripts.items) }
 {
     let mut members = Vec::new(alloc);
-    for left in scripts {
+    for script in scripts {
+        let WholeScript {
+            items: left,
+            stops: _,
+        } = script;
         let total = left.len() as u32;
         members.push(Member {
             left,
@@ -82,11 +99,11 @@ fn members_of(alloc: Global, scripts: Vec<ItemQueue>) -> Result<Vec<Member>, NoM
 impl<O: Origin, S: Reserves + Reaches, L: LineStore + Drop> LineCluster<O, S, L> {
     /// Sessions that have said nothing, over a store in which nobody has a transaction open. Where no memory is found the store is
     /// given back.
-    pub fn start(alloc: Global, word: Word, store: L, scripts: Vec<ItemQueue>) -> Result<Self, L>
+    pub fn start(alloc: Global, word: Word, store: L, scripts: Vec<WholeScript>) -> Result<Self, L>
         requires sessions { length scripts.items ≡ O.sessions }
         requires few { O.sessions ≤ 16 }
         requires scripts { FollowsScripts O.opening scripts.items }
-        requires short { All (λ items. length items < 2 ^ 32) scripts.items }
+        requires short { All (λ script. length script.items < 2 ^ 32) scripts.items }
         requires outside { (s : ℕ) → (L.sight store).stand s ≡ outside }
         requires mortal { MayFail O.opening }
         requires opened { O.told → IsOpenedBy S.stands O.opening O.faults word (L.sight store) }
@@ -95,6 +112,9 @@ impl<O: Origin, S: Reserves + Reaches, L: LineStore + Drop> LineCluster<O, S, L>
         ensures going { IfOk result (λ c. c.halted ≡ false) }
         ensures back { IfErr result (λ it. it ≡ store) }
     {
+        let Ok(stops) = stops_of(alloc, &scripts) else {
+            return Err(store);
+        };
         let Ok(members) = members_of(alloc, scripts) else {
             return Err(store);
         };
@@ -115,27 +135,38 @@ impl<O: Origin, S: Reserves + Reaches, L: LineStore + Drop> LineCluster<O, S, L>
                 halt: None,
                 of: PhantomData,
             },
+            stops,
         })
     }
 
-    /// A turn of a session: its next step, or whom it waits for.
+    // Whether the script of a session ends in a stop.
+    fn stops(&self, s: Session) -> bool
+        requires session { IsSession O.sessions s.number }
+        ensures { result ≡ O.opening.stops s.number }
+    {
+        self.stops[s.number as usize - 1]
+    }
+
+    /// A turn of a session: its next step, its death at the stop of its script, or whom it waits for.
     pub fn turn(&mut self, s: Session) -> Turn
         requires session { IsSession O.sessions s.number }
-        ensures came { Came s.number self.old self.new result }
+        ensures came { Came O.opening.stops s.number self.old self.new result }
         ensures nearer { result ≡ Turn.Moved → Less self.new.measure self.old.measure }
         ensures rests { O.told → Rests O.opening s.number self.old result }
     {
-        self.core.turn(s)
+        let stops = self.stops(s);
+        self.core.turn(s, stops)
     }
 
-    /// A session dies where it stands, unless it has nothing left to do. (It dies of a device in its turn alone, where a call of the store failed.)
+    /// A session dies where it stands, unless it has nothing left to do. (It dies of a device or of a stop in its turn alone.)
     pub fn die(&mut self, s: Session, cause: Cause)
         requires session { IsSession O.sessions s.number }
         requires mortal { (O.opening.may_die s.number cause && not (is_stop cause)) ≡ true }
         requires own { is_device cause ≡ false }
-        ensures came { DeathCame s.number cause self.old self.new }
+        ensures came { DeathCame O.opening.stops s.number cause self.old self.new }
     {
-        self.core.die(s, cause);
+        let stops = self.stops(s);
+        self.core.die(s, stops, cause);
     }
 
     /// A step of the recovery of the first session that died.
@@ -146,11 +177,13 @@ impl<O: Origin, S: Reserves + Reaches, L: LineStore + Drop> LineCluster<O, S, L>
         self.core.recover()
     }
 
-    /// Whether a session's next turn takes up an item of its script.
+    /// Whether a session's next turn takes up an item of its script, or comes to the stop behind them.
     pub fn begins_item(&self, s: Session) -> bool
         requires session { IsSession O.sessions s.number }
     {
-        takes_item(&self.core.members[s.number as usize - 1])
+        let stops = self.stops(s);
+        let member = &self.core.members[s.number as usize - 1];
+        takes_item(member) || is_stopping(member, stops)
     }
 
     /// Whether a session's next step is the barrier that makes its commit stable.
@@ -179,8 +212,8 @@ impl<O: Origin, S: Reserves + Reaches, L: LineStore + Drop> LineCluster<O, S, L>
         ensures seated { self.now.halted ≡ false → (stand : ℕ → Seat) × AreSeated stand self.now.locks self.now.members }
         ensures locks { IsWhole self.now.locks }
         ensures bounds { IsBounded self.now.measure }
-        ensures over { O.told → self.now.halted ≡ false → (s : ℕ) → 1 ≤ s → IsAtEnd s self.now → HasNothingLeft O.opening (place O.opening (map event_of self.now.events)) s }
-        ensures whole { O.told → self.now.halted ≡ false → HaveEnded self.now.members → HaveAllEnded O.opening O.sessions (map event_of self.now.events) }
+        ensures over { O.told → self.now.halted ≡ false → (s : ℕ) → 1 ≤ s → IsAtEnd O.opening.stops s self.now → HasNothingLeft O.opening (place O.opening (map event_of self.now.events)) s }
+        ensures whole { O.told → self.now.halted ≡ false → HaveEnded O.opening.stops self.now.members → HaveAllEnded O.opening O.sessions (map event_of self.now.events) }
     {
         // (so the tree is whole)
         let _blocker = self.core.common.tree.blocker(1);
@@ -194,9 +227,9 @@ impl<O: Origin, S: Reserves + Reaches, L: LineStore + Drop> LineCluster<O, S, L>
         ensures images { O.told → HasImages S.stands O.opening (L.sight result.store) (map event_of self.events) }
         ensures halt { is_some result.halt ≡ self.halted }
         ensures faults { O.told → CountsFaults O.faults (failures (map event_of self.events) result.halt) (L.sight result.store) }
-        ensures outside { self.halted ≡ false → HaveEnded self.members → (s : ℕ) → bare ((L.sight result.store).stand s) ≡ outside }
+        ensures outside { self.halted ≡ false → HaveEnded O.opening.stops self.members → (s : ℕ) → bare ((L.sight result.store).stand s) ≡ outside }
     {
-        let LineCluster { core } = self;
+        let LineCluster { core, stops: _ } = self;
         Finished {
             events: Items::from_vec(core.events),
             store: core.common.store,

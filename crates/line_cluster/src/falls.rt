@@ -2,13 +2,13 @@
 ghost use Rattle.std.specs.Prelude.{◌≡◌, ◌≤◌, ◌+◌, ◌-◌, ◌&&◌, ◌++◌, ◌∷◌, [], length, map, not, true, false, None, Some, slice_get, slice_set, IfSome};
 ghost use Rattle.std.specs.Vec.{vec_len, vec_capacity};
 ghost use Rattle.rdb_account.specs.Events.{event_of, Died};
-ghost use Rattle.rdb_account.specs.Legal.{is_stop};
 ghost use Rattle.rdb_drive.specs.Boards.{Less};
 ghost use Rattle.session_states.specs.declared.stage.Member.{Member as MemberValue};
+ghost use Rattle.session_states.specs.States.{may_die_in};
 ghost use Rattle.session_stands.specs.Sessions.{dead_in};
 ghost use Rattle.stage_steps.specs.Deaths.{life_behind as life_behind_it};
 ghost use Rattle.stage_steps.specs.Scenes.{scene};
-ghost use Rattle.line_cluster.specs.Deaths.{CountsFaults, device_deaths, faults_of, is_device};
+ghost use Rattle.line_cluster.specs.Deaths.{CountsFaults, device_deaths, faults_of, is_device, is_stop};
 ghost use Rattle.line_cluster.specs.Going.{IsDeadAt, is_dead as is_dead_at};
 ghost use Rattle.line_cluster.specs.Sound.{IsSound, IsOneOf};
 ghost use Rattle.line_cluster.specs.Turned.{DeathCame, GoesOn, RecoveryCame, sessions, with_life};
@@ -54,21 +54,23 @@ fn life_behind(step: &Result<Recovery, Fault>) -> Life
 }
 
 impl<O: Origin, S: Reserves + Reaches, L: LineStore> Core<O, S, L> {
-    /// A session dies where it stands, of something other than a device. Nothing changes where it has nothing left to do, nor behind a halt.
-    pub fn die(&mut self, s: Session, cause: Cause)
+    /// A session dies where it stands, of something other than a device or a stop. Nothing changes where it has nothing left to do, nor
+    /// behind a halt.
+    pub fn die(&mut self, s: Session, stops: bool, cause: Cause)
         requires one { IsOneOf self.old.members.items s.number }
         requires mortal { (O.opening.may_die s.number cause && not (is_stop cause)) ≡ true }
         requires own { is_device cause ≡ false }
+        requires stops { stops ≡ O.opening.stops s.number }
         requires sound { IsSound S.stands O.told O.opening O.faults (scene self.old.common.word (L.sight self.old.common.store) self.old.common.tree) self.old.members.items (map event_of self.old.events.items) self.old.halt }
         ensures sound { IsSound S.stands O.told O.opening O.faults (scene self.new.common.word (L.sight self.new.common.store) self.new.common.tree) self.new.members.items (map event_of self.new.events.items) self.new.halt }
         ensures count { length self.new.members.items ≡ length self.old.members.items }
-        ensures came { DeathCame s.number cause (sessions self.old.members.items self.old.events.items self.old.allotments (L.sight self.old.common.store) self.old.common.tree self.old.halt) (sessions self.new.members.items self.new.events.items self.new.allotments (L.sight self.new.common.store) self.new.common.tree self.new.halt) }
+        ensures came { DeathCame O.opening.stops s.number cause (sessions self.old.members.items self.old.events.items self.old.allotments (L.sight self.old.common.store) self.old.common.tree self.old.halt) (sessions self.new.members.items self.new.events.items self.new.allotments (L.sight self.new.common.store) self.new.common.tree self.new.halt) }
     {
         if self.halt.is_some() {
             return;
         }
         let at = s.number as usize - 1;
-        if is_over(member_at(&self.members, at)) {
+        if is_over(member_at(&self.members, at), stops) {
             return;
         }
         if reserve_step(&mut self.events).is_err() {
@@ -78,11 +80,12 @@ impl<O: Origin, S: Reserves + Reaches, L: LineStore> Core<O, S, L> {
         self.fall(s, at, cause);
     }
 
-    /// A session that lives dies where it stands, and keeps its locks. A death of a device has a fault of its own.
+    /// A session that lives dies where it stands, and keeps its locks. A death of a device has a fault of its own, and one of a stop comes only
+    /// where its script has come to one.
     pub(crate) fn fall(&mut self, s: Session, at: usize, cause: Cause)
         requires one { IsOneOf self.old.members.items s.number }
         requires at { at ≡ s.number - 1 }
-        requires mortal { (O.opening.may_die s.number cause && not (is_stop cause)) ≡ true }
+        requires mortal { (m : MemberValue) → slice_get self.old.members.items at ≡ Some m → may_die_in O.opening s.number m.left m.phase cause ≡ true }
         requires caused { O.told → CountsFaults O.faults (device_deaths (map event_of self.old.events.items) + faults_of cause) (L.sight self.old.common.store) }
         requires sound { IsSound S.stands O.told O.opening O.faults (scene self.old.common.word (L.sight self.old.common.store) self.old.common.tree) self.old.members.items (map event_of self.old.events.items) self.old.halt }
         requires going { self.old.halt ≡ None }

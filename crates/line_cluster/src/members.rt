@@ -5,7 +5,8 @@ ghost use Rattle.session_states.specs.declared.stage.Life.TheVariants as life;
 ghost use Rattle.session_states.specs.declared.stage.Phase.TheVariants as phase;
 ghost use Rattle.session_states.specs.declared.stage.Member.{Member as MemberValue};
 ghost use Rattle.line_arms.specs.Going.{is_done as is_done_at};
-ghost use Rattle.line_cluster.specs.Going.{is_over as is_over_at, writes_at};
+ghost use Rattle.session_states.specs.States.{has_said_all as has_said_all_at};
+ghost use Rattle.line_cluster.specs.Going.{is_over as is_over_at, is_stopping as is_stopping_at, writes_at};
 ghost use Rattle.stage_steps.specs.Nearer.{is_for_journal as is_for_journal_at, is_patient_at};
 
 use rdb_types::Session;
@@ -21,12 +22,12 @@ pub(crate) fn member_at(members: &[Member], at: usize) -> &Member
     &members[at]
 }
 
-/// Whether a session has nothing left to do.
-pub(crate) fn is_over(member: &Member) -> bool
-    ensures { result ≡ is_over_at member.now member.now.life }
+/// Whether a session has nothing left to do, whose script ends in a stop or doesn't.
+pub(crate) fn is_over(member: &Member, stops: bool) -> bool
+    ensures { result ≡ is_over_at stops member.now member.now.life }
 {
     match member.life {
-        Life::Alive => is_done(member),
+        Life::Alive => is_done(member) && !stops,
         Life::Dead | Life::Gone => true,
     }
 }
@@ -39,6 +40,27 @@ fn is_done(member: &Member) -> bool
         Phase::Over => true,
         _ => false,
     }
+}
+
+fn has_said_all(member: &Member) -> bool
+    ensures { result ≡ has_said_all_at member.now.left member.now.phase }
+{
+    match &member.phase {
+        Phase::Outside => member.left.len() == 0,
+        Phase::Closing => false,
+        Phase::Writing(writer) => matches!(writer.stage, Stage::Between) && member.left.len() == 0,
+        Phase::Reading(reader) => {
+            matches!(reader.stage, ReaderStage::Between) && member.left.len() == 0
+        }
+        Phase::Over => true,
+    }
+}
+
+/// Whether the script of a session has come to the stop in which it ends or doesn't.
+pub(crate) fn is_stopping(member: &Member, stops: bool) -> bool
+    ensures { result ≡ is_stopping_at stops member.now }
+{
+    stops && has_said_all(member)
 }
 
 /// Whether a session has a read-write transaction, and so may hold locks that come down.

@@ -25,6 +25,7 @@ impl Origin for Brand {
     ghost opening = { record {
       word = [];
       script = λ s. [];
+      stops = λ s. false;
       tables = no_tables;
       limits = record { pages = 0; snapshots = 0; entries = 0; slots = 0 };
       has_owner = λ file page. false;

@@ -2,7 +2,9 @@
 ghost use Rattle.std.specs.Prelude.{◌≡◌, ℕ, ◌≤◌, ◌+◌, ◌-◌, ◌++◌, [], length, map, None, Some, true, false, is_some, slice_get, IfSome};
 ghost use Rattle.rdb_account.specs.Events.{event_of};
 ghost use Rattle.rdb_drive.specs.Boards.{Less};
+ghost use Rattle.session_states.specs.declared.stage.Life.TheVariants.{Alive};
 ghost use Rattle.session_states.specs.declared.stage.Member.{Member as MemberValue};
+ghost use Rattle.line_arms.specs.Going.{is_done};
 ghost use Rattle.session_stands.specs.Sessions.{dead_in};
 ghost use Rattle.lock_tree_laws.specs.Forest.{party_of};
 ghost use Rattle.lock_tree_laws.specs.LockTable.{granted_at};
@@ -12,13 +14,13 @@ ghost use Rattle.stage_steps.specs.Nearer.{is_patient_at};
 ghost use Rattle.stage_steps.specs.Scenes.{scene};
 ghost use Rattle.line_cluster.specs.Deaths.{faults_in};
 ghost use Rattle.line_cluster.specs.Sound.{IsSound, IsOneOf, MayFail};
-ghost use Rattle.line_cluster.specs.Going.{IsWriterAt, is_over as is_over_at};
+ghost use Rattle.line_cluster.specs.Going.{IsWriterAt, is_over as is_over_at, is_stopping as is_stopping_at};
 ghost use Rattle.line_cluster.specs.Turned.{Came, GoesOn, GrowsQuietly, Rests, Waits, sessions};
 ghost use Rattle.std.specs.Vec.{vec_len, vec_capacity};
 
 use crate::behind::{Behind, Notice, behind_of};
 use crate::falls::first_dead;
-use crate::members::{is_over, is_patient, member_at, put_member, take_member};
+use crate::members::{is_over, is_patient, is_stopping, member_at, put_member, take_member};
 use crate::origin::Origin;
 use crate::sessions::{Core, Halt, Turn};
 use line_account::{record, record_demotion, reserve_step};
@@ -43,21 +45,22 @@ impl<O: Origin, S: Reserves + Reaches, L: LineStore> Core<O, S, L> {
         ensures common { self.new.common ≡ self.old.common }
         ensures halted { is_some self.new.halt ≡ true }
         ensures stopped { result ≡ Turn.Stopped }
-        ensures came { (s : ℕ) → Came s (sessions self.old.members.items self.old.events.items self.old.allotments (L.sight self.old.common.store) self.old.common.tree self.old.halt) (sessions self.new.members.items self.new.events.items self.new.allotments (L.sight self.new.common.store) self.new.common.tree self.new.halt) result }
+        ensures came { (s : ℕ) → Came O.opening.stops s (sessions self.old.members.items self.old.events.items self.old.allotments (L.sight self.old.common.store) self.old.common.tree self.old.halt) (sessions self.new.members.items self.new.events.items self.new.allotments (L.sight self.new.common.store) self.new.common.tree self.new.halt) result }
         ensures on { GoesOn result }
     {
         self.halt = Some(halt);
         Turn::Stopped
     }
 
-    /// A turn of a session: its next step, or whom it waits for.
-    pub fn turn(&mut self, s: Session) -> Turn
+    /// A turn of a session: its next step, its death at the stop of its script, or whom it waits for.
+    pub fn turn(&mut self, s: Session, stops: bool) -> Turn
         requires one { IsOneOf self.old.members.items s.number }
         requires mortal { MayFail O.opening }
+        requires stops { stops ≡ O.opening.stops s.number }
         requires sound { IsSound S.stands O.told O.opening O.faults (scene self.old.common.word (L.sight self.old.common.store) self.old.common.tree) self.old.members.items (map event_of self.old.events.items) self.old.halt }
         ensures sound { IsSound S.stands O.told O.opening O.faults (scene self.new.common.word (L.sight self.new.common.store) self.new.common.tree) self.new.members.items (map event_of self.new.events.items) self.new.halt }
         ensures count { length self.new.members.items ≡ length self.old.members.items }
-        ensures came { Came s.number (sessions self.old.members.items self.old.events.items self.old.allotments (L.sight self.old.common.store) self.old.common.tree self.old.halt) (sessions self.new.members.items self.new.events.items self.new.allotments (L.sight self.new.common.store) self.new.common.tree self.new.halt) result }
+        ensures came { Came O.opening.stops s.number (sessions self.old.members.items self.old.events.items self.old.allotments (L.sight self.old.common.store) self.old.common.tree self.old.halt) (sessions self.new.members.items self.new.events.items self.new.allotments (L.sight self.new.common.store) self.new.common.tree self.new.halt) result }
         ensures nearer { result ≡ Turn.Moved → Less (sessions self.new.members.items self.new.events.items self.new.allotments (L.sight self.new.common.store) self.new.common.tree self.new.halt).measure (sessions self.old.members.items self.old.events.items self.old.allotments (L.sight self.old.common.store) self.old.common.tree self.old.halt).measure }
         ensures rests { O.told → Rests O.opening s.number (sessions self.old.members.items self.old.events.items self.old.allotments (L.sight self.old.common.store) self.old.common.tree self.old.halt) result }
     {
@@ -68,7 +71,7 @@ impl<O: Origin, S: Reserves + Reaches, L: LineStore> Core<O, S, L> {
             return Turn::Frozen;
         }
         let at = s.number as usize - 1;
-        if is_over(member_at(&self.members, at)) {
+        if is_over(member_at(&self.members, at), stops) {
             return Turn::Ended;
         }
         if let Some(other) = self.blocker(s, at) {
@@ -77,7 +80,30 @@ impl<O: Origin, S: Reserves + Reaches, L: LineStore> Core<O, S, L> {
         if reserve_step(&mut self.events).is_err() {
             return self.stop(Halt::NoMemory);
         }
+        if is_stopping(member_at(&self.members, at), stops) {
+            return self.come_to_stop(s, at, stops);
+        }
         self.step(s, at)
+    }
+
+    // A session dies of the stop to which its script has come.
+    fn come_to_stop(&mut self, s: Session, at: usize, stops: bool) -> Turn
+        requires one { IsOneOf self.old.members.items s.number }
+        requires at { at ≡ s.number - 1 }
+        requires stops { stops ≡ O.opening.stops s.number }
+        requires sound { IsSound S.stands O.told O.opening O.faults (scene self.old.common.word (L.sight self.old.common.store) self.old.common.tree) self.old.members.items (map event_of self.old.events.items) self.old.halt }
+        requires going { self.old.halt ≡ None }
+        requires room { vec_len self.old.events + 6 ≤ vec_capacity self.old.events }
+        requires work { (m : MemberValue) → slice_get self.old.members.items at ≡ Some m → is_over_at stops m m.life ≡ false }
+        requires stopping { (m : MemberValue) → slice_get self.old.members.items at ≡ Some m → is_stopping_at stops m ≡ true }
+        ensures sound { IsSound S.stands O.told O.opening O.faults (scene self.new.common.word (L.sight self.new.common.store) self.new.common.tree) self.new.members.items (map event_of self.new.events.items) self.new.halt }
+        ensures count { length self.new.members.items ≡ length self.old.members.items }
+        ensures came { Came O.opening.stops s.number (sessions self.old.members.items self.old.events.items self.old.allotments (L.sight self.old.common.store) self.old.common.tree self.old.halt) (sessions self.new.members.items self.new.events.items self.new.allotments (L.sight self.new.common.store) self.new.common.tree self.new.halt) result }
+        ensures died { result ≡ Turn.Died }
+    {
+        let _member = member_at(&self.members, at);
+        self.fall(s, at, Cause::Stop);
+        Turn::Died
     }
 
     // For whom a session waits that has something left to do. Under NOWAIT it does so for a COMMIT alone.
@@ -86,7 +112,7 @@ impl<O: Origin, S: Reserves + Reaches, L: LineStore> Core<O, S, L> {
         requires at { at ≡ s.number - 1 }
         requires going { self.now.halt ≡ None }
         requires mourns_none { dead_in self.now.members.items ≡ 0 }
-        requires lives { (m : MemberValue) → slice_get self.now.members.items at ≡ Some m → is_over_at m m.life ≡ false }
+        requires lives { (m : MemberValue) → slice_get self.now.members.items at ≡ Some m → m.life ≡ Alive }
         ensures waits { IfSome result (λ t. Waits s.number t.number (sessions self.now.members.items self.now.events.items self.now.allotments (L.sight self.now.common.store) self.now.common.tree self.now.halt)) }
         ensures awake { result ≡ None → (m : MemberValue) → slice_get self.now.members.items at ≡ Some m → is_patient_at m.phase ≡ true → is_sleeping self.now.common.tree s.number ≡ false }
     {
@@ -142,10 +168,11 @@ impl<O: Origin, S: Reserves + Reaches, L: LineStore> Core<O, S, L> {
         requires mortal { MayFail O.opening }
         requires room { vec_len self.old.events + 6 ≤ vec_capacity self.old.events }
         requires awake { (m : MemberValue) → slice_get self.old.members.items at ≡ Some m → is_patient_at m.phase ≡ true → is_sleeping self.old.common.tree s.number ≡ false }
-        requires work { (m : MemberValue) → slice_get self.old.members.items at ≡ Some m → is_over_at m m.life ≡ false }
+        requires work { (m : MemberValue) → slice_get self.old.members.items at ≡ Some m → is_done m.left m.phase ≡ false }
+        requires alive { (m : MemberValue) → slice_get self.old.members.items at ≡ Some m → m.life ≡ Alive }
         ensures sound { IsSound S.stands O.told O.opening O.faults (scene self.new.common.word (L.sight self.new.common.store) self.new.common.tree) self.new.members.items (map event_of self.new.events.items) self.new.halt }
         ensures count { length self.new.members.items ≡ length self.old.members.items }
-        ensures came { Came s.number (sessions self.old.members.items self.old.events.items self.old.allotments (L.sight self.old.common.store) self.old.common.tree self.old.halt) (sessions self.new.members.items self.new.events.items self.new.allotments (L.sight self.new.common.store) self.new.common.tree self.new.halt) result }
+        ensures came { Came O.opening.stops s.number (sessions self.old.members.items self.old.events.items self.old.allotments (L.sight self.old.common.store) self.old.common.tree self.old.halt) (sessions self.new.members.items self.new.events.items self.new.allotments (L.sight self.new.common.store) self.new.common.tree self.new.halt) result }
         ensures nearer { result ≡ Turn.Moved → Less (sessions self.new.members.items self.new.events.items self.new.allotments (L.sight self.new.common.store) self.new.common.tree self.new.halt).measure (sessions self.old.members.items self.old.events.items self.old.allotments (L.sight self.old.common.store) self.old.common.tree self.old.halt).measure }
         ensures on { GoesOn result }
     {

@@ -79,22 +79,22 @@ idle-from p e f = ap (λ (ws : List Need). record { needs = ws; opened = p.opene
 
 module _ (stand : ℕ → Seat) (locks : State) (whole : IsWhole locks) where
   -- who has nothing left to do, or is recovered, has no lock, and wants none
-  over-idle : (s : ℕ) (m : Member) (x : Phase) (l : Life) → is_dead_life l ≡ false → is_over (record { left = m.left; total = m.total; phase = x; life = l }) l ≡ true → LivesAt stand locks s x l → party_of locks.parties s ≡ idle
-  over-idle s m Outside Alive undead over k = idle-from (party_of locks.parties s) k.needs k.wants
-  over-idle s m Over Alive undead over k = idle-from (party_of locks.parties s) k.needs k.wants
-  over-idle s m Closing Alive undead over k = absurd (false≢true over)
-  over-idle s m (Writing w) Alive undead over k = absurd (false≢true over)
-  over-idle s m (Reading r) Alive undead over k = absurd (false≢true over)
-  over-idle s m x Dead undead over k = absurd (false≢true (sym undead))
-  over-idle s m x Gone undead over k = idle-from (party_of locks.parties s) k.needs k.wants
+  over-idle : (stops : Bool) (s : ℕ) (m : Member) (x : Phase) (l : Life) → is_dead_life l ≡ false → is_over stops (record { left = m.left; total = m.total; phase = x; life = l }) l ≡ true → LivesAt stand locks s x l → party_of locks.parties s ≡ idle
+  over-idle stops s m Outside Alive undead over k = idle-from (party_of locks.parties s) k.needs k.wants
+  over-idle stops s m Over Alive undead over k = idle-from (party_of locks.parties s) k.needs k.wants
+  over-idle stops s m Closing Alive undead over k = absurd (false≢true over)
+  over-idle stops s m (Writing w) Alive undead over k = absurd (false≢true over)
+  over-idle stops s m (Reading r) Alive undead over k = absurd (false≢true over)
+  over-idle stops s m x Dead undead over k = absurd (false≢true (sym undead))
+  over-idle stops s m x Gone undead over k = idle-from (party_of locks.parties s) k.needs k.wants
 
-module _ (stand : ℕ → Seat) (c : Sessions) (seated : AreSeated stand c.locks c.members) (whole : IsWhole c.locks) (none : dead_in c.members ≡ 0) (sessions : ℕ) (count : length c.members ≡ sessions) where
+module _ (stops : ℕ → Bool) (stand : ℕ → Seat) (c : Sessions) (seated : AreSeated stand c.locks c.members) (whole : IsWhole c.locks) (none : dead_in c.members ≡ 0) (sessions : ℕ) (count : length c.members ≡ sessions) where
   abbrev Lives : ℕ → Type 0
-  Lives s = IsSession sessions s × (has_ended (member_at c.members s) ≡ false)
+  Lives s = IsSession sessions s × (has_ended (stops s) (member_at c.members s) ≡ false)
 
   busy-lives : (s : ℕ) (found : Option Member) → member_at c.members s ≡ found → (party_of c.locks.parties s ≡ idle → ⊥) → Lives s
   busy-lives s None e busy = absurd (busy (seated.nobodys s e))
-  busy-lives s (Some m) e busy = by (is_over m m.life) refl
+  busy-lives s (Some m) e busy = by (is_over (stops s) m m.life) refl
     where
       within : IsSession sessions s
       within = let k = number-of c.members s m e in (k.0, subst (λ (n : ℕ). s ≤ n) count k.1)
@@ -102,9 +102,9 @@ module _ (stand : ℕ → Seat) (c : Sessions) (seated : AreSeated stand c.locks
       undone : is_dead m ≡ false
       undone = undead-at c.members s m none e
 
-      by : (b : Bool) → is_over m m.life ≡ b → Lives s
-      by false f = (within, ap has_ended e ∙ ap (λ (b : Bool). b && not (is_dead m)) f)
-      by true f = absurd (busy (over-idle stand c.locks whole s m m.phase m.life undone f (seated.each s m e)))
+      by : (b : Bool) → is_over (stops s) m m.life ≡ b → Lives s
+      by false f = (within, ap (has_ended (stops s)) e ∙ ap (λ (b : Bool). b && not (is_dead m)) f)
+      by true f = absurd (busy (over-idle stand c.locks whole (stops s) s m m.phase m.life undone f (seated.each s m e)))
 
   next : (s : ℕ) → Lives s → is_asleep c s ≡ true → (t : ℕ) × (WaitsIn (queues_at c.locks.table) s t × Lives t)
   next s lives asleep =
@@ -114,7 +114,7 @@ module _ (stand : ℕ → Seat) (c : Sessions) (seated : AreSeated stand c.locks
       let b = queued-blocker c.locks.table c.locks.parties (live-of c.locks whole) whole.kept s want.0.here queued in
       (b.0, (b.2, busy-lives b.0 (member_at c.members b.0) refl (waited-busy c.locks s b.0 (waiter-needed c.locks whole s b.0 b.2))))
 
-  awake-going : (s : ℕ) → IsSession sessions s → has_ended (member_at c.members s) ≡ false → (t : ℕ) × (Lives t × (is_asleep c t ≡ false))
+  awake-going : (s : ℕ) → IsSession sessions s → has_ended (stops s) (member_at c.members s) ≡ false → (t : ℕ) × (Lives t × (is_asleep c t ≡ false))
   awake-going s session going = somebody-awake (WaitsIn (queues_at c.locks.table)) (live-of c.locks whole).acyclic Lives (is_asleep c) next sessions s (session, going) (λ t l. l.0)
 
 none-more : (n : ℕ) → nat_lt 0 n ≡ false → n ≡ 0
@@ -126,7 +126,7 @@ pub awake : (told : Type 0) (o : Opening) (c : Sessions) (sessions : ℕ) → (c
 awake told o c sessions seated whole count s session going = by c.halted refl (c.halted || is_mourning c) refl
   where
     -- nobody sleeps
-    still : (c.halted || is_mourning c) ≡ true → (t : ℕ) × IsSession sessions t × (has_ended (member_at c.members t) ≡ false) × ((not (c.halted || is_mourning c) && is_asleep c t) ≡ false)
+    still : (c.halted || is_mourning c) ≡ true → (t : ℕ) × IsSession sessions t × (has_ended (o.stops t) (member_at c.members t) ≡ false) × ((not (c.halted || is_mourning c) && is_asleep c t) ≡ false)
     still h = (s, session, going, ap (λ (b : Bool). not b && is_asleep c s) h)
 
     either : (a b : Bool) → b ≡ false → (a && b) ≡ false
@@ -138,10 +138,10 @@ awake told o c sessions seated whole count s session going = by c.halted refl (c
     unmourned false b h = h
 
     by : (h : Bool) → c.halted ≡ h → (n : Bool) → (c.halted || is_mourning c) ≡ n →
-        (t : ℕ) × IsSession sessions t × (has_ended (member_at c.members t) ≡ false) × ((not (c.halted || is_mourning c) && is_asleep c t) ≡ false)
+        (t : ℕ) × IsSession sessions t × (has_ended (o.stops t) (member_at c.members t) ≡ false) × ((not (c.halted || is_mourning c) && is_asleep c t) ≡ false)
     by h e true f = still f
     by true e false f = absurd (false≢true (sym f ∙ ap (λ (b : Bool). b || is_mourning c) e))
     by false e false f =
         let k = seated e in
-        let a = awake-going k.0 c k.1 whole (none-more (dead_in c.members) (unmourned c.halted (is_mourning c) f)) sessions count s session going in
+        let a = awake-going o.stops k.0 c k.1 whole (none-more (dead_in c.members) (unmourned c.halted (is_mourning c) f)) sessions count s session going in
         (a.0, a.1.0.0, a.1.0.1, either (not (c.halted || is_mourning c)) (is_asleep c a.0) a.1.1)

@@ -3,7 +3,6 @@ use Rattle.std.proofs.Common.{◌≡◌, ◌≤◌, ◌<◌, ℕ, zero, suc, ◌
 use Rattle.std.proofs.lemmas.Bool.{cases_Bool, eqb-true}
 use Rattle.std.proofs.lemmas.Option.{same_Some}
 use Rattle.rdb_types.specs.declared.session.Cause.{Cause}
-use Rattle.rdb_types.specs.declared.session.Cause.TheVariants.{Device}
 use Rattle.rdb_account.specs.declared.event.Event.{Event as Declared}
 use Rattle.rdb_account.specs.Events.{Event, Died, event_of}
 use Rattle.rdb_drive.specs.Boards.{Mark, Says, Does, Other, AllNobodys, IsSession, answers, answers_by}
@@ -15,22 +14,22 @@ use Rattle.line_drive.specs.Boards.{marks_of}
 use Rattle.line_drive.specs.Turns.{AreCounted, IsDriven}
 use Rattle.line_drive.proofs.Marks.{count-few, count-more, count-other, count-own, length-events, length-marks, marks-since}
 
-came-grows : (s : ℕ) (old new : Sessions) (t : Turn) → Came s old new t → Grows s old.events new.events
-came-grows s old new turn.Moved g = g.events
-came-grows s old new turn.Stopped g = g.1.events
-came-grows s old new turn.Died d = record { more = Died s Device ∷ []; grown = d.grown; of_s = (refl, tt); one = omega arith }
-came-grows s old new (turn.Asleep u) g = (still s old new (ap (λ (c : Sessions). c.members) g.0) (ap (λ (c : Sessions). c.events) g.0)).events
-came-grows s old new turn.Frozen g = (still s old new (ap (λ (c : Sessions). c.members) g.0) (ap (λ (c : Sessions). c.events) g.0)).events
-came-grows s old new turn.Ended g = (still s old new (ap (λ (c : Sessions). c.members) g.0) (ap (λ (c : Sessions). c.events) g.0)).events
+came-grows : (stops : ℕ → Bool) (s : ℕ) (old new : Sessions) (t : Turn) → Came stops s old new t → Grows s old.events new.events
+came-grows stops s old new turn.Moved g = g.events
+came-grows stops s old new turn.Stopped g = g.1.events
+came-grows stops s old new turn.Died d = record { more = Died s d.cause ∷ []; grown = d.grown; of_s = (refl, tt); one = omega arith }
+came-grows stops s old new (turn.Asleep u) g = (still stops s old new (ap (λ (c : Sessions). c.members) g.0) (ap (λ (c : Sessions). c.events) g.0)).events
+came-grows stops s old new turn.Frozen g = (still stops s old new (ap (λ (c : Sessions). c.members) g.0) (ap (λ (c : Sessions). c.events) g.0)).events
+came-grows stops s old new turn.Ended g = (still stops s old new (ap (λ (c : Sessions). c.members) g.0) (ap (λ (c : Sessions). c.events) g.0)).events
 
 length-append : {A : Type 0} (xs ys : List A) → length (xs ++ ys) ≡ length xs + length ys
 length-append [] ys = omega arith
 length-append (x ∷ xs) ys = let more = length-append xs ys in omega (arith, more)
 
 -- no event goes
-pub no-fewer : (s : ℕ) (old new : Sessions) (t : Turn) → Came s old new t → length old.events ≤ length new.events
-no-fewer s old new t came =
-    let g = came-grows s old new t came in
+pub no-fewer : (stops : ℕ → Bool) (s : ℕ) (old new : Sessions) (t : Turn) → Came stops s old new t → length old.events ≤ length new.events
+no-fewer stops s old new t came =
+    let g = came-grows stops s old new t came in
     let e = length-events new.events in
     let f = length-events old.events in
     let h = ap length g.grown in
@@ -63,9 +62,9 @@ set-there (z ∷ zs) (suc i) (suc j) x h = set-there zs i j x (less i j h)
     less : (i j : ℕ) → (suc i == suc j) ≡ false → (i == j) ≡ false
     less i j h = grind arith
 
-pub driven-on : (sessions s : ℕ) (counts : List ℕ) (old new : Sessions) (t : Turn) (n : ℕ) → IsSession sessions s → IsDriven sessions counts old → Came s old new t → n ≡ answers (marks_of (drop (length old.events) new.events)) →
+pub driven-on : (stops : ℕ → Bool) (sessions s : ℕ) (counts : List ℕ) (old new : Sessions) (t : Turn) (n : ℕ) → IsSession sessions s → IsDriven sessions counts old → Came stops s old new t → n ≡ answers (marks_of (drop (length old.events) new.events)) →
     IsDriven sessions (slice_set counts s (slice_index_or counts s 0 + n)) new
-driven-on sessions s counts old new t n session d came is = record {
+driven-on stops sessions s counts old new t n session d came is = record {
   few = d.few;
   counted = λ u in-run. elim (cases_Bool (s == u)) [
     | inl same ↦ subst (λ (v : ℕ). slice_get (slice_set counts s (slice_index_or counts s 0 + n)) v ≡ Some (answers_by v (marks_of new.events))) (eqb-true s u same) mine
@@ -74,7 +73,7 @@ driven-on sessions s counts old new t n session d came is = record {
 }
   where
     g : Grows s old.events new.events
-    g = came-grows s old new t came
+    g = came-grows stops s old new t came
 
     since : n ≡ answers (map mark_of g.more)
     since = is ∙ ap answers (marks-since old.events new.events g.more g.grown)
@@ -97,10 +96,10 @@ driven-on sessions s counts old new t n session d came is = record {
         omega (arith, b, c)
 
 -- a count is a number of events
-pub count-fits : (sessions s : ℕ) (counts : List ℕ) (old new : Sessions) (t : Turn) (n bound : ℕ) → IsSession sessions s → IsDriven sessions counts old → Came s old new t → n ≡ answers (marks_of (drop (length old.events) new.events)) →
+pub count-fits : (stops : ℕ → Bool) (sessions s : ℕ) (counts : List ℕ) (old new : Sessions) (t : Turn) (n bound : ℕ) → IsSession sessions s → IsDriven sessions counts old → Came stops s old new t → n ≡ answers (marks_of (drop (length old.events) new.events)) →
     length new.events < bound → slice_index_or counts s 0 + n < bound
-count-fits sessions s counts old new t n bound session d came is few =
-    let g = came-grows s old new t came in
+count-fits stops sessions s counts old new t n bound session d came is few =
+    let g = came-grows stops s old new t came in
     let a = counted-at sessions s counts old.events session d.counted in
     let b = count-more s old.events new.events g.more g.grown in
     let c = count-own s (map mark_of g.more) g.of_s in
@@ -129,10 +128,10 @@ nobodys-count u (Other ∷ ms) h = let more = nobodys-count u ms h.1 in omega (a
 events-same : (old new : Sessions) → new ≡ old → new.events ≡ old.events
 events-same old new same = ap (λ (c : Sessions). c.events) same
 
-pub driven-dying : (sessions s : ℕ) (cause : Cause) (counts : List ℕ) (old new : Sessions) → IsDriven sessions counts old → DeathCame s cause old new → IsDriven sessions counts new
-driven-dying sessions s cause counts old new d came = record { few = d.few; counted = by came }
+pub driven-dying : (stops : ℕ → Bool) (sessions s : ℕ) (cause : Cause) (counts : List ℕ) (old new : Sessions) → IsDriven sessions counts old → DeathCame stops s cause old new → IsDriven sessions counts new
+driven-dying stops sessions s cause counts old new d came = record { few = d.few; counted = by came }
   where
-    by : DeathCame s cause old new → AreCounted sessions counts new.events
+    by : DeathCame stops s cause old new → AreCounted sessions counts new.events
     by (inl h) = counted-same sessions counts old.events new.events (events-same old new h.0) d.counted
     by (inr (inl h)) = counted-same sessions counts old.events new.events h.events d.counted
     by (inr (inr h)) = counted-grown sessions counts old.events new.events (Died s cause ∷ []) h.grown (λ u. refl) d.counted

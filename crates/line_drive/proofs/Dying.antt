@@ -6,7 +6,6 @@ use Rattle.std.proofs.lemmas.List.Elements.{All-contains, All-from_recursion}
 use Rattle.rdb_types.specs.declared.session.Cause.{Cause}
 use Rattle.rdb_types.specs.declared.session.Cause.TheVariants.{Gate}
 use Rattle.rdb_account.specs.Events.{Died, event_of}
-use Rattle.rdb_account.specs.Legal.{is_stop}
 use Rattle.rdb_account.specs.Places.{Opening, place}
 use Rattle.rdb_drive.specs.Boards.{AllEnded, AtMost, Below, Does, Less}
 use Rattle.rdb_drive.specs.Orders.{upward}
@@ -20,6 +19,7 @@ use Rattle.session_states.specs.declared.stage.Member.{Member}
 use Rattle.session_stands.specs.Sessions.{AreSeated, member_at}
 use Rattle.line_cluster.specs.declared.sessions.Turn.{Turn}
 use Rattle.line_cluster.specs.declared.sessions.Turn.TheVariants as turn
+use Rattle.line_cluster.specs.Deaths.{is_stop}
 use Rattle.line_cluster.specs.Going.{is_alive_life, is_dead, is_dead_life, is_over}
 use Rattle.line_cluster.specs.Measured.{IsBounded}
 use Rattle.line_cluster.specs.Turned.{Sessions, DeathCame, HasNothingLeft, HaveEnded, IsAtEnd, IsDeath, IsHalt, IsRecovery, RecoveryCame, mark_of, with_life}
@@ -28,20 +28,20 @@ use Rattle.line_drive.specs.Turns.{step_for}
 use Rattle.line_drive.proofs.Awake.{awake}
 use Rattle.line_drive.proofs.Counting.{set-here}
 use Rattle.line_drive.proofs.Marks.{marks-grown}
-use Rattle.line_drive.proofs.Turning.{append-none, ended-beside, fewer-lives, lives-moved, nearer-lives, rests-grown, rests-now, quiet, two-steps, unfinished}
+use Rattle.line_drive.proofs.Turning.{append-none, ended-beside, fewer-lives, lives-moved, nearer-lives, rests-grown, rests-now, quiet, two-steps, unfinished-at}
 
 -- ---- how much may still come
 
-fewer-behind : (s : ℕ) (cause : Cause) (old new : Sessions) → IsDeath s cause old new → lives_in new.members < lives_in old.members
-fewer-behind s cause old new d =
+fewer-behind : (stops : ℕ → Bool) (s : ℕ) (cause : Cause) (old new : Sessions) → IsDeath stops s cause old new → lives_in new.members < lives_in old.members
+fewer-behind stops s cause old new d =
     let e = lives-moved old.members (s - 1) d.before (with_life Dead d.before) d.found in
-    let f = two-steps d.before d.unfinished in
+    let f = two-steps (stops s) d.before d.unfinished in
     let g = ap lives_in d.is in
     omega (arith, e, f, g)
 
 -- one that awaits its recovery hasn't ended
-dead-unfinished : (m : Member) → m.life ≡ Dead → has_ended (Some m) ≡ false
-dead-unfinished m h = ap (λ (l : Life). is_over m l && not (is_dead_life l)) h
+dead-unfinished : (stops : Bool) (m : Member) → m.life ≡ Dead → has_ended stops (Some m) ≡ false
+dead-unfinished stops m h = ap (λ (l : Life). is_over stops m l && not (is_dead_life l)) h
 
 module _ (told : Type 0) (o : Opening) (sessions : ℕ) (old new : Sessions) (before : IsBounded old.measure) (bound : IsBounded new.measure)
     (count : length new.members ≡ sessions) (seated : new.halted ≡ false → (stand : ℕ → Seat) × AreSeated stand new.locks new.members) (whole : IsWhole new.locks) where
@@ -57,19 +57,19 @@ module _ (told : Type 0) (o : Opening) (sessions : ℕ) (old new : Sessions) (be
   halt-goes h = record {
     marks = ap marks_of h.events ∙ sym (append-none (marks_of old.events));
     rests = λ n t within rests given on. absurd (false≢true (sym on ∙ h.halted));
-    ended = λ t e. ap (λ (ms : List Member). has_ended (member_at ms t)) h.members ∙ e;
+    ended = λ t e. ap (λ (ms : List Member). has_ended (o.stops t) (member_at ms t)) h.members ∙ e;
   }
 
   -- ---- deaths
 
-  module _ (s : ℕ) (cause : Cause) (over : told → new.halted ≡ false → IsAtEnd s new → HasNothingLeft o (place o (map event_of new.events)) s) where
-    died-not : new ≡ old → IsAtEnd s old → DeathOf sessions s (board_of told o old) (board_of told o new)
+  module _ (s : ℕ) (first : 1 ≤ s) (cause : Cause) (over : told → new.halted ≡ false → IsAtEnd o.stops s new → HasNothingLeft o (place o (map event_of new.events)) s) where
+    died-not : new ≡ old → IsAtEnd o.stops s old → DeathOf sessions s (board_of told o old) (board_of told o new)
     died-not same end = record {
       more = [];
       goes = same-goes same;
       of_s = tt;
       none = refl;
-      rests_now = λ given on. rests-now o new.events s (inr (over given on (subst (λ (c : Sessions). IsAtEnd s c) (sym same) end)));
+      rests_now = λ given on. rests-now o new.events s (inr (over given on (subst (λ (c : Sessions). IsAtEnd o.stops s c) (sym same) end)));
       less = inr (subst (λ (c : Sessions). IsQuiet s (board_of told o old) (board_of told o c)) (sym same) (quiet s (board_of told o old)));
       awake = awake-now;
     }
@@ -89,13 +89,13 @@ module _ (told : Type 0) (o : Opening) (sessions : ℕ) (old new : Sessions) (be
       awake = awake-now;
     }
 
-    died : IsDeath s cause old new → DeathOf sessions s (board_of told o old) (board_of told o new)
+    died : IsDeath o.stops s cause old new → DeathOf sessions s (board_of told o old) (board_of told o new)
     died d = record {
       more = Does s ∷ [];
       goes = record {
         marks = marks-grown old.events new.events (Died s cause ∷ []) d.grown;
         rests = λ n t within rests given on. rests-grown o old.events new.events (Died s cause ∷ []) d.grown n t within (rests given d.going);
-        ended = ended-beside old.members new.members (s - 1) d.before (with_life Dead d.before) d.found (unfinished d.before d.unfinished) d.is;
+        ended = ended-beside o.stops old.members new.members (s - 1) d.before (with_life Dead d.before) d.found (unfinished-at o.stops s d.before first d.unfinished) d.is;
       };
       of_s = (refl, tt);
       none = refl;
@@ -104,11 +104,11 @@ module _ (told : Type 0) (o : Opening) (sessions : ℕ) (old new : Sessions) (be
         found = subst (λ (ms : List Member). slice_get ms (s - 1) ≡ Some (with_life Dead d.before)) (sym d.is) (set-here old.members (s - 1) (with_life Dead d.before) d.before d.found);
         over = refl;
       })));
-      less = inl (fewer-lives old new before bound d.going (inr (fewer-behind s cause old new d)));
+      less = inl (fewer-lives old new before bound d.going (inr (fewer-behind o.stops s cause old new d)));
       awake = awake-now;
     }
 
-    pub dies : DeathCame s cause old new → DeathOf sessions s (board_of told o old) (board_of told o new)
+    pub dies : DeathCame o.stops s cause old new → DeathOf sessions s (board_of told o old) (board_of told o new)
     dies (inl h) = died-not h.0 h.1
     dies (inr (inl h)) = died-by-halt h
     dies (inr (inr d)) = died d
@@ -135,7 +135,7 @@ module _ (told : Type 0) (o : Opening) (sessions : ℕ) (old new : Sessions) (be
     goes = record {
       marks = marks-grown old.events new.events r.more r.grown;
       rests = λ n t within rests given on. rests-grown o old.events new.events r.more r.grown n t within (rests given going);
-      ended = ended-beside old.members new.members r.at r.before (with_life r.life r.before) r.found (dead-unfinished r.before r.died) r.is;
+      ended = ended-beside o.stops old.members new.members r.at r.before (with_life r.life r.before) r.found (dead-unfinished (o.stops (suc r.at)) r.before r.died) r.is;
     };
     nobodys = r.nobodys;
     tells = elim (gone-or-dead r r.life refl r.dead) [
@@ -193,10 +193,10 @@ pub not-true : (b : Bool) → not b ≡ true → b ≡ false
 not-true true h = absurd (false≢true h)
 not-true false h = refl
 
-pub all-ended : (told : Type 0) (o : Opening) (c : Sessions) (sessions : ℕ) → length c.members ≡ sessions → AllEnded sessions (board_of told o c) → HaveEnded c.members
+pub all-ended : (told : Type 0) (o : Opening) (c : Sessions) (sessions : ℕ) → length c.members ≡ sessions → AllEnded sessions (board_of told o c) → HaveEnded o.stops c.members
 all-ended told o c sessions count ended i m found =
     let k = got-within c.members i m found in
-    let e = and_parts (is_over m m.life) (not (is_dead m)) (ap has_ended (sym found) ∙ ended (suc i) (omega arith) (subst (λ (n : ℕ). suc i ≤ n) count k)) in
+    let e = and_parts (is_over (o.stops (suc i)) m m.life) (not (is_dead m)) (ap (has_ended (o.stops (suc i))) (sym found) ∙ ended (suc i) (omega arith) (subst (λ (n : ℕ). suc i ≤ n) count k)) in
     (e.0, not-true (is_dead m) e.1)
 
 -- ---- who may die

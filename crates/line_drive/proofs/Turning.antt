@@ -3,7 +3,6 @@ use Rattle.std.proofs.Common.{◌≡◌, ◌≤◌, ◌<◌, ◌-◌, nat_lt, if
 use Rattle.std.proofs.lemmas.Bool.{false≢true}
 use Rattle.std.proofs.lemmas.Option.{same_Some}
 use Rattle.rdb_account.specs.declared.event.Event.{Event as Declared}
-use Rattle.rdb_types.specs.declared.session.Cause.TheVariants.{Device}
 use Rattle.rdb_account.specs.Events.{Event, Died, event_of}
 use Rattle.rdb_account.specs.Places.{Opening, place}
 use Rattle.rdb_drive.specs.Boards.{AtMost, Below, Board, Does, IsSession, Less}
@@ -25,7 +24,7 @@ use Rattle.line_cluster.specs.Going.{is_dead, is_over}
 use Rattle.stage_steps.specs.Nearer.{is_patient_at}
 use Rattle.line_cluster.specs.Measured.{IsBounded}
 use Rattle.line_cluster.specs.Turned.{Sessions, GoesFurther, Came, HasFallen, HasNothingLeft, IsAnother, Rests, IsAtEnd, mark_of}
-use Rattle.line_cluster.proofs.Stepping.{work-alive}
+use Rattle.line_cluster.proofs.Stepping.{has-work, work-alive}
 use Rattle.line_drive.specs.Boards.{board_of, has_ended, is_asleep, is_mourning, lives_in, lives_left, marks_of, steps_to_go, RestsAt, RestsBehind}
 use Rattle.line_drive.specs.Turns.{step_for}
 use Rattle.line_drive.proofs.Awake.{awake, undead}
@@ -40,25 +39,32 @@ at-number ms (suc i) first = ap (λ (n : ℕ). slice_get ms n) (minus-one i)
     minus-one : (i : ℕ) → i ≡ suc i - 1
     minus-one i = omega arith
 
-ended-stays : (ms : List Member) (i : ℕ) (m n : Member) → slice_get ms i ≡ Some m → has_ended (Some m) ≡ false → (j : ℕ) → has_ended (slice_get ms j) ≡ true → has_ended (slice_get (slice_set ms i n) j) ≡ true
-ended-stays [] i m n got going j h = h
-ended-stays (x ∷ xs) zero m n got going zero h = absurd (false≢true (sym going ∙ subst (λ (y : Member). has_ended (Some y) ≡ true) (same_Some x m got) h))
-ended-stays (x ∷ xs) zero m n got going (suc j) h = h
-ended-stays (x ∷ xs) (suc i) m n got going zero h = h
-ended-stays (x ∷ xs) (suc i) m n got going (suc j) h = ended-stays xs i m n got going j h
+ended-stays : (stops : ℕ → Bool) (ms : List Member) (i : ℕ) (m n : Member) → slice_get ms i ≡ Some m → has_ended (stops i) (Some m) ≡ false → (j : ℕ) → has_ended (stops j) (slice_get ms j) ≡ true → has_ended (stops j) (slice_get (slice_set ms i n) j) ≡ true
+ended-stays stops [] i m n got going j h = h
+ended-stays stops (x ∷ xs) zero m n got going zero h = absurd (false≢true (sym going ∙ subst (λ (y : Member). has_ended (stops zero) (Some y) ≡ true) (same_Some x m got) h))
+ended-stays stops (x ∷ xs) zero m n got going (suc j) h = h
+ended-stays stops (x ∷ xs) (suc i) m n got going zero h = h
+ended-stays stops (x ∷ xs) (suc i) m n got going (suc j) h = ended-stays (λ (k : ℕ). stops (suc k)) xs i m n got going j h
 
 -- who hasn't ended is another, and who has ended has so
-pub ended-beside : (old new : List Member) (i : ℕ) (m n : Member) → slice_get old i ≡ Some m → has_ended (Some m) ≡ false → new ≡ slice_set old i n → (t : ℕ) → has_ended (member_at old t) ≡ true → has_ended (member_at new t) ≡ true
-ended-beside old new i m n got going is zero h = refl
-ended-beside old new i m n got going is (suc j) h = subst (λ (ms : List Member). has_ended (slice_get ms j) ≡ true) (sym is) (ended-stays old i m n got going j h)
+pub ended-beside : (stops : ℕ → Bool) (old new : List Member) (i : ℕ) (m n : Member) → slice_get old i ≡ Some m → has_ended (stops (suc i)) (Some m) ≡ false → new ≡ slice_set old i n → (t : ℕ) → has_ended (stops t) (member_at old t) ≡ true → has_ended (stops t) (member_at new t) ≡ true
+ended-beside stops old new i m n got going is zero h = refl
+ended-beside stops old new i m n got going is (suc j) h = subst (λ (ms : List Member). has_ended (stops (suc j)) (slice_get ms j) ≡ true) (sym is) (ended-stays (λ (k : ℕ). stops (suc k)) old i m n got going j h)
 
-pub unfinished : (m : Member) → is_over m m.life ≡ false → has_ended (Some m) ≡ false
-unfinished m h = ap (λ (b : Bool). b && not (is_dead m)) h
+pub unfinished : (stops : Bool) (m : Member) → is_over stops m m.life ≡ false → has_ended stops (Some m) ≡ false
+unfinished stops m h = ap (λ (b : Bool). b && not (is_dead m)) h
 
-ended-on : (s : ℕ) (old new : Sessions) → GoesFurther s old new → (t : ℕ) → has_ended (member_at old.members t) ≡ true → has_ended (member_at new.members t) ≡ true
-ended-on s old new g t h = elim g.members [
-  | inl same ↦ subst (λ (ms : List Member). has_ended (member_at ms t) ≡ true) (sym same) h
-  | inr a ↦ ended-beside old.members new.members (s - 1) a.before a.behind a.found (unfinished a.before a.going) a.is t h
+suc-minus : (s : ℕ) → 1 ≤ s → s ≡ suc (s - 1)
+suc-minus s h = omega arith
+
+-- by its number
+pub unfinished-at : (stops : ℕ → Bool) (s : ℕ) (m : Member) → 1 ≤ s → is_over (stops s) m m.life ≡ false → has_ended (stops (suc (s - 1))) (Some m) ≡ false
+unfinished-at stops s m first h = subst (λ (t : ℕ). has_ended (stops t) (Some m) ≡ false) (suc-minus s first) (unfinished (stops s) m h)
+
+ended-on : (stops : ℕ → Bool) (s : ℕ) (old new : Sessions) → 1 ≤ s → GoesFurther stops s old new → (t : ℕ) → has_ended (stops t) (member_at old.members t) ≡ true → has_ended (stops t) (member_at new.members t) ≡ true
+ended-on stops s old new first g t h = elim g.members [
+  | inl same ↦ subst (λ (ms : List Member). has_ended (stops t) (member_at ms t) ≡ true) (sym same) h
+  | inr a ↦ ended-beside stops old.members new.members (s - 1) a.before a.behind a.found (unfinished-at stops s a.before first a.going) a.is t h
 ]
 
 -- ---- how much may still come
@@ -93,23 +99,23 @@ nearer-lives old new before bound going same less = by new.halted refl
     )
 
 -- a turn leaves as many
-same-lives : (s : ℕ) (old new : List Member) → (new ≡ old) ⊎ IsAnother s old new → lives_in new ≡ lives_in old
-same-lives s old new (inl same) = ap lives_in same
-same-lives s old new (inr a) =
+same-lives : (stops : ℕ → Bool) (s : ℕ) (old new : List Member) → (new ≡ old) ⊎ IsAnother stops s old new → lives_in new ≡ lives_in old
+same-lives stops s old new (inl same) = ap lives_in same
+same-lives stops s old new (inr a) =
     let e = lives-moved old (s - 1) a.before a.behind a.found in
     let f = ap steps_to_go a.lives in
     let g = ap lives_in a.is in
     omega (arith, e, f, g)
 
 -- a session that has something left to do lives
-pub two-steps : (m : Member) → is_over m m.life ≡ false → steps_to_go m.life ≡ 2
-two-steps m h = ap steps_to_go (work-alive m h)
+pub two-steps : (stops : Bool) (m : Member) → is_over stops m m.life ≡ false → steps_to_go m.life ≡ 2
+two-steps stops m h = ap steps_to_go (work-alive stops m h)
 
 -- and one fewer lives where it dies
-fewer-fallen : (s : ℕ) (old new : Sessions) → HasFallen s old new → lives_in new.members < lives_in old.members
-fewer-fallen s old new d =
+fewer-fallen : (stops : ℕ → Bool) (s : ℕ) (old new : Sessions) → HasFallen stops s old new → lives_in new.members < lives_in old.members
+fewer-fallen stops s old new d =
     let e = lives-moved old.members (s - 1) d.before d.behind d.found in
-    let f = two-steps d.before d.going in
+    let f = two-steps (stops s) d.before d.going in
     let g = ap lives_in d.is in
     let h = ap steps_to_go d.died in
     omega (arith, e, f, g, h)
@@ -122,8 +128,8 @@ patient-at m Closing h = absurd (false≢true h)
 patient-at m (Reading r) h = absurd (false≢true h)
 patient-at m Over h = absurd (false≢true h)
 
-patient-going : (m : Member) → m.life ≡ Alive → is_patient_at m.phase ≡ true → is_over m m.life ≡ false
-patient-going m lives h = subst (λ (l : Life). is_over m l ≡ false) (sym lives) (patient-at m m.phase h)
+patient-going : (stops : Bool) (m : Member) → m.life ≡ Alive → is_patient_at m.phase ≡ true → is_over stops m m.life ≡ false
+patient-going stops m lives h = has-work stops m lives (patient-at m m.phase h)
 
 -- ---- steps
 
@@ -134,11 +140,11 @@ rests-grown o old new more grown n t within rests =
 pub rests-now : (o : Opening) (events : List Declared) (s : ℕ) → RestsAt o (place o (map event_of events)) s → RestsBehind o events (length (marks_of events)) s
 rests-now o events s h = rw (length-marks events) (rw (take-all (map event_of events)) h)
 
-goes : (told : Type 0) (o : Opening) (s : ℕ) (old new : Sessions) → old.halted ≡ false → (g : GoesFurther s old new) → Goes (board_of told o old) (board_of told o new) (map mark_of g.events.more)
-goes told o s old new going g = record {
+goes : (told : Type 0) (o : Opening) (s : ℕ) (old new : Sessions) → 1 ≤ s → old.halted ≡ false → (g : GoesFurther o.stops s old new) → Goes (board_of told o old) (board_of told o new) (map mark_of g.events.more)
+goes told o s old new first going g = record {
   marks = marks-grown old.events new.events g.events.more g.events.grown;
   rests = λ n t within rests given on. rests-grown o old.events new.events g.events.more g.events.grown n t within (rests given going);
-  ended = ended-on s old new g;
+  ended = ended-on o.stops s old new first g;
 }
 
 pub append-none : {A : Type 0} (xs : List A) → xs ++ [] ≡ xs
@@ -156,33 +162,33 @@ module _ (told : Type 0) (o : Opening) (sessions s : ℕ) (old new : Sessions) (
   awake-then : IsAwake sessions (board_of told o new)
   awake-then = awake told o new sessions seated whole count
 
-  pub moved : Came s old new turn.Moved → Less new.measure old.measure → StepOf {P = Unit {0}} sessions s (board_of told o old) (board_of told o new) step.Moved
+  pub moved : Came o.stops s old new turn.Moved → Less new.measure old.measure → StepOf {P = Unit {0}} sessions s (board_of told o old) (board_of told o new) step.Moved
   moved g less = record {
     more = map mark_of g.events.more;
-    goes = goes told o s old new going g;
+    goes = goes told o s old new session.0 going g;
     of_s = g.events.of_s;
-    tells = (nearer-lives old new before bound going (same-lives s old.members new.members g.members) less, g.events.one);
+    tells = (nearer-lives old new before bound going (same-lives o.stops s old.members new.members g.members) less, g.events.one);
     awake = awake-then;
   }
 
-  -- a device call failed in its step
-  pub fell : Came s old new turn.Died → StepOf {P = Unit {0}} sessions s (board_of told o old) (board_of told o new) step.Moved
+  -- it died in its turn
+  pub fell : Came o.stops s old new turn.Died → StepOf {P = Unit {0}} sessions s (board_of told o old) (board_of told o new) step.Moved
   fell d = record {
     more = Does s ∷ [];
     goes = record {
-      marks = marks-grown old.events new.events (Died s Device ∷ []) d.grown;
-      rests = λ n t within rests given on. rests-grown o old.events new.events (Died s Device ∷ []) d.grown n t within (rests given going);
-      ended = ended-beside old.members new.members (s - 1) d.before d.behind d.found (unfinished d.before d.going) d.is;
+      marks = marks-grown old.events new.events (Died s d.cause ∷ []) d.grown;
+      rests = λ n t within rests given on. rests-grown o old.events new.events (Died s d.cause ∷ []) d.grown n t within (rests given going);
+      ended = ended-beside o.stops old.members new.members (s - 1) d.before d.behind d.found (unfinished-at o.stops s d.before session.0 d.going) d.is;
     };
     of_s = (refl, tt);
-    tells = (fewer-lives old new before bound going (inr (fewer-fallen s old new d)), omega arith);
+    tells = (fewer-lives old new before bound going (inr (fewer-fallen o.stops s old new d)), omega arith);
     awake = awake-then;
   }
 
-  pub stopped : Came s old new turn.Stopped → StepOf {P = Unit {0}} sessions s (board_of told o old) (board_of told o new) step.Stopped
+  pub stopped : Came o.stops s old new turn.Stopped → StepOf {P = Unit {0}} sessions s (board_of told o old) (board_of told o new) step.Stopped
   stopped h = record {
     more = map mark_of h.1.events.more;
-    goes = goes told o s old new going h.1;
+    goes = goes told o s old new session.0 going h.1;
     of_s = h.1.events.of_s;
     tells = (h.0, inr (fewer-lives old new before bound going (inl h.0)));
     awake = awake-then;
@@ -196,7 +202,7 @@ module _ (told : Type 0) (o : Opening) (sessions s : ℕ) (old new : Sessions) (
   same-quiet : new ≡ old → IsQuiet s (board_of told o old) (board_of told o new)
   same-quiet same = subst (λ (c : Sessions). IsQuiet s (board_of told o old) (board_of told o c)) (sym same) (quiet s (board_of told o old))
 
-  pub slept : (t : Session) → (h : Came s old new (turn.Asleep t)) → (told → Rests o s old (turn.Asleep t)) → StepOf {P = Unit {0}} sessions s (board_of told o old) (board_of told o new) step.Asleep
+  pub slept : (t : Session) → (h : Came o.stops s old new (turn.Asleep t)) → (told → Rests o s old (turn.Asleep t)) → StepOf {P = Unit {0}} sessions s (board_of told o old) (board_of told o new) step.Asleep
   slept t h rests = record {
     more = [];
     goes = same-goes h.0;
@@ -204,7 +210,8 @@ module _ (told : Type 0) (o : Opening) (sessions s : ℕ) (old new : Sessions) (
     tells = (
       (λ given on. subst (λ (c : Sessions). RestsBehind o c.events (length (marks_of c.events)) s) (sym h.0) (rests-now o old.events s (inl (t.number, rests given)))),
       subst (λ (c : Sessions). (not (c.halted || is_mourning c) && is_asleep c s) ≡ true) (sym h.0) asleep-now,
-      subst (λ (c : Sessions). has_ended (member_at c.members s) ≡ false) (sym h.0) (ap has_ended (at-number old.members s session.0 ∙ h.1.found) ∙ unfinished h.1.member (patient-going h.1.member h.1.lives h.1.patient)),
+      subst (λ (c : Sessions). has_ended (o.stops s) (member_at c.members s) ≡ false) (sym h.0)
+          (ap (has_ended (o.stops s)) (at-number old.members s session.0 ∙ h.1.found) ∙ unfinished (o.stops s) h.1.member (patient-going (o.stops s) h.1.member h.1.lives h.1.patient)),
       same-quiet h.0,
       refl,
     );
@@ -214,22 +221,22 @@ module _ (told : Type 0) (o : Opening) (sessions s : ℕ) (old new : Sessions) (
       asleep-now : (not (old.halted || is_mourning old) && is_asleep old s) ≡ true
       asleep-now = rw h.1.going (rw h.1.mourns_none (rw (at-number old.members s session.0 ∙ h.1.found) (rw h.1.patient (rw h.1.blocked.is_open h.1.blocked.sleeps.sleeps))))
 
-  pub at-end : (h : Came s old new turn.Ended) → (told → new.halted ≡ false → IsAtEnd s new → HasNothingLeft o (place o (map event_of new.events)) s) →
+  pub at-end : (h : Came o.stops s old new turn.Ended) → (told → new.halted ≡ false → IsAtEnd o.stops s new → HasNothingLeft o (place o (map event_of new.events)) s) →
       StepOf {P = Unit {0}} sessions s (board_of told o old) (board_of told o new) step.Ended
   at-end h rests = record {
     more = [];
     goes = same-goes h.0;
     of_s = tt;
     tells = (
-      (λ given on. rests-now o new.events s (inr (rests given on (subst (λ (c : Sessions). IsAtEnd s c) (sym h.0) h.1)))),
-      ap has_ended (at-number old.members s session.0 ∙ h.1.found) ∙ (ap (λ (b : Bool). b && not (is_dead h.1.member)) h.1.over ∙ ap not (undead old.members (s - 1) h.1.member h.2 h.1.found)),
+      (λ given on. rests-now o new.events s (inr (rests given on (subst (λ (c : Sessions). IsAtEnd o.stops s c) (sym h.0) h.1)))),
+      ap (has_ended (o.stops s)) (at-number old.members s session.0 ∙ h.1.found) ∙ (ap (λ (b : Bool). b && not (is_dead h.1.member)) h.1.over ∙ ap not (undead old.members (s - 1) h.1.member h.2 h.1.found)),
       same-quiet h.0,
       refl,
     );
     awake = awake-then;
   }
 
-  pub froze : (h : Came s old new turn.Frozen) → StepOf {P = Unit {0}} sessions s (board_of told o old) (board_of told o new) step.Frozen
+  pub froze : (h : Came o.stops s old new turn.Frozen) → StepOf {P = Unit {0}} sessions s (board_of told o old) (board_of told o new) step.Frozen
   froze h = record {
     more = [];
     goes = same-goes h.0;
@@ -238,8 +245,8 @@ module _ (told : Type 0) (o : Opening) (sessions s : ℕ) (old new : Sessions) (
     awake = awake-then;
   }
 
-  pub turned : (t : Turn) → Came s old new t → (t ≡ turn.Moved → Less new.measure old.measure) → (told → Rests o s old t) →
-      (told → new.halted ≡ false → IsAtEnd s new → HasNothingLeft o (place o (map event_of new.events)) s) → StepOf {P = Unit {0}} sessions s (board_of told o old) (board_of told o new) (step_for t)
+  pub turned : (t : Turn) → Came o.stops s old new t → (t ≡ turn.Moved → Less new.measure old.measure) → (told → Rests o s old t) →
+      (told → new.halted ≡ false → IsAtEnd o.stops s new → HasNothingLeft o (place o (map event_of new.events)) s) → StepOf {P = Unit {0}} sessions s (board_of told o old) (board_of told o new) (step_for t)
   turned turn.Moved came nearer rests over = moved came (nearer refl)
   turned (turn.Asleep t) came nearer rests over = slept t came rests
   turned turn.Died came nearer rests over = fell came

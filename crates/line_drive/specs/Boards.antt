@@ -27,10 +27,10 @@ RestsAt o p s = ((t : ℕ) × SleepsFor o p s t) ⊎ HasNothingLeft o p s
 abbrev pub RestsBehind : Opening → List Declared → ℕ → ℕ → Type 0
 RestsBehind o events n s = RestsAt o (place o (take n (map event_of events))) s
 
--- who died has ended once it is recovered
-abbrev pub has_ended : Option Member → Bool
-has_ended None = true
-has_ended (Some m) = is_over m m.life && not (is_dead m)
+-- who died has ended once it is recovered, and whose script ends in a stop not before
+abbrev pub has_ended : (stops : Bool) → Option Member → Bool
+has_ended stops None = true
+has_ended stops (Some m) = is_over stops m m.life && not (is_dead m)
 
 abbrev pub is_patient : Option Member → Bool
 is_patient None = false
@@ -64,7 +64,7 @@ board_of told o c = record {
   marks = marks_of c.events;
   rests = λ n s. told → c.halted ≡ false → RestsBehind o c.events n s;
   asleep = λ s. not (c.halted || is_mourning c) && is_asleep c s;
-  ended = λ s. has_ended (member_at c.members s);
+  ended = λ s. has_ended (o.stops s) (member_at c.members s);
   mourns = is_mourning c;
   stopped = c.halted;
 }

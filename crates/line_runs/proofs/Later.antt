@@ -20,6 +20,7 @@ module _ (M : Model) (v : View) (t : IsTrue v.tells) (o : Opening) (lines : Line
   later = record {
     word = o.word;
     script = o.script;
+    stops = o.stops;
     tables = now.tables;
     limits = record { pages = root.limits.pages; snapshots = root.limits.snaps; entries = root.limits.entries; slots = root.limits.slots };
     has_owner = λ file page. is_taken_in v.content root.limits.pages file page;

@@ -1,6 +1,5 @@
 -- What an account opens with, of the image from which its store was opened.
-use Rattle.std.specs.Prelude.{ℕ, zero, suc, ◌≤◌, ◌≡◌, true, List, [], map, length, IsTrue, Option, Some, None, slice_get}
-use Rattle.rdo_ast.specs.declared.syntax.Item.{Item}
+use Rattle.std.specs.Prelude.{ℕ, zero, suc, ◌≤◌, ◌≡◌, Bool, true, false, List, [], map, length, IsTrue, Option, Some, None, slice_get}
 use Rattle.rdo_ast.specs.Tree.{Uttered}
 use Rattle.rdo_ast.specs.Views.{uttered_of}
 use Rattle.rdb_outside.specs.Disk.{Image, View}
@@ -13,6 +12,7 @@ use Rattle.stable_lines.specs.Kept.{Kept}
 use Rattle.line_moves.specs.Classes.{IsClassed}
 use Rattle.rdb_account.specs.Places.{Opening}
 use Rattle.session_jobs.specs.Records.{Model}
+use Rattle.session_states.specs.declared.item_queue.WholeScript.{WholeScript}
 use Rattle.store_counts.specs.Counts.{AreLimits}
 use Rattle.opened_store.specs.Opened.{is_taken_in, AreUsedUp}
 
@@ -44,20 +44,29 @@ HasNoNumbers v =
 
 -- ---- the scripts of a run
 
-abbrev pub uttered_in : Option (List Item) → List Uttered
-uttered_in (Some items) = map uttered_of items
+abbrev pub uttered_in : Option WholeScript → List Uttered
+uttered_in (Some x) = map uttered_of x.items
 uttered_in None = []
 
+abbrev pub stops_in : Option WholeScript → Bool
+stops_in (Some x) = x.stops
+stops_in None = false
+
 -- sessions are counted from 1
-abbrev pub script_of : List (List Item) → ℕ → List Uttered
+abbrev pub script_of : List WholeScript → ℕ → List Uttered
 script_of scripts zero = []
 script_of scripts (suc i) = uttered_in (slice_get scripts i)
 
+abbrev pub stop_of : List WholeScript → ℕ → Bool
+stop_of scripts zero = false
+stop_of scripts (suc i) = stops_in (slice_get scripts i)
+
 -- what an account opens with, where these scripts are said to the database of this word
-abbrev pub said_to : Opening → List ℕ → List (List Item) → Opening
+abbrev pub said_to : Opening → List ℕ → List WholeScript → Opening
 said_to o word scripts = record {
   word = word;
   script = script_of scripts;
+  stops = stop_of scripts;
   tables = o.tables;
   limits = o.limits;
   has_owner = o.has_owner;

@@ -29,7 +29,7 @@ use rdb_outside::Disk;
 use rdb_types::{Items, Word};
 use rdo_reserving::ReservingStatements;
 use session_jobs::Statements;
-use session_states::ItemQueue;
+use session_states::WholeScript;
 use std::alloc::Global;
 use std::marker::Send;
 use std::sync::Wait;
@@ -39,7 +39,7 @@ use std::thread::Threads;
 #[derive(Drop)]
 pub struct Said {
     pub word: Word,
-    pub scripts: Vec<ItemQueue>,
+    pub scripts: Vec<WholeScript>,
 }
 
 /// A database that couldn't be opened, with its disk.
@@ -70,7 +70,7 @@ fn begin<O: Origin, D: Disk + Drop>(
 ) -> Result<Sessions<O, D>, Unopened<D>>
     requires sessions { length said.scripts.items ≡ O.sessions }
     requires few { O.sessions ≤ 16 }
-    requires short { All (λ items. length items < 2 ^ 32) said.scripts.items }
+    requires short { All (λ script. length script.items < 2 ^ 32) said.scripts.items }
     requires scripts { FollowsScripts O.opening said.scripts.items }
     requires mortal { MayFail O.opening }
     requires word { said.word ≡ O.opening.word }
@@ -142,7 +142,7 @@ pub fn say_in_order<O: Origin, D: Disk + Drop, G: Gate>(
 ) -> LineRun<D>
     requires sessions { length said.scripts.items ≡ O.sessions }
     requires few { O.sessions ≤ 16 }
-    requires short { All (λ items. length items < 2 ^ 32) said.scripts.items }
+    requires short { All (λ script. length script.items < 2 ^ 32) said.scripts.items }
     requires scripts { FollowsScripts O.opening said.scripts.items }
     requires mortal { MayFail O.opening }
     requires entries { All (λ s. IsSession O.sessions s) order.now }
@@ -176,7 +176,7 @@ pub fn say_in_threads<
 >(rt: &R, alloc: Global, disk: D, said: Said, gate: &G) -> LineRun<D>
     requires sessions { length said.scripts.items ≡ O.sessions }
     requires few { O.sessions ≤ 16 }
-    requires short { All (λ items. length items < 2 ^ 32) said.scripts.items }
+    requires short { All (λ script. length script.items < 2 ^ 32) said.scripts.items }
     requires scripts { FollowsScripts O.opening said.scripts.items }
     requires mortal { MayFail O.opening }
     requires word { said.word ≡ O.opening.word }

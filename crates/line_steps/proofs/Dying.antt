@@ -7,7 +7,7 @@ use Rattle.line_view.specs.Writes.{laid_all}
 use Rattle.rdb_account.specs.Events.{Died, Recovered}
 use Rattle.rdb_account.specs.Places.{Opening, Place, Transaction, dead, gone, at, after, is_writer, retold, asks_of_others}
 use Rattle.rdb_account.specs.Lawful.{got_of}
-use Rattle.rdb_account.specs.Legal.{has_not_died, is_stop}
+use Rattle.rdb_account.specs.Legal.{has_not_died, may_die_of}
 use Rattle.kept_apart.specs.Guards.{AreOwn}
 use Rattle.kept_apart.proofs.Alike.{alike-refl, alike-others, laid-all-in-order}
 use Rattle.session_jobs.specs.Records.{Model, IsOrderly}
@@ -27,7 +27,7 @@ module _ (M : Model) (orderly : IsOrderly M) where
 
   -- It stands where it stood, and nothing of the others changes.
   pub dies : (o : Opening) (p : Place) (g : Ground) (s : ℕ) (left : List Uttered) (state : State) (total : ℕ) (c : Cause) → (h : Found M o p g s (member left state total)) →
-      has_not_died (life_of state) ≡ true → (o.may_die s c && not (is_stop c)) ≡ true → Steps M o p g s (member left (fallen state) total) (with_dead (g.dead + 1) g) (Died s c ∷ [])
+      has_not_died (life_of state) ≡ true → may_die_of o p s c ≡ true → Steps M o p g s (member left (fallen state) total) (with_dead (g.dead + 1) g) (Died s c ∷ [])
   dies o p g s left state total c h lives allowed = record {
     may = ((rw h.free (rw h.stands.lives lives), allowed), tt);
     own = (refl, tt);

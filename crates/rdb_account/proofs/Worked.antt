@@ -190,6 +190,7 @@ abbrev pub beside : (ℕ → List Uttered) → Tables → Opening
 beside script tables = record {
   word = codes "PERS";
   script = script;
+  stops = λ s. false;
   tables = tables;
   limits = record { pages = 65536; snapshots = 65536; entries = 65535; slots = 262144 };
   has_owner = λ file page. false;

@@ -100,9 +100,12 @@ abbrev pub is_at_end : Option Uttered → Bool
 is_at_end (Some item) = false
 is_at_end None = true
 
-abbrev pub is_stop : Cause → Bool
-is_stop cause.Stop = true
-is_stop _ = false
+-- s may die of this: of a stop where its script has come to one, of another cause where it is let
+abbrev pub may_die_of : Opening → Place → ℕ → Cause → Bool
+may_die_of o p s cause.Device = o.may_die s cause.Device
+may_die_of o p s cause.Gate = o.may_die s cause.Gate
+may_die_of o p s cause.Stop = o.stops s && is_at_end (next_item o p s)
+may_die_of o p s cause.Memory = o.may_die s cause.Memory
 
 abbrev pub MaySay : Due → Opening → Place → ℕ → Line → Type 0
 MaySay nothing o p s l =
@@ -152,7 +155,7 @@ May o p (Said s item choices reply) =
     (next_item o p s ≡ Some item) × MaySay p.due o p s (record { item = item; choices = choices; reply = reply })
 May o p (Committed s moment) = (is_ready p s ≡ true) × (p.moment ≤ moment) × MayCommitBy o p s (p.transaction s)
 May o p (RolledBack s) = MayRollBack p.due o p s
-May o p (Died s c) = ((is_free p.due && has_not_died (p.life s)) ≡ true) × ((o.may_die s c && not (is_stop c)) ≡ true)
+May o p (Died s c) = ((is_free p.due && has_not_died (p.life s)) ≡ true) × (may_die_of o p s c ≡ true)
 May o p (Recovered s committed moment) =
     ((is_free p.due && is_dead (p.life s)) ≡ true) × (p.moment ≤ moment) × MayRecover committed o p s (p.transaction s)
 
@@ -166,8 +169,8 @@ pub record IsLegal (o : Opening) (events : List Event) : Type 0 where
   pub steps : MayFollow o (start o) events
   pub settled : is_free (place o events).due ≡ true
 
--- These sessions live, have said their scripts to their ends, and have no transaction open.
+-- These sessions live, have said their scripts to their ends, at which no stop stands, and have no transaction open.
 abbrev pub AreWhole : (ℕ → Bool) → Opening → List Event → Type 0
 AreWhole ended o events =
     (s : ℕ) → ended s ≡ true →
-    (has_not_died ((place o events).life s) ≡ true) × ((place o events).said s ≡ length (o.script s)) × ((place o events).transaction s ≡ None)
+    (has_not_died ((place o events).life s) ≡ true) × ((place o events).said s ≡ length (o.script s)) × ((place o events).transaction s ≡ None) × (o.stops s ≡ false)

@@ -30,17 +30,18 @@ pub record Limits : Type 0 where
   pub entries : ℕ
   pub slots : ℕ
 
--- The database's word, the items of each session's script, the tables at the opening, and what is asked of the opening image:
+-- The database's word, the items of each session's script, whether it ends in a stop behind them, the tables at the opening, and what is asked of the opening image:
 -- which pages of an area file have an owner, and how many slots the journal's groups take.
 pub record Opening : Type 0 where
   pub word : List ℕ
   pub script : ℕ → List Uttered
+  pub stops : ℕ → Bool
   pub tables : Tables
   pub limits : Limits
   pub has_owner : (file page : ℕ) → Bool
   pub group_slots : ℕ
   pub moment : ℕ
-  -- which sessions may die of which cause
+  -- which sessions may die of which cause, a stop aside
   pub may_die : ℕ → Cause → Bool
 
 -- ---- the items of a transaction told again, from tables

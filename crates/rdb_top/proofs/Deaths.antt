@@ -4,12 +4,12 @@ use Rattle.std.proofs.lemmas.Bool.Decides.{nat_tests}
 use Rattle.std.proofs.lemmas.List.Elements.{All-contains, All-contains_itself, All-filter, Contains-append_cases, Contains-append_left, Contains-append_right, Contains-push, Contains-push_cases, filter_passes}
 use Rattle.std.specs.List.{Contains, filter}
 use Rattle.rdb_types.specs.declared.session.Cause.TheVariants.{Device, Gate}
-use Rattle.rdo_ast.specs.declared.syntax.Item.{Item}
 use Rattle.rdb_account.specs.Places.{Opening}
 use Rattle.rdb_drive.specs.Boards.{MayDie}
 use Rattle.rdb_drive.specs.Orders.{upward}
 use Rattle.line_cluster.specs.Sound.{MayFail}
 use Rattle.line_drive.specs.Boards.{mortals_of}
+use Rattle.session_states.specs.declared.item_queue.WholeScript.{WholeScript}
 use Rattle.line_runs.specs.Openings.{said_to}
 use Rattle.command_words.specs.Words.{MayBeOf}
 use Rattle.command_words.specs.declared.deaths.Death.{Death}
@@ -71,7 +71,7 @@ named (Some death) o n s h c =
     (subst (λ (b : Bool). (o.may_die death.session Gate || b) ≡ true) (sym (same-number death.session)) (or-right (o.may_die death.session Gate))))
 
 -- Beside whom the gate lets die, it is one of the sessions that the words name.
-pub mortals : (death : Option Death) (gate : List ℕ) (o : Opening) (word : List ℕ) (scripts : List (List Item)) (n : ℕ) → MayBeOf n death → MayDie gate (mortals_of o n) →
+pub mortals : (death : Option Death) (gate : List ℕ) (o : Opening) (word : List ℕ) (scripts : List WholeScript) (n : ℕ) → MayBeOf n death → MayDie gate (mortals_of o n) →
     MayDie (sessions_dying death ++ gate) (mortals_of (said_to (letting death o) word scripts) n)
 mortals death gate o word scripts n h dies s c = elim (Contains-append_cases (sessions_dying death) gate s c) [
   | inl own ↦ named death o n s h own
@@ -82,7 +82,7 @@ mortals death gate o word scripts n h dies s c = elim (Contains-append_cases (se
       kept (λ t. o.may_die t Gate || is_let_die death t Gate) (upward 1 n) s one (more-may (o.may_die s Gate) (is_let_die death s Gate) lets)
 ]
 
-pub may-fail : (death : Option Death) (o : Opening) (word : List ℕ) (scripts : List (List Item)) → MayFail o → MayFail (said_to (letting death o) word scripts)
+pub may-fail : (death : Option Death) (o : Opening) (word : List ℕ) (scripts : List WholeScript) → MayFail o → MayFail (said_to (letting death o) word scripts)
 may-fail death o word scripts h s = more-may (o.may_die s Device) (is_let_die death s Device) (h s)
 
 -- Who may die of a gate may die of it beside whom the words name.

@@ -1,8 +1,7 @@
 -- One more script is read.
 use Rattle.std.proofs.Common.{◌≡◌, ◌≢◌, ◌≤◌, ◌<◌, ℕ, ◌+◌, ◌++◌, ◌∷◌, [], Bool, true, List, length, refl, ◌∙◌, sym, ap, arith, if◌then◌else◌, ◌⊎◌}
-use Rattle.rdo_ast.specs.declared.syntax.Item.{Item}
-use Rattle.rdo_parser.specs.Script.{script_items}
-use Rattle.rdb_top.specs.Runs.{scripts_of}
+use Rattle.session_states.specs.declared.item_queue.WholeScript.{WholeScript}
+use Rattle.rdb_top.specs.Runs.{scripts_of, whole_script}
 use Rattle.rdb_top.proofs.Upward.{scripts-more}
 
 length-more : {A : Type 0} (xs : List A) (y : A) → length (xs ++ y ∷ []) ≡ length xs + 1
@@ -15,9 +14,9 @@ pushed b new old x h e = h ∙ rw e refl
 pub grown-length : {A : Type 0} (new old : List A) (x : A) (n : ℕ) → new ≡ old ++ x ∷ [] → length old ≡ n → length new ≡ n + 1
 grown-length new old x n h e = ap length h ∙ (length-more old x ∙ ap (λ k. k + 1) e)
 
-pub grown-items : (left now : ℕ → List ℕ) (new old : List (List Item)) (x : List Item) (n : ℕ) → new ≡ old ++ x ∷ [] → old ≡ scripts_of left n → x ≡ script_items (now (n + 1)) → now (n + 1) ≡ left (n + 1) → new ≡ scripts_of left (n + 1)
-grown-items left now new old x n h e f g =
-    h ∙ (ap (λ xs. xs ++ x ∷ []) e ∙ (ap (λ y. scripts_of left n ++ y ∷ []) (f ∙ ap script_items g) ∙ sym (scripts-more left n)))
+pub grown-scripts : (left now : ℕ → List ℕ) (new old : List WholeScript) (x : WholeScript) (n : ℕ) → new ≡ old ++ x ∷ [] → old ≡ scripts_of left n → x ≡ whole_script (now (n + 1)) → now (n + 1) ≡ left (n + 1) → new ≡ scripts_of left (n + 1)
+grown-scripts left now new old x n h e f g =
+    h ∙ (ap (λ xs. xs ++ x ∷ []) e ∙ (ap (λ y. scripts_of left n ++ y ∷ []) (f ∙ ap whole_script g) ∙ sym (scripts-more left n)))
 
 pub behind-next : (n : ℕ) → n < n + 1
 behind-next n = omega arith

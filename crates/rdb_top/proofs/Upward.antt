@@ -6,8 +6,7 @@ use Rattle.std.specs.List.{flat_map}
 use Rattle.rdb_drive.specs.Orders.{upward}
 use Rattle.rdb_account.specs.declared.event.Event.{Event}
 use Rattle.rdb_account.specs.Transcript.{transcript}
-use Rattle.rdo_parser.specs.Script.{script_items}
-use Rattle.rdb_top.specs.Runs.{scripts_of, transcripts}
+use Rattle.rdb_top.specs.Runs.{scripts_of, transcripts, whole_script}
 
 next-one : (first n : ℕ) → first + 1 + n ≡ first + suc n
 next-one first n = omega arith
@@ -31,13 +30,13 @@ transcripts-more n events =
     ∙ (ap (λ ks. flat_map (λ s. transcript s events) ks) (upward-more 1 n ∙ ap (λ k. upward 1 n ++ k ∷ []) (one-behind n))
     ∙ (flat_map-append (λ s. transcript s events) (upward 1 n) ((n + 1) ∷ []) ∙ ap (λ bs. transcripts n events ++ bs) (append-nil (transcript (n + 1) events))))
 
-pub scripts-more : (left : ℕ → List ℕ) (n : ℕ) → scripts_of left (n + 1) ≡ scripts_of left n ++ script_items (left (n + 1)) ∷ []
+pub scripts-more : (left : ℕ → List ℕ) (n : ℕ) → scripts_of left (n + 1) ≡ scripts_of left n ++ whole_script (left (n + 1)) ∷ []
 scripts-more left n =
     ap (λ k. scripts_of left k) (plus-one n)
-    ∙ (ap (λ ks. map (λ s. script_items (left s)) ks) (upward-more 1 n ∙ ap (λ k. upward 1 n ++ k ∷ []) (one-behind n))
-    ∙ map-append (λ s. script_items (left s)) (upward 1 n) ((n + 1) ∷ []))
+    ∙ (ap (λ ks. map (λ s. whole_script (left s)) ks) (upward-more 1 n ∙ ap (λ k. upward 1 n ++ k ∷ []) (one-behind n))
+    ∙ map-append (λ s. whole_script (left s)) (upward 1 n) ((n + 1) ∷ []))
 
-scripts-from : (left : ℕ → List ℕ) (first n : ℕ) → length (map (λ s. script_items (left s)) (upward first n)) ≡ n
+scripts-from : (left : ℕ → List ℕ) (first n : ℕ) → length (map (λ s. whole_script (left s)) (upward first n)) ≡ n
 scripts-from left first zero = refl
 scripts-from left first (suc n) = ap suc (scripts-from left (first + 1) n)
 

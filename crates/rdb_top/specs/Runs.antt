@@ -1,8 +1,7 @@
 -- What a run says and writes, and how it ends.
 use Rattle.std.specs.Prelude.{◌≡◌, ◌⊎◌, ℕ, Bool, true, false, List, ◌∷◌, [], map, length, nat_eq, Option, None, Some}
 use Rattle.std.specs.List.{list_any, flat_map}
-use Rattle.rdo_ast.specs.declared.syntax.Item.{Item}
-use Rattle.rdo_parser.specs.Script.{script_items}
+use Rattle.rdo_parser.specs.Script.{ends_in_stop, script_items}
 use Rattle.rdb_drive.specs.Orders.{upward}
 use Rattle.rdb_account.specs.declared.event.Event.{Event}
 use Rattle.rdb_account.specs.declared.event.Event.TheVariants as event
@@ -10,6 +9,7 @@ use Rattle.rdb_account.specs.Events.{event_of}
 use Rattle.rdb_account.specs.Legal.{IsLegal}
 use Rattle.rdb_account.specs.Places.{Opening}
 use Rattle.rdb_account.specs.Transcript.{transcript}
+use Rattle.session_states.specs.declared.item_queue.WholeScript.{WholeScript}
 use Rattle.line_cluster.specs.Turned.{HaveAllEnded}
 use Rattle.line_drive.specs.Turns.{KeepsTurns}
 use Rattle.line_opening.specs.declared.fault.OpeningFault.{OpeningFault}
@@ -22,9 +22,13 @@ use Rattle.rdb_top.specs.Deaths.{letting}
 use Rattle.script_streams.specs.declared.read.ReadStop.{ReadStop}
 use Rattle.script_streams.specs.declared.read.ReadStop.TheVariants.{Failed, OutOfMemory, TooLong}
 
--- the items of the scripts of so many sessions, by the texts that are left for each
-abbrev pub scripts_of : (ℕ → List ℕ) → ℕ → List (List Item)
-scripts_of left sessions = map (λ s. script_items (left s)) (upward 1 sessions)
+-- the items of a text, and whether they end at a `$ STOP`
+abbrev pub whole_script : List ℕ → WholeScript
+whole_script text = record { items = script_items text; stops = ends_in_stop text }
+
+-- the scripts of so many sessions, by the texts that are left for each
+abbrev pub scripts_of : (ℕ → List ℕ) → ℕ → List WholeScript
+scripts_of left sessions = map (λ s. whole_script (left s)) (upward 1 sessions)
 
 -- what so many sessions write, one after another
 abbrev pub transcripts : ℕ → List Event → List ℕ
@@ -93,15 +97,15 @@ abbrev pub has_death : List Event → Bool
 has_death events = list_any is_death events
 
 -- the account of a run of these scripts' items is legal, whole where every session that lived said its items, and keeps to the order where there is one
-abbrev pub IsRun : Opening → List ℕ → Scripts → List ℕ → ℕ → List Event → List (List Item) → Type 0
+abbrev pub IsRun : Opening → List ℕ → Scripts → List ℕ → ℕ → List Event → List WholeScript → Type 0
 IsRun o word given order status events scripts =
     IsLegal (said_to (letting given.death o) word scripts) (map event_of events)
     × (IsWhole status → HaveAllEnded (said_to (letting given.death o) word scripts) given.count (map event_of events))
     × (given.has_order ≡ true → IsWhole status → KeepsTurns (said_to (letting given.death o) word scripts) given.count order events)
 
 -- there are so many scripts of which it holds: where the source tells them, its own
-abbrev pub OfSomeScripts : ℕ → Type 0 → List (List Item) → (List (List Item) → Type 0) → Type 0
-OfSomeScripts sessions Tells own Holds = (scripts : List (List Item)) × (length scripts ≡ sessions) × (Tells → scripts ≡ own) × Holds scripts
+abbrev pub OfSomeScripts : ℕ → Type 0 → List WholeScript → (List WholeScript → Type 0) → Type 0
+OfSomeScripts sessions Tells own Holds = (scripts : List WholeScript) × (length scripts ≡ sessions) × (Tells → scripts ≡ own) × Holds scripts
 
 abbrev pub is_status : ℕ → Bool
 is_status n = list_any (nat_eq n) (0 ∷ 1 ∷ 2 ∷ 3 ∷ 4 ∷ 5 ∷ 6 ∷ 7 ∷ 8 ∷ 9 ∷ 10 ∷ [])

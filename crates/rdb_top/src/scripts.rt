@@ -1,39 +1,47 @@
 //! The scripts of the sessions, read and written.
 ghost use Rattle.std.specs.Prelude.{◌≡◌, ◌≢◌, ◌≤◌, ◌<◌, ◌^◌, ◌⊎◌, ◌++◌, ℕ, true, length, All, IfOk, IsOk, OnOk, IsErrOf};
 ghost use Rattle.rdb_outside.specs.Causes.{Rose};
-ghost use Rattle.rdo_parser.specs.Script.{script_items};
 ghost use Rattle.rdb_drive.specs.Boards.{IsSession};
 ghost use Rattle.script_streams.specs.Fronts.{WritesFront};
-ghost use Rattle.rdb_top.specs.Runs.{has_death, scripts_of, transcripts};
+ghost use Rattle.rdb_top.specs.Runs.{has_death, scripts_of, transcripts, whole_script};
 
 use rdb_account::{Event, transcript};
 use rdb_outside::{Sink, Source};
 use rdb_types::{Bytes, NoMemory, Session};
 use rdo_parser::Script;
 use script_streams::{ReadStop, read_script, write_all};
-use session_states::ItemQueue;
+use session_states::{ItemQueue, WholeScript};
 use std::alloc::Global;
 
-// The items of a script's text.
-fn items_of(alloc: Global, text: &[u8]) -> Result<ItemQueue, NoMemory>
+// The script of a text.
+fn script_of(alloc: Global, text: &[u8]) -> Result<WholeScript, NoMemory>
     requires { length text.now < 2 ^ 31 }
-    ensures { IfOk result (λ items. items ≡ script_items text.now) }
+    ensures { IfOk result (λ whole. whole ≡ whole_script text.now) }
 {
-    let mut queue = ItemQueue::new(alloc);
+    let mut items = ItemQueue::new(alloc);
     let mut script = Script::new(text);
     loop {
         match script.next_item(alloc) {
             Err(e) => return Err(e),
-            Ok(None) => return Ok(queue),
-            Ok(Some(item)) => queue.push(item)?,
+            Ok(None) => {
+                return Ok(WholeScript {
+                    items,
+                    stops: script.stops(),
+                });
+            }
+            Ok(Some(item)) => items.push(item)?,
         }
     }
 }
 
-// The items of a session's script.
-fn read_items<S: Source>(alloc: Global, source: &mut S, session: u32) -> Result<ItemQueue, ReadStop>
-    ensures items { S.tells source.old ≡ true → IfOk result (λ items. items ≡ script_items (S.left source.old session)) }
-    ensures few { IfOk result (λ items. length items < 2 ^ 32) }
+// The script of a session.
+fn read_whole<S: Source>(
+    alloc: Global,
+    source: &mut S,
+    session: u32,
+) -> Result<WholeScript, ReadStop>
+    ensures script { S.tells source.old ≡ true → IfOk result (λ script. script ≡ whole_script (S.left source.old session)) }
+    ensures few { IfOk result (λ script. length script.items < 2 ^ 32) }
     ensures told { S.tells source.new ≡ S.tells source.old }
     ensures others { S.tells source.old ≡ true → (other : ℕ) → other ≢ session → S.left source.new other ≡ S.left source.old other }
     ensures short { S.tells source.old ≡ true → IsOk result → length (S.left source.old session) ≤ 1048576 }
@@ -42,29 +50,29 @@ fn read_items<S: Source>(alloc: Global, source: &mut S, session: u32) -> Result<
     ensures cause { IsErrOf result ReadStop.Failed → Rose (S.faults source.old) (S.faults source.new) }
 {
     let text = read_script(alloc, source, session)?;
-    match items_of(alloc, text.as_slice()) {
-        Ok(items) => Ok(items),
+    match script_of(alloc, text.as_slice()) {
+        Ok(script) => Ok(script),
         Err(_) => Err(ReadStop::OutOfMemory),
     }
 }
 
-/// The items of the scripts of the sessions from 1 to a count.
+/// The scripts of the sessions from 1 to a count.
 pub fn read_scripts<S: Source>(
     alloc: Global,
     source: &mut S,
     sessions: u32,
-) -> Result<Vec<ItemQueue>, ReadStop>
+) -> Result<Vec<WholeScript>, ReadStop>
     ensures items { S.tells source.old ≡ true → IfOk result (λ scripts. scripts.items ≡ scripts_of (S.left source.old) sessions) }
     ensures length { IfOk result (λ scripts. length scripts.items ≡ sessions) }
-    ensures few { IfOk result (λ scripts. All (λ items. length items < 2 ^ 32) scripts.items) }
+    ensures few { IfOk result (λ scripts. All (λ script. length script.items < 2 ^ 32) scripts.items) }
     ensures short { S.tells source.old ≡ true → IsOk result → (s : ℕ) → IsSession sessions s → length (S.left source.old s) ≤ 1048576 }
     ensures long { S.tells source.old ≡ true → IsErrOf result ReadStop.TooLong → (s : ℕ) × IsSession sessions s × (1048576 < length (S.left source.old s)) }
     ensures cause { IsErrOf result ReadStop.Failed → Rose (S.faults source.old) (S.faults source.new) }
 {
     let mut scripts = Vec::new(alloc);
     for done in 0..sessions {
-        let items = read_items(alloc, source, done + 1)?;
-        if scripts.push(items).is_err() {
+        let script = read_whole(alloc, source, done + 1)?;
+        if scripts.push(script).is_err() {
             return Err(ReadStop::OutOfMemory);
         }
     }

@@ -51,7 +51,7 @@ use rmu_commands::{dump_command, page_command, verify_command};
 use rmu_keeping::{backup_command, journal_command, restore_command};
 use script_streams::ReadStop;
 use session_jobs::Statements;
-use session_states::ItemQueue;
+use session_states::WholeScript;
 use std::alloc::Global;
 use std::marker::{Brand, Send};
 use std::sync::Wait;
@@ -127,7 +127,7 @@ fn run_of<
 >(rt: &R, alloc: Global, disk: D, said: Said, given: Scripts, order: &[u32], gate: &G) -> LineRun<D>
     requires sessions { length said.scripts.items ≡ O.sessions }
     requires few { O.sessions ≤ 16 }
-    requires short { All (λ items. length items < 2 ^ 32) said.scripts.items }
+    requires short { All (λ script. length script.items < 2 ^ 32) said.scripts.items }
     requires scripts { FollowsScripts O.opening said.scripts.items }
     requires mortal { MayFail O.opening }
     requires entries { All (λ s. IsSession O.sessions s) order.now }
@@ -191,7 +191,7 @@ fn say_scripts<R: Threads + Wait + Sync, O: Origin, D: Disk + Drop + Send, G: Ga
     alloc: Global,
     asked: Asked<'_>,
     disk: D,
-    scripts: Vec<ItemQueue>,
+    scripts: Vec<WholeScript>,
     gate: &G,
 ) -> LineRun<D>
     requires row { command_for asked.words.now ≡ Some (Command.Rdo asked.given) }
@@ -199,7 +199,7 @@ fn say_scripts<R: Threads + Wait + Sync, O: Origin, D: Disk + Drop + Send, G: Ga
     requires mortal { MayFail O.opening }
     requires mortals { MayDie (G.mortals gate.now) (mortals_of O.opening asked.given.count) }
     requires count { length scripts.items ≡ asked.given.count }
-    requires short { All (λ items. length items < 2 ^ 32) scripts.items }
+    requires short { All (λ script. length script.items < 2 ^ 32) scripts.items }
     requires opens { O.told → OpensWith ⟦<ReservingStatements as Statements>⟧.stands (D.view disk) O.opening }
     ensures legal { O.told → IsLegal (said_to (letting asked.entry.given.death O.opening) (word_of asked.entry.words.now) scripts.items) (map event_of result.events) }
     ensures whole { O.told → result.is_whole ≡ true → HaveAllEnded (said_to (letting asked.entry.given.death O.opening) (word_of asked.entry.words.now) scripts.items) asked.entry.given.count (map event_of result.events) }

@@ -4,7 +4,7 @@ ghost use Rattle.std.specs.Prelude.{◌≡◌, ◌<◌, ◌≤◌, ◌^◌, [], 
 ghost use Rattle.rdo_parser.specs.Places.{place_behind};
 ghost use Rattle.rdo_parser.specs.Script as spec;
 
-use crate::next::{Parsed, parsed_at};
+use crate::next::{Parsed, begins_stop, parsed_at};
 use crate::place::{Place, line_len};
 use rdb_types::{NoMemory, OrMemory};
 use rdo_ast::syntax::Item;
@@ -47,7 +47,7 @@ fn item_at(alloc: Global, text: &[u8], at: usize, place: Place) -> Result<Option
     ensures moves { IfOk result (λ found. IfSome found (λ x. (at < x.next) × (x.next ≤ length text.now))) }
 {
     match parsed_at(alloc, text, at) {
-        Ok(Parsed::End) => Ok(None),
+        Ok(Parsed::End | Parsed::Stop) => Ok(None),
         Ok(Parsed::Statement(statement, next)) => Ok(Some(Found {
             item: Item::Statement(statement),
             next,
@@ -57,7 +57,8 @@ fn item_at(alloc: Global, text: &[u8], at: usize, place: Place) -> Result<Option
     }
 }
 
-/// A script that is read item by item, in a time that grows as its bytes do. Contracts see the list of the items that are still to come.
+/// A script that is read item by item, in a time that grows as its bytes do. Its items end at a `$ STOP`, or with its text. Contracts see
+/// the items that are still to come, and whether they end at a `$ STOP`.
 #[derive(Drop)]
 pub struct Script<'a> {
     text: &'a [u8],
@@ -68,19 +69,18 @@ pub struct Script<'a> {
 }
 
 impl<'a> Model for Script<'a> {
-    ghost use Rattle.std.specs.Prelude.{List};
-    ghost use Rattle.rdo_ast.specs.declared.syntax.Item.{Item};
+    ghost use Rattle.rdo_parser.specs.Reader.{Reading};
 
-    ghost Value = { List Item };
+    ghost Value = { Reading };
 
     ghost use Rattle.std.specs.Coded.{codes};
     ghost use Rattle.rdo_ast.specs.contracts.syntax.Action as action_type;
 
     ghost coded = { Prim.hlevel (codes, action_type.the_row.coded) };
 
-    ghost use Rattle.rdo_parser.specs.Reader.{items_left, IsReady};
+    ghost use Rattle.rdo_parser.specs.Reader.{reading_left, IsReady};
 
-    ghost view = { items_left };
+    ghost view = { reading_left };
 
     ghost invariant = { IsReady };
 }
@@ -89,7 +89,8 @@ impl<'a> Script<'a> {
     /// The items of a text.
     pub fn new(text: &'a [u8]) -> Script<'a>
         requires { length text.now < 2 ^ 31 }
-        ensures { result ≡ spec.script_items text.now }
+        ensures items { result.items ≡ spec.script_items text.now }
+        ensures stops { result.stops ≡ spec.ends_in_stop text.now }
     {
         Script {
             text,
@@ -98,10 +99,11 @@ impl<'a> Script<'a> {
         }
     }
 
-    /// The next item, or none at the end. Want of memory leaves the script as it is.
+    /// The next item, or none at the end and at a `$ STOP`. Want of memory leaves the script as it is.
     pub fn next_item(&mut self, alloc: Global) -> Result<Option<Item>, NoMemory>
-        ensures ok { IfOk result (λ next. MatchOption next ((self.old ≡ []) × (self.new ≡ [])) (λ item. self.old ≡ item ∷ self.new)) }
+        ensures ok { IfOk result (λ next. MatchOption next ((self.old.items ≡ []) × (self.new.items ≡ [])) (λ item. self.old.items ≡ item ∷ self.new.items)) }
         ensures err { OnErr result (self.new ≡ self.old) }
+        ensures stops { self.new.stops ≡ self.old.stops }
     {
         match item_at(alloc, self.text, self.at, self.place)? {
             None => Ok(None),
@@ -111,5 +113,12 @@ impl<'a> Script<'a> {
                 Ok(Some(found.item))
             }
         }
+    }
+
+    /// Whether a `$ STOP` comes next. Where no item is left, that is whether they end at one.
+    pub fn stops(&self) -> bool
+        ensures { self.now.items ≡ [] → result ≡ self.now.stops }
+    {
+        begins_stop(&self.text[self.at..])
     }
 }

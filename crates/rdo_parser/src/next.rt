@@ -1,12 +1,14 @@
 //! The next statement of a script.
 
 ghost use Rattle.std.specs.Prelude.{◌≡◌, ◌<◌, ◌≤◌, ◌^◌, length};
+ghost use Rattle.rdo_tokens.specs.Lex.{tokens};
 ghost use Rattle.rdo_parser.specs.Script as spec;
 
 use crate::place::{Place, line_len};
 use crate::statement::pointed;
 use rdb_types::OrMemory;
 use rdo_ast::syntax::Statement;
+use rdo_tokens::token::Kind;
 use rdo_tokens::tokens::{Stop, Tokens};
 use std::alloc::Global;
 
@@ -16,6 +18,8 @@ pub enum Parsed {
     /// A statement, and how many bytes of the script are behind it.
     Statement(Statement, usize),
     End,
+    /// `$ STOP`, behind which nothing is read.
+    Stop,
 }
 
 /// The place of a token with which no statement goes on.
@@ -25,6 +29,19 @@ pub struct SyntaxAt {
     pub column: u32,
     /// Where reading goes on: how many bytes of the script are up to the line after the token's.
     pub resume: usize,
+}
+
+/// Whether `$ STOP` comes next.
+#[tactic(auto, unfolding(crate::specs::Script::begins_stop))]
+pub fn begins_stop(text: &[u8]) -> bool
+    ensures { result ≡ spec.begins_stop (tokens text.now) }
+{
+    let mut tokens = Tokens::new(text);
+    if !tokens.sees(Kind::Dollar) {
+        return false;
+    }
+    tokens.take();
+    tokens.sees(Kind::Stop)
 }
 
 /// What a script goes on with behind its first `at` bytes, or how many bytes there are up to the offending token.
@@ -40,7 +57,11 @@ pub fn parsed_at(alloc: Global, text: &[u8], at: usize) -> Result<Parsed, OrMemo
     match pointed(alloc, &mut tokens) {
         Ok(statement) => Ok(Parsed::Statement(statement, text.len().saturating_sub(tokens.left()))),
         Err(Stop::Memory) => Err(OrMemory::Memory),
-        Err(Stop::Offending) => Err(OrMemory::Other(text.len().saturating_sub(tokens.left()))),
+        Err(Stop::Offending) => if begins_stop(&text[at..]) {
+            Ok(Parsed::Stop)
+        } else {
+            Err(OrMemory::Other(text.len().saturating_sub(tokens.left())))
+        },
     }
 }
 

@@ -1,5 +1,5 @@
 -- The texts of statements and of scripts are read as them.
-use Rattle.std.proofs.Common.{◌≡◌, ℕ, zero, suc, ◌+◌, ◌-◌, ◌≤◌, List, [], ◌∷◌, ◌++◌, map, length, Ok, refl, ap, sym, subst, ◌∙◌, append_assoc, arith}
+use Rattle.std.proofs.Common.{◌≡◌, ℕ, zero, suc, ◌+◌, ◌-◌, ◌≤◌, List, [], ◌∷◌, ◌++◌, false, map, length, Ok, refl, ap, sym, subst, ◌∙◌, append_assoc, arith}
 use Rattle.std.specs.List.{AllByRecursion}
 use Rattle.std.proofs.lemmas.List.{length-append, append_cancel_right}
 use Rattle.std.proofs.Math.Seq.{drop-append_seam}
@@ -7,16 +7,16 @@ use Rattle.rdo_ast.specs.declared.syntax.Statement.{Statement}
 use Rattle.rdo_ast.specs.Tree.{Command, said}
 use Rattle.rdo_ast.specs.Views.{uttered_of}
 use Rattle.rdo_tokens.specs.declared.token.Kind.TheVariants as k
-use Rattle.rdo_tokens.specs.Lex.{Text, tokens}
-use Rattle.rdo_tokens.specs.Input.{Input, left}
+use Rattle.rdo_tokens.specs.Lex.{Text, same_kind, tokens}
+use Rattle.rdo_tokens.specs.Input.{Input, kind, left, sees}
 use Rattle.rdo_parser.specs.declared.next.Parsed.TheVariants as parsed
 use Rattle.rdo_parser.specs.Statements.{pointed}
-use Rattle.rdo_parser.specs.Script.{parsed_in, parsed_at, next_statement, item_at, items_within, items_from, found_in, with_behind, with_fault}
+use Rattle.rdo_parser.specs.Script.{begins_stop, parsed_in, parsed_at, next_statement, item_at, items_within, items_from, found_in, with_behind, with_fault, stops_at, with_end, stops_within, stops_from}
 use Rattle.rdo_printer.specs.Words.{Spelled, word, text_of, AreSpelled}
 use Rattle.rdo_printer.proofs.Labels.{labelled}
 use Rattle.rdo_printer.specs.Commands.{statement_words, command_words, command_text, script_text}
 use Rattle.rdo_printer.specs.Printable.{IsPrintable}
-use Rattle.rdo_printer.specs.Law.{WordsAreRead, TextIsRead, ScriptIsRead}
+use Rattle.rdo_printer.specs.Law.{WordsAreRead, TextIsRead, ScriptIsRead, ScriptIsWhole}
 use Rattle.rdo_labels.specs.Alike.{Descends, SameWords, SameNextWord}
 use Rattle.rdo_labels.proofs.SteadyStatements.{read_alike}
 use Rattle.rdo_printer.proofs.Built.{built_command}
@@ -147,3 +147,30 @@ script_is_read cs all =
     let t = script_turns cs in
     let enough : suc (length cs) ≤ suc (length (script_text cs) - 0) = omega arith in
     items_read cs all (suc (length (script_text cs) - 0)) enough []
+
+stops_read : (cs : List Command) → AllByRecursion IsPrintable cs → (turns : ℕ) → suc (length cs) ≤ turns → (before : Text) → stops_within (before ++ script_text cs) turns (length before) ≡ false
+unfolding item_at next_statement parsed_at tokens begins_stop sees kind same_kind
+stops_read cs all zero h before = absurd (omega arith)
+stops_read [] all (suc turns) h before = rw (drop-append_seam before []) refl
+stops_read (c ∷ cs) all (suc turns) h before =
+    let rest : Text = script_text cs in
+    let script : Text = before ++ (command_text c ++ rest) in
+    let here : Text = before ++ command_text c in
+    let one = text_parsed c all.0 before rest in
+    let l = left_of_script cs all.1 in
+    let a = length-append before (command_text c ++ rest) in
+    let b = length-append (command_text c) rest in
+    let d = length-append before (command_text c) in
+    let next : length script - left (tokens rest) ≡ length here = omega arith in
+    let same : script ≡ here ++ rest = sym (append_assoc before (command_text c) rest) in
+    let more : suc (length cs) ≤ turns = omega arith in
+    let all_more = stops_read cs all.1 turns more here in
+    ap (λ r. with_end (found_in r) (stops_at script (length before)) (stops_within script turns)) one
+    ∙ rw next (ap (λ (z : Text). stops_within z turns (length here)) same ∙ all_more)
+
+pub script_is_whole : ScriptIsWhole
+unfolding stops_from
+script_is_whole cs all =
+    let t = script_turns cs in
+    let enough : suc (length cs) ≤ suc (length (script_text cs) - 0) = omega arith in
+    stops_read cs all (suc (length (script_text cs) - 0)) enough []

@@ -1,5 +1,5 @@
 -- What it means that printed words, texts and scripts are read as what they were printed from.
-use Rattle.std.specs.Prelude.{◌≡◌, ◌-◌, List, ◌++◌, map, length, Ok}
+use Rattle.std.specs.Prelude.{◌≡◌, ◌-◌, false, List, ◌++◌, map, length, Ok}
 use Rattle.std.specs.List.{AllByRecursion}
 use Rattle.rdo_ast.specs.declared.syntax.Statement.{Statement}
 use Rattle.rdo_ast.specs.Tree.{Command, said}
@@ -8,7 +8,7 @@ use Rattle.rdo_tokens.specs.Lex.{Text, tokens}
 use Rattle.rdo_tokens.specs.Input.{Input, left}
 use Rattle.rdo_parser.specs.declared.next.Parsed.TheVariants as parsed
 use Rattle.rdo_parser.specs.Statements.{pointed}
-use Rattle.rdo_parser.specs.Script.{next_statement, script_items}
+use Rattle.rdo_parser.specs.Script.{ends_in_stop, next_statement, script_items}
 use Rattle.rdo_labels.specs.Alike.{Descends}
 use Rattle.rdo_printer.specs.Words.{AreSpelled}
 use Rattle.rdo_printer.specs.Commands.{command_words, command_text, script_text}
@@ -26,3 +26,7 @@ TextIsRead = (c : Command) → IsPrintable c → (before rest : Text) →
 -- The items of a script of printed statements are these statements, in their order.
 abbrev pub ScriptIsRead : Type 0
 ScriptIsRead = (cs : List Command) → AllByRecursion IsPrintable cs → map uttered_of (script_items (script_text cs)) ≡ map said cs
+
+-- It comes to no `$ STOP`.
+abbrev pub ScriptIsWhole : Type 0
+ScriptIsWhole = (cs : List Command) → AllByRecursion IsPrintable cs → ends_in_stop (script_text cs) ≡ false

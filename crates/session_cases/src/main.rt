@@ -6,8 +6,8 @@ mod stores;
 ghost use Rattle.std.specs.Prelude.{◌<◌, ◌^◌, All, IfOk, length};
 
 use rdb_types::{Bytes, Limits, NoMemory, Session};
-use session_desk::{Drive, FIRST, SESSIONS, items_of, session_of};
-use session_states::ItemQueue;
+use session_desk::{Drive, FIRST, SESSIONS, script_of, session_of};
+use session_states::WholeScript;
 use std::alloc::Global;
 use std::process::ExitCode;
 use stores::{DiskPlan, run_in_memory, run_on_disk};
@@ -51,14 +51,14 @@ fn add_line(scripts: &mut Vec<Bytes>, s: Session, text: &str) -> Result<(), NoMe
     }
 }
 
-fn queues_of(alloc: Global, scripts: &[Bytes]) -> Result<Vec<ItemQueue>, NoMemory>
-    ensures { IfOk result (λ queues. All (λ items. length items < 2 ^ 32) queues.items) }
+fn scripts_of(alloc: Global, texts: &[Bytes]) -> Result<Vec<WholeScript>, NoMemory>
+    ensures { IfOk result (λ scripts. All (λ script. length script.items < 2 ^ 32) scripts.items) }
 {
-    let mut queues = Vec::new(alloc);
-    for text in scripts {
-        queues.push(items_of(alloc, text.as_slice())?)?;
+    let mut scripts = Vec::new(alloc);
+    for text in texts {
+        scripts.push(script_of(alloc, text.as_slice())?)?;
     }
-    Ok(queues)
+    Ok(scripts)
 }
 
 /// What a case has so far.
@@ -102,8 +102,8 @@ fn run_scripts(
     drive: Drive,
     out: &mut Bytes,
 ) -> Result<(), NoMemory> {
-    let queues = queues_of(alloc, case.scripts.as_slice())?;
-    if queues.len() != SESSIONS as usize {
+    let scripts = scripts_of(alloc, case.scripts.as_slice())?;
+    if scripts.len() != SESSIONS as usize {
         return Ok(());
     }
     if case.is_on_disk {
@@ -111,9 +111,9 @@ fn run_scripts(
             limits: case.limits,
             fails: case.fails,
         };
-        return run_on_disk(alloc, plan, queues, order, drive, out);
+        return run_on_disk(alloc, plan, scripts, order, drive, out);
     }
-    run_in_memory(alloc, case.limits, queues, order, drive, out)
+    run_in_memory(alloc, case.limits, scripts, order, drive, out)
 }
 
 fn say(alloc: Global, case: &mut Case, line: &str, out: &mut Bytes) -> Result<(), NoMemory> {

@@ -12,7 +12,7 @@ use rdb_types::{Bytes, Limits, NoMemory};
 use rdo_reserving::ReservingStatements;
 use root_file::are_limits;
 use session_desk::{Drive, run};
-use session_states::ItemQueue;
+use session_states::WholeScript;
 use std::alloc::Global;
 use std::marker::Brand;
 
@@ -26,13 +26,13 @@ const CALLS: u32 = 65_536;
 pub fn run_in_memory(
     alloc: Global,
     limits: Limits,
-    scripts: Vec<ItemQueue>,
+    scripts: Vec<WholeScript>,
     order: &str,
     drive: Drive,
     out: &mut Bytes,
 ) -> Result<(), NoMemory>
     requires count { length scripts.items ≡ 4 }
-    requires short { All (λ items. length items < 2 ^ 32) scripts.items }
+    requires short { All (λ script. length script.items < 2 ^ 32) scripts.items }
 {
     let store = MemoryStore::new(alloc, limits)?;
     run::<Brand, ReservingStatements, MemoryStore>(
@@ -82,13 +82,13 @@ fn store_on_disk(alloc: Global, plan: DiskPlan) -> Option<DiskStore<MemoryDisk>>
 pub fn run_on_disk(
     alloc: Global,
     plan: DiskPlan,
-    scripts: Vec<ItemQueue>,
+    scripts: Vec<WholeScript>,
     order: &str,
     drive: Drive,
     out: &mut Bytes,
 ) -> Result<(), NoMemory>
     requires count { length scripts.items ≡ 4 }
-    requires short { All (λ items. length items < 2 ^ 32) scripts.items }
+    requires short { All (λ script. length script.items < 2 ^ 32) scripts.items }
 {
     let Some(store) = store_on_disk(alloc, plan) else {
         return out.extend(b"  not opened\n");

@@ -12,7 +12,7 @@ use line_store::LineStore;
 use rdb_types::{Bytes, NoMemory, Session};
 use reached_changes::Reaches;
 use reserved_locks::Reserves;
-use session_states::ItemQueue;
+use session_states::WholeScript;
 use std::alloc::Global;
 
 /// So many sessions has each case.
@@ -223,7 +223,7 @@ fn words_of(order: &[u8]) -> &str {
 pub fn run<O: Origin, S: Reserves + Reaches, L: LineStore + Drop>(
     alloc: Global,
     store: L,
-    scripts: Vec<ItemQueue>,
+    scripts: Vec<WholeScript>,
     order: &[u8],
     drive: Drive,
     out: &mut Bytes,
@@ -232,7 +232,7 @@ pub fn run<O: Origin, S: Reserves + Reaches, L: LineStore + Drop>(
     requires count { length scripts.items ≡ 4 }
     requires sessions { O.sessions ≡ 4 }
     requires scripts { FollowsScripts O.opening scripts.items }
-    requires short { All (λ items. length items < 2 ^ 32) scripts.items }
+    requires short { All (λ script. length script.items < 2 ^ 32) scripts.items }
     requires untold { O.told → ⊥ }
     requires mortal { (t : ℕ) (cause : CauseValue) → O.opening.may_die t cause ≡ true }
 {

@@ -8,4 +8,4 @@ mod scripts;
 mod world;
 
 pub use driving::{Drive, FIRST, SESSIONS, run, session_of};
-pub use scripts::items_of;
+pub use scripts::script_of;

@@ -12,7 +12,7 @@ use rdb_types::{Bytes, Cause, NoMemory, Session, Word};
 use rdo_ast::reply::Reply;
 use reached_changes::Reaches;
 use reserved_locks::Reserves;
-use session_states::ItemQueue;
+use session_states::WholeScript;
 use std::alloc::Global;
 
 /// A turn has so many steps at most.
@@ -57,12 +57,16 @@ pub struct World<O: Origin, S: Reserves + Reaches, L: LineStore + Drop> {
 
 impl<O: Origin, S: Reserves + Reaches, L: LineStore + Drop> World<O, S, L> {
     /// Sessions of these scripts, over a store of which nothing is told.
-    pub fn new(alloc: Global, store: L, scripts: Vec<ItemQueue>) -> Result<World<O, S, L>, NoMemory>
+    pub fn new(
+        alloc: Global,
+        store: L,
+        scripts: Vec<WholeScript>,
+    ) -> Result<World<O, S, L>, NoMemory>
         requires outside { (s : ℕ) → (L.sight store).stand s ≡ outside }
         requires sessions { length scripts.items ≡ O.sessions }
         requires few { O.sessions ≤ 16 }
         requires scripts { FollowsScripts O.opening scripts.items }
-        requires short { All (λ items. length items < 2 ^ 32) scripts.items }
+        requires short { All (λ script. length script.items < 2 ^ 32) scripts.items }
         requires mortal { MayFail O.opening }
         requires untold { O.told → ⊥ }
     {

@@ -1,16 +1,17 @@
 -- A session dies where it stands, and is recovered.
-use Rattle.std.proofs.Common.{◌≡◌, ◌≤◌, ℕ, ◌+◌, ◌-◌, ◌++◌, ◌∷◌, [], ◌&&◌, not, Bool, true, false, List, map, refl, ◌∙◌, sym, ap, subst, arith, Option, Some, None}
-use Rattle.std.proofs.lemmas.Bool.{false≢true}
+use Rattle.std.proofs.Common.{◌≡◌, ◌≤◌, ℕ, ◌+◌, ◌-◌, ◌++◌, ◌∷◌, [], ◌&&◌, ◌==◌, Bool, true, false, List, length, map, refl, ◌∙◌, sym, ap, subst, arith, Option, Some, None}
+use Rattle.std.proofs.lemmas.Bool.{false≢true, and_parts}
 use Rattle.std.proofs.lemmas.Option.{none-some, same_Some}
 use Rattle.rdb_types.specs.declared.session.Cause.{Cause}
+use Rattle.rdb_types.specs.declared.session.Cause.TheVariants.{Device, Gate, Stop, Memory}
 use Rattle.rdo_ast.specs.declared.reply.Standing.{Standing}
 use Rattle.rdo_ast.specs.declared.syntax.Item.{Item}
-use Rattle.rdo_ast.specs.Tree.{said, commit}
+use Rattle.rdo_ast.specs.Tree.{Uttered, said, commit}
 use Rattle.rdo_ast.specs.Views.{uttered_of}
 use Rattle.lock_tree_laws.specs.Forest.{State as Locks}
 use Rattle.rdb_account.specs.Events.{Died, Recovered}
-use Rattle.rdb_account.specs.Places.{Opening, Place, Transaction, after}
-use Rattle.rdb_account.specs.Legal.{has_not_died, is_stop}
+use Rattle.rdb_account.specs.Places.{Opening, Place, Transaction, after, next_item}
+use Rattle.rdb_account.specs.Legal.{has_not_died, is_at_end, may_die_of}
 use Rattle.line_view.specs.declared.writes.Write.{Write}
 use Rattle.line_view.specs.Held.{Held, knows, nothing}
 use Rattle.line_view.specs.Knowledge.{Lines}
@@ -19,9 +20,10 @@ use Rattle.session_jobs.specs.Records.{Model, IsOrderly}
 use Rattle.line_store.specs.Seats.{Seat, outside as seat_outside, beginning, writing as seat_writing, changing, prepared, committing, rolling_back, closing, reading as seat_reading, dead, is_committing, writes_of, in_flight, done_at, died}
 use Rattle.line_store.specs.Shelves.{Shelf}
 use Rattle.line_store.specs.Calls.{Moves, IsUndone, IsSaved}
-use Rattle.line_steps.specs.Members.{State, member, fallen, recovered, writing, awaited, life_of}
-use Rattle.line_steps.specs.Right.{Desk, Ground, Writes, with_dead, at_recovery}
+use Rattle.line_steps.specs.Members.{State, member, fallen, recovered, writing, under_way, awaited, left_of as all_left, life_of}
+use Rattle.line_steps.specs.Right.{Desk, Ground, Writes, Stands, with_dead, at_recovery}
 use Rattle.line_steps.specs.Steps.{Found, Steps}
+use Rattle.line_steps.proofs.Common.{next-none}
 use Rattle.line_steps.proofs.Dying.{dies, recovers-undone, recovers-committed}
 use Rattle.line_steps.proofs.Kept.{in-turn, elapses}
 use Rattle.session_states.specs.declared.stage.Work.TheVariants.{Opening as OpeningIt, Due, Out, Lacking, Housing, Fetching, Lodging}
@@ -29,9 +31,11 @@ use Rattle.session_states.specs.declared.stage.Laying.TheVariants.{Claiming, Cha
 use Rattle.session_states.specs.declared.stage.End.TheVariants.{Preparing, Journal, Ready, Committing, RollingBack, Leaving}
 use Rattle.session_states.specs.declared.stage.Stage.{Stage}
 use Rattle.session_states.specs.declared.stage.Stage.TheVariants.{Between, Working, Gathering, Reserving, Saying, Ending}
+use Rattle.session_states.specs.declared.stage.ReaderStage.{ReaderStage}
+use Rattle.session_states.specs.declared.stage.ReaderStage.TheVariants as look
 use Rattle.session_states.specs.declared.stage.Phase.{Phase}
 use Rattle.session_states.specs.declared.stage.Phase.TheVariants.{Outside, Closing, Writing, Reading, Over}
-use Rattle.session_states.specs.States.{item_of, state_in, commits_at, commits_in, session, dead_session, gone_session}
+use Rattle.session_states.specs.States.{item_of, reader_item, state_in, commits_at, commits_in, is_between, is_reader_between, has_said_all, may_die_in, seen, session, dead_session, gone_session}
 use Rattle.session_states.specs.Shared.{Shared, with_shelf, with_death, with_recovery, RestsWith}
 use Rattle.session_states.specs.Fits.{DeskFits, PhaseFits}
 use Rattle.session_states.specs.Steps.{Fall}
@@ -65,6 +69,27 @@ stage-commits (Ending Ready) h = absurd (false≢true h)
 stage-commits (Ending Committing) h = refl
 stage-commits (Ending RollingBack) h = absurd (false≢true h)
 stage-commits (Ending Leaving) h = absurd (false≢true h)
+
+-- between items no statement is under way
+none-under-way : (stage : Stage) → is_between stage ≡ true → item_of stage ≡ None
+none-under-way Between h = refl
+none-under-way (Working item work) h = absurd (false≢true h)
+none-under-way (Gathering item gather later place) h = absurd (false≢true h)
+none-under-way (Reserving item r locks place) h = absurd (false≢true h)
+none-under-way (Saying item r laying) h = absurd (false≢true h)
+none-under-way (Ending end) h = absurd (false≢true h)
+
+none-read : (stage : ReaderStage) → is_reader_between stage ≡ true → reader_item stage ≡ None
+none-read look.Between h = refl
+none-read (look.Working item work) h = absurd (false≢true h)
+
+none-left : (left : List Item) → (length left == 0) ≡ true → left ≡ []
+none-left [] h = refl
+none-left (x ∷ xs) h = absurd (false≢true h)
+
+both : (a b : Bool) → a ≡ true → b ≡ true → (a && b) ≡ true
+both true b h k = k
+both false b h k = absurd (false≢true h)
 
 -- who died in its commit was in a read-write transaction that was to commit
 pub committing-state : (x : Phase) → commits_in x ≡ true → (standing : Standing) × (state_in x ≡ writing standing (Some (said commit)))
@@ -129,7 +154,27 @@ module _ (M : Model) (orderly : IsOrderly M) where
 
   -- ---- a death
 
-  pub dies-on : (o : Opening) (s : ℕ) (c : Shared) (shelf : Shelf) (left : List Item) (total : ℕ) (x : Phase) (cause : Cause) → (o.may_die s cause && not (is_stop cause)) ≡ true → Moves s (died (c.shelf.seat s)) c.shelf shelf →
+  all-said : (o : Opening) (p : Place) (g : Ground) (s : ℕ) (left : List Item) (total : ℕ) (x : Phase) → has_said_all left x ≡ true → Stands M o p g s (seen (session left total x)) → all_left (seen (session left total x)) ≡ []
+  all-said o p g s left total Outside h st = ap (λ (items : List Item). map uttered_of items) (none-left left h)
+  all-said o p g s left total Closing h st = absurd (false≢true h)
+  all-said o p g s left total (Writing w) h st =
+      let parts = and_parts (is_between w.stage) (length left == 0) h in
+      ap (λ (u : Option Uttered). under_way u ++ map uttered_of left) (none-under-way w.stage parts.0) ∙ ap (λ (items : List Item). map uttered_of items) (none-left left parts.1)
+  all-said o p g s left total (Reading r) h st =
+      let parts = and_parts (is_reader_between r.stage) (length left == 0) h in
+      ap (λ (u : Option Uttered). under_way u ++ map uttered_of left) (none-read r.stage parts.0) ∙ ap (λ (items : List Item). map uttered_of items) (none-left left parts.1)
+  all-said o p g s left total Over h st = st.state.1
+
+  -- of what it may die in its phase, it may in the account
+  may-here : (o : Opening) (p : Place) (g : Ground) (s : ℕ) (left : List Item) (total : ℕ) (x : Phase) (cause : Cause) → Stands M o p g s (seen (session left total x)) → may_die_in o s left x cause ≡ true → may_die_of o p s cause ≡ true
+  may-here o p g s left total x Device st h = h
+  may-here o p g s left total x Gate st h = h
+  may-here o p g s left total x Stop st h =
+      let parts = and_parts (o.stops s) (has_said_all left x) h in
+      both (o.stops s) (is_at_end (next_item o p s)) parts.0 (ap is_at_end (next-none M o p g s (seen (session left total x)) st (all-said o p g s left total x parts.1 st)))
+  may-here o p g s left total x Memory st h = h
+
+  pub dies-on : (o : Opening) (s : ℕ) (c : Shared) (shelf : Shelf) (left : List Item) (total : ℕ) (x : Phase) (cause : Cause) → may_die_in o s left x cause ≡ true → Moves s (died (c.shelf.seat s)) c.shelf shelf →
       Fall M o s c (session left total x) (with_death shelf c) (dead_session left total x) (Died s cause ∷ [])
   dies-on o s c shelf left total x cause allowed moves = record {
     word = refl;
@@ -142,7 +187,7 @@ module _ (M : Model) (orderly : IsOrderly M) where
         let h : Ground = with_dead (g.dead + 1) g in
         let k : Ground = at_time shelf.clock.time h in
         let later : g.time ≤ shelf.clock.time = subst (λ (t : ℕ). t ≤ shelf.clock.time) (sym f.fits.ground.time) moves.others.later.later in
-        let a : Steps M o p g s n h (Died s cause ∷ []) = dies M orderly o p g s items st total cause f.found (not-died x) allowed in
+        let a : Steps M o p g s n h (Died s cause ∷ []) = dies M orderly o p g s items st total cause f.found (not-died x) (may-here o p g s left total x cause f.found.stands allowed) in
         let b : Steps M o a.to h s n k [] = elapses M orderly o a.to h s items (fallen st) total shelf.clock.time (record { free = a.settled; fit = a.fit; stands = a.stands }) later in
         let seat = phase-seat p g c s left x f.fits.phase in
         record {

@@ -1,10 +1,13 @@
 -- What the account sees of a session.
-use Rattle.std.specs.Prelude.{ℕ, ◌++◌, Bool, true, false, List, map, Option, Some, None}
+use Rattle.std.specs.Prelude.{ℕ, ◌++◌, ◌==◌, ◌&&◌, Bool, true, false, List, length, map, Option, Some, None}
+use Rattle.rdb_types.specs.declared.session.Cause.{Cause}
+use Rattle.rdb_types.specs.declared.session.Cause.TheVariants.{Device, Gate, Stop, Memory}
 use Rattle.rdo_ast.specs.declared.reply.Standing.{Standing}
 use Rattle.rdo_ast.specs.declared.syntax.Item.{Item}
 use Rattle.rdo_ast.specs.Tree.{Uttered, said, commit, rollback}
 use Rattle.rdo_ast.specs.Views.{uttered_of}
 use Rattle.line_view.specs.Held.{Held}
+use Rattle.rdb_account.specs.Places.{Opening as Terms}
 use Rattle.line_steps.specs.Members.{State, outside, writing, reading, ended, fallen, recovered, awaited, Member as Seen, member}
 use Rattle.session_states.specs.declared.stage.Work.TheVariants.{Opening}
 use Rattle.session_states.specs.declared.stage.Laying.TheVariants.{Changing}
@@ -84,6 +87,31 @@ commits_at stage = false
 abbrev pub commits_in : Phase → Bool
 commits_in (Writing w) = commits_at w.stage
 commits_in x = false
+
+-- ---- at the end of a script
+
+abbrev pub is_between : Stage → Bool
+is_between Between = true
+is_between stage = false
+
+abbrev pub is_reader_between : ReaderStage → Bool
+is_reader_between look.Between = true
+is_reader_between stage = false
+
+-- whether all items of a script are said, of which this is left in this phase
+abbrev pub has_said_all : List Item → Phase → Bool
+has_said_all left Outside = length left == 0
+has_said_all left Closing = false
+has_said_all left (Writing w) = is_between w.stage && (length left == 0)
+has_said_all left (Reading r) = is_reader_between r.stage && (length left == 0)
+has_said_all left Over = true
+
+-- Session s may die of this in this phase: of a stop where it has said all items of a script that ends in one, of another cause where it is let.
+abbrev pub may_die_in : Terms → ℕ → List Item → Phase → Cause → Bool
+may_die_in o s left x Device = o.may_die s Device
+may_die_in o s left x Gate = o.may_die s Gate
+may_die_in o s left x Stop = o.stops s && has_said_all left x
+may_die_in o s left x Memory = o.may_die s Memory
 
 -- ---- sessions by their parts
 

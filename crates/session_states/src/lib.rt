@@ -7,7 +7,7 @@ mod locks;
 mod stage;
 mod turns;
 
-pub use item_queue::ItemQueue;
+pub use item_queue::{ItemQueue, WholeScript};
 pub use laws::dying::the_dead_are_recovered;
 pub use laws::endings::{the_store_works, transactions_end};
 pub use laws::gathering::needs_are_read_in_turn;

@@ -1,9 +1,8 @@
 -- What a death is, and what a step of a recovery comes to.
-use Rattle.std.specs.Prelude.{◌≡◌, ◌+◌, ◌-◌, ◌&&◌, ℕ, not, true, List, [], ◌∷◌, Result, Ok, Err}
+use Rattle.std.specs.Prelude.{◌≡◌, ◌+◌, ◌-◌, ℕ, true, List, [], ◌∷◌, Result, Ok, Err}
 use Rattle.rdb_types.specs.declared.session.Cause.{Cause}
 use Rattle.rdo_ast.specs.declared.syntax.Item.{Item}
 use Rattle.rdb_account.specs.Events.{Event, Died, Recovered}
-use Rattle.rdb_account.specs.Legal.{is_stop}
 use Rattle.rdb_account.specs.Places.{Opening}
 use Rattle.line_store.specs.declared.answers.Fault.{Fault}
 use Rattle.session_jobs.specs.Records.{Model}
@@ -11,7 +10,7 @@ use Rattle.session_states.specs.declared.stage.Phase.{Phase}
 use Rattle.session_states.specs.declared.stage.Life.{Life}
 use Rattle.session_states.specs.declared.stage.Life.TheVariants.{Alive, Dead, Gone}
 use Rattle.session_states.specs.declared.stage.Member.{Member}
-use Rattle.session_states.specs.States.{session, dead_session, gone_session}
+use Rattle.session_states.specs.States.{session, dead_session, gone_session, may_die_in}
 use Rattle.session_states.specs.Steps.{Fall}
 use Rattle.session_measure.specs.Weights.{Falls}
 use Rattle.stage_steps.specs.Nearer.{NearerRecovered}
@@ -19,10 +18,10 @@ use Rattle.stage_steps.specs.Scenes.{Scene, Goes, HasFailed, on_shelf, beside}
 use Rattle.stage_steps.specs.declared.dying.Recovery.{Recovery}
 use Rattle.stage_steps.specs.declared.dying.Recovery.TheVariants.{More, Done}
 
--- a session of this phase dies, for each cause that an opening allows and that isn't a stop of all
+-- a session of this phase dies, for each cause of which it may
 abbrev pub DiesIn : Model → ℕ → Phase → Scene → Scene → Type 0
 DiesIn M s x old new = Goes s x Alive x Dead
-    (λ h g. (o : Opening) (dead : ℕ) (left : List Item) (total : ℕ) (cause : Cause) → (o.may_die s cause && not (is_stop cause)) ≡ true →
+    (λ h g. (o : Opening) (dead : ℕ) (left : List Item) (total : ℕ) (cause : Cause) → may_die_in o s left x cause ≡ true →
     Fall M o s (on_shelf old h dead) (session left total x) (on_shelf new g (dead + 1)) (dead_session left total x) (Died s cause ∷ []))
     ((left : List Item) (total k l : ℕ) → Falls k l (beside old) (beside new) s (session left total x) (dead_session left total x))
     old new

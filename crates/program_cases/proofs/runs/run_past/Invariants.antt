@@ -8,6 +8,7 @@ ghosts-run g a = record {
   opening = record {
     word = [];
     script = λ s. [];
+    stops = λ s. false;
     tables = no_tables;
     limits = record { pages = 0; snapshots = 0; entries = 0; slots = 0 };
     has_owner = λ file page. false;

@@ -10,4 +10,4 @@ invariant-loop-done g l =
     × (g.S.Source.tells l.fn.source ≡ true → (s : ℕ) → l.done < s → g.S.Source.left l.source s ≡ g.S.Source.left l.fn.source s)
     × (g.S.Source.tells l.fn.source ≡ true → (s : ℕ) → 1 ≤ s → s ≤ l.done → length (g.S.Source.left l.fn.source s) ≤ 1048576)
     × (g.S.Source.faults l.fn.source ≤ g.S.Source.faults l.source)
-    × All (λ items. length items < 2 ^ 32) l.scripts.items
+    × All (λ script. length script.items < 2 ^ 32) l.scripts.items

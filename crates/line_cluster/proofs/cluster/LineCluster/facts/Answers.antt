@@ -16,12 +16,12 @@ returns-clause-seated g c =
 
 pub returns-clause-whole : goal.returns-clause-whole
 returns-clause-whole g c =
-    subst (λ (v : Sessions). g.O.Origin.told → v.halted ≡ false → HaveEnded v.members → HaveAllEnded g.O.Origin.opening g.O.Origin.sessions (map event_of v.events)) c.self.view_is
+    subst (λ (v : Sessions). g.O.Origin.told → v.halted ≡ false → HaveEnded (g.O.Origin.opening).stops v.members → HaveAllEnded g.O.Origin.opening g.O.Origin.sessions (map event_of v.events)) c.self.view_is
     (λ told going ended. all-whole g.S.Statements.stands g.O.Origin.opening _ _ _ _ _ (c.self.invariant.sound.kept (none-from c.self.inside.core.halt going) told) g.O.Origin.sessions c.self.invariant.count ended)
 
 pub returns-clause-over : goal.returns-clause-over
 returns-clause-over g c =
-    subst (λ (v : Sessions). g.O.Origin.told → v.halted ≡ false → (s : ℕ) → 1 ≤ s → IsAtEnd s v → HasNothingLeft g.O.Origin.opening (place g.O.Origin.opening (map event_of v.events)) s) c.self.view_is
+    subst (λ (v : Sessions). g.O.Origin.told → v.halted ≡ false → (s : ℕ) → 1 ≤ s → IsAtEnd (g.O.Origin.opening).stops s v → HasNothingLeft g.O.Origin.opening (place g.O.Origin.opening (map event_of v.events)) s) c.self.view_is
     (λ told going s first e. over-left-at g.S.Statements.stands g.O.Origin.opening _ _ _ _ _ s e.member (c.self.invariant.sound.kept (none-from c.self.inside.core.halt going) told) first e.found e.over)
 
 pub returns-clause-bounds : goal.returns-clause-bounds

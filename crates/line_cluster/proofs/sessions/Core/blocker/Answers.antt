@@ -3,7 +3,6 @@ use Rattle.std.proofs.lemmas.Bool.{false≢true}
 use Rattle.std.proofs.lemmas.Option.{same_Some}
 use Rattle.session_states.specs.declared.stage.Member.{Member}
 use Rattle.stage_steps.specs.Nearer.{is_patient_at}
-use Rattle.line_cluster.proofs.Stepping.{work-alive}
 use Rattle.line_cluster.proofs.sessions.Core.blocker.Goals as goal
 
 pub returns-then-not-is_patient-clause-awake : goal.returns-then-not-is_patient-clause-awake
@@ -19,7 +18,7 @@ returns-in-Some-clause-waits g c =
       mourns_none = c.requires.mourns_none;
       member = c.member_at.result.now;
       found = ap (λ (i : ℕ). slice_get c.args.self.now.members.items i) (sym c.requires.at) ∙ found;
-      lives = work-alive c.member_at.result.now (c.requires.lives c.member_at.result.now found);
+      lives = c.requires.lives c.member_at.result.now found;
       patient = sym c.is_patient.ensures ∙ c.if-not-is_patient.false;
       blocked = c.in-Some.ensures.waits;
     }

@@ -23,12 +23,12 @@ since old new before now n e f h = subst (λ (es : List Declared). n ≡ answers
 
 pub invariant_of-self : goal.invariant_of-self
 invariant_of-self g c =
-    driven-on g.O.Origin.sessions c.args.s.number c.self.inside.answers c.self.inside.cluster c.turn-turn.new.self c.turn-turn.result c.answers_behind.result c.requires.session c.self.invariant c.turn-turn.ensures.came
+    driven-on (g.O.Origin.opening).stops g.O.Origin.sessions c.args.s.number c.self.inside.answers c.self.inside.cluster c.turn-turn.new.self c.turn-turn.result c.answers_behind.result c.requires.session c.self.invariant c.turn-turn.ensures.came
     (since c.self.inside.cluster.events c.turn-turn.new.self.events c.events-before.result.now c.events.result.now c.answers_behind.result c.events-before.ensures c.events.ensures c.answers_behind.ensures)
 
 pub overflow_add-self : goal.overflow_add-self
 overflow_add-self g c =
-    let fits = count-fits g.O.Origin.sessions c.args.s.number c.self.inside.answers c.self.inside.cluster c.turn-turn.new.self c.turn-turn.result c.answers_behind.result 18446744073709551616 c.requires.session c.self.invariant c.turn-turn.ensures.came
+    let fits = count-fits (g.O.Origin.opening).stops g.O.Origin.sessions c.args.s.number c.self.inside.answers c.self.inside.cluster c.turn-turn.new.self c.turn-turn.result c.answers_behind.result 18446744073709551616 c.requires.session c.self.invariant c.turn-turn.ensures.came
     (since c.self.inside.cluster.events c.turn-turn.new.self.events c.events-before.result.now c.events.result.now c.answers_behind.result c.events-before.ensures c.events.ensures c.answers_behind.ensures)
     (subst (λ (es : List Declared). length es < 18446744073709551616) c.events.ensures c.events.type_inv.0) in
     omega (arith, fits)

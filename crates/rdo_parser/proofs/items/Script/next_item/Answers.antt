@@ -1,16 +1,17 @@
-use Rattle.std.proofs.Common.{◌≡◌, ℕ, ◌+◌, ◌-◌, ◌≤◌, ◌<◌, take, drop, length, Some, None, ap, sym, subst, ◌∙◌, arith}
+use Rattle.std.proofs.Common.{◌≡◌, ℕ, List, ◌+◌, ◌-◌, ◌≤◌, ◌<◌, take, drop, length, Some, None, ap, sym, subst, ◌∙◌, arith}
 use Rattle.std.specs.List.{fold}
 use Rattle.std.proofs.lemmas.List.{length-take, length-drop}
 use Rattle.rdo_parser.specs.declared.place.Place.{Place}
 use Rattle.rdo_parser.specs.Places.{behind_byte, place_behind}
+use Rattle.rdo_parser.specs.Reader.{Reading}
 use Rattle.rdo_parser.specs.Script.{item_at}
 use Rattle.rdo_parser.proofs.PlaceLaws.{place_small, place_more}
-use Rattle.rdo_parser.proofs.ScriptLaws.{no_item, one_item}
+use Rattle.rdo_parser.proofs.ScriptLaws.{no_item, one_item, stops_behind}
 use Rattle.rdo_parser.proofs.items.Script.next_item.Goals as goal
 
 pub returns-in-None-clause-ok : goal.returns-in-None-clause-ok
 returns-in-None-clause-ok c =
-    let none = sym c.self.view_is ∙ no_item c.self.inside.text.now c.self.inside.at c.self.invariant.within (sym c.in_ok-item_at.ensures.value ∙ c.in-None.is) in (none, none)
+    let none = ap (λ (r : Reading). r.items) (sym c.self.view_is) ∙ no_item c.self.inside.text.now c.self.inside.at c.self.invariant.within (sym c.in_ok-item_at.ensures.value ∙ c.in-None.is) in (none, none)
 
 pub behind-self-inside-requires : goal.behind-self-inside-requires
 behind-self-inside-requires c =
@@ -32,4 +33,8 @@ invariant_of-self c =
 
 pub returns-in-Some-clause-ok : goal.returns-in-Some-clause-ok
 returns-in-Some-clause-ok c =
-    sym c.self.view_is ∙ one_item c.self.inside.text.now c.self.inside.at c.in-Some.found c.self.invariant.within (sym c.in_ok-item_at.ensures.value ∙ c.in-Some.is)
+    ap (λ (r : Reading). r.items) (sym c.self.view_is) ∙ one_item c.self.inside.text.now c.self.inside.at c.in-Some.found c.self.invariant.within (sym c.in_ok-item_at.ensures.value ∙ c.in-Some.is)
+
+pub returns-in-Some-clause-stops : goal.returns-in-Some-clause-stops
+returns-in-Some-clause-stops c =
+    sym (ap (λ (r : Reading). r.stops) (sym c.self.view_is) ∙ stops_behind c.self.inside.text.now c.self.inside.at c.in-Some.found c.self.invariant.within (sym c.in_ok-item_at.ensures.value ∙ c.in-Some.is))

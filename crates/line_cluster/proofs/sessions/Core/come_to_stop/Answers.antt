@@ -1,0 +1,24 @@
+use Rattle.std.proofs.Common.{◌≡◌, ◌∙◌, ap, sym, refl, subst, Bool, false, List, Some, slice_get}
+use Rattle.rdb_types.specs.declared.session.Cause.TheVariants.{Stop}
+use Rattle.session_states.specs.declared.stage.Member.{Member}
+use Rattle.line_cluster.specs.Going.{is_over}
+use Rattle.line_cluster.proofs.Coming.{died-here}
+use Rattle.line_cluster.proofs.Falling.{stop-may}
+use Rattle.line_cluster.proofs.Faults.{counts-otherwise}
+use Rattle.line_cluster.proofs.Stepping.{work-alive}
+use Rattle.line_cluster.proofs.sessions.Core.come_to_stop.Goals as goal
+
+pub fall-requires-clause-mortal : goal.fall-requires-clause-mortal
+fall-requires-clause-mortal g c = λ m found. stop-may g.O.Origin.opening c.args.s.number c.args.stops m c.requires.stops (c.requires.stopping m found)
+
+pub fall-requires-clause-caused : goal.fall-requires-clause-caused
+fall-requires-clause-caused g c = λ told. counts-otherwise g.O.Origin.faults _ (g.L.LineStore.sight c.args.self.now.common.store) Stop refl (c.requires.sound.causes told)
+
+pub fall-requires-clause-lives : goal.fall-requires-clause-lives
+fall-requires-clause-lives g c = λ m found. work-alive c.args.stops m (c.requires.work m found)
+
+pub returns-clause-came : goal.returns-clause-came
+returns-clause-came g c =
+    let m = c.member_at-_member.result.now in
+    let found : slice_get c.args.self.now.members.items c.args.at ≡ Some m = ap (λ (ms : List Member). slice_get ms c.args.at) (sym c.deref.ensures.value) ∙ c.member_at-_member.ensures in
+    died-here (g.O.Origin.opening).stops c.args.s.number c.args.at Stop _ _ m refl c.requires.at found (subst (λ (b : Bool). is_over b m m.life ≡ false) c.requires.stops (c.requires.work m found)) (c.fall.ensures.died m found) c.fall.ensures.events
