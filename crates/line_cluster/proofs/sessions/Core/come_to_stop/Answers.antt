@@ -1,10 +1,11 @@
-use Rattle.std.proofs.Common.{◌≡◌, ◌∙◌, ap, sym, refl, subst, Bool, false, List, Some, slice_get}
+use Rattle.std.proofs.Common.{◌≡◌, ◌∙◌, ap, sym, refl, subst, map, Bool, false, List, Some, slice_get}
 use Rattle.rdb_types.specs.declared.session.Cause.TheVariants.{Stop}
+use Rattle.rdb_account.specs.Events.{event_of}
 use Rattle.session_states.specs.declared.stage.Member.{Member}
 use Rattle.line_cluster.specs.Going.{is_over}
 use Rattle.line_cluster.proofs.Coming.{died-here}
 use Rattle.line_cluster.proofs.Falling.{stop-may}
-use Rattle.line_cluster.proofs.Faults.{counts-otherwise}
+use Rattle.line_cluster.proofs.Faults.{counts-fewer, other-death}
 use Rattle.line_cluster.proofs.Stepping.{work-alive}
 use Rattle.line_cluster.proofs.sessions.Core.come_to_stop.Goals as goal
 
@@ -12,7 +13,7 @@ pub fall-requires-clause-mortal : goal.fall-requires-clause-mortal
 fall-requires-clause-mortal g c = λ m found. stop-may g.O.Origin.opening c.args.s.number c.args.stops m c.requires.stops (c.requires.stopping m found)
 
 pub fall-requires-clause-caused : goal.fall-requires-clause-caused
-fall-requires-clause-caused g c = λ told. counts-otherwise g.O.Origin.faults _ (g.L.LineStore.sight c.args.self.now.common.store) Stop refl (c.requires.sound.causes told)
+fall-requires-clause-caused g c = λ told. counts-fewer g.O.Origin.faults _ _ (g.L.LineStore.sight c.args.self.now.common.store) (other-death (map event_of c.args.self.now.events.items) Stop c.args.self.now.halt refl) (c.requires.sound.causes told)
 
 pub fall-requires-clause-lives : goal.fall-requires-clause-lives
 fall-requires-clause-lives g c = λ m found. work-alive c.args.stops m (c.requires.work m found)
