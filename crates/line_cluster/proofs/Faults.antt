@@ -111,8 +111,8 @@ no-more events es old new alive quiet = let e = deaths-append events es in omega
 pub stopped-no-more : (events : List Event) (old new : Option Halt) → faults_in new ≡ 0 → failures events new ≤ failures events old
 stopped-no-more events old new quiet = omega (arith, quiet)
 
-death-of : (s : ℕ) (cause : Cause) → device_deaths (Died s cause ∷ []) ≡ faults_of cause + 0
-death-of s cause = refl
+death-of : (s : ℕ) (cause : Cause) → device_deaths (Died s cause ∷ []) ≡ faults_of cause
+death-of s cause = omega arith
 
 -- a death, and the fault for it
 pub one-death : (events : List Event) (s : ℕ) (cause : Cause) (halt : Option Halt) → faults_in halt ≡ 0 → failures (events ++ Died s cause ∷ []) halt ≤ device_deaths events + faults_of cause
