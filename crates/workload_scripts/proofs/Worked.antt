@@ -1,7 +1,8 @@
 -- Worked scripts.
-use Rattle.std.specs.Prelude.{◌≡◌, [], ◌∷◌, codes, refl}
+use Rattle.std.specs.Prelude.{◌≡◌, pos, [], ◌∷◌, codes, refl}
 use Rattle.std.specs.Fmt.{digits}
 use Rattle.workload_scripts.specs.Draws.{drawn, transfer_drawn, behind_transfers}
+use Rattle.workload_scripts.specs.Report.{report_text}
 use Rattle.workload_scripts.specs.Scripts.{first_script, stores_to, transfers_to, drawn_before}
 
 -- the first numbers behind 2
@@ -25,3 +26,7 @@ third = refl
 each_first : transfer_drawn 2 (drawn_before 2 1) ∷ transfer_drawn 2 (drawn_before 2 2) ∷ transfer_drawn 2 (drawn_before 2 3) ∷ [] ≡ record { from = 1; to = 2; amount = 65 } ∷ record { from = 2; to = 1; amount = 52 } ∷ record { from = 1; to = 2; amount = 79 } ∷ []
 unfolding drawn_before behind_transfers drawn
 each_first = refl
+
+report : report_text (record { accounts = pos 2; total = pos 2000; faults = 0 }) ≡ codes "accounts 2\ntotal 2000\nfaults 0\n"
+unfolding digits
+report = refl

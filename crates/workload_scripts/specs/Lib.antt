@@ -1,3 +1,4 @@
 pub mod Draws
+pub mod Report
 pub mod Scripts
 pub mod Texts
