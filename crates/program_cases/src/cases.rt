@@ -1,4 +1,5 @@
 // What lines of the cases say.
+use crate::failing::tell_failures;
 use crate::following::{tell_anew, tell_crashes, tell_deaths, tell_runs};
 use crate::keeping::run_made;
 use crate::making::{tell_again, tell_stopped};
@@ -145,6 +146,7 @@ pub fn say<R: Print + AllocGlobal + Threads + Wait + Sync>(
         "run-long" => run_long(rt, rest),
         "say-chain" => say_chain(rt, rest),
         "failing-source" | "failing-sink" | "failing-disk" => failing(rt, about, rest),
+        "failures" => tell_failures(rt, rest),
         "again" => tell_again(rt, rest),
         "over" => over(rt, rest, 0),
         "over-failing-sink" => over(rt, rest, 1),

@@ -2,6 +2,7 @@
 #![tactic(auto)]
 
 mod cases;
+mod failing;
 mod following;
 mod keeping;
 mod making;

@@ -92,7 +92,7 @@ const SLOTS: u32 = 4096;
 const CALLS: u32 = 65536;
 
 /// A NEW that is done makes so many calls.
-const NEW_CALLS: u32 = 27;
+pub const NEW_CALLS: u32 = 27;
 
 /// A disk of zeros, with room for a database and for scripts. The call with this number fails, 0 for none.
 pub fn wide_disk(alloc: Global, fails: u32) -> Result<MemoryDisk, NoMemory> {
