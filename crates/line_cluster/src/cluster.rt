@@ -140,7 +140,7 @@ impl<O: Origin, S: Reserves + Reaches, L: LineStore + Drop> LineCluster<O, S, L>
     }
 
     // Whether the script of a session ends in a stop.
-    fn stops(&self, s: Session) -> bool
+    fn ends_in_stop(&self, s: Session) -> bool
         requires session { IsSession O.sessions s.number }
         ensures { result ≡ O.opening.stops s.number }
     {
@@ -154,7 +154,7 @@ impl<O: Origin, S: Reserves + Reaches, L: LineStore + Drop> LineCluster<O, S, L>
         ensures nearer { result ≡ Turn.Moved → Less self.new.measure self.old.measure }
         ensures rests { O.told → Rests O.opening s.number self.old result }
     {
-        let stops = self.stops(s);
+        let stops = self.ends_in_stop(s);
         self.core.turn(s, stops)
     }
 
@@ -165,7 +165,7 @@ impl<O: Origin, S: Reserves + Reaches, L: LineStore + Drop> LineCluster<O, S, L>
         requires own { is_device cause ≡ false }
         ensures came { DeathCame O.opening.stops s.number cause self.old self.new }
     {
-        let stops = self.stops(s);
+        let stops = self.ends_in_stop(s);
         self.core.die(s, stops, cause);
     }
 
@@ -181,7 +181,7 @@ impl<O: Origin, S: Reserves + Reaches, L: LineStore + Drop> LineCluster<O, S, L>
     pub fn begins_item(&self, s: Session) -> bool
         requires session { IsSession O.sessions s.number }
     {
-        let stops = self.stops(s);
+        let stops = self.ends_in_stop(s);
         let member = &self.core.members[s.number as usize - 1];
         takes_item(member) || is_stopping(member, stops)
     }

@@ -1,5 +1,5 @@
 -- A session dies where it stands, and is recovered.
-use Rattle.std.proofs.Common.{◌≡◌, ◌≤◌, ℕ, ◌+◌, ◌-◌, ◌++◌, ◌∷◌, [], ◌&&◌, ◌==◌, Bool, true, false, List, length, map, refl, ◌∙◌, sym, ap, subst, arith, Option, Some, None}
+use Rattle.std.proofs.Common.{◌≡◌, ◌≤◌, ℕ, suc, ◌+◌, ◌-◌, ◌++◌, ◌∷◌, [], ◌&&◌, ◌==◌, Bool, true, false, List, length, map, refl, ◌∙◌, sym, ap, subst, arith, Option, Some, None}
 use Rattle.std.proofs.lemmas.Bool.{false≢true, and_parts}
 use Rattle.std.proofs.lemmas.Option.{none-some, same_Some}
 use Rattle.rdb_types.specs.declared.session.Cause.{Cause}
@@ -82,10 +82,14 @@ none-under-way (Ending end) h = absurd (false≢true h)
 none-read : (stage : ReaderStage) → is_reader_between stage ≡ true → reader_item stage ≡ None
 none-read look.Between h = refl
 none-read (look.Working item work) h = absurd (false≢true h)
+none-read (look.Gathering item need later place) h = absurd (false≢true h)
 
 none-left : (left : List Item) → (length left == 0) ≡ true → left ≡ []
 none-left [] h = refl
-none-left (x ∷ xs) h = absurd (false≢true h)
+none-left (x ∷ xs) h = absurd (none (length xs) h)
+  where
+    none : (n : ℕ) → (suc n == 0) ≡ true → ⊥
+    none n h = grind arith
 
 both : (a b : Bool) → a ≡ true → b ≡ true → (a && b) ≡ true
 both true b h k = k
