@@ -38,8 +38,8 @@ in_front (x ∷ a) b zero l got = got
 in_front (x ∷ a) b (suc i) l got = in_front a b i l got
 
 pub behind_front : (a b : List GroupLine) (i : ℕ) → slice_get (a ++ b) (length a + i) ≡ slice_get b i
-behind_front [] b i = refl
-behind_front (x ∷ a) b i = behind_front a b i
+behind_front [] b i = ap (slice_get b) (let none : 0 + i ≡ i = omega arith in none)
+behind_front (x ∷ a) b i = ap (slice_get (x ∷ (a ++ b))) (let one : suc (length a) + i ≡ suc (length a + i) = omega arith in one) ∙ behind_front a b i
 
 pub is_among : (groups : List Group) (n i : ℕ) (g : Group) (l : GroupLine) → slice_get groups n ≡ Some g → slice_get g.lines i ≡ Some l → IsAmong groups l
 is_among [] n i g l at got = let bad : None ≡ Some g = at in absurd (cc)
