@@ -29,10 +29,10 @@ use Rattle.rdb_drive.specs.Boards.{Less}
 use Rattle.stage_steps.specs.declared.happening.Asking.{Asking}
 use Rattle.stage_steps.specs.declared.happening.Happening.{Happening}
 use Rattle.stage_steps.specs.declared.happening.Happening.TheVariants as happens
-use Rattle.stage_steps.specs.Nearer.{IsUnqueued, Nearer, NearerRecovered, is_patient_at}
+use Rattle.stage_steps.specs.Nearer.{IsUnqueued, Nearer, is_patient_at}
 use Rattle.stage_steps.specs.declared.dying.Recovery.{Recovery}
 use Rattle.stage_steps.specs.declared.dying.Recovery.TheVariants.{More, Done}
-use Rattle.stage_steps.specs.Deaths.{RecoversIn, life_behind}
+use Rattle.stage_steps.specs.Deaths.{NearerRecoveredIn, RecoversIn, life_behind}
 use Rattle.stage_steps.specs.Scenes.{Scene, NearerIn, beside}
 use Rattle.line_arms.specs.declared.allotment.Allotment.{Allotment}
 use Rattle.line_arms.specs.Going.{GoesOn}
@@ -214,7 +214,7 @@ module _ (M : Model) (c d : Scene) (members : List Member) (each : List Allotmen
   recovered l = record { left = m.left; total = m.total; phase = m.phase; life = l }
 
   -- it comes nearer, and nobody else does anything
-  nears-recovered : (r : Result Recovery Fault) (step : Recovery) → r ≡ Ok step → NearerRecovered (suc at) r (beside c) (beside d) m.left m.total m.phase →
+  nears-recovered : (r : Result Recovery Fault) (step : Recovery) → r ≡ Ok step → NearerRecoveredIn (suc at) r c d m.left m.total m.phase →
       Falls (rounds_at each (suc at)) (rounds_at each (suc at)) (beside c) (beside d) (suc at) (dead_session m.left m.total m.phase) (recovered (life_behind r))
   nears-recovered (Ok (Done committed moment)) step is near = near (rounds_at each (suc at)) (rounds_at each (suc at))
   nears-recovered (Ok More) step is near = near (rounds_at each (suc at))

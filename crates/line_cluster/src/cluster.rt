@@ -230,10 +230,11 @@ impl<O: Origin, S: Reserves + Reaches, L: LineStore + Drop> LineCluster<O, S, L>
         ensures outside { self.halted ≡ false → HaveEnded O.opening.stops self.members → (s : ℕ) → bare ((L.sight result.store).stand s) ≡ outside }
     {
         let LineCluster { core, stops: _ } = self;
+        let halt = core.halt;
         Finished {
             events: Items::from_vec(core.events),
             store: core.common.store,
-            halt: core.halt,
+            halt,
         }
     }
 }

@@ -20,6 +20,6 @@ fall-requires-clause-lives g c = λ m found. work-alive c.args.stops m (c.requir
 
 pub returns-clause-came : goal.returns-clause-came
 returns-clause-came g c =
-    let m = c.member_at-_member.result.now in
-    let found : slice_get c.args.self.now.members.items c.args.at ≡ Some m = ap (λ (ms : List Member). slice_get ms c.args.at) (sym c.deref.ensures.value) ∙ c.member_at-_member.ensures in
+    let m = c.member_at-member.result.now in
+    let found : slice_get c.args.self.now.members.items c.args.at ≡ Some m = ap (λ (ms : List Member). slice_get ms c.args.at) (sym c.deref.ensures.value) ∙ c.member_at-member.ensures in
     died-here (g.O.Origin.opening).stops c.args.s.number c.args.at Stop _ _ m refl c.requires.at found (subst (λ (b : Bool). is_over b m m.life ≡ false) c.requires.stops (c.requires.work m found)) (c.fall.ensures.died m found) c.fall.ensures.events
