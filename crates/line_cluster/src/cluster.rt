@@ -1,5 +1,5 @@
 //! The sessions of a run, of one origin.
-ghost use Rattle.std.specs.Prelude.{◌≡◌, ◌≤◌, ◌<◌, ◌^◌, ◌&&◌, ℕ, Bool, All, [], length, map, not, false, is_some, true, IfOk, IfErr};
+ghost use Rattle.std.specs.Prelude.{◌≡◌, ◌≤◌, ◌<◌, ◌^◌, ◌&&◌, ℕ, All, [], length, map, not, false, is_some, true, IfOk, IfErr};
 ghost use Rattle.rdb_account.specs.Events.{event_of};
 ghost use Rattle.rdb_account.specs.Legal.{IsLegal};
 ghost use Rattle.rdb_drive.specs.Boards.{Less};
@@ -63,28 +63,24 @@ impl<O: Origin, S: Statements, L: LineStore + Drop> Model for LineCluster<O, S, 
     ghost invariant = { λ c. AreSound S.stands O.told O.opening O.faults O.sessions (scene c.core.common.word (L.sight c.core.common.store) c.core.common.tree) c.core.members.items (map event_of c.core.events.items) c.core.halt c.stops.items };
 }
 
-// Whether each script ends in a stop.
-fn stops_of(alloc: Global, scripts: &[WholeScript]) -> Result<Vec<bool>, NoMemory>
-    ensures { IfOk result (λ stops. stops.items ≡ map stop_of scripts.now) }
+// Sessions that have said nothing, and whether the script of each ends in a stop.
+#[derive(Drop)]
+struct Beginning {
+    members: Vec<Member>,
+    stops: Vec<bool>,
+}
+
+// A session of each script.
+fn begin(alloc: Global, scripts: Vec<WholeScript>) -> Result<Beginning, NoMemory>
+    requires short { All (λ script. length script.items < 2 ^ 32) scripts.items }
+    ensures members { IfOk result (λ begun. begun.members.items ≡ map fresh_member scripts.items) }
+    ensures stops { IfOk result (λ begun. begun.stops.items ≡ map stop_of scripts.items) }
 {
+    let mut members = Vec::new(alloc);
     let mut stops = Vec::new(alloc);
     for script in scripts {
         stops.push(script.stops)?;
-    }
-    Ok(stops)
-}
-
-// A session of each script, which has said nothing.
-fn members_of(alloc: Global, scripts: Vec<WholeScript>) -> Result<Vec<Member>, NoMemory>
-    requires short { All (λ script. length script.items < 2 ^ 32) scripts.items }
-    ensures { IfOk result (λ members. members.items ≡ map fresh_member scripts.items) }
-{
-    let mut members = Vec::new(alloc);
-    for script in scripts {
-        let WholeScript {
-            items: left,
-            stops: _,
-        } = script;
+        let left = script.items;
         let total = left.len() as u32;
         members.push(Member {
             left,
@@ -93,7 +89,7 @@ fn members_of(alloc: Global, scripts: Vec<WholeScript>) -> Result<Vec<Member>, N
             life: Life::Alive,
         })?;
     }
-    Ok(members)
+    Ok(Beginning { members, stops })
 }
 
 impl<O: Origin, S: Reserves + Reaches, L: LineStore + Drop> LineCluster<O, S, L> {
@@ -112,10 +108,7 @@ impl<O: Origin, S: Reserves + Reaches, L: LineStore + Drop> LineCluster<O, S, L>
         ensures going { IfOk result (λ c. c.halted ≡ false) }
         ensures back { IfErr result (λ it. it ≡ store) }
     {
-        let Ok(stops) = stops_of(alloc, &scripts) else {
-            return Err(store);
-        };
-        let Ok(members) = members_of(alloc, scripts) else {
+        let Ok(Beginning { members, stops }) = begin(alloc, scripts) else {
             return Err(store);
         };
         let Ok(allotments) = Allotments::new(alloc) else {
