@@ -1,6 +1,9 @@
 -- A roll-forward that gave up, by its status, and one that was carried out.
-use Rattle.std.proofs.Common.{◌≡◌, ◌⊎◌, inl, inr, ℕ, refl, sym, ◌∙◌, arith}
+use Rattle.std.proofs.Common.{◌≡◌, ◌⊎◌, inl, inr, ℕ, List, Result, Ok, Err, is_err, refl, sym, ◌∙◌, ap, arith}
+use Rattle.std.proofs.lemmas.Bool.{false≢true}
 use Rattle.rdb_types.specs.declared.file.FileId.{FileId}
+use Rattle.journal_scan.specs.declared.group.Group.{Group}
+use Rattle.rolled_lines.specs.Journals.{Found, laid, gap}
 use Rattle.rmu_recover.specs.declared.fault.RecoverFault.{RecoverFault}
 use Rattle.rmu_recover.specs.declared.fault.RecoverFault.TheVariants.{Failed, NoMemory, Gap, Bad}
 use Rattle.rmu_keeping.specs.Rolling.{rolling_status, HasRolled}
@@ -30,6 +33,24 @@ not_four status wrote is = omega (arith, wrote, is)
 
 pub no_memory : (status : ℕ) → Wrote status → GaveUp status → status ≡ 5
 no_memory status wrote gave = omega (arith, wrote, gave)
+
+-- ---- one answer
+
+pub one_count : (a b : ℕ) (r : Result ℕ RecoverFault) → r ≡ Ok a → r ≡ Ok b → a ≡ b
+one_count a b r h k = let same = sym h ∙ k in cc
+
+pub one_fault : (a b : RecoverFault) (r : Result ℕ RecoverFault) → r ≡ Err a → r ≡ Err b → a ≡ b
+one_fault a b r h k = let same = sym h ∙ k in cc
+
+pub no_fault : (a : ℕ) (b : RecoverFault) (r : Result ℕ RecoverFault) → r ≡ Ok a → r ≡ Err b → ⊥
+no_fault a b r h k = false≢true (ap is_err (sym h ∙ k))
+
+pub none_given_up : (a : ℕ) (r : Result ℕ RecoverFault) → r ≡ Ok a → is_err r ≡ true → ⊥
+none_given_up a r h k = false≢true (sym (ap is_err h) ∙ k)
+
+-- what follows on has no gap
+pub not_both : (groups : List Group) (number : ℕ) (found : Found) → found ≡ laid groups → found ≡ gap number → ⊥
+not_both groups number found h k = let same = sym h ∙ k in (let bad : ⊥ = cc in bad)
 
 -- ---- its causes
 

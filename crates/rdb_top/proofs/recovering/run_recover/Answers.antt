@@ -1,4 +1,4 @@
-use Rattle.std.proofs.Common.{◌≡◌, inl, inr, ℕ, List, refl, subst, ◌∙◌, arith}
+use Rattle.std.proofs.Common.{◌≡◌, inl, inr, ℕ, List, refl, sym, subst, ◌∙◌, arith}
 use Rattle.rdb_outside.specs.Runs.{no_calls}
 use Rattle.rdb_outside.specs.Moments.{started, each_slot}
 use Rattle.database_opening.proofs.Others.{file_unused}

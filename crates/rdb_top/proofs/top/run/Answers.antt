@@ -1,4 +1,4 @@
-use Rattle.std.proofs.Common.{◌≡◌, ◌≢◌, ◌∙◌, ℕ, true, Some, ap, map, subst, sym}
+use Rattle.std.proofs.Common.{◌≡◌, ◌≢◌, ◌∙◌, ◌⊎◌, ⊎_elim, ℕ, true, Some, ap, map, subst, sym}
 use Rattle.backup_making.specs.Making.{file_of}
 use Rattle.journal_backup.specs.Copied.{copy_named}
 use Rattle.rmu_keeping.specs.Keeping.{BacksUp, BacksUpWithin, CopiesJournal, CopiesJournalWithin, Restores, RestoresWithin}

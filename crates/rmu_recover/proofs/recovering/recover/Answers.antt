@@ -1,4 +1,4 @@
-use Rattle.std.proofs.Common.{rules, ◌∙◌, ℕ, Err, [], inl, inr, sym, ap, arith}
+use Rattle.std.proofs.Common.{rules, ◌∙◌, ℕ, Err, is_err, [], inl, inr, refl, sym, ap, arith}
 use Rattle.std.proofs.lemmas.Result.{err_from_is_err_and}
 use Rattle.root_file.specs.declared.Root.{Root}
 use Rattle.root_file.proofs.Readings.{one_root}
@@ -136,7 +136,9 @@ returns-clause-in_use g c = let old = g.D.Disk.view c.args.disk.now in
     absurd (c.if-root-eq1.false (ap (λ (r : Root). r.state) same ∙ used))
 
 pub returns-in_err-root-clause-missing : goal.returns-in_err-root-clause-missing
-returns-in_err-root-clause-missing g c = λ t former root forward journals number to_roll stand gap. (search rules, c.standing_root.ensures.reads)
+returns-in_err-root-clause-missing g c = λ t former root forward journals number to_roll stand gap.
+    let p = err_from_is_err_and c.from_residual.result c.from_residual.ensures.1 in
+    (ap is_err p.1, c.standing_root.ensures.reads)
 
 pub returns-in_err-root-clause-idle : goal.returns-in_err-root-clause-idle
 returns-in_err-root-clause-idle g c = λ t root is used.
@@ -151,7 +153,10 @@ returns-then-root-eq1-clause-missing g c = let old = g.D.Disk.view c.args.disk.n
     absurd (not_used c.in_ok-root.root root its.0 its.1 its.2 (inl c.if-root-eq1.true))
 
 pub returns-then-root-eq2-clause-missing : goal.returns-then-root-eq2-clause-missing
-returns-then-root-eq2-clause-missing g c = λ t former root forward journals number to_roll stand gap. (search rules, c.standing_root.ensures.reads)
+returns-then-root-eq2-clause-missing g c = λ t former root forward journals number to_roll stand gap. (refl, c.standing_root.ensures.reads)
+
+pub returns-then-root-eq1-clause-idle : goal.returns-then-root-eq1-clause-idle
+returns-then-root-eq1-clause-idle g c = λ t root is used. inl refl
 
 pub returns-then-root-eq2-clause-idle : goal.returns-then-root-eq2-clause-idle
 returns-then-root-eq2-clause-idle g c = let old = g.D.Disk.view c.args.disk.now in

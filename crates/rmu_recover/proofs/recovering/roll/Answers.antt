@@ -1,4 +1,4 @@
-use Rattle.std.proofs.Common.{rules, ◌∙◌, ℕ, sym, refl, arith}
+use Rattle.std.proofs.Common.{rules, ◌∙◌, ℕ, is_err, sym, ap, refl, arith}
 use Rattle.std.proofs.lemmas.Result.{err_from_is_err_and}
 use Rattle.line_moves.proofs.Runs.{still_tells}
 use Rattle.database_opening.proofs.Others.{file_read, file_on}
@@ -110,7 +110,9 @@ returns-clause-others g c = let v = g.D.Disk.view in let old = v c.args.disk.now
     λ t file other. file_on old mid (v c.carry_out.new.disk) file (file_read old mid reads t file) (c.carry_out.ensures.others (still_tells old mid reads.told t) file other)
 
 pub returns-in_err-reached-clause-missing : goal.returns-in_err-reached-clause-missing
-returns-in_err-reached-clause-missing g c = λ t former forward journals number to_roll stand gap. (search rules, c.pass_all.ensures.reads)
+returns-in_err-reached-clause-missing g c = λ t former forward journals number to_roll stand gap.
+    let p = err_from_is_err_and c.from_residual-in_err-reached.result c.from_residual-in_err-reached.ensures.1 in
+    (ap is_err p.1, c.pass_all.ensures.reads)
 
 pub returns-in_err-carry_out-clause-missing : goal.returns-in_err-carry_out-clause-missing
 returns-in_err-carry_out-clause-missing g c = let v = g.D.Disk.view in let old = v c.args.disk.now in
