@@ -1,6 +1,5 @@
 -- Lines of groups, the writes that they are, and whose a page is behind them.
-use Rattle.std.proofs.Common.{◌≡◌, ℕ, zero, suc, ◌+◌, ◌-◌, ◌≤◌, ◌<◌, ◌==◌, ◌&&◌, Bool, true, false, cond, List, [], ◌∷◌, ◌++◌, length, map, slice_get, Option, Some, None, ◌⊎◌, inl, inr, ⊎_elim, refl, sym, ◌∙◌, ap, subst, arith}
-use Rattle.std.specs.List.{flat_map}
+use Rattle.std.proofs.Common.{◌≡◌, ℕ, zero, suc, ◌+◌, ◌-◌, ◌≤◌, ◌==◌, ◌&&◌, Bool, true, false, cond, List, [], ◌∷◌, ◌++◌, length, map, slice_get, Option, Some, None, refl, sym, ◌∙◌, ap, subst, arith}
 use Rattle.std.specs.Option.{option_map}
 use Rattle.std.proofs.lemmas.Option.{slice_get-map}
 use Rattle.aij_journal.specs.declared.part.GroupLine.{GroupLine}
@@ -9,7 +8,6 @@ use Rattle.line_view.specs.declared.writes.Write.{Write}
 use Rattle.line_versions.specs.Lines.{storage_area}
 use Rattle.stable_lines.specs.Slots.{area_file}
 use Rattle.stable_lines.specs.Journal.{write_of}
-use Rattle.line_moves.specs.Contents.{IsOn}
 use Rattle.rolled_lines.specs.HalfLaid.{writes_of}
 use Rattle.laid_groups.specs.Forward.{IsWrittenBy}
 use Rattle.restored_rolls.specs.Meeting.{lines_among, is_there, first_there, owner_met, class_met}

@@ -1,34 +1,33 @@
 -- Each slot of a restored image is one that may stand before a roll-forward.
-use Rattle.std.proofs.Common.{◌≡◌, ◌≢◌, ℕ, zero, suc, ◌+◌, ◌-◌, ◌≤◌, ◌<◌, max, take, List, [], ◌∷◌, length, Option, Some, None, ◌⊎◌, inl, inr, ⊎_elim, refl, sym, ◌∙◌, ap, subst, arith}
+use Rattle.std.proofs.Common.{◌≡◌, ℕ, zero, suc, ◌-◌, ◌≤◌, List, Option, Some, None, ◌⊎◌, inl, inr, ⊎_elim, refl, sym, ◌∙◌, ap, subst, arith}
 use Rattle.rdb_types.specs.declared.file.FileId.{FileId}
 use Rattle.rdb_types.specs.declared.keys.Dbkey.{Dbkey}
 use Rattle.rdb_types.specs.declared.keys.Line.{Line}
-use Rattle.rdb_outside.specs.Disk.{Image, zeros}
+use Rattle.rdb_outside.specs.Disk.{Image}
 use Rattle.root_file.specs.declared.Root.{Root}
 use Rattle.root_file.specs.Root.{IsRoot}
 use Rattle.root_file.proofs.Readings.{one_root}
 use Rattle.rdb_page.specs.Page.{IsOwner, IsUnused, class_at}
-use Rattle.rdb_page.specs.Whole.{IsUsedPage, IsPageOf}
-use Rattle.area_files.specs.Areas.{IsPage, IsDataPage, IsSpacePage, space_page_of}
+use Rattle.rdb_page.specs.Whole.{IsUsedPage}
+use Rattle.area_files.specs.Areas.{IsPage, IsDataPage, IsSpacePage}
 use Rattle.space_pages.specs.Space.{owner_of}
 use Rattle.aij_journal.specs.declared.part.GroupLine.{GroupLine}
-use Rattle.ruj_journal.specs.declared.entry.RujEntry.{RujEntry}
 use Rattle.ruj_journal.specs.Entry.{IsEntry}
 use Rattle.journal_scan.specs.declared.group.Group.{Group}
 use Rattle.line_view.specs.Knowledge.{Lines, line_in}
-use Rattle.line_versions.specs.Lines.{storage_area, shown}
+use Rattle.line_versions.specs.Lines.{shown}
 use Rattle.new_database.specs.Maker.{root_file}
-use Rattle.stable_lines.specs.Slots.{ruj_file, area_file, file_of, slot_of, owner_at, IsMember, IsAreaFile, line_on, line_at, named}
+use Rattle.stable_lines.specs.Slots.{ruj_file, area_file, file_of, owner_at, IsMember, IsAreaFile, line_on, line_at, named}
 use Rattle.stable_lines.specs.Journal.{Journal}
 use Rattle.stable_lines.specs.Image.{LineIs, as_it_stands, put_back, not_found}
 use Rattle.stable_lines.specs.Kept.{Kept, IsRujHeader, IsWellFormed, IsBelow}
 use Rattle.line_moves.specs.Contents.{IsOn}
 use Rattle.line_moves.proofs.Reading.{owner_is}
 use Rattle.rolled_lines.specs.HalfLaid.{writes_of}
-use Rattle.laid_groups.specs.Forward.{Forward, IsWrittenBy, IsHalfLaid, MayBePage, MayBeSpace, MayHold}
-use Rattle.rmu_recover.specs.Recovering.{IsJournalFile, IsRootBefore, MayStand}
+use Rattle.laid_groups.specs.Forward.{Forward, IsWrittenBy, MayBePage, MayBeSpace, MayHold}
+use Rattle.rmu_recover.specs.Recovering.{MayStand}
 use Rattle.rmu_recover.proofs.Ended.{ceiling_grows}
-use Rattle.restored_rolls.specs.Meeting.{lines_among, first_there, owner_met, class_met, page_in, entry_in, forward_over}
+use Rattle.restored_rolls.specs.Meeting.{lines_among, first_there, owner_met, page_in, entry_in, forward_over}
 use Rattle.restored_rolls.specs.Forth.{KeepsJournals}
 use Rattle.restored_rolls.proofs.Meeting.{first_writes, owner_stays, class_stays, owner_entered}
 

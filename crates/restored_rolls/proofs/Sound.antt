@@ -1,11 +1,10 @@
 -- What is rolled forward is sound.
-use Rattle.std.proofs.Common.{◌≡◌, ◌≢◌, ℕ, zero, suc, ◌+◌, ◌-◌, ◌≤◌, ◌<◌, List, [], ◌∷◌, ◌++◌, length, slice_get, Option, Some, None, ◌⊎◌, inl, inr, ⊎_elim, refl, sym, ◌∙◌, ap, subst, arith}
+use Rattle.std.proofs.Common.{◌≡◌, ℕ, zero, suc, ◌+◌, ◌≤◌, List, [], ◌∷◌, length, Some, None, ◌⊎◌, inl, inr, ⊎_elim, refl, sym, ◌∙◌, ap, subst, arith}
 use Rattle.rdb_types.specs.declared.keys.Dbkey.{Dbkey}
 use Rattle.rdb_types.specs.declared.keys.LineState.{LineState}
 use Rattle.rdb_types.specs.declared.keys.LineState.TheVariants.{Never, Present, Erased}
 use Rattle.rdb_outside.specs.Disk.{Image}
 use Rattle.rdb_page.specs.Page.{class_at}
-use Rattle.rdb_page.specs.Lines.{never}
 use Rattle.area_files.specs.Areas.{IsDataPage}
 use Rattle.aij_journal.specs.declared.part.GroupLine.{GroupLine}
 use Rattle.journal_scan.specs.declared.group.Group.{Group}
@@ -15,7 +14,7 @@ use Rattle.backup_file.specs.declared.header.BackupHead.{BackupHead}
 use Rattle.backup_file.specs.declared.line.BackupLine.{BackupLine}
 use Rattle.backup_file.specs.Whole.{lines_in}
 use Rattle.backup_reading.specs.Reading.{IsBackupOf}
-use Rattle.stable_lines.specs.Slots.{file_of, slot_of, owner_at, line_on, line_at}
+use Rattle.stable_lines.specs.Slots.{file_of, slot_of, owner_at}
 use Rattle.stable_lines.specs.Journal.{Journal, lines_behind}
 use Rattle.stable_lines.specs.Rolling.{laid_groups}
 use Rattle.stable_lines.proofs.Laying.{found_behind}
@@ -24,7 +23,7 @@ use Rattle.line_moves.proofs.KeyPlaces.{file_is}
 use Rattle.rmu_restore.specs.Restored.{IsRestored}
 use Rattle.rmu_restore.proofs.Finding.{some_found}
 use Rattle.rmu_recover.specs.Recovering.{AreSound}
-use Rattle.restored_rolls.specs.Meeting.{lines_among, first_there, page_in, class_behind, forward_over, FitPages, HaveClasses, AreOfClasses}
+use Rattle.restored_rolls.specs.Meeting.{lines_among, first_there, class_behind, forward_over, FitPages, HaveClasses, AreOfClasses}
 use Rattle.restored_rolls.proofs.Meeting.{IsAmong, in_front, behind_front, class_stays}
 use Rattle.restored_rolls.proofs.Slots.{as_it_is}
 

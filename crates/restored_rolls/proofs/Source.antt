@@ -1,10 +1,9 @@
 -- Groups that follow on from the backup and fit the pages of a restored image are what is laid.
-use Rattle.std.proofs.Common.{◌≡◌, ℕ, ◌+◌, ◌≤◌, ◌<◌, List, slice_get, Option, Some, None, inl, refl, sym, ◌∙◌, ap, subst, arith}
+use Rattle.std.proofs.Common.{◌≡◌, ℕ, ◌+◌, ◌≤◌, ◌<◌, List, slice_get, Some, inl, refl, sym, ◌∙◌, ap, subst, arith}
 use Rattle.rdb_types.specs.declared.keys.Limits.{Limits}
 use Rattle.rdb_outside.specs.Disk.{Image}
 use Rattle.aij_journal.specs.declared.part.GroupLine.{GroupLine}
 use Rattle.aij_journal.specs.Header.{IsHeader}
-use Rattle.root_file.specs.declared.Root.{Root}
 use Rattle.journal_scan.specs.declared.group.Group.{Group}
 use Rattle.journal_scan.specs.Standing.{what_stands}
 use Rattle.new_database.specs.Maker.{aij_file}
@@ -18,9 +17,9 @@ use Rattle.laid_groups.specs.Forward.{Forward, FitsLine, FitLines}
 use Rattle.rmu_restore.specs.Restored.{IsRestored}
 use Rattle.rmu_recover.specs.Journals.{files_of, AreJournalsIn}
 use Rattle.rmu_recover.specs.Recovering.{MayBeRolled, IsSource}
-use Rattle.restored_rolls.specs.Meeting.{lines_among, forward_over, FitsPage, FitPages}
+use Rattle.restored_rolls.specs.Meeting.{lines_among, forward_over, FitPages}
 use Rattle.restored_rolls.specs.Forth.{KeepsJournals}
-use Rattle.restored_rolls.proofs.Meeting.{IsAmong, is_among, is_write}
+use Rattle.restored_rolls.proofs.Meeting.{is_among, is_write}
 use Rattle.restored_rolls.proofs.Slots.{may_stand, below, top_grows}
 
 module _ (was image : Image) (classes : ℕ → ℕ) (head : BackupHead) (lines : List BackupLine) (journal : Journal) (groups : List Group) (keeps : KeepsJournals was image) (is : IsRestored was classes head lines journal image) where

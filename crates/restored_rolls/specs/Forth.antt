@@ -14,9 +14,8 @@ use Rattle.stable_lines.specs.Kept.{Kept}
 use Rattle.stable_lines.specs.Rolling.{laid_groups}
 use Rattle.rolled_lines.specs.Journals.{follow, laid}
 use Rattle.laid_groups.specs.Forward.{Forward}
-use Rattle.rmu_restore.specs.Restored.{IsRestored}
 use Rattle.rmu_recover.specs.Journals.{files_of, AreJournalsIn}
-use Rattle.rmu_recover.specs.Recovering.{IsJournalFile, MayBeRolled, IsSource, AreSound, IsRolled}
+use Rattle.rmu_recover.specs.Recovering.{IsJournalFile, MayBeRolled, IsSource, AreSound}
 use Rattle.restored_rolls.specs.Meeting.{FitPages, HaveClasses}
 
 -- the after-image journal and its copies are as they were
