@@ -111,7 +111,7 @@ returns-clause-others g c = let v = g.D.Disk.view in let old = v c.args.disk.now
 
 pub returns-in_err-reached-clause-missing : goal.returns-in_err-reached-clause-missing
 returns-in_err-reached-clause-missing g c = λ t former forward journals number to_roll stand gap.
-    let p = err_from_is_err_and c.from_residual-in_err-reached.result c.from_residual-in_err-reached.ensures.1 in
+    let p = err_from_is_err_and c.from_residual.result c.from_residual.ensures.1 in
     (ap is_err p.1, c.pass_all.ensures.reads)
 
 pub returns-in_err-carry_out-clause-missing : goal.returns-in_err-carry_out-clause-missing
