@@ -1,6 +1,7 @@
 // The words of the command line.
 use command_words::{
-    Command, Death, DeathPoint, PagePlace, command_of, copies_of, database_word, order_of, script_words,
+    Command, Death, DeathPoint, PagePlace, command_of, copies_of, database_word, order_of,
+    script_words,
 };
 use rdb_types::{Items, Limits, NoMemory, Word};
 use std::alloc::Global;
