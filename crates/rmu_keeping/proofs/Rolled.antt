@@ -1,5 +1,5 @@
 -- A roll-forward that gave up, by its status, and one that was carried out.
-use Rattle.std.proofs.Common.{◌≡◌, ◌⊎◌, inl, inr, ℕ, List, Result, Ok, Err, is_err, refl, sym, ◌∙◌, ap, arith}
+use Rattle.std.proofs.Common.{◌≡◌, ◌⊎◌, inl, inr, ℕ, true, List, Result, Ok, Err, is_err, refl, sym, ◌∙◌, ap, arith}
 use Rattle.std.proofs.lemmas.Bool.{false≢true}
 use Rattle.rdb_types.specs.declared.file.FileId.{FileId}
 use Rattle.journal_scan.specs.declared.group.Group.{Group}

@@ -78,3 +78,9 @@ pub returns-in-Err-clause-gap : goal.returns-in-Err-clause-gap
 returns-in-Err-clause-gap g c = λ t lacks.
     let missing = c.recover.ensures.missing t lacks.former lacks.root lacks.forward lacks.journals lacks.number lacks.to_roll lacks.stand lacks.missing in
     (λ has. not_rolled c.status_of_rolling.result (gave_up c.in-Err.fault c.status_of_rolling.result c.status_of_rolling.ensures) has, missing.1)
+
+pub returns-in-Ok-clause-in_use : goal.returns-in-Ok-clause-in_use
+returns-in-Ok-clause-in_use g c = λ t used. c.recover.ensures.in_use t used.root used.is used.state
+
+pub returns-in-Err-clause-in_use : goal.returns-in-Err-clause-in_use
+returns-in-Err-clause-in_use g c = λ t used. c.recover.ensures.in_use t used.root used.is used.state
