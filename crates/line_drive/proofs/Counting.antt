@@ -1,5 +1,5 @@
 -- The answers of each session are counted.
-use Rattle.std.proofs.Common.{◌≡◌, ◌≤◌, ◌<◌, ℕ, zero, suc, ◌+◌, ◌++◌, ◌∷◌, [], ◌==◌, false, List, length, refl, ◌∙◌, sym, ap, subst, arith, Some, slice_get, slice_set, slice_index_or, drop, map, inl, inr}
+use Rattle.std.proofs.Common.{◌≡◌, ◌≤◌, ◌<◌, ℕ, zero, suc, ◌+◌, ◌++◌, ◌∷◌, [], ◌==◌, Bool, false, List, length, refl, ◌∙◌, sym, ap, subst, arith, Some, slice_get, slice_set, slice_index_or, drop, map, inl, inr}
 use Rattle.std.proofs.lemmas.Bool.{cases_Bool, eqb-true}
 use Rattle.std.proofs.lemmas.Option.{same_Some}
 use Rattle.rdb_types.specs.declared.session.Cause.{Cause}

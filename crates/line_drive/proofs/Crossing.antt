@@ -90,7 +90,7 @@ core_send A B L K l = struct_send (S.shape (Core.the_type A B L K)) (
 
 module _ (A B L K : RattleType) (a : OriginGhosts A.Denot) (b : StatementGhosts B.Denot K.Denot) (l : StoreGhosts L.Denot) (send : IsSend L) where
   cluster_send : IsSend (LineCluster.the_row A B L K a b l)
-  cluster_send = view_send _ _ _ _ _ (whole_struct (cluster_inside.the_type A B L K a b l) (struct_send (S.shape (cluster_inside.the_type A B L K a b l)) (core_send A B L K send, tt)))
+  cluster_send = view_send _ _ _ _ _ (whole_struct (cluster_inside.the_type A B L K a b l) (struct_send (S.shape (cluster_inside.the_type A B L K a b l)) (core_send A B L K send, (search (sendable, crosses), tt))))
 
   pub driver_send : IsSend (LineDriver.the_row A B L K a b l)
   driver_send = view_send _ _ _ _ _ (whole_struct (driver_inside.the_type A B L K a b l) (struct_send (S.shape (driver_inside.the_type A B L K a b l)) (cluster_send, (search (sendable, crosses), tt))))
