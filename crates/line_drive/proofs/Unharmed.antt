@@ -1,5 +1,5 @@
 -- Where no event of a legal account is a death, nobody has died.
-use Rattle.std.proofs.Common.{◌≡◌, ◌&&◌, ◌||◌, ◌==◌, if◌then◌else◌, ℕ, Bool, true, false, List, [], ◌∷◌, refl, ◌∙◌, sym, ap, subst, Option, Some, None}
+use Rattle.std.proofs.Common.{◌≡◌, ◌&&◌, ◌||◌, ◌==◌, ℕ, Bool, true, false, List, [], ◌∷◌, refl, ◌∙◌, sym, ap, Option, Some, None}
 use Rattle.std.proofs.lemmas.Bool.{false≢true, and_parts}
 use Rattle.rdo_ast.specs.Tree.{Uttered}
 use Rattle.rdb_account.specs.Events.{Event, Began, Wanted, Got, Demoted, Said, Committed, RolledBack, Died, Recovered}

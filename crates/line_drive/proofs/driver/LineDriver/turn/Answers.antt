@@ -1,4 +1,4 @@
-use Rattle.std.proofs.Common.{◌≡◌, ◌<◌, ℕ, false, true, subst, sym, ◌∙◌, arith, length, drop, List}
+use Rattle.std.proofs.Common.{◌≡◌, ◌<◌, ℕ, subst, sym, ◌∙◌, arith, length, drop, List}
 use Rattle.rdb_account.specs.declared.event.Event.{Event as Declared}
 use Rattle.rdb_drive.specs.Boards.{answers}
 use Rattle.rdb_drive.specs.Steps.{StepOf}
@@ -7,7 +7,6 @@ use Rattle.rdb_drive.specs.declared.driven.Step.TheVariants as step
 use Rattle.line_cluster.specs.Turned.{Sessions}
 use Rattle.line_drive.specs.Boards.{board_of, marks_of}
 use Rattle.line_drive.proofs.Counting.{count-fits, driven-on}
-use Rattle.line_drive.specs.Turns.{step_for}
 use Rattle.line_drive.proofs.Turning.{spent, turned}
 use Rattle.line_drive.proofs.driver.LineDriver.turn.Goals as goal
 

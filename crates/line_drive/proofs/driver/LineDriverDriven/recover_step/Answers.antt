@@ -1,11 +1,10 @@
-use Rattle.std.proofs.Common.{◌≡◌, false, true, subst, sym, ◌∙◌}
+use Rattle.std.proofs.Common.{subst, sym, ◌∙◌}
 use Rattle.rdb_drive.specs.Steps.{RecoveryOf}
 use Rattle.rdb_drive.specs.declared.driven.Step.{Step}
 use Rattle.rdb_drive.specs.declared.driven.Step.TheVariants as step
 use Rattle.line_cluster.specs.Turned.{Sessions}
 use Rattle.line_drive.specs.Boards.{board_of}
 use Rattle.line_drive.proofs.Counting.{driven-recovering}
-use Rattle.line_drive.specs.Turns.{step_for}
 use Rattle.line_drive.proofs.Dying.{recovered, recovery-spent}
 use Rattle.line_drive.proofs.driver.LineDriverDriven.recover_step.Goals as goal
 
