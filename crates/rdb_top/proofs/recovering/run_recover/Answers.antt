@@ -1,4 +1,4 @@
-use Rattle.std.proofs.Common.{◌≡◌, inl, inr, ℕ, List, refl, sym, subst, ◌∙◌, arith}
+use Rattle.std.proofs.Common.{◌≡◌, inl, inr, ℕ, true, List, refl, sym, subst, ◌∙◌, arith}
 use Rattle.rdb_outside.specs.Runs.{no_calls}
 use Rattle.rdb_outside.specs.Moments.{started, each_slot}
 use Rattle.database_opening.proofs.Others.{file_unused}
@@ -17,7 +17,7 @@ returns-in-Ok-clause-rolled g c has t =
 pub returns-in-Ok-clause-tells : goal.returns-in-Ok-clause-tells
 returns-in-Ok-clause-tells g c =
     let v = g.D.Disk.view in
-    subst (λ (ns : List ℕ). TellsGroups (v c.args.disk.now) ns c.recover_command.result _ (g.K.Sink.taken c.args.out.now) (g.K.Sink.taken c.recover_command.new.out)) (c.as_slice.ensures ∙ c.in-Ok.ensures.value) c.recover_command.ensures.tells
+    subst (λ (ns : List ℕ). TellsGroups (v c.args.disk.now) ns c.recover_command.result (g.K.Sink.tells c.args.out.now ≡ true) (g.K.Sink.taken c.args.out.now) (g.K.Sink.taken c.recover_command.new.out)) (c.as_slice.ensures ∙ c.in-Ok.ensures.value) c.recover_command.ensures.tells
 
 pub returns-in-Ok-clause-refused : goal.returns-in-Ok-clause-refused
 returns-in-Ok-clause-refused g c four t may =

@@ -53,7 +53,7 @@ pub returns-in-Ok-clause-harmed : goal.returns-in-Ok-clause-harmed
 returns-in-Ok-clause-harmed g c told = rw c.finish_scripts.ensures.events (rw c.finish_scripts.ensures.disk (rose-deaths (map event_of c.say_scripts-ran.result.events) c.say_scripts-ran.result.halt _ _ (c.say_scripts-ran.ensures.harmed told)))
 
 pub returns-in-Err-clause-harmed : goal.returns-in-Err-clause-harmed
-returns-in-Err-clause-harmed g c told = rw c.unsaid.ensures.disk (nobody-died c.unsaid.result.events None _ c.unsaid.ensures.events refl)
+returns-in-Err-clause-harmed g c told = rw c.unsaid.ensures.disk (rose-deaths (map event_of c.unsaid.result.events) None _ _ (nobody-died c.unsaid.result.events None _ c.unsaid.ensures.events refl))
 
 pub returns-in-Ok-clause-device : goal.returns-in-Ok-clause-device
 returns-in-Ok-clause-device g c is = rw c.finish_scripts.ensures.disk (elim (c.finish_scripts.ensures.failed is) [
