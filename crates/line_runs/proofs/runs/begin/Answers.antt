@@ -30,7 +30,7 @@ returns-in-Err-start-clause-later g c = λ told.
     let begins = c.in-Ok.ensures.begins w.tells w.classes w.lines w.journal w.kept w.by_area w.lie in
     let content = (g.D.Disk.view c.args.disk).content in
     let opened = same-shown _ o faults c.args.said.word (sight_of v c.in-Ok.held) sight (λ h shown. (c.new-store.ensures.shows h).1 shown)
-        (c.a_run_opens.ensures content w.lines w.journal c.args.said.word o faults begins (at-moment content w.journal v.moment o w.opens) (sym c.requires.word) w.stands
-        (subst (λ (n : ℕ). n ≤ v.faults) (sym (c.requires.faults told)) c.open.ensures.no_fewer)) in
+    (c.a_run_opens.ensures content w.lines w.journal c.args.said.word o faults begins (at-moment content w.journal v.moment o w.opens) (sym c.requires.word) w.stands
+    (subst (λ (n : ℕ). n ≤ v.faults) (sym (c.requires.faults told)) c.open.ensures.no_fewer)) in
     let back : IsBack sight end = subst (λ t. IsBack (sight_of (g.D.Disk.view t.disk) t.held) end) c.in-Err-start.ensures.back c.into_disk.ensures in
     subst (λ (n : ℕ). n ≤ end.faults) (c.requires.faults told) (no-fewer _ o end sight back faults c.args.said.word opened)
