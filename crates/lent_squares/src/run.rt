@@ -8,7 +8,11 @@ use std::thread;
 use std::thread::Threads;
 
 // Takes a number out of the office, squares it with no lock held, and gives the square back.
-fn square_one<R: Wait, J: Naming + Asked>(rt: &R, shared: &Mutex<Option<Office<J>>>, is_first: bool) {
+fn square_one<R: Wait, J: Naming + Asked>(
+    rt: &R,
+    shared: &Mutex<Option<Office<J>>>,
+    is_first: bool,
+) {
     let mut office = shared.lock(rt);
     let Some(it) = office.take() else {
         return;

@@ -1,4 +1,4 @@
-use Rattle.lent_squares.proofs.squares.Given as goal
+use Rattle.lent_squares.proofs.run.squares.Given as goal
 
 -- the desk that was just opened
 abbrev pub ghosts-square_both-J-Naming : goal.ghosts-square_both-J-Naming
