@@ -1,6 +1,7 @@
 //! Two threads square a number each outside the lock under which the numbers lie: each square is of the number that was lent.
 #![tactic(auto)]
 
+mod bench;
 mod office;
 mod run;
 mod seat;

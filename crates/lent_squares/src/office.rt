@@ -1,9 +1,11 @@
 ghost use Rattle.std.specs.Prelude.{◌≡◌, ◌*◌, IfSome};
 
+use crate::bench::Bench;
 use crate::seat::Seat;
 use crate::square::Square;
 use lent_values::{Desk, Loan, Naming, Opened, Worked};
-use std::marker::Brand;
+use std::marker::{Brand, Send};
+use std::mem::replace;
 
 /// Which numbers are to be squared. Each call picks them.
 pub trait Asked {
@@ -42,58 +44,6 @@ impl<J: Naming + Asked> Office<J> {
         }
     }
 
-    // Lends a number, where it is due.
-    pub(crate) fn hand_out(self, is_first: bool) -> (Office<J>, Option<Loan<J, u32>>) {
-        let Office {
-            mut desk,
-            first,
-            second,
-        } = self;
-        if is_first {
-            let (first, loan) = first.hand_out(&mut desk);
-            (
-                Office {
-                    desk,
-                    first,
-                    second,
-                },
-                loan,
-            )
-        } else {
-            let (second, loan) = second.hand_out(&mut desk);
-            (
-                Office {
-                    desk,
-                    first,
-                    second,
-                },
-                loan,
-            )
-        }
-    }
-
-    // Takes a square back.
-    pub(crate) fn take(self, is_first: bool, worked: Worked<J, u32, Square>) -> Office<J> {
-        let Office {
-            desk,
-            first,
-            second,
-        } = self;
-        if is_first {
-            Office {
-                desk,
-                first: first.take(worked),
-                second,
-            }
-        } else {
-            Office {
-                desk,
-                first,
-                second: second.take(worked),
-            }
-        }
-    }
-
     // Both squares, once both are worked.
     pub(crate) fn end(self) -> Option<(u64, u64)>
         ensures { IfSome result (λ r. (r.0 ≡ J.first * J.first) × (r.1 ≡ J.second * J.second)) }
@@ -107,5 +57,35 @@ impl<J: Naming + Asked> Office<J> {
             return None;
         };
         Some((first, second))
+    }
+}
+
+impl<J: Naming + Asked + Send> Bench for Office<J> {
+    type Piece = Loan<J, u32>;
+
+    type Done = Worked<J, u32, Square>;
+
+    fn hand_out(&mut self, is_first: bool) -> Option<Loan<J, u32>> {
+        if is_first {
+            let (seat, loan) = replace(&mut self.first, Seat::new(0)).hand_out(&mut self.desk);
+            self.first = seat;
+            loan
+        } else {
+            let (seat, loan) = replace(&mut self.second, Seat::new(0)).hand_out(&mut self.desk);
+            self.second = seat;
+            loan
+        }
+    }
+
+    fn work(piece: Loan<J, u32>) -> Worked<J, u32, Square> {
+        piece.work()
+    }
+
+    fn take(&mut self, is_first: bool, done: Worked<J, u32, Square>) {
+        if is_first {
+            self.first = replace(&mut self.first, Seat::new(0)).take(done);
+        } else {
+            self.second = replace(&mut self.second, Seat::new(0)).take(done);
+        }
     }
 }

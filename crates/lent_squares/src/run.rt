@@ -1,36 +1,32 @@
 ghost use Rattle.std.specs.Prelude.{◌≡◌, ◌*◌, IfSome};
 
+use crate::bench::Bench;
 use crate::office::{Asked, Office};
 use lent_values::{Naming, Opened};
-use std::marker::Brand;
+use std::marker::{Brand, Send};
 use std::sync::{Mutex, Wait};
 use std::thread;
 use std::thread::Threads;
 
-// Takes a number out of the office, squares it with no lock held, and gives the square back.
-fn square_one<R: Wait, J: Naming + Asked>(
-    rt: &R,
-    shared: &Mutex<Option<Office<J>>>,
-    is_first: bool,
-) {
-    let mut office = shared.lock(rt);
-    let Some(it) = office.take() else {
-        return;
-    };
-    let (it, loan) = it.hand_out(is_first);
-    *office = Some(it);
-    drop(office);
-    let Some(loan) = loan else {
-        return;
-    };
-    let worked = loan.work();
-    let mut office = shared.lock(rt);
-    if let Some(it) = office.take() {
-        *office = Some(it.take(is_first, worked));
+// Takes a piece out, works it with no lock held, and gives back what it came to.
+fn work_one<R: Wait, X: Bench>(rt: &R, shared: &Mutex<X>, is_first: bool) {
+    let piece = shared.lock(rt).hand_out(is_first);
+    if let Some(piece) = piece {
+        let done = X::work(piece);
+        shared.lock(rt).take(is_first, done);
     }
 }
 
-fn square_both<R: Threads + Wait + Sync, J: Naming + Asked + Send + Sync>(
+// Works both pieces, by a thread each.
+fn work_both<R: Threads + Wait + Sync, X: Bench + Send>(rt: &R, shared: &Mutex<X>) {
+    thread::join(
+        rt,
+        move || { work_one(rt, shared, true) },
+        move || { work_one(rt, shared, false) },
+    );
+}
+
+fn square_both<R: Threads + Wait + Sync, J: Naming + Asked + Send>(
     rt: &R,
     opened: Opened<u32>,
     first: u32,
@@ -40,14 +36,9 @@ fn square_both<R: Threads + Wait + Sync, J: Naming + Asked + Send + Sync>(
     requires numbers { (first ≡ J.first) × (second ≡ J.second) }
     ensures { IfSome result (λ r. (r.0 ≡ first * first) × (r.1 ≡ second * second)) }
 {
-    let shared = Mutex::new(Some(Office::<J>::new(opened, first, second)));
-    let lock = &shared;
-    thread::join(
-        rt,
-        move || { square_one(rt, lock, true) },
-        move || { square_one(rt, lock, false) },
-    );
-    shared.into_inner()?.end()
+    let shared = Mutex::new(Office::<J>::new(opened, first, second));
+    work_both(rt, &shared);
+    shared.into_inner().end()
 }
 
 /// The squares of two numbers, each by a thread of its own.
