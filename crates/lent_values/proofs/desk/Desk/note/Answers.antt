@@ -1,6 +1,5 @@
-use Rattle.std.proofs.Common.{◌≡◌, length, Some, slice_get, sym, ◌∙◌, ap}
+use Rattle.std.proofs.Common.{sym, ◌∙◌, ap}
 use Rattle.lent_values.proofs.Adding.{adds_moves}
-use Rattle.lent_values.proofs.Beginnings.{get_added}
 use Rattle.lent_values.proofs.desk.Desk.note.Goals as goal
 
 pub compare_exchange-found-requires : goal.compare_exchange-found-requires
