@@ -177,16 +177,16 @@ impl<O: Origin, S: Reserves + Reaches, L: LineStore> Core<O, S, L> {
         ensures on { GoesOn result }
     {
         let alloc = self.common.alloc;
-        let taken = take_present(&mut self.members, at, alloc, &self.common.word);
-        let Some(Present {
+        let present = match take_present(&mut self.members, at, alloc, &self.common.word) {
+            Some(present) => present,
+            None => return self.stop(Halt::Lost),
+        };
+        let Present {
             left,
             total,
             life,
             presence,
-        }) = taken
-        else {
-            return self.stop(Halt::Lost);
-        };
+        } = present;
         let mut left = left;
         let mut allotment = self.allotments.take(s, alloc);
         let turned = go_on_from::<S, L>(&mut self.common, s, &mut left, &mut allotment, presence);

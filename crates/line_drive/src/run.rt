@@ -69,7 +69,12 @@ fn ran_of<O: Origin, S: Reserves + Reaches, L: LineStore + Drop>(
 /// Drives the sessions by the calling thread, a turn for each entry of the order and then in ascending order, again and again,
 /// until all have ended or no session goes on. The gate is asked before each step, and may have a session die there; it is
 /// recovered before another goes on.
-pub fn run_in_order<O: Origin, S: Reserves + Reaches, L: LineStore + Drop, G: Gate>(
+pub fn run_in_order<
+    O: Origin + Send,
+    S: Reserves + Reaches + Send,
+    L: LineStore + Drop,
+    G: Gate,
+>(
     cluster: LineCluster<O, S, L>,
     sessions: u32,
     order: &[u32],
