@@ -35,7 +35,7 @@ use std::marker::{Model, PhantomData};
 
 /// The sessions of a run over a store of lines, each with its script, and their account.
 #[derive(Drop)]
-pub struct LineCluster<O: Origin, S: Statements, L: LineStore + Drop> {
+pub struct LineCluster<O: Origin + Naming, S: Statements, L: LineStore + Drop> {
     core: Core<O, S, L>,
     /// Whether the script of each session ends in a stop.
     stops: Vec<bool>,
@@ -49,7 +49,7 @@ pub struct Finished<L> {
     pub halt: Option<Halt>,
 }
 
-impl<O: Origin, S: Statements, L: LineStore + Drop> Model for LineCluster<O, S, L> {
+impl<O: Origin + Naming, S: Statements, L: LineStore + Drop> Model for LineCluster<O, S, L> {
     ghost use Rattle.std.specs.Prelude.{map};
     ghost use Rattle.std.specs.Coded.{codes};
     ghost use Rattle.rdo_ast.specs.contracts.syntax.Action as action_type;
@@ -94,7 +94,7 @@ fn begin<O: Naming, S: Statements>(
     Ok(Beginning { members, stops })
 }
 
-impl<O: Origin, S: Reserves + Reaches, L: LineStore + Drop> LineCluster<O, S, L> {
+impl<O: Origin + Naming, S: Reserves + Reaches, L: LineStore + Drop> LineCluster<O, S, L> {
     /// Sessions that have said nothing, over a store in which nobody has a transaction open. Where no memory is found the store is
     /// given back.
     pub fn start(
@@ -171,7 +171,13 @@ impl<O: Origin, S: Reserves + Reaches, L: LineStore + Drop> LineCluster<O, S, L>
             return None;
         }
         let core = &mut self.core;
-        lend_at(&mut core.members, at, &mut core.desk, core.common.alloc, &core.common.word)
+        lend_at(
+            &mut core.members,
+            at,
+            &mut core.desk,
+            core.common.alloc,
+            &core.common.word,
+        )
     }
 
     /// Takes back what was made of the job of a session's statement. It is let go where it is of another job than the one that is out.

@@ -50,7 +50,7 @@ fn life_behind(step: &Result<Recovery, Fault>) -> Life
     }
 }
 
-impl<O: Origin, S: Reserves + Reaches, L: LineStore> Core<O, S, L> {
+impl<O: Origin + Naming, S: Reserves + Reaches, L: LineStore> Core<O, S, L> {
     /// A session dies where it stands, of something other than a device or a stop. Nothing changes where it has nothing left to do, nor
     /// behind a halt.
     pub fn die(&mut self, s: Session, stops: bool, cause: Cause)

@@ -7,9 +7,9 @@ ghost use Rattle.line_cluster.specs.Going.{is_dead as is_dead_at};
 ghost use Rattle.line_cluster.specs.Turned.{with_life as with_life_of};
 ghost use Rattle.line_cluster.specs.Whereabouts.{IsPresent, member_of, phase_of, phase_at};
 
+use answered_steps::Absence;
 use lent_jobs::WorkedJob;
 use lent_values::{Desk, Loan, Naming, Receipt, Worked};
-use answered_steps::Absence;
 use rdb_types::Word;
 use session_jobs::{Job, Statements};
 use session_states::{
@@ -100,12 +100,7 @@ impl<O: Naming, S: Statements> LentMember<O, S> {
     }
 
     /// Lends the job of its statement, where that is to be worked.
-    pub(crate) fn lend(
-        self,
-        desk: &mut Desk<O, Job>,
-        alloc: Global,
-        word: Word,
-    ) -> Lending<O, S>
+    pub(crate) fn lend(self, desk: &mut Desk<O, Job>, alloc: Global, word: Word) -> Lending<O, S>
         ensures { result.member ≡ self }
     {
         let LentMember {
@@ -168,13 +163,15 @@ fn part(phase: Phase, alloc: Global, word: Word) -> Result<Parted, Phase>
     ensures back { IfErr result (λ x. x ≡ phase) }
 {
     match phase {
-        Phase::Writing(Writer {
-            standing,
-            known,
-            spoken,
-            waits,
-            stage: Stage::Working(item, Work::Out),
-        }) => Ok(Parted {
+        Phase::Writing(
+            Writer {
+                standing,
+                known,
+                spoken,
+                waits,
+                stage: Stage::Working(item, Work::Out),
+            },
+        ) => Ok(Parted {
             absence: Absence::Writing { spoken, waits },
             job: Job {
                 alloc,
@@ -184,12 +181,14 @@ fn part(phase: Phase, alloc: Global, word: Word) -> Result<Parted, Phase>
                 known,
             },
         }),
-        Phase::Reading(Reader {
-            standing,
-            known,
-            spoken,
-            stage: ReaderStage::Working(item, ReaderWork::Out),
-        }) => Ok(Parted {
+        Phase::Reading(
+            Reader {
+                standing,
+                known,
+                spoken,
+                stage: ReaderStage::Working(item, ReaderWork::Out),
+            },
+        ) => Ok(Parted {
             absence: Absence::Reading { spoken },
             job: Job {
                 alloc,

@@ -11,8 +11,8 @@ ghost use Rattle.line_cluster.specs.Whereabouts.{IsPresent, member_of};
 ghost use Rattle.stage_steps.specs.Nearer.{is_for_journal as is_for_journal_at, is_patient_at};
 
 use crate::lent_members::{LentMember, Present, Whereabouts};
-use lent_values::Naming;
 use answered_steps::Absence;
+use lent_values::Naming;
 use rdb_types::Word;
 use session_jobs::Statements;
 use session_states::{End, ItemQueue, Life, Phase, ReaderStage, ReaderWork, Stage, Work};

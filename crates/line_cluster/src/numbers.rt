@@ -67,7 +67,7 @@ fn count_session<O: Naming, S: Statements>(member: &LentMember<O, S>)
     }
 }
 
-impl<O: Origin, S: Statements, L: LineStore> Core<O, S, L> {
+impl<O: Origin + Naming, S: Statements, L: LineStore> Core<O, S, L> {
     /// What all sessions have before them is counted by numbers of 64 bits.
     pub(crate) fn count(&self)
         requires few { length self.now.members.items ≤ 16 }

@@ -1,8 +1,7 @@
-use lent_values::Naming;
 use std::marker::Brand;
 
-/// What a run began with, and by which desk it lends the jobs of statements. It has no call.
-pub trait Origin: Naming {
+/// What a run began with. It has no call.
+pub trait Origin {
     ghost use Rattle.std.specs.Prelude.{ℕ};
     ghost use Rattle.rdb_account.specs.Places.{Opening};
 

@@ -2,7 +2,7 @@
 use crate::allotments::Allotments;
 use crate::lent_members::LentMember;
 use crate::origin::Origin;
-use lent_values::Desk;
+use lent_values::{Desk, Naming};
 use line_store::{Fault, LineStore};
 use rdb_account::Event;
 use rdb_types::{Dbkey, Session};
@@ -43,7 +43,7 @@ pub enum Turn {
 
 /// The sessions, what they share, and what happened.
 #[derive(Drop)]
-pub struct Core<O: Origin, S: Statements, L: LineStore> {
+pub struct Core<O: Origin + Naming, S: Statements, L: LineStore> {
     pub common: Common<L>,
     pub members: Vec<LentMember<O, S>>,
     /// It lends their jobs.

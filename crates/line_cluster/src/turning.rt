@@ -25,6 +25,7 @@ use crate::lent_members::{LentMember, Present, Whereabouts};
 use crate::members::{is_over, is_patient, is_stopping, member_at, put_member, take_present};
 use crate::origin::Origin;
 use crate::sessions::{Core, Halt, Turn};
+use lent_values::Naming;
 use line_account::{record, record_demotion, reserve_step};
 use line_store::LineStore;
 use rdb_types::{Cause, Session};
@@ -33,7 +34,7 @@ use reserved_locks::Reserves;
 use stage_steps::serve;
 use std::mem::forget;
 
-impl<O: Origin, S: Reserves + Reaches, L: LineStore> Core<O, S, L> {
+impl<O: Origin + Naming, S: Reserves + Reaches, L: LineStore> Core<O, S, L> {
     // No session goes on, for something else than a device.
     pub(crate) fn stop(&mut self, halt: Halt) -> Turn
         requires cause { faults_in (Some halt) ≡ 0 }

@@ -13,7 +13,7 @@ ghost use Rattle.line_drive.specs.Boards.{board_of, marks_of};
 ghost use Rattle.line_drive.specs.Turns.{IsHeardOf, step_for};
 
 use lent_jobs::WorkedJob;
-use lent_values::{Loan, Worked};
+use lent_values::{Loan, Naming, Worked};
 use line_cluster::{Finished, LineCluster, Origin, Turn};
 use line_store::LineStore;
 use rdb_account::Event;
@@ -29,12 +29,12 @@ const NUMBERS: usize = 17;
 
 /// The sessions of a run, with how many answers each was given.
 #[derive(Drop)]
-pub struct LineDriver<O: Origin, S: Statements, L: LineStore + Drop> {
+pub struct LineDriver<O: Origin + Naming, S: Statements, L: LineStore + Drop> {
     cluster: LineCluster<O, S, L>,
     answers: [u64; NUMBERS],
 }
 
-impl<O: Origin, S: Statements, L: LineStore + Drop> Model for LineDriver<O, S, L> {
+impl<O: Origin + Naming, S: Statements, L: LineStore + Drop> Model for LineDriver<O, S, L> {
     ghost use Rattle.std.specs.Coded.{codes};
     ghost use Rattle.rdo_ast.specs.contracts.syntax.Action as action_type;
     ghost use Rattle.line_cluster.specs.Turned.{Sessions};
@@ -78,7 +78,7 @@ fn step_of<P: Drop>(turn: Turn) -> Step<P>
 
 // What a driver hears of a turn in which so many answers were given. Where it moved without any, the session's job is lent, if that is
 // to be worked.
-fn lend_behind<O: Origin, S: Reserves + Reaches, L: LineStore + Drop>(
+fn lend_behind<O: Origin + Naming, S: Reserves + Reaches, L: LineStore + Drop>(
     cluster: &mut LineCluster<O, S, L>,
     s: Session,
     turn: Turn,
@@ -98,7 +98,7 @@ fn lend_behind<O: Origin, S: Reserves + Reaches, L: LineStore + Drop>(
     step_of(turn)
 }
 
-impl<O: Origin, S: Reserves + Reaches, L: LineStore + Drop> LineDriver<O, S, L> {
+impl<O: Origin + Naming, S: Reserves + Reaches, L: LineStore + Drop> LineDriver<O, S, L> {
     /// Sessions of which nothing happened yet.
     pub fn new(cluster: LineCluster<O, S, L>) -> Self
         requires fresh { cluster.events ≡ [] }
@@ -155,9 +155,8 @@ impl<O: Origin, S: Reserves + Reaches, L: LineStore + Drop> LineDriver<O, S, L> 
     }
 }
 
-impl<O: Origin + Send, S: Reserves + Reaches + Send, L: LineStore + Drop> Driven
-    for LineDriver<O, S, L>
-{
+impl<O: Origin + Naming + Send, S: Reserves + Reaches + Send, L: LineStore + Drop> Driven
+    for LineDriver<O, S, L> {
     ghost use Rattle.line_drive.specs.Boards.{board_of, mortals_of};
 
     type Piece = Loan<O, Job>;

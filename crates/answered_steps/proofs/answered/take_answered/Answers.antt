@@ -32,7 +32,7 @@ returns-in-Writing-clause-comes g c =
     rw c.in-Writing.is (subst (λ (j : Job). ComesIn g.S.Statements.stands c.args.s.number (scene c.args.common.now.word (g.L.LineStore.sight c.args.common.now.store) c.args.common.now.tree) (phase_with (Writing c.in-Writing.spoken c.in-Writing.waits) j)
     (scene c.take_found.new.common.word (g.L.LineStore.sight c.take_found.new.common.store) c.take_found.new.common.tree) c.take_found.result.phase c.take_found.result.happened) c.into_parts-job.ensures.job c.take_found.ensures.comes)
 
-pub returns-clause-comes : goal.returns-in-Reading-clause-comes
+pub returns-clause-comes : goal.returns-clause-comes
 returns-clause-comes g c =
     let job = c.into_parts-job.result.0 in
     let same : job.word ≡ c.args.common.now.word = ap (λ (j : Job). j.word) c.into_parts-job.ensures.job ∙ c.requires.word in
@@ -44,5 +44,5 @@ returns-clause-comes g c =
 pub returns-in-Writing-clause-rounds : goal.returns-in-Writing-clause-rounds
 returns-in-Writing-clause-rounds g c rounds = rw c.in-Writing.is refl
 
-pub returns-clause-rounds : goal.returns-in-Reading-clause-rounds
+pub returns-clause-rounds : goal.returns-clause-rounds
 returns-clause-rounds g c rounds = rw c.in-Reading.is refl

@@ -1,6 +1,5 @@
 use Rattle.std.proofs.Common.{◌≡◌, ◌∙◌, Bool, ap, subst, sym}
 use Rattle.session_states.specs.declared.stage.Member.{Member}
-
 use Rattle.line_cluster.specs.Whereabouts.{phase_of}
 use Rattle.line_cluster.proofs.Absent.{out-hasnt-said-all}
 use Rattle.line_cluster.proofs.members.has_said_all.Goals as goal

@@ -1,6 +1,5 @@
 use Rattle.std.proofs.Common.{◌≡◌, ◌∙◌, Bool, ap, subst, sym}
 use Rattle.session_states.specs.declared.stage.Member.{Member}
-
 use Rattle.line_cluster.specs.Whereabouts.{phase_of}
 use Rattle.line_cluster.proofs.Absent.{out-isnt-done}
 use Rattle.line_cluster.proofs.members.is_done.Goals as goal
