@@ -163,15 +163,25 @@ fn part(phase: Phase, alloc: Global, word: Word) -> Result<Parted, Phase>
     ensures back { IfErr result (λ x. x ≡ phase) }
 {
     match phase {
-        Phase::Writing(
-            Writer {
-                standing,
-                known,
-                spoken,
-                waits,
-                stage: Stage::Working(item, Work::Out),
-            },
-        ) => Ok(Parted {
+        Phase::Writing(writer) => part_writer(writer, alloc, word),
+        Phase::Reading(reader) => part_reader(reader, alloc, word),
+        phase => Err(phase),
+    }
+}
+
+fn part_writer(writer: Writer, alloc: Global, word: Word) -> Result<Parted, Phase>
+    ensures parts { IfOk result (λ p. phase_with p.absence p.job ≡ phase.Writing writer) }
+    ensures back { IfErr result (λ x. x ≡ phase.Writing writer) }
+{
+    let Writer {
+        standing,
+        known,
+        spoken,
+        waits,
+        stage,
+    } = writer;
+    match stage {
+        Stage::Working(item, Work::Out) => Ok(Parted {
             absence: Absence::Writing { spoken, waits },
             job: Job {
                 alloc,
@@ -181,14 +191,28 @@ fn part(phase: Phase, alloc: Global, word: Word) -> Result<Parted, Phase>
                 known,
             },
         }),
-        Phase::Reading(
-            Reader {
-                standing,
-                known,
-                spoken,
-                stage: ReaderStage::Working(item, ReaderWork::Out),
-            },
-        ) => Ok(Parted {
+        stage => Err(Phase::Writing(Writer {
+            standing,
+            known,
+            spoken,
+            waits,
+            stage,
+        })),
+    }
+}
+
+fn part_reader(reader: Reader, alloc: Global, word: Word) -> Result<Parted, Phase>
+    ensures parts { IfOk result (λ p. phase_with p.absence p.job ≡ phase.Reading reader) }
+    ensures back { IfErr result (λ x. x ≡ phase.Reading reader) }
+{
+    let Reader {
+        standing,
+        known,
+        spoken,
+        stage,
+    } = reader;
+    match stage {
+        ReaderStage::Working(item, ReaderWork::Out) => Ok(Parted {
             absence: Absence::Reading { spoken },
             job: Job {
                 alloc,
@@ -198,7 +222,12 @@ fn part(phase: Phase, alloc: Global, word: Word) -> Result<Parted, Phase>
                 known,
             },
         }),
-        phase => Err(phase),
+        stage => Err(Phase::Reading(Reader {
+            standing,
+            known,
+            spoken,
+            stage,
+        })),
     }
 }
 
