@@ -45,7 +45,8 @@ fn is_done<O: Naming, S: Statements>(member: &LentMember<O, S>) -> bool
 {
     match &member.place {
         Whereabouts::Here(phase) => is_done_here(&member.left, phase),
-        Whereabouts::Away(..) | Whereabouts::Back(..) => false,
+        Whereabouts::Away(..) => false,
+        Whereabouts::Back(..) => false,
     }
 }
 
@@ -64,7 +65,8 @@ fn has_said_all<O: Naming, S: Statements>(member: &LentMember<O, S>) -> bool
 {
     match &member.place {
         Whereabouts::Here(phase) => has_said_all_here(&member.left, phase),
-        Whereabouts::Away(..) | Whereabouts::Back(..) => false,
+        Whereabouts::Away(..) => false,
+        Whereabouts::Back(..) => false,
     }
 }
 

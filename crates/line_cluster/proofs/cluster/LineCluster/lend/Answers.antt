@@ -3,5 +3,5 @@ use Rattle.line_cluster.proofs.cluster.LineCluster.lend.Goals as goal
 pub invariant_of-self : goal.invariant_of-self
 invariant_of-self g c = rw c.lend_at.ensures c.self.invariant
 
-pub returns-clause-same : goal.returns-clause-same
-returns-clause-same g c = rw c.lend_at.ensures c.self.view_is
+pub returns : goal.returns
+returns g c = record { same = rw c.lend_at.ensures c.self.view_is }
