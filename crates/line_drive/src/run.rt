@@ -105,8 +105,6 @@ pub fn run_in_threads<
     L: LineStore + Drop + Send,
     G: Gate + Sync,
 >(rt: &R, cluster: LineCluster<O, S, L>, sessions: u32, gate: &G) -> Ran<L>
-where
-    S::Kept: Send,
     requires fresh { cluster.events ≡ [] }
     requires sessions { sessions ≡ O.sessions }
     requires few { sessions ≤ MOST_SESSIONS }
