@@ -1,12 +1,13 @@
 -- A turn of the sessions is a step as drivers want it.
-use Rattle.std.proofs.Common.{◌≡◌, ◌≤◌, ◌<◌, ◌-◌, nat_lt, if◌then◌else◌, ℕ, zero, suc, ◌+◌, ◌++◌, ◌∷◌, [], ◌&&◌, ◌||◌, not, Bool, true, false, List, length, refl, ◌∙◌, sym, ap, subst, arith, map, Some, slice_get, slice_set, ◌⊎◌, inl, inr}
+use Rattle.std.proofs.Common.{◌≡◌, ◌≤◌, ◌<◌, ◌-◌, nat_lt, if◌then◌else◌, ℕ, zero, suc, ◌+◌, ◌++◌, ◌∷◌, [], ◌&&◌, ◌||◌, not, Bool, true, false, List, length, refl, ◌∙◌, sym, ap, subst, arith, map, Some, slice_get, slice_set, ◌⊎◌, inl, inr, drop}
 use Rattle.std.proofs.lemmas.Bool.{false≢true}
 use Rattle.std.proofs.lemmas.Option.{same_Some}
 use Rattle.rdb_account.specs.declared.event.Event.{Event as Declared}
 use Rattle.rdb_account.specs.Events.{Event, Died, event_of}
 use Rattle.rdb_account.specs.Places.{Opening, place}
-use Rattle.rdb_drive.specs.Boards.{AtMost, Below, Board, Does, IsSession, Less}
+use Rattle.rdb_drive.specs.Boards.{answers, AtMost, Below, Board, Does, IsSession, Less}
 use Rattle.rdb_drive.specs.Steps.{StepOf, Goes, IsAwake, IsQuiet}
+use Rattle.rdb_drive.specs.declared.driven.Step.{Step}
 use Rattle.rdb_drive.specs.declared.driven.Step.TheVariants as step
 use Rattle.rdb_types.specs.declared.session.Session.{Session}
 use Rattle.lock_tree_laws.specs.Forest.{IsWhole}
@@ -156,6 +157,18 @@ quiet s b = record { asleep = λ t k h. h; ended = λ t k. refl; measure = inl r
 
 mourning : (n : ℕ) → 0 < n → nat_lt 0 n ≡ true
 mourning n h = grind arith
+
+-- of a turn whose job isn't lent it hears what it came to
+pub heard-of : {P : Type 0} (t : Turn) (count : ℕ) (result : Step P) → result ≡ step_for t → IsHeardOf t count result
+heard-of {P} t count result is = subst (λ (r : Step P). IsHeardOf t count r) (sym is) (by t)
+  where
+    by : (u : Turn) → IsHeardOf {P = P} u count (step_for u)
+    by turn.Moved = refl
+    by (turn.Asleep s) = refl
+    by turn.Died = refl
+    by turn.Frozen = refl
+    by turn.Ended = refl
+    by turn.Stopped = refl
 
 module _ (P : Type 0) (told : Type 0) (o : Opening) (sessions s : ℕ) (old new : Sessions) (session : IsSession sessions s) (going : old.halted ≡ false) (before : IsBounded old.measure) (bound : IsBounded new.measure)
     (count : length new.members ≡ sessions) (seated : new.halted ≡ false → (stand : ℕ → Seat) × AreSeated stand new.locks new.members) (whole : IsWhole new.locks) where
