@@ -1,5 +1,5 @@
 -- One more turn of a loop that adds to a text.
-use Rattle.std.proofs.Common.{◌≡◌, ℕ, suc, ◌+◌, List, [], ◌∷◌, ◌++◌, append_assoc, append-nil, refl, ap, ◌∙◌, sym, arith}
+use Rattle.std.proofs.Common.{◌≡◌, ℕ, suc, ◌+◌, List, [], ◌∷◌, ◌++◌, length, append_assoc, append-nil, refl, ap, ◌∙◌, sym, arith}
 use Rattle.workload_scripts.specs.Draws.{transfer_drawn, behind_transfer, behind_transfers}
 use Rattle.workload_scripts.specs.Texts.{store_text, transfer_text}
 use Rattle.workload_scripts.specs.Scripts.{stores_to, transfers_to, drawn_before, transfer_script, transfer_scripts_to}
@@ -52,3 +52,7 @@ no_script accounts = refl
 pub script_more : (accounts sessions : ℕ) → transfer_scripts_to accounts sessions ++ transfer_script accounts sessions ∷ [] ≡ transfer_scripts_to accounts (sessions + 1)
 unfolding transfer_scripts_to
 script_more accounts sessions = ap (λ (m : ℕ). transfer_scripts_to accounts m) (next sessions)
+
+pub four_scripts : (accounts : ℕ) → length (transfer_scripts_to accounts 4) ≡ 4
+unfolding transfer_scripts_to
+four_scripts accounts = refl

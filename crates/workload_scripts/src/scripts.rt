@@ -53,6 +53,7 @@ fn transfers_text(accounts: u32, number: u32, out: &mut Bytes) -> Result<u32, No
 pub fn transfer_scripts(alloc: Global, accounts: u32) -> Result<Vec<Bytes>, NoMemory>
     requires some { 0 < accounts }
     ensures texts { IfOk result (λ texts. texts.items ≡ transfer_texts accounts) }
+    ensures four { IfOk result (λ texts. length texts.items ≡ 4) }
     ensures short { IfOk result (λ texts. All (λ text. length text ≤ 10000) texts.items) }
 {
     let mut texts = Vec::new(alloc);

@@ -1,9 +1,9 @@
-use Rattle.std.proofs.Common.{◌≡◌, ◌≤◌, ℕ, List, [], ◌∷◌, ◌++◌, All, length, ap, ◌∙◌, subst, sym}
+use Rattle.std.proofs.Common.{◌≡◌, ◌≤◌, ℕ, List, [], ◌∷◌, ◌++◌, All, length, ap, ◌∙◌, subst, sym, arith}
 use Rattle.std.proofs.lemmas.List.Elements.{All-nil}
 use Rattle.workload_scripts.specs.Draws.{behind_transfers}
-use Rattle.workload_scripts.specs.Scripts.{transfers_to, transfer_script}
+use Rattle.workload_scripts.specs.Scripts.{transfers_to, transfer_script, transfer_scripts_to}
 use Rattle.workload_scripts.proofs.Lengths.{of_session, short_more}
-use Rattle.workload_scripts.proofs.Turns.{no_script, first_drawn, script_more, session_drawn}
+use Rattle.workload_scripts.proofs.Turns.{no_script, four_scripts, first_drawn, script_more, session_drawn}
 use Rattle.workload_scripts.proofs.scripts.transfer_scripts.Goals as goal
 
 pub loop-session-init : goal.loop-session-init
@@ -30,3 +30,8 @@ loop-session-preserved c =
           (short_more c.loop-session.texts.items c.transfers_text.new.out c.loop-session.invariant.short
           (subst (λ (l : List ℕ). length l ≤ 10000) (sym text) (of_session accounts sessions c.requires.some c.ranges.accounts.fits)));
     }
+
+pub returns-clause-four : goal.returns-clause-four
+returns-clause-four c =
+    let at : c.loop-session._session ≡ 4 = omega (arith, c.loop-session-test.false, c.loop-session.auto._session-end) in
+    ap length (c.loop-session.invariant.texts ∙ ap (λ (n : ℕ). transfer_scripts_to c.args.accounts n) at) ∙ four_scripts c.args.accounts
