@@ -1,8 +1,8 @@
 -- What an account says of replies.
-use Rattle.std.specs.Prelude.{ℕ, ℤ, Bool, true, false, List, [], ◌∷◌, Option, Some, None}
+use Rattle.std.specs.Prelude.{ℤ, Bool, true, false, List, [], ◌∷◌, Option, Some, None}
 use Rattle.std.specs.List.{list_all, list_any}
 use Rattle.rdb_types.specs.declared.values.Value.{Value}
-use Rattle.rdb_types.specs.declared.values.Value.TheVariants.{Missing, Number, Text}
+use Rattle.rdb_types.specs.declared.values.Value.TheVariants.{Number}
 use Rattle.rdb_types.specs.declared.values.Scaled.{Scaled}
 use Rattle.rdo_ast.specs.declared.reply.Reply.{Reply}
 use Rattle.rdo_ast.specs.declared.reply.Reply.TheVariants.{Done}

@@ -1,5 +1,5 @@
 // One run of sessions.
-ghost use Rattle.std.specs.Prelude.{◌≡◌, ◌≤◌, ◌<◌, ◌^◌, All, None, Some, [], true, false, length, map};
+ghost use Rattle.std.specs.Prelude.{◌≡◌, ◌≤◌, ◌<◌, ◌^◌, All, None, Some, [], true, false, length, map, IsTrue};
 ghost use Rattle.rdb_outside.specs.Causes.{Rose};
 ghost use Rattle.rdb_account.specs.Events.{event_of};
 ghost use Rattle.rdb_account.specs.Legal.{IsLegal};
@@ -48,7 +48,7 @@ pub(crate) fn say<
     ensures legal { O.told → IsLegal O.opening (map event_of result.events) }
     ensures whole { O.told → result.is_whole ≡ true → HaveAllEnded O.opening O.sessions (map event_of result.events) }
     ensures left { O.told → result.is_whole ≡ true → HoldsAll ⟦<ReservingStatements as Statements>⟧.stands O.opening (D.view result.disk) (map event_of result.events) }
-    ensures opened { result.is_whole ≡ true → result.fault ≡ None }
+    ensures tells { O.told → result.fault ≡ None → IsTrue (D.view result.disk).tells }
     ensures no_fewer { O.told → result.fault ≡ None → (D.view disk).faults ≤ (D.view result.disk).faults }
     ensures failed { result.fault ≡ Some OpeningFault.Failed → Rose (D.view disk).faults (D.view result.disk).faults }
     ensures unsaid { (result.fault ≡ None → ⊥) → result.events ≡ [] }
@@ -72,9 +72,10 @@ pub(crate) fn status_of_fault(fault: OpeningFault) -> u8
 pub(crate) fn status_of_run<D: Disk + Drop>(ran: &LineRun<D>) -> u8
     ensures status { is_run_status result ≡ true }
     ensures whole { result ≡ 0 → ran.now.is_whole ≡ true }
+    ensures opened { result ≡ 0 → ran.now.fault ≡ None }
     ensures lived { result ≡ 0 → has_death ran.now.events ≡ false }
     ensures died { result ≡ 8 → has_death ran.now.events ≡ true }
-    ensures ended { result ≡ 8 → ran.now.is_whole ≡ true }
+    ensures ended { result ≡ 8 → (ran.now.is_whole ≡ true) × (ran.now.fault ≡ None) }
     ensures device { result ≡ 3 → ran.now.fault ≡ Some OpeningFault.Failed }
 {
     match ran.fault {
