@@ -67,7 +67,7 @@ fn ended_by<D: Disk + Drop>(alloc: Global, ran: LineRun<D>, status: u8) -> Runs<
     ensures disk { result.disk ≡ ran.disk }
     ensures status { (result.status ≡ status) ⊎ (result.status ≡ 5) }
     ensures accounts { (result.accounts ≡ ran.events ∷ []) ⊎ (result.accounts ≡ []) }
-    ensures begun { status ≡ 8 → ran.fault ≡ None → result.status ≡ 8 → result.accounts ≡ ran.events ∷ [] }
+    ensures begun { ran.fault ≡ None → (result.accounts ≡ ran.events ∷ []) ⊎ ((result.status ≡ 5) × (result.accounts ≡ [])) }
 {
     match ran.fault {
         None => one_run(alloc, ran.disk, ran.events, status),

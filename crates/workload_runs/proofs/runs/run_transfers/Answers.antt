@@ -19,5 +19,5 @@ run_last-requires-clause-opens g c κs within = λ told.
     let tells = c.say.ensures.tells told (c.say.ensures.opened whole) in
     let it = holds.each old.content (g.met.D.Disk.content_left c.say.result.disk old.moment tells (omega arith)) in
     opens-read _ old (v c.prepare.new.disk) c.prepare.ensures.reads tells c.in-Ok.prepared.stand
-        (c.in-Ok.ensures.limits tells) (c.in-Ok.ensures.next tells)
-        (place o (map event_of c.say.result.events)).tables o.may_die c.in-Ok.prepared.said.word c.in-Ok.prepared.said.scripts.items it.0 it.1 it.2
+    (c.in-Ok.ensures.limits tells) (c.in-Ok.ensures.next tells)
+    (place o (map event_of c.say.result.events)).tables o.may_die c.in-Ok.prepared.said.word c.in-Ok.prepared.said.scripts.items it.0 it.1 it.2
