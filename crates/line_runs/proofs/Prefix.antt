@@ -1,5 +1,5 @@
 -- What a crash leaves of the disk, of what the store over it had.
-use Rattle.std.proofs.Common.{◌≡◌, ◌≤◌, ◌∙◌, ℕ, List, true, sym, ap, subst, inl, inr}
+use Rattle.std.proofs.Common.{◌≡◌, ◌∙◌, ℕ, List, true, sym, ap, subst, inl, inr}
 use Rattle.std.proofs.lemmas.Option.{none-some}
 use Rattle.rdb_outside.specs.Causes.{Rose}
 use Rattle.rdb_outside.specs.Disk.{Image, View, LeftNow}
@@ -30,10 +30,6 @@ leaves-now v held h shown image lines left has = record { image = image; left = 
 -- the faults that the store counted are the disk's
 pub harmed : (v : View) (events : List Event) (sight : Sight) → IsBack sight v → (faults : ℕ) → CountsFaults faults (has_device_deaths events ≡ true) sight → has_device_deaths events ≡ true → Rose faults v.faults
 harmed v events sight back faults k died = subst (λ (n : ℕ). Rose faults n) (back.shows k.shelf k.shown).lines.faults (k.rose died)
-
--- the disk counts no fewer
-pub no-fewer : (v : View) (events : List Event) (sight : Sight) → IsBack sight v → (faults : ℕ) → CountsFaults faults (has_device_deaths events ≡ true) sight → faults ≤ v.faults
-no-fewer v events sight back faults k = subst (λ (n : ℕ). faults ≤ n) (back.shows k.shelf k.shown).lines.faults k.no_fewer
 
 module _ (M : Model) (o : Opening) (v : View) (events : List Event) (sight : Sight) (back : IsBack sight v) where
   pub holds-prefix : HasImages M o sight events → HoldsPrefix M o v events

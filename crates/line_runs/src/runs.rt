@@ -115,7 +115,6 @@ fn ended<D: Disk + Drop>(ran: Ran<DiskStore<D>>) -> LineRun<D>
     ensures is_whole { result.is_whole ≡ ran.is_whole }
     ensures fault { result.fault ≡ None }
     ensures faults { (faults : ℕ) (events : List Event) → CountsFaults faults (has_device_deaths events ≡ true) (⟦<DiskStore<D> as LineStore>⟧.sight ran.store) → has_device_deaths events ≡ true → Rose faults (D.view result.disk).faults }
-    ensures counted { (faults : ℕ) (events : List Event) → CountsFaults faults (has_device_deaths events ≡ true) (⟦<DiskStore<D> as LineStore>⟧.sight ran.store) → faults ≤ (D.view result.disk).faults }
     ensures images { (o : Opening) (events : List Event) → HasImages ⟦<ReservingStatements as Statements>⟧.stands o (⟦<DiskStore<D> as LineStore>⟧.sight ran.store) events → HoldsPrefix ⟦<ReservingStatements as Statements>⟧.stands o (D.view result.disk) events }
     ensures left { (o : Opening) (events : List Event) → IsLeft ⟦<ReservingStatements as Statements>⟧.stands o (⟦<DiskStore<D> as LineStore>⟧.sight ran.store) events → ((s : ℕ) → bare ((⟦<DiskStore<D> as LineStore>⟧.sight ran.store).stand s) ≡ outside) → HoldsAll ⟦<ReservingStatements as Statements>⟧.stands o (D.view result.disk) events }
 {
@@ -150,7 +149,6 @@ pub fn say_in_order<O: Origin, D: Disk + Drop, G: Gate>(
     ensures order { O.told → result.is_whole ≡ true → KeepsTurns O.opening O.sessions order.now result.events }
     ensures images { O.told → result.fault ≡ None → HoldsPrefix ⟦<ReservingStatements as Statements>⟧.stands O.opening (D.view result.disk) (map event_of result.events) }
     ensures left { O.told → result.is_whole ≡ true → HoldsAll ⟦<ReservingStatements as Statements>⟧.stands O.opening (D.view result.disk) (map event_of result.events) }
-    ensures no_fewer { O.told → result.fault ≡ None → (D.view disk).faults ≤ (D.view result.disk).faults }
     ensures harmed { O.told → has_device_deaths (map event_of result.events) ≡ true → Rose (D.view disk).faults (D.view result.disk).faults }
     ensures failed { result.fault ≡ Some OpeningFault.Failed → Rose (D.view disk).faults (D.view result.disk).faults }
     ensures bad { (file : File) (slot : ℕ) → result.fault ≡ Some (OpeningFault.Bad file slot) → HasNoNumbers (D.view disk) }
@@ -183,7 +181,6 @@ pub fn say_in_threads<
     ensures whole { O.told → result.is_whole ≡ true → HaveAllEnded O.opening O.sessions (map event_of result.events) }
     ensures images { O.told → result.fault ≡ None → HoldsPrefix ⟦<ReservingStatements as Statements>⟧.stands O.opening (D.view result.disk) (map event_of result.events) }
     ensures left { O.told → result.is_whole ≡ true → HoldsAll ⟦<ReservingStatements as Statements>⟧.stands O.opening (D.view result.disk) (map event_of result.events) }
-    ensures no_fewer { O.told → result.fault ≡ None → (D.view disk).faults ≤ (D.view result.disk).faults }
     ensures harmed { O.told → has_device_deaths (map event_of result.events) ≡ true → Rose (D.view disk).faults (D.view result.disk).faults }
     ensures failed { result.fault ≡ Some OpeningFault.Failed → Rose (D.view disk).faults (D.view result.disk).faults }
     ensures bad { (file : File) (slot : ℕ) → result.fault ≡ Some (OpeningFault.Bad file slot) → HasNoNumbers (D.view disk) }

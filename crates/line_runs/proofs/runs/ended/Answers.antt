@@ -1,4 +1,4 @@
-use Rattle.line_runs.proofs.Prefix.{harmed, no-fewer, holds-prefix, holds-all}
+use Rattle.line_runs.proofs.Prefix.{harmed, holds-prefix, holds-all}
 use Rattle.line_runs.proofs.runs.ended.Goals as goal
 
 pub returns-clause-images : goal.returns-clause-images
@@ -9,6 +9,3 @@ returns-clause-faults g c faults events k died = harmed (g.D.Disk.view c.into_di
 
 pub returns-clause-left : goal.returns-clause-left
 returns-clause-left g c o events it rests = holds-all _ o (g.D.Disk.view c.into_disk.result) events _ c.into_disk.ensures it rests
-
-pub returns-clause-counted : goal.returns-clause-counted
-returns-clause-counted g c faults events k = no-fewer (g.D.Disk.view c.into_disk.result) events _ c.into_disk.ensures faults k

@@ -1,4 +1,4 @@
-use Rattle.std.proofs.Common.{◌≡◌, ◌≤◌, true, map, subst, sym, ◌∙◌}
+use Rattle.std.proofs.Common.{◌≡◌, true, map, subst, sym, ◌∙◌}
 use Rattle.std.proofs.lemmas.Bool.{false≢true}
 use Rattle.std.proofs.lemmas.Option.{none-some}
 use Rattle.rdb_outside.specs.Causes.{Rose}
@@ -33,10 +33,3 @@ returns-in-Err-clause-images g c told opened = absurd (none-some c.in-Err.unopen
 
 pub returns-in-Err-clause-left : goal.returns-in-Err-clause-left
 returns-in-Err-clause-left g c told whole = absurd (false≢true (sym c.unsaid.ensures.is_whole ∙ whole))
-
-pub returns-in-Ok-clause-no_fewer : goal.returns-in-Ok-clause-no_fewer
-returns-in-Ok-clause-no_fewer g c told opened =
-    subst (λ n. n ≤ (g.D.Disk.view c.ended.result.disk).faults) (c.requires.faults told) (c.ended.ensures.counted g.O.Origin.faults (map event_of c.run_in_order.result.events) (c.run_in_order.ensures.faults told))
-
-pub returns-in-Err-clause-no_fewer : goal.returns-in-Err-clause-no_fewer
-returns-in-Err-clause-no_fewer g c told opened = absurd (none-some c.in-Err.unopened.fault (sym opened ∙ c.unsaid.ensures.fault))
