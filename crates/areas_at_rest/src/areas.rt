@@ -2,13 +2,12 @@
 ghost use Rattle.std.specs.Prelude.{◌≡◌, ℕ, length, IfOk};
 ghost use Rattle.rdb_page.specs.Page.{IsOwner};
 ghost use Rattle.line_view.specs.Knowledge.{Agrees, lines_in};
-ghost use Rattle.line_view.specs.Held.{knows};
 ghost use Rattle.relation_rows.specs.Stored.{IsAreaKnown};
+ghost use Rattle.lines_at_rest.specs.View.{knows};
 ghost use Rattle.areas_at_rest.specs.Runs.{IsQuiet, AtRest};
 
 use line_opening::OpeningFault;
-use line_view::Known;
-use lines_at_rest::{RestReading, learn_area, read_area};
+use lines_at_rest::{AreaView, RestReading, read_area};
 use rdb_outside::Disk;
 use std::alloc::Global;
 
@@ -18,15 +17,17 @@ pub fn view_of<D: Disk>(
     disk: &mut D,
     held: &RestReading,
     area: u32,
-) -> Result<Known, OpeningFault>
+) -> Result<AreaView, OpeningFault>
     ensures known { IfOk result (λ known. IsAreaKnown (knows known) area) }
     ensures agrees { IfOk result (λ known. (file : ℕ) → IsOwner file area
         → AtRest (D.view disk.old) held.now (λ all. Agrees (knows known) all)) }
     ensures quiet { IsQuiet held.now.faulty (D.view disk.old) (D.view disk.new) result }
 {
-    let mut known = Known::new(alloc);
-    learn_area(alloc, disk, held, area, &mut known)?;
-    Ok(known)
+    let lines = read_area(alloc, disk, held, area)?;
+    match AreaView::of(alloc, area, lines) {
+        Ok(known) => Ok(known),
+        Err(_) => Err(OpeningFault::NoMemory),
+    }
 }
 
 /// How many lines are present in a logical area, with the open transactions undone.

@@ -18,14 +18,12 @@ use Rattle.rdb_meaning.specs.Contents.{Row, key_of, has_key}
 use Rattle.rdb_meaning.specs.Defining.{keys_repeat}
 use Rattle.index_node.specs.declared.entry.NodeEntry.{NodeEntry}
 use Rattle.index_node.specs.Order.{entry_order}
-use Rattle.std.specs.Prelude.{Result, Ok, Err, IfOk}
-use Rattle.line_view.specs.declared.need.Need.{Need}
-use Rattle.line_view.specs.declared.need.Need.TheVariants.{Line, Area, Room}
+use Rattle.std.specs.Prelude.{Result, Ok, Err, IfOk, IfSome, IfNone}
 use Rattle.line_view.specs.Knowledge.{Knowledge, Lines, IsInOrder, Agrees, line_in, lines_in, keys_of}
 use Rattle.line_view.proofs.Agreements.{Found, found_all, found_some}
 use Rattle.relation_rows.specs.declared.stored.StoredRelation.{StoredRelation}
 use Rattle.relation_rows.specs.declared.stored.StoredRow.{StoredRow}
-use Rattle.relation_rows.specs.Stored.{IsRowOf, IsRowAt, IsBadAt, AreRowsOf, IsLineKnown, IsAreaKnown, IsBadIn, IsNextNeed}
+use Rattle.relation_rows.specs.Stored.{IsRowOf, IsRowAt, IsBadAt, AreRowsOf, IsLineKnown, IsAreaKnown}
 use Rattle.relation_rows.specs.Relations.{stored_row}
 use Rattle.relation_rows.specs.Indexed.{pairs_of}
 use Rattle.relation_rows.proofs.OneRow.{same_row as one_row}
@@ -33,8 +31,9 @@ use Rattle.sorted_index_laws.specs.Changes.{pair_of, with_pair}
 use Rattle.sorted_index_laws.specs.Insertion.{IsNew}
 use Rattle.sorted_index_laws.proofs.Ordered.{Lt, Ascend}
 use Rattle.sorted_index_laws.proofs.Put.{put_ascends}
-use Rattle.line_faults.specs.Found.{IsIn}
-use Rattle.line_faults.proofs.Learnt.{in_from_all, in_whole, area_in, split_in}
+use Rattle.line_faults.specs.Found.{Finds, IsIn}
+use Rattle.line_faults.specs.Rows.{IsRowLine}
+use Rattle.line_faults.proofs.Learnt.{in_from_all, in_whole, area_in}
 use Rattle.index_faults.specs.Contents.{IsPairAt, keys_differ, HasTheRows}
 use Rattle.index_faults.proofs.Lists.{Has, all_from_has, has_from_all, any_has, has_any, ties, ascends, not_itself, within, KeysAscend, keys_ascend, one_of_key, clash}
 
@@ -57,15 +56,6 @@ row_has r (e ∷ es) (x ∷ xs) key image row are there is = elim (is_eq (dbkey_
       inl (λ i. (own i, same i))
   | false ↦ λ tie h. inr (row_has r es xs key image row are.2 h is)
 ] refl there
-
-pub line_row : (r : StoredRelation) (lines : Lines) (rows : List (Dbkey × Row)) (key : Dbkey) (image : List ℕ) → AreRowsOf r lines (map stored_row rows) → line_in key lines ≡ Some image → (row : List Value) × IsRowOf r image row
-line_row r [] [] key image are there = absurd (none-some image there)
-line_row r [] (x ∷ xs) key image are there = absurd are
-line_row r (e ∷ es) [] key image are there = absurd are
-line_row r (e ∷ es) (x ∷ xs) key image are there = elim (is_eq (dbkey_order key e.0)) as (λ b. cond b (Some e.1) (line_in key es) ≡ Some image → (row : List Value) × IsRowOf r image row) [
-  | true ↦ λ h. (x.1, subst (λ (i : List ℕ). IsRowOf r i x.1) (same_Some _ _ h) are.1)
-  | false ↦ λ h. line_row r es xs key image are.2 h
-] there
 
 -- the line of a row
 pub record HasLine (r : StoredRelation) (all lines : Lines) (e : Dbkey × Row) : Type 0 where
@@ -313,15 +303,6 @@ module _ (known : Knowledge) (r : StoredRelation) (positions : List ℕ) (held :
       let pair : two.a ≡ two.b = sym x.is ∙ ap (λ (e : Dbkey × Row). pair_of (key_of positions e.1) e.0) one ∙ y.is in
       not_itself two.b (subst (λ (q : NodeEntry). Lt q two.b) pair two.less)
 
--- a line that is no row leaves no rows of the relation
-pub bad_row : (r : StoredRelation) (all : Lines) (rows : List (Dbkey × Row)) (at : Dbkey) → HasTheRows r all rows → at.area ≡ r.area → IsBadIn r at all → ⊥
-bad_row r all rows at has own bad =
-    let row = line_row r (lines_in r.area all) rows at bad.0 has (in_whole at r.area all own ∙ bad.1) in
-    bad.2 row.0 row.1
-
-pub same_count : (r : StoredRelation) (all : Lines) (rows : List (Dbkey × Row)) (xs : List StoredRow) → HasTheRows r all rows → AreRowsOf r (lines_in r.area all) xs → length xs ≡ length rows
-same_count r all rows xs has are = count_rows r (lines_in r.area all) xs are ∙ sym (count_rows r (lines_in r.area all) (map stored_row rows) has) ∙ length-map rows stored_row
-
 -- ---- what is known of a row
 
 pub one_row_at : (known : Knowledge) (r : StoredRelation) (key : Dbkey) (a b : List Value) → IsRowAt known r key a → IsRowAt known r key b → a ≡ b
@@ -337,16 +318,33 @@ bad_no_row known r key row bad is =
 pub keys_tie : (a b : List Value) → a ≡ b → is_eq (row_order a b) ≡ true
 keys_tie a b same = ap (λ (k : List Value). is_eq (row_order a k)) (sym same) ∙ ap (λ (o : Ordering). is_eq o) (tied_itself row_total a)
 
-pub no_need : (known : Knowledge) (area : ℕ) (need : Need) → IsAreaKnown known area → IsNextNeed known area need → ⊥
-no_need known area (Area a) is next = none-some is.0 (sym next.1 ∙ is.1)
-no_need known area (Line key) is next =
-    let same : next.0 ≡ is.0 = same_Some _ _ (sym next.1 ∙ is.1) in
-    let there : IsIn key is.0 = subst (IsIn key) (sym next.2.stands ∙ same) (split_in key next.2.before next.2.behind) in
-    let told : is_some (known.line key) ≡ true = in_from_all (IsLineKnown known) is.0 key is.2 there in
-    let unknown = ap (λ (o : Option (Option (List ℕ))). is_some o) next.2.unknown in
-    let no : ⊥ = cc in no
-no_need known area (Room room) is next = next
-
 pub if_ok : {T E : Type 0} (P Q : T → Type 0) (result : Result T E) → ((x : T) → P x → Q x) → IfOk result P → IfOk result Q
 if_ok P Q (Ok x) to is = to x is
 if_ok P Q (Err e) to is = is
+
+-- ---- how many rows there are
+
+-- lines that are rows are no faults
+pub no_faults : (r : StoredRelation) (lines : Lines) (xs : List StoredRow) (found : List Dbkey) → AreRowsOf r lines xs → Finds (IsRowLine r) (λ e. IsRowLine r e → ⊥) (λ e. e.0) lines found → found ≡ []
+no_faults r [] [] found are finds = finds
+no_faults r [] (x ∷ xs) found are finds = absurd are
+no_faults r (e ∷ es) [] found are finds = absurd are
+no_faults r (e ∷ es) (x ∷ xs) found are (inl fine) = no_faults r es xs found are.2 fine.1
+no_faults r (e ∷ es) (x ∷ xs) found are (inr bad) = absurd (bad.0 (x.row, are.1))
+
+-- a relation whose lines are rows has as many as its area has keys
+pub known_count : (known : Knowledge) (r : StoredRelation) (all : Lines) (rows : List (Dbkey × Row)) (keys : List Dbkey) → Agrees known all → known.area r.area ≡ Some keys → HasTheRows r all rows → length keys ≡ length rows
+known_count known r all rows keys agrees told has =
+    ap length (agrees.area r.area keys told) ∙ length-map (lines_in r.area all) (λ e. e.0) ∙ sym (count_rows r (lines_in r.area all) (map stored_row rows) has) ∙ length-map rows stored_row
+
+abbrev pub IsCount : Knowledge → StoredRelation → ℕ → Type 0
+IsCount known r count = (all : Lines) → IsInOrder all → Agrees known all → (rows : List (Dbkey × Row)) → HasTheRows r all rows → count ≡ length rows
+
+abbrev pub HasNoRows : Knowledge → StoredRelation → Type 0
+HasNoRows known r = (all : Lines) → IsInOrder all → Agrees known all → (rows : List (Dbkey × Row)) → HasTheRows r all rows → ⊥
+
+pub counted : (known : Knowledge) (r : StoredRelation) (read : Option ℕ) (count : ℕ) → read ≡ Some count → IfSome read (IsCount known r) → IsCount known r count
+counted known r read count is told = subst (λ (o : Option ℕ). IfSome o (IsCount known r)) is told
+
+pub uncounted : (known : Knowledge) (r : StoredRelation) (read : Option ℕ) → read ≡ None → IfNone read (HasNoRows known r) → HasNoRows known r
+uncounted known r read is told = subst (λ (o : Option ℕ). IfNone o (HasNoRows known r)) is told

@@ -1,5 +1,5 @@
 // What an index holds, compared with the rows of its relation.
-ghost use Rattle.std.specs.Prelude.{◌≡◌, ℕ, List, true, false, IfOk};
+ghost use Rattle.std.specs.Prelude.{◌≡◌, ℕ, List, true, false, length, IfOk, IfSome, IfNone};
 ghost use Rattle.std.specs.List.{AllByRecursion};
 ghost use Rattle.std.specs.Ordering.{is_eq};
 ghost use Rattle.rdb_types.specs.declared.keys.Dbkey.{Dbkey as Place};
@@ -13,9 +13,10 @@ ghost use Rattle.index_faults.specs.Contents.{IsPairAt, keys_differ_from as keys
 
 use catalog_lines::IndexLine;
 use index_node::NodeEntry;
+use line_faults::row_faults;
 use line_view::{Stop, View};
-use rdb_types::{NoMemory, Value, row_order};
-use relation_rows::{StoredRelation, row, rows};
+use rdb_types::{Keys, NoMemory, Value, row_order};
+use relation_rows::{StoredRelation, row};
 use std::alloc::Global;
 use stored_rows::key_of;
 
@@ -111,6 +112,29 @@ fn is_unique(index: &IndexLine, pairs: &[NodeEntry]) -> bool
     !index.unique || keys_differ(pairs)
 }
 
+// How many rows the relation has, where each line of its area is one. No row stays in memory.
+fn count_rows<V: View>(
+    alloc: Global,
+    view: &V,
+    relation: &StoredRelation<'_>,
+) -> Result<Option<usize>, NoMemory>
+    requires { IsAreaKnown (V.knows view.now) relation.now.area }
+    ensures some { IfOk result (λ counted. IfSome counted (λ count. (all : Lines) → IsInOrder all → Agrees (V.knows view.now) all
+        → (rows : List (Place × RowOf)) → HasTheRows relation.now all rows → count ≡ length rows)) }
+    ensures none { IfOk result (λ counted. IfNone counted ((all : Lines) → IsInOrder all → Agrees (V.knows view.now) all
+        → (rows : List (Place × RowOf)) → HasTheRows relation.now all rows → ⊥)) }
+{
+    let mut faults = Keys::new(alloc);
+    row_faults(alloc, view, relation, &mut faults)?;
+    if !faults.is_empty() {
+        return Ok(None);
+    }
+    match view.area(relation.area) {
+        Some(keys) => Ok(Some(keys.len())),
+        None => unreachable!(),
+    }
+}
+
 /// Compares the pairs of an index, in their order, with the rows of its relation, in a view that knows the relation's area. The index holds exactly a pair for each row, and where it is unique no two of one key, or it differs.
 pub fn judge_contents<V: View>(
     alloc: Global,
@@ -127,11 +151,8 @@ pub fn judge_contents<V: View>(
     ensures unjudged { IfOk result (λ judged. judged ≡ Judgement.Unjudged → (all : Lines) → IsInOrder all → Agrees (V.knows view.now) all
         → (rows : List (Place × RowOf)) → HasTheRows relation.now all rows → ⊥) }
 {
-    let count = match rows(alloc, view, relation) {
-        Ok(rows) => rows.len(),
-        Err(Stop::Bad(_)) => return Ok(Judgement::Unjudged),
-        Err(Stop::NoMemory) => return Err(NoMemory {}),
-        Err(Stop::Missing(_)) => unreachable!(),
+    let Some(count) = count_rows(alloc, view, relation)? else {
+        return Ok(Judgement::Unjudged);
     };
     if count != pairs.len() {
         return Ok(Judgement::Differs);

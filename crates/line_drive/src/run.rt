@@ -6,12 +6,13 @@ ghost use Rattle.rdb_drive.specs.Boards.{AllEnded, IsSession, MayDie};
 ghost use Rattle.line_store.specs.Seats.{outside};
 ghost use Rattle.line_store.specs.Sights.{bare};
 ghost use Rattle.line_cluster.specs.Deaths.{CountsFaults, failures};
-ghost use Rattle.line_cluster.specs.Sound.{HasImages, IsLeft};
+ghost use Rattle.line_cluster.specs.Sound.{HasImages, IsLeft, is_unsound};
 ghost use Rattle.line_cluster.specs.Turned.{HaveAllEnded, is_session};
 ghost use Rattle.line_drive.specs.Boards.{board_of, mortals_of};
 ghost use Rattle.line_drive.specs.Turns.{KeepsTurns, has_deaths};
 
 use crate::driver::LineDriver;
+use lent_values::Naming;
 use line_cluster::{Finished, Halt, LineCluster, Origin};
 use line_store::LineStore;
 use rdb_account::Events;
@@ -33,7 +34,7 @@ pub struct Ran<L> {
 }
 
 // What the driven sessions came to.
-fn ran_of<O: Origin, S: Reserves + Reaches, L: LineStore + Drop>(
+fn ran_of<O: Origin + Naming, S: Reserves + Reaches, L: LineStore + Drop>(
     driver: LineDriver<O, S, L>,
     has_ended: bool,
 ) -> Ran<L>
@@ -49,6 +50,7 @@ fn ran_of<O: Origin, S: Reserves + Reaches, L: LineStore + Drop>(
     ensures left { result.is_whole ≡ true → O.told → IsLeft S.stands O.opening (L.sight result.store) (map event_of result.events) }
     ensures images { O.told → HasImages S.stands O.opening (L.sight result.store) (map event_of result.events) }
     ensures faults { O.told → CountsFaults O.faults (failures (map event_of result.events) result.halt) (L.sight result.store) }
+    ensures agrees { O.told → is_unsound result.halt ≡ false }
     ensures outside { result.is_whole ≡ true → (s : ℕ) → bare ((L.sight result.store).stand s) ≡ outside }
 {
     driver.facts();
@@ -69,12 +71,14 @@ fn ran_of<O: Origin, S: Reserves + Reaches, L: LineStore + Drop>(
 /// Drives the sessions by the calling thread, a turn for each entry of the order and then in ascending order, again and again,
 /// until all have ended or no session goes on. The gate is asked before each step, and may have a session die there; it is
 /// recovered before another goes on.
-pub fn run_in_order<O: Origin, S: Reserves + Reaches, L: LineStore + Drop, G: Gate>(
-    cluster: LineCluster<O, S, L>,
-    sessions: u32,
-    order: &[u32],
-    gate: &G,
-) -> Ran<L>
+pub fn run_in_order<
+    O: Origin + Naming + Send,
+    S: Reserves + Reaches + Send,
+    L: LineStore + Drop,
+    G: Gate,
+>(cluster: LineCluster<O, S, L>, sessions: u32, order: &[u32], gate: &G) -> Ran<L>
+where
+    S::Kept: Send,
     requires fresh { cluster.events ≡ [] }
     requires sessions { sessions ≡ O.sessions }
     requires few { sessions ≤ MOST_SESSIONS }
@@ -87,6 +91,7 @@ pub fn run_in_order<O: Origin, S: Reserves + Reaches, L: LineStore + Drop, G: Ga
     ensures left { result.is_whole ≡ true → O.told → IsLeft S.stands O.opening (L.sight result.store) (map event_of result.events) }
     ensures images { O.told → HasImages S.stands O.opening (L.sight result.store) (map event_of result.events) }
     ensures faults { O.told → CountsFaults O.faults (failures (map event_of result.events) result.halt) (L.sight result.store) }
+    ensures agrees { O.told → is_unsound result.halt ≡ false }
     ensures outside { result.is_whole ≡ true → (s : ℕ) → bare ((L.sight result.store).stand s) ≡ outside }
     ensures order { result.is_whole ≡ true → O.told → KeepsTurns O.opening O.sessions order.now result.events }
 {
@@ -99,7 +104,7 @@ pub fn run_in_order<O: Origin, S: Reserves + Reaches, L: LineStore + Drop, G: Ga
 /// on. The gate is asked before each step, and may have a session die there; whoever comes next recovers it.
 pub fn run_in_threads<
     R: Threads + Wait + Sync,
-    O: Origin + Send,
+    O: Origin + Naming + Send,
     S: Reserves + Reaches + Send,
     L: LineStore + Drop + Send,
     G: Gate + Sync,
@@ -117,6 +122,7 @@ where
     ensures left { result.is_whole ≡ true → O.told → IsLeft S.stands O.opening (L.sight result.store) (map event_of result.events) }
     ensures images { O.told → HasImages S.stands O.opening (L.sight result.store) (map event_of result.events) }
     ensures faults { O.told → CountsFaults O.faults (failures (map event_of result.events) result.halt) (L.sight result.store) }
+    ensures agrees { O.told → is_unsound result.halt ≡ false }
     ensures outside { result.is_whole ≡ true → (s : ℕ) → bare ((L.sight result.store).stand s) ≡ outside }
 {
     let shared = Mutex::new(LineDriver::new(cluster));

@@ -1,3 +1,4 @@
 mod Found
 mod Left
 mod Pages
+mod Viewed

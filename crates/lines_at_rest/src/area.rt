@@ -15,18 +15,14 @@ ghost use Rattle.lines_at_rest.specs.Left.{IsPageSlot, IsReadAs};
 ghost use Rattle.stable_lines.specs.Slots.{area_file as area_named};
 ghost use Rattle.lines_at_rest.specs.declared.reading.FaultyPages.TheVariants.{Refused};
 
+use crate::lines::AreaLines;
 use crate::page::add_read;
 use crate::reading::RestReading;
 use area_files::{slot_of, storage_area};
 use line_moves::area_file;
 use line_opening::OpeningFault;
-use ordered_entries::Entries;
 use rdb_outside::Disk;
-use rdb_types::{Dbkey, Image};
 use std::alloc::Global;
-
-/// The present lines of a logical area with the bytes of their images, in the order of their Dbkeys.
-pub type AreaLines = Entries<Dbkey, Image>;
 
 // Reads a page and adds its present lines.
 fn read_page<D: Disk>(

@@ -2,10 +2,12 @@
 #![tactic(auto)]
 
 mod area;
-mod learn;
+mod lines;
 mod page;
 mod reading;
+mod view;
 
-pub use area::{AreaLines, read_area};
-pub use learn::learn_area;
+pub use area::read_area;
+pub use lines::{AreaLines, LineBytes};
 pub use reading::{FaultyPages, RestReading};
+pub use view::AreaView;

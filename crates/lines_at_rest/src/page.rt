@@ -12,7 +12,7 @@ ghost use Rattle.before_images.specs.Before.{LaysLines};
 ghost use Rattle.lines_at_rest.specs.Area.{with_present, HoldsTo};
 ghost use Rattle.lines_at_rest.specs.Left.{IsLeftOf, IsReadAs};
 
-use crate::area::AreaLines;
+use crate::lines::AreaLines;
 use crate::reading::{FaultyPages, RestReading};
 use area_files::is_space_page;
 use before_images::{OpenTransaction, line_before};
@@ -27,7 +27,7 @@ fn add_present(found: &mut AreaLines, key: Dbkey, line: Line) -> Result<(), NoMe
     ensures { OnOk result (found.new ≡ with_present key (shown line) found.old) }
 {
     match line.state {
-        LineState::Present => found.put(key, line.image),
+        LineState::Present => found.put(key, &line.image),
         LineState::Never | LineState::Erased => Ok(()),
     }
 }

@@ -25,7 +25,7 @@ pub mod ScopeUses
 pub mod Lacking
 pub mod Wanting
 pub mod WantingRows
-pub mod Added
+pub mod Named
 pub mod LookedAt
 pub mod WantedBehind
 pub mod RowsStored

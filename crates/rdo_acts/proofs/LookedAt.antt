@@ -41,9 +41,10 @@ use Rattle.served_selections.specs.Ranges.{Chosen, chosen_from}
 use Rattle.served_selections.specs.Served.{access_behind, ReadsBy, IsReadByIndex}
 use Rattle.served_selections.proofs.Along.{IsRowOf, one_more_variable, rows_of_source}
 use Rattle.served_selections.proofs.Lacked.{IsLed, rows_led, first_led, nodes_led}
-use Rattle.rdo_acts.specs.Looking.{AddsOnly, IsIn, IsFoundIn, IsAccessed, IsReadBy, AreValuesOf, StandBehind}
+use Rattle.index_ahead.specs.Added.{AddsOnly, IsIn}
+use Rattle.rdo_acts.specs.Looking.{IsFoundIn, IsAccessed, IsReadBy, AreValuesOf, StandBehind}
 use Rattle.rdo_acts.proofs.Viewing.{range_there}
-use Rattle.rdo_acts.proofs.Added.{then_added, added_as}
+use Rattle.index_ahead.proofs.Added.{then_added, added_as}
 
 -- ---- what an index is found to have
 
@@ -75,12 +76,9 @@ module _ (known : Knowledge) (all : Lines) (root : Dbkey) (positions : List ℕ)
       ∙ ap (list_any (λ k. is_eq (dbkey_order key k))) (sym same)
       ∙ has_one key found there)
 
-  pub answers_led : (result : Result (List Dbkey) IndexStop) → Answers known (reads interval index.level index.tree) (rows_within interval (pairs index.level index.tree)) result → (key : Dbkey) → IsFoundIn result key → Led key
+  pub answers_led : (result : Result (List Dbkey) IndexStop) → Answers known (reads interval index.level index.tree) (rows_within interval (pairs index.level index.tree)) result → (key : Dbkey) → IsFoundIn root.area result key → Led key
   answers_led (Ok found) answers key there = found_led found answers.0 key there
-  answers_led (Err (Missing (Line node))) answers key there =
-      subst Led (sym there) (first_led root.area (is_keyed positions interval) known rows (reads interval index.level index.tree) (Line node) (nodes_led all root positions rows interval index) answers)
-  answers_led (Err (Missing (Area area))) answers key there = absurd there
-  answers_led (Err (Missing (Room room))) answers key there = absurd there
+  answers_led (Err (Missing need)) answers key there = inl there
   answers_led (Err (Own duplicate)) answers key there = absurd there
   answers_led (Err (Bad at)) answers key there = absurd there
   answers_led (Err NoMemory) answers key there = absurd there
@@ -89,14 +87,14 @@ module _ (known : Knowledge) (all : Lines) (root : Dbkey) (positions : List ℕ)
 
 module _ (known : Knowledge) (all : Lines) (rel : Relation) (source : Source) where
   pub find_accessed : (root : Dbkey) (key : _) (served : Serves all (positions_in source.indexes.now (Find root key)) rel.rows (Find root key)) (result : Result (List Dbkey) IndexStop)
-      → Answers known (reads (only key) served.level served.tree) (rows_within (only key) (pairs served.level served.tree)) result → (line : Dbkey) → IsFoundIn result line → IsAccessed (Find root key) source rel line
+      → Answers known (reads (only key) served.level served.tree) (rows_within (only key) (pairs served.level served.tree)) result → (line : Dbkey) → IsFoundIn root.area result line → IsAccessed (Find root key) source rel line
   find_accessed root key served result answers line there = (
     λ e. let bad : ⊥ = cc in bad,
     answers_led known all root (positions_in source.indexes.now (Find root key)) rel.rows (only key) served result answers line there,
   )
 
   pub range_accessed : (root : Dbkey) (bounds : _) (served : Serves all (positions_in source.indexes.now (Range root bounds)) rel.rows (Range root bounds)) (result : Result (List Dbkey) IndexStop)
-      → Answers known (reads (between bounds) served.level served.tree) (rows_within (between bounds) (pairs served.level served.tree)) result → (line : Dbkey) → IsFoundIn result line → IsAccessed (Range root bounds) source rel line
+      → Answers known (reads (between bounds) served.level served.tree) (rows_within (between bounds) (pairs served.level served.tree)) result → (line : Dbkey) → IsFoundIn root.area result line → IsAccessed (Range root bounds) source rel line
   range_accessed root bounds served result answers line there = (
     λ e. let bad : ⊥ = cc in bad,
     answers_led known all root (positions_in source.indexes.now (Range root bounds)) rel.rows (between bounds) served result answers line there,

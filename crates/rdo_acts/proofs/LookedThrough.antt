@@ -29,9 +29,10 @@ use Rattle.rdo_select.specs.Sources.{Listed}
 use Rattle.rdo_select.specs.Stops.{HaveValues}
 use Rattle.served_selections.specs.Ranges.{Chosen, chosen_from, chosen_in, chosen_in_condition, chosen_in_ranging}
 use Rattle.served_selections.proofs.Lists.{any_left, any_right}
-use Rattle.rdo_acts.specs.Looking.{AddsOnly, IsReadBy, AreValuesOf, StandBehind}
+use Rattle.index_ahead.specs.Added.{AddsOnly}
+use Rattle.rdo_acts.specs.Looking.{IsReadBy, AreValuesOf, StandBehind}
 use Rattle.rdo_acts.specs.Selections.{chosen_in_items, chosen_in_act, chosen_in_acts}
-use Rattle.rdo_acts.proofs.Added.{added_as}
+use Rattle.index_ahead.proofs.Added.{added_as}
 
 pub if_ok : {T E : Type 0} (r : Result T E) (P Q : Type 0) → (P → Q) → OnOk r P → OnOk r Q
 if_ok (Ok x) P Q f h = f h

@@ -19,9 +19,10 @@ use Rattle.rdo_acts.specs.declared.acting.Outcome.TheVariants as outcome
 use Rattle.rdo_acts.specs.Ends.{GoTogether}
 use Rattle.rdo_acts.specs.Selections.{chosen_in_act}
 use Rattle.rdo_acts.specs.Ahead.{StoresMore, IsWantedBehind, AreWantedBehind, WantsBehind}
-use Rattle.rdo_acts.specs.Looking.{AddsOnly, IsReadBy, IsLineOf, IsRoomWithin, WantedSo}
+use Rattle.index_ahead.specs.Added.{AddsOnly}
+use Rattle.rdo_acts.specs.Looking.{IsReadBy, IsLineOf, IsRoomWithin, WantedSo}
 use Rattle.rdo_acts.specs.Told.{Finishes}
-use Rattle.rdo_acts.proofs.Added.{all_added}
+use Rattle.index_ahead.proofs.Added.{all_added}
 
 -- ---- lines and rooms
 

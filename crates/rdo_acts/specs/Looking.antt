@@ -15,6 +15,7 @@ use Rattle.line_view.specs.Knowledge.{Knowledge}
 use Rattle.line_view.specs.declared.stop.Stop.TheVariants.{Missing}
 use Rattle.relation_rows.specs.declared.stored.StoredRow.{StoredRow}
 use Rattle.sorted_index_laws.specs.Nodes.{AnyByRecursion}
+use Rattle.index_ahead.specs.Added.{IsIn}
 use Rattle.sorted_index_laws.specs.Stop.{IndexStop}
 use Rattle.access_paths.specs.declared.choice.Access.{Access}
 use Rattle.access_paths.specs.declared.choice.Access.TheVariants.{Scan}
@@ -30,25 +31,13 @@ use Rattle.served_selections.specs.Served.{ReadsBy, IsReadByIndex}
 use Rattle.rdo_bind.specs.Acting.{Act, IsBoundAct}
 use Rattle.rdo_acts.specs.Ahead.{IsWantedBehind}
 
--- it is one of these
-abbrev pub IsIn : {X : Type 0} → List X → X → Type 0
-IsIn xs x = AnyByRecursion (λ o. x ≡ o) xs
-
--- each of these was there before, or is so
-abbrev pub AddsOnly : {X : Type 0} → (X → Type 0) → List X → List X → Type 0
-AddsOnly Is old new = AllByRecursion (λ x. Is x ⊎ IsIn old x) new
-
 -- ---- lines
 
-abbrev pub IsNamed : Need → Dbkey → Type 0
-IsNamed (kinds.Line node) key = key ≡ node
-IsNamed _ key = ⊥
-
--- a row that an index was found to have, or the node that isn't known
-abbrev pub IsFoundIn : Result (List Dbkey) IndexStop → Dbkey → Type 0
-IsFoundIn (Ok found) key = IsIn found key
-IsFoundIn (Err (Missing need)) key = IsNamed need key
-IsFoundIn (Err _) key = ⊥
+-- a row that an index was found to have, or where a node isn't known a line of the index's area
+abbrev pub IsFoundIn : ℕ → Result (List Dbkey) IndexStop → Dbkey → Type 0
+IsFoundIn area (Ok found) key = IsIn found key
+IsFoundIn area (Err (Missing _)) key = key.area ≡ area
+IsFoundIn area (Err _) key = ⊥
 
 -- a line that is read of a relation by an index
 abbrev pub IsAccessed : Access → Source → Relation → Dbkey → Type 0

@@ -4,7 +4,8 @@ ghost use Rattle.line_view.specs.declared.need.Need.{Need as Needed};
 ghost use Rattle.line_view.specs.Held.{knows};
 ghost use Rattle.line_view.specs.Stops.{Lacks};
 ghost use Rattle.rdo_acts.specs.Ahead.{place_of as place, IsBehind, AreAheadTo};
-ghost use Rattle.rdo_acts.specs.Looking.{AddsOnly, IsRoomWithin, IsLineOf};
+ghost use Rattle.index_ahead.specs.Added.{AddsOnly};
+ghost use Rattle.rdo_acts.specs.Looking.{IsRoomWithin, IsLineOf};
 
 use line_view::{Known, Need, Room, Seen, View};
 use rdb_types::{Dbkey, Items, NoMemory};

@@ -1,6 +1,7 @@
 // The faults of all lines.
 ghost use Rattle.std.specs.Prelude.{◌≡◌, map, OnOk, IfOk};
-ghost use Rattle.catalog.specs.Reading.{IsWhole};
+ghost use Rattle.line_view.specs.Knowledge.{Lines, IsInOrder, lines_in};
+ghost use Rattle.catalog.specs.Reading.{IsWhole, catalog_area};
 ghost use Rattle.lines_at_rest.specs.declared.reading.FaultyPages.TheVariants.{LeftOut};
 ghost use Rattle.line_faults.specs.Catalog.{IsCheckedCatalog};
 ghost use Rattle.verified_lines.specs.Faults.{AreLineFaults};
@@ -15,15 +16,37 @@ use crate::strays::verify_strays;
 use catalog::Catalog;
 use line_faults::{CheckedCatalog, ascending, check_catalog};
 use line_opening::OpeningFault;
-use lines_at_rest::{RestReading, read_area};
+use lines_at_rest::{AreaLines, RestReading, read_area};
+use ordered_entries::Entries;
 use rdb_outside::Disk;
-use rdb_types::{Dbkey, Items, Keys};
+use rdb_types::{Dbkey, Image, Items, Keys, NoMemory};
 use rmu_texts::Faults;
 use std::alloc::Global;
 use std::collections::BTreeSet;
 
 /// The logical area of the catalog.
 const CATALOG_AREA: u32 = 1;
+
+// The lines with whole images.
+fn images_of(alloc: Global, lines: &AreaLines) -> Result<Entries<Dbkey, Image>, NoMemory>
+    ensures { IfOk result (λ images. images ≡ lines.now) }
+{
+    let mut images = Entries::new(alloc);
+    for entry in lines.as_slice() {
+        images.put(entry.0, Image::from_bytes(entry.1.bytes()))?;
+    }
+    Ok(images)
+}
+
+fn check_lines(alloc: Global, lines: &AreaLines) -> Result<CheckedCatalog, NoMemory>
+    ensures checked { IfOk result (λ checked. (all : Lines) → IsInOrder all
+        → lines.now ≡ lines_in catalog_area all
+        → IsCheckedCatalog all checked.catalog checked.faults.keys) }
+    ensures whole { IfOk result (λ checked. IsWhole checked.catalog) }
+{
+    let images = images_of(alloc, lines)?;
+    check_catalog(alloc, images)
+}
 
 // What is left of the catalog without its lines at fault, and these.
 fn check_definitions<D: Disk>(
@@ -37,7 +60,7 @@ fn check_definitions<D: Disk>(
     ensures quiet { IsQuiet held.now.faulty (D.view disk.old) (D.view disk.new) result }
 {
     let lines = read_area(alloc, disk, held, CATALOG_AREA)?;
-    match check_catalog(alloc, lines) {
+    match check_lines(alloc, &lines) {
         Ok(checked) => Ok(checked),
         Err(_) => Err(OpeningFault::NoMemory),
     }

@@ -13,7 +13,7 @@ ghost use Rattle.session_measure.specs.Weights.{Beside, items_in};
 ghost use Rattle.session_measure.specs.Nearer.{has_out};
 ghost use Rattle.session_states.specs.declared.stage.ReaderStage.{ReaderStage as ReaderStageValue};
 ghost use Rattle.stage_steps.specs.Happenings.{events_of};
-ghost use Rattle.stage_steps.specs.Leaving.{OnUnworked};
+ghost use Rattle.stage_steps.specs.Leaving.{NamesBad, OnUnworked};
 ghost use Rattle.stage_steps.specs.Nearer.{Nearer};
 ghost use Rattle.stage_steps.specs.Scenes.{ComesIn, EndsIn, PassesOn, TakesUpIn, scene};
 ghost use Rattle.stage_steps.specs.Turns.{Comes, reads_at};
@@ -158,7 +158,39 @@ fn read_in_turn(terms: ReaderTerms, item: Item, next: Need, later: Needs) -> Pha
     terms.at(round.at(next))
 }
 
-/// Works the job of a statement at once, and takes what it came to: it is said, or all that it named is read.
+/// Takes what a job came to: it is said, or all that it named is read, and want of memory is answered. Where it was left unworked, or calls a
+/// line bad, its job is due again, and the session has to stop.
+pub fn take_found_reading<S: Statements, L: LineStore>(
+    alloc: Global,
+    store: &mut L,
+    s: Session,
+    terms: ReaderTerms,
+    item: Item,
+    found: Found,
+) -> Turned
+    requires member { IsMember s.number }
+    requires seat { IsReader ((L.sight store.old).stand s.number) }
+    ensures comes { (word : List ℕ) (locks : State) → IsFound S.stands word terms.standing (uttered_of item) (knows terms.known) found →
+        ComesIn S.stands s.number (scene word (L.sight store.old) locks) (reads_at terms (ReaderStage.Working item ReaderWork.Out)) (scene word (L.sight store.new) locks) result.phase result.happened }
+    ensures unworked { OnUnworked result.happened (found ≡ Found.Unworked) }
+    ensures bad { NamesBad found result.happened }
+{
+    match found {
+        Found::Done(worked) => say_reading::<S>(terms, item, worked),
+        Found::Missing { next, later } => quiet(read_in_turn(terms, item, next, later)),
+        Found::Bad(key) => Turned {
+            phase: terms.at(ReaderStage::Working(item, ReaderWork::Due)),
+            happened: Happening::Unsound(key),
+        },
+        Found::Unworked => Turned {
+            phase: terms.at(ReaderStage::Working(item, ReaderWork::Due)),
+            happened: Happening::Unworked,
+        },
+        Found::NoMemory => forgo_reading::<S, L>(alloc, store, s, terms, item),
+    }
+}
+
+/// Works the job of a statement at once, and takes what it came to. Where it is left unworked, that has a cause.
 pub fn compute_reading<S: Statements, L: LineStore>(
     alloc: Global,
     word: &Word,
@@ -188,17 +220,7 @@ pub fn compute_reading<S: Statements, L: LineStore>(
         known: job.known,
         spoken: terms.spoken,
     };
-    match found {
-        Found::Done(worked) => say_reading::<S>(back, job.item, worked),
-        Found::Missing { next, later } => quiet(read_in_turn(back, job.item, next, later)),
-        // There is no such line.
-        Found::Bad(_) => quiet(back.at(ReaderStage::Working(job.item, ReaderWork::Due))),
-        Found::Unworked => Turned {
-            phase: back.at(ReaderStage::Working(job.item, ReaderWork::Due)),
-            happened: Happening::Unworked,
-        },
-        Found::NoMemory => forgo_reading::<S, L>(alloc, store, s, back, job.item),
-    }
+    take_found_reading::<S, L>(alloc, store, s, back, job.item, found)
 }
 
 /// Reads a need of a statement; then the next one is read, and behind the last the job is due again.

@@ -1,15 +1,13 @@
 use Rattle.std.proofs.Common.{sym, subst}
-use Rattle.line_view.specs.Knowledge.{Agrees}
-use Rattle.line_view.specs.Held.{Held, knows}
 use Rattle.relation_rows.specs.Stored.{IsAreaKnown}
-use Rattle.line_faults.proofs.Learnt.{area_learnt, nothing_agrees}
+use Rattle.lines_at_rest.specs.View.{HeldArea, knows}
+use Rattle.areas_at_rest.proofs.Known.{view_knows}
 use Rattle.areas_at_rest.proofs.areas.view_of.Goals as goal
 
-pub returns-clause-known : goal.returns-clause-known
-returns-clause-known g c =
-    let k = c.in_ok-learn_area.ensures.known in
-    subst (λ (h : Held). IsAreaKnown (knows h) c.args.area) (sym k.1) (area_learnt c.new-known.result c.args.area k.0)
+pub returns-in-Ok-clause-known : goal.returns-in-Ok-clause-known
+returns-in-Ok-clause-known g c =
+    subst (λ (h : HeldArea). IsAreaKnown (knows h) c.args.area) (sym c.in-Ok.ensures.held) (view_knows c.args.area c.in_ok-lines.lines)
 
-pub returns-clause-agrees : goal.returns-clause-agrees
-returns-clause-agrees g c = λ file owner t left so groups lines lays stands.
-    c.learn_area.ensures.agrees t file owner left so groups lines lays stands (subst (λ (h : Held). Agrees (knows h) lines) (sym c.new-known.ensures) (nothing_agrees lines))
+pub returns-in-Ok-clause-agrees : goal.returns-in-Ok-clause-agrees
+returns-in-Ok-clause-agrees g c = λ file owner t left so groups lines lays stands.
+    c.in-Ok.ensures.agrees lines stands.in_order (c.in_ok-lines.ensures.lines t file owner left so groups lines lays stands)

@@ -1,5 +1,5 @@
 use Rattle.std.proofs.Common.{rules, refl, inl, subst}
-use Rattle.line_view.specs.Held.{knows}
+use Rattle.lines_at_rest.specs.View.{knows}
 use Rattle.catalog.specs.Reading.{StopsCatalog, IsBad}
 use Rattle.catalog.proofs.Agreements.{no_catalog}
 use Rattle.std.proofs.lemmas.Result.{err_from_is_err_and}

@@ -1,7 +1,8 @@
 use Rattle.std.proofs.Common.{List, ap, subst}
 use Rattle.line_view.specs.declared.need.Need.{Need}
 use Rattle.rdo_bind.specs.Acting.{act_of}
-use Rattle.rdo_acts.specs.Looking.{AddsOnly, IsLineOf}
+use Rattle.index_ahead.specs.Added.{AddsOnly}
+use Rattle.rdo_acts.specs.Looking.{IsLineOf}
 use Rattle.rdo_acts.proofs.WantedBehind.{lines_wanted}
 use Rattle.rdo_acts.proofs.behind.lines_behind.Goals as goal
 

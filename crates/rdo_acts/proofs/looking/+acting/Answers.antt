@@ -6,9 +6,10 @@ use Rattle.rdo_values.specs.Places.{ranges_in, IsBoundRanging}
 use Rattle.rdo_select.specs.declared.crossing.Found.{Found}
 use Rattle.rdo_select.specs.Stops.{HaveValues}
 use Rattle.served_selections.specs.Ranges.{chosen_in_ranging}
-use Rattle.rdo_acts.specs.Looking.{AddsOnly, IsReadBy}
+use Rattle.index_ahead.specs.Added.{AddsOnly}
+use Rattle.rdo_acts.specs.Looking.{IsReadBy}
 use Rattle.rdo_acts.specs.Selections.{chosen_in_act, chosen_in_acts}
-use Rattle.rdo_acts.proofs.Added.{kept, then_added}
+use Rattle.index_ahead.proofs.Added.{kept, then_added}
 use Rattle.rdo_acts.proofs.Arms.{is_for, is_print}
 use Rattle.rdo_acts.proofs.Writing.{acts_at}
 use Rattle.rdo_acts.proofs.LookedThrough.{if_ok, left_read, right_read, act_read, tuple_at}

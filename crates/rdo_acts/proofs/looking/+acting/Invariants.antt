@@ -7,7 +7,8 @@ use Rattle.rdo_values.specs.Views.{ranging_of}
 use Rattle.rdo_values.specs.Places.{ranges_in}
 use Rattle.rdo_select.specs.Sources.{IsShown}
 use Rattle.rdo_values.specs.Selections.{IsBoundSelection}
-use Rattle.rdo_acts.specs.Looking.{AddsOnly, IsReadBy, AreValuesOf}
+use Rattle.index_ahead.specs.Added.{AddsOnly}
+use Rattle.rdo_acts.specs.Looking.{IsReadBy, AreValuesOf}
 use Rattle.rdo_acts.specs.Selections.{chosen_in_acts}
 use Rattle.rdo_acts.proofs.looking.+acting.Given as goal
 

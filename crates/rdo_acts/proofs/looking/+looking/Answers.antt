@@ -10,8 +10,9 @@ use Rattle.served_selections.specs.Served.{access_behind}
 use Rattle.index_rows.specs.Indexed.{positions_in}
 use Rattle.line_view.specs.Held.{knows}
 use Rattle.rdb_meaning.specs.Contents.{Row}
-use Rattle.rdo_acts.specs.Looking.{AddsOnly, IsReadBy, AreValuesOf, StandBehind}
-use Rattle.rdo_acts.proofs.Added.{kept, then_added}
+use Rattle.index_ahead.specs.Added.{AddsOnly}
+use Rattle.rdo_acts.specs.Looking.{IsReadBy, AreValuesOf, StandBehind}
+use Rattle.index_ahead.proofs.Added.{kept, then_added}
 use Rattle.rdo_acts.proofs.LookedAt.{rel, of_source, serves, first_added, rest_added, rows_behind}
 use Rattle.rdo_acts.proofs.LookedThrough.{if_ok, stand_at}
 use Rattle.rdo_acts.proofs.looking.+looking.Goals as goal

@@ -6,7 +6,8 @@ use Rattle.rdo_values.specs.Places.{AreRanges}
 use Rattle.rdo_values.specs.Views.{testing_of, conjunction_with}
 use Rattle.rdo_select.specs.Sources.{IsShown}
 use Rattle.served_selections.specs.Ranges.{chosen_from}
-use Rattle.rdo_acts.specs.Looking.{AddsOnly, IsReadBy, StandBehind}
+use Rattle.index_ahead.specs.Added.{AddsOnly}
+use Rattle.rdo_acts.specs.Looking.{IsReadBy, StandBehind}
 use Rattle.rdo_acts.proofs.looking.+looking.Given as goal
 
 abbrev pub decreases-look_over : goal.decreases-look_over

@@ -1,8 +1,8 @@
 use Rattle.std.proofs.Common.{sym, subst, List, get_or}
 use Rattle.rdb_types.specs.declared.keys.Dbkey.{Dbkey}
 use Rattle.rdb_types.specs.Order.{dbkey_order}
-use Rattle.rdo_acts.specs.Looking.{AddsOnly, IsIn}
-use Rattle.rdo_acts.proofs.Added.{kept, then_added, inserted, one_at}
+use Rattle.index_ahead.specs.Added.{AddsOnly, IsIn}
+use Rattle.index_ahead.proofs.Added.{kept, then_added, inserted, one_at}
 use Rattle.rdo_acts.proofs.looking.add_rows.Goals as goal
 
 pub loop-row-init : goal.loop-row-init

@@ -1,4 +1,4 @@
-use Rattle.rdo_acts.specs.Looking.{AddsOnly, IsIn}
+use Rattle.index_ahead.specs.Added.{AddsOnly, IsIn}
 use Rattle.rdo_acts.proofs.looking.add_rows.Given as goal
 
 abbrev pub invariant-loop-row : goal.invariant-loop-row

@@ -1,9 +1,10 @@
 use Rattle.std.proofs.Common.{[], List, refl, sym, subst}
 use Rattle.rdb_types.specs.declared.keys.Dbkey.{Dbkey}
 use Rattle.rdo_bind.specs.Acting.{act_of}
-use Rattle.rdo_acts.specs.Looking.{AddsOnly, IsReadBy, AreValuesOf}
+use Rattle.index_ahead.specs.Added.{AddsOnly}
+use Rattle.rdo_acts.specs.Looking.{IsReadBy, AreValuesOf}
 use Rattle.rdo_acts.specs.Selections.{chosen_in_act}
-use Rattle.rdo_acts.proofs.Added.{all_added}
+use Rattle.index_ahead.proofs.Added.{all_added}
 use Rattle.rdo_acts.proofs.looking.lines_ahead.Goals as goal
 
 pub returns : goal.returns

@@ -3,7 +3,7 @@ use Rattle.rdo_values.specs.declared.bound.BoundExpression as tree
 use Rattle.rdo_bind.specs.declared.action.BoundPrintItem.TheVariants.{Value}
 use Rattle.rdo_acts.specs.Looking.{IsReadBy}
 use Rattle.rdo_acts.specs.Selections.{chosen_in_items}
-use Rattle.rdo_acts.proofs.Added.{kept}
+use Rattle.index_ahead.proofs.Added.{kept}
 use Rattle.rdo_acts.proofs.LookedThrough.{if_ok, count_read, count_bound, statistic_read, statistic_bound}
 use Rattle.rdo_acts.proofs.looking.look_at_item.Goals as goal
 

@@ -1,6 +1,6 @@
 use Rattle.rdo_acts.specs.Looking.{IsReadBy}
 use Rattle.rdo_acts.specs.Selections.{chosen_in_items}
-use Rattle.rdo_acts.proofs.Added.{kept, then_added}
+use Rattle.index_ahead.proofs.Added.{kept, then_added}
 use Rattle.rdo_acts.proofs.LookedThrough.{item_read, item_bound}
 use Rattle.rdo_acts.proofs.looking.look_at_items.Goals as goal
 

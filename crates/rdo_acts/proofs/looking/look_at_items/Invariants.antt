@@ -5,7 +5,8 @@ use Rattle.rdb_meaning.specs.declared.tables.Tables.{Tables}
 use Rattle.line_view.specs.Held.{knows}
 use Rattle.rdo_bind.specs.Acting.{IsBoundItem}
 use Rattle.rdo_select.specs.Sources.{IsShown}
-use Rattle.rdo_acts.specs.Looking.{AddsOnly, IsReadBy, AreValuesOf}
+use Rattle.index_ahead.specs.Added.{AddsOnly}
+use Rattle.rdo_acts.specs.Looking.{IsReadBy, AreValuesOf}
 use Rattle.rdo_acts.specs.Selections.{chosen_in_items}
 use Rattle.rdo_acts.proofs.looking.look_at_items.Given as goal
 

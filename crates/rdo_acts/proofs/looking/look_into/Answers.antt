@@ -6,7 +6,8 @@ use Rattle.rdo_values.specs.Views.{condition_of}
 use Rattle.rdo_select.specs.Chosen.{with_behind}
 use Rattle.rdo_select.proofs.Matchings.{HasParts, parts_are, parts_bound}
 use Rattle.served_selections.specs.Ranges.{chosen_from, chosen_in_ranging}
-use Rattle.rdo_acts.specs.Looking.{AddsOnly, IsReadBy}
+use Rattle.index_ahead.specs.Added.{AddsOnly}
+use Rattle.rdo_acts.specs.Looking.{IsReadBy}
 use Rattle.rdo_acts.proofs.LookedThrough.{if_ok, with_read}
 use Rattle.rdo_acts.proofs.looking.look_into.Goals as goal
 

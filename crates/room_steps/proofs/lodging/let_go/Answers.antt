@@ -23,7 +23,7 @@ returns-in-Ok-clause-comes g c =
 pub returns-clause-comes : goal.returns-clause-comes
 returns-clause-comes g c =
     λ room key. comes-behind g.S.Statements.stands g.met.S.Statements.orderly c.args.s.number (at_stage c.args.terms (Gathering c.args.round.item (LodgingOf room key) c.args.round.later c.args.round.place)) (at_stage (record { standing = c.args.terms.standing; known = c.learn.new.known; spoken = c.args.terms.spoken; waits = c.args.terms.waits }) (Working c.args.round.item (Lodging room key))) _ c.args.common.now.word (g.L.LineStore.sight c.args.common.now.store) c.args.common.now.tree _ _
-    (λ h dead left total. lodging-still g.S.Statements.stands g.met.S.Statements.orderly c.args.s.number (shared c.args.common.now.word h c.args.common.now.tree dead) left total c.args.terms.standing c.args.terms.known c.learn.new.known c.args.terms.spoken c.args.terms.waits c.args.round.item room key c.args.round.later c.args.round.place (record { agrees = λ ordered. c.learn.ensures.agrees (seen_by c.args.s.number h); guarded = λ got locked. c.learn.ensures.guarded got })) (λ f. rests-at _ _ c.args.s.number _ f.seat f.wants f.needs f.statement) (λ left total. near-in c.args.s.number _ _ _ _ _ (c.forgo.ensures.nearer _ _ _ left total refl))
+    (λ h dead left total. lodging-still g.S.Statements.stands g.met.S.Statements.orderly c.args.s.number (shared c.args.common.now.word h c.args.common.now.tree dead) left total c.args.terms.standing c.args.terms.known c.learn.new.known c.args.terms.spoken c.args.terms.waits c.args.round.item room key c.args.round.later c.args.round.place (record { agrees = λ ordered. c.learn.ensures.agrees (seen_by c.args.s.number h); guarded = λ got locked. c.learn.ensures.guarded got })) (λ f. rests-at _ _ c.args.s.number _ f.seat f.wants f.needs f.statement) (λ left total. near-in _ c.args.s.number _ _ _ _ _ (c.forgo.ensures.nearer _ _ _ left total refl))
     (c.forgo.ensures.forgoes c.args.common.now.tree (Working c.args.round.item (Lodging room key)) (as-before c.args.common.now.tree) refl refl)
 
 pub returns-in-Ok-clause-nearer : goal.returns-in-Ok-clause-nearer

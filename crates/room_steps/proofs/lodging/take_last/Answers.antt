@@ -22,7 +22,7 @@ use Rattle.room_steps.proofs.lodging.take_last.Goals as goal
 pub returns-then-is_err-clause-comes : goal.returns-then-is_err-clause-comes
 returns-then-is_err-clause-comes g c =
     comes-behind g.S.Statements.stands g.met.S.Statements.orderly c.args.s.number (at_stage c.args.terms (Gathering c.args.round.item (LodgingOf c.args.given.room c.args.given.key) c.args.round.later c.args.round.place)) (at_stage (record { standing = c.args.terms.standing; known = c.learn.new.known; spoken = c.args.terms.spoken; waits = c.args.terms.waits }) (Working c.args.round.item (Lodging c.args.given.room c.args.given.key))) _ c.args.common.now.word (g.L.LineStore.sight c.args.common.now.store) c.args.common.now.tree _ _
-    (λ h dead left total. lodging-still g.S.Statements.stands g.met.S.Statements.orderly c.args.s.number (shared c.args.common.now.word h c.args.common.now.tree dead) left total c.args.terms.standing c.args.terms.known c.learn.new.known c.args.terms.spoken c.args.terms.waits c.args.round.item c.args.given.room c.args.given.key c.args.round.later c.args.round.place (record { agrees = λ ordered. c.learn.ensures.agrees (seen_by c.args.s.number h); guarded = λ got locked. c.learn.ensures.guarded got })) (λ f. rests-at _ _ c.args.s.number _ f.seat f.wants f.needs f.statement) (λ left total. near-in c.args.s.number _ _ _ _ _ (c.forgo.ensures.nearer _ _ _ left total refl))
+    (λ h dead left total. lodging-still g.S.Statements.stands g.met.S.Statements.orderly c.args.s.number (shared c.args.common.now.word h c.args.common.now.tree dead) left total c.args.terms.standing c.args.terms.known c.learn.new.known c.args.terms.spoken c.args.terms.waits c.args.round.item c.args.given.room c.args.given.key c.args.round.later c.args.round.place (record { agrees = λ ordered. c.learn.ensures.agrees (seen_by c.args.s.number h); guarded = λ got locked. c.learn.ensures.guarded got })) (λ f. rests-at _ _ c.args.s.number _ f.seat f.wants f.needs f.statement) (λ left total. near-in _ c.args.s.number _ _ _ _ _ (c.forgo.ensures.nearer _ _ _ left total refl))
     (c.forgo.ensures.forgoes c.args.common.now.tree (Working c.args.round.item (Lodging c.args.given.room c.args.given.key)) (as-before c.args.common.now.tree) refl refl)
 
 pub returns-in-Ok-true-clause-comes : goal.returns-in-Ok-true-clause-comes
@@ -48,8 +48,8 @@ returns-clause-comes g c =
     goes-behind-none c.args.s.number (at_stage c.args.terms (Gathering c.args.round.item (LodgingOf c.args.given.room c.args.given.key) c.args.round.later c.args.round.place)) _ Alive c.args.common.now.word c.args.common.now.tree (g.L.LineStore.sight c.args.common.now.store) (g.L.LineStore.sight c.take_room.new.self) _ _
     (c.take_room.ensures.refused (λ e. cc))
     (comes-behind g.S.Statements.stands g.met.S.Statements.orderly c.args.s.number (at_stage c.args.terms (Gathering c.args.round.item (LodgingOf c.args.given.room c.args.given.key) c.args.round.later c.args.round.place)) (at_stage (record { standing = c.args.terms.standing; known = c.learn.new.known; spoken = c.args.terms.spoken; waits = c.args.terms.waits }) (Working c.args.round.item (Lodging c.args.given.room c.args.given.key))) _ c.args.common.now.word (g.L.LineStore.sight c.take_room.new.self) c.args.common.now.tree _ _
-    (λ h dead left total. lodging-still g.S.Statements.stands g.met.S.Statements.orderly c.args.s.number (shared c.args.common.now.word h c.args.common.now.tree dead) left total c.args.terms.standing c.args.terms.known c.learn.new.known c.args.terms.spoken c.args.terms.waits c.args.round.item c.args.given.room c.args.given.key c.args.round.later c.args.round.place (record { agrees = λ ordered. c.learn.ensures.agrees (seen_by c.args.s.number h); guarded = λ got locked. c.learn.ensures.guarded got })) (λ f. rests-at _ _ c.args.s.number _ f.seat f.wants f.needs f.statement) (λ left total. near-in c.args.s.number _ _ _ _ _ (c.forgo-in-Err.ensures.nearer _ _ _ left total refl))
-    (c.forgo-in-Err.ensures.forgoes c.args.common.now.tree (Working c.args.round.item (Lodging c.args.given.room c.args.given.key)) (as-before c.args.common.now.tree) refl refl)) (λ left total. near-in c.args.s.number _ _ _ _ _ (c.forgo-in-Err.ensures.nearer _ _ _ left total refl))
+    (λ h dead left total. lodging-still g.S.Statements.stands g.met.S.Statements.orderly c.args.s.number (shared c.args.common.now.word h c.args.common.now.tree dead) left total c.args.terms.standing c.args.terms.known c.learn.new.known c.args.terms.spoken c.args.terms.waits c.args.round.item c.args.given.room c.args.given.key c.args.round.later c.args.round.place (record { agrees = λ ordered. c.learn.ensures.agrees (seen_by c.args.s.number h); guarded = λ got locked. c.learn.ensures.guarded got })) (λ f. rests-at _ _ c.args.s.number _ f.seat f.wants f.needs f.statement) (λ left total. near-in _ c.args.s.number _ _ _ _ _ (c.forgo-in-Err.ensures.nearer _ _ _ left total refl))
+    (c.forgo-in-Err.ensures.forgoes c.args.common.now.tree (Working c.args.round.item (Lodging c.args.given.room c.args.given.key)) (as-before c.args.common.now.tree) refl refl)) (λ left total. near-in _ c.args.s.number _ _ _ _ _ (c.forgo-in-Err.ensures.nearer _ _ _ left total refl))
 
 pub returns-then-is_err-clause-nearer : goal.returns-then-is_err-clause-nearer
 returns-then-is_err-clause-nearer g c b d t room key left total = c.forgo.ensures.nearer b d _ left total refl

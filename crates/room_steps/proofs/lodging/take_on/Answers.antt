@@ -27,13 +27,13 @@ pub returns-in-Ok-false-clause-comes : goal.returns-in-Ok-false-clause-comes
 returns-in-Ok-false-clause-comes g c =
     goes-behind-none c.args.s.number (at_stage c.args.terms (Gathering c.args.round.item (LodgingOf c.args.given.room c.args.given.key) c.args.round.later c.args.round.place)) _ Alive c.args.common.now.word c.args.common.now.tree (g.L.LineStore.sight c.args.common.now.store) (g.L.LineStore.sight c.take_room.new.self) _ _
     (c.take_room.ensures.refused (λ e. cc))
-    (c.let_go-in-Ok-false.ensures.comes c.args.given.room c.args.given.key) (λ left total. near-in c.args.s.number _ _ _ _ _ (c.let_go-in-Ok-false.ensures.nearer _ _ c.args.terms c.args.given.room c.args.given.key left total))
+    (c.let_go-in-Ok-false.ensures.comes c.args.given.room c.args.given.key) (λ left total. near-in _ c.args.s.number _ _ _ _ _ (c.let_go-in-Ok-false.ensures.nearer _ _ c.args.terms c.args.given.room c.args.given.key left total))
 
 pub returns-in-Err-clause-comes : goal.returns-in-Err-clause-comes
 returns-in-Err-clause-comes g c =
     goes-behind-none c.args.s.number (at_stage c.args.terms (Gathering c.args.round.item (LodgingOf c.args.given.room c.args.given.key) c.args.round.later c.args.round.place)) _ Alive c.args.common.now.word c.args.common.now.tree (g.L.LineStore.sight c.args.common.now.store) (g.L.LineStore.sight c.take_room.new.self) _ _
     (c.take_room.ensures.refused (λ e. cc))
-    (c.forgo.ensures.forgoes c.args.common.now.tree (Gathering c.args.round.item (LodgingOf c.args.given.room c.args.given.key) c.args.round.later c.args.round.place) (as-before c.args.common.now.tree) refl refl) (λ left total. near-in c.args.s.number _ _ _ _ _ (c.forgo.ensures.nearer _ _ _ left total refl))
+    (c.forgo.ensures.forgoes c.args.common.now.tree (Gathering c.args.round.item (LodgingOf c.args.given.room c.args.given.key) c.args.round.later c.args.round.place) (as-before c.args.common.now.tree) refl refl) (λ left total. near-in _ c.args.s.number _ _ _ _ _ (c.forgo.ensures.nearer _ _ _ left total refl))
 
 pub returns-in-Ok-true-clause-nearer : goal.returns-in-Ok-true-clause-nearer
 returns-in-Ok-true-clause-nearer g c b d t room key left total =

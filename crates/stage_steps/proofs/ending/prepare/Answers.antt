@@ -19,7 +19,7 @@ returns-in-Ok g c = c.want_journal.ensures.behind c.args.common.now.store c.requ
 pub returns-in-Err-NoMemory : goal.returns-in-Err-NoMemory
 returns-in-Err-NoMemory g c =
     goes-behind-none c.args.s.number _ _ Alive c.args.common.now.word c.args.common.now.tree _ (g.L.LineStore.sight c.prepare.new.self) _ _ c.in-Err-NoMemory.ensures.err
-    (c.forgo.ensures.forgoes c.args.common.now.tree (Ending Preparing) (as-before c.args.common.now.tree) refl refl) (λ left total. near-in c.args.s.number _ _ _ _ _ (c.forgo.ensures.nearer _ _ _ left total refl))
+    (c.forgo.ensures.forgoes c.args.common.now.tree (Ending Preparing) (as-before c.args.common.now.tree) refl refl) (λ left total. near-in _ c.args.s.number _ _ _ _ _ (c.forgo.ensures.nearer _ _ _ left total refl))
 
 pub returns-in-Err-AijFull : goal.returns-in-Err-AijFull
 returns-in-Err-AijFull g c =

@@ -38,7 +38,7 @@ returns-in-Err-NoMemory g c =
     (λ h m k shown told r q dead left total. steps-on g.S.Statements.stands g.met.S.Statements.orderly c.args.s.number (shared c.args.common.now.word h c.args.common.now.tree dead) (shared c.args.common.now.word m c.args.common.now.tree dead) _ (session left total (at_stage c.args.terms (Working c.args.item (Fetching c.args.need)))) (session left total y) _ [] _ refl tt
     (read-on g.S.Statements.stands g.met.S.Statements.orderly c.args.s.number (shared c.args.common.now.word h c.args.common.now.tree dead) m c.args.terms.standing c.args.terms.known c.fetch.new.known c.args.item c.args.need (was-forgone c.args.s.number h m _ c.in-Err-NoMemory.field-0-is r) (c.fetch.ensures.agrees h shown) c.args.terms.spoken c.args.terms.waits (c.fetch.ensures.guarded) left total) (q dead left total))
     c.in-Err-NoMemory.ensures.read (c.forgo.ensures.forgoes c.args.common.now.tree (Working c.args.item (Fetching c.args.need)) (as-before c.args.common.now.tree) refl refl)
-    (λ left total. near-in c.args.s.number _ _ _ _ _ (c.forgo.ensures.nearer _ _ _ left total refl))
+    (λ left total. near-in _ c.args.s.number _ _ _ _ _ (c.forgo.ensures.nearer _ _ _ left total refl))
 
 pub returns-in-Err-Fault : goal.returns-in-Err-Fault
 returns-in-Err-Fault g c =

@@ -16,7 +16,7 @@ returns-else-writes-clause-starts g c locks = c.begin_reading.ensures.begins c.a
 
 pub returns-in-Ok-None-clause-starts : goal.returns-in-Ok-None-clause-starts
 returns-in-Ok-None-clause-starts g c locks =
-    goes-still c.args.s.number Outside Alive Outside Alive _ _ _ refl (λ f. f) (λ u other. refl) (λ left total. near-in c.args.s.number _ _ _ _ _ (c.answer_outside.ensures.nearer c.args.s.number _ _ left total)) (λ h shown dead left total. c.answer_outside.ensures.says c.args.s.number (shared c.args.word.now h locks dead) refl left total)
+    goes-still c.args.s.number Outside Alive Outside Alive _ _ _ refl (λ f. f) (λ u other. refl) (λ left total. near-in _ c.args.s.number _ _ _ _ _ (c.answer_outside.ensures.nearer c.args.s.number _ _ left total)) (λ h shown dead left total. c.answer_outside.ensures.says c.args.s.number (shared c.args.word.now h locks dead) refl left total)
 
 pub returns-in-Err-clause-starts : goal.returns-in-Err-clause-starts
 returns-in-Err-clause-starts g c locks =

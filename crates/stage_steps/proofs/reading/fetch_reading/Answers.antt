@@ -42,7 +42,7 @@ returns-in-Err-NoMemory g c word locks =
     (λ h m k shown told r q dead left total. steps-on g.S.Statements.stands g.met.S.Statements.orderly c.args.s.number (shared word h locks dead) (shared word m locks dead) _ (session left total x) (session left total y) _ [] _ refl tt
     (read-more-of-it g.S.Statements.stands g.met.S.Statements.orderly c.args.s.number (shared word h locks dead) c.args.terms round.item c.args.need round.later round.place m c.fetch.new.known (was-forgone c.args.s.number h m _ c.in-Err-NoMemory.field-0-is r) (c.fetch.ensures.agrees h shown) left total) (q dead left total))
     c.in-Err-NoMemory.ensures.read (c.forgo_reading.ensures.forgoes word locks stage refl)
-    (λ left total. near-in c.args.s.number _ _ _ _ _ (c.forgo_reading.ensures.nearer _ _ _ left total refl))
+    (λ left total. near-in _ c.args.s.number _ _ _ _ _ (c.forgo_reading.ensures.nearer _ _ _ left total refl))
 
 pub returns-in-Err-Fault : goal.returns-in-Err-Fault
 returns-in-Err-Fault g c word locks =

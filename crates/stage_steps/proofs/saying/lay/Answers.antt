@@ -39,7 +39,7 @@ returns-in-Ok g c =
 pub returns-in-Err-NoMemory : goal.returns-in-Err-NoMemory
 returns-in-Err-NoMemory g c =
     goes-behind-none c.args.s.number _ _ Alive c.args.common.now.word c.args.common.now.tree _ (g.L.LineStore.sight c.apply.new.store) _ _ c.in-Err-NoMemory.ensures.err
-    (knows-as g.S.Statements.stands c.args.s.number _ _ _ _ c.args.terms.standing c.args.terms.known c.apply.new.known c.args.terms.spoken c.args.terms.waits (Saying c.args.item c.args.worked (Claiming c.args.place)) c.in-Err-NoMemory.ensures.kept (c.forgo.ensures.forgoes c.args.common.now.tree (Saying c.args.item c.args.worked (Claiming c.args.place)) (as-before c.args.common.now.tree) refl refl)) (λ left total. near-in c.args.s.number _ _ _ _ _ (c.forgo.ensures.nearer _ _ _ left total refl))
+    (knows-as g.S.Statements.stands c.args.s.number _ _ _ _ c.args.terms.standing c.args.terms.known c.apply.new.known c.args.terms.spoken c.args.terms.waits (Saying c.args.item c.args.worked (Claiming c.args.place)) c.in-Err-NoMemory.ensures.kept (c.forgo.ensures.forgoes c.args.common.now.tree (Saying c.args.item c.args.worked (Claiming c.args.place)) (as-before c.args.common.now.tree) refl refl)) (λ left total. near-in _ c.args.s.number _ _ _ _ _ (c.forgo.ensures.nearer _ _ _ left total refl))
 
 pub returns-in-Err-RujFull : goal.returns-in-Err-RujFull
 returns-in-Err-RujFull g c =

@@ -4,11 +4,14 @@ use Rattle.session_states.specs.declared.stage.Member.{Member}
 use Rattle.session_stands.specs.Sessions.{dead_in}
 use Rattle.line_cluster.specs.Going.{is_over, is_stopping}
 use Rattle.line_cluster.specs.Turned.{sessions}
-use Rattle.line_cluster.proofs.Coming.{came-from, looked, none-from, on-rests, some-found}
+use Rattle.line_cluster.proofs.Coming.{came-from, looked, none-from, on-rests, some-found, still}
 use Rattle.line_cluster.proofs.Places.{suc-less}
 use Rattle.line_cluster.proofs.Resting.{asleep-rests-at}
 use Rattle.line_cluster.proofs.Stepping.{going-on, work-alive}
 use Rattle.line_cluster.proofs.sessions.Core.turn.Goals as goal
+
+pub returns-then-is_some-clause-came : goal.returns-then-is_some-clause-came
+returns-then-is_some-clause-came g c = (sym c.is_some.ensures ∙ c.if-is_some.true, still (g.O.Origin.opening).stops c.args.s.number _ _ refl refl)
 
 pub returns-then-is_some-2-clause-came : goal.returns-then-is_some-2-clause-came
 returns-then-is_some-2-clause-came g c = (refl, some-found c.args.self.now.members.items c.deref.result.now c.first_dead.result c.deref.ensures.value c.first_dead.ensures.dead (sym c.is_some-2.ensures ∙ c.if-is_some-2.true))

@@ -1,8 +1,8 @@
 use Rattle.std.proofs.Common.{◌≡◌, List, refl, sym, subst}
 use Rattle.line_view.specs.declared.need.Need.{Need}
 use Rattle.line_view.specs.Held.{knows}
-use Rattle.rdo_acts.specs.Looking.{AddsOnly}
-use Rattle.rdo_acts.proofs.Added.{kept, pushed}
+use Rattle.index_ahead.specs.Added.{AddsOnly}
+use Rattle.index_ahead.proofs.Added.{kept, pushed}
 use Rattle.rdo_acts.proofs.AheadNeeds.{added}
 use Rattle.rdo_acts.proofs.ahead.Batch.add.Goals as goal
 

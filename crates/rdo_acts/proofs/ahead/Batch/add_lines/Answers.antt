@@ -2,8 +2,10 @@ use Rattle.std.proofs.Common.{◌≡◌, List, sym, subst}
 use Rattle.std.specs.List.{AllByRecursion}
 use Rattle.rdb_types.specs.declared.keys.Dbkey.{Dbkey}
 use Rattle.line_view.specs.declared.need.Need.TheVariants.{Line}
-use Rattle.rdo_acts.specs.Looking.{IsIn, IsLineOf}
-use Rattle.rdo_acts.proofs.Added.{kept, then_added, added_as, all_there, line_of}
+use Rattle.index_ahead.specs.Added.{IsIn}
+use Rattle.rdo_acts.specs.Looking.{IsLineOf}
+use Rattle.index_ahead.proofs.Added.{kept, then_added, added_as, all_there}
+use Rattle.rdo_acts.proofs.Named.{line_of}
 use Rattle.rdo_acts.proofs.ahead.Batch.add_lines.Goals as goal
 
 pub loop-key-init : goal.loop-key-init

@@ -2,7 +2,8 @@ use Rattle.std.specs.List.{AllByRecursion}
 use Rattle.line_view.specs.declared.need.Need.{Need}
 use Rattle.line_view.specs.Held.{knows}
 use Rattle.rdo_acts.specs.Ahead.{AreAheadTo}
-use Rattle.rdo_acts.specs.Looking.{AddsOnly, IsIn, IsLineOf}
+use Rattle.index_ahead.specs.Added.{AddsOnly, IsIn}
+use Rattle.rdo_acts.specs.Looking.{IsLineOf}
 use Rattle.rdo_acts.proofs.ahead.Batch.add_lines.Given as goal
 
 abbrev pub invariant-loop-key : goal.invariant-loop-key

@@ -2,7 +2,8 @@ use Rattle.std.proofs.Common.{◌≡◌, ◌+◌, arith}
 use Rattle.line_view.specs.declared.need.Need.{Need}
 use Rattle.line_view.specs.declared.need.Need.TheVariants.{Room}
 use Rattle.rdo_acts.specs.Looking.{IsRoomWithin}
-use Rattle.rdo_acts.proofs.Added.{kept, then_added, added_as, room_within}
+use Rattle.index_ahead.proofs.Added.{kept, then_added, added_as}
+use Rattle.rdo_acts.proofs.Named.{room_within}
 use Rattle.rdo_acts.proofs.ahead.Batch.add_rooms.Goals as goal
 
 pub loop-step-init : goal.loop-step-init

@@ -1,7 +1,8 @@
 use Rattle.line_view.specs.declared.need.Need.{Need}
 use Rattle.line_view.specs.Held.{knows}
 use Rattle.rdo_acts.specs.Ahead.{AreAheadTo}
-use Rattle.rdo_acts.specs.Looking.{AddsOnly, IsRoomWithin}
+use Rattle.index_ahead.specs.Added.{AddsOnly}
+use Rattle.rdo_acts.specs.Looking.{IsRoomWithin}
 use Rattle.rdo_acts.proofs.ahead.Batch.add_rooms.Given as goal
 
 abbrev pub invariant-loop-step : goal.invariant-loop-step

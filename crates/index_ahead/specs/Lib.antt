@@ -1,0 +1,3 @@
+pub mod Added
+pub mod Ahead
+pub mod Wanted

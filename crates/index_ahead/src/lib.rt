@@ -1,0 +1,8 @@
+//! Which nodes of an index a search will lack: all that the known ones tell of, at once.
+#![tactic(auto)]
+
+mod ahead;
+mod wanted;
+
+pub use ahead::add_unknown;
+pub use wanted::Wanted;
