@@ -9,3 +9,4 @@ pub mod Resting
 pub mod Measured
 pub mod Bounds
 pub mod Nearing
+pub mod Absent

@@ -4,3 +4,4 @@ pub mod Sound
 pub mod Turned
 pub mod Measured
 pub mod Behind
+pub mod Whereabouts

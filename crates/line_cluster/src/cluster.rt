@@ -14,24 +14,28 @@ ghost use Rattle.line_cluster.specs.Sound.{FollowsScripts, HasImages, IsLeft, Is
 ghost use Rattle.line_cluster.specs.Turned.{Came, DeathCame, HasNothingLeft, HaveAllEnded, HaveEnded, IsAtEnd, RecoveryCame, Rests};
 
 use crate::allotments::Allotments;
+use crate::lending::{lend_at, take_back_at};
+use crate::lent_members::LentMember;
 use crate::members::{is_stopping, takes_item};
 use crate::origin::Origin;
 use crate::sessions::{Core, Halt, Turn};
+use lent_jobs::WorkedJob;
+use lent_values::{Loan, Naming, Opened, Worked};
 use line_store::LineStore;
 use lock_tree::Tree;
 use rdb_account::{Event, Events};
 use rdb_types::{Cause, Items, NoMemory, Session, Word};
 use reached_changes::Reaches;
 use reserved_locks::Reserves;
-use session_jobs::Statements;
-use session_states::{Life, Member, Phase, WholeScript};
+use session_jobs::{Job, Statements};
+use session_states::WholeScript;
 use stage_steps::Common;
 use std::alloc::Global;
 use std::marker::{Model, PhantomData};
 
 /// The sessions of a run over a store of lines, each with its script, and their account.
 #[derive(Drop)]
-pub struct LineCluster<O: Origin, S: Statements, L: LineStore + Drop> {
+pub struct LineCluster<O: Origin + Naming, S: Statements, L: LineStore + Drop> {
     core: Core<O, S, L>,
     /// Whether the script of each session ends in a stop.
     stops: Vec<bool>,
@@ -45,7 +49,7 @@ pub struct Finished<L> {
     pub halt: Option<Halt>,
 }
 
-impl<O: Origin, S: Statements, L: LineStore + Drop> Model for LineCluster<O, S, L> {
+impl<O: Origin + Naming, S: Statements, L: LineStore + Drop> Model for LineCluster<O, S, L> {
     ghost use Rattle.std.specs.Prelude.{map};
     ghost use Rattle.std.specs.Coded.{codes};
     ghost use Rattle.rdo_ast.specs.contracts.syntax.Action as action_type;
@@ -65,13 +69,16 @@ impl<O: Origin, S: Statements, L: LineStore + Drop> Model for LineCluster<O, S, 
 
 // Sessions that have said nothing, and whether the script of each ends in a stop.
 #[derive(Drop)]
-struct Beginning {
-    members: Vec<Member>,
+struct Beginning<O: Naming, S: Statements> {
+    members: Vec<LentMember<O, S>>,
     stops: Vec<bool>,
 }
 
 // A session of each script.
-fn begin(alloc: Global, scripts: Vec<WholeScript>) -> Result<Beginning, NoMemory>
+fn begin<O: Naming, S: Statements>(
+    alloc: Global,
+    scripts: Vec<WholeScript>,
+) -> Result<Beginning<O, S>, NoMemory>
     requires short { All (λ script. length script.items < 2 ^ 32) scripts.items }
     ensures members { IfOk result (λ begun. begun.members.items ≡ map fresh_member scripts.items) }
     ensures stops { IfOk result (λ begun. begun.stops.items ≡ map stop_of scripts.items) }
@@ -82,20 +89,22 @@ fn begin(alloc: Global, scripts: Vec<WholeScript>) -> Result<Beginning, NoMemory
         stops.push(script.stops)?;
         let left = script.items;
         let total = left.len() as u32;
-        members.push(Member {
-            left,
-            total,
-            phase: Phase::Outside,
-            life: Life::Alive,
-        })?;
+        members.push(LentMember::new(left, total))?;
     }
     Ok(Beginning { members, stops })
 }
 
-impl<O: Origin, S: Reserves + Reaches, L: LineStore + Drop> LineCluster<O, S, L> {
+impl<O: Origin + Naming, S: Reserves + Reaches, L: LineStore + Drop> LineCluster<O, S, L> {
     /// Sessions that have said nothing, over a store in which nobody has a transaction open. Where no memory is found the store is
     /// given back.
-    pub fn start(alloc: Global, word: Word, store: L, scripts: Vec<WholeScript>) -> Result<Self, L>
+    pub fn start(
+        alloc: Global,
+        word: Word,
+        store: L,
+        scripts: Vec<WholeScript>,
+        desk: Opened<Job>,
+    ) -> Result<Self, L>
+        requires desk { desk ≡ O.book }
         requires sessions { length scripts.items ≡ O.sessions }
         requires few { O.sessions ≤ 16 }
         requires scripts { FollowsScripts O.opening scripts.items }
@@ -123,6 +132,7 @@ impl<O: Origin, S: Reserves + Reaches, L: LineStore + Drop> LineCluster<O, S, L>
                     tree: Tree::new(alloc),
                 },
                 members,
+                desk: desk.named(),
                 allotments,
                 events: Vec::new(alloc),
                 halt: None,
@@ -149,6 +159,34 @@ impl<O: Origin, S: Reserves + Reaches, L: LineStore + Drop> LineCluster<O, S, L>
     {
         let stops = self.ends_in_stop(s);
         self.core.turn(s, stops)
+    }
+
+    /// Lends the job of a session's statement, where that is to be worked: then the next turn of the session comes behind `take_back`.
+    pub fn lend(&mut self, s: Session) -> Option<Loan<O, Job>>
+        requires session { IsSession O.sessions s.number }
+        ensures same { self.new ≡ self.old }
+    {
+        let at = s.number as usize - 1;
+        if self.core.halt.is_some() {
+            return None;
+        }
+        let core = &mut self.core;
+        lend_at(
+            &mut core.members,
+            at,
+            &mut core.desk,
+            core.common.alloc,
+            &core.common.word,
+        )
+    }
+
+    /// Takes back what was made of the job of a session's statement. It is let go where it is of another job than the one that is out.
+    pub fn take_back(&mut self, s: Session, worked: Worked<O, Job, WorkedJob<S>>)
+        requires session { IsSession O.sessions s.number }
+        ensures same { self.new ≡ self.old }
+    {
+        let at = s.number as usize - 1;
+        take_back_at(&mut self.core.members, at, self.core.common.alloc, worked);
     }
 
     /// A session dies where it stands, unless it has nothing left to do. (It dies of a device or of a stop in its turn alone.)

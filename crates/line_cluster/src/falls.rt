@@ -9,34 +9,31 @@ ghost use Rattle.session_stands.specs.Sessions.{dead_in};
 ghost use Rattle.stage_steps.specs.Deaths.{life_behind as life_behind_it};
 ghost use Rattle.stage_steps.specs.Scenes.{scene};
 ghost use Rattle.line_cluster.specs.Deaths.{CountsFaults, device_deaths, faults_of, is_device, is_stop};
-ghost use Rattle.line_cluster.specs.Going.{IsDeadAt, is_dead as is_dead_at};
+ghost use Rattle.line_cluster.specs.Going.{IsDeadAt};
 ghost use Rattle.line_cluster.specs.Sound.{IsSound, IsOneOf};
 ghost use Rattle.line_cluster.specs.Turned.{DeathCame, GoesOn, RecoveryCame, sessions, with_life};
 
+use crate::lent_members::LentMember;
 use crate::members::{is_over, member_at, put_member, take_member};
 use crate::origin::Origin;
 use crate::sessions::{Core, Halt, Turn};
+use lent_values::Naming;
 use line_account::{record_death, record_recovery, reserve_step};
 use line_store::{Fault, LineStore};
 use rdb_types::{Cause, Session};
 use reached_changes::Reaches;
 use reserved_locks::Reserves;
-use session_states::{Life, Member};
+use session_jobs::Statements;
+use session_states::Life;
 use stage_steps::{Recovery, die, recover};
 
-fn is_dead(member: &Member) -> bool
-    ensures { result ≡ is_dead_at member.now }
-{
-    matches!(member.life, Life::Dead)
-}
-
 /// The place of the first session that died and awaits its recovery.
-pub(crate) fn first_dead(members: &[Member]) -> Option<usize>
+pub(crate) fn first_dead<O: Naming, S: Statements>(members: &[LentMember<O, S>]) -> Option<usize>
     ensures dead { IfSome result (λ at. IsDeadAt members.now at) }
     ensures none { result ≡ None → dead_in members.now ≡ 0 }
 {
     for at in 0..members.len() {
-        if is_dead(&members[at]) {
+        if members[at].is_dead() {
             return Some(at);
         }
     }
@@ -53,7 +50,7 @@ fn life_behind(step: &Result<Recovery, Fault>) -> Life
     }
 }
 
-impl<O: Origin, S: Reserves + Reaches, L: LineStore> Core<O, S, L> {
+impl<O: Origin + Naming, S: Reserves + Reaches, L: LineStore> Core<O, S, L> {
     /// A session dies where it stands, of something other than a device or a stop. Nothing changes where it has nothing left to do, nor
     /// behind a halt.
     pub fn die(&mut self, s: Session, stops: bool, cause: Cause)
@@ -97,20 +94,9 @@ impl<O: Origin, S: Reserves + Reaches, L: LineStore> Core<O, S, L> {
         ensures events { map event_of self.new.events.items ≡ map event_of self.old.events.items ++ Died s.number cause ∷ [] }
         ensures going { self.new.halt ≡ None }
     {
-        let Member {
-            left,
-            total,
-            phase,
-            life: _,
-        } = take_member(&mut self.members, at, self.common.alloc);
+        let member = take_member(&mut self.members, at, self.common.alloc);
         die::<S, L>(&mut self.common.store, s);
-        let behind = Member {
-            left,
-            total,
-            phase,
-            life: Life::Dead,
-        };
-        put_member(&mut self.members, at, behind);
+        put_member(&mut self.members, at, member.with_life(Life::Dead));
         record_death(&mut self.events, s, cause);
     }
 
@@ -151,20 +137,9 @@ impl<O: Origin, S: Reserves + Reaches, L: LineStore> Core<O, S, L> {
         let s = Session {
             number: at as u32 + 1,
         };
-        let Member {
-            left,
-            total,
-            phase,
-            life: _,
-        } = take_member(&mut self.members, at, self.common.alloc);
+        let member = take_member(&mut self.members, at, self.common.alloc);
         let step = recover::<S, L>(&mut self.common, s);
-        let behind = Member {
-            left,
-            total,
-            phase,
-            life: life_behind(&step),
-        };
-        put_member(&mut self.members, at, behind);
+        put_member(&mut self.members, at, member.with_life(life_behind(&step)));
         match step {
             Ok(step) => {
                 record_recovery(&mut self.events, s, step);

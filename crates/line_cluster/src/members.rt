@@ -1,21 +1,29 @@
 // Sessions by their numbers.
-ghost use Rattle.std.specs.Prelude.{◌≡◌, ◌<◌, ◌-◌, false, true, length, Some, None, slice_get, slice_set, IfOk};
+ghost use Rattle.std.specs.Prelude.{◌≡◌, ◌<◌, length, Some, None, slice_get, slice_set, IfSome};
 ghost use Rattle.std.specs.Vec.{vec_len};
-ghost use Rattle.session_states.specs.declared.stage.Life.TheVariants as life;
-ghost use Rattle.session_states.specs.declared.stage.Phase.TheVariants as phase;
+ghost use Rattle.session_jobs.specs.declared.jobs.Job.{Job as JobValue};
 ghost use Rattle.session_states.specs.declared.stage.Member.{Member as MemberValue};
+ghost use Rattle.answered_steps.specs.Absences.{phase_with};
 ghost use Rattle.line_arms.specs.Going.{is_done as is_done_at};
 ghost use Rattle.session_states.specs.States.{has_said_all as has_said_all_at};
-ghost use Rattle.line_cluster.specs.Going.{is_over as is_over_at, is_stopping as is_stopping_at, writes_at};
+ghost use Rattle.line_cluster.specs.Going.{is_over as is_over_at, is_stopping as is_stopping_at};
+ghost use Rattle.line_cluster.specs.Whereabouts.{IsPresent, member_of};
 ghost use Rattle.stage_steps.specs.Nearer.{is_for_journal as is_for_journal_at, is_patient_at};
 
-use rdb_types::Session;
-use session_states::{End, ItemQueue, Life, Member, Phase, ReaderStage, Stage};
+use crate::lent_members::{LentMember, Present, Whereabouts};
+use answered_steps::Absence;
+use lent_values::Naming;
+use rdb_types::Word;
+use session_jobs::Statements;
+use session_states::{End, ItemQueue, Life, Phase, ReaderStage, ReaderWork, Stage, Work};
 use std::alloc::Global;
 use std::mem::{forget, replace};
 
 /// The session at a place.
-pub(crate) fn member_at(members: &[Member], at: usize) -> &Member
+pub(crate) fn member_at<O: Naming, S: Statements>(
+    members: &[LentMember<O, S>],
+    at: usize,
+) -> &LentMember<O, S>
     requires { at < length members.now }
     ensures { slice_get members.now at ≡ Some result.now }
 {
@@ -23,7 +31,7 @@ pub(crate) fn member_at(members: &[Member], at: usize) -> &Member
 }
 
 /// Whether a session has nothing left to do, whose script ends in a stop or doesn't.
-pub(crate) fn is_over(member: &Member, stops: bool) -> bool
+pub(crate) fn is_over<O: Naming, S: Statements>(member: &LentMember<O, S>, stops: bool) -> bool
     ensures { result ≡ is_over_at stops member.now member.now.life }
 {
     match member.life {
@@ -32,45 +40,53 @@ pub(crate) fn is_over(member: &Member, stops: bool) -> bool
     }
 }
 
-fn is_done(member: &Member) -> bool
+fn is_done<O: Naming, S: Statements>(member: &LentMember<O, S>) -> bool
     ensures { result ≡ is_done_at member.now.left member.now.phase }
 {
-    match &member.phase {
-        Phase::Outside => member.left.len() == 0,
+    match &member.place {
+        Whereabouts::Here(phase) => is_done_here(&member.left, phase),
+        Whereabouts::Away(..) => false,
+        Whereabouts::Back(..) => false,
+    }
+}
+
+fn is_done_here(left: &ItemQueue, phase: &Phase) -> bool
+    ensures { result ≡ is_done_at left.now phase.now }
+{
+    match phase {
+        Phase::Outside => left.len() == 0,
         Phase::Over => true,
         _ => false,
     }
 }
 
-fn has_said_all(member: &Member) -> bool
+fn has_said_all<O: Naming, S: Statements>(member: &LentMember<O, S>) -> bool
     ensures { result ≡ has_said_all_at member.now.left member.now.phase }
 {
-    match &member.phase {
-        Phase::Outside => member.left.len() == 0,
+    match &member.place {
+        Whereabouts::Here(phase) => has_said_all_here(&member.left, phase),
+        Whereabouts::Away(..) => false,
+        Whereabouts::Back(..) => false,
+    }
+}
+
+fn has_said_all_here(left: &ItemQueue, phase: &Phase) -> bool
+    ensures { result ≡ has_said_all_at left.now phase.now }
+{
+    match phase {
+        Phase::Outside => left.len() == 0,
         Phase::Closing => false,
-        Phase::Writing(writer) => matches!(writer.stage, Stage::Between) && member.left.len() == 0,
-        Phase::Reading(reader) => {
-            matches!(reader.stage, ReaderStage::Between) && member.left.len() == 0
-        }
+        Phase::Writing(writer) => matches!(writer.stage, Stage::Between) && left.len() == 0,
+        Phase::Reading(reader) => matches!(reader.stage, ReaderStage::Between) && left.len() == 0,
         Phase::Over => true,
     }
 }
 
 /// Whether the script of a session has come to the stop in which it ends or doesn't.
-pub(crate) fn is_stopping(member: &Member, stops: bool) -> bool
+pub(crate) fn is_stopping<O: Naming, S: Statements>(member: &LentMember<O, S>, stops: bool) -> bool
     ensures { result ≡ is_stopping_at stops member.now }
 {
     stops && has_said_all(member)
-}
-
-/// Whether a session has a read-write transaction, and so may hold locks that come down.
-pub(crate) fn is_writing(member: &Member) -> bool
-    ensures { result ≡ writes_at member.now.phase member.now.life }
-{
-    match (&member.life, &member.phase) {
-        (Life::Alive, Phase::Writing(_)) => true,
-        _ => false,
-    }
 }
 
 // Whether a COMMIT wants the journal, or will once it is prepared.
@@ -80,48 +96,110 @@ fn is_for_journal(stage: &Stage) -> bool
     matches!(stage, Stage::Ending(End::Preparing | End::Journal))
 }
 
-/// Whether a want of a session sleeps where it isn't got at once: under NOWAIT a COMMIT's does.
-pub(crate) fn is_patient(member: &Member) -> bool
-    ensures { result ≡ is_patient_at member.now.phase }
+fn is_patient_here(phase: &Phase) -> bool
+    ensures { result ≡ is_patient_at phase.now }
 {
-    match &member.phase {
+    match phase {
         Phase::Writing(writer) => is_for_journal(&writer.stage) || writer.waits,
         _ => false,
     }
 }
 
+// The job of a statement is out, and isn't for the journal.
+fn is_patient_away(absence: Absence) -> bool
+    ensures { (job : JobValue) → result ≡ is_patient_at (phase_with absence job) }
+{
+    match absence {
+        Absence::Writing { spoken: _, waits } => waits,
+        Absence::Reading { .. } => false,
+    }
+}
+
+/// Whether a want of a session sleeps where it isn't got at once: under NOWAIT a COMMIT's does.
+pub(crate) fn is_patient<O: Naming, S: Statements>(member: &LentMember<O, S>) -> bool
+    ensures { result ≡ is_patient_at member.now.phase }
+{
+    match &member.place {
+        Whereabouts::Here(phase) => is_patient_here(phase),
+        Whereabouts::Away(absence, _) => is_patient_away(*absence),
+        Whereabouts::Back(absence, _) => is_patient_away(*absence),
+    }
+}
+
 /// Whether the next step of a session takes up an item of its script.
-pub(crate) fn takes_item(member: &Member) -> bool {
-    match &member.phase {
-        Phase::Outside => member.left.len() > 0,
-        Phase::Writing(writer) => matches!(writer.stage, Stage::Between) && member.left.len() > 0,
-        Phase::Reading(reader) => {
-            matches!(reader.stage, ReaderStage::Between) && member.left.len() > 0
-        }
+pub(crate) fn takes_item<O: Naming, S: Statements>(member: &LentMember<O, S>) -> bool {
+    let Whereabouts::Here(phase) = &member.place else {
+        return false;
+    };
+    let is_between = match phase {
+        Phase::Outside => true,
+        Phase::Writing(writer) => matches!(writer.stage, Stage::Between),
+        Phase::Reading(reader) => matches!(reader.stage, ReaderStage::Between),
         Phase::Closing | Phase::Over => false,
+    };
+    is_between && member.left.len() > 0
+}
+
+/// Whether the job of a session's statement is to be worked, and isn't lent.
+pub(crate) fn is_out<O: Naming, S: Statements>(member: &LentMember<O, S>) -> bool {
+    let Whereabouts::Here(phase) = &member.place else {
+        return false;
+    };
+    match phase {
+        Phase::Writing(writer) => matches!(writer.stage, Stage::Working(_, Work::Out)),
+        Phase::Reading(reader) => {
+            matches!(reader.stage, ReaderStage::Working(_, ReaderWork::Out))
+        }
+        Phase::Outside | Phase::Closing | Phase::Over => false,
     }
 }
 
 /// Takes a session out; another stands in its place until it is put back.
-pub(crate) fn take_member(members: &mut Vec<Member>, at: usize, alloc: Global) -> Member
+pub(crate) fn take_member<O: Naming, S: Statements>(
+    members: &mut Vec<LentMember<O, S>>,
+    at: usize,
+    alloc: Global,
+) -> LentMember<O, S>
     requires { at < vec_len members.old }
     ensures taken { slice_get members.old.items at ≡ Some result }
     ensures rest { (m : MemberValue) → slice_set members.new.items at m ≡ slice_set members.old.items at m }
     ensures len { vec_len members.new ≡ vec_len members.old }
 {
-    let gone = Member {
-        left: ItemQueue::new(alloc),
-        total: 0,
-        phase: Phase::Over,
-        life: Life::Gone,
-    };
-    replace(&mut members[at], gone)
+    replace(&mut members[at], LentMember::nobody(alloc))
 }
 
 /// Puts a session back. (What stood in its place owns nothing.)
-pub(crate) fn put_member(members: &mut Vec<Member>, at: usize, member: Member)
+pub(crate) fn put_member<O: Naming, S: Statements>(
+    members: &mut Vec<LentMember<O, S>>,
+    at: usize,
+    member: LentMember<O, S>,
+)
     requires { at < vec_len members.old }
     ensures { members.new.items ≡ slice_set members.old.items at member }
 {
     forget(replace(&mut members[at], member));
+}
+
+/// Takes a session out that goes on in a database of this word; another stands in its place until it is put back. None where its job is
+/// out, or was worked over another word: then nothing changes.
+pub(crate) fn take_present<O: Naming, S: Statements>(
+    members: &mut Vec<LentMember<O, S>>,
+    at: usize,
+    alloc: Global,
+    word: &Word,
+) -> Option<Present<S>>
+    requires { at < vec_len members.old }
+    ensures taken { IfSome result (λ p. slice_get members.old.items at ≡ Some (member_of p)) }
+    ensures word { IfSome result (λ p. IsPresent word.now p.presence) }
+    ensures rest { (m : MemberValue) → slice_set members.new.items at m ≡ slice_set members.old.items at m }
+    ensures len { vec_len members.new ≡ vec_len members.old }
+    ensures same { result ≡ None → members.new.items ≡ members.old.items }
+{
+    match take_member(members, at, alloc).present(word) {
+        Ok(present) => Some(present),
+        Err(member) => {
+            put_member(members, at, member);
+            None
+        }
+    }
 }

@@ -4,13 +4,15 @@ ghost use Rattle.session_measure.specs.Weights.{places_in, places_left, reader_p
 ghost use Rattle.line_cluster.specs.Measured.{IsBounded};
 ghost use Rattle.line_cluster.specs.Turned.{sessions};
 
+use crate::lent_members::{LentMember, Whereabouts};
 use crate::members::member_at;
 use crate::origin::Origin;
 use crate::sessions::Core;
+use lent_values::Naming;
 use line_store::LineStore;
 use rdb_types::Session;
 use session_jobs::Statements;
-use session_states::{Member, Phase, ReaderStage, Stage};
+use session_states::{Phase, ReaderStage, Stage};
 
 // So much of a stage is done one after another.
 fn count_places(stage: &Stage)
@@ -42,20 +44,30 @@ fn count_needs(stage: &ReaderStage)
     }
 }
 
-// What a session has before it beside the locks and the store.
-fn count_session(member: &Member)
-    ensures items { length member.now.left < 2 ^ 64 }
-    ensures places { places_left member.now.phase < 2 ^ 68 }
+// So much of a phase is.
+fn count_phase(phase: &Phase)
+    ensures { places_left phase.now < 2 ^ 68 }
 {
-    let _items = member.left.len();
-    match &member.phase {
+    match phase {
         Phase::Writing(writer) => count_places(&writer.stage),
         Phase::Reading(reader) => count_needs(&reader.stage),
         Phase::Outside | Phase::Closing | Phase::Over => {}
     }
 }
 
-impl<O: Origin, S: Statements, L: LineStore> Core<O, S, L> {
+// What a session has before it beside the locks and the store. While its job is out that is nothing but its items.
+fn count_session<O: Naming, S: Statements>(member: &LentMember<O, S>)
+    ensures items { length member.now.left < 2 ^ 64 }
+    ensures places { places_left member.now.phase < 2 ^ 68 }
+{
+    let _items = member.left.len();
+    match &member.place {
+        Whereabouts::Here(phase) => count_phase(phase),
+        Whereabouts::Away(..) | Whereabouts::Back(..) => {}
+    }
+}
+
+impl<O: Origin + Naming, S: Statements, L: LineStore> Core<O, S, L> {
     /// What all sessions have before them is counted by numbers of 64 bits.
     pub(crate) fn count(&self)
         requires few { length self.now.members.items ≤ 16 }

@@ -1,11 +1,12 @@
 //! What all sessions share, and the sessions.
 use crate::allotments::Allotments;
+use crate::lent_members::LentMember;
 use crate::origin::Origin;
+use lent_values::{Desk, Naming};
 use line_store::{Fault, LineStore};
 use rdb_account::Event;
 use rdb_types::{Dbkey, Session};
-use session_jobs::Statements;
-use session_states::Member;
+use session_jobs::{Job, Statements};
 use stage_steps::Common;
 use std::marker::PhantomData;
 
@@ -20,6 +21,8 @@ pub enum Halt {
     Unlaid(Dbkey),
     /// Who works statements doesn't work this one.
     Unworked,
+    /// A session was to go on whose job is out. No driver asks for that that gives back what it was lent.
+    Lost,
 }
 
 /// What a turn of a session came to.
@@ -40,9 +43,11 @@ pub enum Turn {
 
 /// The sessions, what they share, and what happened.
 #[derive(Drop)]
-pub struct Core<O: Origin, S: Statements, L: LineStore> {
+pub struct Core<O: Origin + Naming, S: Statements, L: LineStore> {
     pub common: Common<L>,
-    pub members: Vec<Member>,
+    pub members: Vec<LentMember<O, S>>,
+    /// It lends their jobs.
+    pub desk: Desk<O, Job>,
     pub allotments: Allotments,
     pub events: Vec<Event>,
     /// Why no session goes on, once that is so.

@@ -20,20 +20,21 @@ ghost use Rattle.std.specs.Vec.{vec_len, vec_capacity};
 
 use crate::behind::{Behind, Notice, behind_of};
 use crate::falls::first_dead;
-use crate::members::{is_over, is_patient, is_stopping, member_at, put_member, take_member};
+use crate::going::go_on_from;
+use crate::lent_members::{LentMember, Present, Whereabouts};
+use crate::members::{is_over, is_patient, is_stopping, member_at, put_member, take_present};
 use crate::origin::Origin;
 use crate::sessions::{Core, Halt, Turn};
+use lent_values::Naming;
 use line_account::{record, record_demotion, reserve_step};
-use line_arms::go_on;
 use line_store::LineStore;
 use rdb_types::{Cause, Session};
 use reached_changes::Reaches;
 use reserved_locks::Reserves;
-use session_states::Member;
 use stage_steps::serve;
 use std::mem::forget;
 
-impl<O: Origin, S: Reserves + Reaches, L: LineStore> Core<O, S, L> {
+impl<O: Origin + Naming, S: Reserves + Reaches, L: LineStore> Core<O, S, L> {
     // No session goes on, for something else than a device.
     pub(crate) fn stop(&mut self, halt: Halt) -> Turn
         requires cause { faults_in (Some halt) ≡ 0 }
@@ -176,21 +177,26 @@ impl<O: Origin, S: Reserves + Reaches, L: LineStore> Core<O, S, L> {
         ensures nearer { result ≡ Turn.Moved → Less (sessions self.new.members.items self.new.events.items self.new.allotments (L.sight self.new.common.store) self.new.common.tree self.new.halt).measure (sessions self.old.members.items self.old.events.items self.old.allotments (L.sight self.old.common.store) self.old.common.tree self.old.halt).measure }
         ensures on { GoesOn result }
     {
-        let Member {
+        let alloc = self.common.alloc;
+        let present = match take_present(&mut self.members, at, alloc, &self.common.word) {
+            Some(present) => present,
+            None => return self.stop(Halt::Lost),
+        };
+        let Present {
             left,
             total,
-            phase,
             life,
-        } = take_member(&mut self.members, at, self.common.alloc);
+            presence,
+        } = present;
         let mut left = left;
-        let mut allotment = self.allotments.take(s, self.common.alloc);
-        let turned = go_on::<S, L>(&mut self.common, s, &mut left, &mut allotment, phase);
+        let mut allotment = self.allotments.take(s, alloc);
+        let turned = go_on_from::<S, L>(&mut self.common, s, &mut left, &mut allotment, presence);
         self.allotments.put(s, allotment);
-        let behind = Member {
+        let behind = LentMember {
             left,
             total,
-            phase: turned.phase,
             life,
+            place: Whereabouts::Here(turned.phase),
         };
         put_member(&mut self.members, at, behind);
         let then = behind_of(&turned.happened);

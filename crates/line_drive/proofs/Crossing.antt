@@ -25,7 +25,6 @@ use Rattle.session_states.specs.contracts.stage.ReaderStage as ReaderStage
 use Rattle.session_states.specs.contracts.stage.Writer as Writer
 use Rattle.session_states.specs.contracts.stage.Reader as Reader
 use Rattle.session_states.specs.contracts.stage.Phase as Phase
-use Rattle.session_states.specs.contracts.stage.Member as Member
 use Rattle.session_states.specs.contracts.item_queue.ItemQueue as ItemQueue
 use Rattle.session_jobs.specs.declared.statements.Statements.{Ghosts as StatementGhosts}
 use Rattle.line_store.specs.declared.store.LineStore.{Ghosts as StoreGhosts}
@@ -33,6 +32,15 @@ use Rattle.stage_steps.specs.contracts.common.Common as Common
 use Rattle.line_cluster.specs.declared.origin.Origin.{Ghosts as OriginGhosts}
 use Rattle.line_cluster.proofs.allotments.Allotments.TheSendSync as allotments
 use Rattle.line_cluster.proofs.sessions.Halt.TheSendSync as halt
+use Rattle.lent_values.specs.declared.desk.Naming.{Ghosts as NamingGhosts}
+use Rattle.lent_values.proofs.Crossing.{receipt_send}
+use Rattle.lent_values.proofs.desk.Desk.TheSendSync as desk
+use Rattle.session_jobs.specs.contracts.jobs.Job as Job
+use Rattle.lent_jobs.proofs.Crossing.{worked_job_send}
+use Rattle.answered_steps.proofs.answered.Absence.TheSendSync as absence
+use Rattle.line_cluster.specs.contracts.lent_members.Whereabouts as Whereabouts
+use Rattle.line_cluster.specs.contracts.lent_members.LentMember as LentMember
+use Rattle.line_cluster.specs.contracts.lent_members.LentMember.TheInside as member_inside
 use Rattle.line_cluster.specs.contracts.sessions.Core as Core
 use Rattle.line_cluster.specs.contracts.cluster.LineCluster as LineCluster
 use Rattle.line_cluster.specs.contracts.cluster.LineCluster.TheInside as cluster_inside
@@ -73,24 +81,31 @@ reader_send = struct_send (S.shape Reader.the_type) (standing.the_field_send, (k
 phase_send : IsSend (Phase.the_field).row
 phase_send = enum_send (E.shape Phase.the_type) (tt, (tt, ((writer_send, tt), ((reader_send, tt), (tt, tt)))))
 
-member_send : IsSend Member.the_row
-member_send = whole_struct Member.the_type (struct_send (S.shape Member.the_type) (queue_send, (search sendable, (phase_send, (life.the_field_send, tt)))))
+module _ (A B K : RattleType) (j : NamingGhosts A.Denot) (b : StatementGhosts B.Denot K.Denot) where
+  whereabouts_send : IsSend (Whereabouts.the_field A B K j b).row
+  whereabouts_send = enum_send (E.shape (Whereabouts.the_type A B K j b)) (
+    (phase_send, tt),
+    ((absence.the_field_send, (receipt_send A Job.the_row j, tt)), ((absence.the_field_send, (worked_job_send B K b, tt)), tt)),
+  )
+
+  member_send : IsSend (LentMember.the_row A B K j b)
+  member_send = view_send _ _ _ _ _ (whole_struct (member_inside.the_type A B K j b) (struct_send (S.shape (member_inside.the_type A B K j b)) (queue_send, (search sendable, (life.the_field_send, (whereabouts_send, tt))))))
 
 common_send : (L : RattleType) → IsSend L → IsSend (Common.the_field L).row
 common_send L l = struct_send (S.shape (Common.the_type L)) (heap.the_field_send, (names_send, (l, (tree.the_send, tt))))
 
-core_send : (A B L K : RattleType) → IsSend L → IsSend (Core.the_field A B L K).row
-core_send A B L K l = struct_send (S.shape (Core.the_type A B L K)) (
-  common_send L l,
-  (
-    search (crosses, member_send),
-    (allotments.the_send, (search (crosses, event_send), (search (sendable, halt.the_send), (search phantom.the_field_send, tt)))),
-  ),
-)
+module _ (A B L K : RattleType) (a : OriginGhosts A.Denot) (j : NamingGhosts A.Denot) (b : StatementGhosts B.Denot K.Denot) (l : StoreGhosts L.Denot) (send : IsSend L) where
+  core_send : IsSend (Core.the_field A B L K a j b).row
+  core_send = struct_send (S.shape (Core.the_type A B L K a j b)) (
+    common_send L send,
+    (
+      search (crosses, member_send A B K j b),
+      (search (sendable, desk.the_field_send), (allotments.the_send, (search (crosses, event_send), (search (sendable, halt.the_send), (search phantom.the_field_send, tt))))),
+    ),
+  )
 
-module _ (A B L K : RattleType) (a : OriginGhosts A.Denot) (b : StatementGhosts B.Denot K.Denot) (l : StoreGhosts L.Denot) (send : IsSend L) where
-  cluster_send : IsSend (LineCluster.the_row A B L K a b l)
-  cluster_send = view_send _ _ _ _ _ (whole_struct (cluster_inside.the_type A B L K a b l) (struct_send (S.shape (cluster_inside.the_type A B L K a b l)) (core_send A B L K send, (search (sendable, crosses), tt))))
+  cluster_send : IsSend (LineCluster.the_row A B L K a j b l)
+  cluster_send = view_send _ _ _ _ _ (whole_struct (cluster_inside.the_type A B L K a j b l) (struct_send (S.shape (cluster_inside.the_type A B L K a j b l)) (core_send A B L K send, (search (sendable, crosses), tt))))
 
-  pub driver_send : IsSend (LineDriver.the_row A B L K a b l)
-  driver_send = view_send _ _ _ _ _ (whole_struct (driver_inside.the_type A B L K a b l) (struct_send (S.shape (driver_inside.the_type A B L K a b l)) (cluster_send, (search (sendable, crosses), tt))))
+  pub driver_send : IsSend (LineDriver.the_row A B L K a j b l)
+  driver_send = view_send _ _ _ _ _ (whole_struct (driver_inside.the_type A B L K a j b l) (struct_send (S.shape (driver_inside.the_type A B L K a j b l)) (cluster_send, (search (sendable, crosses), tt))))

@@ -129,7 +129,7 @@ module _ (told : Type 0) (o : Opening) (sessions : ℕ) (old new : Sessions) (be
       by Dead is dead e f g = let h = ap steps_to_go is in inr (omega (arith, e, f, g, h))
       by Gone is dead e f g = let h = ap steps_to_go is in inl (omega (arith, e, f, g, h))
 
-  pub recovers : old.halted ≡ false → IsRecovery old new → Less new.measure old.measure → RecoveryOf {P = Unit {0}} sessions (board_of told o old) (board_of told o new) step.Moved
+  pub recovers : {P : Type 0} → old.halted ≡ false → IsRecovery old new → Less new.measure old.measure → RecoveryOf {P = P} sessions (board_of told o old) (board_of told o new) step.Moved
   recovers going r less = record {
     more = map mark_of r.more;
     goes = record {
@@ -145,7 +145,7 @@ module _ (told : Type 0) (o : Opening) (sessions : ℕ) (old new : Sessions) (be
     awake = awake-now;
   }
 
-  pub recovers-none : RecoveryCame old new turn.Ended → RecoveryOf {P = Unit {0}} sessions (board_of told o old) (board_of told o new) step.Ended
+  pub recovers-none : {P : Type 0} → RecoveryCame old new turn.Ended → RecoveryOf {P = P} sessions (board_of told o old) (board_of told o new) step.Ended
   recovers-none h = record {
     more = [];
     goes = same-goes h.0;
@@ -154,7 +154,7 @@ module _ (told : Type 0) (o : Opening) (sessions : ℕ) (old new : Sessions) (be
     awake = awake-now;
   }
 
-  pub recovery-halts : old.halted ≡ false → IsHalt old new → RecoveryOf {P = Unit {0}} sessions (board_of told o old) (board_of told o new) step.Stopped
+  pub recovery-halts : {P : Type 0} → old.halted ≡ false → IsHalt old new → RecoveryOf {P = P} sessions (board_of told o old) (board_of told o new) step.Stopped
   recovery-halts going h = record {
     more = [];
     goes = halt-goes h;
@@ -163,7 +163,7 @@ module _ (told : Type 0) (o : Opening) (sessions : ℕ) (old new : Sessions) (be
     awake = awake-now;
   }
 
-  pub recovered : (t : Turn) → old.halted ≡ false → RecoveryCame old new t → (t ≡ turn.Moved → Less new.measure old.measure) → RecoveryOf {P = Unit {0}} sessions (board_of told o old) (board_of told o new) (step_for t)
+  pub recovered : {P : Type 0} → (t : Turn) → old.halted ≡ false → RecoveryCame old new t → (t ≡ turn.Moved → Less new.measure old.measure) → RecoveryOf {P = P} sessions (board_of told o old) (board_of told o new) (step_for t)
   recovered turn.Moved going came nearer = recovers going came (nearer refl)
   recovered (turn.Asleep t) going came nearer = absurd came
   recovered turn.Died going came nearer = absurd came
@@ -172,8 +172,8 @@ module _ (told : Type 0) (o : Opening) (sessions : ℕ) (old new : Sessions) (be
   recovered turn.Stopped going came nearer = recovery-halts going came
 
 -- no session goes on
-pub recovery-spent : (told : Type 0) (o : Opening) (sessions : ℕ) (c : Sessions) → c.halted ≡ true → length c.members ≡ sessions →
-    (c.halted ≡ false → (stand : ℕ → Seat) × AreSeated stand c.locks c.members) → IsWhole c.locks → RecoveryOf {P = Unit {0}} sessions (board_of told o c) (board_of told o c) step.Stopped
+pub recovery-spent : {P : Type 0} (told : Type 0) (o : Opening) (sessions : ℕ) (c : Sessions) → c.halted ≡ true → length c.members ≡ sessions →
+    (c.halted ≡ false → (stand : ℕ → Seat) × AreSeated stand c.locks c.members) → IsWhole c.locks → RecoveryOf {P = P} sessions (board_of told o c) (board_of told o c) step.Stopped
 recovery-spent told o sessions c stops count seated whole = record {
   more = [];
   goes = record { marks = sym (append-none (marks_of c.events)); rests = λ n t within rests. rests; ended = λ t e. e };

@@ -1,12 +1,13 @@
 -- A turn of the sessions is a step as drivers want it.
-use Rattle.std.proofs.Common.{◌≡◌, ◌≤◌, ◌<◌, ◌-◌, nat_lt, if◌then◌else◌, ℕ, zero, suc, ◌+◌, ◌++◌, ◌∷◌, [], ◌&&◌, ◌||◌, not, Bool, true, false, List, length, refl, ◌∙◌, sym, ap, subst, arith, map, Some, slice_get, slice_set, ◌⊎◌, inl, inr}
+use Rattle.std.proofs.Common.{◌≡◌, ◌≤◌, ◌<◌, ◌-◌, nat_lt, if◌then◌else◌, ℕ, zero, suc, ◌+◌, ◌++◌, ◌∷◌, [], ◌&&◌, ◌||◌, not, Bool, true, false, List, length, refl, ◌∙◌, sym, ap, subst, arith, map, Some, slice_get, slice_set, ◌⊎◌, inl, inr, drop}
 use Rattle.std.proofs.lemmas.Bool.{false≢true}
 use Rattle.std.proofs.lemmas.Option.{same_Some}
 use Rattle.rdb_account.specs.declared.event.Event.{Event as Declared}
 use Rattle.rdb_account.specs.Events.{Event, Died, event_of}
 use Rattle.rdb_account.specs.Places.{Opening, place}
-use Rattle.rdb_drive.specs.Boards.{AtMost, Below, Board, Does, IsSession, Less}
+use Rattle.rdb_drive.specs.Boards.{answers, AtMost, Below, Board, Does, IsSession, Less}
 use Rattle.rdb_drive.specs.Steps.{StepOf, Goes, IsAwake, IsQuiet}
+use Rattle.rdb_drive.specs.declared.driven.Step.{Step}
 use Rattle.rdb_drive.specs.declared.driven.Step.TheVariants as step
 use Rattle.rdb_types.specs.declared.session.Session.{Session}
 use Rattle.lock_tree_laws.specs.Forest.{IsWhole}
@@ -25,9 +26,9 @@ use Rattle.line_cluster.specs.Measured.{IsBounded}
 use Rattle.line_cluster.specs.Turned.{Sessions, GoesFurther, Came, HasFallen, HasNothingLeft, IsAnother, Rests, IsAtEnd, mark_of}
 use Rattle.line_cluster.proofs.Stepping.{has-work, work-alive}
 use Rattle.line_drive.specs.Boards.{board_of, has_ended, is_asleep, is_mourning, lives_in, lives_left, marks_of, steps_to_go, RestsAt, RestsBehind}
-use Rattle.line_drive.specs.Turns.{step_for}
+use Rattle.line_drive.specs.Turns.{IsHeardOf, step_for}
 use Rattle.line_drive.proofs.Awake.{awake, undead}
-use Rattle.line_drive.proofs.Marks.{marks-grown, length-marks, take-grown, take-all}
+use Rattle.line_drive.proofs.Marks.{marks-grown, marks-since, length-marks, take-grown, take-all}
 
 -- ---- sessions in their places
 
@@ -156,12 +157,24 @@ quiet s b = record { asleep = λ t k h. h; ended = λ t k. refl; measure = inl r
 mourning : (n : ℕ) → 0 < n → nat_lt 0 n ≡ true
 mourning n h = grind arith
 
-module _ (told : Type 0) (o : Opening) (sessions s : ℕ) (old new : Sessions) (session : IsSession sessions s) (going : old.halted ≡ false) (before : IsBounded old.measure) (bound : IsBounded new.measure)
+-- of a turn whose job isn't lent it hears what it came to
+pub heard-of : {P : Type 0} (t : Turn) (count : ℕ) (result : Step P) → result ≡ step_for t → IsHeardOf t count result
+heard-of {P} t count result is = subst (λ (r : Step P). IsHeardOf t count r) (sym is) (by t)
+  where
+    by : (u : Turn) → IsHeardOf {P = P} u count (step_for u)
+    by turn.Moved = refl
+    by (turn.Asleep s) = refl
+    by turn.Died = refl
+    by turn.Frozen = refl
+    by turn.Ended = refl
+    by turn.Stopped = refl
+
+module _ (P : Type 0) (told : Type 0) (o : Opening) (sessions s : ℕ) (old new : Sessions) (session : IsSession sessions s) (going : old.halted ≡ false) (before : IsBounded old.measure) (bound : IsBounded new.measure)
     (count : length new.members ≡ sessions) (seated : new.halted ≡ false → (stand : ℕ → Seat) × AreSeated stand new.locks new.members) (whole : IsWhole new.locks) where
   awake-then : IsAwake sessions (board_of told o new)
   awake-then = awake told o new sessions seated whole count
 
-  pub moved : Came o.stops s old new turn.Moved → Less new.measure old.measure → StepOf {P = Unit {0}} sessions s (board_of told o old) (board_of told o new) step.Moved
+  pub moved : Came o.stops s old new turn.Moved → Less new.measure old.measure → StepOf {P = P} sessions s (board_of told o old) (board_of told o new) step.Moved
   moved g less = record {
     more = map mark_of g.events.more;
     goes = goes told o s old new session.0 going g;
@@ -170,8 +183,18 @@ module _ (told : Type 0) (o : Opening) (sessions s : ℕ) (old new : Sessions) (
     awake = awake-then;
   }
 
+  -- and its job was lent
+  pub lent : (job : P) → (g : Came o.stops s old new turn.Moved) → Less new.measure old.measure → answers (map mark_of g.events.more) ≡ 0 → StepOf {P = P} sessions s (board_of told o old) (board_of told o new) (step.Compute job)
+  lent job g less none = record {
+    more = map mark_of g.events.more;
+    goes = goes told o s old new session.0 going g;
+    of_s = g.events.of_s;
+    tells = (nearer-lives old new before bound going (same-lives o.stops s old.members new.members g.members) less, none);
+    awake = awake-then;
+  }
+
   -- it died in its turn
-  pub fell : Came o.stops s old new turn.Died → StepOf {P = Unit {0}} sessions s (board_of told o old) (board_of told o new) step.Moved
+  pub fell : Came o.stops s old new turn.Died → StepOf {P = P} sessions s (board_of told o old) (board_of told o new) step.Moved
   fell d = record {
     more = Does s ∷ [];
     goes = record {
@@ -184,7 +207,7 @@ module _ (told : Type 0) (o : Opening) (sessions s : ℕ) (old new : Sessions) (
     awake = awake-then;
   }
 
-  pub stopped : Came o.stops s old new turn.Stopped → StepOf {P = Unit {0}} sessions s (board_of told o old) (board_of told o new) step.Stopped
+  pub stopped : Came o.stops s old new turn.Stopped → StepOf {P = P} sessions s (board_of told o old) (board_of told o new) step.Stopped
   stopped h = record {
     more = map mark_of h.1.events.more;
     goes = goes told o s old new session.0 going h.1;
@@ -201,7 +224,7 @@ module _ (told : Type 0) (o : Opening) (sessions s : ℕ) (old new : Sessions) (
   same-quiet : new ≡ old → IsQuiet s (board_of told o old) (board_of told o new)
   same-quiet same = subst (λ (c : Sessions). IsQuiet s (board_of told o old) (board_of told o c)) (sym same) (quiet s (board_of told o old))
 
-  pub slept : (t : Session) → (h : Came o.stops s old new (turn.Asleep t)) → (told → Rests o s old (turn.Asleep t)) → StepOf {P = Unit {0}} sessions s (board_of told o old) (board_of told o new) step.Asleep
+  pub slept : (t : Session) → (h : Came o.stops s old new (turn.Asleep t)) → (told → Rests o s old (turn.Asleep t)) → StepOf {P = P} sessions s (board_of told o old) (board_of told o new) step.Asleep
   slept t h rests = record {
     more = [];
     goes = same-goes h.0;
@@ -221,7 +244,7 @@ module _ (told : Type 0) (o : Opening) (sessions s : ℕ) (old new : Sessions) (
       asleep-now = rw h.1.going (rw h.1.mourns_none (rw (at-number old.members s session.0 ∙ h.1.found) (rw h.1.patient (rw h.1.blocked.is_open h.1.blocked.sleeps.sleeps))))
 
   pub at-end : (h : Came o.stops s old new turn.Ended) → (told → new.halted ≡ false → IsAtEnd o.stops s new → HasNothingLeft o (place o (map event_of new.events)) s) →
-      StepOf {P = Unit {0}} sessions s (board_of told o old) (board_of told o new) step.Ended
+      StepOf {P = P} sessions s (board_of told o old) (board_of told o new) step.Ended
   at-end h rests = record {
     more = [];
     goes = same-goes h.0;
@@ -235,7 +258,7 @@ module _ (told : Type 0) (o : Opening) (sessions s : ℕ) (old new : Sessions) (
     awake = awake-then;
   }
 
-  pub froze : (h : Came o.stops s old new turn.Frozen) → StepOf {P = Unit {0}} sessions s (board_of told o old) (board_of told o new) step.Frozen
+  pub froze : (h : Came o.stops s old new turn.Frozen) → StepOf {P = P} sessions s (board_of told o old) (board_of told o new) step.Frozen
   froze h = record {
     more = [];
     goes = same-goes h.0;
@@ -245,7 +268,7 @@ module _ (told : Type 0) (o : Opening) (sessions s : ℕ) (old new : Sessions) (
   }
 
   pub turned : (t : Turn) → Came o.stops s old new t → (t ≡ turn.Moved → Less new.measure old.measure) → (told → Rests o s old t) →
-      (told → new.halted ≡ false → IsAtEnd o.stops s new → HasNothingLeft o (place o (map event_of new.events)) s) → StepOf {P = Unit {0}} sessions s (board_of told o old) (board_of told o new) (step_for t)
+      (told → new.halted ≡ false → IsAtEnd o.stops s new → HasNothingLeft o (place o (map event_of new.events)) s) → StepOf {P = P} sessions s (board_of told o old) (board_of told o new) (step_for t)
   turned turn.Moved came nearer rests over = moved came (nearer refl)
   turned (turn.Asleep t) came nearer rests over = slept t came rests
   turned turn.Died came nearer rests over = fell came
@@ -253,10 +276,21 @@ module _ (told : Type 0) (o : Opening) (sessions s : ℕ) (old new : Sessions) (
   turned turn.Ended came nearer rests over = at-end came over
   turned turn.Stopped came nearer rests over = stopped came
 
+  pub heard : (t : Turn) (count : ℕ) (result : Step P) → IsHeardOf t count result → count ≡ answers (marks_of (drop (length old.events) new.events)) → Came o.stops s old new t → (t ≡ turn.Moved → Less new.measure old.measure) → (told → Rests o s old t) →
+      (told → new.halted ≡ false → IsAtEnd o.stops s new → HasNothingLeft o (place o (map event_of new.events)) s) → StepOf {P = P} sessions s (board_of told o old) (board_of told o new) result
+  heard t count (step.Compute job) is counted came nearer rests over =
+      let g : Came o.stops s old new turn.Moved = subst (λ (u : Turn). Came o.stops s old new u) is.0 came in
+      lent job g (nearer is.0) (ap answers (sym (marks-since old.events new.events g.events.more g.events.grown)) ∙ (sym counted ∙ is.1))
+  heard t count step.Moved is counted came nearer rests over = rw is (turned t came nearer rests over)
+  heard t count step.Asleep is counted came nearer rests over = rw is (turned t came nearer rests over)
+  heard t count step.Frozen is counted came nearer rests over = rw is (turned t came nearer rests over)
+  heard t count step.Ended is counted came nearer rests over = rw is (turned t came nearer rests over)
+  heard t count step.Stopped is counted came nearer rests over = rw is (turned t came nearer rests over)
+
 -- no session goes on
-pub spent : (told : Type 0) (o : Opening) (sessions s : ℕ) (c : Sessions) → c.halted ≡ true → length c.members ≡ sessions →
-    (c.halted ≡ false → (stand : ℕ → Seat) × AreSeated stand c.locks c.members) → IsWhole c.locks → StepOf {P = Unit {0}} sessions s (board_of told o c) (board_of told o c) step.Stopped
-spent told o sessions s c stops count seated whole = record {
+pub spent : (P : Type 0) (told : Type 0) (o : Opening) (sessions s : ℕ) (c : Sessions) → c.halted ≡ true → length c.members ≡ sessions →
+    (c.halted ≡ false → (stand : ℕ → Seat) × AreSeated stand c.locks c.members) → IsWhole c.locks → StepOf {P = P} sessions s (board_of told o c) (board_of told o c) step.Stopped
+spent P told o sessions s c stops count seated whole = record {
   more = [];
   goes = record { marks = sym (append-none (marks_of c.events)); rests = λ n t within rests. rests; ended = λ t e. e };
   of_s = tt;

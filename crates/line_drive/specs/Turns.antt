@@ -36,10 +36,15 @@ abbrev pub has_deaths : List Event → Bool
 has_deaths events = list_any is_death events
 
 -- what a driver hears of a turn
-abbrev pub step_for : Turn → Step (Unit {0})
+abbrev pub step_for : {P : Type 0} → Turn → Step P
 step_for turn.Moved = step.Moved
 step_for (turn.Asleep t) = step.Asleep
 step_for turn.Died = step.Moved
 step_for turn.Frozen = step.Frozen
 step_for turn.Ended = step.Ended
 step_for turn.Stopped = step.Stopped
+
+-- What a driver hears of a turn in which so many answers were given: of one that moved without any it may get a job to be worked.
+abbrev pub IsHeardOf : {P : Type 0} → Turn → ℕ → Step P → Type 0
+IsHeardOf t count (step.Compute job) = (t ≡ turn.Moved) × (count ≡ 0)
+IsHeardOf t count heard = heard ≡ step_for t

@@ -10,8 +10,10 @@ ghost use Rattle.line_cluster.specs.Deaths.{CountsFaults, failures};
 ghost use Rattle.line_cluster.specs.Sound.{HasImages, IsLeft};
 ghost use Rattle.line_cluster.specs.Turned.{HaveAllEnded};
 ghost use Rattle.line_drive.specs.Boards.{board_of, marks_of};
-ghost use Rattle.line_drive.specs.Turns.{step_for};
+ghost use Rattle.line_drive.specs.Turns.{IsHeardOf, step_for};
 
+use lent_jobs::WorkedJob;
+use lent_values::{Loan, Naming, Worked};
 use line_cluster::{Finished, LineCluster, Origin, Turn};
 use line_store::LineStore;
 use rdb_account::Event;
@@ -19,20 +21,20 @@ use rdb_drive::{Driven, Point, Step};
 use rdb_types::{Cause, Session};
 use reached_changes::Reaches;
 use reserved_locks::Reserves;
-use session_jobs::Statements;
-use std::marker::Model;
+use session_jobs::{Job, Statements};
+use std::marker::{Model, Send};
 
 /// Sessions are numbered from 1 to 16.
 const NUMBERS: usize = 17;
 
 /// The sessions of a run, with how many answers each was given.
 #[derive(Drop)]
-pub struct LineDriver<O: Origin, S: Statements, L: LineStore + Drop> {
+pub struct LineDriver<O: Origin + Naming, S: Statements, L: LineStore + Drop> {
     cluster: LineCluster<O, S, L>,
     answers: [u64; NUMBERS],
 }
 
-impl<O: Origin, S: Statements, L: LineStore + Drop> Model for LineDriver<O, S, L> {
+impl<O: Origin + Naming, S: Statements, L: LineStore + Drop> Model for LineDriver<O, S, L> {
     ghost use Rattle.std.specs.Coded.{codes};
     ghost use Rattle.rdo_ast.specs.contracts.syntax.Action as action_type;
     ghost use Rattle.line_cluster.specs.Turned.{Sessions};
@@ -62,7 +64,7 @@ fn answers_behind(events: &[Event], from: usize) -> u64
 }
 
 // What a driver hears of a turn. Of one in which its session died it hears that it moved.
-fn step_of(turn: Turn) -> Step<()>
+fn step_of<P: Drop>(turn: Turn) -> Step<P>
     ensures { result ≡ step_for turn }
 {
     match turn {
@@ -74,7 +76,29 @@ fn step_of(turn: Turn) -> Step<()>
     }
 }
 
-impl<O: Origin, S: Reserves + Reaches, L: LineStore + Drop> LineDriver<O, S, L> {
+// What a driver hears of a turn in which so many answers were given. Where it moved without any, the session's job is lent, if that is
+// to be worked.
+fn lend_behind<O: Origin + Naming, S: Reserves + Reaches, L: LineStore + Drop>(
+    cluster: &mut LineCluster<O, S, L>,
+    s: Session,
+    turn: Turn,
+    count: u64,
+) -> Step<Loan<O, Job>>
+    requires session { IsSession O.sessions s.number }
+    ensures same { cluster.new ≡ cluster.old }
+    ensures heard { IsHeardOf turn count result }
+{
+    if count == 0 {
+        if let Turn::Moved = turn {
+            if let Some(loan) = cluster.lend(s) {
+                return Step::Compute(loan);
+            }
+        }
+    }
+    step_of(turn)
+}
+
+impl<O: Origin + Naming, S: Reserves + Reaches, L: LineStore + Drop> LineDriver<O, S, L> {
     /// Sessions of which nothing happened yet.
     pub fn new(cluster: LineCluster<O, S, L>) -> Self
         requires fresh { cluster.events ≡ [] }
@@ -87,8 +111,8 @@ impl<O: Origin, S: Reserves + Reaches, L: LineStore + Drop> LineDriver<O, S, L> 
         }
     }
 
-    // A turn of a session. Its answers are counted.
-    fn turn(&mut self, s: Session) -> Step<()>
+    // A turn of a session. Its answers are counted, and its job is lent where that is to be worked.
+    fn turn(&mut self, s: Session) -> Step<Loan<O, Job>>
         requires session { IsSession O.sessions s.number }
         ensures step { StepOf O.sessions s.number (board_of O.told O.opening self.old) (board_of O.told O.opening self.new) result }
     {
@@ -99,8 +123,9 @@ impl<O: Origin, S: Reserves + Reaches, L: LineStore + Drop> LineDriver<O, S, L> 
         let before = self.cluster.events().len();
         let turn = self.cluster.turn(s);
         self.cluster.facts();
-        self.answers[s.number as usize] += answers_behind(self.cluster.events(), before);
-        step_of(turn)
+        let count = answers_behind(self.cluster.events(), before);
+        self.answers[s.number as usize] += count;
+        lend_behind(&mut self.cluster, s, turn, count)
     }
 
     /// What is true of the sessions at every moment.
@@ -130,12 +155,13 @@ impl<O: Origin, S: Reserves + Reaches, L: LineStore + Drop> LineDriver<O, S, L> 
     }
 }
 
-impl<O: Origin, S: Reserves + Reaches, L: LineStore + Drop> Driven for LineDriver<O, S, L> {
+impl<O: Origin + Naming + Send, S: Reserves + Reaches + Send, L: LineStore + Drop> Driven
+    for LineDriver<O, S, L> {
     ghost use Rattle.line_drive.specs.Boards.{board_of, mortals_of};
 
-    type Piece = ();
+    type Piece = Loan<O, Job>;
 
-    type Done = ();
+    type Done = Worked<O, Job, WorkedJob<S>>;
 
     ghost board = { λ d. board_of O.told O.opening d };
 
@@ -154,13 +180,16 @@ impl<O: Origin, S: Reserves + Reaches, L: LineStore + Drop> Driven for LineDrive
         Point::Other
     }
 
-    fn next(&mut self, s: Session) -> Step<()> {
+    fn next(&mut self, s: Session) -> Step<Loan<O, Job>> {
         self.turn(s)
     }
 
-    fn work(_piece: ()) {}
+    fn work(piece: Loan<O, Job>) -> Worked<O, Job, WorkedJob<S>> {
+        piece.work()
+    }
 
-    fn give(&mut self, s: Session, _done: ()) -> Step<()> {
+    fn give(&mut self, s: Session, done: Worked<O, Job, WorkedJob<S>>) -> Step<Loan<O, Job>> {
+        self.cluster.take_back(s, done);
         self.turn(s)
     }
 
@@ -170,7 +199,7 @@ impl<O: Origin, S: Reserves + Reaches, L: LineStore + Drop> Driven for LineDrive
         self.cluster.facts();
     }
 
-    fn recover_step(&mut self) -> Step<()> {
+    fn recover_step(&mut self) -> Step<Loan<O, Job>> {
         self.cluster.facts();
         if self.cluster.is_halted() {
             return Step::Stopped;

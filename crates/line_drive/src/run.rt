@@ -12,6 +12,7 @@ ghost use Rattle.line_drive.specs.Boards.{board_of, mortals_of};
 ghost use Rattle.line_drive.specs.Turns.{KeepsTurns, has_deaths};
 
 use crate::driver::LineDriver;
+use lent_values::Naming;
 use line_cluster::{Finished, Halt, LineCluster, Origin};
 use line_store::LineStore;
 use rdb_account::Events;
@@ -33,7 +34,7 @@ pub struct Ran<L> {
 }
 
 // What the driven sessions came to.
-fn ran_of<O: Origin, S: Reserves + Reaches, L: LineStore + Drop>(
+fn ran_of<O: Origin + Naming, S: Reserves + Reaches, L: LineStore + Drop>(
     driver: LineDriver<O, S, L>,
     has_ended: bool,
 ) -> Ran<L>
@@ -69,12 +70,12 @@ fn ran_of<O: Origin, S: Reserves + Reaches, L: LineStore + Drop>(
 /// Drives the sessions by the calling thread, a turn for each entry of the order and then in ascending order, again and again,
 /// until all have ended or no session goes on. The gate is asked before each step, and may have a session die there; it is
 /// recovered before another goes on.
-pub fn run_in_order<O: Origin, S: Reserves + Reaches, L: LineStore + Drop, G: Gate>(
-    cluster: LineCluster<O, S, L>,
-    sessions: u32,
-    order: &[u32],
-    gate: &G,
-) -> Ran<L>
+pub fn run_in_order<
+    O: Origin + Naming + Send,
+    S: Reserves + Reaches + Send,
+    L: LineStore + Drop,
+    G: Gate,
+>(cluster: LineCluster<O, S, L>, sessions: u32, order: &[u32], gate: &G) -> Ran<L>
     requires fresh { cluster.events ≡ [] }
     requires sessions { sessions ≡ O.sessions }
     requires few { sessions ≤ MOST_SESSIONS }
@@ -99,13 +100,11 @@ pub fn run_in_order<O: Origin, S: Reserves + Reaches, L: LineStore + Drop, G: Ga
 /// on. The gate is asked before each step, and may have a session die there; whoever comes next recovers it.
 pub fn run_in_threads<
     R: Threads + Wait + Sync,
-    O: Origin + Send,
+    O: Origin + Naming + Send,
     S: Reserves + Reaches + Send,
     L: LineStore + Drop + Send,
     G: Gate + Sync,
 >(rt: &R, cluster: LineCluster<O, S, L>, sessions: u32, gate: &G) -> Ran<L>
-where
-    S::Kept: Send,
     requires fresh { cluster.events ≡ [] }
     requires sessions { sessions ≡ O.sessions }
     requires few { sessions ≤ MOST_SESSIONS }

@@ -18,6 +18,7 @@ ghost use Rattle.line_runs.specs.Prefix.{HoldsPrefix, HoldsAll};
 
 use crate::laws::a_run_opens;
 use disk_line_store::DiskStore;
+use lent_values::{Naming, Opened};
 use line_cluster::{Halt, LineCluster, Origin};
 use line_drive::{Ran, run_in_order, run_in_threads};
 use line_opening::OpeningFault;
@@ -28,18 +29,19 @@ use rdb_drive::Gate;
 use rdb_outside::Disk;
 use rdb_types::{Items, Word};
 use rdo_reserving::ReservingStatements;
-use session_jobs::Statements;
+use session_jobs::{Job, Statements};
 use session_states::WholeScript;
 use std::alloc::Global;
 use std::marker::Send;
 use std::sync::Wait;
 use std::thread::Threads;
 
-/// Scripts, each of a session, and the word of the database to which they are said.
+/// Scripts, each of a session, the word of the database to which they are said, and the desk by which the jobs of their statements are lent.
 #[derive(Drop)]
 pub struct Said {
     pub word: Word,
     pub scripts: Vec<WholeScript>,
+    pub desk: Opened<Job>,
 }
 
 /// A database that couldn't be opened, with its disk.
@@ -63,11 +65,12 @@ pub struct LineRun<D: Drop> {
 type Sessions<O, D> = LineCluster<O, ReservingStatements, DiskStore<D>>;
 
 // Opens a database, before which a session of each script stands.
-fn begin<O: Origin, D: Disk + Drop>(
+fn begin<O: Origin + Naming, D: Disk + Drop>(
     alloc: Global,
     disk: D,
     said: Said,
 ) -> Result<Sessions<O, D>, Unopened<D>>
+    requires desk { said.desk ≡ O.book }
     requires sessions { length said.scripts.items ≡ O.sessions }
     requires few { O.sessions ≤ 16 }
     requires short { All (λ script. length script.items < 2 ^ 32) said.scripts.items }
@@ -88,7 +91,7 @@ fn begin<O: Origin, D: Disk + Drop>(
     };
     a_run_opens::<D, ReservingStatements>(&disk, &held);
     let store = DiskStore::new(disk, held);
-    match LineCluster::start(alloc, said.word, store, said.scripts) {
+    match LineCluster::start(alloc, said.word, store, said.scripts, said.desk) {
         Ok(sessions) => Ok(sessions),
         Err(store) => Err(Unopened {
             disk: store.into_disk(),
@@ -133,13 +136,14 @@ fn ended<D: Disk + Drop>(ran: Ran<DiskStore<D>>) -> LineRun<D>
 }
 
 /// Opens a database, and says scripts to it by turns of their sessions, which the order names, and then in ascending order, again and again. The gate may have a session die.
-pub fn say_in_order<O: Origin, D: Disk + Drop, G: Gate>(
+pub fn say_in_order<O: Origin + Naming + Send, D: Disk + Drop, G: Gate>(
     alloc: Global,
     disk: D,
     said: Said,
     order: &[u32],
     gate: &G,
 ) -> LineRun<D>
+    requires desk { said.desk ≡ O.book }
     requires sessions { length said.scripts.items ≡ O.sessions }
     requires few { O.sessions ≤ 16 }
     requires short { All (λ script. length script.items < 2 ^ 32) said.scripts.items }
@@ -170,10 +174,11 @@ pub fn say_in_order<O: Origin, D: Disk + Drop, G: Gate>(
 /// Opens a database, and says scripts to it, each by a thread of its own. The gate may have a session die.
 pub fn say_in_threads<
     R: Threads + Wait + Sync,
-    O: Origin + Send,
+    O: Origin + Naming + Send,
     D: Disk + Drop + Send,
     G: Gate + Sync,
 >(rt: &R, alloc: Global, disk: D, said: Said, gate: &G) -> LineRun<D>
+    requires desk { said.desk ≡ O.book }
     requires sessions { length said.scripts.items ≡ O.sessions }
     requires few { O.sessions ≤ 16 }
     requires short { All (λ script. length script.items < 2 ^ 32) said.scripts.items }

@@ -38,6 +38,7 @@ use crate::recovering::run_recover;
 use crate::scripts::{read_scripts, some_died, write_transcripts};
 use crate::stopping::{status_stopped, unwatched};
 use command_words::{Command, Scripts, command_of, order_of};
+use lent_values::{Naming, Opened};
 use line_cluster::{Halt, Origin};
 use line_opening::OpeningFault;
 use line_runs::{LineRun, Said, say_in_order, say_in_threads};
@@ -120,7 +121,7 @@ fn unsaid<D: Drop>(alloc: Global, status: u8, disk: D) -> Finish<D>
 // Runs the sessions of an origin: by the order, where the words have one, else in threads. The disk is watched meanwhile.
 fn run_of<
     R: Threads + Wait + Sync,
-    O: Origin + Send,
+    O: Origin + Naming + Send,
     B: Beginning + Send,
     D: Disk + Drop + Send,
     G: Gate + Sync,
@@ -136,6 +137,7 @@ fn run_of<
     requires opens { O.told → OpensWith ⟦<ReservingStatements as Statements>⟧.stands (D.view disk) O.opening }
     requires faults { O.told → O.faults ≡ (D.view disk).faults }
     requires began { B.faults ≡ (D.view disk).faults }
+    requires desk { said.desk ≡ O.book }
     ensures legal { O.told → IsLegal O.opening (map event_of result.events) }
     ensures whole { O.told → result.is_whole ≡ true → HaveAllEnded O.opening O.sessions (map event_of result.events) }
     ensures order { given.has_order ≡ true → O.told → result.is_whole ≡ true → KeepsTurns O.opening O.sessions order.now result.events }
@@ -220,7 +222,11 @@ fn say_scripts<R: Threads + Wait + Sync, O: Origin, D: Disk + Drop + Send, G: Ga
             rt,
             alloc,
             disk,
-            Said { word, scripts },
+            Said {
+                word,
+                scripts,
+                desk: Opened::new(),
+            },
             given,
             order.as_slice(),
             &Dying::of(given.death, gate),

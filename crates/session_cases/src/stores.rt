@@ -11,7 +11,7 @@ use rdb_outside::{Disk, MemoryDisk};
 use rdb_types::{Bytes, Limits, NoMemory};
 use rdo_reserving::ReservingStatements;
 use root_file::are_limits;
-use session_desk::{Drive, run};
+use session_desk::{Drive, Scripts, run};
 use session_states::WholeScript;
 use std::alloc::Global;
 use std::marker::Brand;
@@ -38,7 +38,7 @@ pub fn run_in_memory(
     run::<Brand, ReservingStatements, MemoryStore>(
         alloc,
         store,
-        scripts,
+        Scripts::new(scripts),
         order.as_bytes(),
         drive,
         out,
@@ -96,7 +96,7 @@ pub fn run_on_disk(
     run::<Brand, ReservingStatements, DiskStore<MemoryDisk>>(
         alloc,
         store,
-        scripts,
+        Scripts::new(scripts),
         order.as_bytes(),
         drive,
         out,

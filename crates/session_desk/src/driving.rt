@@ -7,11 +7,13 @@ ghost use Rattle.line_cluster.specs.Sound.{FollowsScripts};
 use crate::events::{put_event, put_number};
 use crate::retelling::retell;
 use crate::world::{Came, World};
+use lent_values::{Naming, Opened};
 use line_cluster::Origin;
 use line_store::LineStore;
 use rdb_types::{Bytes, NoMemory, Session};
 use reached_changes::Reaches;
 use reserved_locks::Reserves;
+use session_jobs::Job;
 use session_states::WholeScript;
 use std::alloc::Global;
 
@@ -60,7 +62,7 @@ fn put_came(word: &str, came: Came, out: &mut Bytes) -> Result<(), NoMemory> {
 }
 
 // One entry of an order.
-fn drive_entry<O: Origin, S: Reserves + Reaches, L: LineStore + Drop>(
+fn drive_entry<O: Origin + Naming, S: Reserves + Reaches, L: LineStore + Drop>(
     world: &mut World<O, S, L>,
     word: &str,
     drive: Drive,
@@ -91,7 +93,7 @@ fn drive_entry<O: Origin, S: Reserves + Reaches, L: LineStore + Drop>(
 }
 
 // An order of turns.
-fn drive_order<O: Origin, S: Reserves + Reaches, L: LineStore + Drop>(
+fn drive_order<O: Origin + Naming, S: Reserves + Reaches, L: LineStore + Drop>(
     world: &mut World<O, S, L>,
     order: &str,
     drive: Drive,
@@ -107,7 +109,7 @@ fn drive_order<O: Origin, S: Reserves + Reaches, L: LineStore + Drop>(
 }
 
 // A step of each session of an order. False where none of them goes on.
-fn step_each<O: Origin, S: Reserves + Reaches, L: LineStore + Drop>(
+fn step_each<O: Origin + Naming, S: Reserves + Reaches, L: LineStore + Drop>(
     world: &mut World<O, S, L>,
     order: &str,
 ) -> bool
@@ -126,7 +128,7 @@ fn step_each<O: Origin, S: Reserves + Reaches, L: LineStore + Drop>(
 }
 
 // The sessions of an order by steps in turn.
-fn drive_steps<O: Origin, S: Reserves + Reaches, L: LineStore + Drop>(
+fn drive_steps<O: Origin + Naming, S: Reserves + Reaches, L: LineStore + Drop>(
     world: &mut World<O, S, L>,
     order: &str,
 )
@@ -140,7 +142,7 @@ fn drive_steps<O: Origin, S: Reserves + Reaches, L: LineStore + Drop>(
 }
 
 // A turn of each session. False where none moves any more.
-fn go_round<O: Origin, S: Reserves + Reaches, L: LineStore + Drop>(
+fn go_round<O: Origin + Naming, S: Reserves + Reaches, L: LineStore + Drop>(
     world: &mut World<O, S, L>,
     out: &mut Bytes,
 ) -> Result<bool, NoMemory>
@@ -160,7 +162,7 @@ fn go_round<O: Origin, S: Reserves + Reaches, L: LineStore + Drop>(
     Ok(!are_over)
 }
 
-fn drive_rounds<O: Origin, S: Reserves + Reaches, L: LineStore + Drop>(
+fn drive_rounds<O: Origin + Naming, S: Reserves + Reaches, L: LineStore + Drop>(
     world: &mut World<O, S, L>,
     out: &mut Bytes,
 ) -> Result<(), NoMemory>
@@ -175,7 +177,9 @@ fn drive_rounds<O: Origin, S: Reserves + Reaches, L: LineStore + Drop>(
 }
 
 // The first script is said whole.
-fn drive_first<O: Origin, S: Reserves + Reaches, L: LineStore + Drop>(world: &mut World<O, S, L>)
+fn drive_first<O: Origin + Naming, S: Reserves + Reaches, L: LineStore + Drop>(
+    world: &mut World<O, S, L>,
+)
     requires sessions { O.sessions ≡ 4 }
 {
     for _ in 0..MAX_ROUNDS {
@@ -186,7 +190,7 @@ fn drive_first<O: Origin, S: Reserves + Reaches, L: LineStore + Drop>(world: &mu
     }
 }
 
-fn tell_events<O: Origin, S: Reserves + Reaches, L: LineStore + Drop>(
+fn tell_events<O: Origin + Naming, S: Reserves + Reaches, L: LineStore + Drop>(
     world: &World<O, S, L>,
     from: usize,
     out: &mut Bytes,
@@ -203,7 +207,7 @@ fn put_count(count: u32, out: &mut Bytes) -> Result<(), NoMemory> {
     out.extend(b", answered\n")
 }
 
-fn tell_answers<O: Origin, S: Reserves + Reaches, L: LineStore + Drop>(
+fn tell_answers<O: Origin + Naming, S: Reserves + Reaches, L: LineStore + Drop>(
     alloc: Global,
     world: &World<O, S, L>,
     out: &mut Bytes,
@@ -219,24 +223,44 @@ fn words_of(order: &[u8]) -> &str {
     std::str::from_utf8(order).unwrap_or("")
 }
 
+/// The scripts of a case, and the desk of its sessions, which lend nothing here.
+#[derive(Drop)]
+pub struct Scripts {
+    pub scripts: Vec<WholeScript>,
+    pub desk: Opened<Job>,
+}
+
+impl Scripts {
+    /// The scripts beside a desk that has lent nothing.
+    pub fn new(scripts: Vec<WholeScript>) -> Scripts
+        ensures { result.scripts ≡ scripts }
+    {
+        Scripts {
+            scripts,
+            desk: Opened::new(),
+        }
+    }
+}
+
 /// Drives the sessions of these scripts, and tells of it. (The order is bytes, since a call that picks what a run began with takes no text.)
-pub fn run<O: Origin, S: Reserves + Reaches, L: LineStore + Drop>(
+pub fn run<O: Origin + Naming, S: Reserves + Reaches, L: LineStore + Drop>(
     alloc: Global,
     store: L,
-    scripts: Vec<WholeScript>,
+    said: Scripts,
     order: &[u8],
     drive: Drive,
     out: &mut Bytes,
 ) -> Result<(), NoMemory>
+    requires desk { said.desk ≡ O.book }
     requires outside { (s : ℕ) → (L.sight store).stand s ≡ outside }
-    requires count { length scripts.items ≡ 4 }
+    requires count { length said.scripts.items ≡ 4 }
     requires sessions { O.sessions ≡ 4 }
-    requires scripts { FollowsScripts O.opening scripts.items }
-    requires short { All (λ script. length script.items < 2 ^ 32) scripts.items }
+    requires scripts { FollowsScripts O.opening said.scripts.items }
+    requires short { All (λ script. length script.items < 2 ^ 32) said.scripts.items }
     requires untold { O.told → ⊥ }
     requires mortal { (t : ℕ) (cause : CauseValue) → O.opening.may_die t cause ≡ true }
 {
-    let mut world: World<O, S, L> = World::new(alloc, store, scripts)?;
+    let mut world: World<O, S, L> = World::new(alloc, store, said.scripts, said.desk)?;
     drive_first(&mut world);
     let first = world.events().len();
     match drive {

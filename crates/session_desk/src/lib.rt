@@ -7,5 +7,5 @@ mod retelling;
 mod scripts;
 mod world;
 
-pub use driving::{Drive, FIRST, SESSIONS, run, session_of};
+pub use driving::{Drive, FIRST, SESSIONS, Scripts, run, session_of};
 pub use scripts::script_of;

@@ -5,6 +5,7 @@ ghost use Rattle.line_store.specs.Seats.{outside};
 ghost use Rattle.line_cluster.specs.Sound.{FollowsScripts, IsSession, MayFail};
 
 use crate::events::put_number;
+use lent_values::{Naming, Opened};
 use line_cluster::{LineCluster, Origin, Turn};
 use line_store::LineStore;
 use rdb_account::{Event, render};
@@ -12,6 +13,7 @@ use rdb_types::{Bytes, Cause, NoMemory, Session, Word};
 use rdo_ast::reply::Reply;
 use reached_changes::Reaches;
 use reserved_locks::Reserves;
+use session_jobs::Job;
 use session_states::WholeScript;
 use std::alloc::Global;
 
@@ -51,17 +53,19 @@ fn is_answered(events: &[Event], from: usize, s: Session) -> bool {
 
 /// The sessions of a case.
 #[derive(Drop)]
-pub struct World<O: Origin, S: Reserves + Reaches, L: LineStore + Drop> {
+pub struct World<O: Origin + Naming, S: Reserves + Reaches, L: LineStore + Drop> {
     cluster: LineCluster<O, S, L>,
 }
 
-impl<O: Origin, S: Reserves + Reaches, L: LineStore + Drop> World<O, S, L> {
+impl<O: Origin + Naming, S: Reserves + Reaches, L: LineStore + Drop> World<O, S, L> {
     /// Sessions of these scripts, over a store of which nothing is told.
     pub fn new(
         alloc: Global,
         store: L,
         scripts: Vec<WholeScript>,
+        desk: Opened<Job>,
     ) -> Result<World<O, S, L>, NoMemory>
+        requires desk { desk ≡ O.book }
         requires outside { (s : ℕ) → (L.sight store).stand s ≡ outside }
         requires sessions { length scripts.items ≡ O.sessions }
         requires few { O.sessions ≤ 16 }
@@ -71,7 +75,7 @@ impl<O: Origin, S: Reserves + Reaches, L: LineStore + Drop> World<O, S, L> {
         requires untold { O.told → ⊥ }
     {
         let word = Word::from_slice(alloc, b"PERS")?;
-        match LineCluster::start(alloc, word, store, scripts) {
+        match LineCluster::start(alloc, word, store, scripts, desk) {
             Ok(cluster) => Ok(World { cluster }),
             Err(_store) => Err(NoMemory {}),
         }

@@ -34,7 +34,8 @@ pub use limits::refuse_at_limit;
 pub use outside::{put_away, start};
 pub use reader_round::ReaderRound;
 pub use reading::{
-    compute_reading, fetch_reading, forgo_reading, hand_out_reading, leave_reading, take_up_reading,
+    compute_reading, fetch_reading, forgo_reading, hand_out_reading, leave_reading,
+    take_found_reading, take_up_reading,
 };
 pub use saying::{change, lay};
 pub use serving::serve;

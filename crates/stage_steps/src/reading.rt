@@ -158,7 +158,35 @@ fn read_in_turn(terms: ReaderTerms, item: Item, next: Need, later: Needs) -> Pha
     terms.at(round.at(next))
 }
 
-/// Works the job of a statement at once, and takes what it came to: it is said, or all that it named is read.
+/// Takes what a job came to: it is said, or all that it named is read, and want of memory is answered. Where it was left unworked its job is
+/// due again, as it is where a line is none of its kind, which there isn't.
+pub fn take_found_reading<S: Statements, L: LineStore>(
+    alloc: Global,
+    store: &mut L,
+    s: Session,
+    terms: ReaderTerms,
+    item: Item,
+    found: Found,
+) -> Turned
+    requires member { IsMember s.number }
+    requires seat { IsReader ((L.sight store.old).stand s.number) }
+    ensures comes { (word : List ℕ) (locks : State) → IsFound S.stands word terms.standing (uttered_of item) (knows terms.known) found →
+        ComesIn S.stands s.number (scene word (L.sight store.old) locks) (reads_at terms (ReaderStage.Working item ReaderWork.Out)) (scene word (L.sight store.new) locks) result.phase result.happened }
+    ensures unworked { OnUnworked result.happened (found ≡ Found.Unworked) }
+{
+    match found {
+        Found::Done(worked) => say_reading::<S>(terms, item, worked),
+        Found::Missing { next, later } => quiet(read_in_turn(terms, item, next, later)),
+        Found::Bad(_) => quiet(terms.at(ReaderStage::Working(item, ReaderWork::Due))),
+        Found::Unworked => Turned {
+            phase: terms.at(ReaderStage::Working(item, ReaderWork::Due)),
+            happened: Happening::Unworked,
+        },
+        Found::NoMemory => forgo_reading::<S, L>(alloc, store, s, terms, item),
+    }
+}
+
+/// Works the job of a statement at once, and takes what it came to. Where it is left unworked, that has a cause.
 pub fn compute_reading<S: Statements, L: LineStore>(
     alloc: Global,
     word: &Word,
@@ -188,17 +216,7 @@ pub fn compute_reading<S: Statements, L: LineStore>(
         known: job.known,
         spoken: terms.spoken,
     };
-    match found {
-        Found::Done(worked) => say_reading::<S>(back, job.item, worked),
-        Found::Missing { next, later } => quiet(read_in_turn(back, job.item, next, later)),
-        // There is no such line.
-        Found::Bad(_) => quiet(back.at(ReaderStage::Working(job.item, ReaderWork::Due))),
-        Found::Unworked => Turned {
-            phase: back.at(ReaderStage::Working(job.item, ReaderWork::Due)),
-            happened: Happening::Unworked,
-        },
-        Found::NoMemory => forgo_reading::<S, L>(alloc, store, s, back, job.item),
-    }
+    take_found_reading::<S, L>(alloc, store, s, back, job.item, found)
 }
 
 /// Reads a need of a statement; then the next one is read, and behind the last the job is due again.

@@ -3,4 +3,4 @@ use Rattle.session_stands.specs.Sessions.{dead_in}
 use Rattle.line_cluster.proofs.falls.first_dead.Given as goal
 
 abbrev pub invariant-loop-at : goal.invariant-loop-at
-invariant-loop-at l = dead_in (drop l.at l.members) ≡ dead_in l.members
+invariant-loop-at g l = dead_in (drop l.at l.members) ≡ dead_in l.members

@@ -11,5 +11,9 @@ ghosts-run_of-O-Origin g a = record {
   told = g.O.Origin.told;
 }
 
+-- the desk that was just opened
+abbrev pub ghosts-run_of-O-Naming : goal.ghosts-run_of-O-Naming
+ghosts-run_of-O-Naming g a = record { book = a.said.desk }
+
 abbrev pub ghosts-run_of-B-Beginning : goal.ghosts-run_of-B-Beginning
 ghosts-run_of-B-Beginning g a = record { faults = (g.D.Disk.view a.disk).faults }

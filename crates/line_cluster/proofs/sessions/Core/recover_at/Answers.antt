@@ -3,6 +3,7 @@ use Rattle.std.proofs.lemmas.Bool.{false≢true}
 use Rattle.rdb_account.specs.Events.{event_of}
 use Rattle.line_store.specs.declared.answers.Fault.{Fault}
 use Rattle.session_states.specs.declared.stage.Life.{Life}
+use Rattle.session_states.specs.declared.stage.Member.{Member}
 use Rattle.stage_steps.specs.declared.dying.Recovery.{Recovery}
 use Rattle.stage_steps.specs.Deaths.{life_behind, recovery_events}
 use Rattle.stage_steps.specs.Scenes.{scene}
@@ -14,33 +15,33 @@ use Rattle.line_cluster.proofs.Nearing.{recovered-nearer}
 use Rattle.line_cluster.proofs.sessions.Core.recover_at.Goals as goal
 
 pub recover-step-requires-clause-died : goal.recover-step-requires-clause-died
-recover-step-requires-clause-died g c = dead-stands (g.L.LineStore.sight c.args.self.now.common.store).stand c.args.self.now.common.tree c.args.self.now.members.items c.args.at c.take_member-left.result c.take_member-left.ensures.taken (died-at c.args.self.now.members.items c.args.at c.take_member-left.result c.requires.dead c.take_member-left.ensures.taken) (c.requires.sound.seated c.requires.going)
+recover-step-requires-clause-died g c = dead-stands (g.L.LineStore.sight c.args.self.now.common.store).stand c.args.self.now.common.tree c.args.self.now.members.items c.args.at c.take_member-member.result c.take_member-member.ensures.taken (died-at c.args.self.now.members.items c.args.at c.take_member-member.result c.requires.dead c.take_member-member.ensures.taken) (c.requires.sound.seated c.requires.going)
 
 pub returns-in-Ok-clause-sound : goal.returns-in-Ok-clause-sound
 returns-in-Ok-clause-sound g c =
-    has-recovered g.S.Statements.stands g.met.S.Statements.orderly g.O.Origin.told g.O.Origin.opening g.O.Origin.faults _ _ (g.L.LineStore.stands c.recover-step.new.common.store) _ _ _ _ c.args.at c.take_member-left.result c.recover-step.result _ _ c.requires.going c.take_member-left.ensures.taken (died-at c.args.self.now.members.items c.args.at c.take_member-left.result c.requires.dead c.take_member-left.ensures.taken) c.requires.sound (quiet-within c.recover-step.result c.args.self.now.halt c.requires.going) (c.recover-step.ensures c.take_member-left.result.phase)
-    (c.put_member.ensures ∙ (c.take_member-left.ensures.rest _ ∙ ap (λ (l : Life). slice_set c.args.self.now.members.items c.args.at (record { left = c.take_member-left.result.left; total = c.take_member-left.result.total; phase = c.take_member-left.result.phase; life = l })) c.life_behind.ensures))
+    has-recovered g.S.Statements.stands g.met.S.Statements.orderly g.O.Origin.told g.O.Origin.opening g.O.Origin.faults _ _ (g.L.LineStore.stands c.recover-step.new.common.store) _ _ _ _ c.args.at c.take_member-member.result c.recover-step.result _ _ c.requires.going c.take_member-member.ensures.taken (died-at c.args.self.now.members.items c.args.at c.take_member-member.result c.requires.dead c.take_member-member.ensures.taken) c.requires.sound (quiet-within c.recover-step.result c.args.self.now.halt c.requires.going) (c.recover-step.ensures c.take_member-member.result.phase)
+    (c.put_member.ensures ∙ ((c.take_member-member.ensures.rest _ ∙ ap (λ (n : Member). slice_set c.args.self.now.members.items c.args.at n) c.with_life.ensures) ∙ ap (λ (l : Life). slice_set c.args.self.now.members.items c.args.at (record { left = c.take_member-member.result.left; total = c.take_member-member.result.total; phase = c.take_member-member.result.phase; life = l })) c.life_behind.ensures))
     (c.record_recovery.ensures ∙ ap (λ (r : Result Recovery Fault). map event_of c.args.self.now.events.items ++ recovery_events (c.args.at + 1) r) (sym c.in-Ok.is))
 
 pub returns-in-Err-clause-sound : goal.returns-in-Err-clause-sound
 returns-in-Err-clause-sound g c =
-    has-recovered g.S.Statements.stands g.met.S.Statements.orderly g.O.Origin.told g.O.Origin.opening g.O.Origin.faults _ _ (g.L.LineStore.stands c.recover-step.new.common.store) _ _ _ _ c.args.at c.take_member-left.result c.recover-step.result _ _ c.requires.going c.take_member-left.ensures.taken (died-at c.args.self.now.members.items c.args.at c.take_member-left.result c.requires.dead c.take_member-left.ensures.taken) c.requires.sound (fault-within c.recover-step.result c.in-Err.fault c.in-Err.is) (c.recover-step.ensures c.take_member-left.result.phase)
-    (c.put_member.ensures ∙ (c.take_member-left.ensures.rest _ ∙ ap (λ (l : Life). slice_set c.args.self.now.members.items c.args.at (record { left = c.take_member-left.result.left; total = c.take_member-left.result.total; phase = c.take_member-left.result.phase; life = l })) c.life_behind.ensures))
+    has-recovered g.S.Statements.stands g.met.S.Statements.orderly g.O.Origin.told g.O.Origin.opening g.O.Origin.faults _ _ (g.L.LineStore.stands c.recover-step.new.common.store) _ _ _ _ c.args.at c.take_member-member.result c.recover-step.result _ _ c.requires.going c.take_member-member.ensures.taken (died-at c.args.self.now.members.items c.args.at c.take_member-member.result c.requires.dead c.take_member-member.ensures.taken) c.requires.sound (fault-within c.recover-step.result c.in-Err.fault c.in-Err.is) (c.recover-step.ensures c.take_member-member.result.phase)
+    (c.put_member.ensures ∙ ((c.take_member-member.ensures.rest _ ∙ ap (λ (n : Member). slice_set c.args.self.now.members.items c.args.at n) c.with_life.ensures) ∙ ap (λ (l : Life). slice_set c.args.self.now.members.items c.args.at (record { left = c.take_member-member.result.left; total = c.take_member-member.result.total; phase = c.take_member-member.result.phase; life = l })) c.life_behind.ensures))
     (sym (append-nil _) ∙ ap (λ (r : Result Recovery Fault). map event_of c.args.self.now.events.items ++ recovery_events (c.args.at + 1) r) (sym c.in-Err.is))
 
 pub returns-in-Ok-clause-came : goal.returns-in-Ok-clause-came
 returns-in-Ok-clause-came g c =
-    has-recovered-on c.args.at _ _ c.take_member-left.result c.recover-step.result c.take_member-left.ensures.taken (died-at c.args.self.now.members.items c.args.at c.take_member-left.result c.requires.dead c.take_member-left.ensures.taken)
-    (c.put_member.ensures ∙ (c.take_member-left.ensures.rest _ ∙ ap (λ (l : Life). slice_set c.args.self.now.members.items c.args.at (with_life l c.take_member-left.result)) c.life_behind.ensures))
+    has-recovered-on c.args.at _ _ c.take_member-member.result c.recover-step.result c.take_member-member.ensures.taken (died-at c.args.self.now.members.items c.args.at c.take_member-member.result c.requires.dead c.take_member-member.ensures.taken)
+    (c.put_member.ensures ∙ ((c.take_member-member.ensures.rest _ ∙ ap (λ (n : Member). slice_set c.args.self.now.members.items c.args.at n) c.with_life.ensures) ∙ ap (λ (l : Life). slice_set c.args.self.now.members.items c.args.at (with_life l c.take_member-member.result)) c.life_behind.ensures))
     (c.record_recovery.ensures ∙ ap (λ (r : Result Recovery Fault). map event_of c.args.self.now.events.items ++ recovery_events (c.args.at + 1) r) (sym c.in-Ok.is))
 
 pub returns-in-Err-clause-came : goal.returns-in-Err-clause-came
 returns-in-Err-clause-came g c = record {
   halted = refl;
   members =
-      c.put_member.ensures ∙ (c.take_member-left.ensures.rest _
-      ∙ (ap (λ (l : Life). slice_set c.args.self.now.members.items c.args.at (with_life l c.take_member-left.result)) (c.life_behind.ensures ∙ ap life_behind c.in-Err.is)
-      ∙ put-back c.args.self.now.members.items c.args.at c.take_member-left.result c.take_member-left.ensures.taken (died-at c.args.self.now.members.items c.args.at c.take_member-left.result c.requires.dead c.take_member-left.ensures.taken)));
+      c.put_member.ensures ∙ ((c.take_member-member.ensures.rest _ ∙ ap (λ (n : Member). slice_set c.args.self.now.members.items c.args.at n) c.with_life.ensures)
+      ∙ (ap (λ (l : Life). slice_set c.args.self.now.members.items c.args.at (with_life l c.take_member-member.result)) (c.life_behind.ensures ∙ ap life_behind c.in-Err.is)
+      ∙ put-back c.args.self.now.members.items c.args.at c.take_member-member.result c.take_member-member.ensures.taken (died-at c.args.self.now.members.items c.args.at c.take_member-member.result c.requires.dead c.take_member-member.ensures.taken)));
   events = refl;
   rests = λ stopped. absurd (false≢true (sym (ap is_some c.requires.going) ∙ stopped));
 }
@@ -48,6 +49,6 @@ returns-in-Err-clause-came g c = record {
 pub returns-in-Ok-clause-nearer : goal.returns-in-Ok-clause-nearer
 returns-in-Ok-clause-nearer g c = λ moved.
     recovered-nearer g.S.Statements.stands (scene c.args.self.now.common.word (g.L.LineStore.sight c.args.self.now.common.store) c.args.self.now.common.tree) (scene c.recover-step.new.common.word (g.L.LineStore.sight c.recover-step.new.common.store) c.recover-step.new.common.tree)
-    c.args.self.now.members.items c.args.self.now.allotments c.args.at c.take_member-left.result (died-at c.args.self.now.members.items c.args.at c.take_member-left.result c.requires.dead c.take_member-left.ensures.taken) c.take_member-left.ensures.taken c.put_member.new.members.items c.recover-step.result c.in-Ok.step c.args.self.now.halt c.requires.going c.in-Ok.is
-    (c.recover-step.ensures c.take_member-left.result.phase)
-    (c.put_member.ensures ∙ (c.take_member-left.ensures.rest _ ∙ ap (λ (l : Life). slice_set c.args.self.now.members.items c.args.at (with_life l c.take_member-left.result)) c.life_behind.ensures))
+    c.args.self.now.members.items c.args.self.now.allotments c.args.at c.take_member-member.result (died-at c.args.self.now.members.items c.args.at c.take_member-member.result c.requires.dead c.take_member-member.ensures.taken) c.take_member-member.ensures.taken c.put_member.new.members.items c.recover-step.result c.in-Ok.step c.args.self.now.halt c.requires.going c.in-Ok.is
+    (c.recover-step.ensures c.take_member-member.result.phase)
+    (c.put_member.ensures ∙ ((c.take_member-member.ensures.rest _ ∙ ap (λ (n : Member). slice_set c.args.self.now.members.items c.args.at n) c.with_life.ensures) ∙ ap (λ (l : Life). slice_set c.args.self.now.members.items c.args.at (with_life l c.take_member-member.result)) c.life_behind.ensures))

@@ -1,0 +1,15 @@
+-- The phase of a session whose job is out, by the job and what the session has beside it.
+use Rattle.session_jobs.specs.declared.jobs.Job.{Job}
+use Rattle.session_states.specs.declared.stage.Phase.{Phase}
+use Rattle.session_states.specs.declared.stage.Phase.TheVariants as phase
+use Rattle.session_states.specs.declared.stage.Work.TheVariants as work
+use Rattle.session_states.specs.declared.stage.Stage.TheVariants as stage
+use Rattle.session_states.specs.declared.stage.ReaderWork.TheVariants as look
+use Rattle.session_states.specs.declared.stage.ReaderStage.TheVariants as reading
+use Rattle.session_states.specs.States.{writer, reader}
+use Rattle.answered_steps.specs.declared.answered.Absence.{Absence}
+use Rattle.answered_steps.specs.declared.answered.Absence.TheVariants.{Writing, Reading}
+
+abbrev pub phase_with : Absence → Job → Phase
+phase_with (Writing spoken waits) job = phase.Writing (writer job.standing job.known spoken waits (stage.Working job.item work.Out))
+phase_with (Reading spoken) job = phase.Reading (reader job.standing job.known spoken (reading.Working job.item look.Out))

@@ -1,0 +1,45 @@
+//! A step of a session, from its phase or from what its job came to.
+ghost use Rattle.std.specs.Prelude.{◌≡◌, List, [], false};
+ghost use Rattle.rdo_ast.specs.declared.syntax.Item.{Item as ItemValue};
+ghost use Rattle.line_store.specs.Seats.{IsMember};
+ghost use Rattle.session_stands.specs.Seated.{IsSeated};
+ghost use Rattle.session_measure.specs.Nearer.{AreRounds};
+ghost use Rattle.stage_steps.specs.Happenings.{handed_back};
+ghost use Rattle.stage_steps.specs.Scenes.{scene};
+ghost use Rattle.line_arms.specs.Going.{GoesOn, IsAmong, is_done};
+ghost use Rattle.line_cluster.specs.Whereabouts.{IsPresent, phase_at};
+
+use crate::lent_members::Presence;
+use answered_steps::take_answered;
+use line_arms::{Allotment, go_on};
+use line_store::LineStore;
+use rdb_types::Session;
+use reached_changes::Reaches;
+use reserved_locks::Reserves;
+use session_states::ItemQueue;
+use stage_steps::{Common, Turned};
+
+/// One step of a session that has something left to do, as `go_on` has it; where its job came back, what that came to is taken.
+pub(crate) fn go_on_from<S: Reserves + Reaches, L: LineStore>(
+    common: &mut Common<L>,
+    s: Session,
+    left: &mut ItemQueue,
+    allotment: &mut Allotment,
+    presence: Presence<S>,
+) -> Turned
+    requires member { IsMember s.number }
+    requires seated { IsSeated (L.sight common.old.store).stand common.old.tree s.number (phase_at presence) }
+    requires among { IsAmong (L.sight common.old.store).stand common.old.tree s.number }
+    requires going { is_done left.old (phase_at presence) ≡ false }
+    requires word { IsPresent common.old.word presence }
+    ensures goes { handed_back result.happened ≡ [] → GoesOn S.stands s.number (scene common.old.word (L.sight common.old.store) common.old.tree) left.old (phase_at presence)
+        (scene common.new.word (L.sight common.new.store) common.new.tree) left.new result.phase result.happened }
+    ensures some { (rest : List ItemValue) × GoesOn S.stands s.number (scene common.old.word (L.sight common.old.store) common.old.tree) left.old (phase_at presence)
+        (scene common.new.word (L.sight common.new.store) common.new.tree) rest result.phase result.happened }
+    ensures rounds { AreRounds (phase_at presence) result.phase allotment.old.rounds allotment.new.rounds }
+{
+    match presence {
+        Presence::Here(phase) => go_on::<S, L>(common, s, left, allotment, phase),
+        Presence::Back(absence, answer) => take_answered::<S, L>(common, s, absence, answer),
+    }
+}
