@@ -1,0 +1,25 @@
+-- A script has no more items than bytes, and one.
+use Rattle.std.proofs.Common.{◌≤◌, ◌≡◌, ◌<◌, ◌^◌, ◌-◌, ◌++◌, ◌∷◌, ℕ, zero, suc, List, [], length, Option, Some, None, All, subst, sym, arith}
+use Rattle.std.proofs.lemmas.List.Elements.{All-push}
+use Rattle.rdo_ast.specs.declared.syntax.Item.{Item}
+use Rattle.rdo_tokens.specs.Lex.{Text}
+use Rattle.rdo_parser.specs.declared.items.Found.{Found}
+use Rattle.rdo_parser.specs.Script.{items_within, items_from, item_at, script_items, with_behind}
+
+behind-few : (found : Option Found) (behind : ℕ → List Item) (n : ℕ) → ((next : ℕ) → length (behind next) ≤ n) → length (with_behind found behind) ≤ suc n
+behind-few None behind n h = omega arith
+behind-few (Some x) behind n h = let k = h x.next in omega (arith, k)
+
+few-within : (script : Text) (n at : ℕ) → length (items_within script n at) ≤ n
+few-within script zero at = omega arith
+few-within script (suc n) at = behind-few (item_at script at) (items_within script n) n (λ next. few-within script n next)
+
+below : (items bytes : ℕ) → items ≤ suc (bytes - 0) → bytes ≤ 1048576 → items < 2 ^ 32
+below items bytes h k = omega (arith, h, k)
+
+pub few-items : (script : Text) → length script ≤ 1048576 → length (script_items script) < 2 ^ 32
+unfolding items_from
+few-items script h = below (length (script_items script)) (length script) (few-within script (suc (length script - 0)) 0) h
+
+pub few-more : (now old : List (List Item)) (x : List Item) → now ≡ old ++ x ∷ [] → All (λ items. length items < 2 ^ 32) old → length x < 2 ^ 32 → All (λ items. length items < 2 ^ 32) now
+few-more now old x e h k = subst (λ xs. All (λ items. length items < 2 ^ 32) xs) (sym e) (All-push (λ items. length items < 2 ^ 32) old x h k)

@@ -1,0 +1,4 @@
+pub mod Among
+pub mod Reports
+pub mod Runs
+pub mod Statuses

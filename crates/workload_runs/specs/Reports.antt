@@ -1,0 +1,33 @@
+-- What a workload writes.
+use Rattle.std.specs.Prelude.{◌≡◌, ◌⊎◌, ℕ, List, [], ◌∷◌, length, Option, Some, None, IsTrue}
+use Rattle.rdb_outside.specs.Disk.{View}
+use Rattle.rdb_account.specs.declared.event.Event.{Event}
+use Rattle.stable_lines.specs.Journal.{Journal, IsJournalOf}
+use Rattle.rmu_texts.specs.declared.faults.VerifyFault.{VerifyFault}
+use Rattle.rmu_verify.specs.Verified.{AreFaults}
+use Rattle.rmu_commands.specs.Written.{Writes}
+use Rattle.workload_scripts.specs.declared.report.Report.{Report}
+use Rattle.workload_scripts.specs.Report.{report_text}
+use Rattle.workload_replies.specs.declared.replies.Counted.{Counted}
+use Rattle.workload_replies.specs.Replies.{counted_among}
+use Rattle.workload_runs.specs.Statuses.{HasReport}
+
+-- what the last of these accounts has counted
+abbrev pub counted_last : List (List Event) → Option Counted
+counted_last [] = None
+counted_last (e ∷ []) = counted_among e
+counted_last (e ∷ d ∷ es) = counted_last (d ∷ es)
+
+abbrev pub report_of : Counted → List VerifyFault → Report
+report_of c faults = record { accounts = c.accounts; total = c.total; faults = length faults }
+
+-- A report is written: what the last run printed, and how many faults the database has; status 7 says that there are some. Nothing is written where the workload ended before it.
+pub record Reports (disk : View) (accounts : List (List Event)) (status : ℕ) (SinkTells : Type 0) (old new : List ℕ) : Type 0 where
+  pub counted : Counted
+  pub faults : List VerifyFault
+  pub printed : HasReport status → counted_last accounts ≡ Some counted
+  pub are : HasReport status → IsTrue disk.tells → (journal : Journal) → IsJournalOf disk.content journal → AreFaults disk.content journal.groups faults
+  pub none : status ≡ 0 → faults ≡ []
+  pub some : status ≡ 7 → faults ≡ [] → ⊥
+  pub writes : SinkTells → Writes status (report_text (report_of counted faults)) old new
+  pub silent : SinkTells → (status ≡ 8) ⊎ (status ≡ 9) → new ≡ old

@@ -1,0 +1,93 @@
+// One run of sessions.
+ghost use Rattle.std.specs.Prelude.{◌≡◌, ◌≤◌, ◌<◌, ◌^◌, All, None, Some, [], true, false, length, map, IsTrue};
+ghost use Rattle.rdb_outside.specs.Causes.{Rose};
+ghost use Rattle.rdb_account.specs.Events.{event_of};
+ghost use Rattle.rdb_account.specs.Legal.{IsLegal};
+ghost use Rattle.rdb_drive.specs.Boards.{MayDie};
+ghost use Rattle.line_cluster.specs.Sound.{FollowsScripts, MayFail};
+ghost use Rattle.line_cluster.specs.Turned.{HaveAllEnded};
+ghost use Rattle.line_drive.specs.Boards.{mortals_of};
+ghost use Rattle.line_runs.specs.Openings.{OpensWith};
+ghost use Rattle.line_runs.specs.Prefix.{HoldsAll};
+ghost use Rattle.workload_replies.specs.Replies.{has_death};
+ghost use Rattle.workload_runs.specs.Statuses.{is_run_status, status_at};
+
+use crate::among::Among;
+use line_cluster::Origin;
+use line_opening::OpeningFault;
+use line_runs::{LineRun, Said, say_in_threads};
+use rdb_drive::Gate;
+use rdb_outside::Disk;
+use rdo_reserving::ReservingStatements;
+use session_jobs::Statements;
+use std::alloc::Global;
+use std::marker::Send;
+use std::sync::Wait;
+use std::thread::Threads;
+use workload_replies::some_died;
+
+/// The most sessions of a run.
+pub(crate) const MOST_SESSIONS: u32 = 4;
+
+/// Says scripts, each by a thread of its own. The gate may have those of its sessions die that the run has.
+pub(crate) fn say<
+    R: Threads + Wait + Sync,
+    O: Origin + Send,
+    D: Disk + Drop + Send,
+    G: Gate + Sync,
+>(rt: &R, alloc: Global, disk: D, said: Said, gate: &G) -> LineRun<D>
+    requires sessions { length said.scripts.items ≡ O.sessions }
+    requires few { O.sessions ≤ MOST_SESSIONS }
+    requires short { All (λ items. length items < 2 ^ 32) said.scripts.items }
+    requires scripts { FollowsScripts O.opening said.scripts.items }
+    requires mortal { MayFail O.opening }
+    requires word { said.word ≡ O.opening.word }
+    requires mortals { MayDie (G.mortals gate.now) (mortals_of O.opening MOST_SESSIONS) }
+    requires opens { O.told → OpensWith ⟦<ReservingStatements as Statements>⟧.stands (D.view disk) O.opening }
+    requires faults { O.told → O.faults ≡ (D.view disk).faults }
+    ensures legal { O.told → IsLegal O.opening (map event_of result.events) }
+    ensures whole { O.told → result.is_whole ≡ true → HaveAllEnded O.opening O.sessions (map event_of result.events) }
+    ensures left { O.told → result.is_whole ≡ true → HoldsAll ⟦<ReservingStatements as Statements>⟧.stands O.opening (D.view result.disk) (map event_of result.events) }
+    ensures tells { O.told → result.fault ≡ None → IsTrue (D.view result.disk).tells }
+    ensures no_fewer { O.told → result.fault ≡ None → (D.view disk).faults ≤ (D.view result.disk).faults }
+    ensures failed { result.fault ≡ Some OpeningFault.Failed → Rose (D.view disk).faults (D.view result.disk).faults }
+    ensures unsaid { (result.fault ≡ None → ⊥) → result.events ≡ [] }
+{
+    let sessions = said.scripts.len() as u32;
+    say_in_threads::<R, O, D, Among<'_, G>>(rt, alloc, disk, said, &Among::of(sessions, gate))
+}
+
+/// The status of a database that wasn't opened or read.
+pub(crate) fn status_of_fault(fault: OpeningFault) -> u8
+    ensures { result ≡ status_at fault }
+{
+    match fault {
+        OpeningFault::Failed => 3,
+        OpeningFault::NoMemory => 5,
+        OpeningFault::Bad(_, _) => 4,
+    }
+}
+
+/// The status with which a run ends a workload, and 0 where the next one may begin.
+pub(crate) fn status_of_run<D: Disk + Drop>(ran: &LineRun<D>) -> u8
+    ensures status { is_run_status result ≡ true }
+    ensures whole { result ≡ 0 → ran.now.is_whole ≡ true }
+    ensures opened { result ≡ 0 → ran.now.fault ≡ None }
+    ensures lived { result ≡ 0 → has_death ran.now.events ≡ false }
+    ensures died { result ≡ 8 → has_death ran.now.events ≡ true }
+    ensures ended { result ≡ 8 → (ran.now.is_whole ≡ true) × (ran.now.fault ≡ None) }
+    ensures device { result ≡ 3 → ran.now.fault ≡ Some OpeningFault.Failed }
+{
+    match ran.fault {
+        Some(fault) => status_of_fault(fault),
+        None => {
+            if !ran.is_whole {
+                5
+            } else if some_died(ran.events.as_slice()) {
+                8
+            } else {
+                0
+            }
+        }
+    }
+}
