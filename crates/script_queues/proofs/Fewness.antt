@@ -4,6 +4,7 @@ use Rattle.std.proofs.lemmas.List.Elements.{All-push}
 use Rattle.rdo_ast.specs.declared.syntax.Item.{Item}
 use Rattle.rdo_tokens.specs.Lex.{Text}
 use Rattle.rdo_parser.specs.declared.items.Found.{Found}
+use Rattle.session_states.specs.declared.item_queue.WholeScript.{WholeScript}
 use Rattle.rdo_parser.specs.Script.{items_within, items_from, item_at, script_items, with_behind}
 
 behind-few : (found : Option Found) (behind : ℕ → List Item) (n : ℕ) → ((next : ℕ) → length (behind next) ≤ n) → length (with_behind found behind) ≤ suc n
@@ -21,5 +22,5 @@ pub few-items : (script : Text) → length script ≤ 1048576 → length (script
 unfolding items_from
 few-items script h = below (length (script_items script)) (length script) (few-within script (suc (length script - 0)) 0) h
 
-pub few-more : (now old : List (List Item)) (x : List Item) → now ≡ old ++ x ∷ [] → All (λ items. length items < 2 ^ 32) old → length x < 2 ^ 32 → All (λ items. length items < 2 ^ 32) now
-few-more now old x e h k = subst (λ xs. All (λ items. length items < 2 ^ 32) xs) (sym e) (All-push (λ items. length items < 2 ^ 32) old x h k)
+pub few-more : (now old : List WholeScript) (x : WholeScript) → now ≡ old ++ x ∷ [] → All (λ script. length script.items < 2 ^ 32) old → length x.items < 2 ^ 32 → All (λ script. length script.items < 2 ^ 32) now
+few-more now old x e h k = subst (λ (xs : List WholeScript). All (λ (script : WholeScript). length script.items < 2 ^ 32) xs) (sym e) (All-push (λ (script : WholeScript). length script.items < 2 ^ 32) old x h k)

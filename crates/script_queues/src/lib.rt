@@ -1,6 +1,6 @@
-//! The items of scripts' texts, as sessions take them.
+//! The scripts of texts, as sessions take them.
 #![tactic(auto)]
 
 mod queues;
 
-pub use queues::{items_of, queues_of};
+pub use queues::{script_of, scripts_of};

@@ -1,4 +1,5 @@
 pub mod Among
 pub mod Reports
 pub mod Runs
+pub mod Scripts
 pub mod Statuses

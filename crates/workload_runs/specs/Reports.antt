@@ -1,5 +1,5 @@
 -- What a workload writes.
-use Rattle.std.specs.Prelude.{◌≡◌, ◌⊎◌, ℕ, List, [], ◌∷◌, length, Option, Some, None, IsTrue}
+use Rattle.std.specs.Prelude.{◌≡◌, ◌⊎◌, ℕ, List, [], length, Some, IsTrue}
 use Rattle.rdb_outside.specs.Disk.{View}
 use Rattle.rdb_account.specs.declared.event.Event.{Event}
 use Rattle.stable_lines.specs.Journal.{Journal, IsJournalOf}
@@ -10,13 +10,7 @@ use Rattle.workload_scripts.specs.declared.report.Report.{Report}
 use Rattle.workload_scripts.specs.Report.{report_text}
 use Rattle.workload_replies.specs.declared.replies.Counted.{Counted}
 use Rattle.workload_replies.specs.Replies.{counted_among}
-use Rattle.workload_runs.specs.Statuses.{HasReport}
-
--- what the last of these accounts has counted
-abbrev pub counted_last : List (List Event) → Option Counted
-counted_last [] = None
-counted_last (e ∷ []) = counted_among e
-counted_last (e ∷ d ∷ es) = counted_last (d ∷ es)
+use Rattle.workload_runs.specs.Statuses.{HasReport, last_of}
 
 abbrev pub report_of : Counted → List VerifyFault → Report
 report_of c faults = record { accounts = c.accounts; total = c.total; faults = length faults }
@@ -25,7 +19,7 @@ report_of c faults = record { accounts = c.accounts; total = c.total; faults = l
 pub record Reports (disk : View) (accounts : List (List Event)) (status : ℕ) (SinkTells : Type 0) (old new : List ℕ) : Type 0 where
   pub counted : Counted
   pub faults : List VerifyFault
-  pub printed : HasReport status → counted_last accounts ≡ Some counted
+  pub printed : HasReport status → counted_among (last_of accounts) ≡ Some counted
   pub are : HasReport status → IsTrue disk.tells → (journal : Journal) → IsJournalOf disk.content journal → AreFaults disk.content journal.groups faults
   pub none : status ≡ 0 → faults ≡ []
   pub some : status ≡ 7 → faults ≡ [] → ⊥

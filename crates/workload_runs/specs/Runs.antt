@@ -1,18 +1,16 @@
 -- The accounts of runs that follow one another over one database.
-use Rattle.std.specs.Prelude.{◌≡◌, ℕ, ◌-◌, Bool, List, [], ◌∷◌, length, map}
+use Rattle.std.specs.Prelude.{◌≡◌, ℕ, ◌-◌, Bool, false, List, [], ◌∷◌, length, map}
 use Rattle.rdb_types.specs.declared.session.Cause.{Cause}
 use Rattle.rdb_outside.specs.Disk.{Image}
-use Rattle.rdo_ast.specs.declared.syntax.Item.{Item}
-use Rattle.rdo_parser.specs.Script.{script_items}
 use Rattle.rdb_meaning.specs.declared.tables.Tables.{Tables}
 use Rattle.rdb_account.specs.declared.event.Event.{Event as Declared}
 use Rattle.rdb_account.specs.Events.{Event, event_of}
 use Rattle.rdb_account.specs.Legal.{IsLegal}
 use Rattle.rdb_account.specs.Places.{Opening, place}
+use Rattle.session_states.specs.declared.item_queue.WholeScript.{WholeScript}
 use Rattle.line_cluster.specs.Sound.{FollowsScripts}
 use Rattle.line_cluster.specs.Turned.{HaveAllEnded}
 use Rattle.opened_store.specs.Opened.{is_taken_in}
-use Rattle.workload_scripts.specs.Scripts.{first_script, transfer_scripts, last_script}
 use Rattle.workload_runs.specs.declared.stand.Stand.{Stand}
 
 -- ---- one run
@@ -23,7 +21,7 @@ pub record Frame : Type 0 where
   pub may_die : ℕ → Cause → Bool
 
 -- The account begins with these tables, says these scripts, and is legal.
-pub record IsRun (f : Frame) (tables : Tables) (scripts : List (List Item)) (events : List Event) : Type 0 where
+pub record IsRun (f : Frame) (tables : Tables) (scripts : List WholeScript) (events : List Event) : Type 0 where
   pub opening : Opening
   pub named : opening.word ≡ f.word
   pub lets : opening.may_die ≡ f.may_die
@@ -36,6 +34,7 @@ abbrev pub opening_on : Image → Stand → Tables → (ℕ → Cause → Bool) 
 opening_on image stand tables may_die = record {
   word = [];
   script = λ s. [];
+  stops = λ s. false;
   tables = tables;
   limits = record { pages = stand.limits.pages; snapshots = stand.limits.snaps; entries = stand.limits.entries; slots = stand.limits.slots };
   has_owner = λ file page. is_taken_in image stand.limits.pages file page;
@@ -47,7 +46,7 @@ opening_on image stand tables may_die = record {
 -- ---- several
 
 -- These are the accounts of the first of runs that say these scripts. The first begins with these tables, each next one with those of all commits of the one before, whose sessions have all come to their ends; so have those of the last, where the runs are whole.
-abbrev pub AreRuns : Type 0 → Frame → Tables → List (List (List Item)) → List (List Declared) → Type 0
+abbrev pub AreRuns : Type 0 → Frame → Tables → List (List WholeScript) → List (List Declared) → Type 0
 AreRuns Whole f t scripts [] = Unit {0}
 AreRuns Whole f t [] (e ∷ es) = ⊥
 AreRuns Whole f t (s ∷ ss) (e ∷ []) =
@@ -55,18 +54,3 @@ AreRuns Whole f t (s ∷ ss) (e ∷ []) =
 AreRuns Whole f t (s ∷ ss) (e ∷ d ∷ es) =
     (run : IsRun f t s (map event_of e)) × HaveAllEnded run.opening (length s) (map event_of e)
     × AreRuns Whole f (place run.opening (map event_of e)).tables ss (d ∷ es)
-
--- ---- what the runs of a workload say
-
-abbrev pub items_of_last : List (List Item)
-items_of_last = map script_items (last_script ∷ [])
-
-abbrev pub items_of_transfers : ℕ → List (List Item)
-items_of_transfers accounts = map script_items (transfer_scripts accounts)
-
-abbrev pub items_of_first : ℕ → List (List Item)
-items_of_first accounts = map script_items (first_script accounts ∷ [])
-
--- the first in one session, the second in four, the last in one
-abbrev pub items_of_runs : ℕ → List (List (List Item))
-items_of_runs accounts = items_of_first accounts ∷ items_of_transfers accounts ∷ items_of_last ∷ []

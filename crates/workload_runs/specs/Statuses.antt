@@ -1,9 +1,11 @@
 -- How a workload ends.
-use Rattle.std.specs.Prelude.{◌≡◌, ◌⊎◌, ℕ, Bool, false, List, [], ◌∷◌, nat_eq}
+use Rattle.std.specs.Prelude.{◌≡◌, ◌⊎◌, ℕ, Bool, List, [], ◌∷◌, nat_eq, map}
 use Rattle.std.specs.List.{list_any}
 use Rattle.rdb_account.specs.declared.event.Event.{Event}
+use Rattle.rdb_account.specs.Events.{event_of}
 use Rattle.line_opening.specs.declared.fault.OpeningFault.{OpeningFault}
 use Rattle.line_opening.specs.declared.fault.OpeningFault.TheVariants.{Failed, NoMemory, Bad}
+use Rattle.line_cluster.specs.Deaths.{device_deaths}
 use Rattle.workload_replies.specs.Replies.{has_death}
 
 abbrev pub is_run_status : ℕ → Bool
@@ -26,12 +28,16 @@ status_at Failed = 3
 status_at NoMemory = 5
 status_at (Bad file slot) = 4
 
--- some session of the last of these runs died
-abbrev pub ends_with_death : List (List Event) → Bool
-ends_with_death [] = false
-ends_with_death (e ∷ []) = has_death e
-ends_with_death (e ∷ d ∷ es) = ends_with_death (d ∷ es)
+-- the last of these accounts
+abbrev pub last_of : List (List Event) → List Event
+last_of [] = []
+last_of (e ∷ []) = e
+last_of (e ∷ d ∷ es) = last_of (d ∷ es)
 
 -- some session of some run died
 abbrev pub have_death : List (List Event) → Bool
 have_death accounts = list_any has_death accounts
+
+-- how many sessions of the last run died of a device
+abbrev pub deaths_of_last : List (List Event) → ℕ
+deaths_of_last accounts = device_deaths (map event_of (last_of accounts))

@@ -1,13 +1,14 @@
 // The verification behind the runs, and what is written.
-ghost use Rattle.std.specs.Prelude.{◌≡◌, ◌⊎◌, true, []};
+ghost use Rattle.std.specs.Prelude.{◌≡◌, ◌≤◌, ◌⊎◌, true, []};
 ghost use Rattle.rdb_outside.specs.Causes.{Rose};
 ghost use Rattle.rdb_outside.specs.Disk.{OnlyReads};
 ghost use Rattle.rmu_commands.specs.Written.{Writes};
 ghost use Rattle.workload_scripts.specs.Report.{report_text as text_of_report};
-ghost use Rattle.workload_runs.specs.Reports.{Reports, counted_last, report_of};
-ghost use Rattle.workload_runs.specs.Statuses.{is_run_status, is_workload_status};
+ghost use Rattle.workload_replies.specs.Replies.{counted_among};
+ghost use Rattle.workload_runs.specs.Reports.{Reports, report_of};
+ghost use Rattle.workload_runs.specs.Statuses.{is_run_status, is_workload_status, last_of};
 
-use crate::runs::Runs;
+use crate::accounts::Runs;
 use crate::saying::status_of_fault;
 use crate::workload::Workload;
 use rdb_account::Events;
@@ -22,7 +23,7 @@ use workload_scripts::{Report, report_text};
 
 // What the last run has counted.
 fn counted_by_last(accounts: &[Events]) -> Option<Counted>
-    ensures { result ≡ counted_last accounts.now }
+    ensures { result ≡ counted_among (last_of accounts.now) }
 {
     match accounts {
         [.., last] => counted_in(last.as_slice()),
@@ -83,12 +84,12 @@ pub(crate) fn finish<D: Disk + Drop, K: Sink>(
     requires { is_run_status runs.status ≡ true }
     ensures status { is_workload_status result.status ≡ true }
     ensures kept { (result.status ≡ runs.status) ⊎ (runs.status ≡ 0) }
-    ensures lived { result.status ≡ 8 → runs.status ≡ 8 }
+    ensures dead { (result.status ≡ 8) ⊎ (result.status ≡ 9) → result.status ≡ runs.status }
     ensures accounts { result.accounts ≡ runs.accounts }
     ensures reports { Reports (D.view result.disk) runs.accounts result.status (K.tells out.old ≡ true) (K.taken out.old) (K.taken out.new) }
+    ensures no_fewer { (D.view runs.disk).faults ≤ (D.view result.disk).faults }
     ensures device { result.status ≡ 3 → runs.status ≡ 0 → Rose (D.view runs.disk).faults (D.view result.disk).faults }
     ensures sink { result.status ≡ 6 → Rose (K.faults out.old) (K.faults out.new) }
-    ensures reads { OnlyReads (D.view runs.disk) (D.view result.disk) }
 {
     let Runs {
         mut disk,

@@ -1,21 +1,24 @@
 // One run of sessions.
-ghost use Rattle.std.specs.Prelude.{◌≡◌, ◌≤◌, ◌<◌, ◌^◌, All, None, Some, [], true, false, length, map, IsTrue};
+ghost use Rattle.std.specs.Prelude.{◌≡◌, ◌≤◌, ◌<◌, ◌^◌, ◌⊎◌, All, None, Some, [], true, false, length, map, IsTrue};
 ghost use Rattle.rdb_outside.specs.Causes.{Rose};
 ghost use Rattle.rdb_account.specs.Events.{event_of};
 ghost use Rattle.rdb_account.specs.Legal.{IsLegal};
 ghost use Rattle.rdb_drive.specs.Boards.{MayDie};
+ghost use Rattle.line_cluster.specs.Deaths.{RoseBy, failures};
 ghost use Rattle.line_cluster.specs.Sound.{FollowsScripts, MayFail};
 ghost use Rattle.line_cluster.specs.Turned.{HaveAllEnded};
 ghost use Rattle.line_drive.specs.Boards.{mortals_of};
 ghost use Rattle.line_runs.specs.Openings.{OpensWith};
 ghost use Rattle.line_runs.specs.Prefix.{HoldsAll};
 ghost use Rattle.workload_replies.specs.Replies.{has_death};
-ghost use Rattle.workload_runs.specs.Statuses.{is_run_status, status_at};
+ghost use Rattle.workload_runs.specs.Statuses.{is_run_status, status_at, IsWhole};
 
 use crate::among::Among;
-use line_cluster::Origin;
+use lent_values::Naming;
+use line_cluster::{Halt, Origin};
 use line_opening::OpeningFault;
 use line_runs::{LineRun, Said, say_in_threads};
+use line_store::Fault;
 use rdb_drive::Gate;
 use rdb_outside::Disk;
 use rdo_reserving::ReservingStatements;
@@ -32,13 +35,14 @@ pub(crate) const MOST_SESSIONS: u32 = 4;
 /// Says scripts, each by a thread of its own. The gate may have those of its sessions die that the run has.
 pub(crate) fn say<
     R: Threads + Wait + Sync,
-    O: Origin + Send,
+    O: Origin + Naming + Send,
     D: Disk + Drop + Send,
     G: Gate + Sync,
 >(rt: &R, alloc: Global, disk: D, said: Said, gate: &G) -> LineRun<D>
+    requires desk { said.desk ≡ O.book }
     requires sessions { length said.scripts.items ≡ O.sessions }
     requires few { O.sessions ≤ MOST_SESSIONS }
-    requires short { All (λ items. length items < 2 ^ 32) said.scripts.items }
+    requires short { All (λ script. length script.items < 2 ^ 32) said.scripts.items }
     requires scripts { FollowsScripts O.opening said.scripts.items }
     requires mortal { MayFail O.opening }
     requires word { said.word ≡ O.opening.word }
@@ -49,7 +53,7 @@ pub(crate) fn say<
     ensures whole { O.told → result.is_whole ≡ true → HaveAllEnded O.opening O.sessions (map event_of result.events) }
     ensures left { O.told → result.is_whole ≡ true → HoldsAll ⟦<ReservingStatements as Statements>⟧.stands O.opening (D.view result.disk) (map event_of result.events) }
     ensures tells { O.told → result.fault ≡ None → IsTrue (D.view result.disk).tells }
-    ensures no_fewer { O.told → result.fault ≡ None → (D.view disk).faults ≤ (D.view result.disk).faults }
+    ensures harmed { O.told → RoseBy (failures (map event_of result.events) result.halt) (D.view disk).faults (D.view result.disk).faults }
     ensures failed { result.fault ≡ Some OpeningFault.Failed → Rose (D.view disk).faults (D.view result.disk).faults }
     ensures unsaid { (result.fault ≡ None → ⊥) → result.events ≡ [] }
 {
@@ -68,21 +72,32 @@ pub(crate) fn status_of_fault(fault: OpeningFault) -> u8
     }
 }
 
+// The status of sessions that were stopped.
+fn status_of_halt(halt: Option<Halt>) -> u8
+    ensures status { (result ≡ 3) ⊎ (result ≡ 4) ⊎ (result ≡ 5) }
+    ensures device { result ≡ 3 → halt ≡ Some (Halt.Device Fault.Failed) }
+{
+    match halt {
+        Some(Halt::Device(Fault::Failed)) => 3,
+        Some(Halt::Device(Fault::Bad(_, _))) => 4,
+        _ => 5,
+    }
+}
+
 /// The status with which a run ends a workload, and 0 where the next one may begin.
 pub(crate) fn status_of_run<D: Disk + Drop>(ran: &LineRun<D>) -> u8
     ensures status { is_run_status result ≡ true }
-    ensures whole { result ≡ 0 → ran.now.is_whole ≡ true }
-    ensures opened { result ≡ 0 → ran.now.fault ≡ None }
+    ensures whole { IsWhole result → (ran.now.is_whole ≡ true) × (ran.now.fault ≡ None) }
     ensures lived { result ≡ 0 → has_death ran.now.events ≡ false }
     ensures died { result ≡ 8 → has_death ran.now.events ≡ true }
-    ensures ended { result ≡ 8 → (ran.now.is_whole ≡ true) × (ran.now.fault ≡ None) }
-    ensures device { result ≡ 3 → ran.now.fault ≡ Some OpeningFault.Failed }
+    ensures device { result ≡ 3 → (ran.now.fault ≡ Some OpeningFault.Failed)
+        ⊎ ((ran.now.fault ≡ None) × (ran.now.halt ≡ Some (Halt.Device Fault.Failed))) }
 {
     match ran.fault {
         Some(fault) => status_of_fault(fault),
         None => {
             if !ran.is_whole {
-                5
+                status_of_halt(ran.halt)
             } else if some_died(ran.events.as_slice()) {
                 8
             } else {
