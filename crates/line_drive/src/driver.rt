@@ -7,7 +7,7 @@ ghost use Rattle.rdb_drive.specs.Steps.{StepOf};
 ghost use Rattle.line_store.specs.Seats.{outside};
 ghost use Rattle.line_store.specs.Sights.{bare};
 ghost use Rattle.line_cluster.specs.Deaths.{CountsFaults, failures};
-ghost use Rattle.line_cluster.specs.Sound.{HasImages, IsLeft};
+ghost use Rattle.line_cluster.specs.Sound.{HasImages, IsLeft, is_unsound};
 ghost use Rattle.line_cluster.specs.Turned.{HaveAllEnded};
 ghost use Rattle.line_drive.specs.Boards.{board_of, marks_of};
 ghost use Rattle.line_drive.specs.Turns.{IsHeardOf, step_for};
@@ -144,6 +144,7 @@ impl<O: Origin + Naming, S: Reserves + Reaches, L: LineStore + Drop> LineDriver<
         ensures images { O.told → HasImages S.stands O.opening (L.sight result.store) (map event_of self.events) }
         ensures halt { is_some result.halt ≡ self.halted }
         ensures faults { O.told → CountsFaults O.faults (failures (map event_of self.events) result.halt) (L.sight result.store) }
+        ensures agrees { O.told → is_unsound result.halt ≡ false }
         ensures outside { self.halted ≡ false → AllEnded O.sessions (board_of O.told O.opening self) → (s : ℕ) → bare ((L.sight result.store).stand s) ≡ outside }
     {
         let LineDriver {

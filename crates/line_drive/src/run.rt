@@ -6,7 +6,7 @@ ghost use Rattle.rdb_drive.specs.Boards.{AllEnded, IsSession, MayDie};
 ghost use Rattle.line_store.specs.Seats.{outside};
 ghost use Rattle.line_store.specs.Sights.{bare};
 ghost use Rattle.line_cluster.specs.Deaths.{CountsFaults, failures};
-ghost use Rattle.line_cluster.specs.Sound.{HasImages, IsLeft};
+ghost use Rattle.line_cluster.specs.Sound.{HasImages, IsLeft, is_unsound};
 ghost use Rattle.line_cluster.specs.Turned.{HaveAllEnded, is_session};
 ghost use Rattle.line_drive.specs.Boards.{board_of, mortals_of};
 ghost use Rattle.line_drive.specs.Turns.{KeepsTurns, has_deaths};
@@ -50,6 +50,7 @@ fn ran_of<O: Origin + Naming, S: Reserves + Reaches, L: LineStore + Drop>(
     ensures left { result.is_whole ≡ true → O.told → IsLeft S.stands O.opening (L.sight result.store) (map event_of result.events) }
     ensures images { O.told → HasImages S.stands O.opening (L.sight result.store) (map event_of result.events) }
     ensures faults { O.told → CountsFaults O.faults (failures (map event_of result.events) result.halt) (L.sight result.store) }
+    ensures agrees { O.told → is_unsound result.halt ≡ false }
     ensures outside { result.is_whole ≡ true → (s : ℕ) → bare ((L.sight result.store).stand s) ≡ outside }
 {
     driver.facts();
@@ -88,6 +89,7 @@ pub fn run_in_order<
     ensures left { result.is_whole ≡ true → O.told → IsLeft S.stands O.opening (L.sight result.store) (map event_of result.events) }
     ensures images { O.told → HasImages S.stands O.opening (L.sight result.store) (map event_of result.events) }
     ensures faults { O.told → CountsFaults O.faults (failures (map event_of result.events) result.halt) (L.sight result.store) }
+    ensures agrees { O.told → is_unsound result.halt ≡ false }
     ensures outside { result.is_whole ≡ true → (s : ℕ) → bare ((L.sight result.store).stand s) ≡ outside }
     ensures order { result.is_whole ≡ true → O.told → KeepsTurns O.opening O.sessions order.now result.events }
 {
@@ -116,6 +118,7 @@ pub fn run_in_threads<
     ensures left { result.is_whole ≡ true → O.told → IsLeft S.stands O.opening (L.sight result.store) (map event_of result.events) }
     ensures images { O.told → HasImages S.stands O.opening (L.sight result.store) (map event_of result.events) }
     ensures faults { O.told → CountsFaults O.faults (failures (map event_of result.events) result.halt) (L.sight result.store) }
+    ensures agrees { O.told → is_unsound result.halt ≡ false }
     ensures outside { result.is_whole ≡ true → (s : ℕ) → bare ((L.sight result.store).stand s) ≡ outside }
 {
     let shared = Mutex::new(LineDriver::new(cluster));

@@ -37,6 +37,7 @@ no-fewer M o v sight back faults word is = subst (λ (n : ℕ). faults ≤ n) (b
 module _ (M : Model) (o : Opening) (v : View) (events : List Event) (sight : Sight) (back : IsBack sight v) where
   pub holds-prefix : HasImages M o sight events → HoldsPrefix M o v events
   holds-prefix has = record {
+    tells = (back.shows has.shelf has.shown).tells;
     now = λ image l.
         let shown = back.shows has.shelf has.shown in
         let it = shown-opens v back.held has.shelf shown image (each_slot v image l) in

@@ -1,5 +1,5 @@
 -- What a crash leaves of a disk over which sessions ran.
-use Rattle.std.specs.Prelude.{ℕ, suc, ◌≤◌, ◌≡◌, List, Some, slice_get}
+use Rattle.std.specs.Prelude.{ℕ, suc, ◌≤◌, ◌≡◌, IsTrue, List, Some, slice_get}
 use Rattle.rdb_outside.specs.Disk.{Image, View, LeftNow}
 use Rattle.line_view.specs.Knowledge.{Lines}
 use Rattle.member_steps.specs.Standing.{HasLines}
@@ -19,8 +19,9 @@ pub record IsPrefix (M : Model) (o : Opening) (events : List Event) (image : Ima
 abbrev pub IsFrom : Model → Opening → List Event → ℕ → Image → Type 0
 IsFrom M o events k image = (lines : Lines) → HasLines image lines → IsLeft M o events k lines
 
--- Each image that a crash may leave now, or might have left since the sessions began, which was not before the opening's moment, can be opened. What may be left now stands for all commits; what might have been left since a commit, for that commit or a later one; and so since the sessions began.
+-- The disk tells its content. Each image that a crash may leave now, or might have left since the sessions began, which was not before the opening's moment, can be opened. What may be left now stands for all commits; what might have been left since a commit, for that commit or a later one; and so since the sessions began.
 pub record HoldsPrefix (M : Model) (o : Opening) (v : View) (events : List Event) : Type 0 where
+  pub tells : IsTrue v.tells
   pub now : (image : Image) → LeftNow v image → IsPrefix M o events image
   pub since : (k : ℕ) (c : Commit) → slice_get (place o events).commits k ≡ Some c → (image : Image) → v.left_since c.moment image → IsFrom M o events (suc k) image
   pub began : ℕ

@@ -9,7 +9,7 @@ ghost use Rattle.line_store.specs.Sights.{bare};
 ghost use Rattle.rdb_account.specs.Legal.{IsLegal};
 ghost use Rattle.rdb_drive.specs.Boards.{IsSession, MayDie};
 ghost use Rattle.line_cluster.specs.Deaths.{CountsFaults, RoseBy, failures};
-ghost use Rattle.line_cluster.specs.Sound.{FollowsScripts, HasImages, IsLeft, MayFail};
+ghost use Rattle.line_cluster.specs.Sound.{FollowsScripts, HasImages, IsLeft, MayFail, is_unsound};
 ghost use Rattle.line_cluster.specs.Turned.{HaveAllEnded};
 ghost use Rattle.line_drive.specs.Boards.{mortals_of};
 ghost use Rattle.line_drive.specs.Turns.{KeepsTurns};
@@ -160,6 +160,7 @@ pub fn say_in_order<O: Origin + Naming + Send, D: Disk + Drop, G: Gate>(
     ensures images { O.told → result.fault ≡ None → HoldsPrefix ⟦<ReservingStatements as Statements>⟧.stands O.opening (D.view result.disk) (map event_of result.events) }
     ensures left { O.told → result.is_whole ≡ true → HoldsAll ⟦<ReservingStatements as Statements>⟧.stands O.opening (D.view result.disk) (map event_of result.events) }
     ensures harmed { O.told → RoseBy (failures (map event_of result.events) result.halt) (D.view disk).faults (D.view result.disk).faults }
+    ensures agrees { O.told → is_unsound result.halt ≡ false }
     ensures failed { result.fault ≡ Some OpeningFault.Failed → Rose (D.view disk).faults (D.view result.disk).faults }
     ensures bad { (file : File) (slot : ℕ) → result.fault ≡ Some (OpeningFault.Bad file slot) → HasNoNumbers (D.view disk) }
     ensures unsaid { (result.fault ≡ None → ⊥) → result.events ≡ [] }
@@ -193,6 +194,7 @@ pub fn say_in_threads<
     ensures images { O.told → result.fault ≡ None → HoldsPrefix ⟦<ReservingStatements as Statements>⟧.stands O.opening (D.view result.disk) (map event_of result.events) }
     ensures left { O.told → result.is_whole ≡ true → HoldsAll ⟦<ReservingStatements as Statements>⟧.stands O.opening (D.view result.disk) (map event_of result.events) }
     ensures harmed { O.told → RoseBy (failures (map event_of result.events) result.halt) (D.view disk).faults (D.view result.disk).faults }
+    ensures agrees { O.told → is_unsound result.halt ≡ false }
     ensures failed { result.fault ≡ Some OpeningFault.Failed → Rose (D.view disk).faults (D.view result.disk).faults }
     ensures bad { (file : File) (slot : ℕ) → result.fault ≡ Some (OpeningFault.Bad file slot) → HasNoNumbers (D.view disk) }
     ensures unsaid { (result.fault ≡ None → ⊥) → result.events ≡ [] }

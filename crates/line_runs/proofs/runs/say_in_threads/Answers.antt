@@ -1,4 +1,4 @@
-use Rattle.std.proofs.Common.{map, subst, sym, ◌∙◌}
+use Rattle.std.proofs.Common.{map, refl, subst, sym, ◌∙◌}
 use Rattle.std.proofs.lemmas.Bool.{false≢true}
 use Rattle.std.proofs.lemmas.Option.{none-some}
 use Rattle.rdb_account.specs.Events.{event_of}
@@ -33,3 +33,9 @@ returns-in-Err-clause-images g c told opened = absurd (none-some c.in-Err.unopen
 
 pub returns-in-Err-clause-left : goal.returns-in-Err-clause-left
 returns-in-Err-clause-left g c told whole = absurd (false≢true (sym c.unsaid.ensures.is_whole ∙ whole))
+
+pub returns-in-Ok-clause-agrees : goal.returns-in-Ok-clause-agrees
+returns-in-Ok-clause-agrees g c told = rw c.ended.ensures.halt (c.run_in_threads.ensures.agrees told)
+
+pub returns-in-Err-clause-agrees : goal.returns-in-Err-clause-agrees
+returns-in-Err-clause-agrees g c told = rw c.unsaid.ensures.halt refl
