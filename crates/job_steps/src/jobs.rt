@@ -6,7 +6,7 @@ ghost use Rattle.line_view.specs.Held.{knows};
 ghost use Rattle.session_jobs.specs.Jobs.{IsFound};
 ghost use Rattle.session_states.specs.declared.stage.Stage.TheVariants.{Working};
 ghost use Rattle.session_states.specs.declared.stage.Work.TheVariants.{Out};
-ghost use Rattle.stage_steps.specs.Leaving.{OnUnworked};
+ghost use Rattle.stage_steps.specs.Leaving.{NamesBad, OnUnworked};
 ghost use Rattle.stage_steps.specs.Scenes.{ComesIn, scene};
 ghost use Rattle.stage_steps.specs.Turns.{at_stage};
 
@@ -21,7 +21,7 @@ use session_states::{Stage, Work};
 use stage_steps::{Common, Happening, Terms, Turned, forgo, quiet};
 
 /// Takes what a job came to: a record is kept till it is said, what the job lacked is wanted in turn, and want of memory is answered.
-/// Where it was left unworked its job is due again, as it is where a line is none of its kind, which there isn't.
+/// Where it was left unworked, or calls a line bad, its job is due again, and the session has to stop.
 pub fn take_found<S: Reserves, L: LineStore>(
     common: &mut Common<L>,
     s: Session,
@@ -35,11 +35,15 @@ pub fn take_found<S: Reserves, L: LineStore>(
     ensures comes { ComesIn S.stands s.number (scene common.old.word (L.sight common.old.store) common.old.tree) (at_stage terms (Working item Out))
         (scene common.new.word (L.sight common.new.store) common.new.tree) result.phase result.happened }
     ensures unworked { OnUnworked result.happened (found ≡ Found.Unworked) }
+    ensures bad { NamesBad found result.happened }
 {
     match found {
         Found::Done(worked) => keep::<S, L>(common, s, terms, item, worked),
         Found::Missing { next, later } => quiet(gather::<S>(terms, item, next, later)),
-        Found::Bad(_) => quiet(terms.at(Stage::Working(item, Work::Due))),
+        Found::Bad(key) => Turned {
+            phase: terms.at(Stage::Working(item, Work::Due)),
+            happened: Happening::Unsound(key),
+        },
         Found::Unworked => Turned {
             phase: terms.at(Stage::Working(item, Work::Due)),
             happened: Happening::Unworked,

@@ -99,6 +99,7 @@ pub fn record(events: &mut Vec<Event>, alloc: Global, s: Session, happened: Happ
         | Happening::Failed(_)
         | Happening::Unlaid(_)
         | Happening::Unworked
+        | Happening::Unsound(_)
         | Happening::Unanswered(_) => {}
     }
 }

@@ -33,7 +33,7 @@ module _ (M : Model) (s : ℕ) (old new : Scene) (x y : Phase) where
       (goes-as s x y (λ h g. (dead : ℕ) (ls : List Item) (total : ℕ) → Step M s (on_shelf old h dead) (session (item ∷ ls) total x) (on_shelf new g dead) (session (handed_back e ++ ls) total y) (events_of s e))
       (λ h g. (dead total : ℕ) → Step M s (on_shelf old h dead) (session (item ∷ left) total x) (on_shelf new g dead) (session left total y) (events_of s e)) old new
       (λ h g f dead total. subst (λ (b : List Item). Step M s (on_shelf old h dead) (session (item ∷ left) total x) (on_shelf new g dead) (session (b ++ left) total y) (events_of s e)) none (f dead left total))
-      (λ n total. subst (λ (b : List Item). NearerIn s e old new (session (item ∷ left) total x) (session (b ++ left) total y)) none (n left total)) t)
+      (λ n total. subst (λ (b : List Item). NearerIn M s e old new (session (item ∷ left) total x) (session (b ++ left) total y)) none (n left total)) t)
 
   -- it was taken up, and may be handed back
   pub takes-up : (e : Happening) (item : Item) (left all : List Item) → all ≡ item ∷ left → TakesUpIn M s item old x new y e → GoesOn M s old all x new (handed_back e ++ left) y e

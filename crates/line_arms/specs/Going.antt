@@ -23,7 +23,7 @@ use Rattle.stage_steps.specs.Scenes.{Scene, Goes, NearerIn, on_shelf}
 abbrev pub GoesOn : Model → ℕ → Scene → List Item → Phase → Scene → List Item → Phase → Happening → Type 0
 GoesOn M s old left x new rest y e =
     Goes s x Alive y Alive (λ h g. (dead total : ℕ) → Step M s (on_shelf old h dead) (session left total x) (on_shelf new g dead) (session rest total y) (events_of s e))
-    ((total : ℕ) → NearerIn s e old new (session left total x) (session rest total y)) old new
+    ((total : ℕ) → NearerIn M s e old new (session left total x) (session rest total y)) old new
 
 -- what the steps of s rest on of others: they have and want the journal for themselves, and who commits has it
 pub record IsAmong (stand : ℕ → Seat) (locks : State) (s : ℕ) : Type 0 where

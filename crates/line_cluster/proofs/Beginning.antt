@@ -47,6 +47,7 @@ begins M orderly told o faults c scripts agrees stands openable away parties tra
   kept = λ none t. tells t;
   images = λ t. told-images M orderly o c.word c.sight stands c.locks (map fresh_member scripts) [] sits (tells t);
   causes = λ t. let is : IsOpenedBy M o faults c.word c.sight = opens t in record { shelf = is.shelf; shown = is.shown; rose = rose-none faults is.shelf.clock.faults is.no_fewer };
+  agrees = λ t. refl;
 }
   where
     fresh-phase : (i : ℕ) (m : Member) → slice_get (map fresh_member scripts) i ≡ Some m → (m.phase ≡ Outside) × (m.life ≡ Alive)

@@ -20,7 +20,7 @@ use Rattle.session_states.specs.declared.stage.Phase.{Phase}
 use Rattle.stage_steps.specs.declared.dying.Recovery.{Recovery}
 use Rattle.stage_steps.specs.declared.dying.Recovery.TheVariants.{More, Done}
 use Rattle.stage_steps.specs.declared.happening.Happening.{Happening}
-use Rattle.stage_steps.specs.declared.happening.Happening.TheVariants.{Quiet, Began, Answered, Unstarted, Asleep, Noticed, Got, Refused, RefusedStart, Committed, RolledBack, Left, Failed, Unlaid, Unworked, Unanswered}
+use Rattle.stage_steps.specs.declared.happening.Happening.TheVariants.{Quiet, Began, Answered, Unstarted, Asleep, Noticed, Got, Refused, RefusedStart, Committed, RolledBack, Left, Failed, Unlaid, Unworked, Unanswered, Unsound}
 use Rattle.stage_steps.specs.Happenings.{events_of}
 use Rattle.stage_steps.specs.Notices.{demoted_by}
 use Rattle.stage_steps.specs.Scenes.{Scene, HasFailed}
@@ -91,6 +91,7 @@ step-alive s (Failed fault) = refl
 step-alive s (Unlaid key) = refl
 step-alive s Unworked = refl
 step-alive s (Unanswered item) = refl
+step-alive s (Unsound key) = refl
 
 pub demotion-alive : (s : ℕ) (node : Node) (d : Option Demotion) → device_deaths (demoted_by s node d) ≡ 0
 demotion-alive s node (Some d) = refl

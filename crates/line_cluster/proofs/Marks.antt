@@ -9,7 +9,7 @@ use Rattle.rdb_account.specs.Events.{Event}
 use Rattle.rdb_drive.specs.Boards.{Mark, AllOf, AllNobodys, answers}
 use Rattle.stage_steps.specs.declared.happening.Asking.{Asking}
 use Rattle.stage_steps.specs.declared.happening.Happening.{Happening}
-use Rattle.stage_steps.specs.declared.happening.Happening.TheVariants.{Quiet, Began, Answered, Unstarted, Asleep, Noticed, Got, Refused, RefusedStart, Committed, RolledBack, Left, Failed, Unlaid, Unworked, Unanswered}
+use Rattle.stage_steps.specs.declared.happening.Happening.TheVariants.{Quiet, Began, Answered, Unstarted, Asleep, Noticed, Got, Refused, RefusedStart, Committed, RolledBack, Left, Failed, Unlaid, Unworked, Unanswered, Unsound}
 use Rattle.stage_steps.specs.Happenings.{events_of, asked_by}
 use Rattle.stage_steps.specs.Notices.{demoted_by}
 use Rattle.line_cluster.specs.Turned.{mark_of}
@@ -58,6 +58,7 @@ step-marks s (Failed fault) = (tt, omega arith)
 step-marks s (Unlaid key) = (tt, omega arith)
 step-marks s Unworked = (tt, omega arith)
 step-marks s (Unanswered item) = (tt, omega arith)
+step-marks s (Unsound key) = (tt, omega arith)
 
 -- a lock that comes down is nobody's event
 pub notice-marks : (t : ℕ) (node : Node) (d : Option Demotion) → AllNobodys (map mark_of (demoted_by t node d))

@@ -53,23 +53,24 @@ unqueued : (locks : State) (s : ℕ) → is_sleeping locks s ≡ false → IsUnq
 unqueued locks s awake w is = subst (λ (o : Option OpenWant). is_queued (granted_at locks.table s) o ≡ false) is awake
 
 -- what happened moves it
-moves : (s : ℕ) (h : Happening) (c d : Scene) (m n : Member) → is_moving h ≡ true → (is_patient_at m.phase ≡ true → is_sleeping c.locks s ≡ false) → NearerIn s h c d m n → ComesNearer (beside c) (beside d) s m n
-moves s happens.Quiet c d m n is awake near = near
-moves s (happens.Began kind) c d m n is awake near = near
-moves s (happens.Answered a) c d m n is awake near = near
-moves s (happens.Unstarted a) c d m n is awake near = near
-moves s (happens.Asleep t x) c d m n is awake near = near.1 (unqueued c.locks s (awake near.2))
-moves s (happens.Noticed t node mode x) c d m n is awake near = absurd (false≢true is)
-moves s (happens.Got x) c d m n is awake near = near
-moves s (happens.Refused x a) c d m n is awake near = near
-moves s (happens.RefusedStart x a) c d m n is awake near = near
-moves s (happens.Committed moment) c d m n is awake near = near
-moves s happens.RolledBack c d m n is awake near = near
-moves s happens.Left c d m n is awake near = near
-moves s (happens.Failed fault) c d m n is awake near = absurd (false≢true is)
-moves s (happens.Unlaid key) c d m n is awake near = absurd (false≢true is)
-moves s happens.Unworked c d m n is awake near = absurd (false≢true is)
-moves s (happens.Unanswered item) c d m n is awake near = absurd (false≢true is)
+moves : (M : Model) (s : ℕ) (h : Happening) (c d : Scene) (m n : Member) → is_moving h ≡ true → (is_patient_at m.phase ≡ true → is_sleeping c.locks s ≡ false) → NearerIn M s h c d m n → ComesNearer (beside c) (beside d) s m n
+moves M s happens.Quiet c d m n is awake near = near
+moves M s (happens.Began kind) c d m n is awake near = near
+moves M s (happens.Answered a) c d m n is awake near = near
+moves M s (happens.Unstarted a) c d m n is awake near = near
+moves M s (happens.Asleep t x) c d m n is awake near = near.1 (unqueued c.locks s (awake near.2))
+moves M s (happens.Noticed t node mode x) c d m n is awake near = absurd (false≢true is)
+moves M s (happens.Got x) c d m n is awake near = near
+moves M s (happens.Refused x a) c d m n is awake near = near
+moves M s (happens.RefusedStart x a) c d m n is awake near = near
+moves M s (happens.Committed moment) c d m n is awake near = near
+moves M s happens.RolledBack c d m n is awake near = near
+moves M s happens.Left c d m n is awake near = near
+moves M s (happens.Failed fault) c d m n is awake near = absurd (false≢true is)
+moves M s (happens.Unlaid key) c d m n is awake near = absurd (false≢true is)
+moves M s happens.Unworked c d m n is awake near = absurd (false≢true is)
+moves M s (happens.Unanswered item) c d m n is awake near = absurd (false≢true is)
+moves M s (happens.Unsound key) c d m n is awake near = absurd (false≢true is)
 
 -- ---- the others
 
@@ -114,7 +115,7 @@ module _ (M : Model) (c d : Scene) (members : List Member) (each : List Allotmen
       (subst (λ (k : ℕ). Nears k (rounds_at (slice_set each at b) (suc at)) (beside c) (beside d) (suc at) m n) (sym before-is)
       (subst (λ (l : ℕ). Nears a.rounds l (beside c) (beside d) (suc at) m n) (sym behind-is)
       (as-lives (λ (u v : Member). Nears a.rounds b.rounds (beside c) (beside d) (suc at) u v)
-      ((moves (suc at) h c d (session m.left m.total m.phase) (session rest m.total y) moving awake (goes.nearer m.total)).nears a.rounds b.rounds rounds))))
+      ((moves M (suc at) h c d (session m.left m.total m.phase) (session rest m.total y) moving awake (goes.nearer m.total)).nears a.rounds b.rounds rounds))))
 
   -- it found a notice due, which was served
   pub falls-served : (u : ℕ) (node : Node) (mode : Mode) (x : Asking) → h ≡ happens.Noticed u node mode x → (behind : State) → behind.parties ≡ d.locks.parties → IsWriterAt (slice_set members at n) u → LocksFall u d.locks behind →
@@ -122,7 +123,7 @@ module _ (M : Model) (c d : Scene) (members : List Member) (each : List Allotmen
   falls-served u node mode x is behind same writer served =
       let e : Beside = record { locks = behind; steps = d.sight.steps } in
       let opened : (v : ℕ) → unopened (opened_of behind v) ≡ unopened (opened_of d.locks v) = λ v. ap (λ (ps : Parties). unopened (party_of ps v).opened) same in
-      let near : Nearer (suc at) (happens.Noticed u node mode x) (beside c) (beside d) (session m.left m.total m.phase) (session rest m.total y) = subst (λ (g : Happening). NearerIn (suc at) g c d (session m.left m.total m.phase) (session rest m.total y)) is (goes.nearer m.total) in
+      let near : Nearer (suc at) (happens.Noticed u node mode x) (beside c) (beside d) (session m.left m.total m.phase) (session rest m.total y) = subst (λ (g : Happening). NearerIn M (suc at) g c d (session m.left m.total m.phase) (session rest m.total y)) is (goes.nearer m.total) in
       all-fall-served (suc at) at (rounds_at each) (rounds_at (slice_set each at b)) (beside c) members m n (omega arith) found (beside d) e u
       (λ v w other. same-weight (rounds_at each v) (rounds_at (slice_set each at b) v) v (beside c) e w (rounds-apart each at v b other) (opened v ∙ ap (λ (p : Party). unopened p.opened) (goes.parties v other)) (goes.does.steps v other))
       (among-from u 1 writer.at (slice_set members at n) writer.member (omega (arith, writer.number)) writer.found)
@@ -205,7 +206,7 @@ module _ (M : Model) (s at : ℕ) (c d : Scene) (members put : List Member) (eac
 
   -- that notice was due
   pub is-due : (n : Notice) → IsNoticed n h → is_spare (granted_at d.locks.table n.to.number) (party_of d.locks.parties n.to.number) n.node ≡ true
-  is-due n noticed = (subst (λ (g : Happening). NearerIn s g c d (session m.left m.total m.phase) (session rest m.total y)) noticed.is (goes.nearer m.total)).1
+  is-due n noticed = (subst (λ (g : Happening). NearerIn M s g c d (session m.left m.total m.phase) (session rest m.total y)) noticed.is (goes.nearer m.total)).1
 
 -- ---- a step of a recovery
 

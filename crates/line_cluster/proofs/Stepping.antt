@@ -4,7 +4,7 @@ use Rattle.std.proofs.lemmas.Bool.{false≢true}
 use Rattle.std.proofs.lemmas.Option.{same_Some}
 use Rattle.rdo_ast.specs.declared.syntax.Item.{Item}
 use Rattle.rdb_account.specs.Events.{Event}
-use Rattle.rdb_account.specs.Places.{Opening}
+use Rattle.rdb_account.specs.Places.{Opening, place}
 use Rattle.rdb_account.specs.Legal.{IsLegal}
 use Rattle.lock_tree_laws.specs.Forest.{State, Parties, party_of}
 use Rattle.journal_waits.specs.Holders.{WantsExclusively}
@@ -23,25 +23,26 @@ use Rattle.session_states.specs.States.{session, has_said_all}
 use Rattle.session_states.specs.Steps.{Step}
 use Rattle.session_states.specs.Shared.{Shared, with_locks}
 use Rattle.session_states.specs.Fits.{WantsAtMost}
+use Rattle.session_states.proofs.Standing.{finds}
 use Rattle.session_stands.specs.Seated.{lock_in, NeedsFit, IsSeated, LivesAt}
 use Rattle.session_stands.specs.Sessions.{AreSeated, IsTold, dead_in, sharing}
 use Rattle.session_stands.proofs.Seating.{seated, keep-to, flies-all}
 use Rattle.session_stands.proofs.InFlight.{stand-now}
 use Rattle.session_stands.proofs.Telling.{steps}
 use Rattle.stage_steps.specs.declared.happening.Happening.{Happening}
-use Rattle.stage_steps.specs.declared.happening.Happening.TheVariants.{Quiet, Began, Answered, Unstarted, Asleep, Noticed, Got, Refused, RefusedStart, Committed, RolledBack, Left, Failed, Unlaid, Unworked, Unanswered}
+use Rattle.stage_steps.specs.declared.happening.Happening.TheVariants.{Quiet, Began, Answered, Unstarted, Asleep, Noticed, Got, Refused, RefusedStart, Committed, RolledBack, Left, Failed, Unlaid, Unworked, Unanswered, Unsound}
 use Rattle.stage_steps.specs.Happenings.{events_of, handed_back}
-use Rattle.stage_steps.specs.Scenes.{Scene, Goes, scene, on_shelf}
+use Rattle.stage_steps.specs.Scenes.{Scene, Goes, NearerIn, scene, on_shelf}
 use Rattle.stage_steps.specs.Turns.{Comes}
 use Rattle.line_cluster.specs.declared.sessions.Halt.{Halt}
 use Rattle.line_arms.specs.Going.{GoesOn, IsAmong, is_done}
 use Rattle.line_cluster.specs.Going.{IsWriterAt, writes_at, is_over, is_stopping, is_dead, is_dead_life}
 use Rattle.line_cluster.specs.declared.behind.Notice.{Notice}
-use Rattle.line_cluster.specs.Behind.{IsNoticed, is_moving}
+use Rattle.line_cluster.specs.Behind.{IsNoticed, is_moving, tells_unsound}
 use Rattle.line_cluster.proofs.Places.{suc-less, set-same}
 use Rattle.line_cluster.proofs.Measured.{set-found}
 use Rattle.line_cluster.specs.Deaths.{CountsFaults, device_deaths, failures, faults_in}
-use Rattle.line_cluster.specs.Sound.{HasImages, IsSound}
+use Rattle.line_cluster.specs.Sound.{HasImages, IsSound, is_unsound}
 use Rattle.line_cluster.proofs.Faults.{counts-fewer, counts-on, no-more, step-alive, stopped-no-more}
 
 -- what a crash leaves, of what is told
@@ -53,15 +54,16 @@ told-images M orderly o word sight stands locks members events sits k = record {
   since = k.images;
 }
 
--- no session goes on any more, for something else than a device
-pub stops : (M : Model) (told : Type 0) (o : Opening) (faults : ℕ) (c : Scene) (members : List Member) (events more : List Event) (old : Option Halt) (halt : Halt) → more ≡ events → faults_in (Some halt) ≡ 0 →
+-- no session goes on any more, for something else than a device or an unsound line
+pub stops : (M : Model) (told : Type 0) (o : Opening) (faults : ℕ) (c : Scene) (members : List Member) (events more : List Event) (old : Option Halt) (halt : Halt) → more ≡ events → faults_in (Some halt) ≡ 0 → is_unsound (Some halt) ≡ false →
     IsSound M told o faults c members events old → IsSound M told o faults c members more (Some halt)
-stops M told o faults c members events more old halt same quiet was = subst (λ (es : List Event). IsSound M told o faults c members es (Some halt)) (sym same) (record {
+stops M told o faults c members events more old halt same quiet agrees was = subst (λ (es : List Event). IsSound M told o faults c members es (Some halt)) (sym same) (record {
   legal = was.legal;
   seated = λ none. cc none;
   kept = λ none. cc none;
   images = was.images;
   causes = λ t. counts-fewer faults (failures events (Some halt)) (failures events old) c.sight (stopped-no-more events old (Some halt) quiet) (was.causes t);
+  agrees = λ t. agrees;
 })
 
 -- what is handed back is no event
@@ -82,6 +84,7 @@ back-quiet s (Failed fault) item more e = refl
 back-quiet s (Unlaid stop) item more e = refl
 back-quiet s Unworked item more e = refl
 back-quiet s (Unanswered i) item more e = refl
+back-quiet s (Unsound key) item more e = refl
 
 -- the sessions rest on each other so
 pub among : (c : Scene) (members : List Member) (s : ℕ) → AreSeated c.sight.stand c.locks members → IsAmong c.sight.stand c.locks s
@@ -111,24 +114,50 @@ module _ (M : Model) (orderly : IsOrderly M) (told : Type 0) (o : Opening) (faul
       (λ h k all. (all 0 0).others.store.later) g.does k)
 
   -- the session went on
-  pub moved : (N : Type 0) (es : List Event) (halt : Option Halt) → device_deaths es ≡ 0 → faults_in halt ≡ 0 → GoesWith es N → IsSound M told o faults d (slice_set members i (session rest total y)) (events ++ es) halt
-  moved N es halt alive quiet g = record {
+  pub moved : (N : Type 0) (es : List Event) (halt : Option Halt) → device_deaths es ≡ 0 → faults_in halt ≡ 0 → (told → is_unsound halt ≡ false) → GoesWith es N → IsSound M told o faults d (slice_set members i (session rest total y)) (events ++ es) halt
+  moved N es halt alive quiet agrees g = record {
     legal = λ t. (tells N es g t).kept.right.legal;
     seated = λ none. sits N es g;
     kept = λ none t. tells N es g t;
     images = λ t. told-images M orderly o d.word d.sight stands d.locks (slice_set members i (session rest total y)) (events ++ es) (sits N es g) (tells N es g t);
     causes = λ t. goes-counted es halt alive quiet N g (was.causes t);
+    agrees = agrees;
   }
 
 module _ (M : Model) (orderly : IsOrderly M) (told : Type 0) (o : Opening) (faults : ℕ) (c d : Scene) (stands : Stands d.sight) (members : List Member) (events : List Event) (i : ℕ) (left rest : List Item) (total : ℕ) (x y : Phase)
     (lives : dead_in members ≡ 0) (found : slice_get members i ≡ Some (session left total x)) (was : IsSound M told o faults c members events None) where
+  -- where the opening told what the store holds, what the session knows agrees with the lines of the shelf that is shown
+  agrees-on : (h : Happening) (n : Member) → told → NearerIn M (suc i) h c d (session left total x) n → tells_unsound h ≡ false
+  agrees-on (Unsound key) n t finds-none =
+      let k = was.kept refl t in
+      absurd (finds-none k.shelf k.shown (dead_in members) o (place o events) k.kept.ground (finds M orderly o (sharing c.word k.shelf c.locks (dead_in members)) members events i (session left total x) lives k.kept found))
+  agrees-on Quiet n t near = refl
+  agrees-on (Began kind) n t near = refl
+  agrees-on (Answered a) n t near = refl
+  agrees-on (Unstarted a) n t near = refl
+  agrees-on (Asleep u z) n t near = refl
+  agrees-on (Noticed u node mode z) n t near = refl
+  agrees-on (Got z) n t near = refl
+  agrees-on (Refused z a) n t near = refl
+  agrees-on (RefusedStart z a) n t near = refl
+  agrees-on (Committed moment) n t near = refl
+  agrees-on RolledBack n t near = refl
+  agrees-on Left n t near = refl
+  agrees-on (Failed fault) n t near = refl
+  agrees-on (Unlaid key) n t near = refl
+  agrees-on Unworked n t near = refl
+  agrees-on (Unanswered item) n t near = refl
+
   -- it went on, or its item was handed back, and no session goes on
-  pub stepped : (h : Happening) (halt : Option Halt) → (handed_back h ≡ [] → GoesOn M (suc i) c left x d rest y h) → (ls : List Item) × GoesOn M (suc i) c left x d ls y h → (halt ≡ None → handed_back h ≡ []) → faults_in halt ≡ 0 →
+  pub stepped : (h : Happening) (halt : Option Halt) → (handed_back h ≡ [] → GoesOn M (suc i) c left x d rest y h) → (ls : List Item) × GoesOn M (suc i) c left x d ls y h → (halt ≡ None → handed_back h ≡ []) → faults_in halt ≡ 0 → is_unsound halt ≡ tells_unsound h →
       IsSound M told o faults d (slice_set members i (session rest total y)) (events ++ events_of (suc i) h) halt
-  stepped h halt goes some going quiet = by (handed_back h) refl
+  stepped h halt goes some going quiet says = by (handed_back h) refl
     where
+      agrees : told → is_unsound halt ≡ false
+      agrees t = says ∙ agrees-on h (session some.0 total y) t (some.1.nearer total)
+
       by : (back : List Item) → handed_back h ≡ back → IsSound M told o faults d (slice_set members i (session rest total y)) (events ++ events_of (suc i) h) halt
-      by [] e = moved M orderly told o faults c d stands members events i left rest total x y lives found was _ (events_of (suc i) h) halt (step-alive (suc i) h) quiet (goes e)
+      by [] e = moved M orderly told o faults c d stands members events i left rest total x y lives found was _ (events_of (suc i) h) halt (step-alive (suc i) h) quiet agrees (goes e)
       by (item ∷ more) e = record {
         legal = λ t. subst (λ (es : List Event). IsLegal o es) (sym (append-nil events) ∙ ap (λ es. events ++ es) (sym (back-quiet (suc i) h item more e))) (was.legal t);
         seated = λ none. cc (sym e ∙ going none);
@@ -137,6 +166,7 @@ module _ (M : Model) (orderly : IsOrderly M) (told : Type 0) (o : Opening) (faul
             (sits M orderly told o faults c d stands members events i left some.0 total x y lives found was _ (events_of (suc i) h) some.1)
             (tells M orderly told o faults c d stands members events i left some.0 total x y lives found was _ (events_of (suc i) h) some.1 t);
         causes = λ t. goes-counted M orderly told o faults c d stands members events i left some.0 total x y lives found was (events_of (suc i) h) halt (step-alive (suc i) h) quiet _ some.1 (was.causes t);
+        agrees = agrees;
       }
 
 -- ---- a notice
@@ -166,8 +196,8 @@ alive-writer m h = by m.phase m.life refl refl h
 
 pub served : (M : Model) (orderly : IsOrderly M) (told : Type 0) (o : Opening) (faults : ℕ) (word : List ℕ) (sight : Sight) (stands : Stands sight) (locks behind : State) (members : List Member) (events more es : List Event) (s : ℕ) (old halt : Option Halt) →
     old ≡ None → dead_in members ≡ 0 → IsWriterAt members s → IsSound M told o faults (scene word sight locks) members events old → behind.parties ≡ locks.parties →
-    ((c : Shared) (w : Writer) → Comes M s (with_locks locks c) (Writing w) (with_locks behind c) (Writing w) es) → device_deaths es ≡ 0 → faults_in halt ≡ 0 → more ≡ events ++ es → IsSound M told o faults (scene word sight behind) members more halt
-served M orderly told o faults word sight stands locks behind members events more es s old halt none lives is was parties comes alive quiet more-is =
+    ((c : Shared) (w : Writer) → Comes M s (with_locks locks c) (Writing w) (with_locks behind c) (Writing w) es) → device_deaths es ≡ 0 → faults_in halt ≡ 0 → is_unsound halt ≡ false → more ≡ events ++ es → IsSound M told o faults (scene word sight behind) members more halt
+served M orderly told o faults word sight stands locks behind members events more es s old halt none lives is was parties comes alive quiet agrees more-is =
     let at = alive-writer is.member is.writes in
     let w : Writer = at.0 in
     let left : List Item = is.member.left in
@@ -178,7 +208,7 @@ served M orderly told o faults word sight stands locks behind members events mor
     subst (λ (xs : List Event). IsSound M told o faults (scene word sight behind) members xs halt) (sym more-is)
     (subst (λ (ms : List Member). IsSound M told o faults (scene word sight behind) ms (events ++ es) halt) (set-same members is.at (session left total (Writing w)) found)
     (moved M orderly told o faults (scene word sight locks) (scene word sight behind) stands members events is.at left left total (Writing w) (Writing w) lives found
-    (subst (λ (x : Option Halt). IsSound M told o faults (scene word sight locks) members events x) none was) (Unit {0}) es halt alive quiet (record {
+    (subst (λ (x : Option Halt). IsSound M told o faults (scene word sight locks) members events x) none was) (Unit {0}) es halt alive quiet (λ t. agrees) (record {
       lives = seated-on sight.stand locks behind (suc is.at) (Writing w) parties;
       parties = λ u other. ap (λ (ps : Parties). party_of ps u) parties;
       nearer = tt;
@@ -206,6 +236,7 @@ moving-keeps (Failed fault) is = absurd (false≢true is)
 moving-keeps (Unlaid stop) is = absurd (false≢true is)
 moving-keeps Unworked is = absurd (false≢true is)
 moving-keeps (Unanswered i) is = absurd (false≢true is)
+moving-keeps (Unsound key) is = absurd (false≢true is)
 
 pub noticed-keeps : (n : Notice) (h : Happening) → IsNoticed n h → handed_back h ≡ []
 noticed-keeps n h is = ap handed_back is.is
@@ -257,16 +288,16 @@ seated-at stand locks members s at m first is found alive k =
 
 pub turned : (M : Model) (orderly : IsOrderly M) (told : Type 0) (o : Opening) (faults : ℕ) (c d : Scene) (stands : Stands d.sight) (members put : List Member) (events more : List Event) (s at : ℕ) (m : Member) (rest : List Item) (y : Phase) (h : Happening) (old halt : Option Halt) →
     1 ≤ s → at ≡ s - 1 → old ≡ None → dead_in members ≡ 0 → slice_get members at ≡ Some m → m.life ≡ Alive → IsSound M told o faults c members events old →
-    (handed_back h ≡ [] → GoesOn M s c m.left m.phase d rest y h) → (ls : List Item) × GoesOn M s c m.left m.phase d ls y h → (halt ≡ None → handed_back h ≡ []) → faults_in halt ≡ 0 →
+    (handed_back h ≡ [] → GoesOn M s c m.left m.phase d rest y h) → (ls : List Item) × GoesOn M s c m.left m.phase d ls y h → (halt ≡ None → handed_back h ≡ []) → faults_in halt ≡ 0 → is_unsound halt ≡ tells_unsound h →
     put ≡ slice_set members at (record { left = rest; total = m.total; phase = y; life = m.life }) → more ≡ events ++ events_of s h → IsSound M told o faults d put more halt
-turned M orderly told o faults c d stands members put events more s at m rest y h old halt first is none lives found alive was goes some going quiet put-is more-is =
+turned M orderly told o faults c d stands members put events more s at m rest y h old halt first is none lives found alive was goes some going quiet says put-is more-is =
     let e : s ≡ suc at = sym (ap suc is ∙ suc-less s first) in
     let behind : record { left = rest; total = m.total; phase = y; life = m.life } ≡ session rest m.total y = ap (λ (l : Life). record { left = rest; total = m.total; phase = y; life = l }) alive in
     let put-at : slice_set members at (session rest m.total y) ≡ put = ap (λ (x : Member). slice_set members at x) (sym behind) ∙ sym put-is in
     let events-at : events ++ events_of (suc at) h ≡ more = ap (λ (t : ℕ). events ++ events_of t h) (sym e) ∙ sym more-is in
     subst (λ (ms : List Member). IsSound M told o faults d ms more halt) put-at (subst (λ (es : List Event). IsSound M told o faults d (slice_set members at (session rest m.total y)) es halt) events-at
     (stepped M orderly told o faults c d stands members events at m.left rest m.total m.phase y lives (found ∙ ap Some (session-of m alive)) (subst (λ (x : Option Halt). IsSound M told o faults c members events x) none was) h halt
-    (λ back. subst (λ (t : ℕ). GoesOn M t c m.left m.phase d rest y h) e (goes back)) (some.0, subst (λ (t : ℕ). GoesOn M t c m.left m.phase d some.0 y h) e some.1) going quiet))
+    (λ back. subst (λ (t : ℕ). GoesOn M t c m.left m.phase d rest y h) e (goes back)) (some.0, subst (λ (t : ℕ). GoesOn M t c m.left m.phase d some.0 y h) e some.1) going quiet says))
 
 -- who was put back lives
 pub put-lives : (members put : List Member) (at : ℕ) (m n : Member) → slice_get members at ≡ Some m → put ≡ slice_set members at n → n.life ≡ Alive → (x : Member) → slice_get put at ≡ Some x → x.life ≡ Alive

@@ -2,7 +2,7 @@
 use Rattle.std.specs.Prelude.{◌≡◌, Bool, true, false, Option, None, Some}
 use Rattle.stage_steps.specs.declared.happening.Asking.{Asking}
 use Rattle.stage_steps.specs.declared.happening.Happening.{Happening}
-use Rattle.stage_steps.specs.declared.happening.Happening.TheVariants.{Noticed, Failed, Unlaid, Unworked, Unanswered}
+use Rattle.stage_steps.specs.declared.happening.Happening.TheVariants.{Noticed, Failed, Unlaid, Unworked, Unanswered, Unsound}
 use Rattle.line_cluster.specs.declared.behind.Behind.{Behind}
 use Rattle.line_cluster.specs.declared.behind.Behind.TheVariants.{Stop}
 use Rattle.line_cluster.specs.declared.behind.Notice.{Notice}
@@ -15,7 +15,13 @@ is_moving (Failed fault) = false
 is_moving (Unlaid key) = false
 is_moving Unworked = false
 is_moving (Unanswered item) = false
+is_moving (Unsound key) = false
 is_moving happened = true
+
+-- what a session knows agrees with no sound database
+abbrev pub tells_unsound : Happening → Bool
+tells_unsound (Unsound key) = true
+tells_unsound happened = false
 
 -- why no session goes on behind it
 abbrev pub halt_behind : Behind → Option Halt

@@ -1,5 +1,5 @@
 -- What is true of the sessions of a run at every moment.
-use Rattle.std.specs.Prelude.{◌≡◌, ◌≤◌, ℕ, suc, Bool, true, List, [], length, map, Option, Some, None, slice_get}
+use Rattle.std.specs.Prelude.{◌≡◌, ◌≤◌, ℕ, suc, Bool, true, false, List, [], length, map, Option, Some, None, slice_get}
 use Rattle.rdb_types.specs.declared.session.Cause.TheVariants.{Device}
 use Rattle.rdo_ast.specs.Views.{uttered_of}
 use Rattle.rdb_account.specs.Events.{Event}
@@ -19,6 +19,7 @@ use Rattle.session_states.specs.Kept.{IsOpened}
 use Rattle.session_stands.specs.Sessions.{AreSeated, IsTold, sharing}
 use Rattle.stage_steps.specs.Scenes.{Scene}
 use Rattle.line_cluster.specs.declared.sessions.Halt.{Halt}
+use Rattle.line_cluster.specs.declared.sessions.Halt.TheVariants.{Unsound}
 use Rattle.line_cluster.specs.Deaths.{CountsFaults, failures}
 
 -- The store shows a shelf at whose moment each map of lines that a crash may leave stands for what the account has committed, or for that with the one in flight; and each that a crash might have left since the sessions began, or since a commit, for what was committed then, or more. A store can be opened from each image since they began.
@@ -28,13 +29,19 @@ pub record HasImages (M : Model) (o : Opening) (sight : Sight) (events : List Ev
   pub now : (lines : Lines) → sight.left shelf.clock.time lines → IsNow M o (place o events) lines
   pub since : AreLeft M o events sight.left sight.opens shelf.clock.time
 
--- Where the opening told what the store holds, the account is legal, a crash leaves what was committed, and faults rose since the opening, at which there were so many, by one for each session that died of a device, and by one where a recovery failed of it. As long as no halt has come, each session stands where its phase has it, and what is shown is kept.
+-- no session goes on since what one of them knows agrees with no sound database
+abbrev pub is_unsound : Option Halt → Bool
+is_unsound (Some (Unsound key)) = true
+is_unsound halt = false
+
+-- Where the opening told what the store holds, the account is legal, a crash leaves what was committed, faults rose since the opening, at which there were so many, by one for each session that died of a device, and by one where a recovery failed of it, and no session was stopped over an unsound line. As long as no halt has come, each session stands where its phase has it, and what is shown is kept.
 pub record IsSound (M : Model) (told : Type 0) (o : Opening) (faults : ℕ) (c : Scene) (members : List Member) (events : List Event) (halt : Option Halt) : Type 0 where
   pub legal : told → IsLegal o events
   pub seated : halt ≡ None → AreSeated c.sight.stand c.locks members
   pub kept : halt ≡ None → told → IsTold M o c.word c.sight c.locks members events
   pub images : told → HasImages M o c.sight events
   pub causes : told → CountsFaults faults (failures events halt) c.sight
+  pub agrees : told → is_unsound halt ≡ false
 
 -- session s is one of these
 pub record IsOneOf (members : List Member) (s : ℕ) : Type 0 where

@@ -1,7 +1,8 @@
 //! What is done behind a step.
-ghost use Rattle.std.specs.Prelude.{◌≡◌, true};
-ghost use Rattle.line_cluster.specs.Behind.{IsNoticed, halt_behind, is_moving};
+ghost use Rattle.std.specs.Prelude.{◌≡◌, false, true};
+ghost use Rattle.line_cluster.specs.Behind.{IsNoticed, halt_behind, is_moving, tells_unsound};
 ghost use Rattle.line_cluster.specs.Deaths.{faults_in};
+ghost use Rattle.line_cluster.specs.Sound.{is_unsound};
 ghost use Rattle.line_cluster.specs.declared.behind.Notice.{Notice as NoticeValue};
 
 use crate::sessions::Halt;
@@ -34,6 +35,7 @@ fn behind_fault(fault: Fault) -> Behind
     ensures serve { (notice : NoticeValue) → result ≡ Behind.Serve notice → ⊥ }
     ensures die { result ≡ Behind.Die → fault ≡ Fault.Failed }
     ensures stop { faults_in (halt_behind result) ≡ 0 }
+    ensures unsound { is_unsound (halt_behind result) ≡ false }
 {
     match fault {
         Fault::Failed => Behind::Die,
@@ -47,6 +49,7 @@ pub(crate) fn behind_of(happened: &Happening) -> Behind
     ensures serve { (notice : NoticeValue) → result ≡ Behind.Serve notice → IsNoticed notice happened.now }
     ensures die { result ≡ Behind.Die → happened.now ≡ Happening.Failed Fault.Failed }
     ensures stop { faults_in (halt_behind result) ≡ 0 }
+    ensures unsound { is_unsound (halt_behind result) ≡ tells_unsound happened.now }
 {
     match happened {
         Happening::Noticed(to, node, mode, _) => Behind::Serve(Notice {
@@ -57,6 +60,7 @@ pub(crate) fn behind_of(happened: &Happening) -> Behind
         Happening::Failed(fault) => behind_fault(*fault),
         Happening::Unlaid(key) => Behind::Stop(Halt::Unlaid(*key)),
         Happening::Unworked | Happening::Unanswered(_) => Behind::Stop(Halt::Unworked),
+        Happening::Unsound(key) => Behind::Stop(Halt::Unsound(*key)),
         _ => Behind::Nothing,
     }
 }

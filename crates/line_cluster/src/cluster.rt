@@ -10,7 +10,7 @@ ghost use Rattle.lock_tree_laws.specs.Forest.{IsWhole};
 ghost use Rattle.session_stands.specs.Sessions.{AreSeated};
 ghost use Rattle.line_cluster.specs.Deaths.{CountsFaults, failures, is_device, is_stop};
 ghost use Rattle.line_cluster.specs.Measured.{IsBounded};
-ghost use Rattle.line_cluster.specs.Sound.{FollowsScripts, HasImages, IsLeft, IsOpenedBy, IsSession, MayFail, fresh_member, stop_of};
+ghost use Rattle.line_cluster.specs.Sound.{FollowsScripts, HasImages, IsLeft, IsOpenedBy, IsSession, MayFail, fresh_member, is_unsound, stop_of};
 ghost use Rattle.line_cluster.specs.Turned.{Came, DeathCame, HasNothingLeft, HaveAllEnded, HaveEnded, IsAtEnd, RecoveryCame, Rests};
 
 use crate::allotments::Allotments;
@@ -258,6 +258,7 @@ impl<O: Origin + Naming, S: Reserves + Reaches, L: LineStore + Drop> LineCluster
         ensures images { O.told → HasImages S.stands O.opening (L.sight result.store) (map event_of self.events) }
         ensures halt { is_some result.halt ≡ self.halted }
         ensures faults { O.told → CountsFaults O.faults (failures (map event_of self.events) result.halt) (L.sight result.store) }
+        ensures agrees { O.told → is_unsound result.halt ≡ false }
         ensures outside { self.halted ≡ false → HaveEnded O.opening.stops self.members → (s : ℕ) → bare ((L.sight result.store).stand s) ≡ outside }
     {
         let LineCluster { core, stops: _ } = self;

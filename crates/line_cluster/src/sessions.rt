@@ -21,6 +21,8 @@ pub enum Halt {
     Unlaid(Dbkey),
     /// Who works statements doesn't work this one.
     Unworked,
+    /// What a session knows agrees with no sound database: this line is none of its kind.
+    Unsound(Dbkey),
     /// A session was to go on whose job is out. No driver asks for that that gives back what it was lent.
     Lost,
 }

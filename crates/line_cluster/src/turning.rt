@@ -13,7 +13,7 @@ ghost use Rattle.lock_tree.specs.Sleeping.{is_sleeping};
 ghost use Rattle.stage_steps.specs.Nearer.{is_patient_at};
 ghost use Rattle.stage_steps.specs.Scenes.{scene};
 ghost use Rattle.line_cluster.specs.Deaths.{faults_in};
-ghost use Rattle.line_cluster.specs.Sound.{IsSound, IsOneOf, MayFail};
+ghost use Rattle.line_cluster.specs.Sound.{IsSound, IsOneOf, MayFail, is_unsound};
 ghost use Rattle.line_cluster.specs.Going.{IsWriterAt, is_over as is_over_at, is_stopping as is_stopping_at};
 ghost use Rattle.line_cluster.specs.Turned.{Came, GoesOn, GrowsQuietly, Rests, Waits, sessions};
 ghost use Rattle.std.specs.Vec.{vec_len, vec_capacity};
@@ -35,9 +35,10 @@ use stage_steps::serve;
 use std::mem::forget;
 
 impl<O: Origin + Naming, S: Reserves + Reaches, L: LineStore> Core<O, S, L> {
-    // No session goes on, for something else than a device.
+    // No session goes on, for something else than a device or an unsound line.
     pub(crate) fn stop(&mut self, halt: Halt) -> Turn
         requires cause { faults_in (Some halt) ≡ 0 }
+        requires agrees { is_unsound (Some halt) ≡ false }
         requires sound { IsSound S.stands O.told O.opening O.faults (scene self.old.common.word (L.sight self.old.common.store) self.old.common.tree) self.old.members.items (map event_of self.old.events.items) self.old.halt }
         ensures sound { IsSound S.stands O.told O.opening O.faults (scene self.new.common.word (L.sight self.new.common.store) self.new.common.tree) self.new.members.items (map event_of self.new.events.items) self.new.halt }
         ensures members { self.new.members.items ≡ self.old.members.items }

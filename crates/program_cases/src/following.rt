@@ -2,6 +2,7 @@
 ghost use Rattle.std.specs.Prelude.{◌≤◌};
 ghost use Rattle.rdb_outside.specs.Told.{told_by};
 
+use crate::keeping::put_byte;
 use crate::runs::{Outcome, new_database, run_on, tell, wide_disk};
 use crate::texts::{scripts_in, words_in};
 use rdb_outside::{Disk, MemoryDisk, MemorySink, MemorySource};
@@ -42,7 +43,7 @@ fn behind_head<R: Print + AllocGlobal + Threads + Wait + Sync>(
     Ok(outcome.disk)
 }
 
-// Each run sees what those before it committed.
+// Each run sees what those before it committed, and the bytes that were put meanwhile.
 fn tell_each<R: Print + AllocGlobal + Threads + Wait + Sync>(
     rt: &R,
     line: &str,
@@ -50,9 +51,13 @@ fn tell_each<R: Print + AllocGlobal + Threads + Wait + Sync>(
 ) -> Result<MemoryDisk, NoMemory> {
     let mut disk = disk;
     for run in line.split('#') {
-        let outcome = run_over(rt, run, disk)?;
-        tell(rt, &outcome);
-        disk = outcome.disk;
+        if let Some(spot) = run.strip_prefix("byte ") {
+            put_byte(&mut disk, spot);
+        } else {
+            let outcome = run_over(rt, run, disk)?;
+            tell(rt, &outcome);
+            disk = outcome.disk;
+        }
     }
     Ok(disk)
 }

@@ -45,7 +45,6 @@ fn spot_of(words: &str) -> Option<Spot> {
     })
 }
 
-// Puts the byte.
 fn spoil(disk: &mut MemoryDisk, spot: Spot) {
     if spot.file.slot_bytes() == 1024 {
         let mut slot = [0; 1024];
@@ -59,6 +58,13 @@ fn spoil(disk: &mut MemoryDisk, spot: Spot) {
             slot[spot.at] = spot.byte;
             let _ = disk.write(spot.file, spot.slot, &slot);
         }
+    }
+}
+
+/// `area 1 1 493 18` puts byte 18 at place 493 of slot 1 of the first area.
+pub fn put_byte(disk: &mut MemoryDisk, words: &str) {
+    if let Some(spot) = spot_of(words) {
+        spoil(disk, spot);
     }
 }
 
@@ -94,9 +100,7 @@ pub fn run_made<R: Print + AllocGlobal + Threads + Wait + Sync>(
     match line.split_once('|') {
         None => run_over(rt, line, disk, sink),
         Some((words, command)) => {
-            if let Some(spot) = spot_of(words) {
-                spoil(&mut disk, spot);
-            }
+            put_byte(&mut disk, words);
             run_over(rt, command, disk, sink)
         }
     }

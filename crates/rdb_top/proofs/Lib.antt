@@ -6,3 +6,4 @@ mod Fewness
 mod Saying
 mod Deaths
 mod Failures
+mod Stopped

@@ -24,6 +24,11 @@ stop-is-no-failure Failed is = grind arith
 stop-is-no-failure OutOfMemory is = grind arith
 stop-is-no-failure TooLong is = grind arith
 
+pub stop-is-no-fault : (stop : ReadStop) → status_at stop ≡ 4 → ⊥
+stop-is-no-fault Failed is = grind arith
+stop-is-no-fault OutOfMemory is = grind arith
+stop-is-no-fault TooLong is = grind arith
+
 rose-none : (a : ℕ) → RoseBy 0 a a
 rose-none a = omega arith
 

@@ -1,6 +1,9 @@
 -- What a run says and writes, and how it ends.
 use Rattle.std.specs.Prelude.{◌≡◌, ◌⊎◌, ℕ, Bool, true, false, List, ◌∷◌, [], map, length, nat_eq, Option, None, Some}
 use Rattle.std.specs.List.{list_any, flat_map}
+use Rattle.rdb_types.specs.declared.file.FileId.{FileId}
+use Rattle.rdb_types.specs.declared.keys.Dbkey.{Dbkey}
+use Rattle.rdb_outside.specs.Disk.{View}
 use Rattle.rdo_parser.specs.Script.{ends_in_stop, script_items}
 use Rattle.rdb_drive.specs.Orders.{upward}
 use Rattle.rdb_account.specs.declared.event.Event.{Event}
@@ -10,11 +13,14 @@ use Rattle.rdb_account.specs.Legal.{IsLegal}
 use Rattle.rdb_account.specs.Places.{Opening}
 use Rattle.rdb_account.specs.Transcript.{transcript}
 use Rattle.session_states.specs.declared.item_queue.WholeScript.{WholeScript}
+use Rattle.line_store.specs.declared.answers.Fault.TheVariants as faulty
+use Rattle.line_cluster.specs.declared.sessions.Halt.{Halt}
+use Rattle.line_cluster.specs.declared.sessions.Halt.TheVariants as halts
 use Rattle.line_cluster.specs.Turned.{HaveAllEnded}
 use Rattle.line_drive.specs.Turns.{KeepsTurns}
 use Rattle.line_opening.specs.declared.fault.OpeningFault.{OpeningFault}
 use Rattle.line_opening.specs.declared.fault.OpeningFault.TheVariants as fault
-use Rattle.line_runs.specs.Openings.{said_to}
+use Rattle.line_runs.specs.Openings.{HasNoNumbers, said_to}
 use Rattle.command_words.specs.declared.words.Scripts.{Scripts}
 use Rattle.command_words.specs.declared.words.Command.{Command}
 use Rattle.command_words.specs.declared.words.Command.TheVariants.{New, Rdo, Verify, Dump, DumpPage, Backup, BackupJournal, Restore, Recover}
@@ -125,3 +131,26 @@ abbrev pub unopened_status : OpeningFault → ℕ
 unopened_status fault.Failed = 3
 unopened_status fault.NoMemory = 5
 unopened_status (fault.Bad file slot) = 4
+
+-- the status of sessions that were stopped
+abbrev pub stopped_status : Option Halt → ℕ
+stopped_status None = 5
+stopped_status (Some halts.NoMemory) = 5
+stopped_status (Some (halts.Device faulty.Failed)) = 3
+stopped_status (Some (halts.Device (faulty.Bad file slot))) = 4
+stopped_status (Some (halts.Unlaid key)) = 5
+stopped_status (Some halts.Unworked) = 5
+stopped_status (Some halts.Lost) = 5
+stopped_status (Some (halts.Unsound key)) = 4
+
+-- Sessions were stopped over a slot of a file that is none of its kind,
+abbrev pub IsOverSlot : Option Halt → Type 0
+IsOverSlot halt = (file : FileId) × (slot : ℕ) × (halt ≡ Some (halts.Device (faulty.Bad file slot)))
+
+-- or over a line with which what is known agrees with no sound database.
+abbrev pub IsOverLine : Option Halt → Type 0
+IsOverLine halt = (key : Dbkey) × (halt ≡ Some (halts.Unsound key))
+
+-- Why scripts end with status 4: at the opening a slot was none of its kind (so a kept image has used up its numbers), or the sessions were stopped so.
+abbrev pub IsNoDatabase : View → Option Halt → Type 0
+IsNoDatabase v halt = HasNoNumbers v ⊎ IsOverSlot halt ⊎ IsOverLine halt

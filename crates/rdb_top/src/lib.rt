@@ -2,10 +2,12 @@
 #![tactic(auto)]
 
 mod dying;
+mod finishing;
 mod making;
 mod recovering;
 mod scripts;
 mod stopping;
 mod top;
 
-pub use top::{Finish, run};
+pub use finishing::Finish;
+pub use top::run;

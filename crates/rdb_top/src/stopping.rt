@@ -2,7 +2,7 @@
 ghost use Rattle.std.specs.Prelude.{◌≡◌, ◌⊎◌, true, None, Some};
 ghost use Rattle.rdb_outside.specs.Causes.{Rose};
 ghost use Rattle.script_streams.specs.Fronts.{WritesFront};
-ghost use Rattle.rdb_top.specs.Runs.{transcripts};
+ghost use Rattle.rdb_top.specs.Runs.{stopped_status, transcripts};
 
 use crate::scripts::write_transcripts;
 use line_cluster::Halt;
@@ -13,22 +13,25 @@ use rdb_outside::{Disk, Sink};
 use std::alloc::Global;
 use watched_disk::{Beginning, WatchedDisk};
 
-// Why the sessions were stopped, where a call of the disk was seen to fail. (Where a device stopped them it was.)
+// Why the sessions were stopped. A device call that failed is told where the watch saw one. (Where one stopped them it did.)
 fn seen(halt: Option<Halt>, has_failed: bool) -> Option<Halt>
     ensures halt { (result ≡ halt) ⊎ (result ≡ None) }
-    ensures failed { (why : Halt) → result ≡ Some why → has_failed ≡ true }
+    ensures failed { result ≡ Some (Halt.Device Fault.Failed) → has_failed ≡ true }
 {
-    if has_failed { halt } else { None }
+    match halt {
+        Some(Halt::Device(Fault::Failed)) if !has_failed => None,
+        _ => halt,
+    }
 }
 
-/// What was run over a watched disk, over the disk. Why the sessions were stopped is told where a call of the disk failed.
+/// What was run over a watched disk, over the disk. That a call of it stopped the sessions is told where one failed.
 pub fn unwatched<B: Beginning, D: Disk + Drop>(ran: LineRun<WatchedDisk<B, D>>) -> LineRun<D>
     ensures disk { result.disk ≡ (ran.disk).disk }
     ensures events { result.events ≡ ran.events }
     ensures is_whole { result.is_whole ≡ ran.is_whole }
     ensures fault { result.fault ≡ ran.fault }
     ensures halt { (result.halt ≡ ran.halt) ⊎ (result.halt ≡ None) }
-    ensures stopped { (why : Halt) → result.halt ≡ Some why → Rose B.faults (D.view result.disk).faults }
+    ensures stopped { result.halt ≡ Some (Halt.Device Fault.Failed) → Rose B.faults (D.view result.disk).faults }
 {
     let LineRun {
         disk,
@@ -47,7 +50,18 @@ pub fn unwatched<B: Beginning, D: Disk + Drop>(ran: LineRun<WatchedDisk<B, D>>) 
     }
 }
 
-/// The status of a run whose sessions were stopped. Where a device failed in a recovery, what they were answered is written still.
+fn status_at_halt(halt: Option<Halt>) -> u8
+    ensures { result ≡ stopped_status halt }
+{
+    match halt {
+        Some(Halt::Device(Fault::Failed)) => 3,
+        Some(Halt::Device(Fault::Bad(_, _))) => 4,
+        Some(Halt::Unsound(_)) => 4,
+        _ => 5,
+    }
+}
+
+/// The status of a run whose sessions were stopped. Where a device failed in a recovery, or a slot or a line is none of its kind, what they were answered is written still.
 pub fn status_stopped<K: Sink>(
     alloc: Global,
     halt: Option<Halt>,
@@ -55,15 +69,12 @@ pub fn status_stopped<K: Sink>(
     sessions: u32,
     out: &mut K,
 ) -> u8
-    ensures status { (result ≡ 3) ⊎ (result ≡ 5) }
-    ensures failed { result ≡ 3 → halt ≡ Some (Halt.Device Fault.Failed) }
+    ensures status { result ≡ stopped_status halt }
     ensures front { K.tells out.old ≡ true → WritesFront (K.taken out.old) (K.taken out.new) (transcripts sessions events.now) }
 {
-    match halt {
-        Some(Halt::Device(Fault::Failed)) => {
-            let _written = write_transcripts(alloc, events, sessions, out);
-            3
-        }
-        _ => 5,
+    let status = status_at_halt(halt);
+    if status != 5 {
+        let _written = write_transcripts(alloc, events, sessions, out);
     }
+    status
 }

@@ -14,7 +14,7 @@ ghost use Rattle.rdb_drive.specs.Boards.{IsSession, MayDie};
 ghost use Rattle.rdb_account.specs.Events.{event_of};
 ghost use Rattle.rdb_account.specs.Legal.{IsLegal};
 ghost use Rattle.line_cluster.specs.Deaths.{RoseBy, device_deaths, failures};
-ghost use Rattle.line_cluster.specs.Sound.{FollowsScripts, MayFail};
+ghost use Rattle.line_cluster.specs.Sound.{FollowsScripts, MayFail, is_unsound};
 ghost use Rattle.line_cluster.specs.Turned.{HaveAllEnded};
 ghost use Rattle.line_drive.specs.Boards.{mortals_of};
 ghost use Rattle.line_drive.specs.Turns.{KeepsTurns};
@@ -29,21 +29,21 @@ ghost use Rattle.rmu_keeping.specs.Keeping.{is_keeping_status, IsKept, MayBeOpen
 ghost use Rattle.rmu_keeping.specs.Rolling.{is_recover_status, HasRolled, MayBeRecovered, LacksGroup, IsUsed, Rolls, RollsWithin, TellsGroups};
 ghost use Rattle.rmu_commands.specs.Usable.{HasRootInUse, IsUsable, IsDumped};
 ghost use Rattle.rmu_commands.specs.Written.{Verifies, Dumps, DumpsPage, IsCleanDatabase, is_verify_status, is_dump_status};
-ghost use Rattle.rdb_top.specs.Runs.{IsRun, IsWhole, IsWritten, has_death, OfSomeScripts, keeps_copies, rolls_forward, is_status, is_script_status, status_at, unopened_status, scripts_of, transcripts, sessions_of};
+ghost use Rattle.rdb_top.specs.Runs.{IsNoDatabase, IsRun, IsWhole, IsWritten, has_death, OfSomeScripts, keeps_copies, rolls_forward, is_status, is_script_status, status_at, scripts_of, stopped_status, transcripts, sessions_of};
 ghost use Rattle.rdb_top.specs.Deaths.{letting};
 
 use crate::dying::Dying;
+use crate::finishing::{Finish, finish_scripts, unsaid};
 use crate::making::run_new;
 use crate::recovering::run_recover;
-use crate::scripts::{read_scripts, some_died, write_transcripts};
-use crate::stopping::{status_stopped, unwatched};
+use crate::scripts::read_scripts;
+use crate::stopping::unwatched;
 use command_words::{Command, Scripts, command_of, order_of};
 use lent_values::{Naming, Opened};
 use line_cluster::{Halt, Origin};
 use line_opening::OpeningFault;
 use line_runs::{LineRun, Said, say_in_order, say_in_threads};
 use line_store::Fault;
-use rdb_account::{Event, Events};
 use rdb_drive::Gate;
 use rdb_outside::{Disk, Sink, Source};
 use rdb_types::{Copied, Items, NoMemory, Word};
@@ -58,16 +58,6 @@ use std::marker::{Brand, Send};
 use std::sync::Wait;
 use std::thread::Threads;
 use watched_disk::{Beginning, WatchedDisk};
-
-/// How a run ended, and what happened in it.
-#[derive(Drop)]
-pub struct Finish<D: Drop> {
-    pub status: u8,
-    pub disk: D,
-    pub events: Events,
-    /// The events of the runs of sessions before the last one.
-    pub earlier: Items<Events>,
-}
 
 /// The words of a command that says scripts.
 #[derive(Clone, Copy)]
@@ -90,31 +80,6 @@ fn status_of(stop: ReadStop) -> u8
         ReadStop::Failed => 2,
         ReadStop::OutOfMemory => 5,
         ReadStop::TooLong => 10,
-    }
-}
-
-fn status_unopened(fault: OpeningFault) -> u8
-    ensures { result ≡ unopened_status fault }
-{
-    match fault {
-        OpeningFault::Failed => 3,
-        OpeningFault::NoMemory => 5,
-        OpeningFault::Bad(_, _) => 4,
-    }
-}
-
-/// What is handed back of a command that says no script.
-fn unsaid<D: Drop>(alloc: Global, status: u8, disk: D) -> Finish<D>
-    ensures status { result.status ≡ status }
-    ensures disk { result.disk ≡ disk }
-    ensures events { result.events ≡ [] }
-    ensures earlier { result.earlier ≡ [] }
-{
-    Finish {
-        status,
-        disk,
-        events: Items::new(alloc),
-        earlier: Items::new(alloc),
     }
 }
 
@@ -144,7 +109,8 @@ fn run_of<
     ensures images { O.told → result.fault ≡ None → HoldsPrefix ⟦<ReservingStatements as Statements>⟧.stands O.opening (D.view result.disk) (map event_of result.events) }
     ensures left { O.told → result.is_whole ≡ true → HoldsAll ⟦<ReservingStatements as Statements>⟧.stands O.opening (D.view result.disk) (map event_of result.events) }
     ensures harmed { O.told → RoseBy (failures (map event_of result.events) result.halt) (D.view disk).faults (D.view result.disk).faults }
-    ensures stopped { (why : Halt) → result.halt ≡ Some why → Rose (D.view disk).faults (D.view result.disk).faults }
+    ensures stopped { result.halt ≡ Some (Halt.Device Fault.Failed) → Rose (D.view disk).faults (D.view result.disk).faults }
+    ensures agrees { O.told → is_unsound result.halt ≡ false }
     ensures unsaid { (result.fault ≡ None → ⊥) → result.events ≡ [] }
     ensures failed { result.fault ≡ Some OpeningFault.Failed → Rose (D.view disk).faults (D.view result.disk).faults }
     ensures bad { (file : File) (slot : ℕ) → result.fault ≡ Some (OpeningFault.Bad file slot) → HasNoNumbers (D.view disk) }
@@ -210,7 +176,8 @@ fn say_scripts<R: Threads + Wait + Sync, O: Origin, D: Disk + Drop + Send, G: Ga
     ensures images { O.told → result.fault ≡ None → HoldsPrefix ⟦<ReservingStatements as Statements>⟧.stands (said_to (letting asked.entry.given.death O.opening) (word_of asked.entry.words.now) scripts.items) (D.view result.disk) (map event_of result.events) }
     ensures left { O.told → result.is_whole ≡ true → HoldsAll ⟦<ReservingStatements as Statements>⟧.stands (said_to (letting asked.entry.given.death O.opening) (word_of asked.entry.words.now) scripts.items) (D.view result.disk) (map event_of result.events) }
     ensures harmed { O.told → RoseBy (failures (map event_of result.events) result.halt) (D.view disk).faults (D.view result.disk).faults }
-    ensures stopped { (why : Halt) → result.halt ≡ Some why → Rose (D.view disk).faults (D.view result.disk).faults }
+    ensures stopped { result.halt ≡ Some (Halt.Device Fault.Failed) → Rose (D.view disk).faults (D.view result.disk).faults }
+    ensures agrees { O.told → is_unsound result.halt ≡ false }
     ensures unsaid { (result.fault ≡ None → ⊥) → result.events ≡ [] }
     ensures failed { result.fault ≡ Some OpeningFault.Failed → Rose (D.view disk).faults (D.view result.disk).faults }
     ensures bad { (file : File) (slot : ℕ) → result.fault ≡ Some (OpeningFault.Bad file slot) → HasNoNumbers (D.view disk) }
@@ -231,69 +198,6 @@ fn say_scripts<R: Threads + Wait + Sync, O: Origin, D: Disk + Drop + Send, G: Ga
             order.as_slice(),
             &Dying::of(given.death, gate),
         ),
-    }
-}
-
-// The status of a run that is whole, by that of the writing: some session died, and nothing else is to be told.
-fn status_whole(written: u8, events: &[Event]) -> u8
-    requires written { (written ≡ 0) ⊎ (written ≡ 5) ⊎ (written ≡ 6) }
-    ensures status { (result ≡ 0) ⊎ (result ≡ 5) ⊎ (result ≡ 6) ⊎ (result ≡ 8) }
-    ensures wrote { IsWritten result → written ≡ 0 }
-    ensures sink { result ≡ 6 → written ≡ 6 }
-    ensures died { result ≡ 8 → has_death events.now ≡ true }
-    ensures lived { result ≡ 0 → has_death events.now ≡ false }
-{
-    if written == 0 && some_died(events) {
-        8
-    } else {
-        written
-    }
-}
-
-// Writes what the sessions were answered, where all came to their ends, or a device failed in a recovery.
-fn finish_scripts<D: Drop, K: Sink>(
-    alloc: Global,
-    ran: LineRun<D>,
-    sessions: u32,
-    out: &mut K,
-) -> Finish<D>
-    ensures status { is_script_status result.status ≡ true }
-    ensures read { (result.status ≡ 2) ⊎ (result.status ≡ 10) → ⊥ }
-    ensures disk { result.disk ≡ ran.disk }
-    ensures events { result.events ≡ ran.events }
-    ensures earlier { result.earlier ≡ [] }
-    ensures whole { IsWhole result.status → ran.is_whole ≡ true }
-    ensures died { result.status ≡ 8 → has_death ran.events ≡ true }
-    ensures lived { result.status ≡ 0 → has_death ran.events ≡ false }
-    ensures failed { result.status ≡ 3 → (ran.fault ≡ Some OpeningFault.Failed) ⊎ (ran.halt ≡ Some (Halt.Device Fault.Failed)) }
-    ensures bad { result.status ≡ 4 → (file : File) × (slot : ℕ) × (ran.fault ≡ Some (OpeningFault.Bad file slot)) }
-    ensures sink { result.status ≡ 6 → Rose (K.faults out.old) (K.faults out.new) }
-    ensures written { K.tells out.old ≡ true → IsWritten result.status → K.taken out.new ≡ K.taken out.old ++ transcripts sessions ran.events }
-    ensures front { K.tells out.old ≡ true → WritesFront (K.taken out.old) (K.taken out.new) (transcripts sessions ran.events) }
-{
-    let LineRun {
-        disk,
-        events,
-        is_whole,
-        fault,
-        halt,
-    } = ran;
-    let status = match fault {
-        Some(fault) => status_unopened(fault),
-        None => {
-            if is_whole {
-                let written = write_transcripts(alloc, events.as_slice(), sessions, out);
-                status_whole(written, events.as_slice())
-            } else {
-                status_stopped(alloc, halt, events.as_slice(), sessions, out)
-            }
-        }
-    };
-    Finish {
-        status,
-        disk,
-        events,
-        earlier: Items::new(alloc),
     }
 }
 
@@ -323,7 +227,9 @@ fn run_rdo<
     ensures status { is_script_status result.status ≡ true }
     ensures source { result.status ≡ 2 → Rose (S.faults scripts.old) (S.faults scripts.new) }
     ensures device { result.status ≡ 3 → Rose (D.view disk).faults (D.view result.disk).faults }
-    ensures unopened { result.status ≡ 4 → HasNoNumbers (D.view disk) }
+    ensures refused { result.status ≡ 4 → IsNoDatabase (D.view disk) result.halt }
+    ensures halted { (why : Halt) → result.halt ≡ Some why → result.status ≡ stopped_status (Some why) }
+    ensures agrees { O.told → is_unsound result.halt ≡ false }
     ensures sink { result.status ≡ 6 → Rose (K.faults out.old) (K.faults out.new) }
     ensures long { S.tells scripts.old ≡ true → result.status ≡ 10 → (s : ℕ) × IsSession asked.entry.given.count s × (1048576 < length (S.left scripts.old s)) }
     ensures too_long { S.tells scripts.old ≡ true → (s : ℕ) → IsSession asked.entry.given.count s → 1048576 < length (S.left scripts.old s) →
@@ -469,8 +375,13 @@ where
     // A database can't be read or opened.
     ensures unread_root { result.status ≡ 4 → (only_reads (command_for words.now) ≡ true) ⊎ (keeps_copies (command_for words.now) ≡ true)
         ⊎ (rolls_forward (command_for words.now) ≡ true) ⊎ ((given : GivenScripts) × (command_for words.now ≡ Some (Command.Rdo given))) }
-    // Scripts: a database that a crash of this engine may leave is opened, but where its numbers are used up.
-    ensures unopened { (given : GivenScripts) → command_for words.now ≡ Some (Command.Rdo given) → result.status ≡ 4 → HasNoNumbers (D.view disk) }
+    // Scripts: a database that a crash of this engine may leave is opened, but where its numbers are used up, and its sessions are
+    // stopped only over a slot that is none of its kind, or a line.
+    ensures refused { (given : GivenScripts) → command_for words.now ≡ Some (Command.Rdo given) → result.status ≡ 4 → IsNoDatabase (D.view disk) result.halt }
+    // Sessions that were stopped have the status of what stopped them.
+    ensures halted { (why : Halt) → result.halt ≡ Some why → result.status ≡ stopped_status (Some why) }
+    // Over a disk whose lines stand for tables none are stopped over a line.
+    ensures agrees { O.told → is_unsound result.halt ≡ false }
     // VERIFY: its root isn't one in use, or the header of a journal is none.
     ensures unverified { command_for words.now ≡ Some Command.Verify → result.status ≡ 4 →
         IsTrue (D.view disk).tells → IsUsable (D.view disk).content → ⊥ }

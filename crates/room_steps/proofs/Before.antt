@@ -17,7 +17,7 @@ use Rattle.stage_steps.specs.Turns.{Comes, shared}
 
 pub comes-behind : (M : Model) (orderly : IsOrderly M) (s : ℕ) (x y z : Phase) (word : List ℕ) (a : Sight) (locks : State) (new : Scene) (e : Happening) →
     ((h : Shelf) (dead : ℕ) → Comes M s (shared word h locks dead) x (shared word h locks dead) y []) → (IsSeated a.stand locks s x → IsSeated a.stand locks s y) →
-    ((left : List Item) (total : ℕ) → NearerIn s e (scene word a locks) new (session left total x) (session left total z)) →
+    ((left : List Item) (total : ℕ) → NearerIn M s e (scene word a locks) new (session left total x) (session left total z)) →
     ComesIn M s (scene word a locks) y new z e → ComesIn M s (scene word a locks) x new z e
 comes-behind M orderly s x y z word a locks new e one sits nearer two = record {
   lives = λ f. two.lives (sits f);

@@ -11,6 +11,7 @@ use Rattle.lock_tree_laws.specs.LockTable.{granted_at}
 use Rattle.lock_tree_laws.specs.Progress.{is_spare, MovesOn}
 use Rattle.lock_tree_laws.specs.declared.answer.Want.{Want}
 use Rattle.lock_tree_laws.specs.declared.answer.Want.TheVariants.{NoticeTo, Asleep}
+use Rattle.session_jobs.specs.Records.{Model}
 use Rattle.session_states.specs.declared.stage.Phase.{Phase}
 use Rattle.session_states.specs.declared.stage.Member.{Member}
 use Rattle.session_states.specs.States.{session}
@@ -25,7 +26,7 @@ use Rattle.stage_steps.specs.declared.happening.Happening.{Happening}
 use Rattle.stage_steps.specs.declared.happening.Happening.TheVariants as happens
 use Rattle.stage_steps.specs.Asking.{IsCalled}
 use Rattle.stage_steps.specs.Nearer.{IsUnqueued, Nearer, is_patient_at}
-use Rattle.stage_steps.specs.Scenes.{Scene, NearerIn, beside}
+use Rattle.stage_steps.specs.Scenes.{Scene, FindsNone, NearerIn, beside}
 use Rattle.stage_steps.proofs.Called.{answered-as}
 
 module _ (s : ℕ) (n : Need) (wait : Bool) (old new : State) (x : Called) (k : IsCalled s n wait old new x) (steps : ℕ → ℕ) (phase : Phase) (none : takes_next phase ≡ false) (kept : has_out phase ≡ false) (left : List Item) (total : ℕ) where
@@ -63,8 +64,8 @@ asleep-by-rank s c d x y e h patient left total = (
 -- ---- a step of the phase alone before another one, in one step
 
 -- from the phase before it to the one between the session has come nearer, has as many rounds, and waits as it did
-pub nearer-first : (s : ℕ) (h : Happening) (c d : Scene) (m n o : Member) → ((k l : ℕ) → AreRounds m.phase o.phase k l → AreRounds n.phase o.phase k l × Falls k k (beside c) (beside c) s m n) → (is_patient_at n.phase ≡ true → is_patient_at m.phase ≡ true) → NearerIn s h c d n o → NearerIn s h c d m o
-nearer-first s h c d m n o first patient = by h
+pub nearer-first : (M : Model) (s : ℕ) (h : Happening) (c d : Scene) (m n o : Member) → (FindsNone M s c n → FindsNone M s c m) → ((k l : ℕ) → AreRounds m.phase o.phase k l → AreRounds n.phase o.phase k l × Falls k k (beside c) (beside c) s m n) → (is_patient_at n.phase ≡ true → is_patient_at m.phase ≡ true) → NearerIn M s h c d n o → NearerIn M s h c d m o
+nearer-first M s h c d m n o finds first patient = by h
   where
     comes : ComesNearer (beside c) (beside d) s n o → ComesNearer (beside c) (beside d) s m o
     comes then = record { nears = λ k l r. let f = first k l r in inl (falls-behind k l s (beside c) (beside d) m n o f.1 (then.nears k l f.0)) }
@@ -72,7 +73,7 @@ nearer-first s h c d m n o first patient = by h
     stays : StaysNear (beside c) (beside d) s n o → StaysNear (beside c) (beside d) s m o
     stays then = record { keeps = λ k l r. let f = first k l r in inl (falls-behind k l s (beside c) (beside d) m n o f.1 (then.keeps k l f.0)) }
 
-    by : (h : Happening) → NearerIn s h c d n o → NearerIn s h c d m o
+    by : (h : Happening) → NearerIn M s h c d n o → NearerIn M s h c d m o
     by happens.Quiet then = comes then
     by (happens.Began kind) then = comes then
     by (happens.Answered a) then = comes then
@@ -88,12 +89,13 @@ nearer-first s h c d m n o first patient = by h
     by (happens.Failed fault) then = then
     by (happens.Unlaid key) then = tt
     by happens.Unworked then = tt
+    by (happens.Unsound key) then = finds then
     by (happens.Unanswered item) then = tt
 
 -- ---- in scenes
 
--- where no device call failed
-pub near-in : (s : ℕ) (h : Happening) (c d : Scene) (m n : Member) → Nearer s h (beside c) (beside d) m n → NearerIn s h c d m n
+-- where no device call failed, and nothing was unsound
+pub near-in : {M : Model} → (s : ℕ) (h : Happening) (c d : Scene) (m n : Member) → Nearer s h (beside c) (beside d) m n → NearerIn M s h c d m n
 near-in s happens.Quiet c d m n near = near
 near-in s (happens.Began kind) c d m n near = near
 near-in s (happens.Answered a) c d m n near = near
@@ -109,4 +111,5 @@ near-in s happens.Left c d m n near = near
 near-in s (happens.Failed fault) c d m n near = absurd near
 near-in s (happens.Unlaid key) c d m n near = near
 near-in s happens.Unworked c d m n near = near
+near-in s (happens.Unsound key) c d m n near = absurd near
 near-in s (happens.Unanswered item) c d m n near = near

@@ -10,7 +10,7 @@ use Rattle.lock_ties.specs.Ties.{wanted_at}
 use Rattle.stage_steps.specs.declared.happening.Answer.{Answer}
 use Rattle.stage_steps.specs.declared.happening.Asking.{Asking}
 use Rattle.stage_steps.specs.declared.happening.Happening.{Happening}
-use Rattle.stage_steps.specs.declared.happening.Happening.TheVariants.{Quiet, Began, Answered, Unstarted, Asleep, Noticed, Got, Refused, RefusedStart, Committed, RolledBack, Left, Failed, Unlaid, Unworked, Unanswered}
+use Rattle.stage_steps.specs.declared.happening.Happening.TheVariants.{Quiet, Began, Answered, Unstarted, Asleep, Noticed, Got, Refused, RefusedStart, Committed, RolledBack, Left, Failed, Unlaid, Unworked, Unsound, Unanswered}
 
 abbrev pub said_by : ℕ → Answer → Event
 said_by s a = event.Said s (uttered_of a.item) a.keys a.reply
@@ -34,6 +34,7 @@ events_of s Left = event.RolledBack s ∷ []
 events_of s (Failed fault) = []
 events_of s (Unlaid key) = []
 events_of s Unworked = []
+events_of s (Unsound key) = []
 events_of s (Unanswered item) = []
 
 -- the item that is handed back

@@ -19,7 +19,7 @@ use Rattle.session_measure.specs.Nearer.{ComesNearer, StaysNear}
 use Rattle.stage_steps.specs.declared.dying.Recovery.{Recovery}
 use Rattle.stage_steps.specs.declared.dying.Recovery.TheVariants.{More, Done}
 use Rattle.stage_steps.specs.declared.happening.Happening.{Happening}
-use Rattle.stage_steps.specs.declared.happening.Happening.TheVariants.{Asleep, Noticed, Failed, Unlaid, Unworked, Unanswered}
+use Rattle.stage_steps.specs.declared.happening.Happening.TheVariants.{Asleep, Noticed, Failed, Unlaid, Unworked, Unsound, Unanswered}
 
 -- a COMMIT wants the journal, or will once it is prepared
 abbrev pub is_for_journal : Stage → Bool
@@ -36,13 +36,14 @@ is_patient_at phase = false
 abbrev pub IsUnqueued : State → ℕ → Type 0
 IsUnqueued locks s = (w : OpenWant) → opened_of locks s ≡ Some w → sleeps_at (granted_at locks.table s) (Some w) w.here ≡ false
 
--- Session s comes nearer to its end, and no device call failed. One that waits is one that may wait, and comes nearer unless it was queued before. One that finds a notice due comes no farther away, and the lock in its way is stronger than it has to be. Where the session has to stop, nothing is said.
+-- Session s comes nearer to its end, no device call failed, and nothing that it knows is unsound. One that waits is one that may wait, and comes nearer unless it was queued before. One that finds a notice due comes no farther away, and the lock in its way is stronger than it has to be. Where the session has to stop, nothing is said.
 abbrev pub Nearer : ℕ → Happening → Beside → Beside → (m n : Member) → Type 0
 Nearer s (Asleep t x) c d m n = StaysNear c d s m n × (IsUnqueued c.locks s → ComesNearer c d s m n) × (is_patient_at m.phase ≡ true)
 Nearer s (Noticed t node mode x) c d m n = StaysNear c d s m n × (is_spare (granted_at d.locks.table t) (party_of d.locks.parties t) node ≡ true)
 Nearer s (Failed fault) c d m n = ⊥
 Nearer s (Unlaid key) c d m n = Unit {0}
 Nearer s Unworked c d m n = Unit {0}
+Nearer s (Unsound key) c d m n = ⊥
 Nearer s (Unanswered item) c d m n = Unit {0}
 Nearer s _ c d m n = ComesNearer c d s m n
 

@@ -1,6 +1,7 @@
 -- What a step of a stage is where the store shows what it holds.
 use Rattle.std.specs.Prelude.{ℕ, List, [], ◌∷◌, ◌++◌}
 use Rattle.rdo_ast.specs.declared.syntax.Item.{Item}
+use Rattle.rdb_account.specs.Places.{Opening, Place}
 use Rattle.lock_tree_laws.specs.Forest.{State, KeepsParties}
 use Rattle.line_store.specs.declared.answers.Fault.{Fault}
 use Rattle.line_store.specs.Seats.{Seat}
@@ -8,17 +9,19 @@ use Rattle.line_store.specs.Shelves.{Shelf}
 use Rattle.line_store.specs.Calls.{Fails}
 use Rattle.line_store.specs.Sights.{Sight, Behind, Does}
 use Rattle.session_jobs.specs.Records.{Model}
+use Rattle.line_steps.specs.Right.{Ground}
 use Rattle.session_states.specs.declared.stage.Phase.{Phase}
 use Rattle.session_states.specs.declared.stage.Life.{Life}
 use Rattle.session_states.specs.declared.stage.Life.TheVariants.{Alive}
 use Rattle.session_states.specs.declared.stage.Member.{Member}
 use Rattle.session_states.specs.Shared.{Shared}
 use Rattle.session_states.specs.States.{session}
+use Rattle.session_states.specs.Steps.{Finds}
 use Rattle.session_stands.specs.Seated.{IsSeated, LivesAt}
 use Rattle.session_measure.specs.Weights.{Beside}
 use Rattle.session_measure.specs.Nearer.{ComesNearer}
 use Rattle.stage_steps.specs.declared.happening.Happening.{Happening}
-use Rattle.stage_steps.specs.declared.happening.Happening.TheVariants.{Failed}
+use Rattle.stage_steps.specs.declared.happening.Happening.TheVariants.{Failed, Unsound}
 use Rattle.stage_steps.specs.Happenings.{events_of, handed_back}
 use Rattle.stage_steps.specs.Nearer.{Nearer}
 use Rattle.stage_steps.specs.Turns.{shared, Comes, TakesUp, Ends}
@@ -44,10 +47,15 @@ beside c = record { locks = c.locks; steps = c.sight.steps }
 abbrev pub HasFailed : ℕ → Fault → Sight → Sight → Type 0
 HasFailed s fault old new = (h : Shelf) → old.shows h → Behind old new (Fails s fault) h
 
--- Where a device call is said to have failed, one did; else session s comes nearer to its end.
-abbrev pub NearerIn : ℕ → Happening → Scene → Scene → (m n : Member) → Type 0
-NearerIn s (Failed fault) old new m n = HasFailed s fault old.sight new.sight
-NearerIn s e old new m n = Nearer s e (beside old) (beside new) m n
+-- over no shelf that is shown does session s find that it fits
+abbrev pub FindsNone : Model → ℕ → Scene → Member → Type 0
+FindsNone M s c m = (h : Shelf) → c.sight.shows h → (dead : ℕ) (o : Opening) (p : Place) (g : Ground) → Finds M o p g (on_shelf c h dead) s m → ⊥
+
+-- Where a device call is said to have failed, one did; where what session s knows is said to be unsound, it finds nowhere that it fits; else it comes nearer to its end.
+abbrev pub NearerIn : Model → ℕ → Happening → Scene → Scene → (m n : Member) → Type 0
+NearerIn M s (Failed fault) old new m n = HasFailed s fault old.sight new.sight
+NearerIn M s (Unsound key) old new m n = FindsNone M s old m
+NearerIn M s e old new m n = Nearer s e (beside old) (beside new) m n
 
 -- Session s goes from one phase and life to another: as memory knows it, it stands so behind the step where it stood so before; what others have and want stays; N tells that it comes nearer to its end; and from each shelf that was shown to one behind it R is so.
 pub record Goes (s : ℕ) (x : Phase) (from : Life) (y : Phase) (to : Life) (R : Shelf → Shelf → Type 0) (N : Type 0) (old new : Scene) : Type 0 where
@@ -59,16 +67,16 @@ pub record Goes (s : ℕ) (x : Phase) (from : Life) (y : Phase) (to : Life) (R :
 -- a step over each shelf that is shown, whoever is dead, in which this happens
 abbrev pub ComesIn : Model → ℕ → Scene → Phase → Scene → Phase → Happening → Type 0
 ComesIn M s old x new y e = Goes s x Alive y Alive (λ h g. (dead : ℕ) → Comes M s (on_shelf old h dead) x (on_shelf new g dead) y (events_of s e))
-    ((left : List Item) (total : ℕ) → NearerIn s e old new (session left total x) (session left total y)) old new
+    ((left : List Item) (total : ℕ) → NearerIn M s e old new (session left total x) (session left total y)) old new
 
 -- the next item is taken up, which may be handed back
 abbrev pub TakesUpIn : Model → ℕ → Item → Scene → Phase → Scene → Phase → Happening → Type 0
 TakesUpIn M s item old x new y e = Goes s x Alive y Alive (λ h g. (dead : ℕ) → TakesUp M s item (on_shelf old h dead) x (on_shelf new g dead) y (handed_back e) (events_of s e))
-    ((left : List Item) (total : ℕ) → NearerIn s e old new (session (item ∷ left) total x) (session (handed_back e ++ left) total y)) old new
+    ((left : List Item) (total : ℕ) → NearerIn M s e old new (session (item ∷ left) total x) (session (handed_back e ++ left) total y)) old new
 
 abbrev pub EndsIn : Model → ℕ → Scene → Phase → Scene → Phase → Happening → Type 0
 EndsIn M s old x new y e = Goes s x Alive y Alive (λ h g. (dead : ℕ) → Ends M s (on_shelf old h dead) x (on_shelf new g dead) y (events_of s e))
-    ((total : ℕ) → NearerIn s e old new (session [] total x) (session [] total y)) old new
+    ((total : ℕ) → NearerIn M s e old new (session [] total x) (session [] total y)) old new
 
 -- A step of nothing but the phase, by any session: neither store nor locks are called.
 pub record PassesOn (M : Model) (x y : Phase) : Type 0 where

@@ -56,6 +56,8 @@ pub enum Happening {
     Unlaid(Dbkey),
     /// Who works statements doesn't work this one. The stage stands as it did.
     Unworked,
+    /// The session knows what agrees with no sound database: this line is none of its kind. The stage stands with its job due.
+    Unsound(Dbkey),
     /// Who works statements doesn't work this item, which was said outside a transaction. It is handed back.
     Unanswered(Item),
 }

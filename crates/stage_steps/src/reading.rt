@@ -13,7 +13,7 @@ ghost use Rattle.session_measure.specs.Weights.{Beside, items_in};
 ghost use Rattle.session_measure.specs.Nearer.{has_out};
 ghost use Rattle.session_states.specs.declared.stage.ReaderStage.{ReaderStage as ReaderStageValue};
 ghost use Rattle.stage_steps.specs.Happenings.{events_of};
-ghost use Rattle.stage_steps.specs.Leaving.{OnUnworked};
+ghost use Rattle.stage_steps.specs.Leaving.{NamesBad, OnUnworked};
 ghost use Rattle.stage_steps.specs.Nearer.{Nearer};
 ghost use Rattle.stage_steps.specs.Scenes.{ComesIn, EndsIn, PassesOn, TakesUpIn, scene};
 ghost use Rattle.stage_steps.specs.Turns.{Comes, reads_at};
@@ -158,8 +158,8 @@ fn read_in_turn(terms: ReaderTerms, item: Item, next: Need, later: Needs) -> Pha
     terms.at(round.at(next))
 }
 
-/// Takes what a job came to: it is said, or all that it named is read, and want of memory is answered. Where it was left unworked its job is
-/// due again, as it is where a line is none of its kind, which there isn't.
+/// Takes what a job came to: it is said, or all that it named is read, and want of memory is answered. Where it was left unworked, or calls a
+/// line bad, its job is due again, and the session has to stop.
 pub fn take_found_reading<S: Statements, L: LineStore>(
     alloc: Global,
     store: &mut L,
@@ -173,11 +173,15 @@ pub fn take_found_reading<S: Statements, L: LineStore>(
     ensures comes { (word : List ℕ) (locks : State) → IsFound S.stands word terms.standing (uttered_of item) (knows terms.known) found →
         ComesIn S.stands s.number (scene word (L.sight store.old) locks) (reads_at terms (ReaderStage.Working item ReaderWork.Out)) (scene word (L.sight store.new) locks) result.phase result.happened }
     ensures unworked { OnUnworked result.happened (found ≡ Found.Unworked) }
+    ensures bad { NamesBad found result.happened }
 {
     match found {
         Found::Done(worked) => say_reading::<S>(terms, item, worked),
         Found::Missing { next, later } => quiet(read_in_turn(terms, item, next, later)),
-        Found::Bad(_) => quiet(terms.at(ReaderStage::Working(item, ReaderWork::Due))),
+        Found::Bad(key) => Turned {
+            phase: terms.at(ReaderStage::Working(item, ReaderWork::Due)),
+            happened: Happening::Unsound(key),
+        },
         Found::Unworked => Turned {
             phase: terms.at(ReaderStage::Working(item, ReaderWork::Due)),
             happened: Happening::Unworked,

@@ -1,6 +1,8 @@
-use Rattle.std.proofs.Common.{refl, ◌∙◌, subst, arith}
+use Rattle.std.proofs.Common.{ℕ, List, refl, ◌∙◌, subst, arith}
+use Rattle.rdo_ast.specs.declared.syntax.Item.{Item as ItemValue}
 use Rattle.rdo_ast.specs.Views.{uttered_of}
 use Rattle.line_view.specs.Held.{knows}
+use Rattle.line_store.specs.Shelves.{Shelf}
 use Rattle.session_jobs.specs.Jobs.{IsFound}
 use Rattle.session_jobs.specs.declared.jobs.Found.{Found}
 use Rattle.session_states.specs.declared.stage.Life.TheVariants.{Alive}
@@ -24,9 +26,10 @@ returns-in-Missing-clause-comes g c =
 
 pub returns-in-Bad-clause-comes : goal.returns-in-Bad-clause-comes
 returns-in-Bad-clause-comes g c =
-    comes-as g.S.Statements.stands c.args.s.number _ _ _ _ _ _ _ (c.quiet-in-Bad.ensures.phase ∙ c.at.ensures) c.quiet-in-Bad.ensures.happened
-    (goes-still c.args.s.number _ Alive _ Alive _ _ _ refl (λ f. rests-at _ _ c.args.s.number _ f.seat f.wants f.needs f.statement) (λ u other. refl) (nearer-in-round c.args.s.number _ _ _ _ refl refl refl refl (omega arith))
-    (λ h shown dead left total. rests-by g.S.Statements.stands g.met.S.Statements.orderly c.args.s.number (shared c.args.common.now.word h c.args.common.now.tree dead) left total _ _ refl (λ o p g1 f. absurd (never-bad g.S.Statements.stands g.met.S.Statements.orderly c.args.s.number (shared c.args.common.now.word h c.args.common.now.tree dead) left total c.args.terms.standing c.args.terms.known c.args.terms.spoken c.args.terms.waits c.args.item c.in-Bad.field-0 (subst (λ (f : Found). IsFound g.S.Statements.stands c.args.common.now.word c.args.terms.standing (uttered_of c.args.item) (knows c.args.terms.known) f) c.in-Bad.is c.requires.found) o p g1 f))))
+    let bad = λ (h : Shelf) (dead : ℕ) (left : List ItemValue) (total : ℕ). never-bad g.S.Statements.stands g.met.S.Statements.orderly c.args.s.number (shared c.args.common.now.word h c.args.common.now.tree dead) left total c.args.terms.standing c.args.terms.known c.args.terms.spoken c.args.terms.waits c.args.item c.in-Bad.key
+    (subst (λ (f : Found). IsFound g.S.Statements.stands c.args.common.now.word c.args.terms.standing (uttered_of c.args.item) (knows c.args.terms.known) f) c.in-Bad.is c.requires.found) in
+    rw c.at.ensures (goes-still c.args.s.number _ Alive _ Alive _ _ _ refl (λ f. rests-at _ _ c.args.s.number _ f.seat f.wants f.needs f.statement) (λ u other. refl) (λ left total h shown dead. bad h dead left total)
+    (λ h shown dead left total. rests-by g.S.Statements.stands g.met.S.Statements.orderly c.args.s.number (shared c.args.common.now.word h c.args.common.now.tree dead) left total _ _ refl (λ o p g1 f. absurd (bad h dead left total o p g1 f))))
 
 pub returns-in-NoMemory-clause-comes : goal.returns-in-NoMemory-clause-comes
 returns-in-NoMemory-clause-comes g c =

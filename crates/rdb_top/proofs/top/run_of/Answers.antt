@@ -1,5 +1,6 @@
 use Rattle.std.proofs.Common.{◌∙◌, sym, subst}
 use Rattle.line_runs.specs.Openings.{HasNoNumbers}
+use Rattle.rdb_top.proofs.Stopped.{agrees-told}
 use Rattle.rdb_top.proofs.top.run_of.Goals as goal
 
 pub returns-then-given-clause-bad : goal.returns-then-given-clause-bad
@@ -7,3 +8,9 @@ returns-then-given-clause-bad g c file slot is = subst (λ disk. HasNoNumbers (g
 
 pub returns-else-given-clause-bad : goal.returns-else-given-clause-bad
 returns-else-given-clause-bad g c file slot is = subst (λ disk. HasNoNumbers (g.D.Disk.view disk)) c.new-disk.ensures (c.say_in_threads.ensures.bad file slot (sym c.unwatched-else-given.ensures.fault ∙ is))
+
+pub returns-then-given-clause-agrees : goal.returns-then-given-clause-agrees
+returns-then-given-clause-agrees g c told = agrees-told c.say_in_order.result.halt c.unwatched.result.halt c.unwatched.ensures.halt (c.say_in_order.ensures.agrees told)
+
+pub returns-else-given-clause-agrees : goal.returns-else-given-clause-agrees
+returns-else-given-clause-agrees g c told = agrees-told c.say_in_threads.result.halt c.unwatched-else-given.result.halt c.unwatched-else-given.ensures.halt (c.say_in_threads.ensures.agrees told)

@@ -10,7 +10,8 @@ use Rattle.rdb_top.specs.Deaths.{letting}
 use Rattle.rdb_top.specs.Runs.{scripts_of, IsWhole}
 use Rattle.rdb_top.proofs.Saying.{prefix-of-scripts, all-of-scripts}
 use Rattle.rdb_top.proofs.Failures.{rose-deaths, rose-stopped, rose-unopened}
-use Rattle.rdb_top.proofs.Unsaid.{is-opened, nobody-died, nothing-said, stop-is-no-end, stop-is-no-failure}
+use Rattle.rdb_top.proofs.Stopped.{agrees-told}
+use Rattle.rdb_top.proofs.Unsaid.{is-opened, nobody-died, nothing-said, stop-is-no-end, stop-is-no-failure, stop-is-no-fault}
 use Rattle.rdb_top.proofs.Upward.{scripts-length}
 use Rattle.rdb_top.proofs.top.run_rdo.Goals as goal
 
@@ -58,7 +59,7 @@ returns-in-Err-clause-harmed g c told = rw c.unsaid.ensures.disk (rose-deaths (m
 pub returns-in-Ok-clause-device : goal.returns-in-Ok-clause-device
 returns-in-Ok-clause-device g c is = rw c.finish_scripts.ensures.disk (elim (c.finish_scripts.ensures.failed is) [
   | inl unopened ↦ c.say_scripts-ran.ensures.failed unopened
-  | inr halt ↦ c.say_scripts-ran.ensures.stopped _ halt
+  | inr halt ↦ c.say_scripts-ran.ensures.stopped halt
 ])
 
 pub returns-in-Ok-clause-stopped : goal.returns-in-Ok-clause-stopped
@@ -72,9 +73,23 @@ returns-in-Ok-clause-stopped g c told is =
 pub returns-in-Err-clause-stopped : goal.returns-in-Err-clause-stopped
 returns-in-Err-clause-stopped g c told is = absurd (stop-is-no-failure c.in-Err.stop (sym (c.unsaid.ensures.status ∙ c.status_of.ensures) ∙ is))
 
-pub returns-in-Ok-clause-unopened : goal.returns-in-Ok-clause-unopened
-returns-in-Ok-clause-unopened g c is =
-    let bad = c.finish_scripts.ensures.bad is in c.say_scripts-ran.ensures.bad bad.0 bad.1 bad.2
+pub returns-in-Ok-clause-refused : goal.returns-in-Ok-clause-refused
+returns-in-Ok-clause-refused g c is = elim (c.finish_scripts.ensures.bad is) [
+  | inl bad ↦ inl (c.say_scripts-ran.ensures.bad bad.0 bad.1 bad.2)
+  | inr over ↦ inr over
+]
+
+pub returns-in-Err-clause-refused : goal.returns-in-Err-clause-refused
+returns-in-Err-clause-refused g c is = absurd (stop-is-no-fault c.in-Err.stop (sym (c.unsaid.ensures.status ∙ c.status_of.ensures) ∙ is))
+
+pub returns-in-Ok-clause-agrees : goal.returns-in-Ok-clause-agrees
+returns-in-Ok-clause-agrees g c told = agrees-told c.say_scripts-ran.result.halt c.finish_scripts.result.halt c.finish_scripts.ensures.halt (c.say_scripts-ran.ensures.agrees told)
+
+pub returns-in-Err-clause-agrees : goal.returns-in-Err-clause-agrees
+returns-in-Err-clause-agrees g c told = rw c.unsaid.ensures.halt refl
+
+pub returns-in-Err-clause-halted : goal.returns-in-Err-clause-halted
+returns-in-Err-clause-halted g c why is = absurd (none-some why (sym c.unsaid.ensures.halt ∙ is))
 
 pub returns-in-Ok-clause-images : goal.returns-in-Ok-clause-images
 returns-in-Ok-clause-images g c told tells some =

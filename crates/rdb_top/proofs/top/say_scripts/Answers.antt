@@ -43,7 +43,13 @@ pub returns-in-Err-clause-harmed : goal.returns-in-Err-clause-harmed
 returns-in-Err-clause-harmed g c told = rw c.unopened.ensures.disk (nobody-died c.unopened.result.events c.unopened.result.halt _ c.unopened.ensures.events c.unopened.ensures.halt)
 
 pub returns-in-Err-clause-stopped : goal.returns-in-Err-clause-stopped
-returns-in-Err-clause-stopped g c why is = absurd (none-some why (sym c.unopened.ensures.halt ∙ is))
+returns-in-Err-clause-stopped g c is = absurd (none-some _ (sym c.unopened.ensures.halt ∙ is))
+
+pub returns-in-Ok-clause-agrees : goal.returns-in-Ok-clause-agrees
+returns-in-Ok-clause-agrees g c told = c.run_of.ensures.agrees told
+
+pub returns-in-Err-clause-agrees : goal.returns-in-Err-clause-agrees
+returns-in-Err-clause-agrees g c told = rw c.unopened.ensures.halt refl
 
 pub returns-in-Ok-clause-legal : goal.returns-in-Ok-clause-legal
 returns-in-Ok-clause-legal g c told =

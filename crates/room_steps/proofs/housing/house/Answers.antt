@@ -1,4 +1,6 @@
-use Rattle.std.proofs.Common.{refl, subst, arith, length, ◌-◌}
+use Rattle.std.proofs.Common.{ℕ, List, refl, subst, arith, length, ◌-◌}
+use Rattle.rdo_ast.specs.declared.syntax.Item.{Item}
+use Rattle.line_store.specs.Shelves.{Shelf}
 use Rattle.line_view.specs.declared.need.Need.TheVariants.{Room as RoomOf}
 use Rattle.session_states.specs.declared.stage.Life.TheVariants.{Alive}
 use Rattle.session_states.specs.declared.stage.Gather.TheVariants.{Locking, Housing}
@@ -9,6 +11,7 @@ use Rattle.session_states.proofs.Gathering.{drops-on, houses-in-turn}
 use Rattle.session_states.specs.States.{session}
 use Rattle.session_measure.proofs.Falling.{by-place, by-round, housed}
 use Rattle.stage_steps.proofs.Nearer.{nearer-first}
+use Rattle.stage_steps.proofs.Jobs.{none-first}
 use Rattle.stage_steps.specs.Scenes.{ComesIn, beside, scene}
 use Rattle.stage_steps.specs.Turns.{at_stage, shared}
 use Rattle.stage_steps.proofs.Goes.{goes-still, comes-as}
@@ -30,11 +33,12 @@ returns-in-Full g c =
     let b = scene c.args.common.now.word (g.L.LineStore.sight c.args.common.now.store) c.args.common.now.tree in
     let x = at_stage c.args.terms (Gathering c.args.round.item (Locking (RoomOf c.args.room)) c.args.round.later c.args.round.place) in
     let y = at_stage c.args.terms (Working c.args.round.item (Lacking (RoomOf c.args.room))) in
+    let first = λ (h : Shelf) (dead : ℕ) (left : List Item) (total : ℕ). drops-on g.S.Statements.stands g.met.S.Statements.orderly c.args.s.number (shared c.args.common.now.word h c.args.common.now.tree dead) left total c.args.terms.standing c.args.terms.known c.args.terms.spoken c.args.terms.waits c.args.round.item (RoomOf c.args.room) c.args.round.later c.args.round.place in
     comes-behind g.S.Statements.stands g.met.S.Statements.orderly c.args.s.number x y _ c.args.common.now.word (g.L.LineStore.sight c.args.common.now.store) c.args.common.now.tree _ _
-    (λ h dead left total. drops-on g.S.Statements.stands g.met.S.Statements.orderly c.args.s.number (shared c.args.common.now.word h c.args.common.now.tree dead) left total c.args.terms.standing c.args.terms.known c.args.terms.spoken c.args.terms.waits c.args.round.item (RoomOf c.args.room) c.args.round.later c.args.round.place)
+    first
     (λ f. rests-at _ _ c.args.s.number _ f.seat f.wants f.needs f.statement)
-    (λ left total. nearer-first c.args.s.number c.refuse_full.result.happened b _ (session left total x) (session left total y) (session left total c.refuse_full.result.phase)
-    (λ k l r. (r, by-round k k c.args.s.number (beside b) (beside b) (session left total x) (session left total y) refl refl refl refl (omega arith))) (λ waits. waits) (c.refuse_full.ensures.nearer left total))
+    (λ left total. nearer-first g.S.Statements.stands c.args.s.number c.refuse_full.result.happened b _ (session left total x) (session left total y) (session left total c.refuse_full.result.phase)
+    (none-first g.S.Statements.stands g.met.S.Statements.orderly c.args.s.number b (session left total x) (session left total y) (λ h dead. first h dead left total)) (λ k l r. (r, by-round k k c.args.s.number (beside b) (beside b) (session left total x) (session left total y) refl refl refl refl (omega arith))) (λ waits. waits) (c.refuse_full.ensures.nearer left total))
     c.refuse_full.ensures
 
 pub returns-in-Unfit : goal.returns-in-Unfit

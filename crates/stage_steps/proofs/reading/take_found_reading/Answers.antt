@@ -10,6 +10,7 @@ use Rattle.session_states.proofs.Reading.{goes-to-read}
 use Rattle.session_measure.proofs.Nearer.{nearer-in-round}
 use Rattle.stage_steps.specs.Turns.{shared}
 use Rattle.stage_steps.proofs.Goes.{goes-still, comes-as}
+use Rattle.stage_steps.proofs.Jobs.{never-bad-reading}
 use Rattle.stage_steps.proofs.Nearer.{near-in}
 use Rattle.stage_steps.proofs.Seated.{reads-on}
 use Rattle.stage_steps.proofs.reading.take_found_reading.Goals as goal
@@ -27,8 +28,9 @@ returns-in-Missing-clause-comes g c word locks found =
 
 pub returns-in-Bad-clause-comes : goal.returns-in-Bad-clause-comes
 returns-in-Bad-clause-comes g c word locks found =
-    comes-as g.S.Statements.stands c.args.s.number _ _ _ _ _ _ _ (c.quiet-in-Bad.ensures.phase ∙ c.at.ensures) c.quiet-in-Bad.ensures.happened
-    (goes-still c.args.s.number _ Alive _ Alive _ _ _ refl (λ f. reads-on _ _ locks c.args.s.number _ _ refl f) (λ u other. refl) (nearer-in-round c.args.s.number _ _ _ _ refl refl refl refl (omega arith))
+    rw c.at.ensures (goes-still c.args.s.number _ Alive _ Alive _ _ _ refl (λ f. reads-on _ _ locks c.args.s.number _ _ refl f) (λ u other. refl)
+    (λ left total h shown dead. never-bad-reading g.S.Statements.stands c.args.s.number (shared word h locks dead) left total c.args.terms.standing c.args.terms.known c.args.terms.spoken c.args.item c.in-Bad.key
+    (subst (λ (f : Found). IsFound g.S.Statements.stands word c.args.terms.standing (uttered_of c.args.item) (knows c.args.terms.known) f) c.in-Bad.is found))
     (λ h shown dead left total. goes-to-read g.S.Statements.stands g.met.S.Statements.orderly c.args.s.number (shared word h locks dead) left total c.args.terms.standing c.args.terms.known c.args.terms.spoken (Working c.args.item Out) (Working c.args.item Due) refl (λ stays. stays)))
 
 pub returns-in-Unworked-clause-comes : goal.returns-in-Unworked-clause-comes

@@ -27,6 +27,9 @@ returns-clause-faults g c =
     subst (λ (v : Sessions). g.O.Origin.told → CountsFaults g.O.Origin.faults (failures (map event_of v.events) c.self.inside.core.halt) (g.L.LineStore.sight c.self.inside.core.common.store)) c.self.view_is
     c.self.invariant.sound.causes
 
+pub returns-clause-agrees : goal.returns-clause-agrees
+returns-clause-agrees g c = c.self.invariant.sound.agrees
+
 pub returns-clause-outside : goal.returns-clause-outside
 returns-clause-outside g c =
     subst (λ (v : Sessions). v.halted ≡ false → HaveEnded (g.O.Origin.opening).stops v.members → (s : ℕ) → bare ((g.L.LineStore.sight c.self.inside.core.common.store).stand s) ≡ outside) c.self.view_is

@@ -3,6 +3,7 @@ use Rattle.std.proofs.lemmas.Option.{same_Some}
 use Rattle.session_states.specs.declared.stage.Life.TheVariants.{Dead}
 use Rattle.session_states.specs.declared.stage.Member.{Member}
 use Rattle.line_cluster.specs.Deaths.{faults_in}
+use Rattle.line_cluster.specs.Sound.{is_unsound}
 use Rattle.line_cluster.specs.Turned.{with_life}
 use Rattle.line_cluster.proofs.Falling.{has-died, alive-stands}
 use Rattle.line_cluster.proofs.sessions.Core.fall.Goals as goal
@@ -11,7 +12,7 @@ pub die-requires-clause-alive : goal.die-requires-clause-alive
 die-requires-clause-alive g c = alive-stands (g.L.LineStore.sight c.args.self.now.common.store).stand c.args.self.now.common.tree c.args.self.now.members.items c.args.s.number c.args.at c.take_member-member.result c.requires.one.first c.requires.at c.take_member-member.ensures.taken (c.requires.lives c.take_member-member.result c.take_member-member.ensures.taken) (c.requires.sound.seated c.requires.going)
 
 pub returns-clause-sound : goal.returns-clause-sound
-returns-clause-sound g c = has-died g.S.Statements.stands g.met.S.Statements.orderly g.O.Origin.told g.O.Origin.opening g.O.Origin.faults _ _ (g.L.LineStore.stands c.die.new.store) _ _ _ _ c.args.s.number c.args.at c.take_member-member.result c.args.cause _ _ c.requires.one.first c.requires.at c.requires.going c.take_member-member.ensures.taken (c.requires.lives c.take_member-member.result c.take_member-member.ensures.taken) c.requires.sound (c.requires.mortal c.take_member-member.result c.take_member-member.ensures.taken) (ap faults_in c.requires.going) c.requires.caused
+returns-clause-sound g c = has-died g.S.Statements.stands g.met.S.Statements.orderly g.O.Origin.told g.O.Origin.opening g.O.Origin.faults _ _ (g.L.LineStore.stands c.die.new.store) _ _ _ _ c.args.s.number c.args.at c.take_member-member.result c.args.cause _ _ c.requires.one.first c.requires.at c.requires.going c.take_member-member.ensures.taken (c.requires.lives c.take_member-member.result c.take_member-member.ensures.taken) c.requires.sound (c.requires.mortal c.take_member-member.result c.take_member-member.ensures.taken) (ap faults_in c.requires.going) (ap is_unsound c.requires.going) c.requires.caused
     (c.die.ensures c.args.self.now.common.word c.args.self.now.common.tree c.take_member-member.result.phase) (c.put_member.ensures ∙ (c.take_member-member.ensures.rest _ ∙ ap (λ (n : Member). slice_set c.args.self.now.members.items c.args.at n) c.with_life.ensures)) c.record_death.ensures
 
 pub returns-clause-died : goal.returns-clause-died

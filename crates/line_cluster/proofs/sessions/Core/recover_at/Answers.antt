@@ -7,6 +7,7 @@ use Rattle.session_states.specs.declared.stage.Member.{Member}
 use Rattle.stage_steps.specs.declared.dying.Recovery.{Recovery}
 use Rattle.stage_steps.specs.Deaths.{life_behind, recovery_events}
 use Rattle.stage_steps.specs.Scenes.{scene}
+use Rattle.line_cluster.specs.Sound.{is_unsound}
 use Rattle.line_cluster.specs.Turned.{with_life}
 use Rattle.line_cluster.proofs.Coming.{has-recovered-on, put-back}
 use Rattle.line_cluster.proofs.Falling.{has-recovered, dead-stands, died-at}
@@ -19,13 +20,13 @@ recover-step-requires-clause-died g c = dead-stands (g.L.LineStore.sight c.args.
 
 pub returns-in-Ok-clause-sound : goal.returns-in-Ok-clause-sound
 returns-in-Ok-clause-sound g c =
-    has-recovered g.S.Statements.stands g.met.S.Statements.orderly g.O.Origin.told g.O.Origin.opening g.O.Origin.faults _ _ (g.L.LineStore.stands c.recover-step.new.common.store) _ _ _ _ c.args.at c.take_member-member.result c.recover-step.result _ _ c.requires.going c.take_member-member.ensures.taken (died-at c.args.self.now.members.items c.args.at c.take_member-member.result c.requires.dead c.take_member-member.ensures.taken) c.requires.sound (quiet-within c.recover-step.result c.args.self.now.halt c.requires.going) (c.recover-step.ensures c.take_member-member.result.phase)
+    has-recovered g.S.Statements.stands g.met.S.Statements.orderly g.O.Origin.told g.O.Origin.opening g.O.Origin.faults _ _ (g.L.LineStore.stands c.recover-step.new.common.store) _ _ _ _ c.args.at c.take_member-member.result c.recover-step.result _ _ c.requires.going c.take_member-member.ensures.taken (died-at c.args.self.now.members.items c.args.at c.take_member-member.result c.requires.dead c.take_member-member.ensures.taken) c.requires.sound (quiet-within c.recover-step.result c.args.self.now.halt c.requires.going) (ap is_unsound c.requires.going) (c.recover-step.ensures c.take_member-member.result.phase)
     (c.put_member.ensures ∙ ((c.take_member-member.ensures.rest _ ∙ ap (λ (n : Member). slice_set c.args.self.now.members.items c.args.at n) c.with_life.ensures) ∙ ap (λ (l : Life). slice_set c.args.self.now.members.items c.args.at (record { left = c.take_member-member.result.left; total = c.take_member-member.result.total; phase = c.take_member-member.result.phase; life = l })) c.life_behind.ensures))
     (c.record_recovery.ensures ∙ ap (λ (r : Result Recovery Fault). map event_of c.args.self.now.events.items ++ recovery_events (c.args.at + 1) r) (sym c.in-Ok.is))
 
 pub returns-in-Err-clause-sound : goal.returns-in-Err-clause-sound
 returns-in-Err-clause-sound g c =
-    has-recovered g.S.Statements.stands g.met.S.Statements.orderly g.O.Origin.told g.O.Origin.opening g.O.Origin.faults _ _ (g.L.LineStore.stands c.recover-step.new.common.store) _ _ _ _ c.args.at c.take_member-member.result c.recover-step.result _ _ c.requires.going c.take_member-member.ensures.taken (died-at c.args.self.now.members.items c.args.at c.take_member-member.result c.requires.dead c.take_member-member.ensures.taken) c.requires.sound (fault-within c.recover-step.result c.in-Err.fault c.in-Err.is) (c.recover-step.ensures c.take_member-member.result.phase)
+    has-recovered g.S.Statements.stands g.met.S.Statements.orderly g.O.Origin.told g.O.Origin.opening g.O.Origin.faults _ _ (g.L.LineStore.stands c.recover-step.new.common.store) _ _ _ _ c.args.at c.take_member-member.result c.recover-step.result _ _ c.requires.going c.take_member-member.ensures.taken (died-at c.args.self.now.members.items c.args.at c.take_member-member.result c.requires.dead c.take_member-member.ensures.taken) c.requires.sound (fault-within c.recover-step.result c.in-Err.fault c.in-Err.is) refl (c.recover-step.ensures c.take_member-member.result.phase)
     (c.put_member.ensures ∙ ((c.take_member-member.ensures.rest _ ∙ ap (λ (n : Member). slice_set c.args.self.now.members.items c.args.at n) c.with_life.ensures) ∙ ap (λ (l : Life). slice_set c.args.self.now.members.items c.args.at (record { left = c.take_member-member.result.left; total = c.take_member-member.result.total; phase = c.take_member-member.result.phase; life = l })) c.life_behind.ensures))
     (sym (append-nil _) ∙ ap (λ (r : Result Recovery Fault). map event_of c.args.self.now.events.items ++ recovery_events (c.args.at + 1) r) (sym c.in-Err.is))
 

@@ -19,7 +19,7 @@ use Rattle.line_cluster.proofs.Coming.{went, went-served, came-by, came-from, fe
 use Rattle.line_cluster.proofs.Faults.{counts-failed, counts-fewer, failed-death}
 use Rattle.line_cluster.proofs.Measured.{set-found}
 use Rattle.line_cluster.proofs.Nearing.{lives-on, turned-nearer, served-nearer, is-due}
-use Rattle.line_cluster.specs.Sound.{IsSound}
+use Rattle.line_cluster.specs.Sound.{IsSound, is_unsound}
 use Rattle.line_cluster.specs.declared.sessions.Turn.{Turn}
 use Rattle.line_cluster.specs.declared.sessions.Turn.TheVariants as turn
 use Rattle.line_cluster.proofs.Stepping.{among, seated-at, has-work, moving-keeps, noticed-keeps, put-lives, turned}
@@ -37,17 +37,17 @@ go_on_from-turned-requires-clause-going g c = c.requires.work (member_of c.in-So
 pub returns-in-Nothing-clause-sound : goal.returns-in-Nothing-clause-sound
 returns-in-Nothing-clause-sound g c =
     turned g.S.Statements.stands g.met.S.Statements.orderly g.O.Origin.told g.O.Origin.opening g.O.Origin.faults _ _ (g.L.LineStore.stands c.go_on_from-turned.new.common.store) _ _ _ _ c.args.s.number c.args.at (member_of c.in-Some.present) _ _ _ _ _ c.requires.one.first c.requires.at c.requires.going c.requires.lives c.in-Some.ensures.taken
-    (c.requires.alive (member_of c.in-Some.present) c.in-Some.ensures.taken) c.requires.sound c.go_on_from-turned.ensures.goes c.go_on_from-turned.ensures.some (λ none. moving-keeps _ (c.behind_of-then.ensures.nothing c.in-Nothing.is)) (ap faults_in c.requires.going) (c.put_member.ensures ∙ c.take_present.ensures.rest _) c.record.ensures
+    (c.requires.alive (member_of c.in-Some.present) c.in-Some.ensures.taken) c.requires.sound c.go_on_from-turned.ensures.goes c.go_on_from-turned.ensures.some (λ none. moving-keeps _ (c.behind_of-then.ensures.nothing c.in-Nothing.is)) (ap faults_in c.requires.going) (ap is_unsound c.requires.going ∙ (ap (λ (b : Behind). is_unsound (halt_behind b)) (sym c.in-Nothing.is) ∙ c.behind_of-then.ensures.unsound)) (c.put_member.ensures ∙ c.take_present.ensures.rest _) c.record.ensures
 
 pub returns-in-Stop-clause-sound : goal.returns-in-Stop-clause-sound
 returns-in-Stop-clause-sound g c =
     turned g.S.Statements.stands g.met.S.Statements.orderly g.O.Origin.told g.O.Origin.opening g.O.Origin.faults _ _ (g.L.LineStore.stands c.go_on_from-turned.new.common.store) _ _ _ _ c.args.s.number c.args.at (member_of c.in-Some.present) _ _ _ _ _ c.requires.one.first c.requires.at c.requires.going c.requires.lives c.in-Some.ensures.taken
-    (c.requires.alive (member_of c.in-Some.present) c.in-Some.ensures.taken) c.requires.sound c.go_on_from-turned.ensures.goes c.go_on_from-turned.ensures.some (λ none. cc none) (ap (λ (b : Behind). faults_in (halt_behind b)) (sym c.in-Stop.is) ∙ c.behind_of-then.ensures.stop) (c.put_member.ensures ∙ c.take_present.ensures.rest _) c.record.ensures
+    (c.requires.alive (member_of c.in-Some.present) c.in-Some.ensures.taken) c.requires.sound c.go_on_from-turned.ensures.goes c.go_on_from-turned.ensures.some (λ none. cc none) (ap (λ (b : Behind). faults_in (halt_behind b)) (sym c.in-Stop.is) ∙ c.behind_of-then.ensures.stop) (ap (λ (b : Behind). is_unsound (halt_behind b)) (sym c.in-Stop.is) ∙ c.behind_of-then.ensures.unsound) (c.put_member.ensures ∙ c.take_present.ensures.rest _) c.record.ensures
 
 pub serve_notice-requires-clause-sound : goal.serve_notice-requires-clause-sound
 serve_notice-requires-clause-sound g c =
     turned g.S.Statements.stands g.met.S.Statements.orderly g.O.Origin.told g.O.Origin.opening g.O.Origin.faults _ _ (g.L.LineStore.stands c.go_on_from-turned.new.common.store) _ _ _ _ c.args.s.number c.args.at (member_of c.in-Some.present) _ _ _ _ _ c.requires.one.first c.requires.at c.requires.going c.requires.lives c.in-Some.ensures.taken
-    (c.requires.alive (member_of c.in-Some.present) c.in-Some.ensures.taken) c.requires.sound c.go_on_from-turned.ensures.goes c.go_on_from-turned.ensures.some (λ none. noticed-keeps _ _ (c.behind_of-then.ensures.serve c.in-Serve.notice c.in-Serve.is)) (ap faults_in c.requires.going) (c.put_member.ensures ∙ c.take_present.ensures.rest _) c.record.ensures
+    (c.requires.alive (member_of c.in-Some.present) c.in-Some.ensures.taken) c.requires.sound c.go_on_from-turned.ensures.goes c.go_on_from-turned.ensures.some (λ none. noticed-keeps _ _ (c.behind_of-then.ensures.serve c.in-Serve.notice c.in-Serve.is)) (ap faults_in c.requires.going) (ap is_unsound c.requires.going ∙ (ap (λ (b : Behind). is_unsound (halt_behind b)) (sym c.in-Serve.is) ∙ c.behind_of-then.ensures.unsound)) (c.put_member.ensures ∙ c.take_present.ensures.rest _) c.record.ensures
 
 pub serve_notice-requires-clause-lives : goal.serve_notice-requires-clause-lives
 serve_notice-requires-clause-lives g c = lives-on _ _ c.args.at (member_of c.in-Some.present) _ _ c.in-Some.ensures.taken (c.put_member.ensures ∙ c.take_present.ensures.rest _) c.requires.lives
@@ -117,7 +117,7 @@ pub fall-requires-clause-sound : goal.fall-requires-clause-sound
 fall-requires-clause-sound g c =
     let failed = c.behind_of-then.ensures.die c.in-Die.is in
     turned g.S.Statements.stands g.met.S.Statements.orderly g.O.Origin.told g.O.Origin.opening g.O.Origin.faults _ _ (g.L.LineStore.stands c.go_on_from-turned.new.common.store) _ _ _ _ c.args.s.number c.args.at (member_of c.in-Some.present) _ _ _ _ _ c.requires.one.first c.requires.at c.requires.going c.requires.lives c.in-Some.ensures.taken
-    (c.requires.alive (member_of c.in-Some.present) c.in-Some.ensures.taken) c.requires.sound c.go_on_from-turned.ensures.goes c.go_on_from-turned.ensures.some (λ none. ap handed_back failed) (ap faults_in c.requires.going) (c.put_member.ensures ∙ c.take_present.ensures.rest _)
+    (c.requires.alive (member_of c.in-Some.present) c.in-Some.ensures.taken) c.requires.sound c.go_on_from-turned.ensures.goes c.go_on_from-turned.ensures.some (λ none. ap handed_back failed) (ap faults_in c.requires.going) (ap is_unsound c.requires.going ∙ (ap (λ (b : Behind). is_unsound (halt_behind b)) (sym c.in-Die.is) ∙ c.behind_of-then.ensures.unsound)) (c.put_member.ensures ∙ c.take_present.ensures.rest _)
     (sym (append-nil (map event_of c.args.self.now.events.items)) ∙ ap (λ (h : Happening). map event_of c.args.self.now.events.items ++ events_of c.args.s.number h) (sym failed))
 
 pub fall-requires-clause-caused : goal.fall-requires-clause-caused
@@ -131,7 +131,7 @@ fall-requires-clause-caused g c = λ told.
     let events = map event_of c.args.self.now.events.items in
     counts-fewer g.O.Origin.faults (device_deaths events + faults_of Device) (failures events c.args.self.now.halt + 1) (sight c.go_on_from-turned.new.common.store) (failed-death events c.args.self.now.halt)
     (counts-failed g.O.Origin.faults c.args.s.number (sight c.args.self.now.common.store) (sight c.go_on_from-turned.new.common.store) (failures events c.args.self.now.halt)
-    (subst (λ (h : Happening). NearerIn c.args.s.number h was is m n) failed ((c.go_on_from-turned.ensures.goes (ap handed_back failed)).nearer c.in-Some.present.total)) (c.requires.sound.causes told))
+    (subst (λ (h : Happening). NearerIn g.S.Statements.stands c.args.s.number h was is m n) failed ((c.go_on_from-turned.ensures.goes (ap handed_back failed)).nearer c.in-Some.present.total)) (c.requires.sound.causes told))
 
 pub fall-requires-clause-lives : goal.fall-requires-clause-lives
 fall-requires-clause-lives g c =
