@@ -23,7 +23,7 @@ use Rattle.line_opening.specs.declared.fault.OpeningFault.TheVariants as fault
 use Rattle.line_runs.specs.Openings.{HasNoNumbers, said_to}
 use Rattle.command_words.specs.declared.words.Scripts.{Scripts}
 use Rattle.command_words.specs.declared.words.Command.{Command}
-use Rattle.command_words.specs.declared.words.Command.TheVariants.{New, Rdo, Verify, Dump, DumpPage, Backup, BackupJournal, Restore, Recover}
+use Rattle.command_words.specs.declared.words.Command.TheVariants.{New, Rdo, Workload, Verify, Dump, DumpPage, Backup, BackupJournal, Restore, Recover}
 use Rattle.rdb_top.specs.Deaths.{letting}
 use Rattle.script_streams.specs.declared.read.ReadStop.{ReadStop}
 use Rattle.script_streams.specs.declared.read.ReadStop.TheVariants.{Failed, OutOfMemory, TooLong}
@@ -45,6 +45,7 @@ abbrev pub sessions_of : Option Command → ℕ
 sessions_of None = 0
 sessions_of (Some (New limits)) = 0
 sessions_of (Some (Rdo scripts)) = scripts.count
+sessions_of (Some (Workload accounts)) = 0
 sessions_of (Some Verify) = 0
 sessions_of (Some Dump) = 0
 sessions_of (Some (DumpPage place)) = 0
@@ -58,6 +59,7 @@ abbrev pub keeps_copies : Option Command → Bool
 keeps_copies None = false
 keeps_copies (Some (New limits)) = false
 keeps_copies (Some (Rdo scripts)) = false
+keeps_copies (Some (Workload accounts)) = false
 keeps_copies (Some Verify) = false
 keeps_copies (Some Dump) = false
 keeps_copies (Some (DumpPage place)) = false
@@ -71,6 +73,7 @@ abbrev pub rolls_forward : Option Command → Bool
 rolls_forward None = false
 rolls_forward (Some (New limits)) = false
 rolls_forward (Some (Rdo scripts)) = false
+rolls_forward (Some (Workload accounts)) = false
 rolls_forward (Some Verify) = false
 rolls_forward (Some Dump) = false
 rolls_forward (Some (DumpPage place)) = false
@@ -78,6 +81,20 @@ rolls_forward (Some (Backup number)) = false
 rolls_forward (Some (BackupJournal number)) = false
 rolls_forward (Some (Restore number)) = false
 rolls_forward (Some (Recover count)) = true
+
+-- a command that makes a database and has sessions of its own work in it, and writes what they come to
+abbrev pub is_workload : Option Command → Bool
+is_workload None = false
+is_workload (Some (New limits)) = false
+is_workload (Some (Rdo scripts)) = false
+is_workload (Some (Workload accounts)) = true
+is_workload (Some Verify) = false
+is_workload (Some Dump) = false
+is_workload (Some (DumpPage place)) = false
+is_workload (Some (Backup number)) = false
+is_workload (Some (BackupJournal number)) = false
+is_workload (Some (Restore number)) = false
+is_workload (Some (Recover count)) = false
 
 -- the statuses at which everything was written
 abbrev pub IsWritten : ℕ → Type 0

@@ -29,8 +29,11 @@ ghost use Rattle.rmu_keeping.specs.Keeping.{is_keeping_status, IsKept, MayBeOpen
 ghost use Rattle.rmu_keeping.specs.Rolling.{is_recover_status, HasRolled, MayBeRecovered, LacksGroup, IsUsed, Rolls, RollsWithin, TellsGroups};
 ghost use Rattle.rmu_commands.specs.Usable.{HasRootInUse, IsUsable, IsDumped};
 ghost use Rattle.rmu_commands.specs.Written.{Verifies, Dumps, DumpsPage, IsCleanDatabase, is_verify_status, is_dump_status};
-ghost use Rattle.rdb_top.specs.Runs.{IsNoDatabase, IsRun, IsWhole, IsWritten, has_death, OfSomeScripts, keeps_copies, rolls_forward, is_status, is_script_status, status_at, scripts_of, stopped_status, transcripts, sessions_of};
+ghost use Rattle.rdb_top.specs.Runs.{IsNoDatabase, IsRun, IsWhole, IsWritten, has_death, OfSomeScripts, is_workload, keeps_copies, rolls_forward, is_status, is_script_status, status_at, scripts_of, stopped_status, transcripts, sessions_of};
 ghost use Rattle.rdb_top.specs.Deaths.{letting};
+ghost use Rattle.rdb_top.specs.Workloads.{AreWorkloadRuns};
+ghost use Rattle.workload_runs.specs.Reports.{Reports};
+ghost use Rattle.workload_runs.specs.Statuses.{is_workload_status, HasReport, have_death};
 
 use crate::dying::Dying;
 use crate::finishing::{Finish, finish_scripts, unsaid};
@@ -38,6 +41,7 @@ use crate::making::run_new;
 use crate::recovering::run_recover;
 use crate::scripts::read_scripts;
 use crate::stopping::unwatched;
+use crate::working::run_workload;
 use command_words::{Command, Scripts, command_of, order_of};
 use lent_values::{Naming, Opened};
 use line_cluster::{Halt, Origin};
@@ -264,7 +268,7 @@ fn run_rdo<
     }
 }
 
-/// Runs a command: `NEW` makes a database, `RDO` says 1 to 16 scripts to a database, each by a session of its own, `RMU/VERIFY` lists the faults of a database, `RMU/DUMP` and `RMU/DUMP/PAGE` tell what it holds, `RMU/BACKUP` and `RMU/BACKUP/AFTER_JOURNAL` copy a database and its journal, `RMU/RESTORE` makes a database of a backup, and `RMU/RECOVER` rolls it forward over its journals.
+/// Runs a command: `NEW` makes a database, `RDO` says 1 to 16 scripts to a database, each by a session of its own, `RMU/VERIFY` lists the faults of a database, `RMU/DUMP` and `RMU/DUMP/PAGE` tell what it holds, `RMU/BACKUP` and `RMU/BACKUP/AFTER_JOURNAL` copy a database and its journal, `RMU/RESTORE` makes a database of a backup, `RMU/RECOVER` rolls it forward over its journals, and `WORKLOAD` makes a database, has sessions of its own work in it and verifies it.
 pub fn run<R, O, D, S, K, G>(
     rt: &R,
     alloc: Global,
@@ -286,7 +290,7 @@ where
     // The gate has a session die only where the origin lets it.
     requires mortal { MayFail O.opening }
     requires mortals { (given : GivenScripts) → command_for words.now ≡ Some (Command.Rdo given) → MayDie (G.mortals gate.now) (mortals_of O.opening given.count) }
-    ensures earlier { result.earlier ≡ [] }
+    ensures earlier { is_workload (command_for words.now) ≡ false → result.earlier ≡ [] }
     ensures status { is_status result.status ≡ true }
     // The words are in no row of the table.
     ensures words { result.status ≡ 1 ↔ command_for words.now ≡ None }
@@ -329,9 +333,9 @@ where
     ensures left { (given : GivenScripts) → command_for words.now ≡ Some (Command.Rdo given) → O.told → S.tells scripts.old ≡ true → IsWhole result.status →
         HoldsAll ⟦<ReservingStatements as Statements>⟧.stands (said_to (letting given.death O.opening) (word_of words.now) (scripts_of (S.left scripts.old) given.count)) (D.view result.disk) (map event_of result.events) }
     // What was written are the transcripts in the order of the sessions, or a front of them, but for the commands that write what they read or how far they rolled.
-    ensures written { only_reads (command_for words.now) ≡ false → rolls_forward (command_for words.now) ≡ false → K.tells out.old ≡ true → IsWritten result.status →
+    ensures written { only_reads (command_for words.now) ≡ false → rolls_forward (command_for words.now) ≡ false → is_workload (command_for words.now) ≡ false → K.tells out.old ≡ true → IsWritten result.status →
         K.taken out.new ≡ K.taken out.old ++ transcripts (sessions_of (command_for words.now)) result.events }
-    ensures front { only_reads (command_for words.now) ≡ false → rolls_forward (command_for words.now) ≡ false → K.tells out.old ≡ true →
+    ensures front { only_reads (command_for words.now) ≡ false → rolls_forward (command_for words.now) ≡ false → is_workload (command_for words.now) ≡ false → K.tells out.old ≡ true →
         WritesFront (K.taken out.old) (K.taken out.new) (transcripts (sessions_of (command_for words.now)) result.events) }
     // Every crash behind NEW leaves the new database.
     ensures made { (limits : Limits) → command_for words.now ≡ Some (Command.New limits) → result.status ≡ 0 →
@@ -371,10 +375,11 @@ where
     // VERIFY and DUMP change nothing, at any moment.
     ensures reads { only_reads (command_for words.now) ≡ true → OnlyReads (D.view disk) (D.view result.disk) }
     // Some fault is listed.
-    ensures faults { result.status ≡ 7 → command_for words.now ≡ Some Command.Verify }
+    ensures faults { result.status ≡ 7 → (command_for words.now ≡ Some Command.Verify) ⊎ (is_workload (command_for words.now) ≡ true) }
     // A database can't be read or opened.
     ensures unread_root { result.status ≡ 4 → (only_reads (command_for words.now) ≡ true) ⊎ (keeps_copies (command_for words.now) ≡ true)
-        ⊎ (rolls_forward (command_for words.now) ≡ true) ⊎ ((given : GivenScripts) × (command_for words.now ≡ Some (Command.Rdo given))) }
+        ⊎ (rolls_forward (command_for words.now) ≡ true) ⊎ ((given : GivenScripts) × (command_for words.now ≡ Some (Command.Rdo given)))
+        ⊎ (is_workload (command_for words.now) ≡ true) }
     // Scripts: a database that a crash of this engine may leave is opened, but where its numbers are used up, and its sessions are
     // stopped only over a slot that is none of its kind, or a line.
     ensures refused { (given : GivenScripts) → command_for words.now ≡ Some (Command.Rdo given) → result.status ≡ 4 → IsNoDatabase (D.view disk) result.halt }
@@ -459,6 +464,27 @@ where
     // Nothing is said by RECOVER, and its statuses.
     ensures roll_silent { rolls_forward (command_for words.now) ≡ true → result.events ≡ [] }
     ensures roll_statuses { rolls_forward (command_for words.now) ≡ true → is_recover_status result.status ≡ true }
+    // WORKLOAD: the accounts, earlier ones and the last, are those of runs of its scripts, one after another. Each is legal; the first
+    // begins with no tables, each next one with those that the one before has committed; all sessions of each but the last came to
+    // their ends. Who dies is a session whose device call fails, or one that the gate names.
+    ensures workload_runs { (accounts : ℕ) → command_for words.now ≡ Some (Command.Workload accounts) → IsTrue (D.view disk).tells → IsUnmade (D.view disk) →
+        AreWorkloadRuns words.now (G.mortals gate.now) accounts result.status result.earlier result.events }
+    // There are three where there is a report, and nobody died in them.
+    ensures workload_three { is_workload (command_for words.now) ≡ true → HasReport result.status → length result.earlier ≡ 2 }
+    ensures workload_lived { is_workload (command_for words.now) ≡ true → HasReport result.status → (have_death result.earlier ≡ false) × (has_death result.events ≡ false) }
+    // It writes what the last run has counted, and how many faults the database has; status 7 says that there are some.
+    ensures workload_reports { is_workload (command_for words.now) ≡ true →
+        Reports (D.view result.disk) result.events result.status (K.tells out.old ≡ true) (K.taken out.old) (K.taken out.new) }
+    // As many device calls failed in it as sessions died of a device, and under status 3 one more.
+    ensures workload_harmed { is_workload (command_for words.now) ≡ true → IsTrue (D.view disk).tells → IsUnmade (D.view disk) →
+        RoseBy (device_deaths (map event_of result.events)) (D.view disk).faults (D.view result.disk).faults }
+    ensures workload_stopped { is_workload (command_for words.now) ≡ true → IsTrue (D.view disk).tells → IsUnmade (D.view disk) → result.status ≡ 3 →
+        RoseBy (device_deaths (map event_of result.events) + 1) (D.view disk).faults (D.view result.disk).faults }
+    // It leaves a database that there is as it is.
+    ensures workload_standing { is_workload (command_for words.now) ≡ true → IsTrue (D.view disk).tells → HasRoot (D.view disk).content →
+        ((result.status ≡ 3) ⊎ (result.status ≡ 5) ⊎ (result.status ≡ 9)) × Keeps (D.view disk) (D.view result.disk) }
+    // Its statuses.
+    ensures workload_statuses { is_workload (command_for words.now) ≡ true → is_workload_status result.status ≡ true }
 {
     let mut disk = disk;
     match command_of(words) {
@@ -495,6 +521,7 @@ where
             let status = run_recover(alloc, words, &mut disk, out);
             unsaid(alloc, status, disk)
         }
+        Some(Command::Workload(accounts)) => run_workload::<R, Brand, D, K, G>(rt, alloc, words, accounts, disk, out, gate),
         Some(Command::Rdo(given)) => {
             let asked = Asked { words, given };
             run_rdo::<R, O, D, S, K, G>(rt, alloc, asked, disk, scripts, out, gate)

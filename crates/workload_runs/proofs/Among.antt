@@ -1,14 +1,16 @@
--- Who may die in a run of fewer sessions than another has.
-use Rattle.std.proofs.Common.{◌≡◌, ◌≤◌, ◌<◌, ◌+◌, ℕ, zero, suc, Bool, true, false, cond, nat_le, List, ◌++◌, ◌∷◌, [], ◌⊎◌, inl, inr, sym, subst, arith}
+-- Who may die in a run of so many sessions.
+use Rattle.std.proofs.Common.{◌≡◌, ◌≤◌, ◌<◌, ◌+◌, ◌&&◌, ℕ, zero, suc, Bool, true, false, cond, nat_eq, nat_le, List, ◌++◌, ◌∷◌, [], ◌⊎◌, inl, inr, refl, sym, subst, arith}
+use Rattle.std.proofs.lemmas.Bool.{and_parts}
 use Rattle.std.proofs.lemmas.Bool.Decides.{nat_tests}
 use Rattle.std.proofs.lemmas.List.Elements.{All-contains, All-contains_itself, All-filter, Contains-append_cases, Contains-append_left, Contains-append_right, Contains-push, Contains-push_cases, filter_passes}
-use Rattle.std.specs.List.{Contains, filter}
-use Rattle.rdb_types.specs.declared.session.Cause.TheVariants.{Gate}
+use Rattle.std.specs.List.{Contains, filter, list_any}
+use Rattle.rdb_types.specs.declared.session.Cause.TheVariants.{Device, Gate}
 use Rattle.rdb_account.specs.Places.{Opening}
 use Rattle.rdb_drive.specs.Boards.{MayDie}
 use Rattle.rdb_drive.specs.Orders.{upward}
+use Rattle.line_cluster.specs.Sound.{MayFail}
 use Rattle.line_drive.specs.Boards.{mortals_of}
-use Rattle.workload_runs.specs.Among.{first_of}
+use Rattle.workload_runs.specs.Among.{first_of, may_die_by}
 
 in-none : (s : ℕ) → Contains [] s → ⊥
 in-none s (k, below, is) = omega (arith, below)
@@ -16,7 +18,7 @@ in-none s (k, below, is) = omega (arith, below)
 in-one : (x s : ℕ) → Contains (x ∷ []) s → x ≡ s
 in-one x s c = elim (Contains-push_cases [] x s c) [ inl none ↦ absurd (in-none s none) | inr e ↦ e ]
 
-pub kept : (q : ℕ → Bool) (xs : List ℕ) (s : ℕ) → Contains xs s → q s ≡ true → Contains (filter q xs) s
+kept : (q : ℕ → Bool) (xs : List ℕ) (s : ℕ) → Contains xs s → q s ≡ true → Contains (filter q xs) s
 kept q [] s c h = absurd (in-none s c)
 kept q (x ∷ xs) s c h = elim (Contains-append_cases (x ∷ []) xs s c) [
   | inl one ↦
@@ -39,25 +41,29 @@ numbered first (suc n) s low high = elim (first-or first s low) [
   | inr more ↦ Contains-append_right (first ∷ []) (upward (first + 1) n) s (numbered (first + 1) n s more (omega (arith, high)))
 ]
 
-low : (first n s : ℕ) → Contains (upward first n) s → first ≤ s
-low first zero s c = absurd (in-none s c)
-low first (suc n) s c = elim (Contains-append_cases (first ∷ []) (upward (first + 1) n) s c) [
-  | inl one ↦ let e = in-one first s one in omega (arith, e)
-  | inr rest ↦ let more = low (first + 1) n s rest in omega (arith, more)
+below-next : (s n : ℕ) → nat_le s n ≡ true → s < 1 + n
+below-next s n h = grind (arith, nat_tests)
+
+at-least : (n s : ℕ) → nat_le n s ≡ true → n ≤ s
+at-least n s h = grind (arith, nat_tests)
+
+same-number : (n : ℕ) → nat_eq n n ≡ true
+same-number n = grind (arith, nat_tests)
+
+found : (xs : List ℕ) (s : ℕ) → Contains xs s → list_any (nat_eq s) xs ≡ true
+found [] s c = absurd (in-none s c)
+found (x ∷ xs) s c = elim (Contains-append_cases (x ∷ []) xs s c) [
+  | inl one ↦ subst (λ (y : ℕ). list_any (nat_eq s) (y ∷ xs) ≡ true) (sym (in-one x s one)) (subst (λ (b : Bool). cond b true (list_any (nat_eq s) xs) ≡ true) (sym (same-number s)) refl)
+  | inr rest ↦ elim (nat_eq s x) as (λ b. cond b true (list_any (nat_eq s) xs) ≡ true) [ true ↦ refl | false ↦ found xs s rest ]
 ]
 
-no-more : (s n : ℕ) → nat_le s n ≡ true → s ≤ n
-no-more s n h = grind (arith, nat_tests)
+-- Of those whom the gate has die, the sessions of a run may die in it.
+pub among-die : (gate : List ℕ) (o : Opening) (n : ℕ) → o.may_die ≡ may_die_by gate → MayDie (first_of n gate) (mortals_of o n)
+among-die gate o n lets s c =
+    let within = and_parts (nat_le 1 s) (nat_le s n) (All-contains (λ t. nat_le 1 t && nat_le t n ≡ true) (first_of n gate) s (filter_passes (λ t. nat_le 1 t && nat_le t n) gate) c) in
+    let there : Contains gate s = All-contains (Contains gate) (first_of n gate) s (All-filter (λ t. nat_le 1 t && nat_le t n) (Contains gate) gate (All-contains_itself gate)) c in
+    let named : o.may_die s Gate ≡ true = subst (λ d. d s Gate ≡ true) (sym lets) (found gate s there) in
+    kept (λ t. o.may_die t Gate) (upward 1 n) s (numbered 1 n s (at-least 1 s within.0) (below-next s n within.1)) named
 
-below-next : (s n : ℕ) → s ≤ n → s < 1 + n
-below-next s n h = omega (arith, h)
-
--- Of those whom the gate lets die, the first so many may die where all may in a run of more sessions.
-pub fewer-die : (gate : List ℕ) (o : Opening) (n most : ℕ) → MayDie gate (mortals_of o most) → MayDie (first_of n gate) (mortals_of o n)
-fewer-die gate o n most dies s c =
-    let within = All-contains (λ t. nat_le t n ≡ true) (first_of n gate) s (filter_passes (λ t. nat_le t n) gate) c in
-    let there : Contains gate s = All-contains (Contains gate) (first_of n gate) s (All-filter (λ t. nat_le t n) (Contains gate) gate (All-contains_itself gate)) c in
-    let m = dies s there in
-    let lets : o.may_die s Gate ≡ true = All-contains (λ t. o.may_die t Gate ≡ true) (mortals_of o most) s (filter_passes (λ t. o.may_die t Gate) (upward 1 most)) m in
-    let of_most : Contains (upward 1 most) s = All-contains (Contains (upward 1 most)) (mortals_of o most) s (All-filter (λ t. o.may_die t Gate) (Contains (upward 1 most)) (upward 1 most) (All-contains_itself (upward 1 most))) m in
-    kept (λ t. o.may_die t Gate) (upward 1 n) s (numbered 1 n s (low 1 most s of_most) (below-next s n (no-more s n within))) lets
+pub all-may-fail : (gate : List ℕ) (o : Opening) → o.may_die ≡ may_die_by gate → MayFail o
+all-may-fail gate o lets s = subst (λ d. d s Device ≡ true) (sym lets) refl

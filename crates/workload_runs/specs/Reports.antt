@@ -10,16 +10,16 @@ use Rattle.workload_scripts.specs.declared.report.Report.{Report}
 use Rattle.workload_scripts.specs.Report.{report_text}
 use Rattle.workload_replies.specs.declared.replies.Counted.{Counted}
 use Rattle.workload_replies.specs.Replies.{counted_among}
-use Rattle.workload_runs.specs.Statuses.{HasReport, last_of}
+use Rattle.workload_runs.specs.Statuses.{HasReport}
 
 abbrev pub report_of : Counted → List VerifyFault → Report
 report_of c faults = record { accounts = c.accounts; total = c.total; faults = length faults }
 
--- A report is written: what the last run printed, and how many faults the database has; status 7 says that there are some. Nothing is written where the workload ended before it.
-pub record Reports (disk : View) (accounts : List (List Event)) (status : ℕ) (SinkTells : Type 0) (old new : List ℕ) : Type 0 where
+-- A report is written: what the last run printed, whose account this is, and how many faults the database has; status 7 says that there are some. Nothing is written where the workload ended before it.
+pub record Reports (disk : View) (last : List Event) (status : ℕ) (SinkTells : Type 0) (old new : List ℕ) : Type 0 where
   pub counted : Counted
   pub faults : List VerifyFault
-  pub printed : HasReport status → counted_among (last_of accounts) ≡ Some counted
+  pub printed : HasReport status → counted_among last ≡ Some counted
   pub are : HasReport status → IsTrue disk.tells → (journal : Journal) → IsJournalOf disk.content journal → AreFaults disk.content journal.groups faults
   pub none : status ≡ 0 → faults ≡ []
   pub some : status ≡ 7 → faults ≡ [] → ⊥

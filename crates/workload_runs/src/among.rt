@@ -27,7 +27,7 @@ impl<'a, G: Gate> Gate for Among<'a, G> {
     ghost mortals = { λ a. first_of a.sessions (G.mortals a.gate.now) };
 
     fn pass(&self, s: Session, step: u64, point: Point) -> Act {
-        if s.number <= self.sessions {
+        if 1 <= s.number && s.number <= self.sessions {
             self.gate.pass(s, step, point)
         } else {
             Act::Go

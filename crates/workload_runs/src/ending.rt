@@ -61,7 +61,7 @@ fn write_report<K: Sink>(alloc: Global, counted: Counted, faults: &[VerifyFault]
 fn report<D: Disk, K: Sink>(alloc: Global, disk: &mut D, accounts: &[Events], out: &mut K) -> u8
     ensures status { is_workload_status result ≡ true }
     ensures lived { (result ≡ 8) ⊎ (result ≡ 9) → ⊥ }
-    ensures reports { Reports (D.view disk.new) accounts.now result (K.tells out.old ≡ true) (K.taken out.old) (K.taken out.new) }
+    ensures reports { Reports (D.view disk.new) (last_of accounts.now) result (K.tells out.old ≡ true) (K.taken out.old) (K.taken out.new) }
     ensures device { result ≡ 3 → Rose (D.view disk.old).faults (D.view disk.new).faults }
     ensures sink { result ≡ 6 → Rose (K.faults out.old) (K.faults out.new) }
     ensures reads { OnlyReads (D.view disk.old) (D.view disk.new) }
@@ -86,7 +86,7 @@ pub(crate) fn finish<D: Disk + Drop, K: Sink>(
     ensures kept { (result.status ≡ runs.status) ⊎ (runs.status ≡ 0) }
     ensures dead { (result.status ≡ 8) ⊎ (result.status ≡ 9) → result.status ≡ runs.status }
     ensures accounts { result.accounts ≡ runs.accounts }
-    ensures reports { Reports (D.view result.disk) runs.accounts result.status (K.tells out.old ≡ true) (K.taken out.old) (K.taken out.new) }
+    ensures reports { Reports (D.view result.disk) (last_of runs.accounts) result.status (K.tells out.old ≡ true) (K.taken out.old) (K.taken out.new) }
     ensures no_fewer { (D.view runs.disk).faults ≤ (D.view result.disk).faults }
     ensures device { result.status ≡ 3 → runs.status ≡ 0 → Rose (D.view runs.disk).faults (D.view result.disk).faults }
     ensures sink { result.status ≡ 6 → Rose (K.faults out.old) (K.faults out.new) }

@@ -2,15 +2,14 @@
 ghost use Rattle.std.specs.Prelude.{◌≡◌, ◌≤◌, ◌<◌, ◌^◌, ◌+◌, ◌∷◌, ◌⊎◌, All, List, true, false, length, map, IfOk, IfErr, IsTrue};
 ghost use Rattle.rdb_account.specs.Events.{event_of};
 ghost use Rattle.rdb_account.specs.Legal.{IsLegal};
-ghost use Rattle.rdb_drive.specs.Boards.{MayDie};
 ghost use Rattle.session_states.specs.declared.item_queue.WholeScript.{WholeScript};
 ghost use Rattle.line_cluster.specs.Deaths.{RoseBy};
-ghost use Rattle.line_cluster.specs.Sound.{FollowsScripts, MayFail};
+ghost use Rattle.line_cluster.specs.Sound.{FollowsScripts};
 ghost use Rattle.line_cluster.specs.Turned.{HaveAllEnded};
-ghost use Rattle.line_drive.specs.Boards.{mortals_of};
 ghost use Rattle.line_runs.specs.Openings.{OpensWith};
 ghost use Rattle.line_runs.specs.Prefix.{HoldsAll};
 ghost use Rattle.workload_replies.specs.Replies.{has_death};
+ghost use Rattle.workload_runs.specs.Among.{may_die_by};
 ghost use Rattle.workload_runs.specs.Runs.{AreRuns};
 ghost use Rattle.workload_runs.specs.Statuses.{IsWhole, deaths_of_last, last_of};
 
@@ -61,9 +60,8 @@ pub(crate) fn run_part<
     requires few { O.sessions ≤ MOST_SESSIONS }
     requires short { All (λ script. length script.items < 2 ^ 32) said.scripts.items }
     requires scripts { FollowsScripts O.opening said.scripts.items }
-    requires mortal { MayFail O.opening }
     requires word { said.word ≡ O.opening.word }
-    requires mortals { MayDie (G.mortals gate.now) (mortals_of O.opening MOST_SESSIONS) }
+    requires mortals { O.opening.may_die ≡ may_die_by (G.mortals gate.now) }
     requires opens { O.told → OpensWith ⟦<ReservingStatements as Statements>⟧.stands (D.view disk) O.opening }
     requires faults { O.told → O.faults ≡ (D.view disk).faults }
     // Where it is done.

@@ -1,11 +1,10 @@
 // The runs of a workload, each over what the one before left.
 ghost use Rattle.std.specs.Prelude.{◌≡◌, ◌≤◌, ◌<◌, ◌^◌, ◌+◌, ◌∷◌, All, [], true, false, length};
-ghost use Rattle.rdb_drive.specs.Boards.{MayDie};
 ghost use Rattle.line_cluster.specs.Deaths.{RoseBy};
-ghost use Rattle.line_cluster.specs.Sound.{FollowsScripts, MayFail};
-ghost use Rattle.line_drive.specs.Boards.{mortals_of};
+ghost use Rattle.line_cluster.specs.Sound.{FollowsScripts};
 ghost use Rattle.line_runs.specs.Openings.{OpensWith};
 ghost use Rattle.workload_replies.specs.Replies.{has_death};
+ghost use Rattle.workload_runs.specs.Among.{may_die_by};
 ghost use Rattle.workload_runs.specs.Runs.{AreRuns};
 ghost use Rattle.workload_runs.specs.Scripts.{scripts_in};
 ghost use Rattle.workload_runs.specs.Statuses.{is_run_status, IsWhole, deaths_of_last, have_death, last_of};
@@ -49,9 +48,8 @@ pub(crate) fn run_last<
     requires few { O.sessions ≤ MOST_SESSIONS }
     requires short { All (λ script. length script.items < 2 ^ 32) ready.prepared.said.scripts.items }
     requires scripts { FollowsScripts O.opening ready.prepared.said.scripts.items }
-    requires mortal { MayFail O.opening }
     requires word { ready.prepared.said.word ≡ O.opening.word }
-    requires mortals { MayDie (G.mortals gate.now) (mortals_of O.opening MOST_SESSIONS) }
+    requires mortals { O.opening.may_die ≡ may_die_by (G.mortals gate.now) }
     requires opens { O.told → OpensWith ⟦<ReservingStatements as Statements>⟧.stands (D.view disk) O.opening }
     requires faults { O.told → O.faults ≡ (D.view disk).faults }
     ensures runs { O.told → AreRuns (IsWhole result.status) (record { word = O.opening.word; may_die = O.opening.may_die }) O.opening.tables
@@ -82,9 +80,8 @@ pub(crate) fn run_transfers<
     requires few { O.sessions ≤ MOST_SESSIONS }
     requires short { All (λ script. length script.items < 2 ^ 32) ready.prepared.said.scripts.items }
     requires scripts { FollowsScripts O.opening ready.prepared.said.scripts.items }
-    requires mortal { MayFail O.opening }
     requires word { ready.prepared.said.word ≡ O.opening.word }
-    requires mortals { MayDie (G.mortals gate.now) (mortals_of O.opening MOST_SESSIONS) }
+    requires mortals { O.opening.may_die ≡ may_die_by (G.mortals gate.now) }
     requires opens { O.told → OpensWith ⟦<ReservingStatements as Statements>⟧.stands (D.view disk) O.opening }
     requires faults { O.told → O.faults ≡ (D.view disk).faults }
     requires accounts { (2 ≤ ready.plan.now.accounts) × (ready.plan.now.accounts ≤ 2000) }
@@ -136,9 +133,8 @@ pub(crate) fn run_first<
     requires few { O.sessions ≤ MOST_SESSIONS }
     requires short { All (λ script. length script.items < 2 ^ 32) ready.prepared.said.scripts.items }
     requires scripts { FollowsScripts O.opening ready.prepared.said.scripts.items }
-    requires mortal { MayFail O.opening }
     requires word { ready.prepared.said.word ≡ O.opening.word }
-    requires mortals { MayDie (G.mortals gate.now) (mortals_of O.opening MOST_SESSIONS) }
+    requires mortals { O.opening.may_die ≡ may_die_by (G.mortals gate.now) }
     requires opens { O.told → OpensWith ⟦<ReservingStatements as Statements>⟧.stands (D.view disk) O.opening }
     requires faults { O.told → O.faults ≡ (D.view disk).faults }
     requires accounts { (2 ≤ ready.plan.now.accounts) × (ready.plan.now.accounts ≤ 2000) }

@@ -3,14 +3,13 @@ ghost use Rattle.std.specs.Prelude.{◌≡◌, ◌≤◌, ◌<◌, ◌^◌, ◌�
 ghost use Rattle.rdb_outside.specs.Causes.{Rose};
 ghost use Rattle.rdb_account.specs.Events.{event_of};
 ghost use Rattle.rdb_account.specs.Legal.{IsLegal};
-ghost use Rattle.rdb_drive.specs.Boards.{MayDie};
 ghost use Rattle.line_cluster.specs.Deaths.{RoseBy, failures};
-ghost use Rattle.line_cluster.specs.Sound.{FollowsScripts, MayFail};
+ghost use Rattle.line_cluster.specs.Sound.{FollowsScripts};
 ghost use Rattle.line_cluster.specs.Turned.{HaveAllEnded};
-ghost use Rattle.line_drive.specs.Boards.{mortals_of};
 ghost use Rattle.line_runs.specs.Openings.{OpensWith};
 ghost use Rattle.line_runs.specs.Prefix.{HoldsAll};
 ghost use Rattle.workload_replies.specs.Replies.{has_death};
+ghost use Rattle.workload_runs.specs.Among.{may_die_by};
 ghost use Rattle.workload_runs.specs.Statuses.{is_run_status, status_at, IsWhole};
 
 use crate::among::Among;
@@ -44,9 +43,8 @@ pub(crate) fn say<
     requires few { O.sessions ≤ MOST_SESSIONS }
     requires short { All (λ script. length script.items < 2 ^ 32) said.scripts.items }
     requires scripts { FollowsScripts O.opening said.scripts.items }
-    requires mortal { MayFail O.opening }
     requires word { said.word ≡ O.opening.word }
-    requires mortals { MayDie (G.mortals gate.now) (mortals_of O.opening MOST_SESSIONS) }
+    requires mortals { O.opening.may_die ≡ may_die_by (G.mortals gate.now) }
     requires opens { O.told → OpensWith ⟦<ReservingStatements as Statements>⟧.stands (D.view disk) O.opening }
     requires faults { O.told → O.faults ≡ (D.view disk).faults }
     ensures legal { O.told → IsLegal O.opening (map event_of result.events) }
@@ -80,6 +78,7 @@ fn status_of_halt(halt: Option<Halt>) -> u8
     match halt {
         Some(Halt::Device(Fault::Failed)) => 3,
         Some(Halt::Device(Fault::Bad(_, _))) => 4,
+        Some(Halt::Unsound(_)) => 4,
         _ => 5,
     }
 }

@@ -6,11 +6,9 @@ ghost use Rattle.root_file.specs.Root.{AreLimits};
 ghost use Rattle.new_database.specs.Maker.{IsUnmade, HasRoot};
 ghost use Rattle.new_database.specs.New.{IsNewDatabase};
 ghost use Rattle.rdb_meaning.specs.Contents.{no_tables};
-ghost use Rattle.rdb_drive.specs.Boards.{MayDie};
 ghost use Rattle.line_cluster.specs.Deaths.{RoseBy};
-ghost use Rattle.line_cluster.specs.Sound.{MayFail};
-ghost use Rattle.line_drive.specs.Boards.{mortals_of};
 ghost use Rattle.workload_replies.specs.Replies.{has_death};
+ghost use Rattle.workload_runs.specs.Among.{may_die_by};
 ghost use Rattle.workload_runs.specs.Reports.{Reports};
 ghost use Rattle.workload_runs.specs.Runs.{AreRuns};
 ghost use Rattle.workload_runs.specs.Scripts.{scripts_of_runs};
@@ -20,8 +18,6 @@ use crate::accounts::{Runs, none_begun};
 use crate::ending::finish;
 use crate::preparing::{Part, prepare};
 use crate::runs::{Ready, run_first};
-use crate::saying::MOST_SESSIONS;
-use line_cluster::Origin;
 use new_database::{NewFault, make_new};
 use rdb_account::Events;
 use rdb_drive::Gate;
@@ -50,7 +46,7 @@ pub struct Workload<D: Drop> {
 }
 
 // Says what a workload says to a new database.
-fn begin<R: Threads + Wait + Sync, O: Origin, D: Disk + Drop + Send, G: Gate + Sync>(
+fn begin<R: Threads + Wait + Sync, D: Disk + Drop + Send, G: Gate + Sync>(
     rt: &R,
     alloc: Global,
     plan: &Plan,
@@ -58,10 +54,8 @@ fn begin<R: Threads + Wait + Sync, O: Origin, D: Disk + Drop + Send, G: Gate + S
     gate: &G,
 ) -> Runs<D>
     requires accounts { (2 ≤ plan.now.accounts) × (plan.now.accounts ≤ 2000) }
-    requires mortal { MayFail O.opening }
-    requires mortals { MayDie (G.mortals gate.now) (mortals_of O.opening MOST_SESSIONS) }
     ensures runs { IsTrue (D.view disk).tells → IsNewDatabase plan.now.limits (D.view disk).content →
-        AreRuns (IsWhole result.status) (record { word = plan.now.word; may_die = O.opening.may_die }) no_tables (scripts_of_runs plan.now.accounts) result.accounts }
+        AreRuns (IsWhole result.status) (record { word = plan.now.word; may_die = may_die_by (G.mortals gate.now) }) no_tables (scripts_of_runs plan.now.accounts) result.accounts }
     ensures status { is_run_status result.status ≡ true }
     ensures count { result.status ≡ 0 → length result.accounts ≡ 3 }
     ensures lived { result.status ≡ 0 → have_death result.accounts ≡ false }
@@ -133,7 +127,7 @@ fn unwatched<B: Beginning, D: Disk + Drop>(ended: Workload<WatchedDisk<B, D>>) -
 }
 
 /// Makes a database, has one session make accounts, four sessions move money between them, and one count them, and verifies the database. It writes what was counted and how many faults there are. The status is 0 where there is none, and 7 where there is one; 8 where a session died, 5 where memory was wanted or a statement of the first run wasn't done, 3, 4 and 6 where it gave up, and 9 where there is a database already.
-pub fn workload<R, O, B, D, K, G>(
+pub fn workload<R, B, D, K, G>(
     rt: &R,
     alloc: Global,
     plan: &Plan,
@@ -143,7 +137,6 @@ pub fn workload<R, O, B, D, K, G>(
 ) -> Workload<D>
 where
     R: Threads + Wait + Sync,
-    O: Origin,
     B: Beginning + Send,
     D: Disk + Drop + Send,
     K: Sink,
@@ -152,18 +145,15 @@ where
     requires limits { AreLimits plan.now.limits }
     // The disk is watched from now on.
     requires began { B.faults ≡ (D.view disk).faults }
-    // The gate has a session die only where the origin lets it.
-    requires mortal { MayFail O.opening }
-    requires mortals { MayDie (G.mortals gate.now) (mortals_of O.opening MOST_SESSIONS) }
     ensures status { is_workload_status result.status ≡ true }
     // The accounts are those of runs of the stated scripts, one after another: each is legal, the first begins with no tables, each
     // next one with those that the one before has committed, and each but the last has all its sessions at their ends.
     ensures runs { IsTrue (D.view disk).tells → IsUnmade (D.view disk) →
-        AreRuns (IsWhole result.status) (record { word = plan.now.word; may_die = O.opening.may_die }) no_tables (scripts_of_runs plan.now.accounts) result.accounts }
+        AreRuns (IsWhole result.status) (record { word = plan.now.word; may_die = may_die_by (G.mortals gate.now) }) no_tables (scripts_of_runs plan.now.accounts) result.accounts }
     // There are three where there is a report.
     ensures three { HasReport result.status → length result.accounts ≡ 3 }
     // What is written is what the last run printed, and how many faults the database has.
-    ensures reports { Reports (D.view result.disk) result.accounts result.status (K.tells out.old ≡ true) (K.taken out.old) (K.taken out.new) }
+    ensures reports { Reports (D.view result.disk) (last_of result.accounts) result.status (K.tells out.old ≡ true) (K.taken out.old) (K.taken out.new) }
     // Some session died, or none.
     ensures died { result.status ≡ 8 → has_death (last_of result.accounts) ≡ true }
     ensures lived { HasReport result.status → have_death result.accounts ≡ false }
@@ -184,7 +174,7 @@ where
     match make_new(&mut disk, plan.limits) {
         Err(fault) => unwatched(unmade(alloc, disk, fault)),
         Ok(()) => {
-            let runs = begin::<R, O, WatchedDisk<B, D>, G>(rt, alloc, plan, disk, gate);
+            let runs = begin::<R, WatchedDisk<B, D>, G>(rt, alloc, plan, disk, gate);
             unwatched(finish(alloc, runs, out))
         }
     }
