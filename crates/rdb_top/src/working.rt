@@ -22,7 +22,7 @@ use std::marker::Send;
 use std::sync::Wait;
 use std::thread::Threads;
 use watched_disk::Beginning;
-use workload_runs::{Plan, Workload, workload};
+use workload_runs::{Plan, WorkloadEnd, workload};
 
 // The workload that the words name.
 fn plan_of(alloc: Global, words: &[Word], accounts: u32) -> Result<Plan, NoMemory>
@@ -42,13 +42,13 @@ fn plan_of(alloc: Global, words: &[Word], accounts: u32) -> Result<Plan, NoMemor
 }
 
 // What is handed back of a workload: its last account apart from the earlier ones.
-fn last_apart<D: Drop>(alloc: Global, ended: Workload<D>) -> Finish<D>
+fn last_apart<D: Drop>(alloc: Global, ended: WorkloadEnd<D>) -> Finish<D>
     ensures status { result.status ≡ ended.status }
     ensures disk { result.disk ≡ ended.disk }
     ensures accounts { EndIn ended.accounts result.earlier result.events }
     ensures halt { result.halt ≡ None }
 {
-    let Workload {
+    let WorkloadEnd {
         status,
         disk,
         accounts,

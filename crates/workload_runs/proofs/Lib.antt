@@ -1,3 +1,4 @@
 mod Among
 mod Chain
 mod Opening
+mod Tallies

@@ -10,7 +10,7 @@ ghost use Rattle.workload_runs.specs.Statuses.{is_run_status, is_workload_status
 
 use crate::accounts::Runs;
 use crate::saying::status_of_fault;
-use crate::workload::Workload;
+use crate::workload::WorkloadEnd;
 use rdb_account::Events;
 use rdb_outside::{Disk, Sink};
 use rdb_types::Bytes;
@@ -80,7 +80,7 @@ pub(crate) fn finish<D: Disk + Drop, K: Sink>(
     alloc: Global,
     runs: Runs<D>,
     out: &mut K,
-) -> Workload<D>
+) -> WorkloadEnd<D>
     requires { is_run_status runs.status ≡ true }
     ensures status { is_workload_status result.status ≡ true }
     ensures kept { (result.status ≡ runs.status) ⊎ (runs.status ≡ 0) }
@@ -101,7 +101,7 @@ pub(crate) fn finish<D: Disk + Drop, K: Sink>(
     } else {
         status
     };
-    Workload {
+    WorkloadEnd {
         status,
         disk,
         accounts,

@@ -12,4 +12,4 @@ mod stand;
 mod workload;
 
 pub use preparing::Part;
-pub use workload::{Plan, Workload, workload};
+pub use workload::{Plan, WorkloadEnd, workload};

@@ -39,7 +39,7 @@ pub struct Plan {
 
 /// How a workload ended, and the accounts of its runs of sessions that were begun, in their order.
 #[derive(Drop)]
-pub struct Workload<D: Drop> {
+pub struct WorkloadEnd<D: Drop> {
     pub status: u8,
     pub disk: D,
     pub accounts: Items<Events>,
@@ -80,7 +80,7 @@ fn begin<R: Threads + Wait + Sync, D: Disk + Drop + Send, G: Gate + Sync>(
 }
 
 // No database was made.
-fn unmade<D: Drop>(alloc: Global, disk: D, fault: NewFault) -> Workload<D>
+fn unmade<D: Drop>(alloc: Global, disk: D, fault: NewFault) -> WorkloadEnd<D>
     ensures disk { result.disk ≡ disk }
     ensures accounts { result.accounts ≡ [] }
     ensures status { (result.status ≡ 3) ⊎ (result.status ≡ 9) }
@@ -91,7 +91,7 @@ fn unmade<D: Drop>(alloc: Global, disk: D, fault: NewFault) -> Workload<D>
         NewFault::Failed => 3,
         NewFault::NotEmpty => 9,
     };
-    Workload {
+    WorkloadEnd {
         status,
         disk,
         accounts: Items::new(alloc),
@@ -107,19 +107,19 @@ fn status_seen(status: u8, has_failed: bool) -> u8
 }
 
 // A workload over a watched disk, over the disk.
-fn unwatched<B: Beginning, D: Disk + Drop>(ended: Workload<WatchedDisk<B, D>>) -> Workload<D>
+fn unwatched<B: Beginning, D: Disk + Drop>(ended: WorkloadEnd<WatchedDisk<B, D>>) -> WorkloadEnd<D>
     ensures disk { result.disk ≡ (ended.disk).disk }
     ensures accounts { result.accounts ≡ ended.accounts }
     ensures status { (result.status ≡ ended.status) ⊎ ((result.status ≡ 5) × (ended.status ≡ 3)) }
     ensures device { result.status ≡ 3 → Rose B.faults (D.view result.disk).faults }
 {
-    let Workload {
+    let WorkloadEnd {
         status,
         disk,
         accounts,
     } = ended;
     let status = status_seen(status, disk.has_failed());
-    Workload {
+    WorkloadEnd {
         status,
         disk: disk.into_disk(),
         accounts,
@@ -134,7 +134,7 @@ pub fn workload<R, B, D, K, G>(
     disk: D,
     out: &mut K,
     gate: &G,
-) -> Workload<D>
+) -> WorkloadEnd<D>
 where
     R: Threads + Wait + Sync,
     B: Beginning + Send,

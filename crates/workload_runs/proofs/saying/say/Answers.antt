@@ -1,13 +1,8 @@
-use Rattle.std.proofs.Common.{length, sym, subst}
-use Rattle.rdb_drive.specs.Boards.{MayDie}
-use Rattle.line_drive.specs.Boards.{mortals_of}
-use Rattle.workload_runs.specs.Among.{first_of}
-use Rattle.workload_runs.proofs.Among.{fewer-die}
+use Rattle.workload_runs.proofs.Among.{all-may-fail}
 use Rattle.workload_runs.proofs.saying.say.Goals as goal
 
--- the gate of the run is that of all runs, for its sessions
-pub say_in_threads-requires-clause-mortals : goal.say_in_threads-requires-clause-mortals
-say_in_threads-requires-clause-mortals g c =
-    let o = g.O.Origin.opening in
-    subst (λ n. MayDie (first_of n (g.G.Gate.mortals c.args.gate.now)) (mortals_of o g.O.Origin.sessions)) (sym c.requires.sessions)
-    (fewer-die (g.G.Gate.mortals c.args.gate.now) o g.O.Origin.sessions 4 c.requires.mortals)
+pub say_in_threads-requires-clause-mortal : goal.say_in_threads-requires-clause-mortal
+say_in_threads-requires-clause-mortal g c = all-may-fail (g.G.Gate.mortals c.args.gate.now) g.O.Origin.opening c.requires.mortals
+
+pub returns-clause-tells : goal.returns-clause-tells
+returns-clause-tells g c told opened = (c.say_in_threads.ensures.images told opened).tells
