@@ -3,12 +3,10 @@ use Rattle.std.proofs.Common.{◌≡◌, ◌+◌, ◌-◌, ◌≤◌, ℕ, Bool,
 use Rattle.rdb_types.specs.declared.keys.Limits.{Limits}
 use Rattle.rdb_types.specs.declared.session.Cause.{Cause}
 use Rattle.rdb_outside.specs.Disk.{Image, View, OnlyReads}
-use Rattle.rdo_ast.specs.declared.syntax.Item.{Item}
 use Rattle.rdb_meaning.specs.declared.tables.Tables.{Tables}
 use Rattle.root_file.specs.declared.Root.{Root}
 use Rattle.root_file.specs.Root.{IsRoot}
 use Rattle.new_database.specs.Maker.{root_file}
-use Rattle.new_database.specs.New.{IsNewDatabase}
 use Rattle.line_view.specs.Knowledge.{Lines}
 use Rattle.stable_lines.specs.Journal.{Journal, IsJournalOf, next_slot, slots_in}
 use Rattle.stable_lines.specs.Kept.{Kept}
@@ -17,6 +15,7 @@ use Rattle.page_faults.proofs.Reading.{image_same, told_on}
 use Rattle.store_shows.specs.Shows.{OpensTo}
 use Rattle.opened_store.specs.Opened.{is_taken_in}
 use Rattle.session_jobs.specs.Records.{Model}
+use Rattle.session_states.specs.declared.item_queue.WholeScript.{WholeScript}
 use Rattle.line_runs.specs.Openings.{IsOpeningOf, OpensWith, said_to}
 use Rattle.workload_runs.specs.declared.stand.Stand.{Stand}
 use Rattle.workload_runs.specs.Runs.{opening_on}
@@ -27,7 +26,7 @@ slots-below n journal e = omega (arith, e)
 module _ (M : Model) (old new : View) (reads : OnlyReads old new) (t : IsTrue old.tells) (stand : Stand)
     (limits : (root : Root) → IsRoot (old.content root_file 0) root → stand.limits ≡ root.limits)
     (next : (journal : Journal) → IsJournalOf old.content journal → stand.next ≡ next_slot journal)
-    (tables : Tables) (may_die : ℕ → Cause → Bool) (word : List ℕ) (scripts : List (List Item)) where
+    (tables : Tables) (may_die : ℕ → Cause → Bool) (word : List ℕ) (scripts : List WholeScript) where
   same : new.content ≡ old.content
   same = image_same old new reads t
 

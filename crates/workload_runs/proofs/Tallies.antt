@@ -1,6 +1,7 @@
 -- Deaths and faults in the accounts of runs.
 use Rattle.std.proofs.Common.{◌≡◌, ◌≤◌, ◌+◌, ℕ, Bool, true, false, List, [], ◌∷◌, length, map, Option, Some, None, ◌⊎◌, inl, inr, refl, sym, subst, ap, ◌∙◌, arith}
 use Rattle.std.proofs.lemmas.Bool.{false≢true}
+use Rattle.std.proofs.lemmas.Bool.Decides.{nat_tests}
 use Rattle.std.proofs.lemmas.Option.{none-some}
 use Rattle.rdb_outside.specs.Causes.{Rose}
 use Rattle.rdb_account.specs.declared.event.Event.{Event as Declared}
@@ -13,7 +14,7 @@ use Rattle.line_cluster.specs.declared.sessions.Halt.{Halt}
 use Rattle.line_cluster.specs.declared.sessions.Halt.TheVariants as halts
 use Rattle.line_cluster.specs.Deaths.{RoseBy, device_deaths, failures}
 use Rattle.workload_replies.specs.Replies.{has_death}
-use Rattle.workload_runs.specs.Statuses.{deaths_of_last, have_death, last_of}
+use Rattle.workload_runs.specs.Statuses.{deaths_of_last, have_death, is_run_status, last_of}
 use Rattle.workload_runs.proofs.Chain.{InFront}
 
 -- ---- nobody died
@@ -79,6 +80,9 @@ rose-none a b later = omega (arith, later)
 deaths-within : (events : List Event) (halt : Option Halt) → device_deaths events ≤ failures events halt
 deaths-within events halt = omega arith
 
+pub no-fewer : (events : List Event) (halt : Option Halt) (a b : ℕ) → RoseBy (failures events halt) a b → RoseBy 0 a b
+no-fewer events halt a b rose = rose-fewer 0 (failures events halt) a b (omega arith) rose
+
 -- the run whose account this is was the last: these were its faults
 pub harmed-alone : (e : List Declared) (accounts : List (List Declared)) (status ended a b : ℕ) → InFront e [] status accounts ended
     → RoseBy (device_deaths (map event_of e)) a b → RoseBy (deaths_of_last accounts) a b
@@ -112,6 +116,9 @@ stopped-more e es accounts status ended a b c (inr (is, same)) here before rose 
 
 -- ---- a run that ends the workload
 
+left-over : (n m : ℕ) → is_run_status n ≡ true → (n ≡ 0 → ⊥) → (m ≡ n) ⊎ (m ≡ 5) → (m ≡ 3) ⊎ (m ≡ 4) ⊎ (m ≡ 5) ⊎ (m ≡ 8)
+left-over n m is some same = grind (arith, nat_tests)
+
 module _ (fault : Option OpeningFault) (halt : Option Halt) (e : List Declared) (accounts : List (List Declared)) (status ended a b : ℕ)
     (begun : fault ≡ None → InFront e [] status accounts ended)
     (unsaid : (fault ≡ None → ⊥) → (accounts ≡ []) × (ended ≡ status)) where
@@ -127,6 +134,9 @@ module _ (fault : Option OpeningFault) (halt : Option Halt) (e : List Declared) 
   same-status : (f : Option OpeningFault) → fault ≡ f → (ended ≡ status) ⊎ (ended ≡ 5)
   same-status None is = elim (begun is) [ inl it ↦ inl it.1 | inr it ↦ inr it.1 ]
   same-status (Some x) is = inl (unsaid (λ none. none-some x (sym none ∙ is))).1
+
+  pub ended-status : is_run_status status ≡ true → (status ≡ 0 → ⊥) → (ended ≡ 3) ⊎ (ended ≡ 4) ⊎ (ended ≡ 5) ⊎ (ended ≡ 8)
+  ended-status is some = left-over status ended is some (same-status fault refl)
 
   three-is : ended ≡ 3 → status ≡ 3
   three-is three = elim (same-status fault refl) [ inl same ↦ sym same ∙ three | inr five ↦ absurd (let no : ⊥ = omega (arith, five, three) in no) ]

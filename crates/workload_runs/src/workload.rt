@@ -19,10 +19,12 @@ use crate::ending::finish;
 use crate::preparing::{Part, prepare};
 use crate::runs::{Ready, run_first};
 use new_database::{NewFault, make_new};
+use opened_store::a_new_database_opens;
 use rdb_account::Events;
 use rdb_drive::Gate;
 use rdb_outside::{Disk, Sink};
 use rdb_types::{Items, Limits, Word};
+use stable_lines::new_is_kept;
 use std::alloc::Global;
 use std::marker::{Brand, Send};
 use std::sync::Wait;
@@ -66,6 +68,8 @@ fn begin<R: Threads + Wait + Sync, D: Disk + Drop + Send, G: Gate + Sync>(
         RoseBy (deaths_of_last result.accounts + 1) (D.view disk).faults (D.view result.disk).faults }
 {
     let mut disk = disk;
+    new_is_kept();
+    a_new_database_opens();
     match prepare(alloc, &mut disk, plan, Part::First) {
         Err(status) => none_begun(alloc, disk, status),
         Ok(prepared) => {
