@@ -2,14 +2,14 @@
 #![tactic(auto)]
 
 mod accounts;
-mod among;
 mod ending;
+mod gate;
 mod part;
 mod preparing;
 mod runs;
 mod saying;
 mod stand;
-mod workload;
+mod whole;
 
 pub use preparing::Part;
-pub use workload::{Plan, WorkloadEnd, workload};
+pub use whole::{Plan, WorkloadEnd, workload};

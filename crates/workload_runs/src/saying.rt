@@ -12,7 +12,7 @@ ghost use Rattle.workload_replies.specs.Replies.{has_death};
 ghost use Rattle.workload_runs.specs.Among.{may_die_by};
 ghost use Rattle.workload_runs.specs.Statuses.{is_run_status, status_at, IsWhole};
 
-use crate::among::Among;
+use crate::gate::Among;
 use lent_values::Naming;
 use line_cluster::{Halt, Origin};
 use line_opening::OpeningFault;

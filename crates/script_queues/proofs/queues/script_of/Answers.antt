@@ -4,4 +4,4 @@ use Rattle.script_queues.proofs.Fewness.{few-items}
 use Rattle.script_queues.proofs.queues.script_of.Goals as goal
 
 pub returns-clause-few : goal.returns-clause-few
-returns-clause-few g c = ?
+returns-clause-few g c = few-items c.args.text.now c.requires.short

@@ -4,7 +4,7 @@ use Rattle.new_database.specs.New.{IsNewDatabase}
 use Rattle.line_runs.specs.Openings.{said_to}
 use Rattle.workload_runs.specs.Among.{may_die_by}
 use Rattle.workload_runs.specs.Runs.{opening_on}
-use Rattle.workload_runs.proofs.workload.begin.Given as goal
+use Rattle.workload_runs.proofs.whole.begin.Given as goal
 
 -- the first run begins with the tables of a new database, which the disk tells that it is
 abbrev pub ghosts-run_first-O-Origin : goal.ghosts-run_first-O-Origin
