@@ -28,12 +28,12 @@ ghost use Rattle.rmu_recover.specs.Recovering.{IsOther as IsBesideRoll};
 ghost use Rattle.rmu_keeping.specs.Keeping.{is_keeping_status, IsKept, MayBeOpened, MayBeRestored, BacksUp, BacksUpWithin, CopiesJournal, CopiesJournalWithin, Restores, RestoresWithin};
 ghost use Rattle.rmu_keeping.specs.Rolling.{is_recover_status, HasRolled, MayBeRecovered, LacksGroup, IsUsed, Rolls, RollsWithin, TellsGroups};
 ghost use Rattle.rmu_commands.specs.Usable.{HasRootInUse, IsUsable, IsDumped};
-ghost use Rattle.rmu_commands.specs.Written.{Verifies, Dumps, DumpsPage, IsCleanDatabase, is_verify_status, is_dump_status};
+ghost use Rattle.rmu_commands.specs.Written.{HasText, Verifies, Dumps, DumpsPage, IsCleanDatabase, is_verify_status, is_dump_status};
 ghost use Rattle.rdb_top.specs.Runs.{IsNoDatabase, IsRun, IsWhole, IsWritten, has_death, OfSomeScripts, is_workload, keeps_copies, rolls_forward, is_status, is_script_status, status_at, scripts_of, stopped_status, transcripts, sessions_of};
 ghost use Rattle.rdb_top.specs.Deaths.{letting};
 ghost use Rattle.rdb_top.specs.Workloads.{AreWorkloadRuns};
 ghost use Rattle.workload_runs.specs.Reports.{Reports};
-ghost use Rattle.workload_runs.specs.Statuses.{is_workload_status, HasReport, have_death};
+ghost use Rattle.workload_runs.specs.Statuses.{is_workload_status, have_death};
 
 use crate::dying::Dying;
 use crate::finishing::{Finish, finish_scripts, unsaid};
@@ -470,8 +470,8 @@ where
     ensures workload_runs { (accounts : ℕ) → command_for words.now ≡ Some (Command.Workload accounts) → IsTrue (D.view disk).tells → IsUnmade (D.view disk) →
         AreWorkloadRuns words.now (G.mortals gate.now) accounts result.status result.earlier result.events }
     // There are three where there is a report, and nobody died in them.
-    ensures workload_three { is_workload (command_for words.now) ≡ true → HasReport result.status → length result.earlier ≡ 2 }
-    ensures workload_lived { is_workload (command_for words.now) ≡ true → HasReport result.status → (have_death result.earlier ≡ false) × (has_death result.events ≡ false) }
+    ensures workload_three { is_workload (command_for words.now) ≡ true → HasText result.status → length result.earlier ≡ 2 }
+    ensures workload_lived { is_workload (command_for words.now) ≡ true → HasText result.status → (have_death result.earlier ≡ false) × (has_death result.events ≡ false) }
     // It writes what the last run has counted, and how many faults the database has; status 7 says that there are some.
     ensures workload_reports { is_workload (command_for words.now) ≡ true →
         Reports (D.view result.disk) result.events result.status (K.tells out.old ≡ true) (K.taken out.old) (K.taken out.new) }

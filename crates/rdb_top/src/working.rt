@@ -7,9 +7,10 @@ ghost use Rattle.new_database.specs.Maker.{IsUnmade, HasRoot};
 ghost use Rattle.rdb_account.specs.Events.{event_of};
 ghost use Rattle.line_cluster.specs.Deaths.{RoseBy, device_deaths};
 ghost use Rattle.command_words.specs.Words.{command_of as command_for, AreAccounts};
+ghost use Rattle.rmu_commands.specs.Written.{HasText};
 ghost use Rattle.workload_replies.specs.Replies.{has_death};
 ghost use Rattle.workload_runs.specs.Reports.{Reports};
-ghost use Rattle.workload_runs.specs.Statuses.{is_workload_status, HasReport, have_death};
+ghost use Rattle.workload_runs.specs.Statuses.{is_workload_status, have_death};
 ghost use Rattle.rdb_top.specs.Workloads.{AreWorkloadRuns, EndIn, database_in};
 
 use crate::finishing::{Finish, unsaid};
@@ -90,10 +91,10 @@ where
     ensures halt { result.halt ≡ None }
     ensures runs { IsTrue (D.view disk).tells → IsUnmade (D.view disk) →
         AreWorkloadRuns words.now (G.mortals gate.now) accounts result.status result.earlier result.events }
-    ensures three { HasReport result.status → length result.earlier ≡ 2 }
+    ensures three { HasText result.status → length result.earlier ≡ 2 }
     ensures reports { Reports (D.view result.disk) result.events result.status (K.tells out.old ≡ true) (K.taken out.old) (K.taken out.new) }
     ensures died { result.status ≡ 8 → has_death result.events ≡ true }
-    ensures lived { HasReport result.status → (have_death result.earlier ≡ false) × (has_death result.events ≡ false) }
+    ensures lived { HasText result.status → (have_death result.earlier ≡ false) × (has_death result.events ≡ false) }
     ensures device { result.status ≡ 3 → Rose (D.view disk).faults (D.view result.disk).faults }
     ensures sink { result.status ≡ 6 → Rose (K.faults out.old) (K.faults out.new) }
     ensures harmed { IsTrue (D.view disk).tells → IsUnmade (D.view disk) →

@@ -1,4 +1,5 @@
 mod Among
 mod Chain
 mod Opening
+mod Reporting
 mod Tallies

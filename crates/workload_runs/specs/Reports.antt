@@ -5,12 +5,11 @@ use Rattle.rdb_account.specs.declared.event.Event.{Event}
 use Rattle.stable_lines.specs.Journal.{Journal, IsJournalOf}
 use Rattle.rmu_texts.specs.declared.faults.VerifyFault.{VerifyFault}
 use Rattle.rmu_verify.specs.Verified.{AreFaults}
-use Rattle.rmu_commands.specs.Written.{Writes}
+use Rattle.rmu_commands.specs.Written.{HasText, Writes}
 use Rattle.workload_scripts.specs.declared.report.Report.{Report}
 use Rattle.workload_scripts.specs.Report.{report_text}
 use Rattle.workload_replies.specs.declared.replies.Counted.{Counted}
 use Rattle.workload_replies.specs.Replies.{counted_among}
-use Rattle.workload_runs.specs.Statuses.{HasReport}
 
 abbrev pub report_of : Counted → List VerifyFault → Report
 report_of c faults = record { accounts = c.accounts; total = c.total; faults = length faults }
@@ -19,8 +18,8 @@ report_of c faults = record { accounts = c.accounts; total = c.total; faults = l
 pub record Reports (disk : View) (last : List Event) (status : ℕ) (SinkTells : Type 0) (old new : List ℕ) : Type 0 where
   pub counted : Counted
   pub faults : List VerifyFault
-  pub printed : HasReport status → counted_among last ≡ Some counted
-  pub are : HasReport status → IsTrue disk.tells → (journal : Journal) → IsJournalOf disk.content journal → AreFaults disk.content journal.groups faults
+  pub printed : HasText status → counted_among last ≡ Some counted
+  pub are : HasText status → IsTrue disk.tells → (journal : Journal) → IsJournalOf disk.content journal → AreFaults disk.content journal.groups faults
   pub none : status ≡ 0 → faults ≡ []
   pub some : status ≡ 7 → faults ≡ [] → ⊥
   pub writes : SinkTells → Writes status (report_text (report_of counted faults)) old new

@@ -3,8 +3,6 @@ use Rattle.std.specs.Prelude.{◌≡◌, ◌⊎◌, ℕ, Bool, List, [], ◌∷�
 use Rattle.std.specs.List.{list_any}
 use Rattle.rdb_account.specs.declared.event.Event.{Event}
 use Rattle.rdb_account.specs.Events.{event_of}
-use Rattle.line_opening.specs.declared.fault.OpeningFault.{OpeningFault}
-use Rattle.line_opening.specs.declared.fault.OpeningFault.TheVariants.{Failed, NoMemory, Bad}
 use Rattle.line_cluster.specs.Deaths.{device_deaths}
 use Rattle.workload_replies.specs.Replies.{has_death}
 
@@ -17,16 +15,6 @@ is_workload_status n = list_any (nat_eq n) (0 ∷ 3 ∷ 4 ∷ 5 ∷ 6 ∷ 7 ∷ 
 -- the statuses at which every session of the last run that lived came to its end
 abbrev pub IsWhole : ℕ → Type 0
 IsWhole status = (status ≡ 0) ⊎ (status ≡ 6) ⊎ (status ≡ 7) ⊎ (status ≡ 8)
-
--- the statuses at which there was a report to write
-abbrev pub HasReport : ℕ → Type 0
-HasReport status = (status ≡ 0) ⊎ (status ≡ 6) ⊎ (status ≡ 7)
-
--- the status of a database that wasn't opened or read
-abbrev pub status_at : OpeningFault → ℕ
-status_at Failed = 3
-status_at NoMemory = 5
-status_at (Bad file slot) = 4
 
 -- the last of these accounts
 abbrev pub last_of : List (List Event) → List Event

@@ -8,9 +8,10 @@ ghost use Rattle.line_cluster.specs.Sound.{FollowsScripts};
 ghost use Rattle.line_cluster.specs.Turned.{HaveAllEnded};
 ghost use Rattle.line_runs.specs.Openings.{OpensWith};
 ghost use Rattle.line_runs.specs.Prefix.{HoldsAll};
+ghost use Rattle.rmu_commands.specs.Usable.{status_at};
 ghost use Rattle.workload_replies.specs.Replies.{has_death};
 ghost use Rattle.workload_runs.specs.Among.{may_die_by};
-ghost use Rattle.workload_runs.specs.Statuses.{is_run_status, status_at, IsWhole};
+ghost use Rattle.workload_runs.specs.Statuses.{is_run_status, IsWhole};
 
 use crate::gate::Among;
 use lent_values::Naming;

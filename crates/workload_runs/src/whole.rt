@@ -7,12 +7,13 @@ ghost use Rattle.new_database.specs.Maker.{IsUnmade, HasRoot};
 ghost use Rattle.new_database.specs.New.{IsNewDatabase};
 ghost use Rattle.rdb_meaning.specs.Contents.{no_tables};
 ghost use Rattle.line_cluster.specs.Deaths.{RoseBy};
+ghost use Rattle.rmu_commands.specs.Written.{HasText};
 ghost use Rattle.workload_replies.specs.Replies.{has_death};
 ghost use Rattle.workload_runs.specs.Among.{may_die_by};
 ghost use Rattle.workload_runs.specs.Reports.{Reports};
 ghost use Rattle.workload_runs.specs.Runs.{AreRuns};
 ghost use Rattle.workload_runs.specs.Scripts.{scripts_of_runs};
-ghost use Rattle.workload_runs.specs.Statuses.{is_run_status, is_workload_status, IsWhole, HasReport, deaths_of_last, have_death, last_of};
+ghost use Rattle.workload_runs.specs.Statuses.{is_run_status, is_workload_status, IsWhole, deaths_of_last, have_death, last_of};
 
 use crate::accounts::{Runs, none_begun};
 use crate::ending::finish;
@@ -155,12 +156,12 @@ where
     ensures runs { IsTrue (D.view disk).tells → IsUnmade (D.view disk) →
         AreRuns (IsWhole result.status) (record { word = plan.now.word; may_die = may_die_by (G.mortals gate.now) }) no_tables (scripts_of_runs plan.now.accounts) result.accounts }
     // There are three where there is a report.
-    ensures three { HasReport result.status → length result.accounts ≡ 3 }
+    ensures three { HasText result.status → length result.accounts ≡ 3 }
     // What is written is what the last run printed, and how many faults the database has.
     ensures reports { Reports (D.view result.disk) (last_of result.accounts) result.status (K.tells out.old ≡ true) (K.taken out.old) (K.taken out.new) }
     // Some session died, or none.
     ensures died { result.status ≡ 8 → has_death (last_of result.accounts) ≡ true }
-    ensures lived { HasReport result.status → have_death result.accounts ≡ false }
+    ensures lived { HasText result.status → have_death result.accounts ≡ false }
     // A device call failed, or one on the sink.
     ensures device { result.status ≡ 3 → Rose (D.view disk).faults (D.view result.disk).faults }
     ensures sink { result.status ≡ 6 → Rose (K.faults out.old) (K.faults out.new) }
