@@ -4,10 +4,8 @@ use Rattle.std.specs.List.{list_any, flat_map}
 use Rattle.rdb_types.specs.declared.file.FileId.{FileId}
 use Rattle.rdb_types.specs.declared.keys.Dbkey.{Dbkey}
 use Rattle.rdb_outside.specs.Disk.{View}
-use Rattle.rdo_parser.specs.Script.{ends_in_stop, script_items}
 use Rattle.rdb_drive.specs.Orders.{upward}
 use Rattle.rdb_account.specs.declared.event.Event.{Event}
-use Rattle.rdb_account.specs.declared.event.Event.TheVariants as event
 use Rattle.rdb_account.specs.Events.{event_of}
 use Rattle.rdb_account.specs.Legal.{IsLegal}
 use Rattle.rdb_account.specs.Places.{Opening}
@@ -25,12 +23,9 @@ use Rattle.command_words.specs.declared.words.Scripts.{Scripts}
 use Rattle.command_words.specs.declared.words.Command.{Command}
 use Rattle.command_words.specs.declared.words.Command.TheVariants.{New, Rdo, Workload, Verify, Dump, DumpPage, Backup, BackupJournal, Restore, Recover}
 use Rattle.rdb_top.specs.Deaths.{letting}
+use Rattle.script_queues.specs.Scripts.{whole_script}
 use Rattle.script_streams.specs.declared.read.ReadStop.{ReadStop}
 use Rattle.script_streams.specs.declared.read.ReadStop.TheVariants.{Failed, OutOfMemory, TooLong}
-
--- the items of a text, and whether they end at a `$ STOP`
-abbrev pub whole_script : List ℕ → WholeScript
-whole_script text = record { items = script_items text; stops = ends_in_stop text }
 
 -- the scripts of so many sessions, by the texts that are left for each
 abbrev pub scripts_of : (ℕ → List ℕ) → ℕ → List WholeScript
@@ -103,21 +98,6 @@ IsWritten status = (status ≡ 0) ⊎ (status ≡ 8)
 -- the statuses at which every session that lived said its script to the end
 abbrev pub IsWhole : ℕ → Type 0
 IsWhole status = IsWritten status ⊎ (status ≡ 6)
-
-abbrev pub is_death : Event → Bool
-is_death (event.Began s kind) = false
-is_death (event.Wanted s node mode at) = false
-is_death (event.Got s node mode) = false
-is_death (event.Demoted s node from to) = false
-is_death (event.Said s item keys reply) = false
-is_death (event.Committed s moment) = false
-is_death (event.RolledBack s) = false
-is_death (event.Died s cause) = true
-is_death (event.Recovered s committed moment) = false
-
--- some session died
-abbrev pub has_death : List Event → Bool
-has_death events = list_any is_death events
 
 -- the account of a run of these scripts' items is legal, whole where every session that lived said its items, and keeps to the order where there is one
 abbrev pub IsRun : Opening → List ℕ → Scripts → List ℕ → ℕ → List Event → List WholeScript → Type 0

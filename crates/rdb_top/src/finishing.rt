@@ -3,9 +3,10 @@ ghost use Rattle.std.specs.Prelude.{◌≡◌, ◌⊎◌, ℕ, true, false, None
 ghost use Rattle.rdb_types.specs.declared.file.FileId.{FileId as File};
 ghost use Rattle.rdb_outside.specs.Causes.{Rose};
 ghost use Rattle.script_streams.specs.Fronts.{WritesFront};
-ghost use Rattle.rdb_top.specs.Runs.{IsOverLine, IsOverSlot, IsWhole, IsWritten, has_death, is_script_status, stopped_status, transcripts, unopened_status};
+ghost use Rattle.workload_replies.specs.Replies.{has_death};
+ghost use Rattle.rdb_top.specs.Runs.{IsOverLine, IsOverSlot, IsWhole, IsWritten, is_script_status, stopped_status, transcripts, unopened_status};
 
-use crate::scripts::{some_died, write_transcripts};
+use crate::scripts::write_transcripts;
 use crate::stopping::status_stopped;
 use line_cluster::Halt;
 use line_opening::OpeningFault;
@@ -15,6 +16,7 @@ use rdb_account::{Event, Events};
 use rdb_outside::Sink;
 use rdb_types::Items;
 use std::alloc::Global;
+use workload_replies::some_died;
 
 /// How a run ended, and what happened in it.
 #[derive(Drop)]

@@ -29,7 +29,8 @@ ghost use Rattle.rmu_keeping.specs.Keeping.{is_keeping_status, IsKept, MayBeOpen
 ghost use Rattle.rmu_keeping.specs.Rolling.{is_recover_status, HasRolled, MayBeRecovered, LacksGroup, IsUsed, Rolls, RollsWithin, TellsGroups};
 ghost use Rattle.rmu_commands.specs.Usable.{HasRootInUse, IsUsable, IsDumped};
 ghost use Rattle.rmu_commands.specs.Written.{HasText, Verifies, Dumps, DumpsPage, IsCleanDatabase, is_verify_status, is_dump_status};
-ghost use Rattle.rdb_top.specs.Runs.{IsNoDatabase, IsRun, IsWhole, IsWritten, has_death, OfSomeScripts, is_workload, keeps_copies, rolls_forward, is_status, is_script_status, status_at, scripts_of, stopped_status, transcripts, sessions_of};
+ghost use Rattle.workload_replies.specs.Replies.{has_death};
+ghost use Rattle.rdb_top.specs.Runs.{IsNoDatabase, IsRun, IsWhole, IsWritten, OfSomeScripts, is_workload, keeps_copies, rolls_forward, is_status, is_script_status, status_at, scripts_of, stopped_status, transcripts, sessions_of};
 ghost use Rattle.rdb_top.specs.Deaths.{letting};
 ghost use Rattle.rdb_top.specs.Workloads.{AreWorkloadRuns};
 ghost use Rattle.workload_runs.specs.Reports.{Reports};

@@ -1,1 +1,1 @@
-mod Fewness
+pub mod Fewness

@@ -1,5 +1,6 @@
 -- Reports of workloads that ended before one was written, and of those that came to it.
-use Rattle.std.proofs.Common.{◌≡◌, ◌⊎◌, inl, inr, ℕ, pos, List, [], Some, IsTrue, refl, arith}
+use Rattle.std.proofs.Common.{◌≡◌, ◌⊎◌, inl, inr, ℕ, List, [], Some, IsTrue, refl, arith}
+use Rattle.std.specs.Prelude.{pos}
 use Rattle.rdb_outside.specs.Disk.{View}
 use Rattle.rdb_account.specs.declared.event.Event.{Event}
 use Rattle.rmu_commands.specs.Written.{HasText}
