@@ -1,5 +1,5 @@
 mod Among
 mod Chain
 mod Opening
-mod Reporting
+pub mod Reporting
 mod Tallies

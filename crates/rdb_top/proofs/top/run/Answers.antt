@@ -12,7 +12,8 @@ use Rattle.command_words.specs.declared.words.Scripts.{Scripts}
 use Rattle.command_words.specs.Words.{word_of, order_in}
 use Rattle.rdb_top.specs.Deaths.{letting}
 use Rattle.rdb_top.specs.Runs.{scripts_of, IsRun, OfSomeScripts}
-use Rattle.rdb_top.proofs.Givens.{same-given, same-backup, same-copy, same-restore}
+use Rattle.rdb_top.specs.Workloads.{AreWorkloadRuns}
+use Rattle.rdb_top.proofs.Givens.{same-given, same-backup, same-copy, same-restore, same-workload}
 use Rattle.rdb_top.proofs.Saying.{prefix-of-given, all-of-given}
 use Rattle.rdb_top.proofs.top.run.Goals as goal
 
@@ -128,3 +129,9 @@ returns-in-Some-Recover-clause-lacking g c rolls told lacks =
 
 pub returns-in-Some-Recover-clause-rolled_before : goal.returns-in-Some-Recover-clause-rolled_before
 returns-in-Some-Recover-clause-rolled_before g c rolls told used = rw c.unsaid-in-Some-Recover.ensures.disk (c.run_recover-status.ensures.in_use told used)
+
+pub returns-in-Some-Workload-clause-workload_runs : goal.returns-in-Some-Workload-clause-workload_runs
+returns-in-Some-Workload-clause-workload_runs g c accounts row told unmade =
+    subst (λ (n : ℕ). AreWorkloadRuns c.args.words.now (g.G.Gate.mortals c.args.gate.now) n c.run_workload.result.status c.run_workload.result.earlier c.run_workload.result.events)
+    (same-workload c.in-Some-Workload.accounts accounts _ (ap Some (sym c.in-Some-Workload.field-0-is) ∙ c.in-Some-Workload.ensures.row) row)
+    (c.run_workload.ensures.runs told unmade)
