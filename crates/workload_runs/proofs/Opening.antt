@@ -7,6 +7,7 @@ use Rattle.rdb_meaning.specs.declared.tables.Tables.{Tables}
 use Rattle.root_file.specs.declared.Root.{Root}
 use Rattle.root_file.specs.Root.{IsRoot}
 use Rattle.new_database.specs.Maker.{root_file}
+use Rattle.new_database.specs.New.{IsNewDatabase}
 use Rattle.line_view.specs.Knowledge.{Lines}
 use Rattle.stable_lines.specs.Journal.{Journal, IsJournalOf, next_slot, slots_in}
 use Rattle.stable_lines.specs.Kept.{Kept}
@@ -74,3 +75,13 @@ new-opens limits image kept lie = record {
   by_area = λ area. 0;
   lie = lie (λ area. 0);
 }
+
+-- what the disk tells behind what only reads it told before
+pub told-before : (old new : View) → OnlyReads old new → IsTrue new.tells → IsTrue old.tells
+told-before old new reads t = subst (λ b. IsTrue b) reads.told t
+
+pub new-before : (limits : Limits) (old new : View) → OnlyReads old new → IsTrue old.tells → IsNewDatabase limits new.content → IsNewDatabase limits old.content
+new-before limits old new reads t is = subst (λ (m : Image). IsNewDatabase limits m) (image_same old new reads t) is
+
+pub new-behind : (limits : Limits) (old new : View) → OnlyReads old new → IsTrue old.tells → IsNewDatabase limits old.content → IsNewDatabase limits new.content
+new-behind limits old new reads t is = subst (λ (m : Image). IsNewDatabase limits m) (sym (image_same old new reads t)) is
