@@ -522,7 +522,9 @@ where
             let status = run_recover(alloc, words, &mut disk, out);
             unsaid(alloc, status, disk)
         }
-        Some(Command::Workload(accounts)) => run_workload::<R, Brand, D, K, G>(rt, alloc, words, accounts, disk, out, gate),
+        Some(Command::Workload(accounts)) => run_workload::<R, Brand, D, K, G>(
+            rt, alloc, words, accounts, disk, out, gate,
+        ),
         Some(Command::Rdo(given)) => {
             let asked = Asked { words, given };
             run_rdo::<R, O, D, S, K, G>(rt, alloc, asked, disk, scripts, out, gate)

@@ -108,7 +108,11 @@ fn status_seen(status: u8, has_failed: bool) -> u8
     ensures status { (result ≡ status) ⊎ ((result ≡ 5) × (status ≡ 3)) }
     ensures failed { result ≡ 3 → has_failed ≡ true }
 {
-    if status == 3 && !has_failed { 5 } else { status }
+    if status == 3 && !has_failed {
+        5
+    } else {
+        status
+    }
 }
 
 // A workload over a watched disk, over the disk.

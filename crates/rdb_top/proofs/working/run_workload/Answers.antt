@@ -22,9 +22,9 @@ returns-in-Ok-clause-runs g c told unmade =
       all,
       c.last_apart.ensures.accounts,
       subst (λ (n : ℕ). AreRuns (IsWhole n) (record { word = database_in c.args.words.now; may_die = dies }) no_tables (scripts_of_runs c.args.accounts) all) (sym c.last_apart.ensures.status)
-      (subst (λ (n : ℕ). AreRuns (IsWhole c.workload.result.status) (record { word = database_in c.args.words.now; may_die = dies }) no_tables (scripts_of_runs n) all) c.in-Ok.ensures.accounts
-      (subst (λ (w : List ℕ). AreRuns (IsWhole c.workload.result.status) (record { word = w; may_die = dies }) no_tables (scripts_of_runs c.in-Ok.plan.accounts) all) c.in-Ok.ensures.word
-      (c.workload.ensures.runs told unmade))),
+          (subst (λ (n : ℕ). AreRuns (IsWhole c.workload.result.status) (record { word = database_in c.args.words.now; may_die = dies }) no_tables (scripts_of_runs n) all) c.in-Ok.ensures.accounts
+          (subst (λ (w : List ℕ). AreRuns (IsWhole c.workload.result.status) (record { word = w; may_die = dies }) no_tables (scripts_of_runs c.in-Ok.plan.accounts) all) c.in-Ok.ensures.word
+          (c.workload.ensures.runs told unmade))),
     )
 
 pub returns-in-Ok-clause-three : goal.returns-in-Ok-clause-three
