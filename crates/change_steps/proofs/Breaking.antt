@@ -1,15 +1,19 @@
--- A step of a change that fails: the transaction can only end.
+-- A step of a change that fails, or goes astray: the transaction can only end.
 use Rattle.std.proofs.Common.{◌≡◌, ◌≤◌, ◌+◌, ◌==◌, ◌⊎◌, ℕ, false, IsTrue, List, [], Some, None, inl, refl, sym, ap, subst, ◌∙◌, arith}
 use Rattle.std.specs.Prelude.{slice_get, if◌then◌else◌}
 use Rattle.std.proofs.lemmas.Option.{none-some}
+use Rattle.rdb_types.specs.declared.file.FileId.{FileId}
+use Rattle.rdb_outside.specs.Causes.{Rose}
 use Rattle.rdb_outside.specs.Disk.{View, LeavesOnly, IsPending}
 use Rattle.line_view.specs.declared.writes.Write.{Write}
 use Rattle.line_view.specs.Knowledge.{Lines}
 use Rattle.line_store.specs.Seats.{in_flight}
 use Rattle.line_store.specs.Shelves.{Shelf, Space}
-use Rattle.line_store.specs.Calls.{Moves, Fails, HasCause, KeepsSpace}
+use Rattle.line_store.specs.Calls.{Moves, Fails, KeepsSpace}
 use Rattle.line_store.specs.Sights.{bare, Does}
 use Rattle.line_store.specs.declared.answers.Fault.{Fault}
+use Rattle.line_store.specs.declared.answers.Fault.TheVariants.{Failed, Bad}
+use Rattle.line_store.proofs.Causes.{cause-of}
 use Rattle.version_writing.specs.Tables.{HoldsAll}
 use Rattle.disk_seats.specs.Ledgers.{broken, entries_of, Ledger, stands_as}
 use Rattle.disk_seats.specs.Members.{MayEnd, LedgerFacts}
@@ -110,11 +114,15 @@ module _ (v w : View) (held behind : StoreMemory) (s : ℕ) (m n : Member) (was 
   seated : (start : Lines) → seat_with n.stage (writes_in n.written.lines) start ≡ seat_with m.stage (writes_in m.written.lines) start
   seated start = ap (λ x. seat_with x (writes_in n.written.lines) start) breaks ∙ ap (λ w. seat_with stage.Changing (writes_in w.lines) start) same ∙ ap (λ x. seat_with x (writes_in m.written.lines) start) (sym at)
 
-  pub does-break : (fault : Fault) → HasCause fault (record { time = v.moment; faults = v.faults }) (record { time = w.moment; faults = w.faults }) → Does s (stand_at held.members s) (λ h g. Fails s fault h g) (sight_of v held) (sight_of w behind)
-  does-break fault cause = subst (λ x. Does s (stand_of x) (λ h g. Fails s fault h g) (sight_of v held) (sight_of w behind)) (sym was)
-      (does-step v w held behind s m n was becomes (λ e. let bad : stage.Broken ≡ stage.Reading = sym breaks ∙ e in cc) told leaves to-broken later no-fewer (stand_of (Some m)) (λ h g. Fails s fault h g) (ap (λ x. bare (seat_with x [] [])) breaks ∙ sym (ap (λ x. bare (seat_with x [] [])) at))
+  -- it stays in its seat, and can only end
+  pub does-broken : (R : Shelf → Shelf → Type 0) → ((h g : Shelf) → Shown v held h → Moves s (h.seat s) h g → h.clock.faults ≡ v.faults → g.clock.faults ≡ w.faults → R h g) → Does s (stand_at held.members s) R (sight_of v held) (sight_of w behind)
+  does-broken R as-asked = subst (λ x. Does s (stand_of x) R (sight_of v held) (sight_of w behind)) (sym was)
+      (does-step v w held behind s m n was becomes (λ e. let bad : stage.Broken ≡ stage.Reading = sym breaks ∙ e in cc) told leaves to-broken later no-fewer (stand_of (Some m)) R (ap (λ x. bare (seat_with x [] [])) breaks ∙ sym (ap (λ x. bare (seat_with x [] [])) at))
       still (λ h shown stands. record { lines = refl; commit = refl }) keeps-space
-      (λ h g start related moves. record {
-        moves = subst (λ seat. Moves s seat h g) (seated start ∙ sym related.seat) moves;
-        cause = subst (λ c. HasCause fault h.clock c) (λ i. record { time = sym related.time_behind i; faults = sym related.faults_behind i }) (subst (λ c. HasCause fault c (record { time = w.moment; faults = w.faults })) (λ i. record { time = sym related.shown.lines.time i; faults = sym related.shown.lines.faults i }) cause);
-      }))
+      (λ h g start related moves. as-asked h g related.shown (subst (λ seat. Moves s seat h g) (seated start ∙ sym related.seat) moves) related.shown.lines.faults related.faults_behind))
+
+  pub does-break : (fault : Fault) → (fault ≡ Failed → Rose v.faults w.faults) → ((h : Shelf) → Shown v held h → (file : FileId) (slot : ℕ) → fault ≡ Bad file slot → ⊥) → Does s (stand_at held.members s) (λ h g. Fails s fault h g) (sight_of v held) (sight_of w behind)
+  does-break fault rose good = does-broken (λ h g. Fails s fault h g) (λ h g shown moves before after. record {
+    moves = moves;
+    cause = cause-of fault h.clock g.clock v.faults w.faults rose (λ file slot is. absurd (good h shown file slot is)) before after;
+  })

@@ -2,11 +2,6 @@
 use Rattle.std.proofs.Common.{◌≡◌, ◌<◌, ℕ, List, Some, refl, ap, ◌∙◌, arith}
 use Rattle.std.specs.Prelude.{slice_get, slice_set}
 use Rattle.rdb_types.specs.declared.keys.Dbkey.{Dbkey}
-use Rattle.rdb_outside.specs.Causes.{Rose}
-use Rattle.line_store.specs.Calls.{HasCause}
-use Rattle.line_store.specs.Shelves.{Clock}
-use Rattle.line_store.specs.declared.answers.Fault.{Fault}
-use Rattle.line_store.specs.declared.answers.Fault.TheVariants.{Failed, Bad}
 use Rattle.line_moves.specs.declared.places.Place.{Place}
 use Rattle.line_moves.specs.Changes.{IsPlaceOf}
 use Rattle.disk_store.specs.declared.member.Member.{Member}
@@ -15,10 +10,6 @@ use Rattle.disk_store.specs.Seats.{steps_at, steps_of, steps_in}
 use Rattle.disk_store.specs.Sound.{IsSound}
 use Rattle.disk_store.proofs.Members.{set-here, get-within}
 use Rattle.disk_store.proofs.SlotsSound.{found-key}
-
-pub fault-cause : (fault : Fault) (old new : Clock) → (fault ≡ Failed → Rose old.faults new.faults) → HasCause fault old new
-fault-cause Failed old new rose = rose refl
-fault-cause (Bad file slot) old new rose = tt
 
 -- a key of a session has a place
 pub place-for : (held : StoreMemory) (sound : IsSound held) (s : ℕ) (m : Member) (was : slice_get held.members s ≡ Some m) (place : ℕ) (key : Dbkey) → slice_get m.written.keys place ≡ Some key → (p : Place) × IsPlaceOf key p

@@ -6,13 +6,16 @@ use Rattle.rdb_types.specs.declared.keys.Dbkey.{Dbkey}
 use Rattle.rdb_types.specs.declared.keys.Line.{Line}
 use Rattle.rdb_types.specs.declared.keys.Limits.{Limits}
 use Rattle.rdb_types.specs.Order.{dbkey_order}
+use Rattle.rdb_types.specs.declared.file.FileId.{FileId}
+use Rattle.rdb_outside.specs.Causes.{Rose}
 use Rattle.rdb_outside.specs.Disk.{View, IsPending}
 use Rattle.line_view.specs.declared.writes.Write.{Write}
 use Rattle.line_view.specs.Knowledge.{Lines}
 use Rattle.line_store.specs.Seats.{in_flight}
 use Rattle.line_store.specs.Shelves.{Shelf}
-use Rattle.line_store.specs.Calls.{Moves, GoesOn, Fails, HasCause}
+use Rattle.line_store.specs.Calls.{Moves, GoesOn, Fails}
 use Rattle.line_store.specs.declared.answers.Fault.{Fault}
+use Rattle.line_store.specs.declared.answers.Fault.TheVariants.{Failed, Bad}
 use Rattle.line_store.specs.Sights.{Does}
 use Rattle.stable_lines.specs.Slots.{Undo, ruj_file, line_at}
 use Rattle.stable_lines.specs.Image.{IsNoneOf}
@@ -37,7 +40,7 @@ use Rattle.disk_store.proofs.Beside.{StaysOf, stays-there}
 use Rattle.disk_store.proofs.Kept.{kept-stays}
 use Rattle.disk_store.proofs.Stepping.{ComesTo, does-step, becomes-member, space-same}
 use Rattle.disk_store.proofs.Passing.{Passes, passes-aside, aside-ceiling, tables-pass, slots-pass, same-ledger}
-use Rattle.change_steps.proofs.Breaking.{StaysShown, taken-broken, does-break}
+use Rattle.change_steps.proofs.Breaking.{StaysShown, taken-broken, does-break, does-broken}
 use Rattle.disk_store.proofs.SlotsSound.{found-key}
 use Rattle.change_steps.proofs.LeftTo.{left-to, not-borne}
 
@@ -243,5 +246,9 @@ module _ (v w : View) (held : StoreMemory) (s : ℕ) (m : Member) (was : slice_g
       | inr broke ↦ broke
     ]
 
-    pub does-fault : (fault : Fault) → HasCause fault (record { time = v.moment; faults = v.faults }) (record { time = w.moment; faults = w.faults }) → Does s (stand_at held.members s) (λ h g. Fails s fault h g) (sight_of v held) (sight_of w (with_member s b held))
-    does-fault fault cause = does-break v w held behind-fault s m b was at (becomes-member held held.numbers s b) refl refl refl only.told only.leaves only.later only.no_fewer broken-now stays-shown space-same fault cause
+    pub does-fault : (fault : Fault) → (fault ≡ Failed → Rose v.faults w.faults) → ((h : Shelf) → Shown v held h → (file : FileId) (slot : ℕ) → fault ≡ Bad file slot → ⊥) → Does s (stand_at held.members s) (λ h g. Fails s fault h g) (sight_of v held) (sight_of w (with_member s b held))
+    does-fault fault rose good = does-break v w held behind-fault s m b was at (becomes-member held held.numbers s b) refl refl refl only.told only.leaves only.later only.no_fewer broken-now stays-shown space-same fault rose good
+
+    -- the header was written before, and doesn't stand
+    pub does-astray : Does s (stand_at held.members s) (λ h g. Moves s (h.seat s) h g) (sight_of v held) (sight_of w (with_member s b held))
+    does-astray = does-broken v w held behind-fault s m b was at (becomes-member held held.numbers s b) refl refl refl only.told only.leaves only.later only.no_fewer broken-now stays-shown space-same (λ h g. Moves s (h.seat s) h g) (λ h g shown moves before after. moves)

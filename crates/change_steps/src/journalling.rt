@@ -8,7 +8,7 @@ ghost use Rattle.disk_store.specs.Seats.{stand_at};
 ghost use Rattle.disk_store.specs.Shown.{sight_of};
 
 use disk_store::{Held, MemberStage};
-use line_moves::{place_of, ruj_file};
+use line_moves::place_of;
 use line_store::{Fault, Stepped};
 use member_steps::{Journalled, journal_next};
 use rdb_outside::Disk;
@@ -45,7 +45,7 @@ pub(crate) fn journal_key<D: Disk>(
             // it was written before, and doesn't stand
             if named {
                 held.set_stage(s, MemberStage::Broken);
-                return Err(Fault::Bad(ruj_file(s.number), 0));
+                return Ok(Stepped::Astray);
             }
             held.note_named(s);
             Ok(Stepped::More)

@@ -1,12 +1,14 @@
 // Lines of a change are pushed aside for readers, or have nothing to push.
-ghost use Rattle.std.specs.Prelude.{◌≡◌, true, Ok, OnOk, IsErrOf, IsTrue};
+ghost use Rattle.std.specs.Prelude.{◌≡◌, ◌-◌, ℕ, true, Ok, IsErrOf, IsTrue};
+ghost use Rattle.rdb_types.specs.declared.file.FileId.{FileId as File};
+ghost use Rattle.rdb_page.specs.Whole.{IsPageOf};
 ghost use Rattle.line_store.specs.Seats.{IsMember};
 ghost use Rattle.line_store.specs.Sights.{Does, IsLess, MayAnswer, Steps, stepped_to};
 ghost use Rattle.line_store.specs.declared.answers.Stepped.TheVariants as stepped;
 ghost use Rattle.rdb_types.specs.declared.keys.LineState.TheVariants.{Never};
 ghost use Rattle.rdb_outside.specs.Causes.{Rose};
 ghost use Rattle.rdb_outside.specs.Disk.{OnlyReads};
-ghost use Rattle.stable_lines.specs.Slots.{line_at as line_named};
+ghost use Rattle.stable_lines.specs.Slots.{area_file as area_named, line_at as line_named};
 ghost use Rattle.line_moves.specs.Changes.{IsPlaceOf};
 ghost use Rattle.disk_store.specs.ChangeSteps.{HasAside, IsNext, Unpushed};
 ghost use Rattle.disk_store.specs.Seats.{stand_at};
@@ -14,7 +16,7 @@ ghost use Rattle.disk_store.specs.Shown.{sight_of};
 ghost use Rattle.disk_store.specs.Sound.{wanted_in};
 
 use disk_store::{Held, MemberStage};
-use line_moves::{Place, area_file, line_at, place_of};
+use line_moves::{Place, line_at, place_of};
 use line_store::{Fault, Stepped};
 use rdb_outside::Disk;
 use rdb_types::{Dbkey, LineState, Session};
@@ -45,24 +47,25 @@ fn push_key<D: Disk>(
     Ok(Stepped::More)
 }
 
-// Reads a line that was never used. Where it was, its page is bad: no slot is set aside for it.
-fn read_unused<D: Disk>(disk: &mut D, key: Dbkey, place: Place) -> Result<(), Fault>
+// Whether a line was never used, by its page.
+fn is_unused<D: Disk>(disk: &mut D, key: Dbkey, place: Place) -> Result<bool, Fault>
     requires { IsPlaceOf key place }
     ensures reads { OnlyReads (D.view disk.old) (D.view disk.new) }
     ensures failed { IsErrOf result Fault.Failed
         → Rose (D.view disk.old).faults (D.view disk.new).faults }
-    ensures never { OnOk result (IsTrue (D.view disk.old).tells
+    ensures bad { (file : File) (slot : ℕ) → IsErrOf result (Fault.Bad file slot)
+        → IsTrue (D.view disk.old).tells
+        → IsPageOf place.file place.page
+        ((D.view disk.old).content (area_named place.file) (place.page - 1)) → ⊥ }
+    ensures never { result ≡ Ok true → IsTrue (D.view disk.old).tells
         → let line = line_named (D.view disk.old).content key in
-        (line.state ≡ Never) × (line.chain ≡ 0)) }
+        (line.state ≡ Never) × (line.chain ≡ 0) }
 {
     let line = line_at(disk, key, place)?;
-    if line.state != LineState::Never {
-        return Err(Fault::Bad(area_file(place.file), place.page - 1));
-    }
-    Ok(())
+    Ok(line.state == LineState::Never)
 }
 
-// The next line of the session has nothing to push: it is only read.
+// The next line of the session has nothing to push: it is only read. Where it was used the change can't go on, since no slot is set aside for it.
 fn pass_key<D: Disk>(
     disk: &mut D,
     held: &mut Held,
@@ -80,12 +83,20 @@ fn pass_key<D: Disk>(
     ensures less { result ≡ Ok stepped.More → IsLess s.number (sight_of (D.view disk.old) held.old) (sight_of (D.view disk.new) held.new) }
 {
     held.sound();
-    if let Err(fault) = read_unused(disk, key, place) {
-        held.set_stage(s, MemberStage::Broken);
-        return Err(fault);
+    match is_unused(disk, key, place) {
+        Ok(unused) => {
+            if unused {
+                held.pass_next(s, key);
+                return Ok(Stepped::More);
+            }
+            held.set_stage(s, MemberStage::Broken);
+            Ok(Stepped::Astray)
+        }
+        Err(fault) => {
+            held.set_stage(s, MemberStage::Broken);
+            Err(fault)
+        }
     }
-    held.pass_next(s, key);
-    Ok(Stepped::More)
 }
 
 // How many of these slots are of a file.

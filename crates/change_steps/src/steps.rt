@@ -1,9 +1,8 @@
 // The steps of a change.
-ghost use Rattle.std.specs.Prelude.{◌≡◌, Ok, Err};
+ghost use Rattle.std.specs.Prelude.{◌≡◌, Ok};
 ghost use Rattle.line_store.specs.Seats.{IsMember};
 ghost use Rattle.line_store.specs.Sights.{Does, IsLess, MayAnswer, Steps, stepped_to};
 ghost use Rattle.line_store.specs.declared.answers.Stepped.TheVariants as stepped;
-ghost use Rattle.stable_lines.specs.Slots.{ruj_file as journal_named};
 ghost use Rattle.disk_store.specs.declared.member.MemberStage.TheVariants as stage;
 ghost use Rattle.disk_store.specs.ChangeSteps.{ThroughAt};
 ghost use Rattle.disk_store.specs.Seats.{IsAtStage, stand_at};
@@ -12,7 +11,6 @@ ghost use Rattle.disk_store.specs.Shown.{sight_of};
 use crate::journalling::journal_key;
 use crate::pushing::push_or_pass;
 use disk_store::Held;
-use line_moves::ruj_file;
 use line_store::{Fault, Stepped};
 use rdb_outside::Disk;
 use rdb_types::Session;
@@ -51,13 +49,13 @@ pub fn change_step<D: Disk>(disk: &mut D, held: &mut Held, s: Session) -> Result
     Ok(Stepped::Done)
 }
 
-/// A session whose change failed doesn't go on.
-pub fn broken_step<D: Disk>(_disk: &D, _held: &Held, s: Session) -> Result<Stepped, Fault>
+/// A session whose change failed, or went astray, doesn't go on.
+pub fn broken_step<D: Disk>(_disk: &D, _held: &Held, s: Session) -> Stepped
     requires broken { IsAtStage _held.now.members s.number stage.Broken }
-    ensures answers { MayAnswer (stand_at _held.now.members s.number) result }
-    ensures comes { Does s.number (stepped_to (stand_at _held.now.members s.number) result)
-        (Steps s.number result) (sight_of (D.view _disk.now) _held.now) (sight_of (D.view _disk.now) _held.now) }
-    ensures answer { result ≡ Err (Fault.Bad (journal_named s.number) 0) }
+    ensures answers { MayAnswer (stand_at _held.now.members s.number) (Ok result) }
+    ensures comes { Does s.number (stepped_to (stand_at _held.now.members s.number) (Ok result))
+        (Steps s.number (Ok result)) (sight_of (D.view _disk.now) _held.now) (sight_of (D.view _disk.now) _held.now) }
+    ensures answer { result ≡ stepped.Astray }
 {
-    Err(Fault::Bad(ruj_file(s.number), 0))
+    Stepped::Astray
 }

@@ -6,7 +6,7 @@ use Rattle.command_words.specs.Orders.{is_order}
 use Rattle.command_words.specs.Words.{command_of, database_place, word_of, order_in}
 use Rattle.command_words.specs.declared.deaths.DeathPoint.TheVariants.{Step, Barrier}
 use Rattle.command_words.specs.declared.words.Command.{Command}
-use Rattle.command_words.specs.declared.words.Command.TheVariants.{Rdo, Verify, Dump, DumpPage, Backup, BackupJournal, Restore, Recover}
+use Rattle.command_words.specs.declared.words.Command.TheVariants.{Rdo, Workload, Verify, Dump, DumpPage, Backup, BackupJournal, Restore, Recover}
 
 -- `RDO --ORDER=1,2 PERS a b`
 in_turns : List (List ℕ)
@@ -174,3 +174,14 @@ nine = refl
 -- ten copies, 0, 10, no database
 no_rolls : (command_of (codes "RMU/RECOVER" ∷ codes "A" ∷ replicate 10 (codes "9")) ≡ None) × (command_of (codes "RMU/RECOVER" ∷ codes "A" ∷ codes "1" ∷ codes "0" ∷ []) ≡ None) × (command_of (codes "RMU/RECOVER" ∷ codes "A" ∷ codes "10" ∷ []) ≡ None) × (command_of (codes "RMU/RECOVER" ∷ []) ≡ None) × (command_of (codes "RMU/RECOVER" ∷ codes "1" ∷ []) ≡ None)
 no_rolls = (refl, refl, refl, refl, refl)
+
+-- a workload
+workload : command_of (codes "Workload" ∷ codes "PERS" ∷ codes "100" ∷ []) ≡ Some (Workload 100)
+workload = refl
+
+workload-place : database_place (codes "WORKLOAD" ∷ codes "PERS" ∷ codes "2000" ∷ []) ≡ Some 1
+workload-place = refl
+
+-- no count, one account, 2,001, two counts, no database
+no_workloads : (command_of (codes "WORKLOAD" ∷ codes "A" ∷ []) ≡ None) × (command_of (codes "WORKLOAD" ∷ codes "A" ∷ codes "1" ∷ []) ≡ None) × (command_of (codes "WORKLOAD" ∷ codes "A" ∷ codes "2001" ∷ []) ≡ None) × (command_of (codes "WORKLOAD" ∷ codes "A" ∷ codes "2" ∷ codes "2" ∷ []) ≡ None) × (command_of (codes "WORKLOAD" ∷ codes "2" ∷ codes "2" ∷ []) ≡ None)
+no_workloads = (refl, refl, refl, refl, refl)

@@ -14,7 +14,7 @@ use Rattle.command_words.specs.declared.options.Asked.{Asked}
 use Rattle.command_words.specs.declared.words.Scripts.{Scripts}
 use Rattle.command_words.specs.declared.words.Command.{Command}
 use Rattle.command_words.specs.declared.words.PagePlace.{PagePlace}
-use Rattle.command_words.specs.declared.words.Command.TheVariants.{New, Rdo, Verify, Dump, DumpPage, Backup, BackupJournal, Restore, Recover}
+use Rattle.command_words.specs.declared.words.Command.TheVariants.{New, Rdo, Workload, Verify, Dump, DumpPage, Backup, BackupJournal, Restore, Recover}
 
 -- a letter, a digit or `_`
 abbrev pub is_database_byte : ℕ → Bool
@@ -139,6 +139,17 @@ abbrev pub as_roll : Option ℕ → Option Command
 as_roll None = None
 as_roll (Some count) = Some (Recover count)
 
+-- a database, and how many accounts a workload makes in it, from 2 to 2,000
+abbrev pub workload_words : List (List ℕ) → Option ℕ
+workload_words [] = None
+workload_words (d ∷ []) = None
+workload_words (d ∷ n ∷ []) = if is_database d then number_in 2 2000 n else None
+workload_words (d ∷ n ∷ w ∷ ws) = None
+
+abbrev pub as_workload : Option ℕ → Option Command
+as_workload None = None
+as_workload (Some accounts) = Some (Workload accounts)
+
 -- a command of RMU, and the words behind it
 abbrev pub rmu_command : List ℕ → List (List ℕ) → Option Command
 rmu_command c ws =
@@ -147,18 +158,23 @@ rmu_command c ws =
     else (if is_command (codes "RMU/DUMP/PAGE") c then as_page (page_words ws)
     else (if is_command (codes "RMU/RECOVER") c then as_roll (roll_words ws) else keeping_command c ws)))
 
+-- a command that names neither scripts nor limits, and the words behind it
+abbrev pub other_command : List ℕ → List (List ℕ) → Option Command
+other_command c ws = if is_command (codes "WORKLOAD") c then as_workload (workload_words ws) else rmu_command c ws
+
 -- the row of the table of commands that the words are
 abbrev pub command_of : List (List ℕ) → Option Command
 command_of [] = None
 command_of (c ∷ ws) =
     if is_command (codes "RDO") c then as_rdo (rdo_words ws)
-    else (if is_command (codes "NEW") c then as_new (new_words nothing_asked ws) else rmu_command c ws)
+    else (if is_command (codes "NEW") c then as_new (new_words nothing_asked ws) else other_command c ws)
 
 -- the place of the database's word
 abbrev pub place_for : ℕ → Option Command → Option ℕ
 place_for n None = None
 place_for n (Some (Rdo s)) = Some (s.first - 1)
 place_for n (Some (New l)) = Some (n - 1)
+place_for n (Some (Workload accounts)) = Some (n - 2)
 place_for n (Some Verify) = Some (n - 1)
 place_for n (Some Dump) = Some (n - 1)
 place_for n (Some (DumpPage p)) = Some (n - 3)
@@ -207,6 +223,7 @@ sessions_said sessions (Some order) = sessions_in sessions order
 abbrev pub order_for : Option Command → Option (List ℕ) → List ℕ
 order_for None order = []
 order_for (Some (New l)) order = []
+order_for (Some (Workload accounts)) order = []
 order_for (Some Verify) order = []
 order_for (Some Dump) order = []
 order_for (Some (DumpPage p)) order = []
@@ -245,6 +262,7 @@ abbrev pub only_reads : Option Command → Bool
 only_reads None = false
 only_reads (Some (New l)) = false
 only_reads (Some (Rdo s)) = false
+only_reads (Some (Workload accounts)) = false
 only_reads (Some Verify) = true
 only_reads (Some Dump) = true
 only_reads (Some (DumpPage p)) = true
@@ -257,10 +275,15 @@ only_reads (Some (Recover count)) = false
 abbrev pub IsCopyNumber : ℕ → Type 0
 IsCopyNumber number = (1 ≤ number) × (number ≤ 9)
 
+-- a workload makes so many accounts
+abbrev pub AreAccounts : ℕ → Type 0
+AreAccounts accounts = (2 ≤ accounts) × (accounts ≤ 2000)
+
 -- the limits of a command, the page, the number and the count that it names are within their ranges, and its scripts within its words
 abbrev pub IsAllowedCommand : List (List ℕ) → Command → Type 0
 IsAllowedCommand words (New limits) = AreLimits limits
 IsAllowedCommand words (Rdo scripts) = AreLast words scripts
+IsAllowedCommand words (Workload accounts) = AreAccounts accounts
 IsAllowedCommand words Verify = Unit {0}
 IsAllowedCommand words Dump = Unit {0}
 IsAllowedCommand words (DumpPage place) = IsAllowedPlace place

@@ -10,6 +10,7 @@ mod words;
 
 pub use copies::copies_of;
 pub use deaths::{Death, DeathPoint};
+pub use options::usual_limits;
 pub use words::{
     Command, PagePlace, Scripts, command_of, database_word, only_reads, order_of, script_words,
 };

@@ -1,6 +1,6 @@
 //! The options of NEW.
 ghost use Rattle.std.specs.Prelude.{◌≡◌, IfSome, codes};
-ghost use Rattle.command_words.specs.Options.{number_in as number_of_range, taken_by, ask as ask_of, limits_of as limits_for, InRange, GivenInRange, IsAsked};
+ghost use Rattle.command_words.specs.Options.{number_in as number_of_range, taken_by, ask as ask_of, limits_of as limits_for, nothing_asked, InRange, GivenInRange, IsAsked};
 ghost use Rattle.root_file.specs.Root.{AreLimits};
 
 use crate::bytes::{are_digits, behind, number_of};
@@ -107,4 +107,17 @@ pub fn limits_of(asked: Asked) -> Limits
         entries: asked.entries.unwrap_or(65535),
         slots: asked.slots.unwrap_or(262144),
     }
+}
+
+/// The limits of a database for which nothing is asked.
+pub fn usual_limits() -> Limits
+    ensures value { result ≡ limits_for nothing_asked }
+    ensures allowed { AreLimits result }
+{
+    limits_of(Asked {
+        pages: None,
+        snaps: None,
+        entries: None,
+        slots: None,
+    })
 }

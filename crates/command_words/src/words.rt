@@ -8,6 +8,7 @@ ghost use Rattle.command_words.specs.Words.{order_text as text_said, death_text 
 ghost use Rattle.command_words.specs.Words.{command_of as command_for, IsAllowedCommand, database_place, word_of, order_in};
 ghost use Rattle.command_words.specs.Words.{is_one_database as is_one_database_of, place_of as place_for_numbers, page_words as page_words_of, rmu_command as rmu_command_for, only_reads as only_reads_for, IsAllowedPlace};
 ghost use Rattle.command_words.specs.Words.{copy_words as copy_words_of, roll_words as roll_words_of, keeping_command as keeping_command_for, IsCopyNumber};
+ghost use Rattle.command_words.specs.Words.{workload_words as workload_words_of, other_command as other_command_for, AreAccounts};
 ghost use Rattle.command_words.specs.Options.{nothing_asked, number_in as number_in_range};
 ghost use Rattle.root_file.specs.Root.{AreLimits};
 
@@ -51,6 +52,8 @@ pub enum Command {
     New(Limits),
     /// `RDO [--DIE=session:point] [--ORDER=list] db script ...` says 1 to 16 scripts to the database.
     Rdo(Scripts),
+    /// `WORKLOAD db accounts` makes a database with so many accounts, from 2 to 2,000, has sessions move money between them, and counts it.
+    Workload(u32),
     /// `RMU/VERIFY db` lists the faults of a database.
     Verify,
     /// `RMU/DUMP db` tells what a database is and holds.
@@ -241,6 +244,21 @@ fn rdo_words(words: &[Word]) -> Option<Scripts>
     }
 }
 
+/// How many accounts a workload makes, behind a database.
+fn workload_words(words: &[Word]) -> Option<u32>
+    ensures value { result ≡ workload_words_of words.now }
+    ensures allowed { IfSome result (λ accounts. AreAccounts accounts) }
+{
+    match words {
+        [database, accounts] => if is_database(database.as_slice()) {
+            number_in(2, 2000, accounts.as_slice())
+        } else {
+            None
+        },
+        _ => None,
+    }
+}
+
 /// Whether a database alone stands behind a command word.
 fn is_one_database(words: &[Word]) -> bool
     ensures { result ≡ is_one_database_of words.now }
@@ -360,6 +378,21 @@ fn rmu_command(command: &[u8], words: &[Word]) -> Option<Command>
     }
 }
 
+/// The command that names neither scripts nor limits, of a command word and the words behind it.
+fn other_command(command: &[u8], words: &[Word]) -> Option<Command>
+    ensures row { result ≡ other_command_for command.now words.now }
+    ensures allowed { (all : List (List ℕ)) → IfSome result (λ command. IsAllowedCommand all command) }
+{
+    if is_named(b"WORKLOAD", command) {
+        match workload_words(words) {
+            Some(accounts) => Some(Command::Workload(accounts)),
+            None => None,
+        }
+    } else {
+        rmu_command(command, words)
+    }
+}
+
 /// The row of the table of commands that the words are.
 pub fn command_of(words: &[Word]) -> Option<Command>
     ensures row { result ≡ command_for words.now }
@@ -380,7 +413,7 @@ pub fn command_of(words: &[Word]) -> Option<Command>
                     None => None,
                 }
             } else {
-                rmu_command(command.as_slice(), rest)
+                other_command(command.as_slice(), rest)
             }
         }
     }
@@ -396,6 +429,7 @@ pub fn database_word(words: &[Word]) -> Option<usize>
     match command_of(words) {
         Some(Command::Rdo(scripts)) => Some(scripts.first.saturating_sub(1)),
         Some(Command::New(_)) => Some(words.len().saturating_sub(1)),
+        Some(Command::Workload(_)) => Some(words.len().saturating_sub(2)),
         Some(Command::Verify) => Some(words.len().saturating_sub(1)),
         Some(Command::Dump) => Some(words.len().saturating_sub(1)),
         Some(Command::DumpPage(_)) => Some(words.len().saturating_sub(3)),
@@ -418,6 +452,7 @@ pub fn only_reads(words: &[Word]) -> bool
         Some(Command::Dump) => true,
         Some(Command::DumpPage(_)) => true,
         Some(Command::New(_)) => false,
+        Some(Command::Workload(_)) => false,
         Some(Command::Rdo(_)) => false,
         Some(Command::Backup(_)) => false,
         Some(Command::BackupJournal(_)) => false,

@@ -1,6 +1,7 @@
 -- A step of a commit: it goes on, or failed.
 use Rattle.std.proofs.Common.{◌≡◌, ◌≢◌, ◌≤◌, ◌<◌, ◌==◌, ◌⊎◌, inl, inr, ℕ, Bool, cond, IsTrue, List, [], length, Ok, Option, Some, refl, sym, ap, subst, ◌∙◌, arith}
-use Rattle.std.specs.Prelude.{slice_get, if◌then◌else◌}
+use Rattle.std.specs.Prelude.{IsErrOf, slice_get, if◌then◌else◌}
+use Rattle.rdb_types.specs.declared.file.FileId.{FileId}
 use Rattle.rdb_outside.specs.Causes.{Rose}
 use Rattle.rdb_outside.specs.Disk.{View, LeftNow}
 use Rattle.line_view.specs.declared.writes.Write.{Write}
@@ -11,6 +12,7 @@ use Rattle.line_store.specs.Seats.{Seat, in_flight, committing}
 use Rattle.line_store.specs.Shelves.{Shelf}
 use Rattle.line_store.specs.Calls.{Moves, GoesOn, Fails}
 use Rattle.line_store.specs.Sights.{bare, Does}
+use Rattle.line_store.proofs.Causes.{cause-of}
 use Rattle.line_seat.specs.declared.commit.CommitStage.{CommitStage}
 use Rattle.line_seat.specs.declared.commit.CommitStage.TheVariants.{Changing, Imaging, Gathering, Sealing, Landing, Committed}
 use Rattle.line_seat.specs.Stages.{IsFurther, IsNextStage}
@@ -30,7 +32,7 @@ use Rattle.commit_steps.specs.Turns.{group_for, turn_again, MakesTurn}
 use Rattle.disk_store.proofs.Moving.{itself}
 use Rattle.disk_store.proofs.Stepping.{does-moves, becomes-member, space-same}
 use Rattle.commit_steps.proofs.Turning.{TurnedTo}
-use Rattle.commit_steps.proofs.TurnCases.{at-turn, comes-again, comes-further}
+use Rattle.commit_steps.proofs.TurnCases.{at-turn, comes-again, comes-further, none-refused}
 
 -- ---- how much is left
 
@@ -120,7 +122,7 @@ module _ (v w : View) (held : StoreMemory) (s : ℕ) (m : Member) (was : slice_g
 
   module _ (next : CommitTurn) (comes : (h : Shelf) (shown : Shown v held h) → StageStands m.stage v shown.ledger s m → TurnedTo v w (record (with_member s (at-turn next m) held) { numbers = held.numbers }) s (at-turn next m) shown.ledger shown.versions.course shown.versions.waiting) where
     pub does-turn : (R : Shelf → Shelf → Type 0) →
-        ((h g : Shelf) → Moves s (h.seat s) h g → h.steps s ≡ turns_left (length m.written.keys) turn → g.steps s ≡ turns_left (length m.written.keys) next → h.clock.faults ≡ v.faults → g.clock.faults ≡ w.faults → R h g) →
+        ((h g : Shelf) (shown : Shown v held h) → StageStands m.stage v shown.ledger s m → Moves s (h.seat s) h g → h.steps s ≡ turns_left (length m.written.keys) turn → g.steps s ≡ turns_left (length m.written.keys) next → h.clock.faults ≡ v.faults → g.clock.faults ≡ w.faults → R h g) →
         Does s (stand_at held.members s) R (sight_of v held) (sight_of w (with_member s (at-turn next m) held))
     does-turn R as-asked = subst (λ (x : Option Member). Does s (stand_of x) R (sight_of v held) (sight_of w (with_member s (at-turn next m) held))) (sym was)
         (does-moves v w held (record (with_member s (at-turn next m) held) { numbers = held.numbers }) s m (at-turn next m) was (becomes-member held held.numbers s (at-turn next m)) (λ e. cc) makes.writes.only.told makes.writes.only.leaves
@@ -131,16 +133,16 @@ module _ (v w : View) (held : StoreMemory) (s : ℕ) (m : Member) (was : slice_g
           laid = own.1;
         })
         (λ h shown stands. (comes h shown stands).same) space-same
-        (λ h g start related moves. as-asked h g (subst (λ (x : Seat). Moves s x h g) (seat-same next h start related.seat) moves) (related.steps ∙ ap (λ st. steps_in st m) at) related.steps_behind related.shown.lines.faults related.faults_behind))
+        (λ h g start related moves. as-asked h g related.shown related.stands (subst (λ (x : Seat). Moves s x h g) (seat-same next h start related.seat) moves) (related.steps ∙ ap (λ st. steps_in st m) at) related.steps_behind related.shown.lines.faults related.faults_behind))
 
   -- it failed, and is made again
-  pub does-again : (fault : Fault) → (fault ≡ Failed → Rose v.faults w.faults) → Does s (stand_at held.members s) (λ h g. Fails s fault h g) (sight_of v held) (sight_of w (with_member s (at-turn (turn_again turn) m) held))
-  does-again fault cause = does-turn (turn_again turn) (λ h shown stands. comes-again v w held s m was sound commits are h shown turn at result makes (subst (λ st. StageStands st v shown.ledger s m) at stands)) (λ h g. Fails s fault h g)
-      (λ h g moves before behind faults faults-behind. by fault cause h g moves faults faults-behind)
-    where
-      by : (x : Fault) → (x ≡ Failed → Rose v.faults w.faults) → (h g : Shelf) → Moves s (h.seat s) h g → h.clock.faults ≡ v.faults → g.clock.faults ≡ w.faults → Fails s x h g
-      by Failed rose h g moves faults behind = record { moves = moves; cause = subst (λ n. Rose n g.clock.faults) (sym faults) (subst (λ n. Rose v.faults n) (sym behind) (rose refl)) }
-      by (Bad file slot) rose h g moves faults behind = record { moves = moves; cause = tt }
+  pub does-again : (fault : Fault) → (fault ≡ Failed → Rose v.faults w.faults) → ((file : FileId) (slot : ℕ) → fault ≡ Bad file slot → IsErrOf result (Bad file slot)) → Does s (stand_at held.members s) (λ h g. Fails s fault h g) (sight_of v held) (sight_of w (with_member s (at-turn (turn_again turn) m) held))
+  does-again fault rose told = does-turn (turn_again turn) (λ h shown stands. comes-again v w held s m was sound commits are h shown turn at result makes (subst (λ st. StageStands st v shown.ledger s m) at stands)) (λ h g. Fails s fault h g)
+      (λ h g shown stands moves before behind faults faults-behind. record {
+        moves = moves;
+        cause = cause-of fault h.clock g.clock v.faults w.faults rose
+            (λ file slot is. absurd (none-refused v w held s m was sound commits are h shown turn at result makes (subst (λ st. StageStands st v shown.ledger s m) at stands) file slot (told file slot is))) faults faults-behind;
+      })
 
 module _ (v w : View) (held : StoreMemory) (s : ℕ) (m : Member) (was : slice_get held.members s ≡ Some m) (turn next : CommitTurn) (at : m.stage ≡ stage.Committing turn) (sound : IsSound held) (commits : KeepsCommits held) (are : AreOfPages held.tables m.written.lines m.classes.items)
     (makes : MakesTurn v w turn (group_for held m) m.written.lines m.classes.items (Ok next)) (off : next ≢ Going Committed) where
@@ -151,4 +153,4 @@ module _ (v w : View) (held : StoreMemory) (s : ℕ) (m : Member) (was : slice_g
   -- it goes on
   pub does-further : (IsTrue v.tells → LeftNow v v.content) → Does s (stand_at held.members s) (λ h g. GoesOn s h g) (sight_of v held) (sight_of w (with_member s (at-turn next m) held))
   does-further left = does-turn v w held s m was turn at sound commits are (Ok next) makes next (λ h shown stands. comes-further v w held s m was sound commits are left h shown turn next at makes (subst (λ st. StageStands st v shown.ledger s m) at stands) off) (λ h g. GoesOn s h g)
-      (λ h g moves before behind faults faults-behind. record { moves = moves; less = subst (λ (n : ℕ). n < h.steps s) (sym behind) (subst (λ (n : ℕ). turns_left (length m.written.keys) next < n) (sym before) less-left) })
+      (λ h g shown stands moves before behind faults faults-behind. record { moves = moves; less = subst (λ (n : ℕ). n < h.steps s) (sym behind) (subst (λ (n : ℕ). turns_left (length m.written.keys) next < n) (sym before) less-left) })

@@ -1,5 +1,5 @@
 -- The commit of a member's lines, by memory and by the ledger.
-use Rattle.std.proofs.Common.{◌≡◌, ◌≤◌, ◌⊎◌, inl, inr, ℕ, Bool, true, false, List, Option, Some, None, cond, refl, sym, ap, subst, ◌∙◌, arith}
+use Rattle.std.proofs.Common.{◌≡◌, ◌≤◌, ◌<◌, ◌⊎◌, inl, inr, ℕ, Bool, true, false, List, Option, Some, None, cond, refl, sym, ap, subst, ◌∙◌, arith}
 use Rattle.std.specs.Prelude.{slice_get}
 use Rattle.std.specs.FinMap.Entries.{is_sorted}
 use Rattle.std.proofs.lemmas.Option.{none-some}
@@ -7,8 +7,8 @@ use Rattle.rdb_types.specs.declared.keys.Dbkey.{Dbkey}
 use Rattle.rdb_types.specs.declared.keys.Limits.{Limits}
 use Rattle.rdb_types.specs.declared.keys.Line.{Line}
 use Rattle.rdb_types.specs.Order.{dbkey_order}
-use Rattle.rdb_page.specs.Page.{IsOwner}
-use Rattle.rdb_outside.specs.Disk.{View}
+use Rattle.rdb_page.specs.Page.{IsOwner, lines_of}
+use Rattle.rdb_outside.specs.Disk.{View, Pending}
 use Rattle.line_view.specs.declared.writes.Write.{Write}
 use Rattle.line_view.specs.Knowledge.{Lines}
 use Rattle.line_store.specs.Seats.{in_flight}
@@ -21,7 +21,7 @@ use Rattle.line_moves.specs.Classes.{LieForArea}
 use Rattle.line_moves.specs.Lines.{ChangedLines}
 use Rattle.line_seat.specs.declared.commit.GroupPlace.{GroupPlace}
 use Rattle.line_seat.specs.declared.commit.CommitStage.{CommitStage}
-use Rattle.line_seat.specs.Groups.{AreAllowed, AreOfClasses, AreOfEntries, ArePlaced, IsCommitting, group_line, group_of}
+use Rattle.line_seat.specs.Groups.{AreAllowed, AreOfClasses, AreOfEntries, ArePlaced, HaveRoom, IsCommitting, LieWithin, group_line, group_of}
 use Rattle.line_seat.specs.Seats.{secured}
 use Rattle.disk_seats.specs.Ledgers.{Standing, changing, committing, entries_of, Commit, Ledger}
 use Rattle.disk_seats.specs.Members.{CommitStands, IsOneArea}
@@ -57,6 +57,9 @@ module _ (tables : _) (lines : ChangedLines) (classes : List ℕ) (are : AreOfPa
 
   pub all-allowed : AreAllowed lines classes
   all-allowed i line class got of = (are.each i line class got of).allowed
+
+  all-within : LieWithin lines classes
+  all-within i line class got of = let has = are.each i line class got of in subst (λ (n : ℕ). line.0.line < lines_of n) (sym has.class_is) has.is_line.line
 
   module _ (i : ℕ) (line : Dbkey × Line) (got : slice_get lines i ≡ Some line) (place : Place) (is : IsPlaceOf line.0 place) where
     has : HasClass tables line (class-at i line got).0
@@ -137,6 +140,10 @@ module _ (v : View) (held : StoreMemory) (s : ℕ) (m : Member) (was : slice_get
   of-areas i line class got of =
       let has = are.each i line class got of in
       has.class_is ∙ (shown.tables.class has.place.file line.0.page has.is_line.within (subst (λ (n : ℕ). IsOwner has.place.file n) (sym has.is_line.owner) has.is.owner) ∙ ap shown.tables.classes has.is_line.owner)
+
+  -- so its pages have room for its lines
+  pub room-on-pages : HaveRoom (Pending v) shown.tables.classes lines m.classes.items
+  room-on-pages = record { of_areas = of-areas; pages = shown.tables.lie; within = all-within held.tables lines m.classes.items are }
 
   abbrev place : GroupPlace
   place = group_for held m

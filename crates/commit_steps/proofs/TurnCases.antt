@@ -1,9 +1,11 @@
 -- The turns of a commit that aren't its last, one by one.
 use Rattle.std.proofs.Common.{◌≡◌, ◌≢◌, ◌==◌, inl, inr, ℕ, IsTrue, Bool, false, cond, length, Ok, Some, refl, sym, ap, subst, ◌∙◌, arith}
-use Rattle.std.specs.Prelude.{slice_get}
+use Rattle.std.specs.Prelude.{IsErrOf, slice_get}
 use Rattle.std.proofs.lemmas.Bool.{eqb-false}
 use Rattle.std.proofs.lemmas.Option.{none-some}
+use Rattle.rdb_types.specs.declared.file.FileId.{FileId}
 use Rattle.rdb_outside.specs.Disk.{View, LeftNow}
+use Rattle.line_store.specs.declared.answers.Fault.TheVariants.{Bad}
 use Rattle.line_store.specs.Shelves.{Shelf}
 use Rattle.line_moves.specs.Lines.{ChangedLines, AreDistinct, PutsOnly}
 use Rattle.line_seat.specs.declared.commit.CommitStage.{CommitStage}
@@ -28,7 +30,7 @@ use Rattle.disk_store.specs.Commits.{AreOfPages, KeepsCommits}
 use Rattle.commit_steps.specs.Turns.{group_for, turn_again, MakesTurn}
 use Rattle.disk_store.proofs.Stages.{journalled-at}
 use Rattle.disk_store.proofs.Beside.{StaysWith}
-use Rattle.commit_steps.proofs.Planning.{plan, flight, may-commit-now, none-commits, plan-going, under-way-now, own-commit, of-areas, waits-now}
+use Rattle.commit_steps.proofs.Planning.{plan, flight, may-commit-now, none-commits, plan-going, under-way-now, own-commit, of-areas, room-on-pages, waits-now}
 use Rattle.commit_steps.proofs.Turning.{FliesAs, TurnedTo, SameBase, comes-turned, flies-going}
 
 same-base : (g : Ledger) → SameBase g g
@@ -142,6 +144,21 @@ module _ (v w : View) (held : StoreMemory) (s : ℕ) (m : Member) (was : slice_g
       (turn_held v w shown.ledger held.limits.snaps shown.versions.course shown.versions.waiting plan-now makes.writes.file makes.writes.slot shown.tells shown.facts makes.writes.not_snap makes.writes.only
       (makes.changes shown.tells shown.ledger shown.facts) makes.distinct (waits-now v held s m was (Going st) at sound commits are h shown) shown.versions.readers (Going st) under)
       (flies-going v w held s m was (Going st) at sound commits are result makes h shown (held_up (commit_of_plan plan-now st) shown.ledger) (again st) plan-now (makes.keeps shown.tells shown.ledger s plan-now.transaction plan-now.all plan-now.flight shown.facts under) refl refl refl refl)
+
+  -- no slot is refused
+  pub none-refused : (turn : CommitTurn) (at : m.stage ≡ stage.Committing turn) (result : _) → MakesTurn v w turn (group_for held m) m.written.lines m.classes.items result → StageStands (stage.Committing turn) v shown.ledger s m → (file : FileId) (slot : ℕ) → IsErrOf result (Bad file slot) → ⊥
+  none-refused (Entering j) at result makes stands file slot is =
+      let has : HasJournalled shown.ledger s m = stands.journalled in
+      makes.bad file slot is shown.tells shown.ledger s has.begun.transaction has.begun.all (flight v held s m was (Entering j) at sound commits are h shown has) shown.tables.classes shown.facts
+      (may-commit-now v held s m was (Entering j) at sound commits are h shown has, stands.owned) (room-on-pages v held s m was (Entering j) at sound commits are h shown)
+  none-refused Securing at result makes stands file slot is =
+      let has : HasJournalled shown.ledger s m = stands.journalled in
+      makes.bad file slot is shown.tells shown.ledger s has.begun.transaction has.begun.all (flight v held s m was Securing at sound commits are h shown has) shown.tables.classes shown.facts
+      (may-commit-now v held s m was Securing at sound commits are h shown has, stands.owned) (room-on-pages v held s m was Securing at sound commits are h shown)
+  none-refused (Going st) at result makes stands file slot is =
+      let plan-now : Plan = its-going v w held s m was sound commits are h shown (Going st) at result makes st stands in
+      makes.bad file slot is shown.tells shown.ledger s plan-now.transaction plan-now.all plan-now.flight shown.tables.classes shown.facts
+      (under-way-now v held s m was (Going st) at sound commits are h shown st stands) (room-on-pages v held s m was (Going st) at sound commits are h shown)
 
 -- ---- further
 

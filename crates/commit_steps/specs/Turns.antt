@@ -6,7 +6,7 @@ use Rattle.rdb_outside.specs.Causes.{Rose}
 use Rattle.rdb_outside.specs.Disk.{View, Pending}
 use Rattle.area_files.specs.Areas.{IsDataPage}
 use Rattle.line_store.specs.declared.answers.Fault.{Fault}
-use Rattle.line_store.specs.declared.answers.Fault.TheVariants.{Failed}
+use Rattle.line_store.specs.declared.answers.Fault.TheVariants.{Failed, Bad}
 use Rattle.stable_lines.specs.Slots.{Undo, IsAreaFile}
 use Rattle.stable_lines.specs.Progress.{Open, Flight}
 use Rattle.line_moves.specs.declared.places.Place.{Place}
@@ -15,7 +15,7 @@ use Rattle.line_moves.specs.Classes.{HaveTheirClasses, KeepsOwners, LieForArea}
 use Rattle.line_moves.specs.Lines.{ChangedLines, AreDistinct, PutsOnly}
 use Rattle.line_seat.specs.declared.commit.GroupPlace.{GroupPlace}
 use Rattle.line_seat.specs.declared.commit.CommitStage.TheVariants.{Gathering}
-use Rattle.line_seat.specs.Groups.{AreOfClasses, HaveClasses}
+use Rattle.line_seat.specs.Groups.{AreOfClasses, HaveClasses, HaveRoom}
 use Rattle.disk_seats.specs.Ledgers.{again, Ledger}
 use Rattle.disk_seats.specs.Members.{LedgerFacts}
 use Rattle.member_steps.specs.declared.committing.CommitTurn.{CommitTurn}
@@ -57,6 +57,8 @@ pub record MakesTurn (v w : View) (turn : CommitTurn) (group : GroupPlace) (line
   pub distinct : AreDistinct lines
   pub writes : WritesAside v w
   pub failed : IsErrOf result Failed → Rose v.faults w.faults
+  pub bad : (file : FileId) (slot : ℕ) → IsErrOf result (Bad file slot) → IsTrue v.tells → (g : Ledger) (member : ℕ) (transaction : Open) (all : List Undo) (flight : Flight) (by_area : ℕ → ℕ) → LedgerFacts v g
+      → TurnFacts turn v g (plan_of member transaction all group lines classes flight) → HaveRoom (Pending v) by_area lines classes → ⊥
   pub changes : IsTrue v.tells → (g : Ledger) → LedgerFacts v g → PutsOnly lines v.content w.content
   pub classed : IsTrue v.tells → (g : Ledger) → LedgerFacts v g → (by_area : ℕ → ℕ) → AreOfClasses by_area lines classes → HaveTheirClasses by_area (Pending v) → HaveTheirClasses by_area (Pending w)
   pub owners : IsTrue v.tells → (g : Ledger) → LedgerFacts v g → (there : Place) (area : ℕ) → IsAreaFile there.file → IsDataPage there.page → LieForArea lines there area → KeepsOwners (Pending v) (Pending w) there area

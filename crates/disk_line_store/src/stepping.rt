@@ -23,7 +23,7 @@ fn stage_of(held: &Held, s: Session) -> MemberStage
     held.member(s).stage
 }
 
-/// One step of what is under way for a session: one write or one barrier at most, and no memory. Of a transaction that can only die it answers that its journal isn't what it has to be.
+/// One step of what is under way for a session: one write or one barrier at most, and no memory. Of a transaction that can only die it answers that it goes astray.
 pub(crate) fn step<D: Disk>(disk: &mut D, held: &mut Held, s: Session) -> Result<Stepped, Fault>
     requires member { IsMember s.number }
     requires seat { IsUnderWay (stand_at held.old.members s.number) }
@@ -36,7 +36,7 @@ pub(crate) fn step<D: Disk>(disk: &mut D, held: &mut Held, s: Session) -> Result
         MemberStage::Beginning(Ceiling::Asking) => ask(disk, held, s),
         MemberStage::Beginning(Ceiling::Raised) => draw(disk, held, s),
         MemberStage::Changing => change_step(disk, held, s),
-        MemberStage::Broken => broken_step(disk, held, s),
+        MemberStage::Broken => Ok(broken_step(disk, held, s)),
         MemberStage::Committing(_) => commit_step(disk, held, s),
         MemberStage::RollingBack | MemberStage::Closing => put_away(disk, held, s),
         MemberStage::Dead { commits, recovery } => recover(disk, held, s, commits, recovery),

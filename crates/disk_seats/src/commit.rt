@@ -11,7 +11,7 @@ ghost use Rattle.line_moves.specs.Calls.{OnlyWrites};
 ghost use Rattle.line_moves.specs.declared.places.Place.{Place as Spot};
 ghost use Rattle.line_moves.specs.Classes.{HaveTheirClasses, KeepsOwners, LieForArea};
 ghost use Rattle.line_moves.specs.Lines.{AreDistinct, PutsOnly};
-ghost use Rattle.line_seat.specs.Groups.{AreAllowed, AreOfClasses, ArePlaced, HaveClasses};
+ghost use Rattle.line_seat.specs.Groups.{AreAllowed, AreOfClasses, ArePlaced, HaveClasses, HaveRoom};
 ghost use Rattle.line_seat.specs.declared.commit.CommitStage.TheVariants.{Gathering};
 ghost use Rattle.line_seat.specs.Stages.{IsFurther, IsNextStage};
 ghost use Rattle.disk_seats.specs.Ledgers.{Ledger, this_commit, held_up, behind_step};
@@ -46,6 +46,15 @@ pub fn go_on<D: Disk>(
         × OnlyWrites file slot (D.view disk.old) (D.view disk.new) }
     ensures failed { IsErrOf result Fault.Failed
         → Rose (D.view disk.old).faults (D.view disk.new).faults }
+
+    // No page is refused that has room for its lines.
+    ensures bad { (file : File) (slot : ℕ) → IsErrOf result (Fault.Bad file slot)
+        → IsTrue (D.view disk.old).tells
+        → (ledger : Ledger) (member : ℕ) (transaction : Open) (flight : Flight) (by_area : ℕ → ℕ)
+        → LedgerFacts (D.view disk.old) ledger
+        → let its = this_commit member transaction stage group lines.now classes.now flight in
+        ledger.commit ≡ Some its
+        → HaveRoom (Pending (D.view disk.old)) by_area lines.now classes.now → ⊥ }
 
     // Whatever it answers, each line is as it was, or one of these.
     ensures changes { IsTrue (D.view disk.old).tells → (ledger : Ledger)

@@ -168,6 +168,7 @@ module _ (v : View) (held : StoreMemory) (s : ℕ) (m : Member) (was : slice_get
       facts = shown.facts;
       limits = shown.limits;
       lines = record { now = shown.lines.now; time = shown.lines.time; faults = shown.lines.faults; flight = λ c is. flight-stays c (c.member == s) refl (shown.lines.flight c is) };
+      promised = shown.promised;
       seats = λ t. seats-stand t (t == s) refl;
       steps = λ t. steps-stand t (t == s) refl;
       numbers = shown.numbers;

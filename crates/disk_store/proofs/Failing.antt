@@ -5,7 +5,7 @@ use Rattle.rdb_outside.specs.Disk.{View, LeavesOnly, IsPending}
 use Rattle.rdb_outside.specs.Causes.{Rose}
 use Rattle.line_store.specs.Shelves.{Shelf}
 use Rattle.line_store.specs.Calls.{Moves, Fails}
-use Rattle.line_store.specs.declared.answers.Fault.TheVariants.{Failed, Bad}
+use Rattle.line_store.specs.declared.answers.Fault.TheVariants.{Failed}
 use Rattle.line_store.specs.Sights.{Does}
 use Rattle.disk_seats.specs.Members.{LedgerFacts}
 use Rattle.disk_store.specs.declared.member.Member.{Member}
@@ -46,6 +46,3 @@ module _ (v w : View) (held : StoreMemory) (s : ℕ) (m : Member) (was : slice_g
 
   pub does-fail : Rose v.faults w.faults → Does s (stand_at held.members s) (λ h g. Fails s Failed h g) (sight_of v held) (sight_of w held)
   does-fail rose = does-stay (λ h g. Fails s Failed h g) (λ h g moves faults faults-behind time time-behind. record { moves = moves; cause = subst (λ n. Rose n g.clock.faults) (sym faults) (subst (λ n. Rose v.faults n) (sym faults-behind) rose) })
-
-  pub does-refuse : (file : _) (slot : ℕ) → Does s (stand_at held.members s) (λ h g. Fails s (Bad file slot) h g) (sight_of v held) (sight_of w held)
-  does-refuse file slot = does-stay (λ h g. Fails s (Bad file slot) h g) (λ h g moves faults faults-behind time time-behind. record { moves = moves; cause = tt })

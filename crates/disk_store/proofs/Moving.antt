@@ -136,6 +136,7 @@ module _ (v : View) (held : StoreMemory) (s : ℕ) (m : Member) (next : MemberSt
     facts = shown.facts;
     limits = shown.limits;
     lines = lines-stay h shown;
+    promised = shown.promised;
     seats = λ t. seats-stand h shown t (t == s) refl;
     steps = λ t. steps-stand h shown t (t == s) refl;
     numbers = shown.numbers;

@@ -1,6 +1,6 @@
 -- A ceiling is raised: the root is written, and a barrier makes it stable.
 use Rattle.std.proofs.Common.{◌≡◌, ◌≤◌, ◌<◌, ◌+◌, ◌⊎◌, ⊎_elim, ℕ, IsTrue, List, [], Some, inl, inr, refl, sym, ap, subst, ◌∙◌, arith}
-use Rattle.std.specs.Prelude.{slice_get, slice_set}
+use Rattle.std.specs.Prelude.{◌-◌, ◌^◌, slice_get, slice_set}
 use Rattle.rdb_outside.specs.Disk.{View, Pending, LeftNow, OnlyReads, IsStable}
 use Rattle.rdb_outside.specs.Moments.{each_slot}
 use Rattle.root_file.specs.declared.Root.{Root}
@@ -235,13 +235,13 @@ module _ (v w : View) (held : StoreMemory) (root : Root) (only : OnlyWrites root
     }
 
 -- the numbers are used up, and nothing changes
-pub does-refuse-now : (v : View) (held : StoreMemory) (s : ℕ) (file : _) (slot : ℕ) → Does s (stand_at held.members s) (λ h g. Fails s (Bad file slot) h g) (sight_of v held) (sight_of v held)
-does-refuse-now v held s file slot = does-nothing s (λ h g. Fails s (Bad file slot) h g) (sight_of v held) (λ h shown. record {
+pub does-refuse-now : (v : View) (held : StoreMemory) (s : ℕ) (file : _) (slot : ℕ) → 2 ^ 62 - 64 < held.numbers.ceiling → Does s (stand_at held.members s) (λ h g. Fails s (Bad file slot) h g) (sight_of v held) (sight_of v held)
+does-refuse-now v held s file slot spent = does-nothing s (λ h g. Fails s (Bad file slot) h g) (sight_of v held) (λ h shown. record {
   moves = record {
     now = refl;
     mine = refl;
     others = record { seat = λ t apart. refl; steps = λ t apart. refl; later = record { later = omega arith; no_fewer = omega arith } };
     space = space-same h.space;
   };
-  cause = tt;
+  cause = subst (λ (n : ℕ). 2 ^ 62 - 64 < n) (sym shown.promised) spent;
 })

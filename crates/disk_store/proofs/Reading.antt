@@ -1,6 +1,7 @@
 -- A call that only reads the disk: whoever makes it, nothing changes but time and faults.
 use Rattle.std.proofs.Common.{◌≡◌, ◌≤◌, ◌∙◌, ℕ, Option, Some, None, Ok, Err, inl, refl, sym, ap, subst}
 use Rattle.std.specs.Prelude.{slice_get}
+use Rattle.rdb_types.specs.declared.file.FileId.{FileId}
 use Rattle.rdb_outside.specs.Causes.{Rose}
 use Rattle.rdb_outside.specs.Disk.{View, OnlyReads}
 use Rattle.line_store.specs.declared.answers.Fault.{Fault}
@@ -12,6 +13,7 @@ use Rattle.line_store.specs.Seats.{Seat}
 use Rattle.line_store.specs.Shelves.{Shelf}
 use Rattle.line_store.specs.Calls.{Moves}
 use Rattle.line_store.specs.Sights.{Does, Reads}
+use Rattle.line_store.proofs.Causes.{cause-of}
 use Rattle.disk_seats.specs.Ledgers.{Ledger}
 use Rattle.disk_seats.specs.Members.{LedgerFacts}
 use Rattle.member_steps.proofs.Journals.{read_ledger}
@@ -39,7 +41,7 @@ module _ (v w : View) (held : StoreMemory) (s : ℕ) (reads : OnlyReads v w) whe
 
     -- the shelf that is shown behind it
     abbrev after : Shelf
-    after = record h { clock = record { time = w.moment; faults = w.faults } }
+    after = record h { clock = record { time = w.moment; faults = w.faults; promised = held.numbers.ceiling } }
 
     lines-stand : ShowsLines w g after
     lines-stand = record { now = shown.lines.now; time = refl; faults = refl; flight = shown.lines.flight }
@@ -55,6 +57,7 @@ module _ (v w : View) (held : StoreMemory) (s : ℕ) (reads : OnlyReads v w) whe
       facts = facts;
       limits = shown.limits;
       lines = lines-stand;
+      promised = refl;
       seats = λ t. sits-still t (slice_get held.members t) (h.seat t) (shown.seats t);
       steps = shown.steps;
       kept = shown.kept;
@@ -85,7 +88,7 @@ module _ (v w : View) (held : StoreMemory) (s : ℕ) (reads : OnlyReads v w) whe
       space = space-same h.space;
     }
 
-  does-look : (R : Shelf → Shelf → Type 0) → ((h k : Shelf) → Moves s (h.seat s) h k → h.clock.faults ≡ v.faults → k.clock.faults ≡ w.faults → R h k) → Does s (stand_at held.members s) R (sight_of v held) (sight_of w held)
+  does-look : (R : Shelf → Shelf → Type 0) → ((h k : Shelf) → Shown v held h → Moves s (h.seat s) h k → h.clock.faults ≡ v.faults → k.clock.faults ≡ w.faults → R h k) → Does s (stand_at held.members s) R (sight_of v held) (sight_of w held)
   does-look R as-asked = record {
     mine = refl;
     others = λ t apart. refl;
@@ -93,22 +96,24 @@ module _ (v w : View) (held : StoreMemory) (s : ℕ) (reads : OnlyReads v w) whe
     each = λ h shown. record {
       shelf = after h shown;
       shown = shown-after h shown;
-      related = as-asked h (after h shown) (moves h shown) shown.lines.faults refl;
+      related = as-asked h (after h shown) shown (moves h shown) shown.lines.faults refl;
       lasts = lasts_with v w h (after h shown) shown.lines.time (reads-leave v w reads shown.tells) (may_stand v shown.ledger h shown.facts shown.lines) (may_stand w shown.ledger (after h shown) (facts h shown) (lines-stand h shown));
       opens = all-open v w h shown.lines.time (reads-leave v w reads shown.tells) (shown-opens v held h shown) (shown-opens w held (after h shown) (shown-after h shown));
     };
   }
 
   pub reads-done : Does s (stand_at held.members s) (Reads s (Ok Done)) (sight_of v held) (sight_of w held)
-  reads-done = does-look (Reads s (Ok Done)) (λ h k moves before behind. moves)
+  reads-done = does-look (Reads s (Ok Done)) (λ h k shown moves before behind. moves)
 
   pub reads-no-memory : Does s (stand_at held.members s) (Reads s (Err read.NoMemory)) (sight_of v held) (sight_of w held)
-  reads-no-memory = does-look (Reads s (Err read.NoMemory)) (λ h k moves before behind. moves)
+  reads-no-memory = does-look (Reads s (Err read.NoMemory)) (λ h k shown moves before behind. moves)
 
-  pub reads-fault : (fault : Fault) → (fault ≡ Failed → Rose v.faults w.faults) → Does s (stand_at held.members s) (Reads s (Err (read.Fault fault))) (sight_of v held) (sight_of w held)
-  reads-fault Failed rose = does-look (Reads s (Err (read.Fault Failed))) (λ h k moves before behind. record { moves = moves; cause = subst (λ n. Rose n k.clock.faults) (sym before) (subst (λ n. Rose v.faults n) (sym behind) (rose refl)) })
-  reads-fault (Bad file slot) rose = does-look (Reads s (Err (read.Fault (Bad file slot)))) (λ h k moves before behind. record { moves = moves; cause = tt })
+  pub reads-fault : (fault : Fault) → (fault ≡ Failed → Rose v.faults w.faults) → ((h : Shelf) → Shown v held h → (file : FileId) (slot : ℕ) → fault ≡ Bad file slot → ⊥) → Does s (stand_at held.members s) (Reads s (Err (read.Fault fault))) (sight_of v held) (sight_of w held)
+  reads-fault fault rose good = does-look (Reads s (Err (read.Fault fault))) (λ h k shown moves before behind. record {
+    moves = moves;
+    cause = cause-of fault h.clock k.clock v.faults w.faults rose (λ file slot is. absurd (good h shown file slot is)) before behind;
+  })
 
-  pub reads-stop : (stop : ReadStop) → (stop ≡ read.Fault Failed → Rose v.faults w.faults) → Does s (stand_at held.members s) (Reads s (Err stop)) (sight_of v held) (sight_of w held)
-  reads-stop read.NoMemory rose = reads-no-memory
-  reads-stop (read.Fault fault) rose = reads-fault fault (λ is. rose (ap (λ (x : Fault). read.Fault x) is))
+  pub reads-stop : (stop : ReadStop) → (stop ≡ read.Fault Failed → Rose v.faults w.faults) → ((h : Shelf) → Shown v held h → (file : FileId) (slot : ℕ) → stop ≡ read.Fault (Bad file slot) → ⊥) → Does s (stand_at held.members s) (Reads s (Err stop)) (sight_of v held) (sight_of w held)
+  reads-stop read.NoMemory rose good = reads-no-memory
+  reads-stop (read.Fault fault) rose good = reads-fault fault (λ is. rose (ap (λ (x : Fault). read.Fault x) is)) (λ h shown file slot is. good h shown file slot (ap (λ (x : Fault). read.Fault x) is))

@@ -101,7 +101,7 @@ module _ (v w : View) (held behind : StoreMemory) (s : ℕ) (m n : Member) (was 
     seat = λ t. if t == s then seat_with n.stage ws start else h.seat t;
     steps = λ t. if t == s then steps_in n.stage n else h.steps t;
     space = becomes.space_of h.space;
-    clock = record { time = w.moment; faults = w.faults };
+    clock = record { time = w.moment; faults = w.faults; promised = behind.numbers.ceiling };
   }
 
   module _ (now start : Lines) (h : Shelf) where
@@ -185,6 +185,7 @@ module _ (v w : View) (held behind : StoreMemory) (s : ℕ) (m n : Member) (was 
         facts = to.facts;
         limits = to.limits ∙ shown.limits ∙ sym becomes.limits;
         lines = lines-stand;
+        promised = refl;
         seats = λ t. seats-stand t (t == s) refl;
         steps = λ t. steps-stand t (t == s) refl;
         numbers = to.numbered;
@@ -218,6 +219,7 @@ module _ (v w : View) (held behind : StoreMemory) (s : ℕ) (m n : Member) (was 
     pub space_behind : g.space ≡ becomes.space_of h.space
     pub time_behind : g.clock.time ≡ w.moment
     pub faults_behind : g.clock.faults ≡ w.faults
+    pub promised_behind : g.clock.promised ≡ behind.numbers.ceiling
     pub others : KeepsOthers s h g
 
   -- time goes on
@@ -242,6 +244,7 @@ module _ (v w : View) (held behind : StoreMemory) (s : ℕ) (m n : Member) (was 
           space_behind = refl;
           time_behind = refl;
           faults_behind = refl;
+          promised_behind = refl;
           others = record {
             seat = λ t apart. seat-beside (to h shown).ledger.base.lines (sat h shown).start h t apart;
             steps = λ t apart. steps-beside (to h shown).ledger.base.lines (sat h shown).start h t apart;

@@ -93,6 +93,7 @@ module _ (v : View) (held : StoreMemory) (s file class : ℕ) (key : Dbkey) (own
       facts = shown.facts;
       limits = shown.limits;
       lines = record { now = shown.lines.now; time = shown.lines.time; faults = shown.lines.faults; flight = shown.lines.flight };
+      promised = shown.promised;
       seats = shown.seats;
       steps = shown.steps;
       numbers = shown.numbers;

@@ -159,6 +159,7 @@ pub record Shown (v : View) (held : StoreMemory) (h : Shelf) : Type 0 where
   pub facts : LedgerFacts v ledger
   pub limits : ledger.base.limits ≡ held.limits
   pub lines : ShowsLines v ledger h
+  pub promised : h.clock.promised ≡ held.numbers.ceiling
   pub seats : (s : ℕ) → Sits v ledger s (slice_get held.members s) (h.seat s)
   pub steps : (s : ℕ) → h.steps s ≡ steps_at held.members s
   pub numbers : NumbersStand v ledger held.numbers held.next

@@ -1,13 +1,16 @@
 // What the steps of a change make of memory.
-ghost use Rattle.std.specs.Prelude.{◌≡◌, ◌≤◌, Some, slice_get, OnOk, OnErr, IsErrOf};
+ghost use Rattle.std.specs.Prelude.{◌≡◌, ◌≤◌, ℕ, Some, slice_get, OnOk, OnErr, IsErrOf};
+ghost use Rattle.rdb_types.specs.declared.file.FileId.{FileId as File};
 ghost use Rattle.rdb_outside.specs.Causes.{Rose};
 ghost use Rattle.line_store.specs.Seats.{IsMember};
+ghost use Rattle.line_store.specs.Shelves.{Shelf};
 ghost use Rattle.line_moves.specs.Changes.{IsPlaceOf};
 ghost use Rattle.disk_store.specs.declared.member.Member.{Member as Sits};
 ghost use Rattle.disk_store.specs.declared.member.MemberStage.TheVariants.{Changing};
 ghost use Rattle.disk_store.specs.ChangeSteps.{BreaksOff, HasAside, IsNext, PassesNext, PushesNext, Unjournalled, change_ended, journalled_more, named_now, spent};
 ghost use Rattle.disk_store.specs.Memory.{with_member};
 ghost use Rattle.disk_store.specs.Seats.{IsAtStage};
+ghost use Rattle.disk_store.specs.Shown.{Shown};
 ghost use Rattle.disk_store.specs.Sound.{wanted_in};
 
 use crate::{Held, MemberStage};
@@ -74,6 +77,10 @@ impl Held {
         ensures breaks { OnErr result (BreaksOff s.number key (D.view disk.old) (D.view disk.new) self.old self.new) }
         ensures failed { IsErrOf result Fault.Failed
             → Rose (D.view disk.old).faults (D.view disk.new).faults }
+
+        // No slot is refused.
+        ensures bad { (file : File) (slot : ℕ) → IsErrOf result (Fault.Bad file slot)
+            → (h : Shelf) → Shown (D.view disk.old) self.old h → ⊥ }
     {
         let mut chain = 0;
         let member = &mut self.members[s.number as usize];

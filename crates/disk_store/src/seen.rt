@@ -1,9 +1,10 @@
 // What a session's transaction sees.
 ghost use Rattle.std.specs.Prelude.{◌≡◌, ℕ, [], true, false, IfOk, IsErrOf, IsTrue};
+ghost use Rattle.rdb_types.specs.declared.file.FileId.{FileId as File};
 ghost use Rattle.rdb_outside.specs.Causes.{Rose};
 ghost use Rattle.rdb_outside.specs.Disk.{OnlyReads};
 ghost use Rattle.line_view.specs.Knowledge.{Lines, IsInOrder, line_in, lines_in};
-ghost use Rattle.line_store.specs.declared.answers.Fault.TheVariants.{Failed};
+ghost use Rattle.line_store.specs.declared.answers.Fault.TheVariants.{Failed, Bad};
 ghost use Rattle.line_store.specs.Seats.{IsMember, IsAtRest};
 ghost use Rattle.line_store.specs.Shelves.{Shelf, seen_by};
 ghost use Rattle.stable_lines.specs.Slots.{IsAreaFile};
@@ -53,6 +54,8 @@ pub(crate) fn line_seen<D: Disk>(
         → Rose (D.view disk.old).faults (D.view disk.new).faults }
     ensures seen { IfOk result (λ image. (h : Shelf) → Shown (D.view disk.old) held.now h
         → image ≡ line_in key (seen_by s.number h)) }
+    ensures bad { (file : File) (slot : ℕ) → IsErrOf result (Bad file slot)
+        → (h : Shelf) → Shown (D.view disk.old) held.now h → ⊥ }
 {
     let member = held.member(s);
     if member.is_reading() {
@@ -76,6 +79,9 @@ fn area_written<D: Disk>(
         → LedgerFacts (D.view disk.old) ledger → AreSeen seen_of ledger held.now.members
         → ((file : ℕ) → IsAreaFile file → WereUsed (pages_of held.now.tables file) file ledger.base.lines)
         → found ≡ lines_in area (seen_with own.now ledger.base.lines)) }
+    ensures bad { (file : File) (slot : ℕ) → IsErrOf result (ReadStop.Fault (Bad file slot))
+        → IsTrue (D.view disk.old).tells → (ledger : Ledger)
+        → LedgerFacts (D.view disk.old) ledger → AreSeen seen_of ledger held.now.members → ⊥ }
 {
     let members = held.members.as_slice();
     if let Some(file) = storage_area(area) {
@@ -102,6 +108,9 @@ fn area_at_start<D: Disk>(
         → IsReaderOf (D.view disk.old) ledger held.now.limits.snaps reader.now lines → IsInOrder lines
         → ((file : ℕ) → IsAreaFile file → WereUsed (pages_of held.now.tables file) file lines)
         → found ≡ lines_in area lines) }
+    ensures bad { (file : File) (slot : ℕ) → IsErrOf result (ReadStop.Fault (Bad file slot))
+        → IsTrue (D.view disk.old).tells → (ledger : Ledger)
+        → LedgerFacts (D.view disk.old) ledger → ⊥ }
 {
     if let Some(file) = storage_area(area) {
         let limit = held.limits.snaps;
@@ -127,6 +136,8 @@ pub(crate) fn area_seen<D: Disk>(
     ensures area { IfOk result (IsOfArea area) }
     ensures seen { IfOk result (λ found. (h : Shelf) → Shown (D.view disk.old) held.now h
         → found ≡ lines_in area (seen_by s.number h)) }
+    ensures bad { (file : File) (slot : ℕ) → IsErrOf result (ReadStop.Fault (Bad file slot))
+        → (h : Shelf) → Shown (D.view disk.old) held.now h → ⊥ }
 {
     let member = held.member(s);
     if member.is_reading() {

@@ -1,12 +1,12 @@
-//! Cases of sessions that drive one value. Each line of standard input is an order of sessions, `2,1,2` or `2`, or `threads`, and the step at which session 2 dies, or 0; it is echoed on standard output, and below it stand the sessions in the order in which they were answered, and how often session 2 was asked.
+//! Cases of sessions that drive one value. Each line of standard input is an order of sessions, `2,1,2` or `2`, or `threads`, and the step at which session 2 dies, or 0; it is echoed on standard output, and below it stand the sessions in the order in which they were answered, and how often session 2 was asked, which in threads is at most once before it can go on.
 #![tactic(auto)]
 
 mod talk;
 
 use rdb_drive::{drive, drive_in_order};
 use std::process::ExitCode;
+use std::sync::Wait;
 use std::sync::atomic::Ordering;
-use std::sync::{Condvar, Mutex, Wait};
 use std::thread::Threads;
 use talk::{DiesAt, dies_at, make_talk};
 
@@ -21,6 +21,15 @@ fn tell<R: Print>(rt: &R, said: &[u32]) {
 fn tell_asked<R: Print>(rt: &R, gate: &DiesAt) {
     let asked = gate.asked.load(Ordering::SeqCst);
     let _ = println!(rt; "  session 2 asked {asked} times");
+}
+
+// Session 2 is asked once before it sleeps, and where it is rung only once it can go on, for its two answers and its end.
+fn tell_whether_rung_in_vain<R: Print>(rt: &R, gate: &DiesAt) {
+    if gate.asked.load(Ordering::SeqCst) <= 4 {
+        let _ = println!(rt; "  session 2 asked at most 4 times");
+    } else {
+        let _ = println!(rt; "  session 2 RUNG IN VAIN");
+    }
 }
 
 fn number_of(word: &str) -> u32 {
@@ -41,11 +50,9 @@ fn drive_by_turns<R: Print + AllocGlobal>(rt: &R, word: &str, gate: &DiesAt) {
 }
 
 fn drive_by_threads<R: Print + AllocGlobal + Threads + Wait + Sync>(rt: &R, gate: &DiesAt) {
-    let shared = Mutex::new(make_talk(rt.alloc()));
-    let bell = Condvar::new();
-    drive(rt, &shared, &bell, 2, gate);
-    let talk = shared.into_inner();
+    let talk = drive(rt, make_talk(rt.alloc()), 2, gate);
     tell(rt, talk.said.as_slice());
+    tell_whether_rung_in_vain(rt, gate);
 }
 
 fn main(rt: HostRuntime) -> ExitCode {

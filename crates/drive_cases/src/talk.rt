@@ -75,6 +75,10 @@ impl Driven for Talk {
 
     ghost mortals = { 2 ∷ [] };
 
+    fn is_asleep(&self, s: Session) -> bool {
+        s.number != 1 && self.first > 0
+    }
+
     fn point(&self, _s: Session) -> Point {
         Point::Other
     }

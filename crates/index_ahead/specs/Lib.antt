@@ -1,3 +1,2 @@
 pub mod Added
 pub mod Ahead
-pub mod Wanted

@@ -2,7 +2,6 @@
 #![tactic(auto)]
 
 mod ahead;
-mod wanted;
 
 pub use ahead::add_unknown;
-pub use wanted::Wanted;
+pub use node_search::Wanted;

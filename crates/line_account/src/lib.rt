@@ -5,5 +5,5 @@
 mod recording;
 
 pub use recording::{
-    MOST_EVENTS, record, record_death, record_demotion, record_recovery, reserve_step,
+    KEPT_EVENTS, MOST_EVENTS, record, record_death, record_demotion, record_recovery, reserve_step,
 };

@@ -1,5 +1,5 @@
 //! The events of what happened in a step.
-ghost use Rattle.std.specs.Prelude.{◌≡◌, ◌≤◌, ◌+◌, ◌++◌, ◌∷◌, [], map, Ok, OnOk};
+ghost use Rattle.std.specs.Prelude.{◌≡◌, ◌≤◌, ◌<◌, ◌+◌, ◌++◌, ◌∷◌, [], length, map, Ok, OnOk};
 ghost use Rattle.std.specs.Vec.{vec_len, vec_capacity};
 ghost use Rattle.rdo_ast.specs.Tree.{said as said_command};
 ghost use Rattle.rdo_ast.specs.Views.{command_of};
@@ -19,12 +19,18 @@ use std::alloc::Global;
 /// The most events of one step: a want is asked at four nodes, its statement is refused, and its transaction ends.
 pub const MOST_EVENTS: usize = 6;
 
-/// Takes room for the events of a step.
+/// The most events of deaths and recoveries that may still come: each of sixteen sessions dies once at most, and is recovered.
+pub const KEPT_EVENTS: usize = 32;
+
+/// Takes room for the events of a step and of a notice that is served in it, beside the room that is kept for deaths and recoveries.
+/// Where no memory is found there is as much room as before.
 pub fn reserve_step(events: &mut Vec<Event>) -> Result<(), NoMemory>
     ensures same { events.new.items ≡ events.old.items }
-    ensures room { OnOk result (vec_len events.new + MOST_EVENTS ≤ vec_capacity events.new) }
+    ensures len { vec_len events.new ≡ vec_len events.old }
+    ensures capacity { vec_capacity events.old ≤ vec_capacity events.new }
+    ensures room { OnOk result (vec_len events.new + (MOST_EVENTS + 1 + KEPT_EVENTS) ≤ vec_capacity events.new) }
 {
-    events.reserve(MOST_EVENTS)?;
+    events.reserve(MOST_EVENTS + 1 + KEPT_EVENTS)?;
     Ok(())
 }
 
@@ -50,7 +56,8 @@ fn done(s: Session, alloc: Global, statement: Statement) -> Event
 fn record_asking(events: &mut Vec<Event>, s: Session, asking: &Asking)
     requires room { vec_len events.old + MOST_EVENTS ≤ vec_capacity events.old }
     ensures events { map event_of events.new.items ≡ map event_of events.old.items ++ asked_by s.number asking.now }
-    ensures room { vec_len events.new + 2 ≤ vec_capacity events.new }
+    ensures len { vec_len events.new ≤ vec_len events.old + 4 }
+    ensures capacity { vec_capacity events.new ≡ vec_capacity events.old }
 {
     let need = asking.need;
     for node in asking.nodes.as_slice() {
@@ -61,7 +68,9 @@ fn record_asking(events: &mut Vec<Event>, s: Session, asking: &Asking)
 /// Puts the events of what happened behind those before.
 pub fn record(events: &mut Vec<Event>, alloc: Global, s: Session, happened: Happening)
     requires room { vec_len events.old + MOST_EVENTS ≤ vec_capacity events.old }
-    ensures { map event_of events.new.items ≡ map event_of events.old.items ++ events_of s.number happened }
+    ensures events { map event_of events.new.items ≡ map event_of events.old.items ++ events_of s.number happened }
+    ensures len { vec_len events.new ≤ vec_len events.old + MOST_EVENTS }
+    ensures capacity { vec_capacity events.new ≡ vec_capacity events.old }
 {
     match happened {
         Happening::Began(kind) => events.push_reserved(Event::Began(s, kind)),
@@ -106,8 +115,10 @@ pub fn record(events: &mut Vec<Event>, alloc: Global, s: Session, happened: Happ
 
 /// Puts the event of a notice that was served to a session behind those before: its lock at the node came down, or nothing did.
 pub fn record_demotion(events: &mut Vec<Event>, to: Session, node: Node, demotion: Option<Demotion>)
-    requires room { vec_len events.old + MOST_EVENTS ≤ vec_capacity events.old }
-    ensures { map event_of events.new.items ≡ map event_of events.old.items ++ demoted_by to.number node demotion }
+    requires room { vec_len events.old < vec_capacity events.old }
+    ensures events { map event_of events.new.items ≡ map event_of events.old.items ++ demoted_by to.number node demotion }
+    ensures len { vec_len events.new ≤ vec_len events.old + 1 }
+    ensures capacity { vec_capacity events.new ≡ vec_capacity events.old }
 {
     if let Some(Demotion { from, to: mode }) = demotion {
         events.push_reserved(Event::Demoted(to, node, from, mode));
@@ -116,16 +127,20 @@ pub fn record_demotion(events: &mut Vec<Event>, to: Session, node: Node, demotio
 
 /// Puts the death of a session behind the events before.
 pub fn record_death(events: &mut Vec<Event>, s: Session, cause: Cause)
-    requires room { vec_len events.old + MOST_EVENTS ≤ vec_capacity events.old }
-    ensures { map event_of events.new.items ≡ map event_of events.old.items ++ Died s.number cause ∷ [] }
+    requires room { vec_len events.old < vec_capacity events.old }
+    ensures events { map event_of events.new.items ≡ map event_of events.old.items ++ Died s.number cause ∷ [] }
+    ensures len { vec_len events.new ≡ vec_len events.old + 1 }
+    ensures capacity { vec_capacity events.new ≡ vec_capacity events.old }
 {
     events.push_reserved(Event::Died(s, cause));
 }
 
 /// Puts a step of a session's recovery behind the events before: where the session is recovered, that is an event.
 pub fn record_recovery(events: &mut Vec<Event>, s: Session, step: Recovery)
-    requires room { vec_len events.old + MOST_EVENTS ≤ vec_capacity events.old }
-    ensures { map event_of events.new.items ≡ map event_of events.old.items ++ recovery_events s.number (Ok step) }
+    requires room { vec_len events.old < vec_capacity events.old }
+    ensures events { map event_of events.new.items ≡ map event_of events.old.items ++ recovery_events s.number (Ok step) }
+    ensures len { vec_len events.new ≡ vec_len events.old + length (recovery_events s.number (Ok step)) }
+    ensures capacity { vec_capacity events.new ≡ vec_capacity events.old }
 {
     match step {
         Recovery::More => {}

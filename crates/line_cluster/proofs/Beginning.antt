@@ -25,6 +25,7 @@ use Rattle.rdb_account.specs.declared.event.Event.{Event as Declared}
 use Rattle.line_cluster.proofs.Stepping.{told-images}
 use Rattle.line_cluster.specs.Sound.{IsSound, AreSound, FollowsScripts, IsOpenedBy, MayFail, fresh_member, stop_of}
 use Rattle.line_cluster.proofs.Faults.{rose-none}
+use Rattle.line_cluster.proofs.Room.{lives-few}
 
 map-got : {A B : Type 0} (f : A → B) (xs : List A) (i : ℕ) (y : B) → slice_get (map f xs) i ≡ Some y → (x : A) × (slice_get xs i ≡ Some x) × (f x ≡ y)
 map-got f [] i y h = absurd (none-some y h)
@@ -48,6 +49,7 @@ begins M orderly told o faults c scripts agrees stands openable away parties tra
   images = λ t. told-images M orderly o c.word c.sight stands c.locks (map fresh_member scripts) [] sits (tells t);
   causes = λ t. let is : IsOpenedBy M o faults c.word c.sight = opens t in record { shelf = is.shelf; shown = is.shown; rose = rose-none faults is.shelf.clock.faults is.no_fewer };
   agrees = λ t. refl;
+  spent = λ t over. absurd (false≢true over);
 }
   where
     fresh-phase : (i : ℕ) (m : Member) → slice_get (map fresh_member scripts) i ≡ Some m → (m.phase ≡ Outside) × (m.life ≡ Alive)
@@ -92,10 +94,10 @@ begins M orderly told o faults c scripts agrees stands openable away parties tra
       };
     }
 
-pub starts : (M : Model) (orderly : IsOrderly M) (told : Type 0) (o : Opening) (faults sessions : ℕ) (c : Scene) (scripts : List WholeScript) (members : List Member) (events : List Declared) (stops : List Bool) → Agrees c.sight → Stands c.sight → MayBeOpened c.sight → ((s : ℕ) → c.sight.stand s ≡ outside) →
-    c.locks.parties ≡ [] → c.locks.trail ≡ [] → FollowsScripts o scripts → (told → IsOpenedBy M o faults c.word c.sight) → members ≡ map fresh_member scripts → stops ≡ map stop_of scripts → events ≡ [] → length scripts ≡ sessions → sessions ≤ 16 → MayFail o →
-    AreSound M told o faults sessions c members (map event_of events) None stops
-starts M orderly told o faults sessions c scripts members events stops agrees stands openable away parties trail follows opens are ends none count few mortal = record {
+pub starts : (M : Model) (orderly : IsOrderly M) (told : Type 0) (o : Opening) (faults sessions : ℕ) (c : Scene) (scripts : List WholeScript) (members : List Member) (events : List Declared) (stops : List Bool) (spare : ℕ) → Agrees c.sight → Stands c.sight → MayBeOpened c.sight → ((s : ℕ) → c.sight.stand s ≡ outside) →
+    c.locks.parties ≡ [] → c.locks.trail ≡ [] → FollowsScripts o scripts → (told → IsOpenedBy M o faults c.word c.sight) → members ≡ map fresh_member scripts → stops ≡ map stop_of scripts → events ≡ [] → length scripts ≡ sessions → sessions ≤ 16 → MayFail o → 32 ≤ spare →
+    AreSound M told o faults sessions c members (map event_of events) None stops spare
+starts M orderly told o faults sessions c scripts members events stops spare agrees stands openable away parties trail follows opens are ends none count few mortal room = record {
   sound = subst (λ (ms : List Member). IsSound M told o faults c ms (map event_of events) None) (sym are) (subst (λ (es : List Declared). IsSound M told o faults c (map fresh_member scripts) (map event_of es) None) (sym none)
       (begins M orderly told o faults c scripts agrees stands openable away parties trail follows opens));
   count = ap length are ∙ (as-long fresh_member scripts ∙ count);
@@ -105,4 +107,5 @@ starts M orderly told o faults sessions c scripts members events stops agrees st
     count = ap length ends ∙ (as-long stop_of scripts ∙ count);
     each = λ i b found. let at = map-got stop_of scripts i b (ap (λ (bs : List Bool). slice_get bs i) (sym ends) ∙ found) in sym at.2 ∙ sym (follows i at.0 at.1).1;
   };
+  room = let most = lives-few members in let as-many = ap length are ∙ (as-long fresh_member scripts ∙ count) in omega (arith, most, as-many, few, room);
 }

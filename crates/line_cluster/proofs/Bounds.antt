@@ -45,7 +45,7 @@ pub record IsCounted (rounds : ℕ) (locks : State) (s : ℕ) (m : Member) : Typ
 
 -- ---- the numbers of a session
 
-life-few : (l : Life) → life_left l ≤ 2
+pub life-few : (l : Life) → life_left l ≤ 2
 life-few Alive = omega arith
 life-few Dead = omega arith
 life-few Gone = omega arith

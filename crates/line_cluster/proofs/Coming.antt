@@ -9,10 +9,13 @@ use Rattle.rdb_account.specs.Events.{Event, Died, event_of}
 use Rattle.session_states.specs.declared.stage.Life.{Life}
 use Rattle.session_states.specs.declared.stage.Life.TheVariants.{Alive, Dead, Gone}
 use Rattle.rdb_types.specs.declared.session.Cause.{Cause}
+use Rattle.rdb_types.specs.declared.session.Cause.TheVariants.{Memory}
 use Rattle.session_states.specs.declared.stage.Member.{Member}
 use Rattle.session_stands.specs.Sessions.{dead_in, one_dead}
+use Rattle.line_cluster.specs.declared.behind.Notice.{Notice}
+use Rattle.line_cluster.specs.Behind.{IsNoticed}
 use Rattle.line_cluster.specs.Deaths.{is_own}
-use Rattle.line_cluster.specs.Going.{IsDeadAt, is_alive_life, is_dead_life, is_over}
+use Rattle.lent_members.specs.Going.{IsDeadAt, is_alive_life, is_dead_life, is_over, with_life}
 use Rattle.rdb_account.specs.Places.{Opening}
 use Rattle.line_store.specs.declared.answers.Fault.{Fault}
 use Rattle.stage_steps.specs.declared.dying.Recovery.{Recovery}
@@ -22,9 +25,9 @@ use Rattle.stage_steps.specs.declared.happening.Happening.{Happening}
 use Rattle.stage_steps.specs.Happenings.{events_of}
 use Rattle.line_cluster.specs.declared.sessions.Turn.{Turn}
 use Rattle.line_cluster.specs.declared.sessions.Turn.TheVariants as turn
-use Rattle.line_cluster.specs.Turned.{Sessions, Came, GoesFurther, GoesOn, Grows, GrowsQuietly, HasFallen, IsAnother, IsDeath, IsHalt, IsRecovery, RecoveryCame, Rests, mark_of, with_life}
-use Rattle.line_cluster.proofs.Marks.{IsOf, all-append, answers-append, step-marks}
-use Rattle.line_cluster.proofs.Places.{set-same, set-set}
+use Rattle.line_cluster.specs.Turned.{Sessions, Came, GoesFurther, GoesOn, Grows, GrowsQuietly, HasFallen, IsAnother, IsDeath, IsRecovery, Rests, mark_of}
+use Rattle.line_cluster.proofs.Marks.{IsOf, all-append, answers-append, noticed-marks, step-marks}
+use Rattle.lent_members.proofs.Places.{set-same, set-set}
 
 -- nothing happened
 pub still : (stops : ℕ → Bool) (s : ℕ) (c d : Sessions) → d.members ≡ c.members → d.events ≡ c.events → GoesFurther stops s c d
@@ -76,7 +79,11 @@ came-from stops s old then new t e f on came = by t on came
       behind = g.behind;
       died = g.died;
       is = subst (λ (ms : List Member). new.members ≡ slice_set ms (s - 1) g.behind) e g.is;
-      grown = subst (λ (es : List Declared). map event_of new.events ≡ map event_of es ++ Died s g.cause ∷ []) f g.grown;
+      asked = g.asked;
+      alone = g.alone;
+      of_s = g.of_s;
+      silent = g.silent;
+      grown = subst (λ (es : List Declared). map event_of new.events ≡ map event_of es ++ (g.asked ++ Died s g.cause ∷ [])) f g.grown;
     }
 
     by : (t : Turn) → GoesOn t → Came stops s then new t → Came stops s old new t
@@ -140,14 +147,6 @@ went-served stops s old mid new g same quiet =
       };
     }
 
-pub came-by : (stops : ℕ → Bool) (s : ℕ) (old new : Sessions) (t : Turn) → GoesOn t → (t ≡ turn.Died → ⊥) → GoesFurther stops s old new → (t ≡ turn.Stopped → new.halted ≡ true) → Came stops s old new t
-came-by stops s old new turn.Moved on lives g halted = g
-came-by stops s old new turn.Stopped on lives g halted = (halted refl, g)
-came-by stops s old new (turn.Asleep u) on lives g halted = absurd on
-came-by stops s old new turn.Died on lives g halted = absurd (lives refl)
-came-by stops s old new turn.Frozen on lives g halted = absurd on
-came-by stops s old new turn.Ended on lives g halted = absurd on
-
 -- ---- deaths
 
 -- a session took a step, of which it died
@@ -163,8 +162,37 @@ fell stops s at cause old new put m n own is found going put-is died grown = rec
   died = refl;
   is = subst (λ (i : ℕ). new.members ≡ slice_set old.members i (with_life Dead n)) is
       (died ∙ (ap (λ (ms : List Member). slice_set ms at (with_life Dead n)) put-is ∙ set-set old.members at n (with_life Dead n)));
+  asked = [];
+  alone = λ other. refl;
+  of_s = tt;
+  silent = refl;
   grown = grown;
 }
+
+-- a notice to another was due in its step: it was served, or the session died for want of memory
+pub came-served : (stops : ℕ → Bool) (s at : ℕ) (old mid new : Sessions) (m n : Member) (h : Happening) (notice : Notice) (t : Turn) → (t ≡ turn.Moved) ⊎ (t ≡ turn.Died) → IsNoticed notice h → at ≡ s - 1 → slice_get old.members at ≡ Some m → is_over (stops s) m m.life ≡ false → n.life ≡ m.life →
+    mid.members ≡ slice_set old.members at n → map event_of mid.events ≡ map event_of old.events ++ events_of s h → (t ≡ turn.Moved → new.members ≡ mid.members) → (t ≡ turn.Moved → GrowsQuietly mid.events new.events) →
+    (t ≡ turn.Died → new.members ≡ slice_set mid.members at (with_life Dead n)) → (t ≡ turn.Died → map event_of new.events ≡ map event_of mid.events ++ Died s Memory ∷ []) → Came stops s old new t
+came-served stops s at old mid new m n h notice t (inl moved) noticed is found going lives put grown same quiet died death =
+    subst (λ (u : Turn). Came stops s old new u) (sym moved) (went-served stops s old mid new (went stops s at old mid m n h is found going lives put grown) (same moved) (quiet moved))
+came-served stops s at old mid new m n h notice t (inr fallen) noticed is found going lives put grown same quiet died death =
+    let marks = noticed-marks s notice h noticed in
+    subst (λ (u : Turn). Came stops s old new u) (sym fallen) (record {
+      cause = Memory;
+      own = refl;
+      before = m;
+      found = subst (λ (i : ℕ). slice_get old.members i ≡ Some m) is found;
+      going = going;
+      behind = with_life Dead n;
+      died = refl;
+      is = subst (λ (i : ℕ). new.members ≡ slice_set old.members i (with_life Dead n)) is
+          (died fallen ∙ (ap (λ (ms : List Member). slice_set ms at (with_life Dead n)) put ∙ set-set old.members at n (with_life Dead n)));
+      asked = events_of s h;
+      alone = λ other. absurd (false≢true (sym other));
+      of_s = marks.0;
+      silent = marks.1;
+      grown = death fallen ∙ (ap (λ (es : List Event). es ++ Died s Memory ∷ []) grown ∙ append_assoc (map event_of old.events) (events_of s h) (Died s Memory ∷ []));
+    })
 
 -- a session died where it stood, in its turn
 pub died-here : (stops : ℕ → Bool) (s at : ℕ) (cause : Cause) (old new : Sessions) (m : Member) → is_own cause ≡ true → at ≡ s - 1 → slice_get old.members at ≡ Some m → is_over (stops s) m m.life ≡ false →
@@ -178,8 +206,23 @@ died-here stops s at cause old new m own is found going put grown = record {
   behind = with_life Dead m;
   died = refl;
   is = subst (λ (i : ℕ). new.members ≡ slice_set old.members i (with_life Dead m)) is put;
+  asked = [];
+  alone = λ other. refl;
+  of_s = tt;
+  silent = refl;
   grown = grown;
 }
+
+-- of what happened in it there is no answer
+pub fallen-grows : (stops : ℕ → Bool) (s : ℕ) (old new : Sessions) → HasFallen stops s old new → Grows s old.events new.events
+fallen-grows stops s old new d =
+    let marks : map mark_of (d.asked ++ Died s d.cause ∷ []) ≡ map mark_of d.asked ++ Does s ∷ [] = map-append mark_of d.asked (Died s d.cause ∷ []) in
+    record {
+      more = d.asked ++ Died s d.cause ∷ [];
+      grown = d.grown;
+      of_s = subst (λ (xs : List Mark). AllOf s xs) (sym marks) (all-append s (map mark_of d.asked) (Does s ∷ []) d.of_s (refl, tt));
+      one = subst (λ (xs : List Mark). answers xs ≤ 1) (sym marks) (let both = answers-append (map mark_of d.asked) (Does s ∷ []) in let none = d.silent in omega (arith, both, none));
+    }
 
 pub has-died : (stops : ℕ → Bool) (s at : ℕ) (cause : Cause) (old new : Sessions) (m : Member) → old.halted ≡ false → at ≡ s - 1 → slice_get old.members at ≡ Some m → is_over (stops s) m m.life ≡ false →
     new.members ≡ slice_set old.members at (with_life Dead m) → map event_of new.events ≡ map event_of old.events ++ Died s cause ∷ [] → IsDeath stops s cause old new
@@ -221,38 +264,3 @@ has-recovered-on at old new m r found died put grown = record {
 -- who was put back as it was
 pub put-back : (ms : List Member) (at : ℕ) (m : Member) → slice_get ms at ≡ Some m → m.life ≡ Dead → slice_set ms at (with_life Dead m) ≡ ms
 put-back ms at m found died = set-same ms at (with_life Dead m) (found ∙ ap (λ (l : Life). Some (with_life l m)) died)
-
-pub death-from : (stops : ℕ → Bool) (s : ℕ) (cause : Cause) (old then new : Sessions) → then.members ≡ old.members → then.events ≡ old.events → then.halted ≡ old.halted → IsDeath stops s cause then new → IsDeath stops s cause old new
-death-from stops s cause old then new members events halted d = record {
-  going = sym halted ∙ d.going;
-  before = d.before;
-  found = subst (λ (ms : List Member). slice_get ms (s - 1) ≡ Some d.before) members d.found;
-  unfinished = d.unfinished;
-  is = d.is ∙ ap (λ (ms : List Member). slice_set ms (s - 1) (with_life Dead d.before)) members;
-  grown = d.grown ∙ ap (λ (es : List Declared). map event_of es ++ Died s cause ∷ []) events;
-}
-
-recovery-from : (old then new : Sessions) → then.members ≡ old.members → then.events ≡ old.events → IsRecovery then new → IsRecovery old new
-recovery-from old then new members events r = record {
-  at = r.at;
-  before = r.before;
-  found = subst (λ (ms : List Member). slice_get ms r.at ≡ Some r.before) members r.found;
-  died = r.died;
-  life = r.life;
-  dead = r.dead;
-  is = r.is ∙ ap (λ (ms : List Member). slice_set ms r.at (with_life r.life r.before)) members;
-  more = r.more;
-  grown = r.grown ∙ ap (λ (es : List Declared). map event_of es ++ r.more) events;
-  nobodys = r.nobodys;
-}
-
-pub recovery-came-from : (old then new : Sessions) (t : Turn) → old.halted ≡ false → then.members ≡ old.members → then.events ≡ old.events → GoesOn t → RecoveryCame then new t → RecoveryCame old new t
-recovery-came-from old then new turn.Moved going members events on r = recovery-from old then new members events r
-recovery-came-from old then new turn.Stopped going members events on h = record { halted = h.halted; members = h.members ∙ members; events = h.events ∙ events; rests = λ stopped. absurd (false≢true (sym going ∙ stopped)) }
-recovery-came-from old then new (turn.Asleep u) going members events on r = absurd on
-recovery-came-from old then new turn.Died going members events on r = absurd r
-recovery-came-from old then new turn.Frozen going members events on r = absurd on
-recovery-came-from old then new turn.Ended going members events on r = absurd on
-
-pub halt-recovery : (old new : Sessions) (t : Turn) → t ≡ turn.Stopped → IsHalt old new → RecoveryCame old new t
-halt-recovery old new t is h = subst (λ (u : Turn). RecoveryCame old new u) (sym is) h

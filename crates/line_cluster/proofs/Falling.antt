@@ -8,9 +8,11 @@ use Rattle.rdo_ast.specs.declared.syntax.Item.{Item}
 use Rattle.rdb_account.specs.Events.{Event, Died}
 use Rattle.rdb_account.specs.Places.{Opening}
 use Rattle.line_store.specs.declared.answers.Fault.{Fault}
+use Rattle.line_store.specs.declared.answers.Fault.TheVariants.{Failed, Bad}
+use Rattle.line_store.specs.Calls.{Fails}
 use Rattle.lock_tree_laws.specs.Forest.{State}
 use Rattle.line_store.specs.Seats.{Seat, outside, beginning, writing, changing, prepared, committing, rolling_back, closing, reading, dead, done_at, IsAlive}
-use Rattle.line_store.specs.Sights.{Stands, bare}
+use Rattle.line_store.specs.Sights.{Behind, Stands, bare}
 use Rattle.line_store.proofs.InTurn.{does-as}
 use Rattle.session_jobs.specs.Records.{Model, IsOrderly}
 use Rattle.session_states.specs.declared.stage.Phase.{Phase}
@@ -32,15 +34,15 @@ use Rattle.session_stands.proofs.Seats.{dead-seat}
 use Rattle.session_stands.proofs.Telling.{falls}
 use Rattle.stage_steps.specs.declared.dying.Recovery.{Recovery}
 use Rattle.stage_steps.specs.declared.dying.Recovery.TheVariants.{More, Done}
-use Rattle.stage_steps.specs.Deaths.{DiesIn, RecoversIn, life_behind, recovered_by, dead_behind, recovery_events}
+use Rattle.stage_steps.specs.Deaths.{DiesIn, NearerRecoveredIn, RecoversIn, life_behind, recovered_by, dead_behind, recovery_events}
 use Rattle.stage_steps.specs.Scenes.{Scene, Goes, on_shelf}
 use Rattle.line_cluster.specs.declared.sessions.Halt.{Halt}
 use Rattle.line_cluster.specs.Deaths.{CountsFaults, device_deaths, failures, faults_in, faults_of, is_stop}
-use Rattle.line_cluster.specs.Sound.{IsSound, is_unsound}
-use Rattle.line_cluster.proofs.Faults.{counts-fewer, counts-on, counts-recovered, failed_in, one-death, recovery-fails}
+use Rattle.line_cluster.specs.Sound.{IsSound, ShowsSpent, is_over_slot, is_unsound}
+use Rattle.line_cluster.proofs.Faults.{counts-fewer, counts-on, counts-recovered, failed_in, one-death, recovery-fails, slot_in}
 use Rattle.line_cluster.proofs.Places.{suc-less}
 use Rattle.line_cluster.proofs.Stepping.{session-of, seated-at, is-dead, told-images}
-use Rattle.line_cluster.specs.Going.{IsDeadAt, is_dead, is_stopping}
+use Rattle.lent_members.specs.Going.{IsDeadAt, is_dead, is_stopping}
 
 -- how many are dead where one has another life
 pub dead-moved : (ms : List Member) (i : ℕ) (m n : Member) → slice_get ms i ≡ Some m → dead_in (slice_set ms i n) + one_dead m.life ≡ dead_in ms + one_dead n.life
@@ -64,20 +66,21 @@ module _ (M : Model) (orderly : IsOrderly M) (told : Type 0) (o : Opening) (faul
     counts-fallen k before = counts-on faults (suc i) c.sight d.sight k (d.sight.stand (suc i))
         (λ h g. Fall M o (suc i) (on_shelf c h (dead_in members)) m (on_shelf d g (dead_in (slice_set members i n))) n es) (λ h g r. r.others.store.later) goes.does before
 
-    pub fallen : (told → CountsFaults faults (failures (events ++ es) halt) d.sight) → is_unsound halt ≡ false → IsSound M told o faults d (slice_set members i n) (events ++ es) halt
-    fallen counts agrees = record {
+    pub fallen : (told → CountsFaults faults (failures (events ++ es) halt) d.sight) → is_unsound halt ≡ false → (told → is_over_slot halt ≡ true → ShowsSpent d.sight) → IsSound M told o faults d (slice_set members i n) (events ++ es) halt
+    fallen counts agrees spent = record {
       legal = λ t. (tells t).kept.right.legal;
       seated = λ none. sits;
       kept = λ none t. tells t;
       images = λ t. told-images M orderly o d.word d.sight stands d.locks (slice_set members i n) (events ++ es) sits (tells t);
       causes = counts;
       agrees = λ t. agrees;
+      spent = spent;
     }
 
   module _ (left : List Item) (total : ℕ) (x : Phase) (halt : Option Halt) where
-    pub dies : slice_get members i ≡ Some (session left total x) → (cause : Cause) → may_die_in o (suc i) left x cause ≡ true → faults_in halt ≡ 0 → is_unsound halt ≡ false → (told → CountsFaults faults (device_deaths events + faults_of cause) c.sight) → DiesIn M (suc i) x c d →
+    pub dies : slice_get members i ≡ Some (session left total x) → (cause : Cause) → may_die_in o (suc i) left x cause ≡ true → faults_in halt ≡ 0 → is_unsound halt ≡ false → is_over_slot halt ≡ false → (told → CountsFaults faults (device_deaths events + faults_of cause) c.sight) → DiesIn M (suc i) x c d →
         IsSound M told o faults d (slice_set members i (dead_session left total x)) (events ++ Died (suc i) cause ∷ []) halt
-    dies found cause may going agrees caused g =
+    dies found cause may going agrees slot caused g =
         let more : dead_in (slice_set members i (dead_session left total x)) ≡ dead_in members + 1 = (let e = dead-moved members i (session left total x) (dead_session left total x) found in omega (arith, e)) in
         let goes : Goes (suc i) x Alive x Dead (λ h k. Fall M o (suc i) (on_shelf c h (dead_in members)) (session left total x) (on_shelf d k (dead_in (slice_set members i (dead_session left total x)))) (dead_session left total x) (Died (suc i) cause ∷ [])) _ c d = record {
           lives = g.lives;
@@ -93,7 +96,7 @@ module _ (M : Model) (orderly : IsOrderly M) (told : Type 0) (o : Opening) (faul
         let counted : told → CountsFaults faults (failures (events ++ Died (suc i) cause ∷ []) halt) d.sight = λ t.
         counts-fewer faults (failures (events ++ Died (suc i) cause ∷ []) halt) (device_deaths events + faults_of cause) d.sight (one-death events (suc i) cause halt going)
         (counts-fallen _ (Died (suc i) cause ∷ []) (session left total x) (dead_session left total x) halt found refl goes (device_deaths events + faults_of cause) (caused t)) in
-        fallen _ (Died (suc i) cause ∷ []) (session left total x) (dead_session left total x) halt found refl goes counted agrees
+        fallen _ (Died (suc i) cause ∷ []) (session left total x) (dead_session left total x) halt found refl goes counted agrees (λ t over. absurd (false≢true (sym slot ∙ over)))
 
     life-of-behind : (result : Result Recovery Fault) → (recovered_by result left total x).life ≡ life_behind result
     life-of-behind (Ok (Done committed moment)) = refl
@@ -110,9 +113,19 @@ module _ (M : Model) (orderly : IsOrderly M) (told : Type 0) (o : Opening) (faul
     fewer found (Ok More) = let e = dead-moved members i (dead_session left total x) (dead_session left total x) found in omega (arith, e)
     fewer found (Err fault) = let e = dead-moved members i (dead_session left total x) (dead_session left total x) found in omega (arith, e)
 
-    pub recovers : slice_get members i ≡ Some (dead_session left total x) → (result : Result Recovery Fault) → faults_in halt ≤ failed_in result → is_unsound halt ≡ false → RecoversIn M (suc i) x c d result →
+    -- where it is told that a slot isn't what it has to be, numbers are used up
+    spent-recovered : (result : Result Recovery Fault) → NearerRecoveredIn (suc i) result c d left total x → told → slot_in result ≡ true → ShowsSpent d.sight
+    spent-recovered (Err (Bad file slot)) near t e =
+        let k = was.kept refl t in
+        let it : Behind c.sight d.sight (Fails (suc i) (Bad file slot)) k.shelf = near k.shelf k.shown in
+        let fails : Fails (suc i) (Bad file slot) k.shelf it.shelf = it.related in
+        record { shelf = it.shelf; shown = it.shown; spent = fails.cause }
+    spent-recovered (Err Failed) near t e = absurd (false≢true e)
+    spent-recovered (Ok step) near t e = absurd (false≢true e)
+
+    pub recovers : slice_get members i ≡ Some (dead_session left total x) → (result : Result Recovery Fault) → faults_in halt ≤ failed_in result → is_unsound halt ≡ false → is_over_slot halt ≡ slot_in result → RecoversIn M (suc i) x c d result →
         IsSound M told o faults d (slice_set members i (recovered_by result left total x)) (events ++ recovery_events (suc i) result) halt
-    recovers found result says agrees g =
+    recovers found result says agrees over g =
         let goes : Goes (suc i) x Dead x (recovered_by result left total x).life (λ h k. Fall M o (suc i) (on_shelf c h (dead_in members)) (dead_session left total x) (on_shelf d k (dead_in (slice_set members i (recovered_by result left total x)))) (recovered_by result left total x) (recovery_events (suc i) result)) _ c d = record {
           lives = λ f. subst (λ (l : Life). LivesAt d.sight.stand d.locks (suc i) x l) (sym (life-of-behind result)) (g.lives f);
           parties = g.parties;
@@ -128,19 +141,19 @@ module _ (M : Model) (orderly : IsOrderly M) (told : Type 0) (o : Opening) (faul
         let counted : told → CountsFaults faults (failures (events ++ recovery_events (suc i) result) halt) d.sight = λ t.
         counts-fewer faults (failures (events ++ recovery_events (suc i) result) halt) (failures events None + failed_in result) d.sight (recovery-fails events (suc i) result None halt says)
         (counts-recovered faults (suc i) (failures events None) c d left total x result (g.nearer left total) (was.causes t) (on t)) in
-        fallen _ (recovery_events (suc i) result) (dead_session left total x) (recovered_by result left total x) halt found (phase-of-behind result) goes counted agrees
+        fallen _ (recovery_events (suc i) result) (dead_session left total x) (recovered_by result left total x) halt found (phase-of-behind result) goes counted agrees (λ t is. spent-recovered result (g.nearer left total) t (sym over ∙ is))
 
 -- ---- as the code has it
 
 pub has-died : (M : Model) (orderly : IsOrderly M) (told : Type 0) (o : Opening) (faults : ℕ) (c d : Scene) (stands : Stands d.sight) (members put : List Member) (events more : List Event) (s at : ℕ) (m : Member) (cause : Cause) (old halt : Option Halt) →
-    1 ≤ s → at ≡ s - 1 → old ≡ None → slice_get members at ≡ Some m → m.life ≡ Alive → IsSound M told o faults c members events old → may_die_in o s m.left m.phase cause ≡ true → faults_in halt ≡ 0 → is_unsound halt ≡ false → (told → CountsFaults faults (device_deaths events + faults_of cause) c.sight) → DiesIn M s m.phase c d →
+    1 ≤ s → at ≡ s - 1 → old ≡ None → slice_get members at ≡ Some m → m.life ≡ Alive → IsSound M told o faults c members events old → may_die_in o s m.left m.phase cause ≡ true → faults_in halt ≡ 0 → is_unsound halt ≡ false → is_over_slot halt ≡ false → (told → CountsFaults faults (device_deaths events + faults_of cause) c.sight) → DiesIn M s m.phase c d →
     put ≡ slice_set members at (record { left = m.left; total = m.total; phase = m.phase; life = Dead }) → more ≡ events ++ Died s cause ∷ [] → IsSound M told o faults d put more halt
-has-died M orderly told o faults c d stands members put events more s at m cause old halt first is none found alive was may going agrees caused dies-in put-is more-is =
+has-died M orderly told o faults c d stands members put events more s at m cause old halt first is none found alive was may going agrees slot caused dies-in put-is more-is =
     let e : s ≡ suc at = sym (ap suc is ∙ suc-less s first) in
     subst (λ (ms : List Member). IsSound M told o faults d ms more halt) (sym put-is)
     (subst (λ (es : List Event). IsSound M told o faults d (slice_set members at (dead_session m.left m.total m.phase)) es halt) (ap (λ (t : ℕ). events ++ Died t cause ∷ []) (sym e) ∙ sym more-is)
     (dies M orderly told o faults c d stands members events at (subst (λ (x : Option Halt). IsSound M told o faults c members events x) none was) m.left m.total m.phase halt (found ∙ ap Some (session-of m alive)) cause
-    (subst (λ (t : ℕ). may_die_in o t m.left m.phase cause ≡ true) e may) going agrees caused (subst (λ (t : ℕ). DiesIn M t m.phase c d) e dies-in)))
+    (subst (λ (t : ℕ). may_die_in o t m.left m.phase cause ≡ true) e may) going agrees slot caused (subst (λ (t : ℕ). DiesIn M t m.phase c d) e dies-in)))
 
 behind-is : (result : Result Recovery Fault) (left : List Item) (total : ℕ) (x : Phase) → recovered_by result left total x ≡ record { left = left; total = total; phase = x; life = life_behind result }
 behind-is (Ok (Done committed moment)) left total x = refl
@@ -148,14 +161,14 @@ behind-is (Ok More) left total x = refl
 behind-is (Err fault) left total x = refl
 
 pub has-recovered : (M : Model) (orderly : IsOrderly M) (told : Type 0) (o : Opening) (faults : ℕ) (c d : Scene) (stands : Stands d.sight) (members put : List Member) (events more : List Event) (at : ℕ) (m : Member) (result : Result Recovery Fault) (old halt : Option Halt) →
-    old ≡ None → slice_get members at ≡ Some m → m.life ≡ Dead → IsSound M told o faults c members events old → faults_in halt ≤ failed_in result → is_unsound halt ≡ false → RecoversIn M (at + 1) m.phase c d result →
+    old ≡ None → slice_get members at ≡ Some m → m.life ≡ Dead → IsSound M told o faults c members events old → faults_in halt ≤ failed_in result → is_unsound halt ≡ false → is_over_slot halt ≡ slot_in result → RecoversIn M (at + 1) m.phase c d result →
     put ≡ slice_set members at (record { left = m.left; total = m.total; phase = m.phase; life = life_behind result }) → more ≡ events ++ recovery_events (at + 1) result → IsSound M told o faults d put more halt
-has-recovered M orderly told o faults c d stands members put events more at m result old halt none found died was says agrees recovers-in put-is more-is =
+has-recovered M orderly told o faults c d stands members put events more at m result old halt none found died was says agrees over recovers-in put-is more-is =
     let e : at + 1 ≡ suc at = omega arith in
     subst (λ (ms : List Member). IsSound M told o faults d ms more halt) (ap (λ (x : Member). slice_set members at x) (behind-is result m.left m.total m.phase) ∙ sym put-is)
     (subst (λ (es : List Event). IsSound M told o faults d (slice_set members at (recovered_by result m.left m.total m.phase)) es halt) (ap (λ (t : ℕ). events ++ recovery_events t result) (sym e) ∙ sym more-is)
     (recovers M orderly told o faults c d stands members events at (subst (λ (x : Option Halt). IsSound M told o faults c members events x) none was) m.left m.total m.phase halt
-    (found ∙ ap (λ (l : Life). Some (record { left = m.left; total = m.total; phase = m.phase; life = l })) died) result says agrees (subst (λ (t : ℕ). RecoversIn M t m.phase c d result) e recovers-in)))
+    (found ∙ ap (λ (l : Life). Some (record { left = m.left; total = m.total; phase = m.phase; life = l })) died) result says agrees over (subst (λ (t : ℕ). RecoversIn M t m.phase c d result) e recovers-in)))
 
 -- the session at this place is dead for the store
 pub dead-stands : (stand : ℕ → Seat) (locks : State) (members : List Member) (at : ℕ) (m : Member) → slice_get members at ≡ Some m → m.life ≡ Dead → AreSeated stand locks members → IsAlive (stand (at + 1)) → ⊥

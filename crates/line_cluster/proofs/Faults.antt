@@ -1,5 +1,5 @@
 -- How many faults are counted, and why.
-use Rattle.std.proofs.Common.{◌≡◌, ◌≤◌, ◌+◌, ℕ, Bool, false, cond, List, [], ◌∷◌, ◌++◌, refl, ap, sym, subst, arith, Option, Some, None, Result, Ok, Err}
+use Rattle.std.proofs.Common.{◌≡◌, ◌≤◌, ◌+◌, ℕ, Bool, false, true, cond, List, [], ◌∷◌, ◌++◌, refl, ap, sym, subst, arith, Option, Some, None, Result, Ok, Err}
 use Rattle.std.proofs.lemmas.List.Sums.{sum_by-append}
 use Rattle.rdb_types.specs.declared.node.Node.{Node}
 use Rattle.rdb_types.specs.declared.session.Cause.{Cause}
@@ -27,6 +27,7 @@ use Rattle.stage_steps.specs.Scenes.{Scene, HasFailed}
 use Rattle.stage_steps.specs.Deaths.{NearerRecoveredIn, recovery_events}
 use Rattle.line_cluster.specs.declared.sessions.Halt.{Halt}
 use Rattle.line_cluster.specs.declared.sessions.Halt.TheVariants as halts
+use Rattle.line_cluster.specs.Sound.{is_over_slot}
 use Rattle.line_cluster.specs.Deaths.{is_device, is_device_death, device_deaths, failures, faults_in, faults_of, CountsFaults, RoseBy}
 
 -- ---- counts
@@ -133,6 +134,15 @@ other-death events cause halt other = let e : faults_of cause ≡ 0 = ap (λ (b 
 abbrev pub failed_in : Result Recovery Fault → ℕ
 failed_in (Err fault.Failed) = 1
 failed_in _ = 0
+
+-- a slot isn't what it has to be, by its step
+abbrev pub slot_in : Result Recovery Fault → Bool
+slot_in (Err (fault.Bad file slot)) = true
+slot_in result = false
+
+pub slot-of : (fault : Fault) → is_over_slot (Some (halts.Device fault)) ≡ slot_in (Err fault)
+slot-of fault.Failed = refl
+slot-of (fault.Bad file slot) = refl
 
 pub recovery-fails : (events : List Event) (s : ℕ) (r : Result Recovery Fault) (old new : Option Halt) → faults_in new ≤ failed_in r → failures (events ++ recovery_events s r) new ≤ failures events old + failed_in r
 recovery-fails events s r old new says = let e = deaths-append events (recovery_events s r) in let alive = recovery-alive s r in omega (arith, e, alive, says)

@@ -6,7 +6,8 @@ pub mod Places
 pub mod Marks
 pub mod Coming
 pub mod Resting
+pub mod Asleep
 pub mod Measured
 pub mod Bounds
 pub mod Nearing
-pub mod Absent
+pub mod Room

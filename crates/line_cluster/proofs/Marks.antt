@@ -1,5 +1,5 @@
 -- What a step adds to the account is of its session, with one answer at most.
-use Rattle.std.proofs.Common.{◌≡◌, ◌≤◌, ℕ, ◌+◌, ◌++◌, ◌∷◌, [], List, refl, arith, map, Option, Some, None}
+use Rattle.std.proofs.Common.{◌≡◌, ◌≤◌, ℕ, ◌+◌, ◌++◌, ◌∷◌, [], List, refl, sym, subst, arith, map, Option, Some, None}
 use Rattle.std.proofs.lemmas.List.{map-append}
 use Rattle.rdb_types.specs.declared.node.Node.{Node}
 use Rattle.lock_needs.specs.declared.need.Need.{Need}
@@ -12,6 +12,8 @@ use Rattle.stage_steps.specs.declared.happening.Happening.{Happening}
 use Rattle.stage_steps.specs.declared.happening.Happening.TheVariants.{Quiet, Began, Answered, Unstarted, Asleep, Noticed, Got, Refused, RefusedStart, Committed, RolledBack, Left, Failed, Unlaid, Unworked, Unanswered, Unsound}
 use Rattle.stage_steps.specs.Happenings.{events_of, asked_by}
 use Rattle.stage_steps.specs.Notices.{demoted_by}
+use Rattle.line_cluster.specs.declared.behind.Notice.{Notice}
+use Rattle.line_cluster.specs.Behind.{IsNoticed}
 use Rattle.line_cluster.specs.Turned.{mark_of}
 
 abbrev pub IsOf : ℕ → List Event → Type 0
@@ -64,3 +66,9 @@ step-marks s (Unsound key) = (tt, omega arith)
 pub notice-marks : (t : ℕ) (node : Node) (d : Option Demotion) → AllNobodys (map mark_of (demoted_by t node d))
 notice-marks t node None = tt
 notice-marks t node (Some d) = (tt, tt)
+
+-- a session whose want finds a notice due did nothing but ask
+pub noticed-marks : (s : ℕ) (notice : Notice) (h : Happening) → IsNoticed notice h → AllOf s (map mark_of (events_of s h)) × (answers (map mark_of (events_of s h)) ≡ 0)
+noticed-marks s notice h is =
+    let x = is.asking in
+    subst (λ (y : Happening). AllOf s (map mark_of (events_of s y)) × (answers (map mark_of (events_of s y)) ≡ 0)) (sym is.is) (wanted-marks s x.need x.nodes)

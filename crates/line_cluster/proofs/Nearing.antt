@@ -36,7 +36,7 @@ use Rattle.stage_steps.specs.Deaths.{NearerRecoveredIn, RecoversIn, life_behind}
 use Rattle.stage_steps.specs.Scenes.{Scene, NearerIn, beside}
 use Rattle.line_arms.specs.declared.allotment.Allotment.{Allotment}
 use Rattle.line_arms.specs.Going.{GoesOn}
-use Rattle.line_cluster.specs.Going.{IsWriterAt, writes_at}
+use Rattle.lent_members.specs.Going.{IsWriterAt, writes_at}
 use Rattle.line_cluster.specs.declared.behind.Notice.{Notice}
 use Rattle.line_cluster.specs.declared.sessions.Halt.{Halt}
 use Rattle.line_cluster.specs.Behind.{IsNoticed, is_moving}

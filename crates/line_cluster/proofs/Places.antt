@@ -1,23 +1,12 @@
 -- Sessions in their list.
-use Rattle.std.proofs.Common.{◌≡◌, ◌≤◌, ◌-◌, ◌||◌, ℕ, zero, suc, ◌∷◌, [], Bool, false, List, length, refl, sym, ap, arith, Some, slice_get, slice_set}
+use Rattle.std.proofs.Common.{◌≡◌, ◌≤◌, ◌-◌, ◌||◌, ℕ, zero, suc, ◌∷◌, [], Bool, false, List, length, refl, sym, ap, arith, slice_set}
 use Rattle.std.specs.List.{list_any}
 use Rattle.std.proofs.lemmas.Bool.{false≢true}
-use Rattle.std.proofs.lemmas.Option.{same_Some}
 use Rattle.session_states.specs.declared.stage.Life.{Life}
 use Rattle.session_states.specs.declared.stage.Life.TheVariants.{Alive, Dead, Gone}
 use Rattle.session_states.specs.declared.stage.Member.{Member}
 use Rattle.session_stands.specs.Sessions.{dead_in, one_dead}
-use Rattle.line_cluster.specs.Going.{is_dead, is_dead_life}
-
-pub set-set : {A : Type 0} (xs : List A) (i : ℕ) (x y : A) → slice_set (slice_set xs i x) i y ≡ slice_set xs i y
-set-set [] i x y = refl
-set-set (z ∷ zs) zero x y = refl
-set-set (z ∷ zs) (suc i) x y = ap (λ ws. z ∷ ws) (set-set zs i x y)
-
-pub set-same : {A : Type 0} (xs : List A) (i : ℕ) (x : A) → slice_get xs i ≡ Some x → slice_set xs i x ≡ xs
-set-same [] i x h = refl
-set-same (z ∷ zs) zero x h = ap (λ w. w ∷ zs) (sym (same_Some z x h))
-set-same (z ∷ zs) (suc i) x h = ap (λ ws. z ∷ ws) (set-same zs i x h)
+use Rattle.lent_members.specs.Going.{is_dead, is_dead_life}
 
 pub set-length : {A : Type 0} (xs : List A) (i : ℕ) (x : A) → length (slice_set xs i x) ≡ length xs
 set-length [] i x = refl

@@ -32,7 +32,7 @@ use Rattle.session_states.specs.Fits.{LifeFits, WriterFits}
 use Rattle.session_states.specs.Shared.{Shared}
 use Rattle.session_stands.specs.Seated.{LivesAt}
 use Rattle.session_stands.specs.Sessions.{AreSeated, IsTold, sharing, dead_in, one_dead}
-use Rattle.line_cluster.specs.Going.{is_alive_life, is_dead, is_dead_life, is_over}
+use Rattle.lent_members.specs.Going.{is_alive_life, is_dead, is_dead_life, is_over}
 use Rattle.line_cluster.specs.Sound.{IsLeft}
 use Rattle.stage_steps.specs.Nearer.{is_for_journal, is_patient_at}
 use Rattle.line_cluster.specs.Turned.{Sessions, SleepsFor, Waits, HasNothingLeft, HaveAllEnded, HaveEnded, is_session}

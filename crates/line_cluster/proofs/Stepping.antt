@@ -10,7 +10,9 @@ use Rattle.lock_tree_laws.specs.Forest.{State, Parties, party_of}
 use Rattle.journal_waits.specs.Holders.{WantsExclusively}
 use Rattle.line_steps.specs.Images.{journal_node}
 use Rattle.line_store.specs.Seats.{Seat}
-use Rattle.line_store.specs.Sights.{Sight, Stands}
+use Rattle.line_store.specs.declared.answers.Fault.TheVariants.{Bad, Failed as FailedCall}
+use Rattle.line_store.specs.Calls.{Fails}
+use Rattle.line_store.specs.Sights.{Sight, Behind, Stands}
 use Rattle.line_store.proofs.InTurn.{does-as, does-nothing}
 use Rattle.session_jobs.specs.Records.{Model, IsOrderly}
 use Rattle.session_states.specs.declared.stage.Writer.{Writer}
@@ -36,13 +38,14 @@ use Rattle.stage_steps.specs.Scenes.{Scene, Goes, NearerIn, scene, on_shelf}
 use Rattle.stage_steps.specs.Turns.{Comes}
 use Rattle.line_cluster.specs.declared.sessions.Halt.{Halt}
 use Rattle.line_arms.specs.Going.{GoesOn, IsAmong, is_done}
-use Rattle.line_cluster.specs.Going.{IsWriterAt, writes_at, is_over, is_stopping, is_dead, is_dead_life}
+use Rattle.lent_members.specs.Going.{IsWriterAt, writes_at, is_over, is_stopping, is_dead, is_dead_life}
 use Rattle.line_cluster.specs.declared.behind.Notice.{Notice}
-use Rattle.line_cluster.specs.Behind.{IsNoticed, is_moving, tells_unsound}
-use Rattle.line_cluster.proofs.Places.{suc-less, set-same}
+use Rattle.line_cluster.specs.Behind.{IsNoticed, is_moving, tells_slot, tells_unsound}
+use Rattle.lent_members.proofs.Places.{set-same}
+use Rattle.line_cluster.proofs.Places.{suc-less}
 use Rattle.line_cluster.proofs.Measured.{set-found}
 use Rattle.line_cluster.specs.Deaths.{CountsFaults, device_deaths, failures, faults_in}
-use Rattle.line_cluster.specs.Sound.{HasImages, IsSound, is_unsound}
+use Rattle.line_cluster.specs.Sound.{HasImages, IsSound, ShowsSpent, is_over_slot, is_unsound}
 use Rattle.line_cluster.proofs.Faults.{counts-fewer, counts-on, no-more, step-alive, stopped-no-more}
 
 -- what a crash leaves, of what is told
@@ -54,16 +57,17 @@ told-images M orderly o word sight stands locks members events sits k = record {
   since = k.images;
 }
 
--- no session goes on any more, for something else than a device or an unsound line
-pub stops : (M : Model) (told : Type 0) (o : Opening) (faults : ℕ) (c : Scene) (members : List Member) (events more : List Event) (old : Option Halt) (halt : Halt) → more ≡ events → faults_in (Some halt) ≡ 0 → is_unsound (Some halt) ≡ false →
+-- no session goes on any more, for something else than a device, a slot or an unsound line
+pub stops : (M : Model) (told : Type 0) (o : Opening) (faults : ℕ) (c : Scene) (members : List Member) (events more : List Event) (old : Option Halt) (halt : Halt) → more ≡ events → faults_in (Some halt) ≡ 0 → is_unsound (Some halt) ≡ false → is_over_slot (Some halt) ≡ false →
     IsSound M told o faults c members events old → IsSound M told o faults c members more (Some halt)
-stops M told o faults c members events more old halt same quiet agrees was = subst (λ (es : List Event). IsSound M told o faults c members es (Some halt)) (sym same) (record {
+stops M told o faults c members events more old halt same quiet agrees slot was = subst (λ (es : List Event). IsSound M told o faults c members es (Some halt)) (sym same) (record {
   legal = was.legal;
   seated = λ none. cc none;
   kept = λ none. cc none;
   images = was.images;
   causes = λ t. counts-fewer faults (failures events (Some halt)) (failures events old) c.sight (stopped-no-more events old (Some halt) quiet) (was.causes t);
   agrees = λ t. agrees;
+  spent = λ t over. absurd (false≢true (sym slot ∙ over));
 })
 
 -- what is handed back is no event
@@ -114,14 +118,15 @@ module _ (M : Model) (orderly : IsOrderly M) (told : Type 0) (o : Opening) (faul
       (λ h k all. (all 0 0).others.store.later) g.does k)
 
   -- the session went on
-  pub moved : (N : Type 0) (es : List Event) (halt : Option Halt) → device_deaths es ≡ 0 → faults_in halt ≡ 0 → (told → is_unsound halt ≡ false) → GoesWith es N → IsSound M told o faults d (slice_set members i (session rest total y)) (events ++ es) halt
-  moved N es halt alive quiet agrees g = record {
+  pub moved : (N : Type 0) (es : List Event) (halt : Option Halt) → device_deaths es ≡ 0 → faults_in halt ≡ 0 → (told → is_unsound halt ≡ false) → (told → is_over_slot halt ≡ true → ShowsSpent d.sight) → GoesWith es N → IsSound M told o faults d (slice_set members i (session rest total y)) (events ++ es) halt
+  moved N es halt alive quiet agrees spent g = record {
     legal = λ t. (tells N es g t).kept.right.legal;
     seated = λ none. sits N es g;
     kept = λ none t. tells N es g t;
     images = λ t. told-images M orderly o d.word d.sight stands d.locks (slice_set members i (session rest total y)) (events ++ es) (sits N es g) (tells N es g t);
     causes = λ t. goes-counted es halt alive quiet N g (was.causes t);
     agrees = agrees;
+    spent = spent;
   }
 
 module _ (M : Model) (orderly : IsOrderly M) (told : Type 0) (o : Opening) (faults : ℕ) (c d : Scene) (stands : Stands d.sight) (members : List Member) (events : List Event) (i : ℕ) (left rest : List Item) (total : ℕ) (x y : Phase)
@@ -148,16 +153,44 @@ module _ (M : Model) (orderly : IsOrderly M) (told : Type 0) (o : Opening) (faul
   agrees-on Unworked n t near = refl
   agrees-on (Unanswered item) n t near = refl
 
+  -- and where it is told that a slot isn't what it has to be, numbers are used up
+  spent-on : (h : Happening) (n : Member) → told → NearerIn M (suc i) h c d (session left total x) n → tells_slot h ≡ true → ShowsSpent d.sight
+  spent-on (Failed (Bad file slot)) n t near e =
+      let k = was.kept refl t in
+      let it : Behind c.sight d.sight (Fails (suc i) (Bad file slot)) k.shelf = near k.shelf k.shown in
+      let fails : Fails (suc i) (Bad file slot) k.shelf it.shelf = it.related in
+      record { shelf = it.shelf; shown = it.shown; spent = fails.cause }
+  spent-on (Failed FailedCall) n t near e = absurd (false≢true e)
+  spent-on Quiet n t near e = absurd (false≢true e)
+  spent-on (Began kind) n t near e = absurd (false≢true e)
+  spent-on (Answered a) n t near e = absurd (false≢true e)
+  spent-on (Unstarted a) n t near e = absurd (false≢true e)
+  spent-on (Asleep u z) n t near e = absurd (false≢true e)
+  spent-on (Noticed u node mode z) n t near e = absurd (false≢true e)
+  spent-on (Got z) n t near e = absurd (false≢true e)
+  spent-on (Refused z a) n t near e = absurd (false≢true e)
+  spent-on (RefusedStart z a) n t near e = absurd (false≢true e)
+  spent-on (Committed moment) n t near e = absurd (false≢true e)
+  spent-on RolledBack n t near e = absurd (false≢true e)
+  spent-on Left n t near e = absurd (false≢true e)
+  spent-on (Unlaid key) n t near e = absurd (false≢true e)
+  spent-on Unworked n t near e = absurd (false≢true e)
+  spent-on (Unanswered item) n t near e = absurd (false≢true e)
+  spent-on (Unsound key) n t near e = absurd (false≢true e)
+
   -- it went on, or its item was handed back, and no session goes on
-  pub stepped : (h : Happening) (halt : Option Halt) → (handed_back h ≡ [] → GoesOn M (suc i) c left x d rest y h) → (ls : List Item) × GoesOn M (suc i) c left x d ls y h → (halt ≡ None → handed_back h ≡ []) → faults_in halt ≡ 0 → is_unsound halt ≡ tells_unsound h →
+  pub stepped : (h : Happening) (halt : Option Halt) → (handed_back h ≡ [] → GoesOn M (suc i) c left x d rest y h) → (ls : List Item) × GoesOn M (suc i) c left x d ls y h → (halt ≡ None → handed_back h ≡ []) → faults_in halt ≡ 0 → is_unsound halt ≡ tells_unsound h → is_over_slot halt ≡ tells_slot h →
       IsSound M told o faults d (slice_set members i (session rest total y)) (events ++ events_of (suc i) h) halt
-  stepped h halt goes some going quiet says = by (handed_back h) refl
+  stepped h halt goes some going quiet says over = by (handed_back h) refl
     where
       agrees : told → is_unsound halt ≡ false
       agrees t = says ∙ agrees-on h (session some.0 total y) t (some.1.nearer total)
 
+      spent : told → is_over_slot halt ≡ true → ShowsSpent d.sight
+      spent t is = spent-on h (session some.0 total y) t (some.1.nearer total) (sym over ∙ is)
+
       by : (back : List Item) → handed_back h ≡ back → IsSound M told o faults d (slice_set members i (session rest total y)) (events ++ events_of (suc i) h) halt
-      by [] e = moved M orderly told o faults c d stands members events i left rest total x y lives found was _ (events_of (suc i) h) halt (step-alive (suc i) h) quiet agrees (goes e)
+      by [] e = moved M orderly told o faults c d stands members events i left rest total x y lives found was _ (events_of (suc i) h) halt (step-alive (suc i) h) quiet agrees spent (goes e)
       by (item ∷ more) e = record {
         legal = λ t. subst (λ (es : List Event). IsLegal o es) (sym (append-nil events) ∙ ap (λ es. events ++ es) (sym (back-quiet (suc i) h item more e))) (was.legal t);
         seated = λ none. cc (sym e ∙ going none);
@@ -167,6 +200,7 @@ module _ (M : Model) (orderly : IsOrderly M) (told : Type 0) (o : Opening) (faul
             (tells M orderly told o faults c d stands members events i left some.0 total x y lives found was _ (events_of (suc i) h) some.1 t);
         causes = λ t. goes-counted M orderly told o faults c d stands members events i left some.0 total x y lives found was (events_of (suc i) h) halt (step-alive (suc i) h) quiet _ some.1 (was.causes t);
         agrees = agrees;
+        spent = spent;
       }
 
 -- ---- a notice
@@ -196,8 +230,8 @@ alive-writer m h = by m.phase m.life refl refl h
 
 pub served : (M : Model) (orderly : IsOrderly M) (told : Type 0) (o : Opening) (faults : ℕ) (word : List ℕ) (sight : Sight) (stands : Stands sight) (locks behind : State) (members : List Member) (events more es : List Event) (s : ℕ) (old halt : Option Halt) →
     old ≡ None → dead_in members ≡ 0 → IsWriterAt members s → IsSound M told o faults (scene word sight locks) members events old → behind.parties ≡ locks.parties →
-    ((c : Shared) (w : Writer) → Comes M s (with_locks locks c) (Writing w) (with_locks behind c) (Writing w) es) → device_deaths es ≡ 0 → faults_in halt ≡ 0 → is_unsound halt ≡ false → more ≡ events ++ es → IsSound M told o faults (scene word sight behind) members more halt
-served M orderly told o faults word sight stands locks behind members events more es s old halt none lives is was parties comes alive quiet agrees more-is =
+    ((c : Shared) (w : Writer) → Comes M s (with_locks locks c) (Writing w) (with_locks behind c) (Writing w) es) → device_deaths es ≡ 0 → faults_in halt ≡ 0 → is_unsound halt ≡ false → is_over_slot halt ≡ false → more ≡ events ++ es → IsSound M told o faults (scene word sight behind) members more halt
+served M orderly told o faults word sight stands locks behind members events more es s old halt none lives is was parties comes alive quiet agrees slot more-is =
     let at = alive-writer is.member is.writes in
     let w : Writer = at.0 in
     let left : List Item = is.member.left in
@@ -208,7 +242,7 @@ served M orderly told o faults word sight stands locks behind members events mor
     subst (λ (xs : List Event). IsSound M told o faults (scene word sight behind) members xs halt) (sym more-is)
     (subst (λ (ms : List Member). IsSound M told o faults (scene word sight behind) ms (events ++ es) halt) (set-same members is.at (session left total (Writing w)) found)
     (moved M orderly told o faults (scene word sight locks) (scene word sight behind) stands members events is.at left left total (Writing w) (Writing w) lives found
-    (subst (λ (x : Option Halt). IsSound M told o faults (scene word sight locks) members events x) none was) (Unit {0}) es halt alive quiet (λ t. agrees) (record {
+    (subst (λ (x : Option Halt). IsSound M told o faults (scene word sight locks) members events x) none was) (Unit {0}) es halt alive quiet (λ t. agrees) (λ t over. absurd (false≢true (sym slot ∙ over))) (record {
       lives = seated-on sight.stand locks behind (suc is.at) (Writing w) parties;
       parties = λ u other. ap (λ (ps : Parties). party_of ps u) parties;
       nearer = tt;
@@ -288,16 +322,16 @@ seated-at stand locks members s at m first is found alive k =
 
 pub turned : (M : Model) (orderly : IsOrderly M) (told : Type 0) (o : Opening) (faults : ℕ) (c d : Scene) (stands : Stands d.sight) (members put : List Member) (events more : List Event) (s at : ℕ) (m : Member) (rest : List Item) (y : Phase) (h : Happening) (old halt : Option Halt) →
     1 ≤ s → at ≡ s - 1 → old ≡ None → dead_in members ≡ 0 → slice_get members at ≡ Some m → m.life ≡ Alive → IsSound M told o faults c members events old →
-    (handed_back h ≡ [] → GoesOn M s c m.left m.phase d rest y h) → (ls : List Item) × GoesOn M s c m.left m.phase d ls y h → (halt ≡ None → handed_back h ≡ []) → faults_in halt ≡ 0 → is_unsound halt ≡ tells_unsound h →
+    (handed_back h ≡ [] → GoesOn M s c m.left m.phase d rest y h) → (ls : List Item) × GoesOn M s c m.left m.phase d ls y h → (halt ≡ None → handed_back h ≡ []) → faults_in halt ≡ 0 → is_unsound halt ≡ tells_unsound h → is_over_slot halt ≡ tells_slot h →
     put ≡ slice_set members at (record { left = rest; total = m.total; phase = y; life = m.life }) → more ≡ events ++ events_of s h → IsSound M told o faults d put more halt
-turned M orderly told o faults c d stands members put events more s at m rest y h old halt first is none lives found alive was goes some going quiet says put-is more-is =
+turned M orderly told o faults c d stands members put events more s at m rest y h old halt first is none lives found alive was goes some going quiet says over put-is more-is =
     let e : s ≡ suc at = sym (ap suc is ∙ suc-less s first) in
     let behind : record { left = rest; total = m.total; phase = y; life = m.life } ≡ session rest m.total y = ap (λ (l : Life). record { left = rest; total = m.total; phase = y; life = l }) alive in
     let put-at : slice_set members at (session rest m.total y) ≡ put = ap (λ (x : Member). slice_set members at x) (sym behind) ∙ sym put-is in
     let events-at : events ++ events_of (suc at) h ≡ more = ap (λ (t : ℕ). events ++ events_of t h) (sym e) ∙ sym more-is in
     subst (λ (ms : List Member). IsSound M told o faults d ms more halt) put-at (subst (λ (es : List Event). IsSound M told o faults d (slice_set members at (session rest m.total y)) es halt) events-at
     (stepped M orderly told o faults c d stands members events at m.left rest m.total m.phase y lives (found ∙ ap Some (session-of m alive)) (subst (λ (x : Option Halt). IsSound M told o faults c members events x) none was) h halt
-    (λ back. subst (λ (t : ℕ). GoesOn M t c m.left m.phase d rest y h) e (goes back)) (some.0, subst (λ (t : ℕ). GoesOn M t c m.left m.phase d some.0 y h) e some.1) going quiet says))
+    (λ back. subst (λ (t : ℕ). GoesOn M t c m.left m.phase d rest y h) e (goes back)) (some.0, subst (λ (t : ℕ). GoesOn M t c m.left m.phase d some.0 y h) e some.1) going quiet says over))
 
 -- who was put back lives
 pub put-lives : (members put : List Member) (at : ℕ) (m n : Member) → slice_get members at ≡ Some m → put ≡ slice_set members at n → n.life ≡ Alive → (x : Member) → slice_get put at ≡ Some x → x.life ≡ Alive

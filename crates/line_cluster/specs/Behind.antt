@@ -1,5 +1,6 @@
 -- What is done behind a step.
 use Rattle.std.specs.Prelude.{◌≡◌, Bool, true, false, Option, None, Some}
+use Rattle.line_store.specs.declared.answers.Fault.TheVariants.{Bad}
 use Rattle.stage_steps.specs.declared.happening.Asking.{Asking}
 use Rattle.stage_steps.specs.declared.happening.Happening.{Happening}
 use Rattle.stage_steps.specs.declared.happening.Happening.TheVariants.{Noticed, Failed, Unlaid, Unworked, Unanswered, Unsound}
@@ -22,6 +23,11 @@ is_moving happened = true
 abbrev pub tells_unsound : Happening → Bool
 tells_unsound (Unsound key) = true
 tells_unsound happened = false
+
+-- a slot isn't what it has to be
+abbrev pub tells_slot : Happening → Bool
+tells_slot (Failed (Bad file slot)) = true
+tells_slot happened = false
 
 -- why no session goes on behind it
 abbrev pub halt_behind : Behind → Option Halt

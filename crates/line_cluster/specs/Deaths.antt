@@ -1,12 +1,14 @@
--- Deaths of a device in an account, and the faults that are counted for them and for a halt.
-use Rattle.std.specs.Prelude.{◌≤◌, ◌+◌, ◌-◌, ◌^◌, ℕ, min, Bool, true, false, cond, List, Option, Some}
+-- Deaths in an account: how many may still come, and the faults that are counted for those of a device and for a halt.
+use Rattle.std.specs.Prelude.{◌≤◌, ◌+◌, ◌-◌, ◌^◌, ℕ, min, Bool, true, false, cond, List, [], ◌∷◌, Option, Some}
 use Rattle.std.specs.List.{count_by}
 use Rattle.rdb_types.specs.declared.session.Cause.{Cause}
-use Rattle.rdb_types.specs.declared.session.Cause.TheVariants.{Device, Stop}
+use Rattle.rdb_types.specs.declared.session.Cause.TheVariants.{Device, Stop, Memory}
 use Rattle.rdb_account.specs.Events.{Event, Died}
 use Rattle.line_store.specs.declared.answers.Fault.TheVariants as fault
 use Rattle.line_store.specs.Shelves.{Shelf}
 use Rattle.line_store.specs.Sights.{Sight}
+use Rattle.session_states.specs.declared.stage.Member.{Member}
+use Rattle.session_measure.specs.Weights.{life_left}
 use Rattle.line_cluster.specs.declared.sessions.Halt.{Halt}
 use Rattle.line_cluster.specs.declared.sessions.Halt.TheVariants as halts
 
@@ -18,11 +20,21 @@ abbrev pub is_stop : Cause → Bool
 is_stop Stop = true
 is_stop _ = false
 
--- a session dies so in a turn of its own: a device call failed, or its script has come to a stop
+abbrev pub is_memory : Cause → Bool
+is_memory Memory = true
+is_memory _ = false
+
+-- a session dies so in a turn of its own: a device call failed, its script has come to a stop, or no memory was found for what happens in it
 abbrev pub is_own : Cause → Bool
 is_own Device = true
 is_own Stop = true
+is_own Memory = true
 is_own _ = false
+
+-- So many deaths and recoveries may still come of these sessions: of one that lives both, of one that died its recovery. There is room for the events of all of them at every moment.
+abbrev pub lives_in : List Member → ℕ
+lives_in [] = 0
+lives_in (m ∷ ms) = life_left m.life + lives_in ms
 
 abbrev pub is_device_death : Event → Bool
 is_device_death (Died s cause) = is_device cause

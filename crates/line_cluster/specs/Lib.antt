@@ -1,7 +1,6 @@
 pub mod Deaths
-pub mod Going
 pub mod Sound
 pub mod Turned
+pub mod Asleep
 pub mod Measured
 pub mod Behind
-pub mod Whereabouts

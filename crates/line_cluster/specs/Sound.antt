@@ -1,13 +1,14 @@
 -- What is true of the sessions of a run at every moment.
 use Rattle.std.specs.Prelude.{◌≡◌, ◌≤◌, ℕ, suc, Bool, true, false, List, [], length, map, Option, Some, None, slice_get}
-use Rattle.rdb_types.specs.declared.session.Cause.TheVariants.{Device}
+use Rattle.rdb_types.specs.declared.session.Cause.TheVariants as cause
 use Rattle.rdo_ast.specs.Views.{uttered_of}
 use Rattle.rdb_account.specs.Events.{Event}
 use Rattle.rdb_account.specs.Places.{Opening, place}
 use Rattle.rdb_account.specs.Legal.{IsLegal}
 use Rattle.line_view.specs.Knowledge.{Lines}
 use Rattle.lock_tree_laws.specs.Forest.{State}
-use Rattle.line_store.specs.Shelves.{Shelf}
+use Rattle.line_store.specs.declared.answers.Fault.TheVariants.{Bad}
+use Rattle.line_store.specs.Shelves.{Shelf, AreSpent}
 use Rattle.line_store.specs.Sights.{Sight}
 use Rattle.line_steps.specs.Images.{AreLeft, IsNow}
 use Rattle.session_jobs.specs.Records.{Model}
@@ -19,8 +20,8 @@ use Rattle.session_states.specs.Kept.{IsOpened}
 use Rattle.session_stands.specs.Sessions.{AreSeated, IsTold, sharing}
 use Rattle.stage_steps.specs.Scenes.{Scene}
 use Rattle.line_cluster.specs.declared.sessions.Halt.{Halt}
-use Rattle.line_cluster.specs.declared.sessions.Halt.TheVariants.{Unsound}
-use Rattle.line_cluster.specs.Deaths.{CountsFaults, failures}
+use Rattle.line_cluster.specs.declared.sessions.Halt.TheVariants.{Device, Unsound}
+use Rattle.line_cluster.specs.Deaths.{CountsFaults, failures, lives_in}
 
 -- The store shows a shelf at whose moment each map of lines that a crash may leave stands for what the account has committed, or for that with the one in flight; and each that a crash might have left since the sessions began, or since a commit, for what was committed then, or more. A store can be opened from each image since they began.
 pub record HasImages (M : Model) (o : Opening) (sight : Sight) (events : List Event) : Type 0 where
@@ -34,7 +35,18 @@ abbrev pub is_unsound : Option Halt → Bool
 is_unsound (Some (Unsound key)) = true
 is_unsound halt = false
 
--- Where the opening told what the store holds, the account is legal, a crash leaves what was committed, faults rose since the opening, at which there were so many, by one for each session that died of a device, and by one where a recovery failed of it, and no session was stopped over an unsound line. As long as no halt has come, each session stands where its phase has it, and what is shown is kept.
+-- no session goes on since a slot isn't what it has to be
+abbrev pub is_over_slot : Option Halt → Bool
+is_over_slot (Some (Device (Bad file slot))) = true
+is_over_slot halt = false
+
+-- a shelf is shown on which the numbers of transactions are used up
+pub record ShowsSpent (sight : Sight) : Type 0 where
+  pub shelf : Shelf
+  pub shown : sight.shows shelf
+  pub spent : AreSpent shelf.clock
+
+-- Where the opening told what the store holds, the account is legal, a crash leaves what was committed, faults rose since the opening, at which there were so many, by one for each session that died of a device, and by one where a recovery failed of it, no session was stopped over an unsound line, and none over a slot but where numbers are used up. As long as no halt has come, each session stands where its phase has it, and what is shown is kept.
 pub record IsSound (M : Model) (told : Type 0) (o : Opening) (faults : ℕ) (c : Scene) (members : List Member) (events : List Event) (halt : Option Halt) : Type 0 where
   pub legal : told → IsLegal o events
   pub seated : halt ≡ None → AreSeated c.sight.stand c.locks members
@@ -42,6 +54,7 @@ pub record IsSound (M : Model) (told : Type 0) (o : Opening) (faults : ℕ) (c :
   pub images : told → HasImages M o c.sight events
   pub causes : told → CountsFaults faults (failures events halt) c.sight
   pub agrees : told → is_unsound halt ≡ false
+  pub spent : told → is_over_slot halt ≡ true → ShowsSpent c.sight
 
 -- session s is one of these
 pub record IsOneOf (members : List Member) (s : ℕ) : Type 0 where
@@ -77,17 +90,18 @@ pub record AreStops (o : Opening) (sessions : ℕ) (stops : List Bool) : Type 0 
   pub count : length stops ≡ sessions
   pub each : (i : ℕ) (b : Bool) → slice_get stops i ≡ Some b → b ≡ o.stops (suc i)
 
--- any session may die of a device call that fails
+-- any session may die of a device call that fails, and of want of memory
 abbrev pub MayFail : Opening → Type 0
-MayFail o = (s : ℕ) → o.may_die s Device ≡ true
+MayFail o = (s : ℕ) → (o.may_die s cause.Device ≡ true) × (o.may_die s cause.Memory ≡ true)
 
--- They are sound, and so many: no more than the tree of locks has owners. Of each it is known whether its script ends in a stop.
-pub record AreSound (M : Model) (told : Type 0) (o : Opening) (faults sessions : ℕ) (c : Scene) (members : List Member) (events : List Event) (halt : Option Halt) (stops : List Bool) : Type 0 where
+-- They are sound, and so many: no more than the tree of locks has owners. Of each it is known whether its script ends in a stop. Behind the events so many places are spare, enough for all deaths and recoveries that may still come.
+pub record AreSound (M : Model) (told : Type 0) (o : Opening) (faults sessions : ℕ) (c : Scene) (members : List Member) (events : List Event) (halt : Option Halt) (stops : List Bool) (spare : ℕ) : Type 0 where
   pub sound : IsSound M told o faults c members events halt
   pub count : length members ≡ sessions
   pub few : sessions ≤ 16
   pub mortal : MayFail o
   pub ends : AreStops o sessions stops
+  pub room : lives_in members ≤ spare
 
 abbrev pub IsSession : ℕ → ℕ → Type 0
 IsSession sessions s = (1 ≤ s) × (s ≤ sessions)

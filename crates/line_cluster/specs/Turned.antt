@@ -20,8 +20,8 @@ use Rattle.line_cluster.specs.Measured.{measure_by}
 use Rattle.line_cluster.specs.declared.sessions.Halt.{Halt}
 use Rattle.line_cluster.specs.declared.sessions.Turn.{Turn}
 use Rattle.line_cluster.specs.declared.sessions.Turn.TheVariants as turn
-use Rattle.line_cluster.specs.Deaths.{is_own}
-use Rattle.line_cluster.specs.Going.{is_alive_life, is_dead, is_over}
+use Rattle.line_cluster.specs.Deaths.{is_memory, is_own}
+use Rattle.lent_members.specs.Going.{is_alive_life, is_dead, is_over, with_life}
 
 -- the sessions as contracts see them: each with what it has left, what happened, what falls, the locks, and whether no session goes on
 pub record Sessions : Type 0 where
@@ -94,7 +94,7 @@ pub record GoesFurther (stops : ℕ → Bool) (s : ℕ) (old new : Sessions) : T
   pub members : (new.members ≡ old.members) ⊎ IsAnother stops s old.members new.members
   pub events : Grows s old.events new.events
 
--- session s, which had something left to do, died in its turn: a device call failed in its step, or its script has come to a stop
+-- session s, which had something left to do, died in its turn: a device call failed in its step, its script has come to a stop, or no memory was found. That is all that happened, but for a lock that it asked for before, where no memory was found to serve the notice to who has it
 pub record HasFallen (stops : ℕ → Bool) (s : ℕ) (old new : Sessions) : Type 0 where
   pub cause : Cause
   pub own : is_own cause ≡ true
@@ -104,7 +104,11 @@ pub record HasFallen (stops : ℕ → Bool) (s : ℕ) (old new : Sessions) : Typ
   pub behind : Member
   pub died : behind.life ≡ Dead
   pub is : new.members ≡ slice_set old.members (s - 1) behind
-  pub grown : map event_of new.events ≡ map event_of old.events ++ Died s cause ∷ []
+  pub asked : List Event
+  pub alone : is_memory cause ≡ false → asked ≡ []
+  pub of_s : AllOf s (map mark_of asked)
+  pub silent : answers (map mark_of asked) ≡ 0
+  pub grown : map event_of new.events ≡ map event_of old.events ++ (asked ++ Died s cause ∷ [])
 
 -- session s waits, and for whom. None that died awaits its recovery
 pub record Waits (s t : ℕ) (c : Sessions) : Type 0 where
@@ -159,9 +163,6 @@ pub record IsHalt (old new : Sessions) : Type 0 where
   pub events : new.events ≡ old.events
   pub rests : old.halted ≡ true → new ≡ old
 
-abbrev pub with_life : Life → Member → Member
-with_life l m = record { left = m.left; total = m.total; phase = m.phase; life = l }
-
 -- session s, which had something left to do, is dead
 pub record IsDeath (stops : ℕ → Bool) (s : ℕ) (cause : Cause) (old new : Sessions) : Type 0 where
   pub going : old.halted ≡ false
@@ -171,9 +172,9 @@ pub record IsDeath (stops : ℕ → Bool) (s : ℕ) (cause : Cause) (old new : S
   pub is : new.members ≡ slice_set old.members (s - 1) (with_life Dead before)
   pub grown : map event_of new.events ≡ map event_of old.events ++ Died s cause ∷ []
 
--- what a death comes to: nothing, where s has nothing left to do
+-- what a death comes to: nothing, where s has nothing left to do, or no session goes on
 abbrev pub DeathCame : (stops : ℕ → Bool) → ℕ → Cause → Sessions → Sessions → Type 0
-DeathCame stops s cause old new = ((new ≡ old) × IsAtEnd stops s old) ⊎ (IsHalt old new ⊎ IsDeath stops s cause old new)
+DeathCame stops s cause old new = ((new ≡ old) × ((old.halted ≡ true) ⊎ IsAtEnd stops s old)) ⊎ IsDeath stops s cause old new
 
 -- one that died goes on in its recovery, or is recovered. What happened is nobody's
 pub record IsRecovery (old new : Sessions) : Type 0 where

@@ -1,8 +1,8 @@
 //! What is done behind a step.
 ghost use Rattle.std.specs.Prelude.{◌≡◌, false, true};
-ghost use Rattle.line_cluster.specs.Behind.{IsNoticed, halt_behind, is_moving, tells_unsound};
+ghost use Rattle.line_cluster.specs.Behind.{IsNoticed, halt_behind, is_moving, tells_slot, tells_unsound};
 ghost use Rattle.line_cluster.specs.Deaths.{faults_in};
-ghost use Rattle.line_cluster.specs.Sound.{is_unsound};
+ghost use Rattle.line_cluster.specs.Sound.{is_over_slot, is_unsound};
 ghost use Rattle.line_cluster.specs.declared.behind.Notice.{Notice as NoticeValue};
 
 use crate::sessions::Halt;
@@ -36,6 +36,7 @@ fn behind_fault(fault: Fault) -> Behind
     ensures die { result ≡ Behind.Die → fault ≡ Fault.Failed }
     ensures stop { faults_in (halt_behind result) ≡ 0 }
     ensures unsound { is_unsound (halt_behind result) ≡ false }
+    ensures slot { is_over_slot (halt_behind result) ≡ tells_slot (Happening.Failed fault) }
 {
     match fault {
         Fault::Failed => Behind::Die,
@@ -50,6 +51,7 @@ pub(crate) fn behind_of(happened: &Happening) -> Behind
     ensures die { result ≡ Behind.Die → happened.now ≡ Happening.Failed Fault.Failed }
     ensures stop { faults_in (halt_behind result) ≡ 0 }
     ensures unsound { is_unsound (halt_behind result) ≡ tells_unsound happened.now }
+    ensures slot { is_over_slot (halt_behind result) ≡ tells_slot happened.now }
 {
     match happened {
         Happening::Noticed(to, node, mode, _) => Behind::Serve(Notice {

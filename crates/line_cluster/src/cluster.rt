@@ -8,19 +8,19 @@ ghost use Rattle.line_store.specs.Seats.{Seat, outside};
 ghost use Rattle.line_store.specs.Sights.{bare};
 ghost use Rattle.lock_tree_laws.specs.Forest.{IsWhole};
 ghost use Rattle.session_stands.specs.Sessions.{AreSeated};
+ghost use Rattle.line_cluster.specs.Asleep.{sleeps};
 ghost use Rattle.line_cluster.specs.Deaths.{CountsFaults, failures, is_device, is_stop};
 ghost use Rattle.line_cluster.specs.Measured.{IsBounded};
-ghost use Rattle.line_cluster.specs.Sound.{FollowsScripts, HasImages, IsLeft, IsOpenedBy, IsSession, MayFail, fresh_member, is_unsound, stop_of};
+ghost use Rattle.line_cluster.specs.Sound.{FollowsScripts, HasImages, IsLeft, IsOpenedBy, IsSession, MayFail, ShowsSpent, fresh_member, is_over_slot, is_unsound, stop_of};
 ghost use Rattle.line_cluster.specs.Turned.{Came, DeathCame, HasNothingLeft, HaveAllEnded, HaveEnded, IsAtEnd, RecoveryCame, Rests};
 
 use crate::allotments::Allotments;
-use crate::lending::{lend_at, take_back_at};
-use crate::lent_members::LentMember;
-use crate::members::{is_stopping, takes_item};
 use crate::origin::Origin;
 use crate::sessions::{Core, Halt, Turn};
 use lent_jobs::WorkedJob;
+use lent_members::{LentMember, is_stopping, lend_at, take_back_at, takes_item};
 use lent_values::{Loan, Naming, Opened, Worked};
+use line_account::KEPT_EVENTS;
 use line_store::LineStore;
 use lock_tree::Tree;
 use rdb_account::{Event, Events};
@@ -50,7 +50,8 @@ pub struct Finished<L> {
 }
 
 impl<O: Origin + Naming, S: Statements, L: LineStore + Drop> Model for LineCluster<O, S, L> {
-    ghost use Rattle.std.specs.Prelude.{map};
+    ghost use Rattle.std.specs.Prelude.{◌-◌, map};
+    ghost use Rattle.std.specs.Vec.{vec_len, vec_capacity};
     ghost use Rattle.std.specs.Coded.{codes};
     ghost use Rattle.rdo_ast.specs.contracts.syntax.Action as action_type;
     ghost use Rattle.rdb_account.specs.Events.{event_of};
@@ -64,7 +65,7 @@ impl<O: Origin + Naming, S: Statements, L: LineStore + Drop> Model for LineClust
 
     ghost view = { λ c. sessions c.core.members.items c.core.events.items c.core.allotments (L.sight c.core.common.store) c.core.common.tree c.core.halt };
 
-    ghost invariant = { λ c. AreSound S.stands O.told O.opening O.faults O.sessions (scene c.core.common.word (L.sight c.core.common.store) c.core.common.tree) c.core.members.items (map event_of c.core.events.items) c.core.halt c.stops.items };
+    ghost invariant = { λ c. AreSound S.stands O.told O.opening O.faults O.sessions (scene c.core.common.word (L.sight c.core.common.store) c.core.common.tree) c.core.members.items (map event_of c.core.events.items) c.core.halt c.stops.items (vec_capacity c.core.events - vec_len c.core.events) };
 }
 
 // Sessions that have said nothing, and whether the script of each ends in a stop.
@@ -95,8 +96,8 @@ fn begin<O: Naming, S: Statements>(
 }
 
 impl<O: Origin + Naming, S: Reserves + Reaches, L: LineStore + Drop> LineCluster<O, S, L> {
-    /// Sessions that have said nothing, over a store in which nobody has a transaction open. Where no memory is found the store is
-    /// given back.
+    /// Sessions that have said nothing, over a store in which nobody has a transaction open. From here on there is room for the events
+    /// of all deaths and recoveries. Where no memory is found the store is given back.
     pub fn start(
         alloc: Global,
         word: Word,
@@ -123,6 +124,9 @@ impl<O: Origin + Naming, S: Reserves + Reaches, L: LineStore + Drop> LineCluster
         let Ok(allotments) = Allotments::new(alloc) else {
             return Err(store);
         };
+        let Ok(events) = Vec::with_capacity(alloc, KEPT_EVENTS) else {
+            return Err(store);
+        };
         Ok(LineCluster {
             core: Core {
                 common: Common {
@@ -134,7 +138,7 @@ impl<O: Origin + Naming, S: Reserves + Reaches, L: LineStore + Drop> LineCluster
                 members,
                 desk: desk.named(),
                 allotments,
-                events: Vec::new(alloc),
+                events,
                 halt: None,
                 of: PhantomData,
             },
@@ -150,7 +154,7 @@ impl<O: Origin + Naming, S: Reserves + Reaches, L: LineStore + Drop> LineCluster
         self.stops[s.number as usize - 1]
     }
 
-    /// A turn of a session: its next step, its death at the stop of its script, or whom it waits for.
+    /// A turn of a session: its next step, its death at the stop of its script or for want of memory, or whom it waits for.
     pub fn turn(&mut self, s: Session) -> Turn
         requires session { IsSession O.sessions s.number }
         ensures came { Came O.opening.stops s.number self.old self.new result }
@@ -189,7 +193,8 @@ impl<O: Origin + Naming, S: Reserves + Reaches, L: LineStore + Drop> LineCluster
         take_back_at(&mut self.core.members, at, self.core.common.alloc, worked);
     }
 
-    /// A session dies where it stands, unless it has nothing left to do. (It dies of a device or of a stop in its turn alone.)
+    /// A session dies where it stands, unless it has nothing left to do. (It dies of a device or of a stop in its turn alone.) Takes no
+    /// memory.
     pub fn die(&mut self, s: Session, cause: Cause)
         requires session { IsSession O.sessions s.number }
         requires mortal { (O.opening.may_die s.number cause && not (is_stop cause)) ≡ true }
@@ -220,6 +225,14 @@ impl<O: Origin + Naming, S: Reserves + Reaches, L: LineStore + Drop> LineCluster
     /// Whether a session's next step is the barrier that makes its commit stable.
     pub fn is_at_barrier(&self, s: Session) -> bool {
         self.core.common.store.is_at_barrier(s)
+    }
+
+    /// Whether a session sleeps: its turn would be Asleep.
+    pub fn is_asleep(&self, s: Session) -> bool
+        requires session { IsSession O.sessions s.number }
+        ensures { result ≡ sleeps self.now s.number }
+    {
+        self.core.is_asleep(s)
     }
 
     /// Whether no session goes on.
@@ -259,6 +272,7 @@ impl<O: Origin + Naming, S: Reserves + Reaches, L: LineStore + Drop> LineCluster
         ensures halt { is_some result.halt ≡ self.halted }
         ensures faults { O.told → CountsFaults O.faults (failures (map event_of self.events) result.halt) (L.sight result.store) }
         ensures agrees { O.told → is_unsound result.halt ≡ false }
+        ensures spent { O.told → is_over_slot result.halt ≡ true → ShowsSpent (L.sight result.store) }
         ensures outside { self.halted ≡ false → HaveEnded O.opening.stops self.members → (s : ℕ) → bare ((L.sight result.store).stand s) ≡ outside }
     {
         let LineCluster { core, stops: _ } = self;

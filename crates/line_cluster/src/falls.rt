@@ -8,17 +8,16 @@ ghost use Rattle.session_states.specs.States.{may_die_in};
 ghost use Rattle.session_stands.specs.Sessions.{dead_in};
 ghost use Rattle.stage_steps.specs.Deaths.{life_behind as life_behind_it};
 ghost use Rattle.stage_steps.specs.Scenes.{scene};
-ghost use Rattle.line_cluster.specs.Deaths.{CountsFaults, device_deaths, faults_of, is_device, is_stop};
-ghost use Rattle.line_cluster.specs.Going.{IsDeadAt};
+ghost use Rattle.line_cluster.specs.Deaths.{CountsFaults, device_deaths, faults_of, is_device, is_stop, lives_in};
+ghost use Rattle.lent_members.specs.Going.{IsDeadAt, with_life};
 ghost use Rattle.line_cluster.specs.Sound.{IsSound, IsOneOf};
-ghost use Rattle.line_cluster.specs.Turned.{DeathCame, GoesOn, RecoveryCame, sessions, with_life};
+ghost use Rattle.line_cluster.specs.Turned.{DeathCame, GoesOn, RecoveryCame, sessions};
 
-use crate::lent_members::LentMember;
-use crate::members::{is_over, member_at, put_member, take_member};
 use crate::origin::Origin;
 use crate::sessions::{Core, Halt, Turn};
+use lent_members::{LentMember, is_over, member_at, put_member, take_member};
 use lent_values::Naming;
-use line_account::{record_death, record_recovery, reserve_step};
+use line_account::{record_death, record_recovery};
 use line_store::{Fault, LineStore};
 use rdb_types::{Cause, Session};
 use reached_changes::Reaches;
@@ -52,14 +51,16 @@ fn life_behind(step: &Result<Recovery, Fault>) -> Life
 
 impl<O: Origin + Naming, S: Reserves + Reaches, L: LineStore> Core<O, S, L> {
     /// A session dies where it stands, of something other than a device or a stop. Nothing changes where it has nothing left to do, nor
-    /// behind a halt.
+    /// behind a halt. Takes no memory.
     pub fn die(&mut self, s: Session, stops: bool, cause: Cause)
         requires one { IsOneOf self.old.members.items s.number }
         requires mortal { (O.opening.may_die s.number cause && not (is_stop cause)) ≡ true }
         requires own { is_device cause ≡ false }
         requires stops { stops ≡ O.opening.stops s.number }
         requires sound { IsSound S.stands O.told O.opening O.faults (scene self.old.common.word (L.sight self.old.common.store) self.old.common.tree) self.old.members.items (map event_of self.old.events.items) self.old.halt }
+        requires kept { lives_in self.old.members.items ≤ vec_capacity self.old.events - vec_len self.old.events }
         ensures sound { IsSound S.stands O.told O.opening O.faults (scene self.new.common.word (L.sight self.new.common.store) self.new.common.tree) self.new.members.items (map event_of self.new.events.items) self.new.halt }
+        ensures kept { lives_in self.new.members.items ≤ vec_capacity self.new.events - vec_len self.new.events }
         ensures count { length self.new.members.items ≡ length self.old.members.items }
         ensures came { DeathCame O.opening.stops s.number cause (sessions self.old.members.items self.old.events.items self.old.allotments (L.sight self.old.common.store) self.old.common.tree self.old.halt) (sessions self.new.members.items self.new.events.items self.new.allotments (L.sight self.new.common.store) self.new.common.tree self.new.halt) }
     {
@@ -70,25 +71,22 @@ impl<O: Origin + Naming, S: Reserves + Reaches, L: LineStore> Core<O, S, L> {
         if is_over(member_at(&self.members, at), stops) {
             return;
         }
-        if reserve_step(&mut self.events).is_err() {
-            let _turn = self.stop(Halt::NoMemory);
-            return;
-        }
         self.fall(s, at, cause);
     }
 
     /// A session that lives dies where it stands, and keeps its locks. A death of a device has a fault of its own, and one of a stop comes only
-    /// where its script has come to one.
+    /// where its script has come to one. Its event takes of the room that is kept.
     pub(crate) fn fall(&mut self, s: Session, at: usize, cause: Cause)
         requires one { IsOneOf self.old.members.items s.number }
         requires at { at ≡ s.number - 1 }
         requires mortal { (m : MemberValue) → slice_get self.old.members.items at ≡ Some m → may_die_in O.opening s.number m.left m.phase cause ≡ true }
         requires caused { O.told → CountsFaults O.faults (device_deaths (map event_of self.old.events.items) + faults_of cause) (L.sight self.old.common.store) }
         requires sound { IsSound S.stands O.told O.opening O.faults (scene self.old.common.word (L.sight self.old.common.store) self.old.common.tree) self.old.members.items (map event_of self.old.events.items) self.old.halt }
+        requires kept { lives_in self.old.members.items ≤ vec_capacity self.old.events - vec_len self.old.events }
         requires going { self.old.halt ≡ None }
-        requires room { vec_len self.old.events + 6 ≤ vec_capacity self.old.events }
         requires lives { (m : MemberValue) → slice_get self.old.members.items at ≡ Some m → m.life ≡ Life.Alive }
         ensures sound { IsSound S.stands O.told O.opening O.faults (scene self.new.common.word (L.sight self.new.common.store) self.new.common.tree) self.new.members.items (map event_of self.new.events.items) self.new.halt }
+        ensures kept { lives_in self.new.members.items ≤ vec_capacity self.new.events - vec_len self.new.events }
         ensures count { length self.new.members.items ≡ length self.old.members.items }
         ensures died { (m : MemberValue) → slice_get self.old.members.items at ≡ Some m → self.new.members.items ≡ slice_set self.old.members.items at (with_life Life.Dead m) }
         ensures events { map event_of self.new.events.items ≡ map event_of self.old.events.items ++ Died s.number cause ∷ [] }
@@ -100,11 +98,13 @@ impl<O: Origin + Naming, S: Reserves + Reaches, L: LineStore> Core<O, S, L> {
         record_death(&mut self.events, s, cause);
     }
 
-    /// A step of the recovery of the first session that died.
+    /// A step of the recovery of the first session that died. Its event takes of the room that is kept.
     pub fn recover(&mut self) -> Turn
         requires few { length self.old.members.items ≤ 16 }
         requires sound { IsSound S.stands O.told O.opening O.faults (scene self.old.common.word (L.sight self.old.common.store) self.old.common.tree) self.old.members.items (map event_of self.old.events.items) self.old.halt }
+        requires kept { lives_in self.old.members.items ≤ vec_capacity self.old.events - vec_len self.old.events }
         ensures sound { IsSound S.stands O.told O.opening O.faults (scene self.new.common.word (L.sight self.new.common.store) self.new.common.tree) self.new.members.items (map event_of self.new.events.items) self.new.halt }
+        ensures kept { lives_in self.new.members.items ≤ vec_capacity self.new.events - vec_len self.new.events }
         ensures count { length self.new.members.items ≡ length self.old.members.items }
         ensures came { RecoveryCame (sessions self.old.members.items self.old.events.items self.old.allotments (L.sight self.old.common.store) self.old.common.tree self.old.halt) (sessions self.new.members.items self.new.events.items self.new.allotments (L.sight self.new.common.store) self.new.common.tree self.new.halt) result }
         ensures nearer { result ≡ Turn.Moved → Less (sessions self.new.members.items self.new.events.items self.new.allotments (L.sight self.new.common.store) self.new.common.tree self.new.halt).measure (sessions self.old.members.items self.old.events.items self.old.allotments (L.sight self.old.common.store) self.old.common.tree self.old.halt).measure }
@@ -115,19 +115,17 @@ impl<O: Origin + Naming, S: Reserves + Reaches, L: LineStore> Core<O, S, L> {
         let Some(at) = first_dead(&self.members) else {
             return Turn::Ended;
         };
-        if reserve_step(&mut self.events).is_err() {
-            return self.stop(Halt::NoMemory);
-        }
         self.recover_at(at)
     }
 
     fn recover_at(&mut self, at: usize) -> Turn
         requires few { length self.old.members.items ≤ 16 }
         requires sound { IsSound S.stands O.told O.opening O.faults (scene self.old.common.word (L.sight self.old.common.store) self.old.common.tree) self.old.members.items (map event_of self.old.events.items) self.old.halt }
+        requires kept { lives_in self.old.members.items ≤ vec_capacity self.old.events - vec_len self.old.events }
         requires going { self.old.halt ≡ None }
-        requires room { vec_len self.old.events + 6 ≤ vec_capacity self.old.events }
         requires dead { IsDeadAt self.old.members.items at }
         ensures sound { IsSound S.stands O.told O.opening O.faults (scene self.new.common.word (L.sight self.new.common.store) self.new.common.tree) self.new.members.items (map event_of self.new.events.items) self.new.halt }
+        ensures kept { lives_in self.new.members.items ≤ vec_capacity self.new.events - vec_len self.new.events }
         ensures count { length self.new.members.items ≡ length self.old.members.items }
         ensures came { RecoveryCame (sessions self.old.members.items self.old.events.items self.old.allotments (L.sight self.old.common.store) self.old.common.tree self.old.halt) (sessions self.new.members.items self.new.events.items self.new.allotments (L.sight self.new.common.store) self.new.common.tree self.new.halt) result }
         ensures nearer { result ≡ Turn.Moved → Less (sessions self.new.members.items self.new.events.items self.new.allotments (L.sight self.new.common.store) self.new.common.tree self.new.halt).measure (sessions self.old.members.items self.old.events.items self.old.allotments (L.sight self.old.common.store) self.old.common.tree self.old.halt).measure }

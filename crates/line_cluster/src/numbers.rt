@@ -1,13 +1,12 @@
 //! The numbers of the measure are bounded, since memory counts what they count.
-ghost use Rattle.std.specs.Prelude.{◌≡◌, ◌≤◌, ◌<◌, ◌^◌, length};
+ghost use Rattle.std.specs.Prelude.{◌≤◌, ◌<◌, ◌^◌, length};
 ghost use Rattle.session_measure.specs.Weights.{places_in, places_left, reader_places};
 ghost use Rattle.line_cluster.specs.Measured.{IsBounded};
 ghost use Rattle.line_cluster.specs.Turned.{sessions};
 
-use crate::lent_members::{LentMember, Whereabouts};
-use crate::members::member_at;
 use crate::origin::Origin;
 use crate::sessions::Core;
+use lent_members::{LentMember, Whereabouts, member_at};
 use lent_values::Naming;
 use line_store::LineStore;
 use rdb_types::Session;

@@ -1,7 +1,7 @@
 //! What all sessions share, and the sessions.
 use crate::allotments::Allotments;
-use crate::lent_members::LentMember;
 use crate::origin::Origin;
+use lent_members::LentMember;
 use lent_values::{Desk, Naming};
 use line_store::{Fault, LineStore};
 use rdb_account::Event;
@@ -13,13 +13,11 @@ use std::marker::PhantomData;
 /// Why no session goes on any more.
 #[derive(Clone, Copy, Debug)]
 pub enum Halt {
-    /// No memory was found for the events of a step.
-    NoMemory,
-    /// A device call failed in a step of a recovery, or a slot isn't what it has to be.
+    /// A device call failed in a step of a recovery, or the store has used up its numbers, and says so of this slot.
     Device(Fault),
     /// The store has no place for this line, which a statement wrote.
     Unlaid(Dbkey),
-    /// Who works statements doesn't work this one.
+    /// Who works statements doesn't work this one, or the store can't go on with its change.
     Unworked,
     /// What a session knows agrees with no sound database: this line is none of its kind.
     Unsound(Dbkey),
@@ -33,7 +31,7 @@ pub enum Turn {
     Moved,
     /// It waits for this session.
     Asleep(Session),
-    /// A device call failed in its step, and it died.
+    /// A device call failed in its step, its script has come to a stop, or no memory was found, and it died.
     Died,
     /// A session that died awaits its recovery.
     Frozen,
@@ -51,6 +49,7 @@ pub struct Core<O: Origin + Naming, S: Statements, L: LineStore> {
     /// It lends their jobs.
     pub desk: Desk<O, Job>,
     pub allotments: Allotments,
+    /// What happened, with room behind it for all deaths and recoveries that may still come.
     pub events: Vec<Event>,
     /// Why no session goes on, once that is so.
     pub halt: Option<Halt>,

@@ -9,7 +9,7 @@ use Rattle.rdb_drive.specs.Boards.{Mark, Says, Does, Other, AllNobodys, IsSessio
 use Rattle.line_cluster.specs.declared.sessions.Turn.{Turn}
 use Rattle.line_cluster.specs.declared.sessions.Turn.TheVariants as turn
 use Rattle.line_cluster.specs.Turned.{Sessions, Came, DeathCame, Grows, RecoveryCame, mark_of}
-use Rattle.line_cluster.proofs.Coming.{still}
+use Rattle.line_cluster.proofs.Coming.{fallen-grows, still}
 use Rattle.line_drive.specs.Boards.{marks_of}
 use Rattle.line_drive.specs.Turns.{AreCounted, IsDriven}
 use Rattle.line_drive.proofs.Marks.{count-few, count-more, count-other, count-own, length-events, length-marks, marks-since}
@@ -17,7 +17,7 @@ use Rattle.line_drive.proofs.Marks.{count-few, count-more, count-other, count-ow
 came-grows : (stops : ℕ → Bool) (s : ℕ) (old new : Sessions) (t : Turn) → Came stops s old new t → Grows s old.events new.events
 came-grows stops s old new turn.Moved g = g.events
 came-grows stops s old new turn.Stopped g = g.1.events
-came-grows stops s old new turn.Died d = record { more = Died s d.cause ∷ []; grown = d.grown; of_s = (refl, tt); one = omega arith }
+came-grows stops s old new turn.Died d = fallen-grows stops s old new d
 came-grows stops s old new (turn.Asleep u) g = (still stops s old new (ap (λ (c : Sessions). c.members) g.0) (ap (λ (c : Sessions). c.events) g.0)).events
 came-grows stops s old new turn.Frozen g = (still stops s old new (ap (λ (c : Sessions). c.members) g.0) (ap (λ (c : Sessions). c.events) g.0)).events
 came-grows stops s old new turn.Ended g = (still stops s old new (ap (λ (c : Sessions). c.members) g.0) (ap (λ (c : Sessions). c.events) g.0)).events
@@ -133,8 +133,7 @@ driven-dying stops sessions s cause counts old new d came = record { few = d.few
   where
     by : DeathCame stops s cause old new → AreCounted sessions counts new.events
     by (inl h) = counted-same sessions counts old.events new.events (events-same old new h.0) d.counted
-    by (inr (inl h)) = counted-same sessions counts old.events new.events h.events d.counted
-    by (inr (inr h)) = counted-grown sessions counts old.events new.events (Died s cause ∷ []) h.grown (λ u. refl) d.counted
+    by (inr h) = counted-grown sessions counts old.events new.events (Died s cause ∷ []) h.grown (λ u. refl) d.counted
 
 pub driven-recovering : (sessions : ℕ) (counts : List ℕ) (old new : Sessions) (t : Turn) → IsDriven sessions counts old → RecoveryCame old new t → IsDriven sessions counts new
 driven-recovering sessions counts old new t d came = record { few = d.few; counted = by t came }

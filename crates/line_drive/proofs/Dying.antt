@@ -7,7 +7,7 @@ use Rattle.rdb_types.specs.declared.session.Cause.{Cause}
 use Rattle.rdb_types.specs.declared.session.Cause.TheVariants.{Gate}
 use Rattle.rdb_account.specs.Events.{Died, event_of}
 use Rattle.rdb_account.specs.Places.{Opening, place}
-use Rattle.rdb_drive.specs.Boards.{AllEnded, AtMost, Below, Does, Less}
+use Rattle.rdb_drive.specs.Boards.{AllEnded, AtMost, Does, Less}
 use Rattle.rdb_drive.specs.Orders.{upward}
 use Rattle.rdb_drive.specs.Steps.{DeathOf, Goes, IsAwake, IsQuiet, RecoveryOf}
 use Rattle.rdb_drive.specs.declared.driven.Step.TheVariants as step
@@ -17,18 +17,20 @@ use Rattle.session_states.specs.declared.stage.Life.{Life}
 use Rattle.session_states.specs.declared.stage.Life.TheVariants.{Alive, Dead, Gone}
 use Rattle.session_states.specs.declared.stage.Member.{Member}
 use Rattle.session_stands.specs.Sessions.{AreSeated, member_at}
+use Rattle.session_measure.specs.Weights.{life_left}
 use Rattle.line_cluster.specs.declared.sessions.Turn.{Turn}
 use Rattle.line_cluster.specs.declared.sessions.Turn.TheVariants as turn
-use Rattle.line_cluster.specs.Deaths.{is_stop}
-use Rattle.line_cluster.specs.Going.{is_alive_life, is_dead, is_dead_life, is_over}
+use Rattle.line_cluster.specs.Deaths.{is_stop, lives_in}
+use Rattle.lent_members.specs.Going.{is_alive_life, is_dead, is_dead_life, is_over, with_life}
 use Rattle.line_cluster.specs.Measured.{IsBounded}
-use Rattle.line_cluster.specs.Turned.{Sessions, DeathCame, HasNothingLeft, HaveEnded, IsAtEnd, IsDeath, IsHalt, IsRecovery, RecoveryCame, mark_of, with_life}
-use Rattle.line_drive.specs.Boards.{board_of, has_ended, lives_in, marks_of, mortals_of, steps_to_go}
+use Rattle.line_cluster.specs.Turned.{Sessions, DeathCame, HasNothingLeft, HaveEnded, IsAtEnd, IsDeath, IsHalt, IsRecovery, RecoveryCame, mark_of}
+use Rattle.line_drive.specs.Boards.{board_of, has_ended, marks_of, mortals_of}
 use Rattle.line_drive.specs.Turns.{step_for}
+use Rattle.line_cluster.proofs.Room.{lives-moved}
 use Rattle.line_drive.proofs.Awake.{awake}
 use Rattle.line_drive.proofs.Counting.{set-here}
 use Rattle.line_drive.proofs.Marks.{marks-grown}
-use Rattle.line_drive.proofs.Turning.{append-none, ended-beside, fewer-lives, lives-moved, nearer-lives, rests-grown, rests-now, quiet, two-steps, unfinished-at}
+use Rattle.line_drive.proofs.Turning.{append-none, ended-beside, fewer-lives, nearer-lives, rests-grown, rests-now, quiet, two-steps, unfinished-at}
 
 -- ---- how much may still come
 
@@ -63,6 +65,9 @@ module _ (told : Type 0) (o : Opening) (sessions : ℕ) (old new : Sessions) (be
   -- ---- deaths
 
   module _ (s : ℕ) (first : 1 ≤ s) (cause : Cause) (over : told → new.halted ≡ false → IsAtEnd o.stops s new → HasNothingLeft o (place o (map event_of new.events)) s) where
+    same-less : new ≡ old → IsQuiet s (board_of told o old) (board_of told o new)
+    same-less same = subst (λ (c : Sessions). IsQuiet s (board_of told o old) (board_of told o c)) (sym same) (quiet s (board_of told o old))
+
     died-not : new ≡ old → IsAtEnd o.stops s old → DeathOf sessions s (board_of told o old) (board_of told o new)
     died-not same end = record {
       more = [];
@@ -70,22 +75,18 @@ module _ (told : Type 0) (o : Opening) (sessions : ℕ) (old new : Sessions) (be
       of_s = tt;
       none = refl;
       rests_now = λ given on. rests-now o new.events s (inr (over given on (subst (λ (c : Sessions). IsAtEnd o.stops s c) (sym same) end)));
-      less = inr (subst (λ (c : Sessions). IsQuiet s (board_of told o old) (board_of told o c)) (sym same) (quiet s (board_of told o old)));
+      less = inr (same-less same);
       awake = awake-now;
     }
 
-    halt-less : IsHalt old new → (b : Bool) → old.halted ≡ b → Below (board_of told o new).measure (board_of told o old).measure ⊎ IsQuiet s (board_of told o old) (board_of told o new)
-    halt-less h true stopped = inr (subst (λ (c : Sessions). IsQuiet s (board_of told o old) (board_of told o c)) (sym (h.rests stopped)) (quiet s (board_of told o old)))
-    halt-less h false going = inl (fewer-lives old new before bound going (inl h.halted))
-
-    died-by-halt : IsHalt old new → DeathOf sessions s (board_of told o old) (board_of told o new)
-    died-by-halt h = record {
+    died-stopped : new ≡ old → old.halted ≡ true → DeathOf sessions s (board_of told o old) (board_of told o new)
+    died-stopped same stopped = record {
       more = [];
-      goes = halt-goes h;
+      goes = same-goes same;
       of_s = tt;
       none = refl;
-      rests_now = λ given on. absurd (false≢true (sym on ∙ h.halted));
-      less = halt-less h old.halted refl;
+      rests_now = λ given on. absurd (false≢true (sym on ∙ (ap (λ (c : Sessions). c.halted) same ∙ stopped)));
+      less = inr (same-less same);
       awake = awake-now;
     }
 
@@ -109,9 +110,9 @@ module _ (told : Type 0) (o : Opening) (sessions : ℕ) (old new : Sessions) (be
     }
 
     pub dies : DeathCame o.stops s cause old new → DeathOf sessions s (board_of told o old) (board_of told o new)
-    dies (inl h) = died-not h.0 h.1
-    dies (inr (inl h)) = died-by-halt h
-    dies (inr (inr d)) = died d
+    dies (inl (same, inl stopped)) = died-stopped same stopped
+    dies (inl (same, inr end)) = died-not same end
+    dies (inr d) = died d
 
   -- ---- recoveries
 
@@ -119,15 +120,15 @@ module _ (told : Type 0) (o : Opening) (sessions : ℕ) (old new : Sessions) (be
   gone-or-dead : (r : IsRecovery old new) → (l : Life) → r.life ≡ l → is_alive_life l ≡ false → (lives_in new.members < lives_in old.members) ⊎ (lives_in new.members ≡ lives_in old.members)
   gone-or-dead r l is dead =
       let e = lives-moved old.members r.at r.before (with_life r.life r.before) r.found in
-      let f = ap steps_to_go r.died in
+      let f = ap life_left r.died in
       let g = ap lives_in r.is in
       by l is dead e f g
     where
-      by : (l : Life) → r.life ≡ l → is_alive_life l ≡ false → lives_in (slice_set old.members r.at (with_life r.life r.before)) + steps_to_go r.before.life ≡ lives_in old.members + steps_to_go r.life → steps_to_go r.before.life ≡ 1 →
+      by : (l : Life) → r.life ≡ l → is_alive_life l ≡ false → lives_in (slice_set old.members r.at (with_life r.life r.before)) + life_left r.before.life ≡ lives_in old.members + life_left r.life → life_left r.before.life ≡ 1 →
           lives_in new.members ≡ lives_in (slice_set old.members r.at (with_life r.life r.before)) → (lives_in new.members < lives_in old.members) ⊎ (lives_in new.members ≡ lives_in old.members)
       by Alive is dead e f g = absurd (false≢true (sym dead))
-      by Dead is dead e f g = let h = ap steps_to_go is in inr (omega (arith, e, f, g, h))
-      by Gone is dead e f g = let h = ap steps_to_go is in inl (omega (arith, e, f, g, h))
+      by Dead is dead e f g = let h = ap life_left is in inr (omega (arith, e, f, g, h))
+      by Gone is dead e f g = let h = ap life_left is in inl (omega (arith, e, f, g, h))
 
   pub recovers : {P : Type 0} → old.halted ≡ false → IsRecovery old new → Less new.measure old.measure → RecoveryOf {P = P} sessions (board_of told o old) (board_of told o new) step.Moved
   recovers going r less = record {

@@ -1,11 +1,11 @@
 -- A turn of the sessions is a step as drivers want it.
-use Rattle.std.proofs.Common.{◌≡◌, ◌≤◌, ◌<◌, ◌-◌, nat_lt, if◌then◌else◌, ℕ, zero, suc, ◌+◌, ◌++◌, ◌∷◌, [], ◌&&◌, ◌||◌, not, Bool, true, false, List, length, refl, ◌∙◌, sym, ap, subst, arith, map, Some, slice_get, slice_set, ◌⊎◌, inl, inr, drop}
+use Rattle.std.proofs.Common.{◌≡◌, ◌≤◌, ◌<◌, ◌-◌, if◌then◌else◌, ℕ, zero, suc, ◌+◌, ◌++◌, ◌∷◌, [], ◌&&◌, ◌||◌, not, Bool, true, false, List, length, refl, ◌∙◌, sym, ap, subst, arith, map, Some, slice_get, slice_set, ◌⊎◌, inl, inr, drop}
 use Rattle.std.proofs.lemmas.Bool.{false≢true}
 use Rattle.std.proofs.lemmas.Option.{same_Some}
 use Rattle.rdb_account.specs.declared.event.Event.{Event as Declared}
-use Rattle.rdb_account.specs.Events.{Event, Died, event_of}
+use Rattle.rdb_account.specs.Events.{Event, event_of}
 use Rattle.rdb_account.specs.Places.{Opening, place}
-use Rattle.rdb_drive.specs.Boards.{answers, AtMost, Below, Board, Does, IsSession, Less}
+use Rattle.rdb_drive.specs.Boards.{answers, AtMost, Below, Board, IsSession, Less}
 use Rattle.rdb_drive.specs.Steps.{StepOf, Goes, IsAwake, IsQuiet}
 use Rattle.rdb_drive.specs.declared.driven.Step.{Step}
 use Rattle.rdb_drive.specs.declared.driven.Step.TheVariants as step
@@ -17,27 +17,26 @@ use Rattle.session_states.specs.declared.stage.Phase.TheVariants.{Outside, Closi
 use Rattle.session_states.specs.declared.stage.Life.TheVariants.{Alive}
 use Rattle.session_states.specs.declared.stage.Member.{Member}
 use Rattle.session_stands.specs.Sessions.{AreSeated, dead_in, member_at}
+use Rattle.session_measure.specs.Weights.{life_left}
 use Rattle.line_cluster.specs.declared.sessions.Turn.{Turn}
 use Rattle.line_cluster.specs.declared.sessions.Turn.TheVariants as turn
 use Rattle.line_arms.specs.Going.{is_done}
-use Rattle.line_cluster.specs.Going.{is_dead, is_over}
+use Rattle.lent_members.specs.Going.{is_dead, is_over}
 use Rattle.stage_steps.specs.Nearer.{is_patient_at}
+use Rattle.line_cluster.specs.Deaths.{lives_in}
 use Rattle.line_cluster.specs.Measured.{IsBounded}
 use Rattle.line_cluster.specs.Turned.{Sessions, GoesFurther, Came, HasFallen, HasNothingLeft, IsAnother, Rests, IsAtEnd, mark_of}
 use Rattle.line_cluster.proofs.Stepping.{has-work, work-alive}
-use Rattle.line_drive.specs.Boards.{board_of, has_ended, is_asleep, is_mourning, lives_in, lives_left, marks_of, steps_to_go, RestsAt, RestsBehind}
+use Rattle.line_cluster.proofs.Asleep.{at-number, blocked-sleeps, mourning}
+use Rattle.line_cluster.proofs.Coming.{fallen-grows}
+use Rattle.line_cluster.proofs.Room.{lives-moved}
+use Rattle.line_cluster.specs.Asleep.{is_asleep, is_mourning}
+use Rattle.line_drive.specs.Boards.{board_of, has_ended, lives_left, marks_of, RestsAt, RestsBehind}
 use Rattle.line_drive.specs.Turns.{IsHeardOf, step_for}
 use Rattle.line_drive.proofs.Awake.{awake, undead}
 use Rattle.line_drive.proofs.Marks.{marks-grown, marks-since, length-marks, take-grown, take-all}
 
 -- ---- sessions in their places
-
-pub at-number : (ms : List Member) (s : ℕ) → 1 ≤ s → member_at ms s ≡ slice_get ms (s - 1)
-at-number ms zero first = absurd (omega arith)
-at-number ms (suc i) first = ap (λ (n : ℕ). slice_get ms n) (minus-one i)
-  where
-    minus-one : (i : ℕ) → i ≡ suc i - 1
-    minus-one i = omega arith
 
 ended-stays : (stops : ℕ → Bool) (ms : List Member) (i : ℕ) (m n : Member) → slice_get ms i ≡ Some m → has_ended (stops i) (Some m) ≡ false → (j : ℕ) → has_ended (stops j) (slice_get ms j) ≡ true → has_ended (stops j) (slice_get (slice_set ms i n) j) ≡ true
 ended-stays stops [] i m n got going j h = h
@@ -69,11 +68,6 @@ ended-on stops s old new first g t h = elim g.members [
 
 -- ---- how much may still come
 
-pub lives-moved : (ms : List Member) (i : ℕ) (m n : Member) → slice_get ms i ≡ Some m → lives_in (slice_set ms i n) + steps_to_go m.life ≡ lives_in ms + steps_to_go n.life
-lives-moved [] i m n found = cc found
-lives-moved (x ∷ xs) zero m n found = let e : steps_to_go x.life ≡ steps_to_go m.life = ap (λ (y : Member). steps_to_go y.life) (same_Some x m found) in omega (arith, e)
-lives-moved (x ∷ xs) (suc i) m n found = let rest = lives-moved xs i m n found in omega (arith, rest)
-
 -- fewer may die or be recovered, or no session goes on
 pub fewer-lives : (old new : Sessions) → IsBounded old.measure → IsBounded new.measure → old.halted ≡ false → (new.halted ≡ true) ⊎ (lives_in new.members < lives_in old.members) → Below (lives_left new ∷ new.measure) (lives_left old ∷ old.measure)
 fewer-lives old new before bound going less = (bound.fits, inl (by old.halted going new.halted refl less, bound.long ∙ sym before.long))
@@ -103,13 +97,13 @@ same-lives : (stops : ℕ → Bool) (s : ℕ) (old new : List Member) → (new �
 same-lives stops s old new (inl same) = ap lives_in same
 same-lives stops s old new (inr a) =
     let e = lives-moved old (s - 1) a.before a.behind a.found in
-    let f = ap steps_to_go a.lives in
+    let f = ap life_left a.lives in
     let g = ap lives_in a.is in
     omega (arith, e, f, g)
 
 -- a session that has something left to do lives
-pub two-steps : (stops : Bool) (m : Member) → is_over stops m m.life ≡ false → steps_to_go m.life ≡ 2
-two-steps stops m h = ap steps_to_go (work-alive stops m h)
+pub two-steps : (stops : Bool) (m : Member) → is_over stops m m.life ≡ false → life_left m.life ≡ 2
+two-steps stops m h = ap life_left (work-alive stops m h)
 
 -- and one fewer lives where it dies
 fewer-fallen : (stops : ℕ → Bool) (s : ℕ) (old new : Sessions) → HasFallen stops s old new → lives_in new.members < lives_in old.members
@@ -117,7 +111,7 @@ fewer-fallen stops s old new d =
     let e = lives-moved old.members (s - 1) d.before d.behind d.found in
     let f = two-steps (stops s) d.before d.going in
     let g = ap lives_in d.is in
-    let h = ap steps_to_go d.died in
+    let h = ap life_left d.died in
     omega (arith, e, f, g, h)
 
 -- who waits has something left to do
@@ -153,9 +147,6 @@ append-none (x ∷ xs) = ap (λ ys. x ∷ ys) (append-none xs)
 
 pub quiet : (s : ℕ) (b : Board) → IsQuiet s b b
 quiet s b = record { asleep = λ t k h. h; ended = λ t k. refl; measure = inl refl }
-
-mourning : (n : ℕ) → 0 < n → nat_lt 0 n ≡ true
-mourning n h = grind arith
 
 -- of a turn whose job isn't lent it hears what it came to
 pub heard-of : {P : Type 0} (t : Turn) (count : ℕ) (result : Step P) → result ≡ step_for t → IsHeardOf t count result
@@ -195,17 +186,19 @@ module _ (P : Type 0) (told : Type 0) (o : Opening) (sessions s : ℕ) (old new 
 
   -- it died in its turn
   pub fell : Came o.stops s old new turn.Died → StepOf {P = P} sessions s (board_of told o old) (board_of told o new) step.Moved
-  fell d = record {
-    more = Does s ∷ [];
-    goes = record {
-      marks = marks-grown old.events new.events (Died s d.cause ∷ []) d.grown;
-      rests = λ n t within rests given on. rests-grown o old.events new.events (Died s d.cause ∷ []) d.grown n t within (rests given going);
-      ended = ended-beside o.stops old.members new.members (s - 1) d.before d.behind d.found (unfinished-at o.stops s d.before session.0 d.going) d.is;
-    };
-    of_s = (refl, tt);
-    tells = (fewer-lives old new before bound going (inr (fewer-fallen o.stops s old new d)), omega arith);
-    awake = awake-then;
-  }
+  fell d =
+      let g = fallen-grows o.stops s old new d in
+      record {
+        more = map mark_of g.more;
+        goes = record {
+          marks = marks-grown old.events new.events g.more g.grown;
+          rests = λ n t within rests given on. rests-grown o old.events new.events g.more g.grown n t within (rests given going);
+          ended = ended-beside o.stops old.members new.members (s - 1) d.before d.behind d.found (unfinished-at o.stops s d.before session.0 d.going) d.is;
+        };
+        of_s = g.of_s;
+        tells = (fewer-lives old new before bound going (inr (fewer-fallen o.stops s old new d)), g.one);
+        awake = awake-then;
+      }
 
   pub stopped : Came o.stops s old new turn.Stopped → StepOf {P = P} sessions s (board_of told o old) (board_of told o new) step.Stopped
   stopped h = record {
@@ -241,7 +234,7 @@ module _ (P : Type 0) (told : Type 0) (o : Opening) (sessions s : ℕ) (old new 
   }
     where
       asleep-now : (not (old.halted || is_mourning old) && is_asleep old s) ≡ true
-      asleep-now = rw h.1.going (rw h.1.mourns_none (rw (at-number old.members s session.0 ∙ h.1.found) (rw h.1.patient (rw h.1.blocked.is_open h.1.blocked.sleeps.sleeps))))
+      asleep-now = blocked-sleeps old s h.1.member session.0 h.1.going h.1.mourns_none h.1.found h.1.patient t.number h.1.blocked
 
   pub at-end : (h : Came o.stops s old new turn.Ended) → (told → new.halted ≡ false → IsAtEnd o.stops s new → HasNothingLeft o (place o (map event_of new.events)) s) →
       StepOf {P = P} sessions s (board_of told o old) (board_of told o new) step.Ended

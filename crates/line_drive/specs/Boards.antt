@@ -1,5 +1,5 @@
 -- What drivers see of the sessions over lines.
-use Rattle.std.specs.Prelude.{◌≡◌, ℕ, ◌+◌, nat_lt, if◌then◌else◌, Bool, true, false, not, ◌&&◌, ◌||◌, List, [], ◌∷◌, map, take, Option, Some, None, ◌⊎◌}
+use Rattle.std.specs.Prelude.{◌≡◌, ℕ, ◌+◌, if◌then◌else◌, Bool, true, false, not, ◌&&◌, List, ◌∷◌, map, take, Option, Some, None, ◌⊎◌}
 use Rattle.std.specs.List.{filter}
 use Rattle.rdb_types.specs.declared.session.Cause.TheVariants.{Gate}
 use Rattle.rdb_account.specs.declared.event.Event.{Event as Declared}
@@ -7,13 +7,11 @@ use Rattle.rdb_account.specs.Events.{event_of}
 use Rattle.rdb_account.specs.Places.{Opening, Place, place}
 use Rattle.rdb_drive.specs.Boards.{Board, Mark}
 use Rattle.rdb_drive.specs.Orders.{upward}
-use Rattle.lock_tree.specs.Sleeping.{is_sleeping}
-use Rattle.session_states.specs.declared.stage.Life.{Life}
-use Rattle.session_states.specs.declared.stage.Life.TheVariants.{Alive, Dead, Gone}
 use Rattle.session_states.specs.declared.stage.Member.{Member}
-use Rattle.session_stands.specs.Sessions.{dead_in, member_at}
-use Rattle.line_cluster.specs.Going.{is_dead, is_over}
-use Rattle.stage_steps.specs.Nearer.{is_patient_at}
+use Rattle.session_stands.specs.Sessions.{member_at}
+use Rattle.lent_members.specs.Going.{is_dead, is_over}
+use Rattle.line_cluster.specs.Asleep.{is_mourning, sleeps}
+use Rattle.line_cluster.specs.Deaths.{lives_in}
 use Rattle.line_cluster.specs.Turned.{Sessions, SleepsFor, HasNothingLeft, mark_of}
 
 abbrev pub marks_of : List Declared → List Mark
@@ -32,38 +30,17 @@ abbrev pub has_ended : (stops : Bool) → Option Member → Bool
 has_ended stops None = true
 has_ended stops (Some m) = is_over stops m m.life && not (is_dead m)
 
-abbrev pub is_patient : Option Member → Bool
-is_patient None = false
-is_patient (Some m) = is_patient_at m.phase
-
--- who lives may die and be recovered
-abbrev pub steps_to_go : Life → ℕ
-steps_to_go Alive = 2
-steps_to_go Dead = 1
-steps_to_go Gone = 0
-
-abbrev pub lives_in : List Member → ℕ
-lives_in [] = 0
-lives_in (m ∷ ms) = steps_to_go m.life + lives_in ms
-
 -- how much may still come of deaths and of a halt
 abbrev pub lives_left : Sessions → ℕ
 lives_left c = if c.halted then 0 else 1 + lives_in c.members
 
-abbrev pub is_mourning : Sessions → Bool
-is_mourning c = nat_lt 0 (dead_in c.members)
-
--- its want is queued, and it waits for that
-abbrev pub is_asleep : Sessions → ℕ → Bool
-is_asleep c s = is_patient (member_at c.members s) && is_sleeping c.locks s
-
--- Where the opening told what the store holds, and no halt came, who rests does so in the account. Nobody sleeps while one that died awaits its recovery. A death and a halt make less of what may come, whatever the sessions have before them then.
+-- Where the opening told what the store holds, and no halt came, who rests does so in the account. A death and a halt make less of what may come, whatever the sessions have before them then.
 abbrev pub board_of : (told : Type 0) → Opening → Sessions → Board
 board_of told o c = record {
   measure = lives_left c ∷ c.measure;
   marks = marks_of c.events;
   rests = λ n s. told → c.halted ≡ false → RestsBehind o c.events n s;
-  asleep = λ s. not (c.halted || is_mourning c) && is_asleep c s;
+  asleep = λ s. sleeps c s;
   ended = λ s. has_ended (o.stops s) (member_at c.members s);
   mourns = is_mourning c;
   stopped = c.halted;

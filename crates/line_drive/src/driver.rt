@@ -7,7 +7,7 @@ ghost use Rattle.rdb_drive.specs.Steps.{StepOf};
 ghost use Rattle.line_store.specs.Seats.{outside};
 ghost use Rattle.line_store.specs.Sights.{bare};
 ghost use Rattle.line_cluster.specs.Deaths.{CountsFaults, failures};
-ghost use Rattle.line_cluster.specs.Sound.{HasImages, IsLeft, is_unsound};
+ghost use Rattle.line_cluster.specs.Sound.{HasImages, IsLeft, ShowsSpent, is_over_slot, is_unsound};
 ghost use Rattle.line_cluster.specs.Turned.{HaveAllEnded};
 ghost use Rattle.line_drive.specs.Boards.{board_of, marks_of};
 ghost use Rattle.line_drive.specs.Turns.{IsHeardOf, step_for};
@@ -145,6 +145,7 @@ impl<O: Origin + Naming, S: Reserves + Reaches, L: LineStore + Drop> LineDriver<
         ensures halt { is_some result.halt ≡ self.halted }
         ensures faults { O.told → CountsFaults O.faults (failures (map event_of self.events) result.halt) (L.sight result.store) }
         ensures agrees { O.told → is_unsound result.halt ≡ false }
+        ensures spent { O.told → is_over_slot result.halt ≡ true → ShowsSpent (L.sight result.store) }
         ensures outside { self.halted ≡ false → AllEnded O.sessions (board_of O.told O.opening self) → (s : ℕ) → bare ((L.sight result.store).stand s) ≡ outside }
     {
         let LineDriver {
@@ -169,6 +170,10 @@ impl<O: Origin + Naming + Send, S: Reserves + Reaches + Send, L: LineStore + Dro
     ghost sessions = { O.sessions };
 
     ghost mortals = { mortals_of O.opening O.sessions };
+
+    fn is_asleep(&self, s: Session) -> bool {
+        self.cluster.is_asleep(s)
+    }
 
     fn point(&self, s: Session) -> Point {
         if self.cluster.begins_item(s) {

@@ -6,7 +6,7 @@ ghost use Rattle.rdb_drive.specs.Boards.{AllEnded, IsSession, MayDie};
 ghost use Rattle.line_store.specs.Seats.{outside};
 ghost use Rattle.line_store.specs.Sights.{bare};
 ghost use Rattle.line_cluster.specs.Deaths.{CountsFaults, failures};
-ghost use Rattle.line_cluster.specs.Sound.{HasImages, IsLeft, is_unsound};
+ghost use Rattle.line_cluster.specs.Sound.{HasImages, IsLeft, ShowsSpent, is_over_slot, is_unsound};
 ghost use Rattle.line_cluster.specs.Turned.{HaveAllEnded, is_session};
 ghost use Rattle.line_drive.specs.Boards.{board_of, mortals_of};
 ghost use Rattle.line_drive.specs.Turns.{KeepsTurns, has_deaths};
@@ -20,7 +20,7 @@ use rdb_drive::{Gate, MOST_SESSIONS, drive, drive_in_order};
 use reached_changes::Reaches;
 use reserved_locks::Reserves;
 use std::marker::Send;
-use std::sync::{Condvar, Mutex, Wait};
+use std::sync::Wait;
 use std::thread::Threads;
 
 /// What a run came to: its events, its store, and whether every session came to its end, or died and was recovered; if not, why the
@@ -51,6 +51,7 @@ fn ran_of<O: Origin + Naming, S: Reserves + Reaches, L: LineStore + Drop>(
     ensures images { O.told → HasImages S.stands O.opening (L.sight result.store) (map event_of result.events) }
     ensures faults { O.told → CountsFaults O.faults (failures (map event_of result.events) result.halt) (L.sight result.store) }
     ensures agrees { O.told → is_unsound result.halt ≡ false }
+    ensures spent { O.told → is_over_slot result.halt ≡ true → ShowsSpent (L.sight result.store) }
     ensures outside { result.is_whole ≡ true → (s : ℕ) → bare ((L.sight result.store).stand s) ≡ outside }
 {
     driver.facts();
@@ -92,6 +93,7 @@ where
     ensures images { O.told → HasImages S.stands O.opening (L.sight result.store) (map event_of result.events) }
     ensures faults { O.told → CountsFaults O.faults (failures (map event_of result.events) result.halt) (L.sight result.store) }
     ensures agrees { O.told → is_unsound result.halt ≡ false }
+    ensures spent { O.told → is_over_slot result.halt ≡ true → ShowsSpent (L.sight result.store) }
     ensures outside { result.is_whole ≡ true → (s : ℕ) → bare ((L.sight result.store).stand s) ≡ outside }
     ensures order { result.is_whole ≡ true → O.told → KeepsTurns O.opening O.sessions order.now result.events }
 {
@@ -123,12 +125,11 @@ where
     ensures images { O.told → HasImages S.stands O.opening (L.sight result.store) (map event_of result.events) }
     ensures faults { O.told → CountsFaults O.faults (failures (map event_of result.events) result.halt) (L.sight result.store) }
     ensures agrees { O.told → is_unsound result.halt ≡ false }
+    ensures spent { O.told → is_over_slot result.halt ≡ true → ShowsSpent (L.sight result.store) }
     ensures outside { result.is_whole ≡ true → (s : ℕ) → bare ((L.sight result.store).stand s) ≡ outside }
 {
-    let shared = Mutex::new(LineDriver::new(cluster));
-    let bell = Condvar::new();
-    drive(rt, &shared, &bell, sessions, gate);
-    let mut driver = shared.into_inner();
+    let driver = LineDriver::new(cluster);
+    let mut driver = drive(rt, driver, sessions, gate);
     let has_ended = drive_in_order(&mut driver, sessions, &[], gate);
     ran_of(driver, has_ended)
 }

@@ -1,7 +1,9 @@
 -- A run opens over the store of an opened disk.
 use Rattle.std.proofs.Common.{◌≡◌, ◌≤◌, ℕ, List, Option, Some, arith}
 use Rattle.rdb_outside.specs.Disk.{Image}
+use Rattle.line_view.specs.Knowledge.{Lines}
 use Rattle.stable_lines.specs.Journal.{Journal}
+use Rattle.opened_store.specs.Opened.{BeginsFrom}
 use Rattle.rdb_account.specs.Places.{Opening}
 use Rattle.session_jobs.specs.Records.{Model}
 use Rattle.line_store.specs.Shelves.{Shelf}
@@ -21,6 +23,20 @@ at-moment image journal moment o h = record { root = h.root; is = h.is; limits =
 -- Where one sight shows what another does, an account that opens with that opens with this.
 pub same-shown : (M : Model) (o : Opening) (faults : ℕ) (word : List ℕ) (old new : Sight) → ((h : Shelf) → old.shows h → new.shows h) → IsOpenedBy M o faults word old → IsOpenedBy M o faults word new
 same-shown M o faults word old new shows h = record { shelf = h.shelf; shown = shows h.shelf h.shown; no_fewer = h.no_fewer; opened = h.opened }
+
+-- and one that begins from an image begins from it there
+pub begins-shown : (image : Image) (lines : Lines) (journal : Journal) (old new : Sight) → ((h : Shelf) → old.shows h → new.shows h) → BeginsFrom image lines journal old → BeginsFrom image lines journal new
+begins-shown image lines journal old new shows h = record {
+  shelf = h.shelf;
+  shown = shows h.shelf h.shown;
+  now = h.now;
+  seats = h.seats;
+  limits = h.limits;
+  taken = h.taken;
+  lie = h.lie;
+  snaps = h.snaps;
+  slots = h.slots;
+}
 
 -- no fault was counted for what never happened
 pub rose-none : (a b : ℕ) → a ≤ b → RoseBy 0 a b

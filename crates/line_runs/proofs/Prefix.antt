@@ -1,17 +1,22 @@
 -- What a crash leaves of the disk, of what the store over it had.
-use Rattle.std.proofs.Common.{◌≡◌, ◌≤◌, ◌∙◌, ℕ, List, true, sym, ap, subst, inl, inr}
+use Rattle.std.proofs.Common.{◌≡◌, ◌≤◌, ◌∙◌, ◌⊎◌, ℕ, List, [], true, sym, ap, subst, inl, inr, arith}
 use Rattle.std.proofs.lemmas.Option.{none-some}
-use Rattle.rdb_outside.specs.Disk.{Image, View, LeftNow}
-use Rattle.rdb_outside.specs.Moments.{each_slot}
+use Rattle.rdb_outside.specs.Disk.{Image, View, LeftNow, LeavesOnly, IsPending}
+use Rattle.rdb_outside.specs.Moments.{each_slot, weaker}
 use Rattle.rdb_account.specs.Events.{Event}
 use Rattle.rdb_account.specs.Places.{Opening, place}
+use Rattle.root_file.specs.declared.Root.{Root}
 use Rattle.line_view.specs.Knowledge.{Lines}
+use Rattle.stable_lines.specs.Journal.{Journal}
+use Rattle.journal_anew.specs.Anew.{journal_in_use}
+use Rattle.opened_store.specs.Opened.{BeginsFrom, IsLeft as IsAsLeft}
 use Rattle.member_steps.specs.Standing.{HasLines}
 use Rattle.store_shows.specs.Shows.{Leaves}
+use Rattle.store_shows.proofs.Standing.{may_stand}
 use Rattle.disk_store.specs.Memory.{StoreMemory}
 use Rattle.disk_store.specs.Shown.{Shown}
 use Rattle.disk_line_store.specs.Back.{IsBack}
-use Rattle.disk_store.proofs.Agreeing.{agreeing, shown-opens, standing}
+use Rattle.disk_store.proofs.Agreeing.{agreeing, shown-opens}
 use Rattle.line_store.specs.Seats.{outside, in_flight}
 use Rattle.line_store.specs.Shelves.{Shelf}
 use Rattle.line_store.specs.Calls.{MayStand}
@@ -19,8 +24,9 @@ use Rattle.line_store.specs.Sights.{Sight, bare}
 use Rattle.session_jobs.specs.Records.{Model}
 use Rattle.session_stands.proofs.Seats.{outside-seat}
 use Rattle.line_cluster.specs.Deaths.{CountsFaults, RoseBy}
-use Rattle.line_cluster.specs.Sound.{HasImages, IsLeft, IsOpenedBy}
-use Rattle.line_runs.specs.Prefix.{HoldsAll, HoldsPrefix}
+use Rattle.line_cluster.specs.Sound.{HasImages, IsLeft, IsOpenedBy, ShowsSpent}
+use Rattle.line_runs.specs.Openings.{HasSpent}
+use Rattle.line_runs.specs.Prefix.{GaveUp, HoldsAll, HoldsPrefix, StandsFor}
 
 -- as the store has it
 leaves-now : (v : View) (held : StoreMemory) (h : Shelf) → Shown v held h → (image : Image) (lines : Lines) → LeftNow v image → HasLines image lines → Leaves v h.clock.time lines
@@ -34,6 +40,13 @@ harmed v sight back faults more k = subst (λ (n : ℕ). RoseBy more faults n) (
 pub no-fewer : (M : Model) (o : Opening) (v : View) (sight : Sight) → IsBack sight v → (faults : ℕ) (word : List ℕ) → IsOpenedBy M o faults word sight → faults ≤ v.faults
 no-fewer M o v sight back faults word is = subst (λ (n : ℕ). faults ≤ n) (back.shows is.shelf is.shown).lines.faults is.no_fewer
 
+-- the numbers that it had used up, its root has
+pub spent-root : (v : View) (sight : Sight) → IsBack sight v → ShowsSpent sight → HasSpent v
+spent-root v sight back k content root p is =
+    let shown = back.shows k.shelf k.shown in
+    let below = shown.numbers.ceiling.pending content root p is in
+    omega (arith, k.spent, shown.promised, below)
+
 module _ (M : Model) (o : Opening) (v : View) (events : List Event) (sight : Sight) (back : IsBack sight v) where
   pub holds-prefix : HasImages M o sight events → HoldsPrefix M o v events
   holds-prefix has = record {
@@ -45,6 +58,8 @@ module _ (M : Model) (o : Opening) (v : View) (events : List Event) (sight : Sig
     since = λ k c found image l lines is. has.since.each k c found lines (back.left c.moment lines (record { image = image; left = l; stands = is }));
     began = has.since.began;
     opened = has.since.opened;
+    going = subst (λ (t : ℕ). has.since.began ≤ t) (back.shows has.shelf has.shown).lines.time has.since.going;
+    past = λ k c found. subst (λ (t : ℕ). c.moment ≤ t) (back.shows has.shelf has.shown).lines.time (has.since.past k c found);
     later = has.since.later;
     opening = λ image l lines is. has.since.opening lines (back.left has.since.began lines (record { image = image; left = l; stands = is }));
     openable = back.opens has.since.began has.since.openable;
@@ -52,10 +67,11 @@ module _ (M : Model) (o : Opening) (v : View) (events : List Event) (sight : Sig
 
   pub holds-all : IsLeft M o sight events → ((s : ℕ) → bare (sight.stand s) ≡ outside) → HoldsAll M o v events
   holds-all it rests = record {
-    each = λ image l.
+    tells = (back.shows it.shelf it.shown).tells;
+    each = λ image pending.
         let shown = back.shows it.shelf it.shown in
-        let has = shown-opens v back.held it.shelf shown image (each_slot v image l) in
-        (has.0, has.1, still has.0 (standing v back.held it.shelf shown has.0 (leaves-now v back.held it.shelf shown image has.0 l has.1.has)));
+        let has = shown-opens v back.held it.shelf shown image pending in
+        (has.0, has.1, still has.0 (may_stand v shown.ledger it.shelf shown.facts shown.lines image has.0 pending has.1.has));
   }
     where
       idle : (s : ℕ) → it.shelf.seat s ≡ outside
@@ -64,3 +80,20 @@ module _ (M : Model) (o : Opening) (v : View) (events : List Event) (sight : Sig
       still : (lines : Lines) → MayStand it.shelf lines → M lines (place o events).tables
       still lines (inl is) = subst (λ (x : Lines). M x (place o events).tables) (sym is) it.stands
       still lines (inr (s, ws, flies, is)) = absurd (none-some ws (sym (ap in_flight (idle s)) ∙ flies))
+
+-- ---- an opening that gave up
+
+module _ (M : Model) (o : Opening) (v : View) (lines : Lines) (journal : Journal) (stands : M lines o.tables) where
+  -- the database with its lines
+  has-stood : (classes : ℕ → ℕ) (root : Root) (image : Image) → IsAsLeft v classes lines journal root image → IsPending v image ⊎ StandsFor M o.tables image
+  has-stood classes root image (inl was) = inl was
+  has-stood classes root image (inr (inl kept)) = inr (lines, record { classes = classes; journal = journal; kept = kept }, stands)
+  has-stood classes root image (inr (inr kept)) = inr (lines, record { classes = classes; journal = journal_in_use root journal; kept = kept }, stands)
+
+  pub gave-up-within : (new : View) (classes : ℕ → ℕ) (root : Root) → LeavesOnly v new (IsAsLeft v classes lines journal root) → GaveUp M o v new
+  gave-up-within new classes root leaves = inl (weaker v new (IsAsLeft v classes lines journal root) (λ image. IsPending v image ⊎ StandsFor M o.tables image) (has-stood classes root) leaves)
+
+  pub gave-up-behind : (new : View) (image : Image) (sight : Sight) → IsBack sight new → BeginsFrom image lines journal sight → ((s : ℕ) → sight.stand s ≡ outside) → GaveUp M o v new
+  gave-up-behind new image sight back begins idle = inr (holds-all M o new [] sight back
+      (record { shelf = begins.shelf; shown = begins.shown; stands = subst (λ (x : Lines). M x o.tables) (sym begins.now) stands })
+      (λ s. ap bare (idle s)))

@@ -1,8 +1,8 @@
 -- What an account opens with, of the image from which its store was opened.
-use Rattle.std.specs.Prelude.{ℕ, zero, suc, ◌≤◌, ◌≡◌, Bool, true, false, List, [], map, length, IsTrue, Option, Some, None, slice_get}
+use Rattle.std.specs.Prelude.{ℕ, zero, suc, ◌≤◌, ◌<◌, ◌-◌, ◌^◌, ◌≡◌, Bool, true, false, List, [], map, length, IsTrue, Option, Some, None, slice_get}
 use Rattle.rdo_ast.specs.Tree.{Uttered}
 use Rattle.rdo_ast.specs.Views.{uttered_of}
-use Rattle.rdb_outside.specs.Disk.{Image, View}
+use Rattle.rdb_outside.specs.Disk.{Image, Pending, View}
 use Rattle.root_file.specs.declared.Root.{Root}
 use Rattle.root_file.specs.Root.{IsRoot}
 use Rattle.new_database.specs.Maker.{root_file}
@@ -41,6 +41,10 @@ pub record OpensWith (M : Model) (v : View) (o : Opening) : Type 0 where
 abbrev pub HasNoNumbers : View → Type 0
 HasNoNumbers v =
     IsTrue v.tells → (classes : ℕ → ℕ) (lines : Lines) (journal : Journal) → (kept : Kept classes lines journal v.content) → AreUsedUp journal kept.root
+
+-- Each root that a crash may leave has used up the numbers of transactions.
+abbrev pub HasSpent : View → Type 0
+HasSpent v = (content : List ℕ) (root : Root) → Pending v root_file 0 content → IsRoot content root → 2 ^ 62 - 64 < root.ceiling
 
 -- ---- the scripts of a run
 

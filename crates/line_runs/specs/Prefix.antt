@@ -1,6 +1,7 @@
 -- What a crash leaves of a disk over which sessions ran.
-use Rattle.std.specs.Prelude.{ℕ, suc, ◌≤◌, ◌≡◌, IsTrue, List, Some, slice_get}
-use Rattle.rdb_outside.specs.Disk.{Image, View, LeftNow}
+use Rattle.std.specs.Prelude.{ℕ, suc, ◌≤◌, ◌≡◌, ◌⊎◌, IsTrue, List, [], Some, slice_get}
+use Rattle.rdb_outside.specs.Disk.{Image, View, LeftNow, LeavesOnly, IsPending}
+use Rattle.rdb_meaning.specs.declared.tables.Tables.{Tables}
 use Rattle.line_view.specs.Knowledge.{Lines}
 use Rattle.member_steps.specs.Standing.{HasLines}
 use Rattle.store_shows.specs.Shows.{AllOpen, OpensTo}
@@ -26,10 +27,21 @@ pub record HoldsPrefix (M : Model) (o : Opening) (v : View) (events : List Event
   pub since : (k : ℕ) (c : Commit) → slice_get (place o events).commits k ≡ Some c → (image : Image) → v.left_since c.moment image → IsFrom M o events (suc k) image
   pub began : ℕ
   pub opened : o.moment ≤ began
+  pub going : began ≤ v.moment
+  pub past : (k : ℕ) (c : Commit) → slice_get (place o events).commits k ≡ Some c → c.moment ≤ v.moment
   pub later : (k : ℕ) (c : Commit) → slice_get (place o events).commits k ≡ Some c → began ≤ c.moment
   pub opening : (image : Image) → v.left_since began image → IsFrom M o events 0 image
   pub openable : AllOpen v began
 
--- each image that a crash may leave can be opened, and stands for the tables of all commits
+-- The disk tells its content. Each image that has in each slot what a crash may leave there can be opened, and stands for the tables of all commits.
 pub record HoldsAll (M : Model) (o : Opening) (v : View) (events : List Event) : Type 0 where
-  pub each : (image : Image) → LeftNow v image → (lines : Lines) × OpensTo image lines × M lines (place o events).tables
+  pub tells : IsTrue v.tells
+  pub each : (image : Image) → IsPending v image → (lines : Lines) × OpensTo image lines × M lines (place o events).tables
+
+-- an image that opening can start from, and that stands for these tables
+abbrev pub StandsFor : Model → Tables → Image → Type 0
+StandsFor M t image = (lines : Lines) × HasLines image lines × M lines t
+
+-- An opening gave up, and nothing was said. In the midst of it a crash leaves in each slot what one before it might have left there, or an image that stands for the tables of the opening; behind it each image stands for them.
+abbrev pub GaveUp : Model → Opening → View → View → Type 0
+GaveUp M o old new = LeavesOnly old new (λ image. IsPending old image ⊎ StandsFor M o.tables image) ⊎ HoldsAll M o new []

@@ -9,12 +9,12 @@ ghost use Rattle.line_store.specs.Sights.{bare};
 ghost use Rattle.rdb_account.specs.Legal.{IsLegal};
 ghost use Rattle.rdb_drive.specs.Boards.{IsSession, MayDie};
 ghost use Rattle.line_cluster.specs.Deaths.{CountsFaults, RoseBy, failures};
-ghost use Rattle.line_cluster.specs.Sound.{FollowsScripts, HasImages, IsLeft, MayFail, is_unsound};
+ghost use Rattle.line_cluster.specs.Sound.{FollowsScripts, HasImages, IsLeft, MayFail, ShowsSpent, is_over_slot, is_unsound};
 ghost use Rattle.line_cluster.specs.Turned.{HaveAllEnded};
 ghost use Rattle.line_drive.specs.Boards.{mortals_of};
 ghost use Rattle.line_drive.specs.Turns.{KeepsTurns};
-ghost use Rattle.line_runs.specs.Openings.{HasNoNumbers, OpensWith};
-ghost use Rattle.line_runs.specs.Prefix.{HoldsPrefix, HoldsAll};
+ghost use Rattle.line_runs.specs.Openings.{HasNoNumbers, HasSpent, OpensWith};
+ghost use Rattle.line_runs.specs.Prefix.{GaveUp, HoldsPrefix, HoldsAll};
 
 use crate::laws::a_run_opens;
 use disk_line_store::DiskStore;
@@ -83,6 +83,7 @@ fn begin<O: Origin + Naming, D: Disk + Drop>(
     ensures later { O.told → IfErr result (λ u. (D.view disk).faults ≤ (D.view u.disk).faults) }
     ensures failed { IfErr result (λ u. u.fault ≡ OpeningFault.Failed → Rose (D.view disk).faults (D.view u.disk).faults) }
     ensures bad { (file : File) (slot : ℕ) → IfErr result (λ u. u.fault ≡ OpeningFault.Bad file slot → HasNoNumbers (D.view disk)) }
+    ensures gave_up { O.told → IfErr result (λ u. GaveUp ⟦<ReservingStatements as Statements>⟧.stands O.opening (D.view disk) (D.view u.disk)) }
 {
     let mut disk = disk;
     let held = match open(alloc, &mut disk) {
@@ -123,6 +124,7 @@ fn ended<D: Disk + Drop>(ran: Ran<DiskStore<D>>) -> LineRun<D>
     ensures fault { result.fault ≡ None }
     ensures halt { result.halt ≡ ran.halt }
     ensures faults { (faults more : ℕ) → CountsFaults faults more (⟦<DiskStore<D> as LineStore>⟧.sight ran.store) → RoseBy more faults (D.view result.disk).faults }
+    ensures spent { ShowsSpent (⟦<DiskStore<D> as LineStore>⟧.sight ran.store) → HasSpent (D.view result.disk) }
     ensures images { (o : Opening) (events : List Event) → HasImages ⟦<ReservingStatements as Statements>⟧.stands o (⟦<DiskStore<D> as LineStore>⟧.sight ran.store) events → HoldsPrefix ⟦<ReservingStatements as Statements>⟧.stands o (D.view result.disk) events }
     ensures left { (o : Opening) (events : List Event) → IsLeft ⟦<ReservingStatements as Statements>⟧.stands o (⟦<DiskStore<D> as LineStore>⟧.sight ran.store) events → ((s : ℕ) → bare ((⟦<DiskStore<D> as LineStore>⟧.sight ran.store).stand s) ≡ outside) → HoldsAll ⟦<ReservingStatements as Statements>⟧.stands o (D.view result.disk) events }
 {
@@ -161,9 +163,11 @@ pub fn say_in_order<O: Origin + Naming + Send, D: Disk + Drop, G: Gate>(
     ensures left { O.told → result.is_whole ≡ true → HoldsAll ⟦<ReservingStatements as Statements>⟧.stands O.opening (D.view result.disk) (map event_of result.events) }
     ensures harmed { O.told → RoseBy (failures (map event_of result.events) result.halt) (D.view disk).faults (D.view result.disk).faults }
     ensures agrees { O.told → is_unsound result.halt ≡ false }
+    ensures spent { O.told → is_over_slot result.halt ≡ true → HasSpent (D.view result.disk) }
     ensures failed { result.fault ≡ Some OpeningFault.Failed → Rose (D.view disk).faults (D.view result.disk).faults }
     ensures bad { (file : File) (slot : ℕ) → result.fault ≡ Some (OpeningFault.Bad file slot) → HasNoNumbers (D.view disk) }
     ensures unsaid { (result.fault ≡ None → ⊥) → result.events ≡ [] }
+    ensures gave_up { O.told → (result.fault ≡ None → ⊥) → GaveUp ⟦<ReservingStatements as Statements>⟧.stands O.opening (D.view disk) (D.view result.disk) }
 {
     let sessions = said.scripts.len() as u32;
     match begin::<O, D>(alloc, disk, said) {
@@ -195,9 +199,11 @@ pub fn say_in_threads<
     ensures left { O.told → result.is_whole ≡ true → HoldsAll ⟦<ReservingStatements as Statements>⟧.stands O.opening (D.view result.disk) (map event_of result.events) }
     ensures harmed { O.told → RoseBy (failures (map event_of result.events) result.halt) (D.view disk).faults (D.view result.disk).faults }
     ensures agrees { O.told → is_unsound result.halt ≡ false }
+    ensures spent { O.told → is_over_slot result.halt ≡ true → HasSpent (D.view result.disk) }
     ensures failed { result.fault ≡ Some OpeningFault.Failed → Rose (D.view disk).faults (D.view result.disk).faults }
     ensures bad { (file : File) (slot : ℕ) → result.fault ≡ Some (OpeningFault.Bad file slot) → HasNoNumbers (D.view disk) }
     ensures unsaid { (result.fault ≡ None → ⊥) → result.events ≡ [] }
+    ensures gave_up { O.told → (result.fault ≡ None → ⊥) → GaveUp ⟦<ReservingStatements as Statements>⟧.stands O.opening (D.view disk) (D.view result.disk) }
 {
     let sessions = said.scripts.len() as u32;
     match begin::<O, D>(alloc, disk, said) {

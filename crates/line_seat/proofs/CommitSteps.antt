@@ -79,7 +79,7 @@ imaged_more old new now f slot n part place is here others was i what less got =
 
 -- ---- the barriers
 
-less_than : {A : Type 0} (i : ℕ) (x : A) (xs : List A) → slice_get xs i ≡ Some x → i < length xs
+pub less_than : {A : Type 0} (i : ℕ) (x : A) (xs : List A) → slice_get xs i ≡ Some x → i < length xs
 less_than i x [] is = let bad : ⊥ = cc in absurd bad
 less_than zero x (y ∷ ys) is = omega arith
 less_than (suc i) x (y ∷ ys) is = let tail = less_than i x ys is in omega (arith, tail)

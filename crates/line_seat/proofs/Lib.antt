@@ -6,3 +6,4 @@ pub mod GroupSlots
 pub mod CommitSteps
 pub mod StageStays
 pub mod SeatGoesOn
+mod RoomOnPages

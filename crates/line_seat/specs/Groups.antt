@@ -2,6 +2,7 @@
 use Rattle.std.specs.Prelude.{ℕ, ◌+◌, ◌<◌, ◌≡◌, true, List, [], ◌∷◌, slice_get, Option, Some, None}
 use Rattle.rdb_types.specs.declared.keys.Dbkey.{Dbkey}
 use Rattle.rdb_types.specs.declared.keys.Line.{Line}
+use Rattle.rdb_page.specs.Page.{lines_of}
 use Rattle.rdb_outside.specs.Disk.{Image}
 use Rattle.aij_journal.specs.declared.part.GroupLine.{GroupLine}
 use Rattle.aij_journal.specs.declared.part.AijPart.{AijPart}
@@ -18,6 +19,7 @@ use Rattle.stable_lines.specs.Progress.{Open, Flight, Progress, lines_with}
 use Rattle.stable_lines.specs.Facts.{PendingContents, IsInGroup}
 use Rattle.line_moves.specs.declared.places.Place.{Place}
 use Rattle.line_moves.specs.Changes.{IsPlaceOf, IsEntered}
+use Rattle.line_moves.specs.Classes.{HaveTheirClasses}
 use Rattle.line_moves.specs.Lines.{ChangedLines}
 use Rattle.line_seat.specs.declared.commit.GroupPlace.{GroupPlace}
 
@@ -40,6 +42,16 @@ AreAllowed lines classes = (i : ℕ) (line : Dbkey × Line) (class : ℕ) → sl
 -- each line comes with its area's class
 abbrev pub AreOfClasses : (ℕ → ℕ) → ChangedLines → List ℕ → Type 0
 AreOfClasses by_area lines classes = (i : ℕ) (line : Dbkey × Line) (class : ℕ) → slice_get lines i ≡ Some line → slice_get classes i ≡ Some class → class ≡ by_area line.0.area
+
+-- each line is one of those that a page of its class has
+abbrev pub LieWithin : ChangedLines → List ℕ → Type 0
+LieWithin lines classes = (i : ℕ) (line : Dbkey × Line) (class : ℕ) → slice_get lines i ≡ Some line → slice_get classes i ≡ Some class → line.0.line < lines_of class
+
+-- Pages have room for the lines: each line comes with its area's class, which the area's pages have, and is one that such a page has.
+pub record HaveRoom (P : PendingContents) (by_area : ℕ → ℕ) (lines : ChangedLines) (classes : List ℕ) : Type 0 where
+  pub of_areas : AreOfClasses by_area lines classes
+  pub pages : HaveTheirClasses by_area P
+  pub within : LieWithin lines classes
 
 -- each line has a place
 abbrev pub ArePlaced : ChangedLines → Type 0

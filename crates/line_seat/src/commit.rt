@@ -13,7 +13,7 @@ ghost use Rattle.line_moves.specs.Calls.{OnlyWrites};
 ghost use Rattle.line_moves.specs.declared.places.Place.{Place as Spot};
 ghost use Rattle.line_moves.specs.Classes.{HaveTheirClasses, KeepsOwners, LieForArea};
 ghost use Rattle.line_moves.specs.Lines.{AreDistinct, PutsOnly};
-ghost use Rattle.line_seat.specs.Groups.{AreAllowed, AreOfClasses, ArePlaced, HaveClasses, IsCommitting, group_line};
+ghost use Rattle.line_seat.specs.Groups.{AreAllowed, AreOfClasses, AreOfTransaction, ArePlaced, HaveClasses, HaveRoom, IsCommitting, group_line};
 ghost use Rattle.line_seat.specs.Stages.{CommitFacts, IsFurther, IsNextStage, progress_at};
 ghost use Rattle.line_seat.specs.declared.commit.CommitStage.TheVariants.{Changing, Imaging, Gathering};
 
@@ -96,6 +96,12 @@ fn change_page<D: Disk>(
         × OnlyWrites (file_named file) slot (D.view disk.old) (D.view disk.new) }
     ensures failed { IsErrOf result Fault.Failed
         → Rose (D.view disk.old).faults (D.view disk.new).faults }
+    ensures bad { (file : File) (slot : ℕ) → IsErrOf result (Fault.Bad file slot)
+        → IsTrue (D.view disk.old).tells
+        → (now : Progress) (transaction : Open) (group : _) (flight : Flight) (by_area : ℕ → ℕ)
+        → CommitFacts (Changing at) (D.view disk.old) now group lines.now flight
+        → AreOfTransaction transaction lines.now → transaction.tsn.number < 2 ^ 62
+        → HaveRoom (Pending (D.view disk.old)) by_area lines.now classes.now → ⊥ }
     ensures changes { IsTrue (D.view disk.old).tells → (now : Progress)
         → Facts (Pending (D.view disk.old)) now
         → PutsOnly lines.now (D.view disk.old).content (D.view disk.new).content }
@@ -145,6 +151,7 @@ fn journal_image<D: Disk>(
     ensures writes { (slot : ℕ) × OnlyWrites aij_named slot (D.view disk.old) (D.view disk.new) }
     ensures failed { IsErrOf result Fault.Failed
         → Rose (D.view disk.old).faults (D.view disk.new).faults }
+    ensures bad { (file : File) (slot : ℕ) → IsErrOf result (Fault.Bad file slot) → ⊥ }
     ensures order { IfOk result (IsNextStage (Imaging at)) }
     ensures further { IfOk result (IsFurther (length lines.now) (Imaging at)) }
     ensures goes_on { IfOk result (λ next. IsTrue (D.view disk.old).tells
@@ -192,6 +199,14 @@ pub fn commit_step<D: Disk>(
         × OnlyWrites file slot (D.view disk.old) (D.view disk.new) }
     ensures failed { IsErrOf result Fault.Failed
         → Rose (D.view disk.old).faults (D.view disk.new).faults }
+
+    // No page is refused that has room for its lines.
+    ensures bad { (file : File) (slot : ℕ) → IsErrOf result (Fault.Bad file slot)
+        → IsTrue (D.view disk.old).tells
+        → (now : Progress) (member : ℕ) (transaction : Open) (flight : Flight) (by_area : ℕ → ℕ)
+        → IsCommitting now member transaction group lines.now classes.now flight
+        → CommitFacts stage (D.view disk.old) now group lines.now flight
+        → HaveRoom (Pending (D.view disk.old)) by_area lines.now classes.now → ⊥ }
 
     // Whatever it answers, each line is as it was, or one of these.
     ensures changes { IsTrue (D.view disk.old).tells → (now : Progress)

@@ -16,9 +16,9 @@ use Rattle.line_store.specs.declared.answers.ChangeStop.TheVariants as change
 use Rattle.line_store.specs.declared.answers.CommitStop.{CommitStop}
 use Rattle.line_store.specs.declared.answers.CommitStop.TheVariants as commit
 use Rattle.line_store.specs.declared.answers.Stepped.{Stepped}
-use Rattle.line_store.specs.declared.answers.Stepped.TheVariants.{More, Done, Committed, Recovered}
+use Rattle.line_store.specs.declared.answers.Stepped.TheVariants.{More, Done, Astray, Committed, Recovered}
 use Rattle.line_store.specs.Seats.{Seat, outside, changing, committing, closing, dead, in_flight, done_at, writes_of, lines_added, lines_written, group_of, is_written, Adds}
-use Rattle.line_store.specs.Shelves.{Space, Clock, Shelf, Elapses, set_aside_beside}
+use Rattle.line_store.specs.Shelves.{Space, Clock, Shelf, AreSpent, Elapses, set_aside_beside}
 
 -- ---- seats
 
@@ -47,10 +47,10 @@ pub record GoesOn (s : ℕ) (old new : Shelf) : Type 0 where
   pub moves : Moves s (old.seat s) old new
   pub less : new.steps s < old.steps s
 
--- a device call that failed counts
+-- a device call that failed counts, and a slot is told bad only where numbers are used up
 abbrev pub HasCause : Fault → Clock → Clock → Type 0
 HasCause Failed old new = Rose old.faults new.faults
-HasCause (Bad file slot) old new = Unit {0}
+HasCause (Bad file slot) old new = AreSpent new
 
 pub record Fails (s : ℕ) (fault : Fault) (old new : Shelf) : Type 0 where
   pub moves : Moves s (old.seat s) old new
@@ -140,6 +140,7 @@ pub record IsSaved (s moment : ℕ) (old new : Shelf) : Type 0 where
 abbrev pub Comes : ℕ → Shelf → Shelf → Result Stepped Fault → Type 0
 Comes s old new (Ok More) = GoesOn s old new
 Comes s old new (Ok Done) = IsDone s old new
+Comes s old new (Ok Astray) = Moves s (old.seat s) old new
 Comes s old new (Ok (Committed moment)) = IsCommitted s moment.number old new
 Comes s old new (Ok (Recovered true moment)) = IsSaved s moment.number old new
 Comes s old new (Ok (Recovered false moment)) = IsUndone s moment.number old new

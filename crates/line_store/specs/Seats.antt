@@ -75,6 +75,10 @@ abbrev pub IsAlive : Seat → Type 0
 IsAlive (dead commits ws) = ⊥
 IsAlive _ = Unit {0}
 
+abbrev pub is_changing : Seat → Bool
+is_changing (changing ws) = true
+is_changing _ = false
+
 abbrev pub is_committing : Seat → Bool
 is_committing (committing ws) = true
 is_committing _ = false

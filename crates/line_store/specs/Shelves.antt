@@ -1,5 +1,5 @@
 -- What a store of lines holds.
-use Rattle.std.specs.Prelude.{◌≡◌, ◌≤◌, ◌==◌, if◌then◌else◌, ℕ, Bool, false, None, sum_by}
+use Rattle.std.specs.Prelude.{◌≡◌, ◌≤◌, ◌<◌, ◌-◌, ◌^◌, ◌==◌, if◌then◌else◌, ℕ, Bool, false, None, sum_by}
 use Rattle.rdb_types.specs.declared.keys.Limits.{Limits}
 use Rattle.line_view.specs.Knowledge.{Lines}
 use Rattle.line_view.specs.Writes.{laid_all}
@@ -12,10 +12,15 @@ pub record Space : Type 0 where
   pub snaps : ℕ
   pub slots : ℕ
 
--- the disk's moment, and its count of faults
+-- the disk's moment, its count of faults, and below which number transactions may be numbered, whatever a crash leaves
 pub record Clock : Type 0 where
   pub time : ℕ
   pub faults : ℕ
+  pub promised : ℕ
+
+-- The numbers of transactions are used up: they end at 2^62, and are promised 64 at a time.
+abbrev pub AreSpent : Clock → Type 0
+AreSpent clock = 2 ^ 62 - 64 < clock.promised
 
 pub record Shelf : Type 0 where
   -- the committed lines

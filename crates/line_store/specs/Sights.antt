@@ -7,8 +7,8 @@ use Rattle.line_store.specs.declared.answers.Fault.{Fault}
 use Rattle.line_store.specs.declared.answers.Progress.{Progress}
 use Rattle.line_store.specs.declared.answers.ReadStop.{ReadStop}
 use Rattle.line_store.specs.declared.answers.Stepped.{Stepped}
-use Rattle.line_store.specs.declared.answers.Stepped.TheVariants.{More, Done, Committed, Recovered}
-use Rattle.line_store.specs.Seats.{Seat, outside, beginning, writing, changing, prepared, committing, rolling_back, closing, reading, dead, prepared_by, given_back, committing_by, rolled_back, died, is_committing, in_flight, done_at, IsAlive}
+use Rattle.line_store.specs.declared.answers.Stepped.TheVariants.{More, Done, Astray, Committed, Recovered}
+use Rattle.line_store.specs.Seats.{Seat, outside, beginning, writing, changing, prepared, committing, rolling_back, closing, reading, dead, prepared_by, given_back, committing_by, rolled_back, died, is_changing, is_committing, in_flight, done_at, IsAlive}
 use Rattle.line_store.specs.Shelves.{Shelf, seen_by}
 use Rattle.line_store.specs.Calls.{Moves, IsRead, Learns, Comes, Lasts, MayStand}
 
@@ -134,6 +134,7 @@ IsLess s old new = new.steps s < old.steps s
 abbrev pub MayAnswer : Seat → Result Stepped Fault → Type 0
 MayAnswer seat (Ok More) = Unit {0}
 MayAnswer seat (Ok Done) = is_some (done_at seat) ≡ true
+MayAnswer seat (Ok Astray) = is_changing seat ≡ true
 MayAnswer seat (Ok (Committed moment)) = is_committing seat ≡ true
 MayAnswer seat (Ok (Recovered is_committed moment)) = IsAlive seat → ⊥
 MayAnswer seat (Err fault) = Unit {0}
@@ -146,6 +147,7 @@ seat_or seat None = seat
 abbrev pub stepped_to : Seat → Result Stepped Fault → Seat
 stepped_to seat (Ok More) = seat
 stepped_to seat (Ok Done) = seat_or seat (done_at seat)
+stepped_to seat (Ok Astray) = seat
 stepped_to seat (Ok (Committed moment)) = closing
 stepped_to seat (Ok (Recovered is_committed moment)) = outside
 stepped_to seat (Err fault) = seat

@@ -4,7 +4,7 @@ ghost use Rattle.std.specs.Prelude.{◌≡◌};
 use rdb_outside::Failed;
 use rdb_types::{Dbkey, FileId, Moment};
 
-/// A device call failed, or the slot of this number isn't what it has to be.
+/// A device call failed, or the slot of this number isn't what it has to be. A store tells a slot only where it has used up its numbers, and that of its root then.
 #[derive(Clone, Copy, Debug, PartialEq, Eq)]
 pub enum Fault {
     Failed,
@@ -61,6 +61,8 @@ pub enum Stepped {
     /// There is more to do.
     More,
     Done,
+    /// The change can't go on, and its session can only die.
+    Astray,
     /// The writes are committed, and stable since this moment.
     Committed(Moment),
     /// The dead session's transaction is undone, or its commit stands.

@@ -1,11 +1,19 @@
 -- What journalling goes by.
-use Rattle.std.proofs.Common.{◌≡◌, ℕ, ◌≤◌, IsTrue, List, [], ◌∷◌, ◌++◌, length, Some, ◌⊎◌, ⊎_elim, subst, ◌∙◌, refl, arith}
+use Rattle.std.proofs.Common.{◌≡◌, ℕ, ◌≤◌, ◌-◌, IsTrue, List, [], ◌∷◌, ◌++◌, length, Some, ◌⊎◌, ⊎_elim, subst, ◌∙◌, refl, arith}
 use Rattle.rdb_types.specs.declared.keys.Dbkey.{Dbkey}
 use Rattle.rdb_types.specs.declared.keys.Line.{Line}
-use Rattle.rdb_outside.specs.Disk.{View, OnlyReads}
-use Rattle.stable_lines.specs.Slots.{ruj_file, named, line_at, Undo}
+use Rattle.rdb_outside.specs.Disk.{View, LeftNow, OnlyReads, Pending}
+use Rattle.area_files.specs.Areas.{space_page_of}
+use Rattle.space_pages.specs.Space.{IsSpace}
+use Rattle.rdb_page.specs.Whole.{IsPageOf}
+use Rattle.stable_lines.specs.Slots.{IsMember, area_file, ruj_file, named, line_at, Undo}
+use Rattle.stable_lines.specs.Kept.{IsRujHeader}
 use Rattle.stable_lines.specs.Progress.{Open}
-use Rattle.line_moves.proofs.Runs.{facts_read}
+use Rattle.line_moves.specs.declared.places.Place.{Place}
+use Rattle.line_moves.specs.Changes.{IsPlaceOf}
+use Rattle.line_moves.proofs.Entering.{space_there}
+use Rattle.line_moves.proofs.KeyPlaces.{area_is}
+use Rattle.line_moves.proofs.Runs.{facts_read, pends}
 use Rattle.line_moves.proofs.OnlyPut.{keeps_lines}
 use Rattle.disk_seats.specs.Ledgers.{changing, Ledger, progress_of, stands_as}
 use Rattle.disk_seats.specs.Members.{LedgerFacts}
@@ -37,3 +45,17 @@ pub with_line : (v w mid : View) (g : Ledger) (member : ℕ) (all : List Undo) (
     → LedgerFacts w (stands_as member (changing (all ++ (record { key = key; before = line_at mid.content key }) ∷ []) n) g) → LedgerFacts w (stands_as member (changing (all ++ (record { key = key; before = line_at v.content key }) ∷ []) n) g)
 with_line v w mid g member all n key t reads was =
     subst (λ (l : Line). LedgerFacts w (stands_as member (changing (all ++ (record { key = key; before = l }) ∷ []) n) g)) (keeps_lines v.content mid.content (reads.keeps t).content key) was
+
+-- ---- no slot is refused
+
+-- the header of a member's journal is one
+pub header_there : (v : View) (g : Ledger) → LeftNow v v.content → LedgerFacts v g → (member : ℕ) → IsMember member → IsRujHeader (v.content (ruj_file member) 0)
+header_there v g left was member is = was.facts.pages.header member _ is (pends v left (ruj_file member) 0)
+
+-- the page of a line is one
+pub page_there : (v : View) (g : Ledger) → LeftNow v v.content → LedgerFacts v g → (key : Dbkey) (place : Place) → IsPlaceOf key place → IsPageOf place.file place.page (v.content (area_file place.file) (place.page - 1))
+page_there v g left was key place is = was.facts.pages.page place.file place.page _ (area_is key place is) is.is_data (pends v left (area_file place.file) (place.page - 1))
+
+-- the space page of a page is one
+pub spaces_there : (v : View) (g : Ledger) → LeftNow v v.content → LedgerFacts v g → (key : Dbkey) (place : Place) → IsPlaceOf key place → IsSpace (v.content (area_file place.file) (space_page_of place.page - 1)) (space_page_of place.page)
+spaces_there v g left was key place is = space_there (Pending v) (progress_of g) place.file place.page _ (area_is key place is) is.is_data was.facts (pends v left (area_file place.file) (space_page_of place.page - 1))

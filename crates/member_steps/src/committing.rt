@@ -12,7 +12,7 @@ ghost use Rattle.line_moves.specs.Changes.{KeepsLines};
 ghost use Rattle.line_moves.specs.declared.places.Place.{Place as Spot};
 ghost use Rattle.line_moves.specs.Classes.{HaveTheirClasses, KeepsOwners, LieForArea};
 ghost use Rattle.line_moves.specs.Lines.{AreDistinct, PutsOnly};
-ghost use Rattle.line_seat.specs.Groups.{AreAllowed, AreOfClasses, ArePlaced, HaveClasses};
+ghost use Rattle.line_seat.specs.Groups.{AreAllowed, AreOfClasses, ArePlaced, HaveClasses, HaveRoom};
 ghost use Rattle.line_seat.specs.declared.commit.CommitStage.TheVariants.{Gathering};
 ghost use Rattle.disk_seats.specs.Ledgers.{Ledger};
 ghost use Rattle.disk_seats.specs.Members.{LedgerFacts};
@@ -48,6 +48,9 @@ fn enter_next<D: Disk>(
         × OnlyWrites (area_file file) slot (D.view disk.old) (D.view disk.new) }
     ensures failed { IsErrOf result Fault.Failed
         → Rose (D.view disk.old).faults (D.view disk.new).faults }
+    ensures bad { (file : File) (slot : ℕ) → IsErrOf result (Fault.Bad file slot)
+        → IsTrue (D.view disk.old).tells → (ledger : Ledger)
+        → LedgerFacts (D.view disk.old) ledger → ⊥ }
     ensures lines { IsTrue (D.view disk.old).tells → (ledger : Ledger)
         → LedgerFacts (D.view disk.old) ledger
         → KeepsLines (D.view disk.old).content (D.view disk.new).content }
@@ -86,6 +89,7 @@ fn secure<D: Disk>(disk: &mut D) -> Result<CommitTurn, Fault>
     ensures further { (lines : ℕ) → IfOk result (IsFurtherTurn lines Securing) }
     ensures failed { IsErrOf result Fault.Failed
         → Rose (D.view disk.old).faults (D.view disk.new).faults }
+    ensures bad { (file : File) (slot : ℕ) → IsErrOf result (Fault.Bad file slot) → ⊥ }
     ensures keeps { IsTrue (D.view disk.old).tells → (ledger : Ledger)
         → LedgerFacts (D.view disk.old) ledger → LedgerFacts (D.view disk.new) ledger }
     ensures goes_on { IfOk result (λ next. IsTrue (D.view disk.old).tells
@@ -119,6 +123,13 @@ fn go_further<D: Disk>(
         × OnlyWrites file slot (D.view disk.old) (D.view disk.new) }
     ensures failed { IsErrOf result Fault.Failed
         → Rose (D.view disk.old).faults (D.view disk.new).faults }
+    ensures bad { (file : File) (slot : ℕ) → IsErrOf result (Fault.Bad file slot)
+        → IsTrue (D.view disk.old).tells
+        → (ledger : Ledger) (member : ℕ) (transaction : Open) (all : List Undo) (flight : Flight)
+        → (by_area : ℕ → ℕ) → LedgerFacts (D.view disk.old) ledger
+        → let plan = plan_of member transaction all group lines.now classes.now flight in
+        TurnFacts (Going stage) (D.view disk.old) ledger plan
+        → HaveRoom (Pending (D.view disk.old)) by_area lines.now classes.now → ⊥ }
     ensures changes { IsTrue (D.view disk.old).tells → (ledger : Ledger)
         → LedgerFacts (D.view disk.old) ledger
         → PutsOnly lines.now (D.view disk.old).content (D.view disk.new).content }
@@ -175,6 +186,15 @@ pub fn commit_next<D: Disk>(
         × OnlyWrites file slot (D.view disk.old) (D.view disk.new) }
     ensures failed { IsErrOf result Fault.Failed
         → Rose (D.view disk.old).faults (D.view disk.new).faults }
+
+    // No slot is refused where pages have room for the lines.
+    ensures bad { (file : File) (slot : ℕ) → IsErrOf result (Fault.Bad file slot)
+        → IsTrue (D.view disk.old).tells
+        → (ledger : Ledger) (member : ℕ) (transaction : Open) (all : List Undo) (flight : Flight)
+        → (by_area : ℕ → ℕ) → LedgerFacts (D.view disk.old) ledger
+        → let plan = plan_of member transaction all group lines.now classes.now flight in
+        TurnFacts turn (D.view disk.old) ledger plan
+        → HaveRoom (Pending (D.view disk.old)) by_area lines.now classes.now → ⊥ }
 
     // Whatever it answers, each line is as it was, or one of these.
     ensures changes { IsTrue (D.view disk.old).tells → (ledger : Ledger)

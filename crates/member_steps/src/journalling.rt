@@ -1,8 +1,9 @@
 // A member's before-images, one write a step.
 ghost use Rattle.std.specs.Prelude.{◌≡◌, ◌+◌, ◌≤◌, ◌<◌, ◌^◌, ◌⊎◌, true, false, ℕ, List, length, Ok, Some, IfOk, IsErrOf, IsTrue};
+ghost use Rattle.rdb_types.specs.declared.file.FileId.{FileId as File};
 ghost use Rattle.rdb_outside.specs.Causes.{Rose};
 ghost use Rattle.rdb_outside.specs.Disk.{OnlyReads};
-ghost use Rattle.stable_lines.specs.Slots.{ruj_file, line_at, named, Undo};
+ghost use Rattle.stable_lines.specs.Slots.{IsMember, ruj_file, line_at, named, Undo};
 ghost use Rattle.stable_lines.specs.Image.{IsNoneOf};
 ghost use Rattle.stable_lines.specs.Progress.{Open};
 ghost use Rattle.line_moves.specs.Calls.{OnlyWrites};
@@ -32,6 +33,9 @@ fn is_named<D: Disk>(disk: &mut D, member: u32, tsn: Tsn) -> Result<bool, Fault>
     ensures reads { OnlyReads (D.view disk.old) (D.view disk.new) }
     ensures failed { IsErrOf result Fault.Failed
         → Rose (D.view disk.old).faults (D.view disk.new).faults }
+    ensures bad { (file : File) (slot : ℕ) → IsErrOf result (Fault.Bad file slot)
+        → IsTrue (D.view disk.old).tells → IsMember member → (ledger : Ledger)
+        → LedgerFacts (D.view disk.old) ledger → ⊥ }
     ensures names { result ≡ Ok true → IsTrue (D.view disk.old).tells
         → named ((D.view disk.new).content (ruj_file member) 0) ≡ tsn.number }
 {
@@ -44,6 +48,9 @@ fn needs_header<D: Disk>(disk: &mut D, member: u32, tsn: Tsn, written: u32) -> R
     ensures reads { OnlyReads (D.view disk.old) (D.view disk.new) }
     ensures failed { IsErrOf result Fault.Failed
         → Rose (D.view disk.old).faults (D.view disk.new).faults }
+    ensures bad { (file : File) (slot : ℕ) → IsErrOf result (Fault.Bad file slot)
+        → IsTrue (D.view disk.old).tells → IsMember member → (ledger : Ledger)
+        → LedgerFacts (D.view disk.old) ledger → ⊥ }
     ensures needed { result ≡ Ok true → written ≡ 0 }
     ensures named { result ≡ Ok false → IsTrue (D.view disk.old).tells → (1 ≤ written)
         ⊎ (named ((D.view disk.new).content (ruj_file member) 0) ≡ tsn.number) }
@@ -71,6 +78,11 @@ pub fn journal_next<D: Disk>(
     ensures writes { (slot : ℕ) × OnlyWrites (ruj_file member) slot (D.view disk.old) (D.view disk.new) }
     ensures failed { IsErrOf result Fault.Failed
         → Rose (D.view disk.old).faults (D.view disk.new).faults }
+
+    // No slot is refused.
+    ensures bad { (file : File) (slot : ℕ) → IsErrOf result (Fault.Bad file slot)
+        → IsTrue (D.view disk.old).tells → IsMember member → (ledger : Ledger)
+        → LedgerFacts (D.view disk.old) ledger → ⊥ }
 
     // Whatever it answers, the ledger stays, or but for this member, who can be rolled back.
     ensures keeps { IsTrue (D.view disk.old).tells

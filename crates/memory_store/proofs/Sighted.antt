@@ -4,7 +4,7 @@ use Rattle.line_store.specs.declared.answers.Progress.TheVariants.{Done}
 use Rattle.line_store.specs.declared.answers.ReadStop.TheVariants.{NoMemory}
 use Rattle.line_store.specs.declared.answers.Fault.{Fault}
 use Rattle.line_store.specs.declared.answers.Stepped.{Stepped}
-use Rattle.line_store.specs.declared.answers.Stepped.TheVariants.{More, Done as HasDone, Committed, Recovered}
+use Rattle.line_store.specs.declared.answers.Stepped.TheVariants.{More, Done as HasDone, Committed, Recovered, Astray}
 use Rattle.line_store.specs.Seats.{Seat, outside, writing, prepared, committing, rolling_back, closing, IsWriting, IsPrepared, IsAlive, prepared_by, given_back, committing_by, rolled_back, done_at}
 use Rattle.line_store.specs.Shelves.{Shelf}
 use Rattle.line_store.specs.Calls.{Moves, IsCommitted}
@@ -94,6 +94,7 @@ module _ (k mid new : Kept) (s : ℕ) (was h : Held) where
   may-answer More had steps = absurd steps
   may-answer HasDone had steps = ap is_some (ap done_at (seat-here k.seats s was had) ∙ steps)
   may-answer (Committed moment) had steps = absurd steps
+  may-answer Astray had steps = absurd steps
   may-answer (Recovered is_committed moment) had steps = λ alive. subst (λ (x : Seat). IsAlive x) (seat-here k.seats s was had ∙ steps.3.2) alive
 
   pub came : (answer : Stepped) → slice_get k.seats s ≡ Some was → StepsTo (seat_of was) (seat_of h) answer → mid ≡ with_seat s held.Outside k → new ≡ with_seat s h mid → slice_get new.seats s ≡ Some h →
@@ -104,6 +105,7 @@ module _ (k mid new : Kept) (s : ℕ) (was h : Held) where
       (ap (λ (x : Option Seat). bare (seat_or (seat_at k.seats s) x)) (sym (ap done_at (seat-here k.seats s was had) ∙ steps)))
       (stepped k mid new s was h HasDone had steps first then here)
   came (Committed moment) had steps first then here = absurd steps
+  came Astray had steps first then here = absurd steps
   came (Recovered true moment) had steps first then here = absurd (true≢false steps.0)
   came (Recovered false moment) had steps first then here =
       moved k new s outside outside (Steps s (Ok (Recovered false moment))) (moves-twice k mid new s h outside first then here steps.2) refl

@@ -9,7 +9,7 @@ use Rattle.area_files.specs.Areas.{IsSpacePage}
 use Rattle.line_view.specs.declared.writes.Write.{Write}
 use Rattle.line_view.specs.Knowledge.{Lines, line_in}
 use Rattle.line_store.specs.declared.answers.Stepped.{Stepped}
-use Rattle.line_store.specs.declared.answers.Stepped.TheVariants.{More, Done, Committed, Recovered}
+use Rattle.line_store.specs.declared.answers.Stepped.TheVariants.{More, Done, Committed, Recovered, Astray}
 use Rattle.line_store.specs.Seats.{Seat, outside, beginning, writing, changing, prepared, committing, rolling_back, closing, reading, dead, done_at, writes_of, Adds}
 use Rattle.line_store.specs.Shelves.{Shelf, seen_by}
 use Rattle.line_store.specs.Sights.{Sight}
@@ -68,6 +68,7 @@ abbrev pub StepsTo : Seat → Seat → Stepped → Type 0
 StepsTo old new More = ⊥
 StepsTo old new Done = done_at old ≡ Some new
 StepsTo old new (Committed moment) = ⊥
+StepsTo old new Astray = ⊥
 StepsTo old new (Recovered is_committed moment) = (is_committed ≡ false) × (moment.number ≡ 0) × (new ≡ outside) × ((commits : Bool) × (ws : List Write) × (old ≡ dead commits ws))
 
 -- these writes were laid over those of the transaction
@@ -89,14 +90,14 @@ pub record Kept : Type 0 where
 abbrev pub is_taken : List PageUse → ℕ → ℕ → Bool
 is_taken pages file page = list_any (λ u. (u.file == file) && (u.page == page)) pages
 
--- as its users see it: no journal and no snapshot file is in use, and no time goes by
+-- as its users see it: no journal and no snapshot file is in use, no time goes by, and transactions have no numbers
 abbrev pub shelf_of : Kept → Shelf
 shelf_of k = record {
   now = k.lines;
   seat = seat_at k.seats;
   steps = λ s. 0;
   space = record { limits = k.limits; taken = is_taken k.pages; snaps = 0; slots = 0 };
-  clock = record { time = 0; faults = 0 };
+  clock = record { time = 0; faults = 0; promised = 0 };
 }
 
 -- a crash leaves nothing

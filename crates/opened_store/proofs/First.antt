@@ -57,7 +57,7 @@ first_shelf v held lines = record {
     snaps = used_in held.slots.catalog + used_in held.slots.relations + used_in held.slots.indexes;
     slots = held.next.slot - 1;
   };
-  clock = record { time = v.moment; faults = v.faults };
+  clock = record { time = v.moment; faults = v.faults; promised = held.numbers.ceiling };
 }
 
 -- What memory has of an opened database.
@@ -231,6 +231,7 @@ module _ (v : View) (t : IsTrue v.tells) (left : LeftNow v v.content) (stable : 
     facts = were;
     limits = sym has.limits;
     lines = lines-shown;
+    promised = refl;
     seats = all-sit held.members has.members v ledger (λ s. refl);
     steps = λ s. refl;
     numbers = numbers-stand;

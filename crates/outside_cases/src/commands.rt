@@ -46,6 +46,9 @@ fn tell_row(rt: &HostRuntime, words: &[Word]) {
             );
             tell_death(rt, scripts.death);
         }
+        Some(Command::Workload(accounts)) => {
+            let _ = println!(rt; "  workload of {accounts} accounts");
+        }
         Some(Command::Verify) => {
             let _ = println!(rt; "  verify");
         }

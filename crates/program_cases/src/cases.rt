@@ -1,4 +1,5 @@
 // What lines of the cases say.
+use crate::changing::tell_changed;
 use crate::failing::tell_failures;
 use crate::following::{tell_anew, tell_crashes, tell_deaths, tell_runs};
 use crate::keeping::run_made;
@@ -143,6 +144,7 @@ pub fn say<R: Print + AllocGlobal + Threads + Wait + Sync>(
         "anew" => tell_anew(rt, rest),
         "deaths" => tell_deaths(rt, world.head.as_slice(), rest),
         "crashes" => tell_crashes(rt, world.head.as_slice(), rest),
+        "each-byte" => tell_changed(rt, world.head.as_slice(), rest),
         "run-long" => run_long(rt, rest),
         "say-chain" => say_chain(rt, rest),
         "failing-source" | "failing-sink" | "failing-disk" => failing(rt, about, rest),

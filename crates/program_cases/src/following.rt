@@ -13,8 +13,8 @@ use std::thread::Threads;
 /// More steps than a session of the cases has.
 const MOST_STEPS: u32 = 10_000;
 
-// A run over what is on the disk.
-fn run_over<R: Print + AllocGlobal + Threads + Wait + Sync>(
+/// A run over what is on the disk.
+pub fn run_over<R: Print + AllocGlobal + Threads + Wait + Sync>(
     rt: &R,
     run: &str,
     disk: MemoryDisk,
@@ -26,8 +26,8 @@ fn run_over<R: Print + AllocGlobal + Threads + Wait + Sync>(
     Ok(run_on(rt, words.as_slice(), source, out, disk))
 }
 
-// A new database to which the head was said, by a run of its own.
-fn behind_head<R: Print + AllocGlobal + Threads + Wait + Sync>(
+/// A new database to which the head was said, by a run of its own.
+pub fn behind_head<R: Print + AllocGlobal + Threads + Wait + Sync>(
     rt: &R,
     head: &[u8],
 ) -> Result<MemoryDisk, NoMemory> {
@@ -43,8 +43,22 @@ fn behind_head<R: Print + AllocGlobal + Threads + Wait + Sync>(
     Ok(outcome.disk)
 }
 
-// Each run sees what those before it committed, and the bytes that were put meanwhile.
-fn tell_each<R: Print + AllocGlobal + Threads + Wait + Sync>(
+// What a crash leaves behind so many calls of a run, with all that these wrote; a line as `40 RMU/BACKUP PERS 1`.
+fn cut_off<R: Print + AllocGlobal + Threads + Wait + Sync>(
+    rt: &R,
+    line: &str,
+    disk: MemoryDisk,
+) -> Result<MemoryDisk, NoMemory> {
+    let (calls, run) = line.split_once(' ').unwrap_or((line, ""));
+    let calls = calls.parse::<u64>().unwrap_or(0);
+    let last = disk.moment().number.saturating_add(calls);
+    let disk = run_over(rt, run, disk)?.disk;
+    let number = last.min(disk.moment().number);
+    disk.after(Moment { number }, u32::MAX)
+}
+
+/// Each run sees what those before it committed, and the bytes that were put meanwhile. Behind `cut 40` stands a run that is stopped by a crash behind its 40th call.
+pub fn tell_each<R: Print + AllocGlobal + Threads + Wait + Sync>(
     rt: &R,
     line: &str,
     disk: MemoryDisk,
@@ -53,6 +67,8 @@ fn tell_each<R: Print + AllocGlobal + Threads + Wait + Sync>(
     for run in line.split('#') {
         if let Some(spot) = run.strip_prefix("byte ") {
             put_byte(&mut disk, spot);
+        } else if let Some(line) = run.strip_prefix("cut ") {
+            disk = cut_off(rt, line, disk)?;
         } else {
             let outcome = run_over(rt, run, disk)?;
             tell(rt, &outcome);

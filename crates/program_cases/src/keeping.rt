@@ -6,16 +6,35 @@ use rdb_types::{FileId, FileKind, NoMemory};
 use std::sync::Wait;
 use std::thread::Threads;
 
-/// One byte of a slot of a file.
+/// What becomes of a byte.
 #[derive(Clone, Copy, Debug)]
-struct Spot {
-    file: FileId,
-    slot: u32,
-    at: usize,
-    byte: u8,
+pub enum Change {
+    /// It is this one.
+    Put(u8),
+    /// The bits of this mask are turned.
+    Turned(u8),
 }
 
-fn number_in(word: Option<&str>) -> Option<u32> {
+impl Change {
+    fn of(self, byte: u8) -> u8 {
+        match self {
+            Change::Put(other) => other,
+            Change::Turned(mask) => byte ^ mask,
+        }
+    }
+}
+
+/// A byte of a slot of a file, and what becomes of it.
+#[derive(Clone, Copy, Debug)]
+pub struct Spot {
+    pub file: FileId,
+    pub slot: u32,
+    pub at: usize,
+    pub change: Change,
+}
+
+/// The number of a word.
+pub fn number_in(word: Option<&str>) -> Option<u32> {
     word?.parse::<u32>().ok()
 }
 
@@ -23,39 +42,48 @@ fn kind_of(word: &str) -> Option<FileKind> {
     match word {
         "root" => Some(FileKind::Root),
         "area" => Some(FileKind::Area),
+        "snap" => Some(FileKind::Snap),
         "ruj" => Some(FileKind::Ruj),
         "aij" => Some(FileKind::Aij),
         _ => None,
     }
 }
 
+/// The file of a word and a number.
+pub fn file_in(kind: Option<&str>, number: Option<&str>) -> Option<FileId> {
+    Some(FileId {
+        kind: kind_of(kind?)?,
+        number: number_in(number)?,
+    })
+}
+
 // The file, the slot, the place in it and the byte that words say.
 fn spot_of(words: &str) -> Option<Spot> {
     let mut words = words.split(' ');
-    let kind = kind_of(words.next()?)?;
-    let number = number_in(words.next())?;
+    let file = file_in(words.next(), words.next())?;
     let slot = number_in(words.next())?;
     let at = number_in(words.next())? as usize;
     let byte = u8::try_from(number_in(words.next())?).ok()?;
     Some(Spot {
-        file: FileId { kind, number },
+        file,
         slot,
         at,
-        byte,
+        change: Change::Put(byte),
     })
 }
 
-fn spoil(disk: &mut MemoryDisk, spot: Spot) {
+/// Changes a byte on the disk.
+pub fn spoil(disk: &mut MemoryDisk, spot: Spot) {
     if spot.file.slot_bytes() == 1024 {
         let mut slot = [0; 1024];
         if disk.read(spot.file, spot.slot, &mut slot).is_ok() && spot.at < 1024 {
-            slot[spot.at] = spot.byte;
+            slot[spot.at] = spot.change.of(slot[spot.at]);
             let _ = disk.write(spot.file, spot.slot, &slot);
         }
     } else if spot.file.slot_bytes() == 512 {
         let mut slot = [0; 512];
         if disk.read(spot.file, spot.slot, &mut slot).is_ok() && spot.at < 512 {
-            slot[spot.at] = spot.byte;
+            slot[spot.at] = spot.change.of(slot[spot.at]);
             let _ = disk.write(spot.file, spot.slot, &slot);
         }
     }

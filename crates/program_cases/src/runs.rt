@@ -2,7 +2,7 @@
 ghost use Rattle.std.specs.Prelude.{◌≡◌, []};
 
 use crate::texts::{tell_written, words_in};
-use command_words::script_words;
+use command_words::{Command, command_of, script_words};
 use rdb_drive::{Act, Gate, Point};
 use rdb_outside::{MemoryDisk, MemorySink, MemorySource};
 use rdb_top::run;
@@ -86,8 +86,8 @@ pub const NONE: Fails = Fails {
     disk: 0,
 };
 
-/// The room of a disk for scripts: slots in each file, and calls of all runs over it.
-const SLOTS: u32 = 4096;
+/// The room of a disk for scripts: slots in each file, as many as the usual limits of a database want, and calls of all runs over it.
+const SLOTS: u32 = 524_288;
 
 const CALLS: u32 = 65536;
 
@@ -117,7 +117,12 @@ pub fn new_database<R: Print + AllocGlobal + Threads + Wait + Sync>(
     Ok(run_on(rt, words.as_slice(), source, out, disk).disk)
 }
 
-/// Runs a command line: scripts over a new database, and what says none over a disk of zeros.
+// Whether the words are a workload, which says scripts of its own.
+fn is_workload(words: &[Word]) -> bool {
+    matches!(command_of(words), Some(Command::Workload(_)))
+}
+
+/// Runs a command line: scripts over a new database, a workload over a wide disk of zeros, and what says none over a small one.
 pub fn run_failing<R: Print + AllocGlobal + Threads + Wait + Sync>(
     rt: &R,
     words: &[Word],
@@ -130,6 +135,8 @@ pub fn run_failing<R: Print + AllocGlobal + Threads + Wait + Sync>(
     let (_, said) = script_words(words);
     let disk = if said > 0 {
         new_database(rt, fails.disk)?
+    } else if is_workload(words) {
+        wide_disk(alloc, fails.disk)?
     } else {
         MemoryDisk::new(alloc, 4, 256, &[fails.disk])?
     };

@@ -2,3 +2,4 @@ pub mod Boards
 pub mod Steps
 pub mod Orders
 pub mod Turns
+pub mod Bells

@@ -64,6 +64,11 @@ pub trait Driven {
     /// The sessions that may die.
     ghost mortals: { List ℕ };
 
+    /// Whether the session sleeps: its next step would be answered Asleep, and so would each until something else moves.
+    fn is_asleep(&self, s: Session) -> bool
+        requires { IsSession sessions s.number }
+        ensures { result ≡ (board self.now).asleep s.number };
+
     /// What the session's next step is.
     fn point(&self, s: Session) -> Point
         requires { IsSession sessions s.number };

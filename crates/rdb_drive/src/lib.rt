@@ -1,6 +1,7 @@
 //! Sessions that drive one shared value, in threads or in a stated order.
 #![tactic(auto)]
 
+mod bell;
 mod driven;
 mod order;
 mod threads;

@@ -1,17 +1,37 @@
-ghost use Rattle.std.specs.Prelude.{◌≡◌};
+ghost use Rattle.std.specs.Prelude.{◌≡◌, ◌≤◌};
 ghost use Rattle.rdb_drive.specs.Boards.{IsSession, MayDie};
 
+use crate::bell::{Bells, Shared};
 use crate::driven::{Act, Driven, Gate, Step};
+use crate::order::MOST_SESSIONS;
 use rdb_types::Session;
-use std::sync::{Condvar, Mutex, Wait};
+use std::sync::{Mutex, Wait};
 use std::thread;
 use std::thread::Threads;
 
-/// Drives all sessions, with a thread for each. A session whose thread can't be started is driven by the caller.
+/// Drives all sessions, with a thread for each, and gives back what was driven. A session whose thread can't be started is driven by
+/// the caller.
 pub fn drive<R: Threads + Wait + Sync, X: Driven + Send, G: Gate + Sync>(
     rt: &R,
-    shared: &Mutex<X>,
-    bell: &Condvar,
+    driven: X,
+    sessions: u32,
+    gate: &G,
+) -> X
+    requires sessions { sessions ≡ X.sessions }
+    requires few { sessions ≤ MOST_SESSIONS }
+    requires mortals { MayDie (G.mortals gate.now) X.mortals }
+{
+    let shared = Mutex::new(Shared::new(driven));
+    let bells = Bells::new();
+    drive_shared(rt, &shared, &bells, sessions, gate);
+    shared.into_inner().end()
+}
+
+// Drives all sessions of what the threads share.
+fn drive_shared<R: Threads + Wait + Sync, X: Driven + Send, G: Gate + Sync>(
+    rt: &R,
+    shared: &Mutex<Shared<X>>,
+    bells: &Bells,
     sessions: u32,
     gate: &G,
 )
@@ -29,10 +49,10 @@ pub fn drive<R: Threads + Wait + Sync, X: Driven + Send, G: Gate + Sync>(
                 let thread = scope.spawn(
                     move ||
                         requires { IsSession X.sessions s.number × MayDie (G.mortals gate.now) X.mortals }
-                    { drive_one(rt, shared, bell, s, gate) },
+                    { drive_one(rt, shared, bells, s, gate) },
                 );
                 if thread.is_err() {
-                    drive_one(rt, shared, bell, s, gate);
+                    drive_one(rt, shared, bells, s, gate);
                 }
             }
         },
@@ -42,8 +62,8 @@ pub fn drive<R: Threads + Wait + Sync, X: Driven + Send, G: Gate + Sync>(
 // Drives one session until it has ended or is stopped.
 fn drive_one<R: Wait, X: Driven, G: Gate>(
     rt: &R,
-    shared: &Mutex<X>,
-    bell: &Condvar,
+    shared: &Mutex<Shared<X>>,
+    bells: &Bells,
     s: Session,
     gate: &G,
 )
@@ -65,37 +85,25 @@ fn drive_one<R: Wait, X: Driven, G: Gate>(
             Act::Die => {
                 done = None;
                 is_asked = false;
-                shared.lock(rt).die(s);
-                bell.notify_all();
+                shared.lock(rt).die(s, bells);
             }
             Act::Go => {
-                let mut x = shared.lock(rt);
-                let step = match done.take() {
-                    Some(value) => x.give(s, value),
-                    None => x.next(s),
-                };
-                point = x.point(s);
+                let mut held = shared.lock(rt);
+                let step = held.step(s, done.take(), bells);
+                point = held.point(s);
                 match step {
                     Step::Compute(piece) => {
-                        drop(x);
+                        drop(held);
                         done = Some(X::work(piece));
                     }
-                    Step::Moved => bell.notify_all(),
-                    Step::Asleep => {
-                        point = bell.wait(rt, x).point(s);
-                    }
+                    Step::Moved => {}
+                    Step::Asleep => point = bells.wait(rt, held, s).point(s),
                     Step::Frozen => {
-                        let step = x.recover_step();
-                        bell.notify_all();
-                        if matches!(&step, Step::Stopped) {
+                        if matches!(held.recover_step(bells), Step::Stopped) {
                             return;
                         }
                     }
-                    Step::Ended => return,
-                    Step::Stopped => {
-                        bell.notify_all();
-                        return;
-                    }
+                    Step::Ended | Step::Stopped => return,
                 }
             }
         }

@@ -3,7 +3,7 @@ use Rattle.std.proofs.Common.{◌≡◌, ◌≤◌, ◌<◌, ◌+◌, ℕ, zero,
 use Rattle.std.proofs.lemmas.Bool.Decides.{nat_tests}
 use Rattle.std.proofs.lemmas.List.Elements.{All-contains, All-contains_itself, All-filter, Contains-append_cases, Contains-append_left, Contains-append_right, Contains-push, Contains-push_cases, filter_passes}
 use Rattle.std.specs.List.{Contains, filter}
-use Rattle.rdb_types.specs.declared.session.Cause.TheVariants.{Device, Gate}
+use Rattle.rdb_types.specs.declared.session.Cause.TheVariants.{Device, Gate, Memory}
 use Rattle.rdb_account.specs.Places.{Opening}
 use Rattle.rdb_drive.specs.Boards.{MayDie}
 use Rattle.rdb_drive.specs.Orders.{upward}
@@ -83,7 +83,7 @@ mortals death gate o word scripts n h dies s c = elim (Contains-append_cases (se
 ]
 
 pub may-fail : (death : Option Death) (o : Opening) (word : List ℕ) (scripts : List WholeScript) → MayFail o → MayFail (said_to (letting death o) word scripts)
-may-fail death o word scripts h s = more-may (o.may_die s Device) (is_let_die death s Device) (h s)
+may-fail death o word scripts h s = (more-may (o.may_die s Device) (is_let_die death s Device) (h s).0, more-may (o.may_die s Memory) (is_let_die death s Memory) (h s).1)
 
 -- Who may die of a gate may die of it beside whom the words name.
 pub dies-besides : (death : Option Death) (gate : List ℕ) (s : ℕ) → Contains gate s → Contains (sessions_dying death ++ gate) s

@@ -2,7 +2,7 @@
 use Rattle.std.proofs.Common.{◌≡◌, ℕ, Option, Some, arith}
 use Rattle.command_words.specs.declared.words.Scripts.{Scripts}
 use Rattle.command_words.specs.declared.words.Command.{Command}
-use Rattle.command_words.specs.declared.words.Command.TheVariants.{Rdo, Backup, BackupJournal, Restore}
+use Rattle.command_words.specs.declared.words.Command.TheVariants.{Rdo, Workload, Backup, BackupJournal, Restore}
 
 pub same-given : (a b : Scripts) (x : Option Command) → Some (Rdo a) ≡ x → x ≡ Some (Rdo b) → a ≡ b
 same-given a b x h k = grind arith
@@ -15,3 +15,6 @@ same-copy a b x h k = grind arith
 
 pub same-restore : (a b : ℕ) (x : Option Command) → Some (Restore a) ≡ x → x ≡ Some (Restore b) → a ≡ b
 same-restore a b x h k = grind arith
+
+pub same-workload : (a b : ℕ) (x : Option Command) → Some (Workload a) ≡ x → x ≡ Some (Workload b) → a ≡ b
+same-workload a b x h k = grind arith

@@ -1,9 +1,9 @@
-mod Upward
-mod Givens
-mod Reading
-mod Unsaid
-mod Fewness
-mod Saying
 mod Deaths
 mod Failures
+mod Givens
+mod Reading
+mod Saying
 mod Stopped
+mod Unsaid
+mod Upward
+mod Workloads

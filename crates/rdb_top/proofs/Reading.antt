@@ -1,7 +1,8 @@
 -- One more script is read.
 use Rattle.std.proofs.Common.{◌≡◌, ◌≢◌, ◌≤◌, ◌<◌, ℕ, ◌+◌, ◌++◌, ◌∷◌, [], Bool, true, List, length, refl, ◌∙◌, sym, ap, arith, if◌then◌else◌, ◌⊎◌}
 use Rattle.session_states.specs.declared.item_queue.WholeScript.{WholeScript}
-use Rattle.rdb_top.specs.Runs.{scripts_of, whole_script}
+use Rattle.script_queues.specs.Scripts.{whole_script}
+use Rattle.rdb_top.specs.Runs.{scripts_of}
 use Rattle.rdb_top.proofs.Upward.{scripts-more}
 
 length-more : {A : Type 0} (xs : List A) (y : A) → length (xs ++ y ∷ []) ≡ length xs + 1

@@ -6,7 +6,8 @@ use Rattle.std.specs.List.{flat_map}
 use Rattle.rdb_drive.specs.Orders.{upward}
 use Rattle.rdb_account.specs.declared.event.Event.{Event}
 use Rattle.rdb_account.specs.Transcript.{transcript}
-use Rattle.rdb_top.specs.Runs.{scripts_of, transcripts, whole_script}
+use Rattle.script_queues.specs.Scripts.{whole_script}
+use Rattle.rdb_top.specs.Runs.{scripts_of, transcripts}
 
 next-one : (first n : ℕ) → first + 1 + n ≡ first + suc n
 next-one first n = omega arith

@@ -1,36 +1,26 @@
 -- What a run says and writes, and how it ends.
 use Rattle.std.specs.Prelude.{◌≡◌, ◌⊎◌, ℕ, Bool, true, false, List, ◌∷◌, [], map, length, nat_eq, Option, None, Some}
 use Rattle.std.specs.List.{list_any, flat_map}
-use Rattle.rdb_types.specs.declared.file.FileId.{FileId}
-use Rattle.rdb_types.specs.declared.keys.Dbkey.{Dbkey}
 use Rattle.rdb_outside.specs.Disk.{View}
-use Rattle.rdo_parser.specs.Script.{ends_in_stop, script_items}
 use Rattle.rdb_drive.specs.Orders.{upward}
 use Rattle.rdb_account.specs.declared.event.Event.{Event}
-use Rattle.rdb_account.specs.declared.event.Event.TheVariants as event
 use Rattle.rdb_account.specs.Events.{event_of}
 use Rattle.rdb_account.specs.Legal.{IsLegal}
 use Rattle.rdb_account.specs.Places.{Opening}
 use Rattle.rdb_account.specs.Transcript.{transcript}
 use Rattle.session_states.specs.declared.item_queue.WholeScript.{WholeScript}
-use Rattle.line_store.specs.declared.answers.Fault.TheVariants as faulty
 use Rattle.line_cluster.specs.declared.sessions.Halt.{Halt}
-use Rattle.line_cluster.specs.declared.sessions.Halt.TheVariants as halts
 use Rattle.line_cluster.specs.Turned.{HaveAllEnded}
 use Rattle.line_drive.specs.Turns.{KeepsTurns}
-use Rattle.line_opening.specs.declared.fault.OpeningFault.{OpeningFault}
-use Rattle.line_opening.specs.declared.fault.OpeningFault.TheVariants as fault
 use Rattle.line_runs.specs.Openings.{HasNoNumbers, said_to}
 use Rattle.command_words.specs.declared.words.Scripts.{Scripts}
 use Rattle.command_words.specs.declared.words.Command.{Command}
-use Rattle.command_words.specs.declared.words.Command.TheVariants.{New, Rdo, Verify, Dump, DumpPage, Backup, BackupJournal, Restore, Recover}
+use Rattle.command_words.specs.declared.words.Command.TheVariants.{New, Rdo, Workload, Verify, Dump, DumpPage, Backup, BackupJournal, Restore, Recover}
 use Rattle.rdb_top.specs.Deaths.{letting}
+use Rattle.script_queues.specs.Scripts.{whole_script}
 use Rattle.script_streams.specs.declared.read.ReadStop.{ReadStop}
 use Rattle.script_streams.specs.declared.read.ReadStop.TheVariants.{Failed, OutOfMemory, TooLong}
-
--- the items of a text, and whether they end at a `$ STOP`
-abbrev pub whole_script : List ℕ → WholeScript
-whole_script text = record { items = script_items text; stops = ends_in_stop text }
+use Rattle.workload_runs.specs.Statuses.{IsOverLine, IsOverSlot}
 
 -- the scripts of so many sessions, by the texts that are left for each
 abbrev pub scripts_of : (ℕ → List ℕ) → ℕ → List WholeScript
@@ -45,6 +35,7 @@ abbrev pub sessions_of : Option Command → ℕ
 sessions_of None = 0
 sessions_of (Some (New limits)) = 0
 sessions_of (Some (Rdo scripts)) = scripts.count
+sessions_of (Some (Workload accounts)) = 0
 sessions_of (Some Verify) = 0
 sessions_of (Some Dump) = 0
 sessions_of (Some (DumpPage place)) = 0
@@ -58,6 +49,7 @@ abbrev pub keeps_copies : Option Command → Bool
 keeps_copies None = false
 keeps_copies (Some (New limits)) = false
 keeps_copies (Some (Rdo scripts)) = false
+keeps_copies (Some (Workload accounts)) = false
 keeps_copies (Some Verify) = false
 keeps_copies (Some Dump) = false
 keeps_copies (Some (DumpPage place)) = false
@@ -71,6 +63,7 @@ abbrev pub rolls_forward : Option Command → Bool
 rolls_forward None = false
 rolls_forward (Some (New limits)) = false
 rolls_forward (Some (Rdo scripts)) = false
+rolls_forward (Some (Workload accounts)) = false
 rolls_forward (Some Verify) = false
 rolls_forward (Some Dump) = false
 rolls_forward (Some (DumpPage place)) = false
@@ -79,6 +72,20 @@ rolls_forward (Some (BackupJournal number)) = false
 rolls_forward (Some (Restore number)) = false
 rolls_forward (Some (Recover count)) = true
 
+-- a command that makes a database and has sessions of its own work in it, and writes what they come to
+abbrev pub is_workload : Option Command → Bool
+is_workload None = false
+is_workload (Some (New limits)) = false
+is_workload (Some (Rdo scripts)) = false
+is_workload (Some (Workload accounts)) = true
+is_workload (Some Verify) = false
+is_workload (Some Dump) = false
+is_workload (Some (DumpPage place)) = false
+is_workload (Some (Backup number)) = false
+is_workload (Some (BackupJournal number)) = false
+is_workload (Some (Restore number)) = false
+is_workload (Some (Recover count)) = false
+
 -- the statuses at which everything was written
 abbrev pub IsWritten : ℕ → Type 0
 IsWritten status = (status ≡ 0) ⊎ (status ≡ 8)
@@ -86,21 +93,6 @@ IsWritten status = (status ≡ 0) ⊎ (status ≡ 8)
 -- the statuses at which every session that lived said its script to the end
 abbrev pub IsWhole : ℕ → Type 0
 IsWhole status = IsWritten status ⊎ (status ≡ 6)
-
-abbrev pub is_death : Event → Bool
-is_death (event.Began s kind) = false
-is_death (event.Wanted s node mode at) = false
-is_death (event.Got s node mode) = false
-is_death (event.Demoted s node from to) = false
-is_death (event.Said s item keys reply) = false
-is_death (event.Committed s moment) = false
-is_death (event.RolledBack s) = false
-is_death (event.Died s cause) = true
-is_death (event.Recovered s committed moment) = false
-
--- some session died
-abbrev pub has_death : List Event → Bool
-has_death events = list_any is_death events
 
 -- the account of a run of these scripts' items is legal, whole where every session that lived said its items, and keeps to the order where there is one
 abbrev pub IsRun : Opening → List ℕ → Scripts → List ℕ → ℕ → List Event → List WholeScript → Type 0
@@ -125,35 +117,6 @@ abbrev pub status_at : ReadStop → ℕ
 status_at Failed = 2
 status_at OutOfMemory = 5
 status_at TooLong = 10
-
--- the status of a database that wasn't opened
-abbrev pub unopened_status : OpeningFault → ℕ
-unopened_status fault.Failed = 3
-unopened_status fault.NoMemory = 5
-unopened_status (fault.Bad file slot) = 4
-
--- the status of sessions that were stopped
-abbrev pub stopped_status : Option Halt → ℕ
-stopped_status None = 5
-stopped_status (Some halts.NoMemory) = 5
-stopped_status (Some (halts.Device faulty.Failed)) = 3
-stopped_status (Some (halts.Device (faulty.Bad file slot))) = 4
-stopped_status (Some (halts.Unlaid key)) = 5
-stopped_status (Some halts.Unworked) = 5
-stopped_status (Some halts.Lost) = 5
-stopped_status (Some (halts.Unsound key)) = 4
-
--- A database wasn't opened over a slot of a file that is none of its kind,
-abbrev pub IsBadOpening : Option OpeningFault → Type 0
-IsBadOpening unopened = (file : FileId) × (slot : ℕ) × (unopened ≡ Some (fault.Bad file slot))
-
--- sessions were stopped over such a slot,
-abbrev pub IsOverSlot : Option Halt → Type 0
-IsOverSlot halt = (file : FileId) × (slot : ℕ) × (halt ≡ Some (halts.Device (faulty.Bad file slot)))
-
--- or over a line with which what is known agrees with no sound database.
-abbrev pub IsOverLine : Option Halt → Type 0
-IsOverLine halt = (key : Dbkey) × (halt ≡ Some (halts.Unsound key))
 
 -- Why scripts end with status 4: at the opening a slot was none of its kind (so a kept image has used up its numbers), or the sessions were stopped so.
 abbrev pub IsNoDatabase : View → Option Halt → Type 0

@@ -2,9 +2,11 @@
 ghost use Rattle.std.specs.Prelude.{◌≡◌, ◌⊎◌, true, false, None, Some, [], ◌++◌};
 ghost use Rattle.rdb_outside.specs.Causes.{Rose};
 ghost use Rattle.script_streams.specs.Fronts.{WritesFront};
-ghost use Rattle.rdb_top.specs.Runs.{IsBadOpening, IsOverLine, IsOverSlot, IsWhole, IsWritten, has_death, is_script_status, stopped_status, transcripts, unopened_status};
+ghost use Rattle.workload_replies.specs.Replies.{has_death};
+ghost use Rattle.rdb_top.specs.Runs.{IsWhole, IsWritten, is_script_status, transcripts};
+ghost use Rattle.workload_runs.specs.Statuses.{IsBadOpening, IsOverLine, IsOverSlot, stopped_status};
 
-use crate::scripts::{some_died, write_transcripts};
+use crate::scripts::write_transcripts;
 use crate::stopping::status_stopped;
 use line_cluster::Halt;
 use line_opening::OpeningFault;
@@ -14,6 +16,8 @@ use rdb_account::{Event, Events};
 use rdb_outside::Sink;
 use rdb_types::Items;
 use std::alloc::Global;
+use workload_replies::some_died;
+use workload_runs::status_of_fault;
 
 /// How a run ended, and what happened in it.
 #[derive(Drop)]
@@ -25,16 +29,6 @@ pub struct Finish<D: Drop> {
     pub earlier: Items<Events>,
     /// Why the sessions were stopped, if they were.
     pub halt: Option<Halt>,
-}
-
-fn status_unopened(fault: OpeningFault) -> u8
-    ensures { result ≡ unopened_status fault }
-{
-    match fault {
-        OpeningFault::Failed => 3,
-        OpeningFault::NoMemory => 5,
-        OpeningFault::Bad(_, _) => 4,
-    }
 }
 
 /// What is handed back of a command that says no script.
@@ -101,7 +95,7 @@ pub fn finish_scripts<D: Drop, K: Sink>(
         halt,
     } = ran;
     let (status, halt) = match fault {
-        Some(fault) => (status_unopened(fault), None),
+        Some(fault) => (status_of_fault(fault), None),
         None => {
             if is_whole {
                 let written = write_transcripts(alloc, events.as_slice(), sessions, out);

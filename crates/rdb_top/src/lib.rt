@@ -8,6 +8,7 @@ mod recovering;
 mod scripts;
 mod stopping;
 mod top;
+mod working;
 
 pub use finishing::Finish;
 pub use top::run;

@@ -2,37 +2,17 @@
 ghost use Rattle.std.specs.Prelude.{◌≡◌, ◌≢◌, ◌≤◌, ◌<◌, ◌^◌, ◌⊎◌, ◌++◌, ℕ, true, length, All, IfOk, IsOk, OnOk, IsErrOf};
 ghost use Rattle.rdb_outside.specs.Causes.{Rose};
 ghost use Rattle.rdb_drive.specs.Boards.{IsSession};
+ghost use Rattle.script_queues.specs.Scripts.{whole_script};
 ghost use Rattle.script_streams.specs.Fronts.{WritesFront};
-ghost use Rattle.rdb_top.specs.Runs.{has_death, scripts_of, transcripts, whole_script};
+ghost use Rattle.rdb_top.specs.Runs.{scripts_of, transcripts};
 
 use rdb_account::{Event, transcript};
 use rdb_outside::{Sink, Source};
 use rdb_types::{Bytes, NoMemory, Session};
-use rdo_parser::Script;
+use script_queues::script_of;
 use script_streams::{ReadStop, read_script, write_all};
-use session_states::{ItemQueue, WholeScript};
+use session_states::WholeScript;
 use std::alloc::Global;
-
-// The script of a text.
-fn script_of(alloc: Global, text: &[u8]) -> Result<WholeScript, NoMemory>
-    requires { length text.now < 2 ^ 31 }
-    ensures { IfOk result (λ whole. whole ≡ whole_script text.now) }
-{
-    let mut items = ItemQueue::new(alloc);
-    let mut script = Script::new(text);
-    loop {
-        match script.next_item(alloc) {
-            Err(e) => return Err(e),
-            Ok(None) => {
-                return Ok(WholeScript {
-                    items,
-                    stops: script.stops(),
-                });
-            }
-            Ok(Some(item)) => items.push(item)?,
-        }
-    }
-}
 
 // The script of a session.
 fn read_whole<S: Source>(
@@ -77,13 +57,6 @@ pub fn read_scripts<S: Source>(
         }
     }
     Ok(scripts)
-}
-
-/// Whether some session died.
-pub fn some_died(events: &[Event]) -> bool
-    ensures { result ≡ has_death events.now }
-{
-    events.iter().any(|event| matches!(event, Event::Died(..)))
 }
 
 // All transcripts, one after another.

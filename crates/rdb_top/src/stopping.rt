@@ -2,7 +2,8 @@
 ghost use Rattle.std.specs.Prelude.{◌≡◌, ◌⊎◌, true, None, Some};
 ghost use Rattle.rdb_outside.specs.Causes.{Rose};
 ghost use Rattle.script_streams.specs.Fronts.{WritesFront};
-ghost use Rattle.rdb_top.specs.Runs.{stopped_status, transcripts};
+ghost use Rattle.rdb_top.specs.Runs.{transcripts};
+ghost use Rattle.workload_runs.specs.Statuses.{stopped_status};
 
 use crate::scripts::write_transcripts;
 use line_cluster::Halt;
@@ -12,17 +13,7 @@ use rdb_account::Event;
 use rdb_outside::{Disk, Sink};
 use std::alloc::Global;
 use watched_disk::{Beginning, WatchedDisk};
-
-// Why the sessions were stopped. A device call that failed is told where the watch saw one. (Where one stopped them it did.)
-fn seen(halt: Option<Halt>, has_failed: bool) -> Option<Halt>
-    ensures halt { (result ≡ halt) ⊎ (result ≡ None) }
-    ensures failed { result ≡ Some (Halt.Device Fault.Failed) → has_failed ≡ true }
-{
-    match halt {
-        Some(Halt::Device(Fault::Failed)) if !has_failed => None,
-        _ => halt,
-    }
-}
+use workload_runs::{seen, status_of_halt};
 
 /// What was run over a watched disk, over the disk. That a call of it stopped the sessions is told where one failed.
 pub fn unwatched<B: Beginning, D: Disk + Drop>(ran: LineRun<WatchedDisk<B, D>>) -> LineRun<D>
@@ -50,17 +41,6 @@ pub fn unwatched<B: Beginning, D: Disk + Drop>(ran: LineRun<WatchedDisk<B, D>>) 
     }
 }
 
-fn status_at_halt(halt: Option<Halt>) -> u8
-    ensures { result ≡ stopped_status halt }
-{
-    match halt {
-        Some(Halt::Device(Fault::Failed)) => 3,
-        Some(Halt::Device(Fault::Bad(_, _))) => 4,
-        Some(Halt::Unsound(_)) => 4,
-        _ => 5,
-    }
-}
-
 /// The status of a run whose sessions were stopped. Where a device failed in a recovery, or a slot or a line is none of its kind, what they were answered is written still.
 pub fn status_stopped<K: Sink>(
     alloc: Global,
@@ -72,7 +52,7 @@ pub fn status_stopped<K: Sink>(
     ensures status { result ≡ stopped_status halt }
     ensures front { K.tells out.old ≡ true → WritesFront (K.taken out.old) (K.taken out.new) (transcripts sessions events.now) }
 {
-    let status = status_at_halt(halt);
+    let status = status_of_halt(halt);
     if status != 5 {
         let _written = write_transcripts(alloc, events, sessions, out);
     }

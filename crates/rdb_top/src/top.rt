@@ -14,11 +14,11 @@ ghost use Rattle.rdb_drive.specs.Boards.{IsSession, MayDie};
 ghost use Rattle.rdb_account.specs.Events.{event_of};
 ghost use Rattle.rdb_account.specs.Legal.{IsLegal};
 ghost use Rattle.line_cluster.specs.Deaths.{RoseBy, device_deaths, failures};
-ghost use Rattle.line_cluster.specs.Sound.{FollowsScripts, MayFail, is_unsound};
+ghost use Rattle.line_cluster.specs.Sound.{FollowsScripts, MayFail, is_over_slot, is_unsound};
 ghost use Rattle.line_cluster.specs.Turned.{HaveAllEnded};
 ghost use Rattle.line_drive.specs.Boards.{mortals_of};
 ghost use Rattle.line_drive.specs.Turns.{KeepsTurns};
-ghost use Rattle.line_runs.specs.Openings.{HasNoNumbers, OpensWith, said_to};
+ghost use Rattle.line_runs.specs.Openings.{HasNoNumbers, HasSpent, OpensWith, said_to};
 ghost use Rattle.line_runs.specs.Prefix.{HoldsAll, HoldsPrefix};
 ghost use Rattle.backup_making.specs.Making.{file_of as backup_named};
 ghost use Rattle.database_opening.specs.Others.{KeepsFile};
@@ -28,9 +28,13 @@ ghost use Rattle.rmu_recover.specs.Recovering.{IsOther as IsBesideRoll};
 ghost use Rattle.rmu_keeping.specs.Keeping.{is_keeping_status, IsKept, MayBeOpened, MayBeRestored, BacksUp, BacksUpWithin, CopiesJournal, CopiesJournalWithin, Restores, RestoresWithin};
 ghost use Rattle.rmu_keeping.specs.Rolling.{is_recover_status, HasRolled, MayBeRecovered, LacksGroup, IsUsed, Rolls, RollsWithin, TellsGroups};
 ghost use Rattle.rmu_commands.specs.Usable.{HasRootInUse, IsUsable, IsDumped};
-ghost use Rattle.rmu_commands.specs.Written.{Verifies, Dumps, DumpsPage, IsCleanDatabase, is_verify_status, is_dump_status};
-ghost use Rattle.rdb_top.specs.Runs.{IsNoDatabase, IsRun, IsWhole, IsWritten, has_death, OfSomeScripts, keeps_copies, rolls_forward, is_status, is_script_status, status_at, scripts_of, stopped_status, transcripts, sessions_of};
+ghost use Rattle.rmu_commands.specs.Written.{HasText, Verifies, Dumps, DumpsPage, IsCleanDatabase, is_verify_status, is_dump_status};
+ghost use Rattle.workload_replies.specs.Replies.{has_death};
+ghost use Rattle.rdb_top.specs.Runs.{IsNoDatabase, IsRun, IsWhole, IsWritten, OfSomeScripts, is_workload, keeps_copies, rolls_forward, is_status, is_script_status, status_at, scripts_of, transcripts, sessions_of};
 ghost use Rattle.rdb_top.specs.Deaths.{letting};
+ghost use Rattle.rdb_top.specs.Workloads.{AreWorkloadRuns, LeavesAll, LeavesRuns};
+ghost use Rattle.workload_runs.specs.Reports.{Reports};
+ghost use Rattle.workload_runs.specs.Statuses.{is_unharmed, is_workload_status, have_death, stopped_status};
 
 use crate::dying::Dying;
 use crate::finishing::{Finish, finish_scripts, unsaid};
@@ -38,6 +42,7 @@ use crate::making::run_new;
 use crate::recovering::run_recover;
 use crate::scripts::read_scripts;
 use crate::stopping::unwatched;
+use crate::working::{Task, run_workload};
 use command_words::{Command, Scripts, command_of, order_of};
 use lent_values::{Naming, Opened};
 use line_cluster::{Halt, Origin};
@@ -111,6 +116,7 @@ fn run_of<
     ensures harmed { O.told → RoseBy (failures (map event_of result.events) result.halt) (D.view disk).faults (D.view result.disk).faults }
     ensures stopped { result.halt ≡ Some (Halt.Device Fault.Failed) → Rose (D.view disk).faults (D.view result.disk).faults }
     ensures agrees { O.told → is_unsound result.halt ≡ false }
+    ensures used_up { O.told → is_over_slot result.halt ≡ true → HasSpent (D.view result.disk) }
     ensures unsaid { (result.fault ≡ None → ⊥) → result.events ≡ [] }
     ensures failed { result.fault ≡ Some OpeningFault.Failed → Rose (D.view disk).faults (D.view result.disk).faults }
     ensures bad { (file : File) (slot : ℕ) → result.fault ≡ Some (OpeningFault.Bad file slot) → HasNoNumbers (D.view disk) }
@@ -178,6 +184,7 @@ fn say_scripts<R: Threads + Wait + Sync, O: Origin, D: Disk + Drop + Send, G: Ga
     ensures harmed { O.told → RoseBy (failures (map event_of result.events) result.halt) (D.view disk).faults (D.view result.disk).faults }
     ensures stopped { result.halt ≡ Some (Halt.Device Fault.Failed) → Rose (D.view disk).faults (D.view result.disk).faults }
     ensures agrees { O.told → is_unsound result.halt ≡ false }
+    ensures used_up { O.told → is_over_slot result.halt ≡ true → HasSpent (D.view result.disk) }
     ensures unsaid { (result.fault ≡ None → ⊥) → result.events ≡ [] }
     ensures failed { result.fault ≡ Some OpeningFault.Failed → Rose (D.view disk).faults (D.view result.disk).faults }
     ensures bad { (file : File) (slot : ℕ) → result.fault ≡ Some (OpeningFault.Bad file slot) → HasNoNumbers (D.view disk) }
@@ -230,6 +237,7 @@ fn run_rdo<
     ensures refused { result.status ≡ 4 → IsNoDatabase (D.view disk) result.halt }
     ensures halted { (why : Halt) → result.halt ≡ Some why → result.status ≡ stopped_status (Some why) }
     ensures agrees { O.told → is_unsound result.halt ≡ false }
+    ensures used_up { O.told → is_over_slot result.halt ≡ true → HasSpent (D.view result.disk) }
     ensures sink { result.status ≡ 6 → Rose (K.faults out.old) (K.faults out.new) }
     ensures long { S.tells scripts.old ≡ true → result.status ≡ 10 → (s : ℕ) × IsSession asked.entry.given.count s × (1048576 < length (S.left scripts.old s)) }
     ensures too_long { S.tells scripts.old ≡ true → (s : ℕ) → IsSession asked.entry.given.count s → 1048576 < length (S.left scripts.old s) →
@@ -264,7 +272,7 @@ fn run_rdo<
     }
 }
 
-/// Runs a command: `NEW` makes a database, `RDO` says 1 to 16 scripts to a database, each by a session of its own, `RMU/VERIFY` lists the faults of a database, `RMU/DUMP` and `RMU/DUMP/PAGE` tell what it holds, `RMU/BACKUP` and `RMU/BACKUP/AFTER_JOURNAL` copy a database and its journal, `RMU/RESTORE` makes a database of a backup, and `RMU/RECOVER` rolls it forward over its journals.
+/// Runs a command: `NEW` makes a database, `RDO` says 1 to 16 scripts to a database, each by a session of its own, `RMU/VERIFY` lists the faults of a database, `RMU/DUMP` and `RMU/DUMP/PAGE` tell what it holds, `RMU/BACKUP` and `RMU/BACKUP/AFTER_JOURNAL` copy a database and its journal, `RMU/RESTORE` makes a database of a backup, `RMU/RECOVER` rolls it forward over its journals, and `WORKLOAD` makes a database, has sessions of its own work in it and verifies it.
 pub fn run<R, O, D, S, K, G>(
     rt: &R,
     alloc: Global,
@@ -286,7 +294,7 @@ where
     // The gate has a session die only where the origin lets it.
     requires mortal { MayFail O.opening }
     requires mortals { (given : GivenScripts) → command_for words.now ≡ Some (Command.Rdo given) → MayDie (G.mortals gate.now) (mortals_of O.opening given.count) }
-    ensures earlier { result.earlier ≡ [] }
+    ensures earlier { is_workload (command_for words.now) ≡ false → result.earlier ≡ [] }
     ensures status { is_status result.status ≡ true }
     // The words are in no row of the table.
     ensures words { result.status ≡ 1 ↔ command_for words.now ≡ None }
@@ -329,9 +337,9 @@ where
     ensures left { (given : GivenScripts) → command_for words.now ≡ Some (Command.Rdo given) → O.told → S.tells scripts.old ≡ true → IsWhole result.status →
         HoldsAll ⟦<ReservingStatements as Statements>⟧.stands (said_to (letting given.death O.opening) (word_of words.now) (scripts_of (S.left scripts.old) given.count)) (D.view result.disk) (map event_of result.events) }
     // What was written are the transcripts in the order of the sessions, or a front of them, but for the commands that write what they read or how far they rolled.
-    ensures written { only_reads (command_for words.now) ≡ false → rolls_forward (command_for words.now) ≡ false → K.tells out.old ≡ true → IsWritten result.status →
+    ensures written { only_reads (command_for words.now) ≡ false → rolls_forward (command_for words.now) ≡ false → is_workload (command_for words.now) ≡ false → K.tells out.old ≡ true → IsWritten result.status →
         K.taken out.new ≡ K.taken out.old ++ transcripts (sessions_of (command_for words.now)) result.events }
-    ensures front { only_reads (command_for words.now) ≡ false → rolls_forward (command_for words.now) ≡ false → K.tells out.old ≡ true →
+    ensures front { only_reads (command_for words.now) ≡ false → rolls_forward (command_for words.now) ≡ false → is_workload (command_for words.now) ≡ false → K.tells out.old ≡ true →
         WritesFront (K.taken out.old) (K.taken out.new) (transcripts (sessions_of (command_for words.now)) result.events) }
     // Every crash behind NEW leaves the new database.
     ensures made { (limits : Limits) → command_for words.now ≡ Some (Command.New limits) → result.status ≡ 0 →
@@ -371,17 +379,20 @@ where
     // VERIFY and DUMP change nothing, at any moment.
     ensures reads { only_reads (command_for words.now) ≡ true → OnlyReads (D.view disk) (D.view result.disk) }
     // Some fault is listed.
-    ensures faults { result.status ≡ 7 → command_for words.now ≡ Some Command.Verify }
+    ensures faults { result.status ≡ 7 → (command_for words.now ≡ Some Command.Verify) ⊎ (is_workload (command_for words.now) ≡ true) }
     // A database can't be read or opened.
     ensures unread_root { result.status ≡ 4 → (only_reads (command_for words.now) ≡ true) ⊎ (keeps_copies (command_for words.now) ≡ true)
-        ⊎ (rolls_forward (command_for words.now) ≡ true) ⊎ ((given : GivenScripts) × (command_for words.now ≡ Some (Command.Rdo given))) }
+        ⊎ (rolls_forward (command_for words.now) ≡ true) ⊎ ((given : GivenScripts) × (command_for words.now ≡ Some (Command.Rdo given)))
+        ⊎ (is_workload (command_for words.now) ≡ true) }
     // Scripts: a database that a crash of this engine may leave is opened, but where its numbers are used up, and its sessions are
-    // stopped only over a slot that is none of its kind, or a line.
+    // stopped only over a slot, or a line.
     ensures refused { (given : GivenScripts) → command_for words.now ≡ Some (Command.Rdo given) → result.status ≡ 4 → IsNoDatabase (D.view disk) result.halt }
     // Sessions that were stopped have the status of what stopped them.
     ensures halted { (why : Halt) → result.halt ≡ Some why → result.status ≡ stopped_status (Some why) }
     // Over a disk whose lines stand for tables none are stopped over a line.
     ensures agrees { O.told → is_unsound result.halt ≡ false }
+    // They are stopped over a slot only where each root that a crash may leave has used up the numbers of transactions.
+    ensures used_up { O.told → is_over_slot result.halt ≡ true → HasSpent (D.view result.disk) }
     // VERIFY: its root isn't one in use, or the header of a journal is none.
     ensures unverified { command_for words.now ≡ Some Command.Verify → result.status ≡ 4 →
         IsTrue (D.view disk).tells → IsUsable (D.view disk).content → ⊥ }
@@ -459,14 +470,45 @@ where
     // Nothing is said by RECOVER, and its statuses.
     ensures roll_silent { rolls_forward (command_for words.now) ≡ true → result.events ≡ [] }
     ensures roll_statuses { rolls_forward (command_for words.now) ≡ true → is_recover_status result.status ≡ true }
+    // WORKLOAD: the accounts, earlier ones and the last, are those of runs of its scripts, one after another. Each is legal; the first
+    // begins with no tables, each next one with those that the one before has committed; all sessions of each but the last came to
+    // their ends. Who dies is a session whose device call fails, or one that the gate names.
+    ensures workload_runs { (accounts : ℕ) → command_for words.now ≡ Some (Command.Workload accounts) → IsTrue (D.view disk).tells → IsUnmade (D.view disk) →
+        AreWorkloadRuns words.now (G.mortals gate.now) accounts result.status result.earlier result.events }
+    // There are three where there is a report, and nobody died in them.
+    ensures workload_three { is_workload (command_for words.now) ≡ true → HasText result.status → length result.earlier ≡ 2 }
+    ensures workload_lived { is_workload (command_for words.now) ≡ true → HasText result.status → (have_death result.earlier ≡ false) × (has_death result.events ≡ false) }
+    // It writes what the last run has counted, and how many faults the database has; status 7 says that there are some.
+    ensures workload_reports { is_workload (command_for words.now) ≡ true →
+        Reports (D.view result.disk) result.events result.status (K.tells out.old ≡ true) (K.taken out.old) (K.taken out.new) }
+    // As many device calls failed in it as sessions died of a device, and under status 3 one more.
+    ensures workload_harmed { is_workload (command_for words.now) ≡ true → IsTrue (D.view disk).tells → IsUnmade (D.view disk) →
+        RoseBy (device_deaths (map event_of result.events)) (D.view disk).faults (D.view result.disk).faults }
+    ensures workload_stopped { is_workload (command_for words.now) ≡ true → IsTrue (D.view disk).tells → IsUnmade (D.view disk) → result.status ≡ 3 →
+        RoseBy (device_deaths (map event_of result.events) + 1) (D.view disk).faults (D.view result.disk).faults }
+    // It leaves a database that there is as it is.
+    ensures workload_standing { is_workload (command_for words.now) ≡ true → IsTrue (D.view disk).tells → HasRoot (D.view disk).content →
+        ((result.status ≡ 3) ⊎ (result.status ≡ 5) ⊎ (result.status ≡ 9)) × Keeps (D.view disk) (D.view result.disk) }
+    // A crash leaves a prefix of the account of the last of its runs, which begins with the tables that the run before has committed, or all
+    // of it. Where none was begun, it leaves no database or a new one, or one without tables.
+    ensures workload_images { (accounts : ℕ) → command_for words.now ≡ Some (Command.Workload accounts) → IsTrue (D.view disk).tells → IsUnmade (D.view disk) →
+        LeavesRuns ⟦<ReservingStatements as Statements>⟧.stands words.now (G.mortals gate.now) accounts (D.view disk) (D.view result.disk) result.status result.earlier result.events }
+    // Where every session of the last run that lived came to its end, all of it.
+    ensures workload_left { (accounts : ℕ) → command_for words.now ≡ Some (Command.Workload accounts) → IsTrue (D.view disk).tells → IsUnmade (D.view disk) →
+        LeavesAll ⟦<ReservingStatements as Statements>⟧.stands words.now (G.mortals gate.now) accounts (D.view result.disk) result.status result.earlier result.events }
+    // It is refused only where the database that it leaves has used up its numbers.
+    ensures workload_refused { is_workload (command_for words.now) ≡ true → IsTrue (D.view disk).tells → IsUnmade (D.view disk) → result.status ≡ 4 →
+        HasNoNumbers (D.view result.disk) }
+    // Where no call on the disk or the sink failed it ends with 0, 4, 5, 7 or 8.
+    ensures workload_unharmed { is_workload (command_for words.now) ≡ true → IsTrue (D.view disk).tells → IsUnmade (D.view disk) →
+        (Rose (D.view disk).faults (D.view result.disk).faults → ⊥) → (Rose (K.faults out.old) (K.faults out.new) → ⊥) → is_unharmed result.status ≡ true }
+    // Its statuses.
+    ensures workload_statuses { is_workload (command_for words.now) ≡ true → is_workload_status result.status ≡ true }
 {
     let mut disk = disk;
     match command_of(words) {
         None => unsaid(alloc, 1, disk),
-        Some(Command::New(limits)) => {
-            let status = run_new(&mut disk, limits);
-            unsaid(alloc, status, disk)
-        }
+        Some(Command::New(limits)) => unsaid(alloc, run_new(&mut disk, limits), disk),
         Some(Command::Verify) => {
             let status = verify_command(alloc, &mut disk, out);
             unsaid(alloc, status, disk)
@@ -494,6 +536,10 @@ where
         Some(Command::Recover(_)) => {
             let status = run_recover(alloc, words, &mut disk, out);
             unsaid(alloc, status, disk)
+        }
+        Some(Command::Workload(accounts)) => {
+            let task = Task { words, accounts };
+            run_workload::<R, Brand, D, K, G>(rt, alloc, task, disk, out, gate)
         }
         Some(Command::Rdo(given)) => {
             let asked = Asked { words, given };

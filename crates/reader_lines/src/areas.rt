@@ -1,11 +1,13 @@
 // The lines of a logical area as a reader sees them.
 ghost use Rattle.std.specs.Prelude.{◌≡◌, ℕ, List, Option, IfOk, OnOk, IsErrOf, IsTrue};
+ghost use Rattle.rdb_types.specs.declared.file.FileId.{FileId as File};
 ghost use Rattle.rdb_outside.specs.Causes.{Rose};
 ghost use Rattle.rdb_outside.specs.Disk.{OnlyReads};
 ghost use Rattle.rdb_page.specs.Page.{IsOwner};
 ghost use Rattle.line_view.specs.Knowledge.{Lines, IsInOrder, line_in, lines_in};
-ghost use Rattle.line_store.specs.declared.answers.Fault.TheVariants.{Failed};
+ghost use Rattle.line_store.specs.declared.answers.Fault.TheVariants.{Failed, Bad};
 ghost use Rattle.disk_seats.specs.Ledgers.{Ledger};
+ghost use Rattle.disk_seats.specs.Members.{LedgerFacts};
 ghost use Rattle.committed_tables.specs.Tables.{WereUsed};
 ghost use Rattle.seen_lines.specs.Seen.{IsOfArea, with_found};
 ghost use Rattle.reader_lines.specs.Readers.{IsReader};
@@ -33,6 +35,9 @@ fn gather<D: Disk>(
     ensures gathers { OnOk result ((image : Option (List ℕ)) × (found.new ≡ with_found key image found.old)
         × (IsTrue (D.view disk.old).tells → (ledger : Ledger) (lines : Lines)
         → IsReader (D.view disk.old) ledger limit reader.now lines → image ≡ line_in key lines)) }
+    ensures bad { (file : File) (slot : ℕ) → IsErrOf result (ReadStop.Fault (Bad file slot))
+        → IsTrue (D.view disk.old).tells → (ledger : Ledger)
+        → LedgerFacts (D.view disk.old) ledger → ⊥ }
 {
     let image = match reader_line(disk, limit, reader, key) {
         Ok(Some(image)) => image,
@@ -64,6 +69,11 @@ pub fn reader_area<D: Disk>(
         → (ledger : Ledger) (lines : Lines) (file : ℕ)
         → IsReader (D.view disk.old) ledger limit reader.now lines → IsInOrder lines
         → IsOwner file area → WereUsed table.now file lines → found ≡ lines_in area lines) }
+
+    // No slot is refused.
+    ensures bad { (file : File) (slot : ℕ) → IsErrOf result (ReadStop.Fault (Bad file slot))
+        → IsTrue (D.view disk.old).tells → (ledger : Ledger)
+        → LedgerFacts (D.view disk.old) ledger → ⊥ }
 {
     let mut found = Entries::new(alloc);
     let mut from = None;

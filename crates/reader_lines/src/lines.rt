@@ -1,9 +1,11 @@
 // One line as a reader sees it.
-ghost use Rattle.std.specs.Prelude.{◌≡◌, IfOk, IsErrOf, IsTrue};
+ghost use Rattle.std.specs.Prelude.{◌≡◌, ℕ, IfOk, IsErrOf, IsTrue};
+ghost use Rattle.rdb_types.specs.declared.file.FileId.{FileId as File};
 ghost use Rattle.rdb_outside.specs.Causes.{Rose};
 ghost use Rattle.rdb_outside.specs.Disk.{OnlyReads};
 ghost use Rattle.line_view.specs.Knowledge.{Lines, line_in};
 ghost use Rattle.disk_seats.specs.Ledgers.{Ledger};
+ghost use Rattle.disk_seats.specs.Members.{LedgerFacts};
 ghost use Rattle.reader_lines.specs.Readers.{IsReader};
 
 use line_moves::place_of;
@@ -25,6 +27,11 @@ pub fn reader_line<D: Disk>(
         → Rose (D.view disk.old).faults (D.view disk.new).faults }
     ensures seen { IfOk result (λ image. IsTrue (D.view disk.old).tells → (ledger : Ledger) (lines : Lines)
         → IsReader (D.view disk.old) ledger limit reader.now lines → image ≡ line_in key lines) }
+
+    // No slot is refused.
+    ensures bad { (file : File) (slot : ℕ) → IsErrOf result (Fault.Bad file slot)
+        → IsTrue (D.view disk.old).tells → (ledger : Ledger)
+        → LedgerFacts (D.view disk.old) ledger → ⊥ }
 {
     let Some(place) = place_of(key) else {
         return Ok(None);

@@ -7,4 +7,4 @@ mod stored;
 
 pub use laws::rows_of_the_lesser_class_are_short;
 pub use reading::{row, rows};
-pub use stored::{Rows, StoredRelation, StoredRow};
+pub use stored::{Rows, StoredRelation, StoredRow, are_values_of};

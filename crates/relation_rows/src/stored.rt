@@ -45,7 +45,8 @@ fn is_value_of(kind: &FieldType, value: &Value) -> bool
     }
 }
 
-fn are_values_of(fields: &[Field], values: &[Value]) -> bool
+/// Whether each value may stand in the field of its place; there may be fewer values than fields.
+pub fn are_values_of(fields: &[Field], values: &[Value]) -> bool
     ensures { result ≡ may_stand fields.now values.now }
 {
     let mut left = fields;

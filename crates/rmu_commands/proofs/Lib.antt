@@ -1,1 +1,1 @@
-mod Statuses
+pub mod Statuses

@@ -1,7 +1,7 @@
 -- The keys that a search is for follow one another.
-use Rattle.sorted_index.specs.declared.bounds.Wanted.{Wanted}
-use Rattle.sorted_index.specs.declared.bounds.Wanted.TheVariants.{Key, Within}
-use Rattle.sorted_index.specs.Wanted.{interval_of}
+use Rattle.node_search.specs.declared.wanted.Wanted.{Wanted}
+use Rattle.node_search.specs.declared.wanted.Wanted.TheVariants.{Key, Within}
+use Rattle.node_search.specs.Wanted.{interval_of}
 use Rattle.sorted_index_laws.proofs.Intervals.{IsConvex, one_convex, bounds_convex}
 
 pub convex : (w : Wanted) → IsConvex (interval_of w)

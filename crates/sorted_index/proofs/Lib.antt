@@ -1,1 +1,2 @@
 pub mod Convex
+pub mod Gone

@@ -1,7 +1,6 @@
 //! Sorted indexes over a view of the lines that their nodes stand on.
 #![tactic(auto)]
 
-mod bounds;
 mod growth;
 mod insertion;
 mod nodes;

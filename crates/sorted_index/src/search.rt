@@ -1,77 +1,67 @@
 // Searches of an index for its pairs.
 ghost use Rattle.std.specs.Prelude.{◌≡◌, ◌++◌, ℕ, IfErr, OnOk};
+ghost use Rattle.index_node.specs.declared.node.IndexNode.{IndexNode};
 ghost use Rattle.line_view.specs.declared.stop.Stop.TheVariants.{NoMemory};
 ghost use Rattle.line_view.specs.Knowledge.{Lines, Agrees};
+ghost use Rattle.node_search.specs.Nodes.{Holds};
+ghost use Rattle.node_search.specs.Wanted.{interval_of};
 ghost use Rattle.sorted_index_laws.specs.Keys.{only, between};
-ghost use Rattle.sorted_index.specs.Wanted.{interval_of};
 ghost use Rattle.sorted_index_laws.specs.Tree.{Tree, node_of, pairs, Stands, IsIndex};
-ghost use Rattle.sorted_index_laws.specs.Search.{rows_within, may_hold as may_hold_of, reads_below, reads, Answers};
+ghost use Rattle.sorted_index_laws.specs.Search.{rows_within, reads_below, reads, Answers};
 ghost use Rattle.sorted_index_laws.specs.Nodes.{Judges, JudgesIndex};
 ghost use Rattle.sorted_index_laws.specs.Inner.Steps.{Adds};
 
 use crate::IndexStop;
-use crate::bounds::Wanted;
-use crate::nodes::{child_at, node_at};
-use index_node::{IndexNode, NodeEntry};
+use crate::nodes::{borrowed_at, borrowed_child};
 use line_view::View;
+use node_search::{BorrowedNode, Wanted, first_entry, next_entry, wanted_child};
 use rdb_types::{Dbkey, Keys, Value};
 use sorted_index_laws::Bounds;
 use std::alloc::Global;
 
-fn add_rows(entries: &[NodeEntry], wanted: Wanted<'_>, found: &mut Keys) -> Result<(), IndexStop>
-    ensures ok { OnOk result (found.new ≡ found.old ++ rows_within (interval_of wanted.entry) entries.now) }
+// Adds the rows of the entries of a node.
+fn add_rows(node: BorrowedNode<'_>, wanted: Wanted<'_>, found: &mut Keys) -> Result<(), IndexStop>
+    ensures ok { OnOk result ((shown : IndexNode) → Holds node.entry shown → found.new ≡ found.old ++ rows_within (interval_of wanted.entry) shown.entries) }
     ensures err { IfErr result (λ stop. stop ≡ NoMemory) }
 {
-    for entry in entries {
-        if wanted.holds(entry.key.as_slice()) {
-            found.push(entry.row)?;
+    let mut next = first_entry(node);
+    while let Some(own) = next {
+        if wanted.holds(own.entry.key) {
+            found.push(own.entry.row)?;
         }
+        next = next_entry(node, own);
     }
     Ok(())
 }
 
-// Whether a pair that is wanted may stand below the first of these entries, given whether it is the first of its node.
-fn may_hold(wanted: Wanted<'_>, is_first: bool, entries: &[NodeEntry]) -> bool
-    ensures { result ≡ may_hold_of (interval_of wanted.entry) is_first entries.now }
-{
-    match entries {
-        [] => false,
-        [own] => is_first || !wanted.is_above(own.key.as_slice()),
-        [own, next, ..] => {
-            (is_first || !wanted.is_above(own.key.as_slice()))
-                && !wanted.is_below(next.key.as_slice())
-        }
-    }
-}
-
 // Adds the rows of the pairs below a node.
 fn search_below<V: View>(
-    alloc: Global,
     view: &V,
-    node: &IndexNode,
+    node: BorrowedNode<'_>,
     wanted: Wanted<'_>,
     found: &mut Keys,
 ) -> Result<(), IndexStop>
     ensures adds { (all : Lines) (area level : ℕ) (tree : Tree level) → Agrees (V.knows view.now) all
-        → Stands all area level tree → node_of level tree ≡ node.now
+        → Stands all area level tree → Holds node.entry (node_of level tree)
         → Adds (V.knows view.now) (reads_below (interval_of wanted.entry) level tree)
         (rows_within (interval_of wanted.entry) (pairs level tree)) found.old found.new result }
-    ensures nodes { (all : Lines) → Agrees (V.knows view.now) all
-        → Judges all (interval_of wanted.entry) node.now.level node.now.entries result }
+    ensures nodes { (shown : IndexNode) → Holds node.entry shown → (all : Lines) → Agrees (V.knows view.now) all
+        → Judges all (interval_of wanted.entry) shown.level shown.entries result }
 {
-    let entries = node.entries.as_slice();
     if node.level == 0 {
-        return add_rows(entries, wanted, found);
+        return add_rows(node, wanted, found);
     }
-    let level = node.level - 1;
-    for (at, entry) in entries.iter().enumerate() {
-        let Some(child) = entry.child else {
+    let mut is_first = true;
+    let mut next = first_entry(node);
+    while let Some(own) = next {
+        next = next_entry(node, own);
+        let child = wanted_child(wanted, is_first, own.entry, next);
+        is_first = false;
+        let Some(child) = child else {
             continue;
         };
-        if may_hold(wanted, at == 0, &entries[at..]) {
-            let below = child_at(alloc, view, child, level)?;
-            search_below(alloc, view, &below, wanted, found)?;
-        }
+        let below = borrowed_child(view, child, node.level - 1)?;
+        search_below(view, below, wanted, found)?;
     }
     Ok(())
 }
@@ -88,9 +78,9 @@ fn search<V: View>(
         (rows_within (interval_of wanted.entry) (pairs level tree)) result }
     ensures nodes { (all : Lines) → Agrees (V.knows view.now) all → JudgesIndex all (interval_of wanted.entry) root result }
 {
-    let node = node_at(alloc, view, root)?;
+    let node = borrowed_at(view, root)?;
     let mut found = Keys::new(alloc);
-    search_below(alloc, view, &node, wanted, &mut found)?;
+    search_below(view, node, wanted, &mut found)?;
     Ok(found)
 }
 

@@ -14,3 +14,4 @@ pub use laws::{
 };
 pub use sizes::longest_key;
 pub use tables::read_tables;
+pub use versions::{version_of, versions_of};

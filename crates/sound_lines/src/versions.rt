@@ -21,10 +21,8 @@ fn add_version(
     }
 }
 
-pub(crate) fn versions_of(
-    alloc: Global,
-    lines: &[PlacedLine],
-) -> Result<Entries<Chars, u16>, NoMemory>
+/// The versions of the relations that lines of a catalog define, by their names.
+pub fn versions_of(alloc: Global, lines: &[PlacedLine]) -> Result<Entries<Chars, u16>, NoMemory>
     ensures { IfOk result (λ versions. versions ≡ versions_in lines.now) }
 {
     let mut versions = Entries::new(alloc);
@@ -35,7 +33,7 @@ pub(crate) fn versions_of(
 }
 
 /// The version of a relation, 0 where it isn't there.
-pub(crate) fn version_of(name: &Chars, versions: &Entries<Chars, u16>) -> u16
+pub fn version_of(name: &Chars, versions: &Entries<Chars, u16>) -> u16
     ensures { result ≡ version_at name.now versions.now }
 {
     match versions.find(name) {

@@ -1,8 +1,8 @@
 -- The store works for a session, in scenes.
-use Rattle.std.proofs.Common.{◌≡◌, ℕ, Bool, [], List, Ok, true, false, refl, subst}
+use Rattle.std.proofs.Common.{◌≡◌, ℕ, Bool, [], List, Ok, Option, Some, true, false, refl, subst}
 use Rattle.std.specs.Prelude.{is_some}
 use Rattle.std.proofs.lemmas.Bool.{false≢true}
-use Rattle.line_store.specs.Seats.{Seat, outside, beginning, writing, changing, prepared, committing, rolling_back, closing, reading, dead, done_at, is_committing, IsAlive, IsUnderWay}
+use Rattle.line_store.specs.Seats.{Seat, outside, beginning, writing, changing, prepared, committing, rolling_back, closing, reading, dead, done_at, is_changing, is_committing, IsAlive, IsUnderWay}
 use Rattle.line_store.specs.Shelves.{Shelf}
 use Rattle.line_store.specs.Calls.{Moves, GoesOn, Fails, IsDone, IsCommitted}
 use Rattle.line_store.specs.Sights.{Sight, Does, Steps, IsLess, seat_or, stepped_to}
@@ -19,7 +19,7 @@ use Rattle.session_states.specs.declared.stage.Life.TheVariants.{Alive}
 use Rattle.session_states.proofs.Parting.{goes-on}
 use Rattle.session_measure.specs.Nearer.{takes_next, has_out}
 use Rattle.session_measure.proofs.Nearer.{nearer-by-steps}
-use Rattle.stage_steps.specs.declared.happening.Happening.TheVariants.{Quiet, Failed}
+use Rattle.stage_steps.specs.declared.happening.Happening.TheVariants.{Quiet, Failed, Unworked}
 use Rattle.stage_steps.specs.Scenes.{Goes, ComesIn, scene, beside}
 use Rattle.stage_steps.specs.Stores.{HasGoneOn, worked_to}
 use Rattle.stage_steps.specs.Turns.{shared, Comes}
@@ -80,6 +80,25 @@ when-goes-on s seat a b x e d = subst (λ (y : Stepped). Does s (stepped_to seat
 pub when-recovered : (s : ℕ) (seat : Seat) (a b : Sight) (x : Stepped) (committed : Bool) (m : Moment) → x ≡ stepped.Recovered committed m → Does s (stepped_to seat (Ok x)) (Steps s (Ok x)) a b → Does s outside (Steps s (Ok (stepped.Recovered committed m))) a b
 when-recovered s seat a b x committed m e d = subst (λ (y : Stepped). Does s (stepped_to seat (Ok y)) (Steps s (Ok y)) a b) e d
 
+pub when-laid : (s : ℕ) (seat : Seat) (a b : Sight) (x : Stepped) → x ≡ stepped.Done → Does s (stepped_to seat (Ok x)) (Steps s (Ok x)) a b → Does s (seat_or seat (done_at seat)) (IsDone s) a b
+when-laid s seat a b x e d = subst (λ (y : Stepped). Does s (stepped_to seat (Ok y)) (Steps s (Ok y)) a b) e d
+
+pub when-astray : (s : ℕ) (seat : Seat) (a b : Sight) (x : Stepped) → x ≡ stepped.Astray → Does s (stepped_to seat (Ok x)) (Steps s (Ok x)) a b → Does s seat (λ h g. Moves s (h.seat s) h g) a b
+when-astray s seat a b x e d = subst (λ (y : Stepped). Does s (stepped_to seat (Ok y)) (Steps s (Ok y)) a b) e d
+
+-- what is undone is no change
+pub undoes-plain : (seat : Seat) → done_at seat ≡ Some outside → is_changing seat ≡ false
+undoes-plain outside h = refl
+undoes-plain beginning h = refl
+undoes-plain (writing ws) h = refl
+undoes-plain (changing ws) h = cc h
+undoes-plain (prepared ws) h = refl
+undoes-plain (committing ws) h = refl
+undoes-plain (rolling_back ws) h = refl
+undoes-plain closing h = refl
+undoes-plain (reading start) h = refl
+undoes-plain (dead commits ws) h = refl
+
 -- ---- the phase stands
 
 module _ (M : Model) (orderly : IsOrderly M) (s : ℕ) (word : List ℕ) (locks : State) (a b : Sight) (x : Phase) where
@@ -96,3 +115,7 @@ module _ (M : Model) (orderly : IsOrderly M) (s : ℕ) (word : List ℕ) (locks 
   -- a device call failed
   pub on-fault : (fault : Fault) → Does s (a.stand s) (Fails s fault) a b → ComesIn M s (scene word a locks) x (scene word b locks) x (Failed fault)
   on-fault fault d = on-move (Fails s fault) (λ h g r. r.moves) (λ left total. d.each) d
+
+  -- the store can't go on
+  pub on-astray : Does s (a.stand s) (λ h g. Moves s (h.seat s) h g) a b → ComesIn M s (scene word a locks) x (scene word b locks) x Unworked
+  on-astray d = on-move (λ h g. Moves s (h.seat s) h g) (λ h g r. r) (λ left total. tt) d

@@ -1,8 +1,8 @@
 //! The end of a read-write transaction.
-ghost use Rattle.std.specs.Prelude.{◌≡◌, ℕ, List, [], false, true, None, is_some};
+ghost use Rattle.std.specs.Prelude.{◌≡◌, ℕ, List, [], false, true, None, Some};
 ghost use Rattle.journal_waits.specs.Holders.{OthersKeepTo};
 ghost use Rattle.line_steps.specs.Images.{journal_node};
-ghost use Rattle.line_store.specs.Seats.{done_at, is_committing, IsMember, IsPrepared, IsWriting};
+ghost use Rattle.line_store.specs.Seats.{done_at, is_committing, outside, IsMember, IsPrepared, IsWriting};
 ghost use Rattle.line_store.specs.Sights.{StandsAlone};
 ghost use Rattle.lock_needs.specs.Waits.{converts_at};
 ghost use Rattle.lock_tree_laws.specs.Forest.{State, opened_of};
@@ -88,7 +88,7 @@ pub fn land<S: Statements, L: LineStore>(common: &mut Common<L>, s: Session, ter
             }
         }
         Ok(Stepped::More) => quiet(terms.at(Stage::Ending(End::Committing))),
-        Ok(Stepped::Done) | Ok(Stepped::Recovered { .. }) => unreachable!(),
+        Ok(Stepped::Done) | Ok(Stepped::Astray) | Ok(Stepped::Recovered { .. }) => unreachable!(),
         Err(fault) => failed(fault, terms.at(Stage::Ending(End::Committing))),
     }
 }
@@ -100,7 +100,7 @@ pub fn roll_back<S: Statements, L: LineStore>(
     terms: Terms,
 ) -> Turned
     requires member { IsMember s.number }
-    requires rolling_back { is_some (done_at ((L.sight common.old.store).stand s.number)) ≡ true }
+    requires rolling_back { done_at ((L.sight common.old.store).stand s.number) ≡ Some outside }
     ensures { ComesIn S.stands s.number (scene common.old.word (L.sight common.old.store) common.old.tree) (at_stage terms (Stage.Ending End.RollingBack))
         (scene common.new.word (L.sight common.new.store) common.new.tree) result.phase result.happened }
 {
@@ -124,7 +124,7 @@ pub fn go_away<S: Statements, L: LineStore>(
     terms: Terms,
 ) -> Turned
     requires member { IsMember s.number }
-    requires rolling_back { is_some (done_at ((L.sight common.old.store).stand s.number)) ≡ true }
+    requires rolling_back { done_at ((L.sight common.old.store).stand s.number) ≡ Some outside }
     ensures { ComesIn S.stands s.number (scene common.old.word (L.sight common.old.store) common.old.tree) (at_stage terms (Stage.Ending End.Leaving))
         (scene common.new.word (L.sight common.new.store) common.new.tree) result.phase result.happened }
 {

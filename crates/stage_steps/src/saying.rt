@@ -10,13 +10,12 @@ ghost use Rattle.stage_steps.specs.Scenes.{ComesIn, scene};
 ghost use Rattle.stage_steps.specs.Turns.{at_stage};
 
 use crate::common::Common;
-use crate::happening::{Answer, Happening, Turned, failed, quiet};
+use crate::happening::{Answer, Happening, Turned, failed, quiet, unworked};
 use crate::items::{is_done, stands};
 use crate::limits::refuse_at_limit;
-use crate::storing::work_on;
 use crate::terms::Terms;
 use crate::working::forgo;
-use line_store::{ChangeStop, LineStore, Progress};
+use line_store::{ChangeStop, LineStore, Stepped};
 use rdb_types::Session;
 use rdo_ast::reply::Reply;
 use rdo_ast::syntax::Item;
@@ -124,7 +123,7 @@ pub fn lay<S: Statements, L: LineStore>(
     }
 }
 
-/// The store lays the writes of a record, which is said when that is done.
+/// The store lays the writes of a record, which is said when that is done. Where it can't go on with them the statement is left unworked.
 pub fn change<S: Statements, L: LineStore>(
     store: &mut L,
     s: Session,
@@ -136,9 +135,11 @@ pub fn change<S: Statements, L: LineStore>(
     requires changing { is_some (done_at ((L.sight store.old).stand s.number)) ≡ true }
     ensures { (word : List ℕ) (locks : State) → ComesIn S.stands s.number (scene word (L.sight store.old) locks) (at_stage terms (Stage.Saying item worked Laying.Changing)) (scene word (L.sight store.new) locks) result.phase result.happened }
 {
-    match work_on(store, s) {
-        Ok(Progress::Done) => say(terms, item, worked),
-        Ok(Progress::More) => quiet(terms.at(Stage::Saying(item, worked, Laying::Changing))),
+    match store.step(s) {
+        Ok(Stepped::Done) => say(terms, item, worked),
+        Ok(Stepped::More) => quiet(terms.at(Stage::Saying(item, worked, Laying::Changing))),
+        Ok(Stepped::Astray) => unworked(terms.at(Stage::Saying(item, worked, Laying::Changing))),
+        Ok(Stepped::Committed(_)) | Ok(Stepped::Recovered { .. }) => unreachable!(),
         Err(fault) => failed(
             fault,
             terms.at(Stage::Saying(item, worked, Laying::Changing)),

@@ -245,7 +245,7 @@ impl<L: LineStore + Drop> Desk<L> {
                 self.places[s.number as usize] = Place::Outside;
                 Answer::Recovered(is_committed)
             }
-            Err(_) => Answer::Fails,
+            Ok(Stepped::Astray) | Err(_) => Answer::Fails,
         }
     }
 

@@ -4,7 +4,6 @@ use Rattle.std.specs.Prelude.{slice_get, if◌then◌else◌}
 use Rattle.rdb_types.specs.declared.file.FileId.{FileId}
 use Rattle.rdb_types.specs.declared.file.FileKind.TheVariants.{Area, Snap}
 use Rattle.rdb_outside.specs.Disk.{View, Pending}
-use Rattle.rdb_outside.specs.Causes.{Rose}
 use Rattle.area_files.specs.Areas.{IsDataPage, space_page_of}
 use Rattle.stable_lines.specs.Slots.{area_file, IsAreaFile}
 use Rattle.line_versions.specs.Files.{snap_file}
@@ -15,9 +14,7 @@ use Rattle.line_moves.proofs.PageWrite.{space_apart}
 use Rattle.line_moves.proofs.Putting.{nat_cases}
 use Rattle.line_opening.specs.Undoing.{PutsBack}
 use Rattle.line_store.specs.Shelves.{Shelf}
-use Rattle.line_store.specs.Calls.{Moves, GoesOn, HasCause}
-use Rattle.line_store.specs.declared.answers.Fault.{Fault}
-use Rattle.line_store.specs.declared.answers.Fault.TheVariants.{Failed, Bad}
+use Rattle.line_store.specs.Calls.{Moves, GoesOn}
 use Rattle.line_store.specs.Sights.{bare, Does}
 use Rattle.disk_seats.specs.Ledgers.{undoing, set_standing, stands_as, Ledger}
 use Rattle.disk_seats.specs.Members.{LedgerFacts}
@@ -146,13 +143,13 @@ module _ (v w : View) (held : StoreMemory) (s : ℕ) (m : Member) (commits : Boo
 
   -- its seat stays
   pub does-back : (R : Shelf → Shelf → Type 0) →
-      ((h g : Shelf) → Moves s (h.seat s) h g → h.steps s ≡ left + 3 → g.steps s ≡ recovery_left next n → h.clock.faults ≡ v.faults → g.clock.faults ≡ w.faults → R h g) →
+      ((h g : Shelf) (shown : Shown v held h) → IsUndone shown.ledger s m left → Moves s (h.seat s) h g → h.steps s ≡ left + 3 → g.steps s ≡ recovery_left next n → h.clock.faults ≡ v.faults → g.clock.faults ≡ w.faults → R h g) →
       Does s (stand_at held.members s) R (sight_of v held) (sight_of w (with_member s n held))
   does-back R as-asked = subst (λ x. Does s (stand_of x) R (sight_of v held) (sight_of w (with_member s n held))) (sym was)
       (does-apart v w held (record (with_member s n held) { numbers = held.numbers }) s m n was (becomes-member held held.numbers s n) (λ e. cc) only.told only.leaves put-now
       only.later only.no_fewer (stand_of (Some m)) R (ap (λ x. bare (seat_with x [] [])) (sym at))
       (λ h shown stands c is. let undone = undone-at shown.ledger stands in not_undoing v shown.ledger s shown.facts undone.all left undone.stands c is) (λ h shown stands. record { lines = refl; commit = refl }) space-same
-      (λ h g start related moves. as-asked h g
+      (λ h g start related moves. as-asked h g related.shown (undone-at related.shown.ledger related.stands)
       (subst (λ x. Moves s x h g) (ap (λ x. seat_with x (writes_in m.written.lines) start) (sym at) ∙ sym related.seat) moves)
       (related.steps ∙ ap (λ x. steps_in x m) at) related.steps_behind related.shown.lines.faults related.faults_behind))
 
@@ -187,9 +184,3 @@ module _ (v : View) (held : StoreMemory) (s : ℕ) (m : Member) (commits : Bool)
 pub fewer-left : (rest left : ℕ) (m : Member) → rest < left → recovery_left (undoing_with rest) m < left + 3
 fewer-left zero left m less = omega (arith, less)
 fewer-left (suc rest) left m less = omega (arith, less)
-
--- ---- why a call failed
-
-pub cause-of : (v w : View) (fault : Fault) (h g : Shelf) → (fault ≡ Failed → Rose v.faults w.faults) → h.clock.faults ≡ v.faults → g.clock.faults ≡ w.faults → HasCause fault h.clock g.clock
-cause-of v w Failed h g rose before behind = subst (λ (k : ℕ). Rose k g.clock.faults) (sym before) (subst (λ (k : ℕ). Rose v.faults k) (sym behind) (rose refl))
-cause-of v w (Bad file slot) h g rose before behind = tt

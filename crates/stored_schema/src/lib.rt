@@ -3,6 +3,5 @@
 
 mod indexes;
 mod schema;
-mod versions;
 
 pub use schema::Schema;

@@ -9,7 +9,6 @@ ghost use Rattle.stored_schema.specs.Indexes.{path_of, lines_on};
 ghost use Rattle.stored_schema.specs.Targets.{HasStored, HasTarget};
 
 use crate::indexes::{RelationIndexes, indexes_of};
-use crate::versions::{version_of, versions_of};
 use access_paths::IndexPath;
 use catalog::{Catalog, LogicalArea};
 use catalog_lines::IndexLine;
@@ -18,6 +17,7 @@ use rdb_types::{Chars, NoMemory};
 use relation_rows::StoredRelation;
 use row_sizes::class_of;
 use row_writes::TargetRelation;
+use sound_lines::{version_of, versions_of};
 use std::alloc::Global;
 use std::marker::Model;
 

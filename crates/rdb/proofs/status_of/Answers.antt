@@ -9,7 +9,7 @@ pub run-finish-requires-clause-mortals : goal.run-finish-requires-clause-mortals
 run-finish-requires-clause-mortals g c κs within given row s held = absurd (in-none s held)
 
 pub run-finish-requires-clause-mortal : goal.run-finish-requires-clause-mortal
-run-finish-requires-clause-mortal g c κs within s = refl
+run-finish-requires-clause-mortal g c κs within s = (refl, refl)
 
 pub run-finish-requires-clause-opens : goal.run-finish-requires-clause-opens
 run-finish-requires-clause-opens g c κs within told = absurd told

@@ -6,9 +6,8 @@ use Rattle.rdb_outside.specs.Disk.{View}
 use Rattle.stable_lines.specs.Slots.{Undo}
 use Rattle.disk_seats.specs.Ledgers.{changing, Ledger, stands_as}
 use Rattle.rdb_outside.specs.Moments.{each_slot}
-use Rattle.line_store.specs.Calls.{Fails, GoesOn}
+use Rattle.line_store.specs.Calls.{Fails, GoesOn, Moves}
 use Rattle.line_store.specs.Sights.{Does}
-use Rattle.line_store.specs.declared.answers.Fault.TheVariants.{Bad}
 use Rattle.disk_seats.specs.Members.{LedgerFacts}
 use Rattle.member_steps.specs.Journalling.{ledger_with}
 use Rattle.member_steps.specs.declared.journalling.Journalled.{Journalled}
@@ -20,8 +19,8 @@ use Rattle.disk_store.specs.Seats.{stand_at}
 use Rattle.disk_store.specs.Shown.{sight_of}
 use Rattle.disk_store.specs.ChangeSteps.{named_now, journalled_more}
 use Rattle.disk_store.proofs.Closing.{one-member}
-use Rattle.change_steps.proofs.ChangeCalls.{fault-cause, place-for, fewer-at}
-use Rattle.change_steps.proofs.JournalSteps.{does-name, named-fewer, does-journal, journalled-fewer, header-facts, does-fault}
+use Rattle.change_steps.proofs.ChangeCalls.{place-for, fewer-at}
+use Rattle.change_steps.proofs.JournalSteps.{does-name, named-fewer, does-journal, journalled-fewer, header-facts, does-astray, does-fault}
 use Rattle.change_steps.proofs.journalling.journal_key.Goals as goal
 
 behind-image : (w : View) (what : Journalled) (s : ℕ) (all : List Undo) (undo : Undo) (stable : ℕ) (g : Ledger) → what ≡ BeforeImage → LedgerFacts w (ledger_with what s all undo stable g) → LedgerFacts w (stands_as s (changing (all ++ undo ∷ []) stable) g)
@@ -50,9 +49,9 @@ returns-then-named-clause-comes g c =
     let at : m.stage ≡ stage.Changing = subst (λ (x : Member). x.stage ≡ stage.Changing) one c.requires.changes.at in
     let comes = c.set_stage.ensures.comes in
     let same : comes.0 ≡ m = one-member held.members s comes.0 m comes.1 c.member-member.ensures in
-    subst (λ (new : StoreMemory). Does s (stand_at held.members s) (λ h k. Fails s (Bad c.ruj_file.result 0) h k) (sight_of v held) (sight_of w new)) (sym (comes.2 ∙ ap (λ (x : Member). with_member s (at_stage stage.Broken x) held) same))
-    (does-fault v w held s m c.member-member.ensures c.sound.ensures at c.journal_next.ensures.writes.0 c.journal_next.ensures.writes.1
-    (λ t ledger has facts. c.journal_next.ensures.keeps t ledger has.transaction has.all has.stable facts has.stands has.is_open has.number has.count) (Bad c.ruj_file.result 0) tt)
+    subst (λ (new : StoreMemory). Does s (stand_at held.members s) (λ h k. Moves s (h.seat s) h k) (sight_of v held) (sight_of w new)) (sym (comes.2 ∙ ap (λ (x : Member). with_member s (at_stage stage.Broken x) held) same))
+    (does-astray v w held s m c.member-member.ensures c.sound.ensures at c.journal_next.ensures.writes.0 c.journal_next.ensures.writes.1
+    (λ t ledger has facts. c.journal_next.ensures.keeps t ledger has.transaction has.all has.stable facts has.stands has.is_open has.number has.count))
 
 pub returns-in-Err-clause-comes : goal.returns-in-Err-clause-comes
 returns-in-Err-clause-comes g c =
@@ -68,7 +67,7 @@ returns-in-Err-clause-comes g c =
     subst (λ (new : StoreMemory). Does s (stand_at held.members s) (λ h k. Fails s c.in-Err.fault h k) (sight_of v held) (sight_of w new)) (sym (comes.2 ∙ ap (λ (x : Member). with_member s (at_stage stage.Broken x) held) same))
     (does-fault v w held s m c.member-member.ensures c.sound.ensures at c.journal_next.ensures.writes.0 c.journal_next.ensures.writes.1
     (λ t ledger has facts. c.journal_next.ensures.keeps t ledger has.transaction has.all has.stable facts has.stands has.is_open has.number has.count) c.in-Err.fault
-    (fault-cause c.in-Err.fault (record { time = v.moment; faults = v.faults }) (record { time = w.moment; faults = w.faults }) (λ e. c.in-Err.ensures.failed (ap Err e))))
+    (λ e. c.in-Err.ensures.failed (ap Err e)) (λ h shown file slot e. c.in-Err.ensures.bad file slot (ap Err e) shown.tells (record { first = c.requires.member.first; last = c.requires.member.last }) shown.ledger shown.facts))
 
 pub returns-in-Ok-BeforeImage-clause-comes : goal.returns-in-Ok-BeforeImage-clause-comes
 returns-in-Ok-BeforeImage-clause-comes g c =

@@ -8,7 +8,6 @@ use Rattle.disk_store.specs.declared.member.MemberStage.TheVariants as stage
 use Rattle.disk_store.specs.Memory.{StoreMemory}
 use Rattle.disk_store.specs.Seats.{stand_at}
 use Rattle.disk_store.specs.Shown.{sight_of}
-use Rattle.change_steps.proofs.ChangeCalls.{fault-cause}
 use Rattle.change_steps.proofs.PushFaults.{does-push-fail}
 use Rattle.change_steps.proofs.NextPushed.{does-next-push, next-pushed-less}
 use Rattle.change_steps.proofs.pushing.push_key.Goals as goal
@@ -23,7 +22,7 @@ returns-in-Err-clause-comes g c =
     let at : off.member.stage ≡ stage.Changing = subst (λ (x : Member). x.stage ≡ stage.Changing) (same_Some c.requires.changes.member off.member (sym c.requires.changes.is ∙ off.was)) c.requires.changes.at in
     subst (λ (new : StoreMemory). Does s (stand_at held.members s) (λ h k. Fails s c.in-Err.fault h k) (sight_of v held) (sight_of w new)) (sym off.is)
     (does-push-fail v w held s off.member off.was at c.args.key off.chain off.slots off.takes c.in-Err.fault
-    (fault-cause c.in-Err.fault (record { time = v.moment; faults = v.faults }) (record { time = w.moment; faults = w.faults }) (λ e. c.in-Err.ensures.failed (ap Err e))))
+    (λ e. c.in-Err.ensures.failed (ap Err e)) (λ h shown file slot e. c.in-Err.ensures.bad file slot (ap Err e) h shown))
 
 pub returns-clause-comes : goal.returns-clause-comes
 returns-clause-comes g c =

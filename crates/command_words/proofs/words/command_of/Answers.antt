@@ -9,4 +9,4 @@ returns-in-Some-clause-allowed c =
     (ap rdo_words (sym (all_behind c.args.words.now)) ∙ sym c.rdo_words.ensures ∙ c.in-Some.is)
 
 pub returns-else-is_new-clause-allowed : goal.returns-else-is_new-clause-allowed
-returns-else-is_new-clause-allowed c = c.rmu_command.ensures.allowed c.args.words.now
+returns-else-is_new-clause-allowed c = c.other_command.ensures.allowed c.args.words.now

@@ -96,4 +96,4 @@ returns-in-Err-clause-comes g c =
     let makes = c.in-Err.ensures m was in
     subst (λ new. Does s (stand_at held.members s) (λ h k. Fails s c.in-Err.fault h k) (sight_of v held) (sight_of w new))
     (sym (comes.2 ∙ ap (λ (t : CommitTurn). with_member s (at_stage (stage.Committing t) m) held) c.made_again.ensures))
-    (does-again v w held s m was turn at c.sound.ensures c.keeps_commits.ensures (ready-now held s m turn c.keeps_commits.ensures turned was).0 (Err c.in-Err.fault) makes c.in-Err.fault (λ e. makes.failed (ap Err e)))
+    (does-again v w held s m was turn at c.sound.ensures c.keeps_commits.ensures (ready-now held s m turn c.keeps_commits.ensures turned was).0 (Err c.in-Err.fault) makes c.in-Err.fault (λ e. makes.failed (ap Err e)) (λ file slot e. ap Err e))

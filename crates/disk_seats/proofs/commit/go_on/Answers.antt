@@ -29,3 +29,8 @@ returns-clause-classes g c = λ t ledger was by_area its had. c.commit_step.ensu
 
 pub returns-clause-owners : goal.returns-clause-owners
 returns-clause-owners g c = λ t ledger was there area is_file is_data lies. c.commit_step.ensures.owners t (progress_of ledger) was.facts there area is_file is_data lies
+
+pub returns-clause-bad : goal.returns-clause-bad
+returns-clause-bad g c = λ file slot is t ledger member o f by_area was commits room.
+    let stands = was.commit (this_commit member o c.args.stage c.args.group c.args.lines.now c.args.classes.now f) commits in
+    c.commit_step.ensures.bad file slot is t ledger.base member o f by_area stands.is stands.facts room

@@ -63,7 +63,11 @@ returns-then-held-clause-less g c more =
     omega (arith, behind, before)
 
 pub returns-in_default-clause-comes : goal.returns-in_default-clause-comes
-returns-in_default-clause-comes g c = does-refuse-now (g.D.Disk.view c.args.disk.now) c.args.held.now c.args.s.number c.root_file.result 0
+returns-in_default-clause-comes g c =
+    let held = c.args.held.now in
+    let lower = subst (λ (n : Numbers). n.written ≤ n.ceiling) (ap (λ (x : StoreMemory). x.numbers) c.held.view_is) c.if-held.false in
+    let over = c.in_default.ensures.none in
+    does-refuse-now (g.D.Disk.view c.args.disk.now) held c.args.s.number c.root_file.result 0 (omega (arith, lower, over))
 
 pub returns-in_default-raise_ceiling-clause-comes : goal.returns-in_default-raise_ceiling-clause-comes
 returns-in_default-raise_ceiling-clause-comes g c =

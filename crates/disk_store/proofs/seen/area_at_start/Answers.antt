@@ -20,3 +20,6 @@ returns-in-Some-clause-seen g c =
 pub returns-clause-seen : goal.returns-clause-seen
 returns-clause-seen g c = let v = g.D.Disk.view c.args.disk.now in λ t ledger lines is ordered used.
     c.new.ensures ∙ sym (none-at-start v (g.met.D.Disk.content_left c.args.disk.now v.moment t (omega arith)) c.args.area c.in_default.ensures.none ledger c.args.held.now.limits.snaps c.args.reader.now lines is ordered)
+
+pub returns-in-Some-clause-bad : goal.returns-in-Some-clause-bad
+returns-in-Some-clause-bad g c = λ file slot is t ledger facts. c.reader_area.ensures.bad file slot is t ledger facts

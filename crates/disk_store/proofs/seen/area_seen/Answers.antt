@@ -28,3 +28,10 @@ returns-clause-seen g c =
     ok-as c.area_written.result c.area_written.ensures.seen (λ found seen h shown.
     seen shown.tells shown.ledger shown.facts (are_seen v held h shown) (λ file is. committed-used v held s m was h shown file is)
     ∙ ap (λ (l : Lines). lines_in c.args.area l) (sees-written v held s m was h shown writes))
+
+pub returns-then-is_reading-clause-bad : goal.returns-then-is_reading-clause-bad
+returns-then-is_reading-clause-bad g c = λ file slot is h shown. c.area_at_start.ensures.bad file slot is shown.tells shown.ledger shown.facts
+
+pub returns-clause-bad : goal.returns-clause-bad
+returns-clause-bad g c = λ file slot is h shown.
+    c.area_written.ensures.bad file slot is shown.tells shown.ledger shown.facts (are_seen (g.D.Disk.view c.args.disk.now) c.args.held.now h shown)

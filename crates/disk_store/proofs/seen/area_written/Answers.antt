@@ -22,3 +22,8 @@ pub returns-in-Ok-clause-seen : goal.returns-in-Ok-clause-seen
 returns-in-Ok-clause-seen g c = let v = g.D.Disk.view c.args.disk.now in λ t ledger facts are used.
     c.in-Ok.ensures.seen ledger.base.lines (committed-order v ledger facts)
     (none-committed v (g.met.D.Disk.content_left c.args.disk.now v.moment t (omega arith)) c.args.area c.in_default.ensures.none ledger facts)
+
+pub returns-in-Some-clause-bad : goal.returns-in-Some-clause-bad
+returns-in-Some-clause-bad g c = λ file slot is t ledger facts are.
+    let members = sym (c.as_slice-members.ensures.value ∙ ap (λ (x : StoreMemory). x.members) c.held.view_is) in
+    c.seen_area.ensures.bad file slot is t ledger facts (subst (λ (l : List Member). AreSeen seen_of ledger l) members are)

@@ -34,3 +34,12 @@ returns-clause-seen g c =
     ok-as c.seen_line.result c.seen_line.ensures.seen (λ image seen h shown.
     seen shown.tells shown.ledger shown.facts (subst (λ (l : List Member). AreSeen seen_of shown.ledger l) members (are_seen v held h shown))
     ∙ ap (λ (l : Lines). line_in c.args.key l) (sees-written v held s m was h shown writes))
+
+pub returns-then-is_reading-clause-bad : goal.returns-then-is_reading-clause-bad
+returns-then-is_reading-clause-bad g c = λ file slot is h shown. c.reader_line.ensures.bad file slot is shown.tells shown.ledger shown.facts
+
+pub returns-clause-bad : goal.returns-clause-bad
+returns-clause-bad g c = λ file slot is h shown.
+    let v = g.D.Disk.view c.args.disk.now in
+    let members = sym (c.as_slice.ensures.value ∙ ap (λ (x : StoreMemory). x.members) c.held.view_is) in
+    c.seen_line.ensures.bad file slot is shown.tells shown.ledger shown.facts (subst (λ (l : List Member). AreSeen seen_of shown.ledger l) members (are_seen v c.args.held.now h shown))

@@ -1,5 +1,4 @@
 use Rattle.std.proofs.Common.{OnOk, Result, Ok, Err}
-use Rattle.index_ahead.specs.Added.{AddsOnly}
 use Rattle.index_ahead.specs.Ahead.{IsUnknownIn}
 use Rattle.index_ahead.proofs.Added.{then_added}
 use Rattle.index_ahead.proofs.ahead.add_unknown.Goals as goal

@@ -1,8 +1,8 @@
 use Rattle.std.proofs.Common.{◌≤◌, ℕ, ap, sym, subst, Err}
 use Rattle.disk_store.specs.Shown.{sight_of}
 use Rattle.disk_line_store.specs.Back.{IsBack}
-use Rattle.line_runs.proofs.Opening.{at-moment, same-shown}
-use Rattle.line_runs.proofs.Prefix.{no-fewer}
+use Rattle.line_runs.proofs.Opening.{at-moment, begins-shown, same-shown}
+use Rattle.line_runs.proofs.Prefix.{gave-up-behind, gave-up-within, no-fewer}
 use Rattle.line_runs.proofs.runs.begin.Goals as goal
 
 pub returns-in-Err-clause-bad : goal.returns-in-Err-clause-bad
@@ -34,3 +34,20 @@ returns-in-Err-start-clause-later g c = λ told.
     (subst (λ (n : ℕ). n ≤ v.faults) (sym (c.requires.faults told)) c.open.ensures.no_fewer)) in
     let back : IsBack sight end = subst (λ t. IsBack (sight_of (g.D.Disk.view t.disk) t.held) end) c.in-Err-start.ensures.back c.into_disk.ensures in
     subst (λ (n : ℕ). n ≤ end.faults) (c.requires.faults told) (no-fewer _ o end sight back faults c.args.said.word opened)
+
+pub returns-in-Err-clause-gave_up : goal.returns-in-Err-clause-gave_up
+returns-in-Err-clause-gave_up g c = λ told.
+    let w = c.requires.opens told in
+    gave-up-within _ g.O.Origin.opening (g.D.Disk.view c.args.disk) w.lines w.journal w.stands (g.D.Disk.view c.open.new.disk) w.classes w.kept.root (c.open.ensures.stands w.tells w.classes w.lines w.journal w.kept)
+
+pub returns-in-Err-start-clause-gave_up : goal.returns-in-Err-start-clause-gave_up
+returns-in-Err-start-clause-gave_up g c = λ told.
+    let w = c.requires.opens told in
+    let v = g.D.Disk.view c.open.new.disk in
+    let end = g.D.Disk.view c.into_disk.result in
+    let content = (g.D.Disk.view c.args.disk).content in
+    let sight = sight_of (g.D.Disk.view c.new-store.result.disk) c.new-store.result.held in
+    let begins = c.in-Ok.ensures.begins w.tells w.classes w.lines w.journal w.kept w.by_area w.lie in
+    let back : IsBack sight end = subst (λ t. IsBack (sight_of (g.D.Disk.view t.disk) t.held) end) c.in-Err-start.ensures.back c.into_disk.ensures in
+    gave-up-behind _ g.O.Origin.opening (g.D.Disk.view c.args.disk) w.lines w.journal w.stands end content sight back
+    (begins-shown content w.lines w.journal (sight_of v c.in-Ok.held) sight (λ h shown. (c.new-store.ensures.shows h).1 shown) begins) c.new-store.ensures.outside

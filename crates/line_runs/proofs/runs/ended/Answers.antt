@@ -1,4 +1,4 @@
-use Rattle.line_runs.proofs.Prefix.{harmed, holds-prefix, holds-all}
+use Rattle.line_runs.proofs.Prefix.{harmed, holds-prefix, holds-all, spent-root}
 use Rattle.line_runs.proofs.runs.ended.Goals as goal
 
 pub returns-clause-images : goal.returns-clause-images
@@ -9,3 +9,6 @@ returns-clause-faults g c faults more k = harmed (g.D.Disk.view c.into_disk.resu
 
 pub returns-clause-left : goal.returns-clause-left
 returns-clause-left g c o events it rests = holds-all _ o (g.D.Disk.view c.into_disk.result) events _ c.into_disk.ensures it rests
+
+pub returns-clause-spent : goal.returns-clause-spent
+returns-clause-spent g c k = spent-root (g.D.Disk.view c.into_disk.result) _ c.into_disk.ensures k

@@ -1,8 +1,9 @@
-use Rattle.std.proofs.Common.{map, refl, subst, sym, ◌∙◌}
+use Rattle.std.proofs.Common.{map, refl, ap, subst, sym, ◌∙◌}
 use Rattle.std.proofs.lemmas.Bool.{false≢true}
 use Rattle.std.proofs.lemmas.Option.{none-some}
 use Rattle.rdb_account.specs.Events.{event_of}
 use Rattle.line_cluster.specs.Deaths.{RoseBy, failures}
+use Rattle.line_cluster.specs.Sound.{is_over_slot}
 use Rattle.line_runs.proofs.Opening.{rose-none, same-fault}
 use Rattle.line_runs.proofs.runs.say_in_order.Goals as goal
 
@@ -39,3 +40,15 @@ returns-in-Ok-clause-agrees g c told = rw c.ended.ensures.halt (c.run_in_order.e
 
 pub returns-in-Err-clause-agrees : goal.returns-in-Err-clause-agrees
 returns-in-Err-clause-agrees g c told = rw c.unsaid.ensures.halt refl
+
+pub returns-in-Ok-clause-spent : goal.returns-in-Ok-clause-spent
+returns-in-Ok-clause-spent g c told over = c.ended.ensures.spent (c.run_in_order.ensures.spent told (ap is_over_slot (sym c.ended.ensures.halt) ∙ over))
+
+pub returns-in-Err-clause-spent : goal.returns-in-Err-clause-spent
+returns-in-Err-clause-spent g c told over = absurd (false≢true (ap is_over_slot (sym c.unsaid.ensures.halt) ∙ over))
+
+pub returns-in-Ok-clause-gave_up : goal.returns-in-Ok-clause-gave_up
+returns-in-Ok-clause-gave_up g c told unopened = absurd (unopened c.ended.ensures.fault)
+
+pub returns-in-Err-clause-gave_up : goal.returns-in-Err-clause-gave_up
+returns-in-Err-clause-gave_up g c told unopened = rw c.unsaid.ensures.disk (c.in-Err.ensures.gave_up told)

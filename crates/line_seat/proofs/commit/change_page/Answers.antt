@@ -6,6 +6,7 @@ use Rattle.line_moves.proofs.OnlyPut.{some_page}
 use Rattle.stable_lines.specs.Slots.{area_file}
 use Rattle.line_seat.proofs.GroupSlots.{got_at}
 use Rattle.line_seat.proofs.CommitSteps.{may_still, entered_still, none_imaged, put_all, place_there}
+use Rattle.line_seat.proofs.RoomOnPages.{is_page, all_fit}
 use Rattle.line_seat.proofs.commit.change_page.Goals as goal
 
 pub write_page-requires-clause-place : goal.write_page-requires-clause-place
@@ -95,3 +96,14 @@ returns-in_err-next-clause-owners g c = λ t now was there area is_file is_data 
 
 pub returns-clause-owners : goal.returns-clause-owners
 returns-clause-owners g c = λ t now was there area is_file is_data lies. c.write_page.ensures.owners t now was there area is_file is_data lies
+
+pub returns-in_err-next-clause-bad : goal.returns-in_err-next-clause-bad
+returns-in_err-next-clause-bad g c = let v = g.D.Disk.view c.args.disk.now in λ file slot is t now o group flight by_area stands bears small room.
+    let got = got_at c.args.lines.now c.args.at c.index-lines-at.result (search rules) in
+    let got_class = got_at c.args.classes.now c.args.at _ (search rules) in
+    let names = place_there c.args.lines.now c.args.at _ c.in-Some.place got c.in-Some.ensures.found _ got in
+    let left = g.met.D.Disk.content_left c.args.disk.now v.moment t (omega arith) in
+    let entered = stands.done.1 c.args.at _ c.in-Some.place got names in
+    c.write_page.ensures.bad file slot (search rules) t
+    (is_page v left now stands.facts o c.args.lines.now c.args.classes.now by_area room c.requires.allowed bears small c.requires.classes c.args.at _ _ got got_class c.in-Some.place names entered)
+    (all_fit v left now stands.facts o c.args.lines.now c.args.classes.now by_area room c.requires.allowed bears small c.requires.classes c.args.at _ _ got got_class c.in-Some.place names entered)

@@ -1,4 +1,6 @@
-use Rattle.std.proofs.Common.{◌≡◌, ◌+◌, ◌∙◌, inl, inr, refl, length, sym, subst}
+use Rattle.std.proofs.Common.{◌≡◌, ◌<◌, ◌+◌, ◌∙◌, inl, inr, refl, length, sym, subst}
+use Rattle.std.specs.Prelude.{◌^◌}
+use Rattle.rdb_types.specs.declared.keys.Tsn.{Tsn}
 use Rattle.rdb_outside.specs.Disk.{Pending}
 use Rattle.rdb_outside.specs.Runs.{no_calls}
 use Rattle.rdb_types.specs.declared.file.FileKind.TheVariants.{Area, Aij}
@@ -199,3 +201,11 @@ returns-in_err-make_stable-in-Landing-clause-owners g c = let v = g.D.Disk.view 
 pub returns-in_ok-make_stable-in-Landing-clause-owners : goal.returns-in_ok-make_stable-in-Landing-clause-owners
 returns-in_ok-make_stable-in-Landing-clause-owners g c = let v = g.D.Disk.view in
     λ t now was there area is_file is_data lies. owners_stay (v c.args.disk.now) (v c.make_stable-in-Landing.new.disk) (c.make_stable-in-Landing.ensures.reads.keeps t).pending there area
+
+pub returns-in-Changing-clause-bad : goal.returns-in-Changing-clause-bad
+returns-in-Changing-clause-bad g c = λ file slot is t now member o flight by_area commits stands room.
+    c.change_page.ensures.bad file slot is t now o c.args.group flight by_area (subst (λ (s : CommitStage). CommitFacts s (g.D.Disk.view c.args.disk.now) now c.args.group c.args.lines.now flight) c.in-Changing.is stands)
+    commits.bears (subst (λ (n : Tsn). n.number < 2 ^ 62) commits.tsn c.requires.tsn) room
+
+pub returns-in-Imaging-clause-bad : goal.returns-in-Imaging-clause-bad
+returns-in-Imaging-clause-bad g c = λ file slot is t now member o flight by_area commits stands room. c.journal_image.ensures.bad file slot is

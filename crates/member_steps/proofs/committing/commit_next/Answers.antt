@@ -77,3 +77,14 @@ returns-in-Securing-clause-owners g c = let v = g.D.Disk.view in
 
 pub returns-in-Going-clause-owners : goal.returns-in-Going-clause-owners
 returns-in-Going-clause-owners g c = λ t ledger was there area is_file is_data lies. c.go_further.ensures.owners t ledger was there area is_file is_data lies
+
+pub returns-in-Entering-clause-bad : goal.returns-in-Entering-clause-bad
+returns-in-Entering-clause-bad g c = λ file slot is t ledger member o all flight by_area was facts room. c.enter_next.ensures.bad file slot is t ledger was
+
+pub returns-in-Securing-clause-bad : goal.returns-in-Securing-clause-bad
+returns-in-Securing-clause-bad g c = λ file slot is t ledger member o all flight by_area was facts room. c.secure.ensures.bad file slot is
+
+pub returns-in-Going-clause-bad : goal.returns-in-Going-clause-bad
+returns-in-Going-clause-bad g c = let old = g.D.Disk.view c.args.disk.now in λ file slot is t ledger member o all flight by_area was facts room.
+    c.go_further.ensures.bad file slot is t ledger member o all flight by_area was
+    (subst (λ (u : CommitTurn). TurnFacts u old ledger (plan_of member o all c.args.group c.args.lines.now c.args.classes.now flight)) c.in-Going.is facts) room

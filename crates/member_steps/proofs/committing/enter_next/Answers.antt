@@ -3,6 +3,7 @@ use Rattle.rdb_outside.specs.Runs.{no_calls}
 use Rattle.stable_lines.specs.Slots.{area_file}
 use Rattle.line_moves.proofs.Runs.{writes_none}
 use Rattle.line_seat.proofs.GroupSlots.{got_at}
+use Rattle.member_steps.proofs.Journals.{spaces_there}
 use Rattle.member_steps.proofs.OwnersSaid.{may_still, none_owned, owned_all}
 use Rattle.member_steps.proofs.committing.enter_next.Goals as goal
 
@@ -51,3 +52,7 @@ returns-clause-goes_on g c = let v = g.D.Disk.view in λ t ledger plan was same 
 
 pub returns-then-at-lines-clause-writes : goal.returns-then-at-lines-clause-writes
 returns-then-at-lines-clause-writes g c = let old = g.D.Disk.view c.args.disk.now in (1, 1, writes_none (area_file 1) 1 old old (no_calls old))
+
+pub returns-in_err-enter-clause-bad : goal.returns-in_err-enter-clause-bad
+returns-in_err-enter-clause-bad g c = let v = g.D.Disk.view c.args.disk.now in λ file slot is t ledger was.
+    c.enter.ensures.bad file slot (search rules) t (spaces_there v ledger (g.met.D.Disk.content_left c.args.disk.now v.moment t (omega arith)) was _ c.in-Some.place c.in-Some.ensures.found)

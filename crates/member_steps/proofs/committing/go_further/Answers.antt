@@ -1,3 +1,4 @@
+use Rattle.std.proofs.Common.{rules}
 use Rattle.member_steps.specs.Turns.{plan_of}
 use Rattle.member_steps.proofs.OwnersSaid.{goes_so}
 use Rattle.member_steps.proofs.committing.go_further.Goals as goal
@@ -13,3 +14,7 @@ returns-clause-goes_on g c = let w = g.D.Disk.view c.go_on.new.disk in λ t ledg
   c.in_ok-next.ensures.goes_on t ledger member (record { tsn = o.tsn; entries = all }) flight was classes facts,
   goes_so c.in_ok-next.next w w.moment ledger (plan_of member o all c.args.group c.args.lines.now c.args.classes.now flight) c.args.stage,
 )
+
+pub returns-in_err-next-clause-bad : goal.returns-in_err-next-clause-bad
+returns-in_err-next-clause-bad g c = λ file slot is t ledger member o all flight by_area was facts room.
+    c.go_on.ensures.bad file slot (search rules) t ledger member (record { tsn = o.tsn; entries = all }) flight by_area was facts room

@@ -1,8 +1,8 @@
-use Rattle.std.proofs.Common.{◌≡◌, ◌+◌, ◌∙◌, Ok, inl, inr, ⊎_elim, ap, arith}
+use Rattle.std.proofs.Common.{rules, ◌≡◌, ◌+◌, ◌∙◌, Ok, inl, inr, ⊎_elim, ap, arith}
 use Rattle.rdb_types.specs.declared.keys.Tsn.{Tsn}
 use Rattle.stable_lines.specs.Slots.{ruj_file}
 use Rattle.line_moves.proofs.Runs.{writes_none, reads_then_writes, still_tells}
-use Rattle.member_steps.proofs.Journals.{none_written, names_now, read_ledger, with_line}
+use Rattle.member_steps.proofs.Journals.{none_written, names_now, page_there, read_ledger, with_line}
 use Rattle.member_steps.proofs.journalling.journal_next.Goals as goal
 
 pub returns-in_err-needed-clause-writes : goal.returns-in_err-needed-clause-writes
@@ -60,3 +60,12 @@ returns-clause-goes_on g c = let v = g.D.Disk.view in λ t ledger o all n was is
     let here = read_ledger old mid ledger t reads was in
     with_line old (v c.journal.new.disk) mid ledger c.args.member all n c.args.key t reads
     (c.in_ok-journal.ensures.journalled (still_tells old mid reads.told t) ledger o all n here is going same (omega (arith, count)) (names_now mid ledger here c.args.member o all n is going (⊎_elim (λ some. inl (omega (arith, some, count))) (λ names. inr (names ∙ ap (λ (n : Tsn). n.number) same)) (c.in_ok-needed.ensures.named (ap Ok c.if-needed.false) t))) none left within)
+
+pub returns-in_err-needed-clause-bad : goal.returns-in_err-needed-clause-bad
+returns-in_err-needed-clause-bad g c = λ file slot is t member ledger was. c.needs_header.ensures.bad file slot (search rules) t member ledger was
+
+pub returns-in_err-journal-clause-bad : goal.returns-in_err-journal-clause-bad
+returns-in_err-journal-clause-bad g c = let v = g.D.Disk.view in λ file slot is t member ledger was.
+    let old = v c.args.disk.now in let mid = v c.needs_header.new.disk in let reads = c.needs_header.ensures.reads in
+    let now = still_tells old mid reads.told t in
+    c.journal.ensures.bad file slot (search rules) now (page_there mid ledger (g.met.D.Disk.content_left c.needs_header.new.disk mid.moment now (omega arith)) (read_ledger old mid ledger t reads was) c.args.key c.args.place c.requires.place)

@@ -1,5 +1,5 @@
 use Rattle.std.proofs.Common.{◌≤◌, ◌+◌, length, refl, ◌∙◌, sym, subst, arith, inl, inr}
-use Rattle.rdb_top.proofs.Fewness.{few-more}
+use Rattle.script_queues.proofs.Fewness.{few-more}
 use Rattle.rdb_top.proofs.Reading.{pushed, grown-length, grown-scripts, behind-next, other-than, later-than, last-or}
 use Rattle.rdb_top.proofs.scripts.read_scripts.Goals as goal
 

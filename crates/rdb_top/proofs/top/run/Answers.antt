@@ -1,10 +1,12 @@
-use Rattle.std.proofs.Common.{◌≡◌, ◌≢◌, ◌∙◌, ◌⊎◌, ⊎_elim, ℕ, true, Some, ap, map, subst, sym}
+use Rattle.std.proofs.Common.{◌≡◌, ◌≢◌, ◌∙◌, ◌⊎◌, ⊎_elim, ℕ, true, Some, ap, map, refl, subst, sym}
+use Rattle.std.proofs.lemmas.Bool.{false≢true}
 use Rattle.backup_making.specs.Making.{file_of}
 use Rattle.journal_backup.specs.Copied.{copy_named}
 use Rattle.rmu_keeping.specs.Keeping.{BacksUp, BacksUpWithin, CopiesJournal, CopiesJournalWithin, Restores, RestoresWithin}
 use Rattle.rmu_keeping.specs.Rolling.{HasRolled, TellsGroups}
 use Rattle.rdb_account.specs.Events.{event_of}
 use Rattle.rdb_account.specs.Legal.{IsLegal}
+use Rattle.line_cluster.specs.Sound.{is_over_slot}
 use Rattle.line_cluster.specs.Turned.{HaveAllEnded}
 use Rattle.line_drive.specs.Turns.{KeepsTurns}
 use Rattle.line_runs.specs.Openings.{said_to}
@@ -12,7 +14,10 @@ use Rattle.command_words.specs.declared.words.Scripts.{Scripts}
 use Rattle.command_words.specs.Words.{word_of, order_in}
 use Rattle.rdb_top.specs.Deaths.{letting}
 use Rattle.rdb_top.specs.Runs.{scripts_of, IsRun, OfSomeScripts}
-use Rattle.rdb_top.proofs.Givens.{same-given, same-backup, same-copy, same-restore}
+use Rattle.sound_maps.specs.Maps.{IsSoundWith}
+use Rattle.workload_runs.proofs.Opening.{opens-has-root}
+use Rattle.rdb_top.specs.Workloads.{AreWorkloadRuns, LeavesAll, LeavesRuns}
+use Rattle.rdb_top.proofs.Givens.{same-given, same-backup, same-copy, same-restore, same-workload}
 use Rattle.rdb_top.proofs.Saying.{prefix-of-given, all-of-given}
 use Rattle.rdb_top.proofs.top.run.Goals as goal
 
@@ -39,7 +44,7 @@ returns-in-Some-Rdo-clause-order g c given row has_order told tells whole =
     (c.run_rdo.ensures.order (ap (λ (n : Scripts). n.has_order) (same-given c.in-Some-Rdo.given given _ (ap Some (sym c.in-Some-Rdo.field-0-is) ∙ c.in-Some-Rdo.ensures.row) row) ∙ has_order) told tells whole)
 
 pub returns-in-Some-Rdo-clause-front : goal.returns-in-Some-Rdo-clause-front
-returns-in-Some-Rdo-clause-front g c writes rolls tells =
+returns-in-Some-Rdo-clause-front g c writes rolls works tells =
     rw (sym c.in-Some-Rdo.ensures.row) (rw c.in-Some-Rdo.field-0-is (c.run_rdo.ensures.front tells))
 
 pub returns-in-Some-Rdo-clause-account : goal.returns-in-Some-Rdo-clause-account
@@ -128,3 +133,34 @@ returns-in-Some-Recover-clause-lacking g c rolls told lacks =
 
 pub returns-in-Some-Recover-clause-rolled_before : goal.returns-in-Some-Recover-clause-rolled_before
 returns-in-Some-Recover-clause-rolled_before g c rolls told used = rw c.unsaid-in-Some-Recover.ensures.disk (c.run_recover-status.ensures.in_use told used)
+
+pub returns-in-Some-Workload-clause-workload_runs : goal.returns-in-Some-Workload-clause-workload_runs
+returns-in-Some-Workload-clause-workload_runs g c accounts row told unmade =
+    subst (λ (n : ℕ). AreWorkloadRuns c.args.words.now (g.G.Gate.mortals c.args.gate.now) n c.run_workload.result.status c.run_workload.result.earlier c.run_workload.result.events)
+    (same-workload c.in-Some-Workload.accounts accounts _ (ap Some (sym c.in-Some-Workload.field-0-is) ∙ c.in-Some-Workload.ensures.row) row)
+    (c.run_workload.ensures.runs told unmade)
+
+pub returns-in-Some-Workload-clause-workload_images : goal.returns-in-Some-Workload-clause-workload_images
+returns-in-Some-Workload-clause-workload_images g c accounts row told unmade =
+    let v = g.D.Disk.view in
+    subst (λ (n : ℕ). LeavesRuns IsSoundWith c.args.words.now (g.G.Gate.mortals c.args.gate.now) n (v c.args.disk) (v c.run_workload.result.disk) c.run_workload.result.status c.run_workload.result.earlier c.run_workload.result.events)
+    (same-workload c.in-Some-Workload.accounts accounts _ (ap Some (sym c.in-Some-Workload.field-0-is) ∙ c.in-Some-Workload.ensures.row) row)
+    (c.run_workload.ensures.images told unmade)
+
+pub returns-in-Some-Workload-clause-workload_left : goal.returns-in-Some-Workload-clause-workload_left
+returns-in-Some-Workload-clause-workload_left g c accounts row told unmade =
+    let v = g.D.Disk.view in
+    subst (λ (n : ℕ). LeavesAll IsSoundWith c.args.words.now (g.G.Gate.mortals c.args.gate.now) n (v c.run_workload.result.disk) c.run_workload.result.status c.run_workload.result.earlier c.run_workload.result.events)
+    (same-workload c.in-Some-Workload.accounts accounts _ (ap Some (sym c.in-Some-Workload.field-0-is) ∙ c.in-Some-Workload.ensures.row) row)
+    (c.run_workload.ensures.left told unmade)
+
+-- over a database that there is no session is stopped, since none is begun
+pub returns-in-Some-Workload-clause-agrees : goal.returns-in-Some-Workload-clause-agrees
+returns-in-Some-Workload-clause-agrees g c told =
+    let opens = c.requires.opens told in
+    rw (c.run_workload.ensures.idle opens.tells (opens-has-root _ (g.D.Disk.view c.args.disk) g.O.Origin.opening opens)) refl
+
+pub returns-in-Some-Workload-clause-used_up : goal.returns-in-Some-Workload-clause-used_up
+returns-in-Some-Workload-clause-used_up g c told over =
+    let opens = c.requires.opens told in
+    absurd (false≢true (ap is_over_slot (sym (c.run_workload.ensures.idle opens.tells (opens-has-root _ (g.D.Disk.view c.args.disk) g.O.Origin.opening opens))) ∙ over))

@@ -1,5 +1,7 @@
-use Rattle.std.proofs.Common.{None, inl, inr, map, subst, sym, refl, ◌∙◌}
+use Rattle.std.proofs.Common.{None, inl, inr, ap, map, subst, sym, refl, ◌∙◌}
+use Rattle.std.proofs.lemmas.Bool.{false≢true}
 use Rattle.std.proofs.lemmas.Option.{none-some}
+use Rattle.line_cluster.specs.Sound.{is_over_slot}
 use Rattle.rdb_account.specs.Events.{event_of}
 use Rattle.rdb_account.specs.Legal.{IsLegal}
 use Rattle.line_cluster.specs.Turned.{HaveAllEnded}
@@ -10,9 +12,9 @@ use Rattle.rdb_top.specs.Deaths.{letting}
 use Rattle.rdb_top.specs.Runs.{scripts_of, IsWhole}
 use Rattle.rdb_top.proofs.Saying.{prefix-of-scripts, all-of-scripts}
 use Rattle.rdb_top.proofs.Failures.{rose-deaths, rose-stopped, rose-unopened}
-use Rattle.rdb_top.proofs.Stopped.{agrees-told}
 use Rattle.rdb_top.proofs.Unsaid.{is-opened, nobody-died, nothing-said, stop-is-no-end, stop-is-no-failure, stop-is-no-fault}
 use Rattle.rdb_top.proofs.Upward.{scripts-length}
+use Rattle.workload_runs.proofs.Stops.{over-told, unsound-told}
 use Rattle.rdb_top.proofs.top.run_rdo.Goals as goal
 
 pub returns-in-Ok-clause-legal : goal.returns-in-Ok-clause-legal
@@ -83,7 +85,7 @@ pub returns-in-Err-clause-refused : goal.returns-in-Err-clause-refused
 returns-in-Err-clause-refused g c is = absurd (stop-is-no-fault c.in-Err.stop (sym (c.unsaid.ensures.status ∙ c.status_of.ensures) ∙ is))
 
 pub returns-in-Ok-clause-agrees : goal.returns-in-Ok-clause-agrees
-returns-in-Ok-clause-agrees g c told = agrees-told c.say_scripts-ran.result.halt c.finish_scripts.result.halt c.finish_scripts.ensures.halt (c.say_scripts-ran.ensures.agrees told)
+returns-in-Ok-clause-agrees g c told = unsound-told c.say_scripts-ran.result.halt c.finish_scripts.result.halt c.finish_scripts.ensures.halt (c.say_scripts-ran.ensures.agrees told)
 
 pub returns-in-Err-clause-agrees : goal.returns-in-Err-clause-agrees
 returns-in-Err-clause-agrees g c told = rw c.unsaid.ensures.halt refl
@@ -109,3 +111,9 @@ returns-in-Err-clause-images g c told tells some = absurd (some c.unsaid.ensures
 
 pub returns-in-Err-clause-left : goal.returns-in-Err-clause-left
 returns-in-Err-clause-left g c told tells whole = absurd (stop-is-no-end c.in-Err.stop (subst IsWhole (c.unsaid.ensures.status ∙ c.status_of.ensures) whole))
+
+pub returns-in-Ok-clause-used_up : goal.returns-in-Ok-clause-used_up
+returns-in-Ok-clause-used_up g c told over = rw c.finish_scripts.ensures.disk (c.say_scripts-ran.ensures.used_up told (over-told c.say_scripts-ran.result.halt c.finish_scripts.result.halt c.finish_scripts.ensures.halt over))
+
+pub returns-in-Err-clause-used_up : goal.returns-in-Err-clause-used_up
+returns-in-Err-clause-used_up g c told over = absurd (false≢true (ap is_over_slot (sym c.unsaid.ensures.halt) ∙ over))

@@ -1,9 +1,10 @@
-use Rattle.std.proofs.Common.{Option, ◌++◌, length, map, refl, subst, sym, ◌∙◌}
+use Rattle.std.proofs.Common.{Option, ◌++◌, length, ap, map, refl, subst, sym, ◌∙◌}
 use Rattle.std.proofs.lemmas.Bool.{false≢true}
 use Rattle.std.proofs.lemmas.Option.{none-some}
 use Rattle.rdb_drive.specs.Boards.{MayDie}
 use Rattle.rdb_account.specs.Events.{event_of}
 use Rattle.rdb_account.specs.Legal.{IsLegal}
+use Rattle.line_cluster.specs.Sound.{is_over_slot}
 use Rattle.line_cluster.specs.Turned.{HaveAllEnded}
 use Rattle.line_drive.specs.Boards.{mortals_of}
 use Rattle.line_drive.specs.Turns.{KeepsTurns}
@@ -78,3 +79,9 @@ returns-in-Err-clause-images g c told opened = absurd (none-some _ (sym opened �
 
 pub returns-in-Err-clause-left : goal.returns-in-Err-clause-left
 returns-in-Err-clause-left g c told whole = absurd (false≢true (sym c.unopened.ensures.is_whole ∙ whole))
+
+pub returns-in-Ok-clause-used_up : goal.returns-in-Ok-clause-used_up
+returns-in-Ok-clause-used_up g c told over = c.run_of.ensures.used_up told over
+
+pub returns-in-Err-clause-used_up : goal.returns-in-Err-clause-used_up
+returns-in-Err-clause-used_up g c told over = absurd (false≢true (ap is_over_slot (sym c.unopened.ensures.halt) ∙ over))

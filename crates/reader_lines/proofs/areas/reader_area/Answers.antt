@@ -2,15 +2,22 @@ use Rattle.std.proofs.Common.{◌≡◌, subst, sym, Some}
 use Rattle.rdb_types.specs.declared.keys.Dbkey.{Dbkey}
 use Rattle.rdb_outside.specs.Runs.{then_reads}
 use Rattle.line_view.specs.Knowledge.{Lines}
+use Rattle.line_store.specs.declared.answers.ReadStop.TheVariants as read
+use Rattle.line_store.specs.declared.answers.Fault.TheVariants.{Bad}
 use Rattle.line_moves.proofs.Runs.{still_tells}
+use Rattle.member_steps.proofs.Journals.{read_ledger}
 use Rattle.page_table.specs.Pages.{IsLineOf}
 use Rattle.seen_lines.specs.Seen.{IsOfArea}
-use Rattle.seen_lines.proofs.Gathered.{Gathers, area_more, gathers_more, gathered_all}
+use Rattle.seen_lines.proofs.Gathered.{Gathers, area_more, gathers_more, gathered_all, stop_on}
 use Rattle.reader_lines.proofs.Still.{reads_on}
 use Rattle.reader_lines.proofs.areas.reader_area.Goals as goal
 
 pub returns-in-Err-clause-reads : goal.returns-in-Err-clause-reads
 returns-in-Err-clause-reads g c = let v = g.D.Disk.view in then_reads (v c.args.disk.now) (v c.loop-key.disk) (v c.gather.new.disk) c.loop-key.invariant.reads c.gather.ensures.reads
+
+pub returns-in-Err-clause-bad : goal.returns-in-Err-clause-bad
+returns-in-Err-clause-bad g c = let v = g.D.Disk.view c.args.disk.now in let mid = g.D.Disk.view c.loop-key.disk in let reads = c.loop-key.invariant.reads in λ f s is t ledger was.
+    c.in-Err.ensures.bad f s (stop_on c.in-Err.stop (read.Fault (Bad f s)) is) (still_tells v mid reads.told t) ledger (read_ledger v mid ledger t reads was)
 
 pub loop-key-preserved : goal.loop-key-preserved
 loop-key-preserved g c = let v = g.D.Disk.view c.args.disk.now in let mid = g.D.Disk.view c.loop-key.disk in let new = g.D.Disk.view c.gather.new.disk in

@@ -1,7 +1,12 @@
-use Rattle.std.proofs.Common.{◌≡◌, ◌++◌, drop}
-use Rattle.sorted_index.specs.Wanted.{interval_of}
-use Rattle.sorted_index_laws.specs.Search.{rows_within}
+use Rattle.index_node.specs.declared.node.IndexNode.{IndexNode}
+use Rattle.node_search.specs.Nodes.{Holds}
+use Rattle.node_search.specs.Wanted.{interval_of}
+use Rattle.node_search.proofs.Entries.{bytes_left}
+use Rattle.sorted_index.proofs.Gone.{HasFound}
 use Rattle.sorted_index.proofs.search.add_rows.Given as goal
 
-abbrev pub invariant-loop-entry : goal.invariant-loop-entry
-invariant-loop-entry l = l.found ++ rows_within (interval_of l.wanted) (drop l.entry-index l.entries) ≡ l.fn.found ++ rows_within (interval_of l.wanted) l.entries
+abbrev pub invariant-loop-next : goal.invariant-loop-next
+invariant-loop-next l = (shown : IndexNode) → Holds l.node shown → HasFound (interval_of l.wanted) l.node shown l.next l.fn.found l.found
+
+abbrev pub decreases-loop-next : goal.decreases-loop-next
+decreases-loop-next l = bytes_left l.node.bytes.now l.next

@@ -7,7 +7,7 @@ use Rattle.session_measure.proofs.Nearer.{nearer-answered}
 use Rattle.stage_steps.specs.Turns.{at_stage, shared}
 use Rattle.stage_steps.proofs.Goes.{goes, comes-as}
 use Rattle.stage_steps.proofs.Seated.{done-laid, rests-at}
-use Rattle.stage_steps.proofs.Stored.{when-done, when-more, on-more, on-fault}
+use Rattle.stage_steps.proofs.Stored.{when-laid, when-goes-on, when-astray, on-more, on-fault, on-astray}
 use Rattle.stage_steps.proofs.saying.change.Goals as goal
 
 pub returns-in-Ok-Done : goal.returns-in-Ok-Done
@@ -15,14 +15,19 @@ returns-in-Ok-Done g c word locks =
     comes-as g.S.Statements.stands c.args.s.number _ _ _ _ _ _ _ c.say.ensures.phase c.say.ensures.happened
     (goes c.args.s.number _ Alive _ Alive _ _ _ _ _ (λ e f. rests-at _ locks c.args.s.number _ (e ∙ done-laid _ f.seat) f.wants f.needs tt) (λ u other. refl) (nearer-answered c.args.s.number _ _ _ _ (omega arith))
     (λ h k shown told r dead left total. says-laid g.S.Statements.stands g.met.S.Statements.orderly c.args.s.number (shared word h locks dead) k left total c.args.terms.standing c.args.terms.known c.args.terms.spoken c.args.terms.waits c.args.item c.args.worked r)
-    (when-done c.args.s.number _ _ _ _ c.in-Ok-Done.field-0-is c.in-Ok-Done.ensures.does))
+    (when-laid c.args.s.number _ _ _ _ c.in-Ok-Done.field-0-is c.in-Ok-Done.ensures.comes))
 
 pub returns-in-Ok-More : goal.returns-in-Ok-More
 returns-in-Ok-More g c word locks =
     comes-as g.S.Statements.stands c.args.s.number _ _ _ _ _ _ _ (c.quiet.ensures.phase ∙ c.at.ensures) c.quiet.ensures.happened
-    (on-more g.S.Statements.stands g.met.S.Statements.orderly c.args.s.number word locks _ _ (at_stage c.args.terms (Saying c.args.item c.args.worked Changing)) refl refl (c.work_on.ensures.less (c.in-Ok-More.is ∙ ap Ok c.in-Ok-More.field-0-is)) (when-more c.args.s.number _ _ _ _ c.in-Ok-More.field-0-is c.in-Ok-More.ensures.does))
+    (on-more g.S.Statements.stands g.met.S.Statements.orderly c.args.s.number word locks _ _ (at_stage c.args.terms (Saying c.args.item c.args.worked Changing)) refl refl (c.step.ensures.less (c.in-Ok-More.is ∙ ap Ok c.in-Ok-More.field-0-is)) (when-goes-on c.args.s.number _ _ _ _ c.in-Ok-More.field-0-is c.in-Ok-More.ensures.comes))
 
 pub returns-in-Err : goal.returns-in-Err
 returns-in-Err g c word locks =
     comes-as g.S.Statements.stands c.args.s.number _ _ _ _ _ _ _ (c.failed.ensures.phase ∙ c.at-in-Err.ensures) c.failed.ensures.happened
-    (on-fault g.S.Statements.stands g.met.S.Statements.orderly c.args.s.number word locks _ _ (at_stage c.args.terms (Saying c.args.item c.args.worked Changing)) c.in-Err.fault c.in-Err.ensures.does)
+    (on-fault g.S.Statements.stands g.met.S.Statements.orderly c.args.s.number word locks _ _ (at_stage c.args.terms (Saying c.args.item c.args.worked Changing)) c.in-Err.fault c.in-Err.ensures.comes)
+
+pub returns-in-Ok-Astray : goal.returns-in-Ok-Astray
+returns-in-Ok-Astray g c word locks =
+    comes-as g.S.Statements.stands c.args.s.number _ _ _ _ _ _ _ (c.unworked.ensures.phase ∙ c.at-in-Ok-Astray.ensures) c.unworked.ensures.happened
+    (on-astray g.S.Statements.stands g.met.S.Statements.orderly c.args.s.number word locks _ _ (at_stage c.args.terms (Saying c.args.item c.args.worked Changing)) (when-astray c.args.s.number _ _ _ _ c.in-Ok-Astray.field-0-is c.in-Ok-Astray.ensures.comes))

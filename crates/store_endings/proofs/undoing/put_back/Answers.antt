@@ -2,6 +2,7 @@ use Rattle.std.proofs.Common.{◌≡◌, ◌+◌, ℕ, Bool, true, List, Some, E
 use Rattle.std.specs.Prelude.{slice_get}
 use Rattle.rdb_types.specs.declared.keys.Limits.{Limits}
 use Rattle.line_store.specs.Calls.{GoesOn, Fails}
+use Rattle.line_store.proofs.Causes.{cause-of}
 use Rattle.line_store.specs.Sights.{Does}
 use Rattle.disk_seats.specs.Ledgers.{undoing, stands_as}
 use Rattle.disk_seats.specs.Members.{LedgerFacts}
@@ -17,7 +18,7 @@ use Rattle.disk_store.specs.Shown.{sight_of}
 use Rattle.disk_store.proofs.Members.{set-here}
 use Rattle.disk_store.proofs.DeadStages.{undoing-ready}
 use Rattle.disk_store.proofs.Closing.{one-member}
-use Rattle.store_endings.proofs.PutBack.{undone-with, does-back, does-none-left, fewer-left, cause-of}
+use Rattle.store_endings.proofs.PutBack.{undone-with, does-back, does-none-left, fewer-left}
 use Rattle.store_endings.proofs.undoing.put_back.Goals as goal
 
 -- it was dead before
@@ -78,7 +79,7 @@ returns-in-Ok-clause-comes g c =
     let pages = ap (λ (l : Limits). l.pages) (c.limits-limits.ensures ∙ sym limits) in
     record { lines = c.undo.ensures.restores t ledger u.transaction u.all facts u.stands u.is_open tsn pages; facts = c.in-Ok.ensures.undone t ledger u.transaction u.all facts u.stands u.is_open tsn pages })
     c.undo.ensures.classes c.undo.ensures.owners (λ h k. GoesOn s h k)
-    (λ h k moves before behind faults faults-behind. record { moves = moves; less = let fewer = fewer-left c.in-Ok.rest c.args.left (at_stage (stage.Dead c.args.commits (undoing_with c.in-Ok.rest)) at.member) c.in-Ok.ensures.fewer in omega (arith, before, behind, fewer) }))
+    (λ h k shown u moves before behind faults faults-behind. record { moves = moves; less = let fewer = fewer-left c.in-Ok.rest c.args.left (at_stage (stage.Dead c.args.commits (undoing_with c.in-Ok.rest)) at.member) c.in-Ok.ensures.fewer in omega (arith, before, behind, fewer) }))
 
 pub returns-in-Ok-clause-less : goal.returns-in-Ok-clause-less
 returns-in-Ok-clause-less g c more =
@@ -116,4 +117,9 @@ returns-in-Err-clause-comes g c =
       facts = subst (λ (k : ℕ). LedgerFacts w (stands_as s (undoing u.all k) ledger)) (sym u.count) (c.undo.ensures.keeps t ledger u.transaction u.all facts u.stands u.is_open tsn pages);
     })
     c.undo.ensures.classes c.undo.ensures.owners (λ h k. Fails s c.in-Err.fault h k)
-    (λ h k moves before behind faults faults-behind. record { moves = moves; cause = cause-of v w c.in-Err.fault h k (λ is. c.in-Err.ensures.failed (ap Err is)) faults faults-behind }))
+    (λ h k shown u moves before behind faults faults-behind. record {
+      moves = moves;
+      cause = cause-of c.in-Err.fault h.clock k.clock v.faults w.faults (λ is. c.in-Err.ensures.failed (ap Err is))
+          (λ file slot is. absurd (c.in-Err.ensures.bad file slot (ap Err is) shown.tells shown.ledger u.transaction u.all shown.facts u.stands u.is_open (ap (λ (x : Member). x.tsn) mine ∙ u.number) (ap (λ (l : Limits). l.pages) (c.limits-limits.ensures ∙ sym shown.limits))))
+          faults faults-behind;
+    }))

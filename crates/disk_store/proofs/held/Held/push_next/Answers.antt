@@ -6,6 +6,7 @@ use Rattle.line_moves.specs.declared.places.Place.{Place}
 use Rattle.line_moves.specs.Changes.{IsPlaceOf}
 use Rattle.version_writing.specs.declared.snapshot_slots.Wanted.{Wanted}
 use Rattle.version_writing.specs.declared.snapshot_slots.SnapshotSlots.{SnapshotSlots}
+use Rattle.member_steps.proofs.Journals.{page_there}
 use Rattle.version_writing.proofs.AllHeld.{its_file, is_file}
 use Rattle.disk_store.specs.declared.member.Member.{Member}
 use Rattle.disk_store.specs.declared.member.MemberStage.TheVariants as stage
@@ -208,3 +209,9 @@ returns-clause-pushed g c =
       is = ap (λ (x : Wanted). record (with_member s (record m { written = c.set_chain.new.self; pushed = m.pushed + 1; aside = x }) h) { slots = slots }) left
           ∙ ap (λ (k : StoreMemory). record (with_member s (with_spent chain (snap_of key) (pushed_more c.set_chain.new.self m)) k) { slots = slots }) c.self.view_is;
     }
+
+pub returns-in-Err-clause-bad : goal.returns-in-Err-clause-bad
+returns-in-Err-clause-bad g c =
+    let v = g.D.Disk.view c.args.disk.now in
+    λ file slot is h shown.
+    c.in-Err.ensures.bad file slot is shown.tells (page_there v shown.ledger (g.met.D.Disk.content_left c.args.disk.now v.moment shown.tells (omega arith)) shown.facts c.args.key c.args.place c.requires.place)

@@ -1,6 +1,6 @@
 use Rattle.std.proofs.Common.{◌-◌, ◌∙◌, List, ap, slice_set}
 use Rattle.line_arms.specs.declared.allotment.Allotment.{Allotment}
-use Rattle.line_cluster.proofs.Places.{set-set}
+use Rattle.lent_members.proofs.Places.{set-set}
 use Rattle.line_cluster.proofs.allotments.Allotments.take.Goals as goal
 
 pub returns-clause-rest : goal.returns-clause-rest

@@ -34,3 +34,6 @@ pub returns-clause-outside : goal.returns-clause-outside
 returns-clause-outside g c =
     subst (λ (v : Sessions). v.halted ≡ false → HaveEnded (g.O.Origin.opening).stops v.members → (s : ℕ) → bare ((g.L.LineStore.sight c.self.inside.core.common.store).stand s) ≡ outside) c.self.view_is
     (λ going ended. all-outside (g.O.Origin.opening).stops (g.L.LineStore.sight c.self.inside.core.common.store).stand c.self.inside.core.common.tree c.self.inside.core.members.items (c.self.invariant.sound.seated (none-from c.self.inside.core.halt going)) ended)
+
+pub returns-clause-spent : goal.returns-clause-spent
+returns-clause-spent g c = c.self.invariant.sound.spent

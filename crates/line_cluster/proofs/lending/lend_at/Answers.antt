@@ -1,8 +1,0 @@
-use Rattle.std.proofs.Common.{◌∙◌, ap, slice_set}
-use Rattle.session_states.specs.declared.stage.Member.{Member}
-use Rattle.line_cluster.proofs.Places.{set-same}
-use Rattle.line_cluster.proofs.lending.lend_at.Goals as goal
-
-pub returns : goal.returns
-returns g c =
-    c.put_member.ensures ∙ (c.take_member-member.ensures.rest _ ∙ (ap (λ (m : Member). slice_set c.args.members.now.items c.args.at m) c.lend-member.ensures ∙ set-same c.args.members.now.items c.args.at c.take_member-member.result c.take_member-member.ensures.taken))

@@ -1,5 +1,0 @@
-use Rattle.line_cluster.proofs.Places.{set-set}
-use Rattle.line_cluster.proofs.members.take_member.Goals as goal
-
-pub returns-clause-rest : goal.returns-clause-rest
-returns-clause-rest g c m = set-set c.args.members.now.items c.args.at c.replace.new.dest m

@@ -1,0 +1,5 @@
+pub mod Listed
+pub mod Keys
+pub mod Entries
+pub mod Nodes
+pub mod Walks

@@ -1,0 +1,5 @@
+pub mod Values
+pub mod Keys
+pub mod Entries
+pub mod Nodes
+pub mod Wanted

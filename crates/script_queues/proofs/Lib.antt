@@ -1,0 +1,2 @@
+pub mod Fewness
+pub mod Growing

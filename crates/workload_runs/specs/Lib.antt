@@ -1,0 +1,7 @@
+pub mod Among
+pub mod Left
+pub mod Numbers
+pub mod Reports
+pub mod Runs
+pub mod Scripts
+pub mod Statuses
