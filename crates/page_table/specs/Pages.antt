@@ -57,6 +57,15 @@ pub record IsWithin (pages : Pages) (page : ℕ) : Type 0 where
   pub first : 1 ≤ page
   pub last : page ≤ length pages
 
+-- No page behind this one is the area's.
+abbrev pub HasNoneBehind : Pages → (area last : ℕ) → Type 0
+HasNoneBehind pages area last = (page : ℕ) → last < page → page ≤ length pages → owner_in pages page ≡ area → ⊥
+
+-- No page behind this one is owned.
+pub record AreNobodysBehind (pages : Pages) (last : ℕ) : Type 0 where
+  pub within : last ≤ length pages
+  pub none : (page : ℕ) → last < page → page ≤ length pages → owner_in pages page ≡ 0
+
 -- the page is its area's, and has such a line
 pub record IsLineOf (pages : Pages) (key : Dbkey) : Type 0 where
   pub within : IsWithin pages key.page

@@ -44,12 +44,12 @@ impl PageTable {
         }
     }
 
-    /// The first line of a logical area, behind another, that is sought. It looks at the pages from that line's on, once each.
+    /// The first line of a logical area, behind another, that is sought. It looks at the pages from that line's on, once each, up to the last one that anybody owns.
     pub fn next_line(&self, sought: Sought, area: u32, from: Option<Dbkey>) -> Option<Dbkey>
         ensures found { IfSome result (IsFirst self.now sought area from) }
         ensures none { IfNone result (HasNone self.now sought area from) }
     {
-        for page in first_page(area, from)..self.count() + 1 {
+        for page in first_page(area, from)..self.last_of(area) + 1 {
             if let Some(key) = self.line_on(page, sought, area, from) {
                 return Some(key);
             }

@@ -1,6 +1,6 @@
 // The table, and what is put into it.
 ghost use Rattle.std.specs.Prelude.{◌≡◌, ◌≤◌, ◌<◌, ℕ, true, false, length, replicate, IfOk};
-ghost use Rattle.page_table.specs.Pages.{nobodys, empty_of, use_of, owner_in, IsWithin, IsLineOf, IsUsedLine, IsEverUsed, Puts, PutsLine};
+ghost use Rattle.page_table.specs.Pages.{nobodys, empty_of, use_of, owner_in, IsWithin, IsLineOf, IsUsedLine, IsEverUsed, Puts, PutsLine, HasNoneBehind};
 
 use crate::uses::PageUse;
 use rdb_page::lines_of;
@@ -12,17 +12,19 @@ use std::marker::Model;
 #[derive(Drop)]
 pub struct PageTable {
     pub(crate) pages: Vec<PageUse>,
+    // No page behind this one is owned, so no search for an area's lines goes on behind it.
+    last_owned: u32,
 }
 
 impl Model for PageTable {
     ghost use Rattle.std.specs.Prelude.{◌≤◌, length};
-    ghost use Rattle.page_table.specs.Pages.{Pages};
+    ghost use Rattle.page_table.specs.Pages.{Pages, AreNobodysBehind};
 
     ghost Value = { Pages };
 
     ghost view = { λ t. t.pages.items };
 
-    ghost invariant = { λ t. length t.pages.items ≤ 65536 };
+    ghost invariant = { λ t. (length t.pages.items ≤ 65536) × AreNobodysBehind t.pages.items t.last_owned };
 }
 
 impl PageTable {
@@ -32,7 +34,10 @@ impl PageTable {
         ensures { IfOk result (λ made. made ≡ replicate pages nobodys) }
     {
         let uses = vec![in alloc; PageUse::empty(0, 0); pages as usize]?;
-        Ok(PageTable { pages: uses })
+        Ok(PageTable {
+            pages: uses,
+            last_owned: 0,
+        })
     }
 
     /// How many pages there are.
@@ -57,6 +62,21 @@ impl PageTable {
         ensures { Puts page used self.old self.new }
     {
         self.pages[page as usize - 1] = used;
+        if used.owner != 0 && self.last_owned < page {
+            self.last_owned = page;
+        }
+    }
+
+    // The last page that may be an area's.
+    pub(crate) fn last_of(&self, area: u32) -> u32
+        ensures within { result ≤ length self.now }
+        ensures limit { result ≤ 65536 }
+        ensures none { HasNoneBehind self.now area result }
+    {
+        match area {
+            0 => self.count(),
+            _ => self.last_owned,
+        }
     }
 
     /// Takes a page that nobody owns for a logical area and a class.
