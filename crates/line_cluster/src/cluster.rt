@@ -22,9 +22,10 @@ use lent_members::{LentMember, is_stopping, lend_at, take_back_at, takes_item};
 use lent_values::{Loan, Naming, Opened, Worked};
 use line_account::KEPT_EVENTS;
 use line_store::LineStore;
+use lock_needs::Need;
 use lock_tree::Tree;
 use rdb_account::{Event, Events};
-use rdb_types::{Cause, Items, NoMemory, Session, Word};
+use rdb_types::{Cause, Items, Level, NoMemory, Node, Session, Word};
 use reached_changes::Reaches;
 use reserved_locks::Reserves;
 use session_jobs::{Job, Statements};
@@ -32,6 +33,18 @@ use session_states::WholeScript;
 use stage_steps::Common;
 use std::alloc::Global;
 use std::marker::{Model, PhantomData};
+use vms_queues::Mode;
+
+// A need that nobody has.
+const NOBODYS: Need = Need {
+    node: Node {
+        level: Level::Journal,
+        area: 0,
+        at: 0,
+        line: 0,
+    },
+    mode: Mode::NL,
+};
 
 /// The sessions of a run over a store of lines, each with its script, and their account.
 #[derive(Drop)]
@@ -259,8 +272,8 @@ impl<O: Origin + Naming, S: Reserves + Reaches, L: LineStore + Drop> LineCluster
         ensures over { O.told → self.now.halted ≡ false → (s : ℕ) → 1 ≤ s → IsAtEnd O.opening.stops s self.now → HasNothingLeft O.opening (place O.opening (map event_of self.now.events)) s }
         ensures whole { O.told → self.now.halted ≡ false → HaveEnded O.opening.stops self.now.members → HaveAllEnded O.opening O.sessions (map event_of self.now.events) }
     {
-        // (so the tree is whole)
-        let _blocker = self.core.common.tree.blocker(1);
+        // (so the tree is whole; nobody is owner 0, so nothing is gone through)
+        let _held = self.core.common.tree.holds(0, NOBODYS);
         self.core.count();
     }
 
