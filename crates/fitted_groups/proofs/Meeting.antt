@@ -10,7 +10,7 @@ use Rattle.stable_lines.specs.Slots.{area_file}
 use Rattle.stable_lines.specs.Journal.{write_of}
 use Rattle.rolled_lines.specs.HalfLaid.{writes_of}
 use Rattle.laid_groups.specs.Forward.{IsWrittenBy}
-use Rattle.restored_rolls.specs.Meeting.{lines_among, is_there, first_there, owner_met, class_met}
+use Rattle.fitted_groups.specs.Meeting.{lines_among, is_there, first_there, owner_met, class_met}
 
 -- ---- each line is a write
 

@@ -1,0 +1,34 @@
+-- What is kept in memory of the pages of the area files while lines are looked at.
+use Rattle.std.specs.Prelude.{ℕ, ◌+◌, ◌*◌, ◌-◌, ◌≤◌, ◌≡◌, List, length, slice_get, Some}
+use Rattle.rdb_outside.specs.Disk.{Image}
+use Rattle.rdb_page.specs.Page.{class_at}
+use Rattle.area_files.specs.Areas.{IsDataPage}
+use Rattle.aij_journal.specs.declared.part.GroupLine.{GroupLine}
+use Rattle.stable_lines.specs.Slots.{IsAreaFile, owner_at}
+use Rattle.fitted_groups.specs.declared.claims.PageClaim.{PageClaim}
+use Rattle.fitted_groups.specs.Meeting.{first_there, page_in, owner_met, class_met, FitOver}
+
+-- the place of a page's claim: those of page 1 of each of the three files stand first
+abbrev pub seat_of : ℕ → ℕ → ℕ
+seat_of file number = (number - 1) * 3 + (file - 1)
+
+-- what the bytes of a page claim
+abbrev pub claim_at : List ℕ → PageClaim
+claim_at page = record { owner = owner_at page; class = class_at page }
+
+-- what a page claims behind these lines
+abbrev pub claim_over : Image → List GroupLine → ℕ → ℕ → PageClaim
+claim_over image lines file number = record {
+  owner = owner_met (owner_at (page_in image file number)) (first_there file number lines) 0;
+  class = class_met (owner_at (page_in image file number)) (first_there file number lines) (class_at (page_in image file number));
+}
+
+-- There is a place for each page up to the limit, and that of a data page has what it claims behind these lines.
+pub record HasClaims (image : Image) (pages : ℕ) (lines : List GroupLine) (claims : List PageClaim) : Type 0 where
+  pub size : length claims ≡ pages * 3
+  pub each : (file number : ℕ) → IsAreaFile file → IsDataPage number → number ≤ pages → slice_get claims (seat_of file number) ≡ Some (claim_over image lines file number)
+
+-- All of these lines fit, and the claims are those behind them.
+pub record AreFitted (image : Image) (pages : ℕ) (lines : List GroupLine) (claims : List PageClaim) : Type 0 where
+  pub has : HasClaims image pages lines claims
+  pub fit : FitOver image pages lines
