@@ -1,5 +1,5 @@
 -- A claim looked at, and taken.
-use Rattle.std.proofs.Common.{◌≡◌, ◌≢◌, ℕ, zero, suc, ◌+◌, ◌*◌, ◌-◌, ◌≤◌, ◌<◌, Bool, true, false, List, [], ◌∷◌, ◌++◌, length, get_or, slice_get, slice_set, Option, Some, None, ◌⊎◌, inl, inr, ⊎_elim, refl, sym, ◌∙◌, ap, subst, arith}
+use Rattle.std.proofs.Common.{◌≡◌, ◌≢◌, ℕ, zero, suc, ◌+◌, ◌*◌, ◌-◌, ◌/◌, ◌%◌, ◌≤◌, ◌<◌, Bool, true, false, List, [], ◌∷◌, ◌++◌, length, get_or, slice_get, slice_set, Option, Some, None, ◌⊎◌, inl, inr, ⊎_elim, refl, sym, ◌∙◌, ap, subst, arith}
 use Rattle.std.proofs.lemmas.Option.{slice_get-get_or, get_or_from_slice_get, slice_get_within}
 use Rattle.std.proofs.lemmas.List.{get_or-set_other}
 use Rattle.std.proofs.lemmas.Grind.{get_or-set_at}
@@ -8,7 +8,7 @@ use Rattle.rdb_page.specs.Page.{class_at, lines_of}
 use Rattle.area_files.specs.Areas.{IsDataPage}
 use Rattle.aij_journal.specs.declared.part.GroupLine.{GroupLine}
 use Rattle.aij_journal.specs.Part.{IsAllowedLine}
-use Rattle.stable_lines.specs.Slots.{IsAreaFile, owner_at}
+use Rattle.stable_lines.specs.Slots.{area_file, IsAreaFile, owner_at}
 use Rattle.line_moves.specs.declared.places.Place.{Place}
 use Rattle.line_moves.specs.Changes.{IsPlaceOf}
 use Rattle.line_moves.proofs.KeyPlaces.{area_is, some_area}
@@ -16,7 +16,7 @@ use Rattle.line_moves.proofs.Putting.{nat_cases}
 use Rattle.laid_groups.proofs.Once.{one_place}
 use Rattle.fitted_groups.specs.declared.claims.PageClaim.{PageClaim}
 use Rattle.fitted_groups.specs.Meeting.{is_there, first_there, page_in, entry_in, owner_met, class_met, owner_over, class_over, FitsPage, FitOver}
-use Rattle.fitted_groups.specs.Claims.{seat_of, claim_over, HasClaims, AreFitted}
+use Rattle.fitted_groups.specs.Claims.{seat_of, claim_at, claim_over, HasClaims, AreFitted}
 use Rattle.fitted_groups.proofs.Firsts.{or_else, first_both, first_one, first_none, on_place, its_page, fit_one_more, first_area}
 
 -- ---- seats
@@ -200,3 +200,43 @@ pub set_long : (claims : List PageClaim) (seat : ℕ) (claim : PageClaim) → le
 set_long [] seat claim = refl
 set_long (c ∷ claims) zero claim = refl
 set_long (c ∷ claims) (suc seat) claim = ap suc (set_long claims seat claim)
+
+-- ---- the claims as they are read
+
+pub seat_file : (file number : ℕ) → IsAreaFile file → IsDataPage number → seat_of file number % 3 + 1 ≡ file
+seat_file file number area plain = let low = area.first in let high = area.last in let first = plain.is_page.first in omega (arith, low, high, first)
+
+pub seat_slot : (file number : ℕ) → IsAreaFile file → IsDataPage number → seat_of file number / 3 ≡ number - 1
+seat_slot file number area plain = let low = area.first in let high = area.last in let first = plain.is_page.first in omega (arith, low, high, first)
+
+-- before any line
+unlaid : (own class : ℕ) → ◌≡◌ {A = PageClaim} (record { owner = owner_met own None 0; class = class_met own None class }) (record { owner = own; class = class })
+unlaid zero class = refl
+unlaid (suc own) class = refl
+
+module _ (image : Image) where
+  abbrev Reads : ℕ → List PageClaim → Type 0
+  Reads seats claims = (k : ℕ) → k < seats → slice_get claims k ≡ Some (claim_at (image (area_file (k % 3 + 1)) (k / 3)))
+
+  pub none_read : (claims : List PageClaim) (k : ℕ) → k < 0 → slice_get claims k ≡ Some (claim_at (image (area_file (k % 3 + 1)) (k / 3)))
+  none_read claims k less = absurd (omega (arith, less))
+
+  pub one_read : (claims : List PageClaim) (seat : ℕ) (claim : PageClaim) → seat < length claims → claim ≡ claim_at (image (area_file (seat % 3 + 1)) (seat / 3)) → Reads seat claims → Reads (seat + 1) (slice_set claims seat claim)
+  one_read claims seat claim within is reads k less = ⊎_elim
+      (λ (same : k ≡ seat). subst (λ (n : ℕ). slice_get (slice_set claims seat claim) n ≡ Some (claim_at (image (area_file (n % 3 + 1)) (n / 3)))) (sym same) (set_here claims seat claim within ∙ ap Some is))
+      (λ (apart : k ≢ seat). set_others claims seat claim k apart ∙ reads k (omega (arith, less, apart)))
+      (nat_cases k seat)
+
+  pub all_read : (pages : ℕ) (claims : List PageClaim) → length claims ≡ pages * 3 → Reads (length claims) claims → AreFitted image pages [] claims
+  all_read pages claims size reads = record {
+    has = record {
+      size = size;
+      each = λ file number area plain within.
+          let inside = seat_within file number pages area plain within in
+          reads (seat_of file number) (omega (arith, inside, size))
+          ∙ ap Some (ap (λ (f : ℕ). claim_at (image (area_file f) (seat_of file number / 3))) (seat_file file number area plain)
+          ∙ ap (λ (n : ℕ). claim_at (image (area_file file) n)) (seat_slot file number area plain)
+          ∙ sym (unlaid (owner_at (page_in image file number)) (class_at (page_in image file number))));
+    };
+    fit = λ i l got. let bad : None ≡ Some l = got in absurd (let no : ⊥ = cc in no);
+  }

@@ -1,6 +1,7 @@
 -- Lines of groups looked at, one behind another.
 use Rattle.std.proofs.Common.{◌≡◌, ℕ, zero, suc, ◌+◌, ◌≤◌, ◌<◌, nat_lt, Bool, cond, List, [], ◌∷◌, ◌++◌, length, take, slice_get, Option, Some, None, refl, sym, ◌∙◌, ap, subst, arith}
 use Rattle.std.specs.List.{flat_map}
+use Rattle.rdb_types.specs.declared.keys.Dbkey.{Dbkey}
 use Rattle.rdb_outside.specs.Disk.{Image}
 use Rattle.aij_journal.specs.declared.part.GroupLine.{GroupLine}
 use Rattle.aij_journal.specs.declared.part.AijPart.{AijPart}
@@ -18,6 +19,7 @@ use Rattle.stable_lines.proofs.Unique.{standing_at}
 use Rattle.laid_groups.proofs.Behind.{flat_both}
 use Rattle.laid_groups.proofs.Walking.{AtGroup, begins, found_next, none_next, goes_on, above_both, above_one, above_none}
 use Rattle.fitted_groups.specs.declared.claims.PageClaim.{PageClaim}
+use Rattle.fitted_groups.specs.declared.journals.Fitted.TheVariants.{Behind, Unfit}
 use Rattle.fitted_groups.specs.Meeting.{lines_among, FitsPage, FitOver}
 use Rattle.fitted_groups.specs.Claims.{AreFitted}
 use Rattle.fitted_groups.proofs.Firsts.{fits_upto}
@@ -146,3 +148,11 @@ module _ (image : Image) (pages : ℕ) (before : List GroupLine) (journal : Jour
 
   pub all_looked : (claims : List PageClaim) → ((g : Group) → IsWhole number g → standing stood aij_file slot (count_of g) ≡ slots_of g → ⊥) → FittedUpTo image pages before claims journal last slot number → AreFitted image pages (before ++ lines_among (groups_above last journal.groups)) claims
   all_looked claims none was = subst (λ (gs : List Group). AreFitted image pages (before ++ lines_among (groups_above last gs)) claims) (sym (none_next stood journal is slot number was.at none)) was.are
+
+-- ---- one answer
+
+pub same_behind : (a b : ℕ) → Behind a ≡ Behind b → a ≡ b
+same_behind a b same = cc
+
+pub same_unfit : (a b : Dbkey) → Unfit a ≡ Unfit b → a ≡ b
+same_unfit a b same = cc

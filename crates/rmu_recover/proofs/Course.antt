@@ -20,7 +20,7 @@ use Rattle.laid_groups.specs.Passing.{ceiling_behind}
 use Rattle.fitted_groups.specs.Meeting.{TakesFirst, FitPages}
 use Rattle.fitted_groups.proofs.Fits.{fits_forward, takes_first, fit_pages}
 use Rattle.rmu_recover.specs.Journals.{files_of, AreJournalsIn}
-use Rattle.rmu_recover.specs.Recovering.{root_unfinished, root_rolled, MayStand, MayBeRolled, IsToRoll, IsSource, AllFit, TakesGroups, AreSound, IsRolled, WithinRecover, as_before, unfinished, rolled}
+use Rattle.rmu_recover.specs.Recovering.{root_unfinished, root_rolled, MayStand, MayBeRolled, IsToRoll, IsSource, AllFit, FitsImage, AreSound, IsRolled, WithinRecover, as_before, unfinished, rolled}
 use Rattle.rmu_recover.proofs.Ended.{ceiling_grows, is_rolled}
 use Rattle.rmu_recover.proofs.Walking.{journal_there}
 

@@ -90,7 +90,7 @@ pub record HasGroups (former : Image) (copies : List ℕ) (root : Root) (journal
   pub follows : follow root.applied journals ≡ laid groups
 
 -- The groups fit the pages of the image, and a page that was never used is in the end that of the first line that is laid on it.
-pub record TakesGroups (forward : Forward) (root : Root) (groups : List Group) (image : Image) : Type 0 where
+pub record FitsImage (forward : Forward) (root : Root) (groups : List Group) (image : Image) : Type 0 where
   pub fit : FitPages image root.limits.pages groups
   pub first : TakesFirst image forward groups
 
@@ -111,5 +111,5 @@ pub record IsRolled (classes : ℕ → ℕ) (root : Root) (forward : Forward) (g
 -- What a crash may leave within it: what it might have left before; an image that says that it is unfinished and whose pages the groups fit, from which the same roll-forward gives the same lines; or the lines rolled forward.
 pub data WithinRecover (v : View) (former : Image) (classes : ℕ → ℕ) (root : Root) (forward : Forward) (groups : List Group) (aij : Journal) (image : Image) : Type 0 where
   as_before : IsPending v image → WithinRecover v former classes root forward groups aij image
-  unfinished : IsRoot (image root_file 0) (root_unfinished root) → MayBeRolled former root forward image → TakesGroups forward root groups image → WithinRecover v former classes root forward groups aij image
+  unfinished : IsRoot (image root_file 0) (root_unfinished root) → MayBeRolled former root forward image → FitsImage forward root groups image → WithinRecover v former classes root forward groups aij image
   rolled : IsRolled classes root forward groups aij image → WithinRecover v former classes root forward groups aij image
