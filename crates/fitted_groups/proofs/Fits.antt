@@ -1,5 +1,5 @@
 -- Groups whose lines fit the pages of an image fit whatever a roll-forward goes by there.
-use Rattle.std.proofs.Common.{◌≡◌, ℕ, zero, suc, ◌≤◌, ◌<◌, List, [], ◌∷◌, slice_get, Option, Some, None, ◌⊎◌, inl, inr, ⊎_elim, refl, sym, ◌∙◌, ap, subst, arith}
+use Rattle.std.proofs.Common.{◌≡◌, ℕ, zero, suc, ◌-◌, ◌≤◌, ◌<◌, List, [], ◌∷◌, slice_get, Option, Some, None, ◌⊎◌, inl, inr, ⊎_elim, refl, sym, ◌∙◌, ap, subst, arith}
 use Rattle.rdb_outside.specs.Disk.{Image}
 use Rattle.rdb_page.specs.Page.{IsOwner, IsUnused, class_at}
 use Rattle.rdb_page.specs.Whole.{IsUsedPage}
@@ -37,7 +37,7 @@ module _ (image : Image) (forward : Forward) (pages : ℕ) (groups : List Group)
   page = page_in image it.place.file it.place.page
 
   may : MayBePage forward it.place.file it.place.page (page_in image it.place.file it.place.page)
-  may = (under (area_file it.place.file) _).page it.place.file it.place.page (area_is l.key it.place it.names) it.names.is_data refl refl
+  may = (under (area_file it.place.file) (it.place.page - 1)).page it.place.file it.place.page (area_is l.key it.place it.names) it.names.is_data refl refl
 
   -- one that was never used takes that of its first line
   unused_is : IsUnused (page_in image it.place.file it.place.page) → IsOfLine forward it.place.file it.place.page l
@@ -138,7 +138,7 @@ module _ (forward : Forward) (groups : List Group) (fits : (i : ℕ) (g : Group)
     met : IsMet
     met =
         let fit = fits_line k l got in
-        let may : MayBePage forward fit.place.file fit.place.page (page_in image fit.place.file fit.place.page) = (under (area_file fit.place.file) _).page fit.place.file fit.place.page (area_is l.key fit.place fit.names) fit.names.is_data refl refl in
+        let may : MayBePage forward fit.place.file fit.place.page (page_in image fit.place.file fit.place.page) = (under (area_file fit.place.file) (fit.place.page - 1)).page fit.place.file fit.place.page (area_is l.key fit.place fit.names) fit.names.is_data refl refl in
         ⊎_elim met_unused
         (λ (used : IsUsedPage fit.place.file fit.place.page (page_in image fit.place.file fit.place.page)). ⊎_elim met_unused (met_used (used_owner fit.place.file fit.place.page bytes used)) may.used)
         may.page

@@ -50,7 +50,8 @@ fn read_claims<D: Disk>(disk: &mut D, claims: &mut [PageClaim]) -> Result<(), Op
 {
     for seat in 0..claims.len() {
         let at = seat as u32;
-        claims[seat] = read_claim(disk, at % 3 + 1, at / 3)?;
+        let claim = read_claim(disk, at % 3 + 1, at / 3)?;
+        claims[seat] = claim;
     }
     Ok(())
 }
