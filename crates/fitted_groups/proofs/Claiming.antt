@@ -3,7 +3,8 @@ use Rattle.std.proofs.Common.{◌≡◌, ◌≢◌, ℕ, zero, suc, ◌+◌, ◌
 use Rattle.std.proofs.lemmas.Option.{slice_get-get_or, get_or_from_slice_get, slice_get_within}
 use Rattle.std.proofs.lemmas.List.{get_or-set_other}
 use Rattle.std.proofs.lemmas.Grind.{get_or-set_at}
-use Rattle.rdb_outside.specs.Disk.{Image}
+use Rattle.slot_fields.specs.Fields.{number_at}
+use Rattle.rdb_outside.specs.Disk.{Image, zeros}
 use Rattle.rdb_page.specs.Page.{class_at, lines_of}
 use Rattle.area_files.specs.Areas.{IsDataPage}
 use Rattle.aij_journal.specs.declared.part.GroupLine.{GroupLine}
@@ -208,6 +209,14 @@ seat_file file number area plain = let low = area.first in let high = area.last 
 
 pub seat_slot : (file number : ℕ) → IsAreaFile file → IsDataPage number → seat_of file number / 3 ≡ number - 1
 seat_slot file number area plain = let low = area.first in let high = area.last in let first = plain.is_page.first in omega (arith, low, high, first)
+
+-- behind a file's end a page claims nothing
+pub zeros_claim : (file : ℕ) → ◌≡◌ {A = PageClaim} (record { owner = 0; class = 0 }) (claim_at (zeros (area_file file)))
+unfolding number_at
+zeros_claim file = refl
+
+pub seat_area : (seat : ℕ) → IsAreaFile (seat % 3 + 1)
+seat_area seat = record { first = omega arith; last = omega arith }
 
 -- before any line
 unlaid : (own class : ℕ) → ◌≡◌ {A = PageClaim} (record { owner = owner_met own None 0; class = class_met own None class }) (record { owner = own; class = class })

@@ -1,12 +1,21 @@
 -- What is kept in memory of the pages of the area files while lines are looked at.
-use Rattle.std.specs.Prelude.{ℕ, ◌+◌, ◌*◌, ◌-◌, ◌≤◌, ◌≡◌, List, length, slice_get, Some}
+use Rattle.std.specs.Prelude.{ℕ, ◌+◌, ◌*◌, ◌-◌, ◌≤◌, ◌≡◌, nat_eq, if◌then◌else◌, List, length, slice_get, Some}
 use Rattle.rdb_outside.specs.Disk.{Image}
 use Rattle.rdb_page.specs.Page.{class_at}
 use Rattle.area_files.specs.Areas.{IsDataPage}
 use Rattle.aij_journal.specs.declared.part.GroupLine.{GroupLine}
-use Rattle.stable_lines.specs.Slots.{IsAreaFile, owner_at}
+use Rattle.journal_reading.specs.Journal.{EndsBy}
+use Rattle.stable_lines.specs.Slots.{area_file, IsAreaFile, owner_at}
+use Rattle.fitted_groups.specs.declared.claims.AreaEnds.{AreaEnds}
 use Rattle.fitted_groups.specs.declared.claims.PageClaim.{PageClaim}
 use Rattle.fitted_groups.specs.Meeting.{first_there, page_in, owner_met, class_met, FitOver}
+
+-- how many slots an area file has: behind them all is zeros
+abbrev pub end_in : AreaEnds → ℕ → ℕ
+end_in ends file = if nat_eq file 1 then ends.catalog else (if nat_eq file 2 then ends.relations else ends.indexes)
+
+abbrev pub AreEnds : Image → AreaEnds → Type 0
+AreEnds image ends = (file : ℕ) → IsAreaFile file → EndsBy image (area_file file) (end_in ends file)
 
 -- the place of a page's claim: those of page 1 of each of the three files stand first
 abbrev pub seat_of : ℕ → ℕ → ℕ
