@@ -1,8 +1,8 @@
 -- A claim looked at, and taken.
-use Rattle.std.proofs.Common.{◌≡◌, ◌≢◌, ℕ, zero, suc, ◌+◌, ◌*◌, ◌-◌, ◌/◌, ◌%◌, ◌≤◌, ◌<◌, Bool, true, false, List, [], ◌∷◌, ◌++◌, length, get_or, slice_get, slice_set, Option, Some, None, ◌⊎◌, inl, inr, ⊎_elim, refl, sym, ◌∙◌, ap, subst, arith}
-use Rattle.std.proofs.lemmas.Option.{slice_get-get_or, get_or_from_slice_get, slice_get_within}
-use Rattle.std.proofs.lemmas.List.{get_or-set_other}
-use Rattle.std.proofs.lemmas.Grind.{get_or-set_at}
+use Rattle.std.proofs.Common.{◌≡◌, ◌≢◌, ℕ, zero, suc, ◌+◌, ◌*◌, ◌-◌, ◌/◌, ◌%◌, ◌≤◌, ◌<◌, Bool, true, false, List, [], ◌∷◌, ◌++◌, length, nat_eq, slice_get, slice_set, Option, Some, None, ◌⊎◌, inl, inr, ⊎_elim, refl, sym, ◌∙◌, ap, subst, arith}
+use Rattle.std.specs.Prelude.{slice_index_or}
+use Rattle.std.proofs.lemmas.Bool.{eqb-true, eq-eqb}
+use Rattle.std.proofs.lemmas.Option.{slice_get-get_or}
 use Rattle.slot_fields.specs.Fields.{number_at}
 use Rattle.rdb_outside.specs.Disk.{Image, zeros}
 use Rattle.rdb_page.specs.Page.{class_at, lines_of}
@@ -17,7 +17,7 @@ use Rattle.line_moves.proofs.Putting.{nat_cases}
 use Rattle.laid_groups.proofs.Once.{one_place}
 use Rattle.fitted_groups.specs.declared.claims.PageClaim.{PageClaim}
 use Rattle.fitted_groups.specs.Meeting.{is_there, first_there, page_in, entry_in, owner_met, class_met, owner_over, class_over, FitsPage, FitOver}
-use Rattle.fitted_groups.specs.Claims.{seat_of, claim_at, claim_over, HasClaims, AreFitted}
+use Rattle.fitted_groups.specs.Claims.{seat_of, claim_at, claim_over, MayClaim, HasClaims, AreFitted}
 use Rattle.fitted_groups.proofs.Firsts.{or_else, first_both, first_one, first_none, on_place, its_page, fit_one_more, first_area}
 
 -- ---- seats
@@ -29,8 +29,8 @@ pub page_within : (file number pages : ℕ) → IsAreaFile file → IsDataPage n
 page_within file number pages area plain within = let low = area.first in let high = area.last in let first = plain.is_page.first in omega (arith, low, high, first, within)
 
 pub one_seat : (file number other page : ℕ) → IsAreaFile file → IsDataPage number → IsAreaFile other → IsDataPage page → seat_of file number ≡ seat_of other page → (file ≡ other) × (number ≡ page)
-one_seat file number other page area plain its data same =
-    let low = area.first in let high = area.last in let first = plain.is_page.first in let its_low = its.first in let its_high = its.last in let its_first = data.is_page.first in
+one_seat file number other page area plain its whole same =
+    let low = area.first in let high = area.last in let first = plain.is_page.first in let its_low = its.first in let its_high = its.last in let its_first = whole.is_page.first in
     (omega (arith, low, high, first, its_low, its_high, its_first, same), omega (arith, low, high, first, its_low, its_high, its_first, same))
 
 -- ---- owners
@@ -158,16 +158,7 @@ module _ (image : Image) (pages : ℕ) (before : List GroupLine) (claims : List 
   there_or file number true is = inl (its_page file number l place names is)
   there_or file number false is = inr is
 
-  pub claims_kept : claim_over image (before ++ l ∷ []) place.file place.page ≡ claim_over image before place.file place.page → HasClaims image pages (before ++ l ∷ []) claims
-  claims_kept same = record {
-    size = are.has.size;
-    each = λ file number area plain within. are.has.each file number area plain within ∙ ap Some (sym (⊎_elim
-        (λ here. subst (λ (f : ℕ). claim_over image (before ++ l ∷ []) f number ≡ claim_over image before f number) (sym here.0) (subst (λ (n : ℕ). claim_over image (before ++ l ∷ []) place.file n ≡ claim_over image before place.file n) (sym here.1) same))
-        (λ off. claim_elsewhere file number off)
-        (there_or file number (is_there file number l) refl)));
-  }
-
-  pub claims_taken : (new : List PageClaim) (claim : PageClaim) → length new ≡ length claims → slice_get new (seat_of place.file place.page) ≡ Some claim → ((k : ℕ) → k ≢ seat_of place.file place.page → slice_get new k ≡ slice_get claims k) → claim_over image (before ++ l ∷ []) place.file place.page ≡ claim → HasClaims image pages (before ++ l ∷ []) new
+  claims_taken : (new : List PageClaim) (claim : PageClaim) → length new ≡ length claims → slice_get new (seat_of place.file place.page) ≡ Some claim → ((k : ℕ) → k ≢ seat_of place.file place.page → slice_get new k ≡ slice_get claims k) → claim_over image (before ++ l ∷ []) place.file place.page ≡ claim → HasClaims image pages (before ++ l ∷ []) new
   claims_taken new claim long here others is = record {
     size = long ∙ are.has.size;
     each = λ file number area plain within. ⊎_elim
@@ -182,6 +173,44 @@ module _ (image : Image) (pages : ℕ) (before : List GroupLine) (claims : List 
           let pages = one_seat file number place.file place.page area plain its_file names.is_data same in
           let on : is_there file number l ≡ true = subst (λ (f : ℕ). is_there f number l ≡ true) (sym pages.0) (subst (λ (n : ℕ). is_there place.file n l ≡ true) (sym pages.1) (on_place l place names)) in
           let bad : false ≡ true = sym off ∙ on in cc
+
+  -- ---- the line's claim
+
+  abbrev its_claim : PageClaim
+  its_claim = record { owner = l.key.area; class = l.class }
+
+  may : l.key.page ≤ pages → MayClaim (record { owner = l.key.area; class = l.class }) (slice_get claims (seat_of place.file place.page)) → (owner_met own first 0 ≡ 0) ⊎ (claim_over image before place.file place.page ≡ its_claim)
+  may within may = subst (λ (w : Option PageClaim). MayClaim its_claim w) (its_seat within) may
+
+  may_not : l.key.page ≤ pages → (owner_met own first 0 ≡ 0) ⊎ (claim_over image before place.file place.page ≡ its_claim) → MayClaim (record { owner = l.key.area; class = l.class }) (slice_get claims (seat_of place.file place.page))
+  may_not within either = subst (λ (w : Option PageClaim). MayClaim its_claim w) (sym (its_seat within)) either
+
+  pub fitted_with : (new : List PageClaim) → seat_of place.file place.page < length claims → l.key.line < lines_of l.class → IsAllowedLine l → length new ≡ length claims
+      → ((k : ℕ) → k ≢ seat_of place.file place.page → slice_get new k ≡ slice_get claims k) → slice_get new (seat_of place.file place.page) ≡ Some (record { owner = l.key.area; class = l.class })
+      → MayClaim (record { owner = l.key.area; class = l.class }) (slice_get claims (seat_of place.file place.page)) → AreFitted image pages (before ++ l ∷ []) new
+  fitted_with new less line allowed long others here was = ⊎_elim
+      (λ free. record {
+        has = claims_taken new its_claim long here others (claim_new free);
+        fit = fit_one_more image pages before l are.fit (fits_free free within line allowed);
+      })
+      (λ same. let owner : owner_met own first 0 ≡ l.key.area = ap (λ (c : PageClaim). c.owner) same in
+      let taken : owner_met own first 0 ≢ 0 = λ none. (let some = some_area l.key place names in omega (arith, some, none, owner)) in
+      record {
+        has = claims_taken new its_claim long here others (claim_kept taken ∙ same);
+        fit = fit_one_more image pages before l are.fit (fits_taken taken within line allowed owner (ap (λ (c : PageClaim). c.class) same));
+      })
+      (may within was)
+    where
+      within : l.key.page ≤ pages
+      within = seat_is_within less
+
+  pub refuses : seat_of place.file place.page < length claims → (MayClaim (record { owner = l.key.area; class = l.class }) (slice_get claims (seat_of place.file place.page)) → ⊥) → FitsPage image pages (before ++ l ∷ []) l → ⊥
+  refuses less off it =
+      let within = seat_is_within less in
+      let taken : owner_met own first 0 ≢ 0 = λ none. off (may_not within (inl none)) in
+      let owner = owner_fits taken it in
+      let class_is = class_fits taken it in
+      off (may_not within (inr (λ i. record { owner = owner i; class = class_is i })))
 
 -- ---- a claim that is set
 
@@ -249,3 +278,35 @@ module _ (image : Image) where
     };
     fit = λ i l got. let bad : None ≡ Some l = got in absurd (let no : ⊥ = cc in no);
   }
+
+-- ---- a seat by another name
+
+pub at_seat : (claims : List PageClaim) (seat place : ℕ) (claim : PageClaim) → seat ≡ place → slice_get claims seat ≡ Some claim → slice_get claims place ≡ Some claim
+at_seat claims seat place claim same is = subst (λ (n : ℕ). slice_get claims n ≡ Some claim) same is
+
+pub off_seat : (claims : List PageClaim) (seat place : ℕ) (claim : PageClaim) → seat ≡ place → MayClaim claim (slice_get claims seat) → MayClaim claim (slice_get claims place)
+off_seat claims seat place claim same is = subst (λ (n : ℕ). MayClaim claim (slice_get claims n)) same is
+
+pub others_at : (claims new : List PageClaim) (seat place : ℕ) → seat ≡ place → ((k : ℕ) → k ≢ seat → slice_get new k ≡ slice_get claims k) → (k : ℕ) → k ≢ place → slice_get new k ≡ slice_get claims k
+others_at claims new seat place same others = subst (λ (n : ℕ). (k : ℕ) → k ≢ n → slice_get new k ≡ slice_get claims k) same others
+
+-- ---- a claim found in a seat
+
+module _ (claims : List PageClaim) (seat : ℕ) (claim none : PageClaim) (less : seat < length claims) where
+  found_is : slice_get claims seat ≡ Some (slice_index_or claims seat none)
+  found_is = slice_get-get_or claims seat none less
+
+  pub may_free : (slice_index_or claims seat none).owner ≡ 0 → MayClaim claim (slice_get claims seat)
+  may_free is = subst (λ (w : Option PageClaim). MayClaim claim w) (sym found_is) (inl is)
+
+  pub is_same : (slice_index_or claims seat none).owner ≡ claim.owner → nat_eq (slice_index_or claims seat none).class claim.class ≡ true → slice_get claims seat ≡ Some claim
+  is_same owner class = let same = eqb-true (slice_index_or claims seat none).class claim.class class in found_is ∙ ap Some (λ i. record { owner = owner i; class = same i })
+
+  pub may_same : (slice_index_or claims seat none).owner ≡ claim.owner → nat_eq (slice_index_or claims seat none).class claim.class ≡ true → MayClaim claim (slice_get claims seat)
+  may_same owner class = subst (λ (w : Option PageClaim). MayClaim claim w) (sym (is_same owner class)) (inr refl)
+
+  pub may_only : (slice_index_or claims seat none).owner ≢ 0 → MayClaim claim (slice_get claims seat) → slice_index_or claims seat none ≡ claim
+  may_only some may_be = ⊎_elim (λ free. absurd (some free)) (λ same. same) (subst (λ (w : Option PageClaim). MayClaim claim w) found_is may_be)
+
+pub not_class : (a b : ℕ) → a ≡ b → nat_eq a b ≡ false → ⊥
+not_class a b same off = let bad : true ≡ false = sym (eq-eqb a b same) ∙ off in cc

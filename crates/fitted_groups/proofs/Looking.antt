@@ -1,7 +1,6 @@
 -- Lines of groups looked at, one behind another.
-use Rattle.std.proofs.Common.{◌≡◌, ℕ, zero, suc, ◌+◌, ◌≤◌, ◌<◌, nat_lt, Bool, cond, List, [], ◌∷◌, ◌++◌, length, take, slice_get, Option, Some, None, refl, sym, ◌∙◌, ap, subst, arith}
+use Rattle.std.proofs.Common.{◌≡◌, ℕ, zero, suc, ◌+◌, ◌≤◌, ◌<◌, nat_lt, Bool, cond, List, [], ◌∷◌, ◌++◌, length, take, slice_get, Option, Some, None, refl, sym, ◌∙◌, ap, subst, arith, length-append}
 use Rattle.std.specs.List.{flat_map}
-use Rattle.rdb_types.specs.declared.keys.Dbkey.{Dbkey}
 use Rattle.rdb_outside.specs.Disk.{Image}
 use Rattle.aij_journal.specs.declared.part.GroupLine.{GroupLine}
 use Rattle.aij_journal.specs.declared.part.AijPart.{AijPart}
@@ -17,9 +16,9 @@ use Rattle.stable_lines.specs.Rolling.{groups_above}
 use Rattle.stable_lines.proofs.Lists.{got_right}
 use Rattle.stable_lines.proofs.Unique.{standing_at}
 use Rattle.laid_groups.proofs.Behind.{flat_both}
-use Rattle.laid_groups.proofs.Walking.{AtGroup, begins, found_next, none_next, goes_on, above_both, above_one, above_none}
+use Rattle.laid_groups.proofs.Walking.{AtGroup, begins, found_next, none_next, at_next, above_both, above_one, above_none}
 use Rattle.fitted_groups.specs.declared.claims.PageClaim.{PageClaim}
-use Rattle.fitted_groups.specs.declared.journals.Fitted.TheVariants.{Behind, Unfit}
+use Rattle.fitted_groups.specs.declared.journals.Fitted.TheVariants.{Behind}
 use Rattle.fitted_groups.specs.Meeting.{lines_among, FitsPage, FitOver}
 use Rattle.fitted_groups.specs.Claims.{AreFitted}
 use Rattle.fitted_groups.proofs.Firsts.{fits_upto}
@@ -112,9 +111,29 @@ pub record FittedUpTo (image : Image) (pages : ℕ) (before : List GroupLine) (c
   pub at : AtGroup journal slot number
   pub are : AreFitted image pages (before ++ lines_among (groups_above last at.passed)) claims
 
+-- lists of one length that begin the same list are the same
+same_front : {A : Type 0} (xs zs ys ws : List A) → xs ++ ys ≡ zs ++ ws → length xs ≡ length zs → xs ≡ zs
+same_front [] [] ys ws same long = refl
+same_front [] (z ∷ zs) ys ws same long = absurd (omega (arith, long))
+same_front (x ∷ xs) [] ys ws same long = absurd (omega (arith, long))
+same_front (x ∷ xs) (z ∷ zs) ys ws same long =
+    let heads : x ≡ z = cc in
+    let tails : xs ++ ys ≡ zs ++ ws = cc in
+    let rest = same_front xs zs ys ws tails (omega (arith, long)) in
+    λ i. heads i ∷ rest i
+
+none_long : {A : Type 0} (xs : List A) → length xs ≡ 0 → xs ≡ []
+none_long [] is = refl
+none_long (x ∷ xs) is = absurd (omega (arith, is))
+
 pub none_yet : (image : Image) (pages : ℕ) (before : List GroupLine) (claims : List PageClaim) (journal : Journal) (last : ℕ) → AreFitted image pages before claims → FittedUpTo image pages before claims journal last 1 journal.first
-unfolding begins
-none_yet image pages before claims journal last are = record { at = begins journal; are = none_fitted image pages before [] claims are }
+none_yet image pages before claims journal last are =
+    let at = begins journal in
+    let none : at.passed ≡ [] = none_long at.passed (let numbered = at.numbered in omega (arith, numbered)) in
+    record {
+      at = at;
+      are = subst (λ (ps : List Group). AreFitted image pages (before ++ lines_among (groups_above last ps)) claims) (sym none) (none_fitted image pages before [] claims are);
+    }
 
 lines_both : (last : ℕ) (xs ys : List Group) → lines_among (groups_above last (xs ++ ys)) ≡ lines_among (groups_above last xs) ++ lines_among (groups_above last ys)
 lines_both last xs ys = ap lines_among (above_both last xs ys) ∙ flat_both (λ (g : Group). g.lines) (groups_above last xs) (groups_above last ys)
@@ -124,11 +143,18 @@ module _ (image : Image) (pages : ℕ) (before : List GroupLine) (journal : Jour
     pub one_more : (old new : List PageClaim) → (was : FittedUpTo image pages before old journal last slot number)
         → AreFitted image pages ((before ++ lines_among (groups_above last was.at.passed)) ++ lines_among (groups_above last (g ∷ []))) new
         → FittedUpTo image pages before new journal last (slot + (length g.lines + 1)) (number + 1)
-    unfolding goes_on
-    one_more old new was now = let next = found_next stood journal is slot number was.at g whole stands in record {
-      at = goes_on stood journal is slot number was.at g next.0 next.1;
-      are = subst (λ (ls : List GroupLine). AreFitted image pages ls new) (joins before (lines_among (groups_above last was.at.passed)) (lines_among (groups_above last (g ∷ []))) ∙ ap (λ (ls : List GroupLine). before ++ ls) (sym (lines_both last was.at.passed (g ∷ [])))) now;
-    }
+    one_more old new was now =
+        let next = found_next stood journal is slot number was.at g whole stands in
+        let at = at_next journal stood is slot number g whole stands was.at in
+        let split : at.passed ++ at.rest ≡ (was.at.passed ++ g ∷ []) ++ next.0 = sym at.split ∙ was.at.split ∙ ap (λ (l : List Group). was.at.passed ++ l) next.1 ∙ sym (joins was.at.passed (g ∷ []) next.0) in
+        let longer : length (was.at.passed ++ g ∷ []) ≡ length was.at.passed + 1 = length-append was.at.passed (g ∷ []) in
+        let long : length at.passed ≡ length (was.at.passed ++ g ∷ []) = (let here = at.numbered in let before_it = was.at.numbered in omega (arith, longer, here, before_it)) in
+        let passed = same_front at.passed (was.at.passed ++ g ∷ []) at.rest next.0 split long in
+        record {
+          at = at;
+          are = subst (λ (ps : List Group). AreFitted image pages (before ++ lines_among (groups_above last ps)) new) (sym passed)
+              (subst (λ (ls : List GroupLine). AreFitted image pages ls new) (joins before (lines_among (groups_above last was.at.passed)) (lines_among (groups_above last (g ∷ []))) ∙ ap (λ (ls : List GroupLine). before ++ ls) (sym (lines_both last was.at.passed (g ∷ [])))) now);
+        }
 
     -- where all the journal's lines fit, those of this group do behind those before it
     pub rest_fits : (behind : List GroupLine) (at : AtGroup journal slot number) → FitOver image pages (before ++ (lines_among (groups_above last journal.groups) ++ behind))
@@ -153,6 +179,3 @@ module _ (image : Image) (pages : ℕ) (before : List GroupLine) (journal : Jour
 
 pub same_behind : (a b : ℕ) → Behind a ≡ Behind b → a ≡ b
 same_behind a b same = cc
-
-pub same_unfit : (a b : Dbkey) → Unfit a ≡ Unfit b → a ≡ b
-same_unfit a b same = cc

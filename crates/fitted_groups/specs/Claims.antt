@@ -1,5 +1,5 @@
 -- What is kept in memory of the pages of the area files while lines are looked at.
-use Rattle.std.specs.Prelude.{ℕ, ◌+◌, ◌*◌, ◌-◌, ◌≤◌, ◌≡◌, nat_eq, if◌then◌else◌, List, length, slice_get, Some}
+use Rattle.std.specs.Prelude.{ℕ, ◌+◌, ◌*◌, ◌-◌, ◌≤◌, ◌≡◌, ◌⊎◌, nat_eq, if◌then◌else◌, List, length, slice_get, Option, Some, None}
 use Rattle.rdb_outside.specs.Disk.{Image}
 use Rattle.rdb_page.specs.Page.{class_at}
 use Rattle.area_files.specs.Areas.{IsDataPage}
@@ -31,6 +31,11 @@ claim_over image lines file number = record {
   owner = owner_met (owner_at (page_in image file number)) (first_there file number lines) 0;
   class = class_met (owner_at (page_in image file number)) (first_there file number lines) (class_at (page_in image file number));
 }
+
+-- what was found is a page that was never used, or one with this claim
+abbrev pub MayClaim : PageClaim → Option PageClaim → Type 0
+MayClaim claim None = ⊥
+MayClaim claim (Some found) = (found.owner ≡ 0) ⊎ (found ≡ claim)
 
 -- There is a place for each page up to the limit, and that of a data page has what it claims behind these lines.
 pub record HasClaims (image : Image) (pages : ℕ) (lines : List GroupLine) (claims : List PageClaim) : Type 0 where

@@ -7,11 +7,8 @@ use Rattle.stable_lines.specs.Rolling.{groups_above}
 use Rattle.line_moves.proofs.Runs.{reads_once, still_tells}
 use Rattle.laid_groups.proofs.Faults.{err_same, only_header}
 use Rattle.laid_groups.proofs.Walking.{seen, AtGroup, begins, at_next, last_is, stood_in, none_in}
-use Rattle.fitted_groups.specs.declared.journals.Fitted.{Fitted}
-use Rattle.fitted_groups.specs.declared.journals.Fitted.TheVariants.{Behind, Unfit}
 use Rattle.fitted_groups.specs.Meeting.{lines_among}
-use Rattle.fitted_groups.specs.Claims.{AreFitted}
-use Rattle.fitted_groups.proofs.Looking.{FittedUpTo, none_yet, one_more, rest_fits, all_looked, allowed_in, same_behind, same_unfit}
+use Rattle.fitted_groups.proofs.Looking.{FittedUpTo, none_yet, one_more, rest_fits, all_looked, allowed_in, same_behind}
 use Rattle.fitted_groups.proofs.journals.fit_groups.Goals as goal
 
 pub returns-in_err-end-clause-reads : goal.returns-in_err-end-clause-reads
@@ -22,7 +19,6 @@ loop-group-init g c = let v = g.D.Disk.view in let old = v c.args.disk.now in le
     record {
       reads = reads_once old mid c.length.result c.length.ensures.counts c.length.ensures.kept;
       few = omega arith;
-      ends = λ t. c.in_ok-end.ensures.zeros t;
       at = λ t journal is same. subst (λ (n : ℕ). AtGroup journal 1 n) (sym same) (begins journal);
       fitted = λ t journal is same image pages lines are. subst (λ (n : ℕ). FittedUpTo image pages lines c.args.claims.now journal c.args.last 1 n) (sym same) (none_yet image pages lines c.args.claims.now journal c.args.last are);
     }
@@ -44,7 +40,7 @@ returns-in_default-clause-behind g c = let v = g.D.Disk.view in let old = v c.ar
     let none : c.in_ok-group.field-0 ≡ None = search rules in
     sym (same_behind _ _ is) ∙ c.greater.ensures ∙ ap (λ (n : ℕ). max c.args.last n) c.saturating_sub.ensures
     ∙ last_is journal (seen old.content c.args.file) has c.args.last c.loop-group.slot c.loop-group.number
-    (none_in old.content mid.content c.args.file c.loop-group.end c.loop-group.slot c.loop-group.number (λ s. (so_far.reads.keeps t).content c.args.file s) (so_far.ends t) (λ e. c.in_ok-group.ensures.none told e none))
+    (none_in old.content mid.content c.args.file c.in_ok-end.end c.loop-group.slot c.loop-group.number (λ s. (so_far.reads.keeps t).content c.args.file s) (c.in_ok-end.ensures.zeros t) (λ e. c.in_ok-group.ensures.none told e none))
     (so_far.at t journal has same)
 
 pub returns-in_default-clause-fitted : goal.returns-in_default-clause-fitted
@@ -52,21 +48,21 @@ returns-in_default-clause-fitted g c = let v = g.D.Disk.view in let old = v c.ar
     λ reached is t journal has same image pages before are. let told = still_tells old mid so_far.reads.told t in
     let none : c.in_ok-group.field-0 ≡ None = search rules in
     all_looked image pages before journal (seen old.content c.args.file) has c.args.last c.loop-group.slot c.loop-group.number c.loop-group.claims
-    (none_in old.content mid.content c.args.file c.loop-group.end c.loop-group.slot c.loop-group.number (λ s. (so_far.reads.keeps t).content c.args.file s) (so_far.ends t) (λ e. c.in_ok-group.ensures.none told e none))
+    (none_in old.content mid.content c.args.file c.in_ok-end.end c.loop-group.slot c.loop-group.number (λ s. (so_far.reads.keeps t).content c.args.file s) (c.in_ok-end.ensures.zeros t) (λ e. c.in_ok-group.ensures.none told e none))
     (so_far.fitted t journal has same image pages before are)
 
-pub returns-in-Some-clause-reads : goal.returns-in-Some-clause-reads
-returns-in-Some-clause-reads g c = let v = g.D.Disk.view in then_reads (v c.args.disk.now) (v c.loop-group.disk) (v c.group_at.new.disk) c.loop-group.invariant.reads c.group_at.ensures.reads
+pub returns-in-Some-fit_above-clause-reads : goal.returns-in-Some-fit_above-clause-reads
+returns-in-Some-fit_above-clause-reads g c = let v = g.D.Disk.view in then_reads (v c.args.disk.now) (v c.loop-group.disk) (v c.group_at.new.disk) c.loop-group.invariant.reads c.group_at.ensures.reads
 
-pub returns-in-Some-clause-unfit : goal.returns-in-Some-clause-unfit
-returns-in-Some-clause-unfit g c = let v = g.D.Disk.view in let old = v c.args.disk.now in let mid = v c.loop-group.disk in let so_far = c.loop-group.invariant in
+pub returns-in-Some-fit_above-clause-unfit : goal.returns-in-Some-fit_above-clause-unfit
+returns-in-Some-fit_above-clause-unfit g c = let v = g.D.Disk.view in let old = v c.args.disk.now in let mid = v c.loop-group.disk in let so_far = c.loop-group.invariant in
     λ key is t journal has same image pages before behind are fit. let told = still_tells old mid so_far.reads.told t in
     let found : c.in_ok-group.field-0 ≡ Some c.in-Some.group = search rules in
     let whole = c.in_ok-group.ensures.whole c.in-Some.group found in
     let stands = stood_in old.content mid.content c.args.file c.loop-group.slot c.in-Some.group (λ s. (so_far.reads.keeps t).content c.args.file s) (c.in_ok-group.ensures.stands told c.in-Some.group found) in
     let was = so_far.fitted t journal has same image pages before are in
     let rest = rest_fits image pages before journal (seen old.content c.args.file) has c.args.last c.loop-group.slot c.loop-group.number c.in-Some.group whole stands behind was.at fit in
-    c.fit_above.ensures.unfit c.in-Some-2.key c.in-Some-2.is image pages (before ++ lines_among (groups_above c.args.last was.at.passed)) rest.0
+    c.fit_above.ensures.unfit c.in-Some-fit_above.key c.in-Some-fit_above.is image pages (before ++ lines_among (groups_above c.args.last was.at.passed)) rest.0
     (allowed_in (seen old.content c.args.file) c.loop-group.slot c.in-Some.group stands) was.are rest.1
 
 pub loop-group-preserved : goal.loop-group-preserved
@@ -77,7 +73,6 @@ loop-group-preserved g c = let v = g.D.Disk.view in let old = v c.args.disk.now 
     record {
       reads = then_reads old mid (v c.group_at.new.disk) so_far.reads c.group_at.ensures.reads;
       few = omega (arith, few);
-      ends = so_far.ends;
       at = λ t journal has same. let told = still_tells old mid so_far.reads.told t in
           let stands = stood_in old.content mid.content c.args.file c.loop-group.slot c.in-Some.group (λ s. (so_far.reads.keeps t).content c.args.file s) (c.in_ok-group.ensures.stands told c.in-Some.group found) in
           subst (λ (n : ℕ). AtGroup journal (c.loop-group.slot + (n + 1)) (c.loop-group.number + 1)) (sym c.len-lines.ensures)

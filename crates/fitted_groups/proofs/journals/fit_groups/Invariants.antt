@@ -1,7 +1,6 @@
 use Rattle.std.proofs.Common.{◌≡◌, ◌+◌, ◌-◌, ◌≤◌, ℕ, List, IsTrue}
 use Rattle.rdb_outside.specs.Disk.{OnlyReads, Image}
 use Rattle.aij_journal.specs.declared.part.GroupLine.{GroupLine}
-use Rattle.journal_reading.specs.Journal.{EndsBy}
 use Rattle.stable_lines.specs.Journal.{Journal}
 use Rattle.laid_groups.specs.Passing.{IsJournalIn}
 use Rattle.laid_groups.proofs.Walking.{AtGroup}
@@ -18,7 +17,6 @@ invariant-loop-group g l =
     record {
       reads : OnlyReads before (g.D.Disk.view l.disk);
       few : l.number ≤ l.first + l.slot;
-      ends : IsTrue before.tells → EndsBy before.content l.file l.end;
       at : IsTrue before.tells → (journal : Journal) → IsJournalIn before.content l.file journal → l.first ≡ journal.first → AtGroup journal l.slot l.number;
       fitted : IsTrue before.tells → (journal : Journal) → IsJournalIn before.content l.file journal → l.first ≡ journal.first → (image : Image) (pages : ℕ) (lines : List GroupLine) → AreFitted image pages lines l.fn.claims → FittedUpTo image pages lines l.claims journal l.last l.slot l.number;
     }

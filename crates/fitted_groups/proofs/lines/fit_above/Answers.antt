@@ -20,7 +20,7 @@ returns-then-last-group-clause-unfit c = λ key is image pages before behind all
     (subst (λ (ls : List GroupLine). FitOver image pages (before ++ (ls ++ behind))) (sym c.as_slice.ensures)
     (subst (λ (ls : List GroupLine). FitOver image pages (before ++ (ls ++ behind))) same fit))
 
-pub returns-clause-fitted : goal.returns-clause-fitted
-returns-clause-fitted c = λ is image pages before allowed are.
+pub returns-else-last-group-clause-fitted : goal.returns-else-last-group-clause-fitted
+returns-else-last-group-clause-fitted c = λ is image pages before allowed are.
     let same = no_lines c.args.last c.args.group.now c.if-last-group.false in
     subst (λ (ls : List GroupLine). AreFitted image pages (before ++ ls) c.args.claims.now) (sym same) (none_fitted image pages before c.args.group.now.lines c.args.claims.now are)
