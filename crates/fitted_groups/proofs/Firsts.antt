@@ -40,9 +40,10 @@ pub first_none : (file number : ℕ) (l : GroupLine) → is_there file number l 
 first_none file number l off = ap (λ (b : Bool). cond b (Some l) (first_there file number [])) off
 
 pub its_page : (file number : ℕ) (l : GroupLine) (place : Place) → IsPlaceOf l.key place → is_there file number l ≡ true → (file ≡ place.file) × (number ≡ place.page)
-its_page file number l place names there =
-    (sym (same_number (storage_area l.key.area) file (first_true (storage_area l.key.area == file) (l.key.page == number) there)) ∙ sym (file_is l.key place names),
-    sym (same_number l.key.page number (second_true (storage_area l.key.area == file) (l.key.page == number) there)) ∙ sym names.page)
+its_page file number l place names there = (
+  sym (same_number (storage_area l.key.area) file (first_true (storage_area l.key.area == file) (l.key.page == number) there)) ∙ sym (file_is l.key place names),
+  sym (same_number l.key.page number (second_true (storage_area l.key.area == file) (l.key.page == number) there)) ∙ sym names.page,
+)
 
 -- ---- behind a line of the page the rest says nothing
 

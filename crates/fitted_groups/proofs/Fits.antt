@@ -51,9 +51,10 @@ module _ (image : Image) (forward : Forward) (pages : ℕ) (groups : List Group)
 
   -- one that is used keeps its own
   used_is : 1 ≤ owner_at (page_in image it.place.file it.place.page) → IsOfArea (forward.owners it.place.file it.place.page) (forward.sizes it.place.file it.place.page) (page_in image it.place.file it.place.page) → IsOfLine forward it.place.file it.place.page l
-  used_is some of =
-      (sym of.owner ∙ sym (owner_stays (owner_at page) (entry_in image it.place.file it.place.page) (first_there it.place.file it.place.page (lines_among groups)) some) ∙ it.owner,
-      sym of.class ∙ sym (class_stays (owner_at page) (class_at page) (first_there it.place.file it.place.page (lines_among groups)) some) ∙ it.class)
+  used_is some of = (
+    sym of.owner ∙ sym (owner_stays (owner_at page) (entry_in image it.place.file it.place.page) (first_there it.place.file it.place.page (lines_among groups)) some) ∙ it.owner,
+    sym of.class ∙ sym (class_stays (owner_at page) (class_at page) (first_there it.place.file it.place.page (lines_among groups)) some) ∙ it.class,
+  )
 
   page_is : IsOfLine forward it.place.file it.place.page l
   page_is = ⊎_elim unused_is
@@ -106,9 +107,10 @@ module _ (forward : Forward) (groups : List Group) (fits : (i : ℕ) (g : Group)
   takes_first image file number l area plain unused first =
       let it = first_is file number (lines_among groups) l first in
       let fit = fits_line it.index l it.is in
-      let page = its_page file number l fit.place fit.names it.there in
-      (ap (λ (f : ℕ). forward.owners f number) page.0 ∙ ap (λ (n : ℕ). forward.owners fit.place.file n) page.1 ∙ fit.owner,
-      ap (λ (f : ℕ). forward.sizes f number) page.0 ∙ ap (λ (n : ℕ). forward.sizes fit.place.file n) page.1 ∙ fit.size)
+      let page = its_page file number l fit.place fit.names it.there in (
+        ap (λ (f : ℕ). forward.owners f number) page.0 ∙ ap (λ (n : ℕ). forward.owners fit.place.file n) page.1 ∙ fit.owner,
+        ap (λ (f : ℕ). forward.sizes f number) page.0 ∙ ap (λ (n : ℕ). forward.sizes fit.place.file n) page.1 ∙ fit.size,
+      )
 
   module _ (image : Image) (under : IsUnderWay forward image) (k : ℕ) (l : GroupLine) (got : slice_get (lines_among groups) k ≡ Some l) where
     abbrev place : Place
@@ -125,15 +127,17 @@ module _ (forward : Forward) (groups : List Group) (fits : (i : ℕ) (g : Group)
         let fit = fits_line k l got in
         let first = some_first image forward.pages (lines_among groups) k l fit.place got fit.names in
         let none : owner_at bytes ≡ 0 = zeros_owner bytes unused in
-        let its = takes_first image fit.place.file fit.place.page first.0 (area_is l.key fit.place fit.names) fit.names.is_data unused first.1 in
-        (ap (λ (w : Option GroupLine). owner_met (owner_at bytes) w (entry_in image fit.place.file fit.place.page)) first.1 ∙ ap (λ (n : ℕ). owner_met n (Some first.0) (entry_in image fit.place.file fit.place.page)) none ∙ sym its.0 ∙ fit.owner,
-        ap (λ (w : Option GroupLine). class_met (owner_at bytes) w (class_at bytes)) first.1 ∙ ap (λ (n : ℕ). class_met n (Some first.0) (class_at bytes)) none ∙ sym its.1 ∙ fit.size)
+        let its = takes_first image fit.place.file fit.place.page first.0 (area_is l.key fit.place fit.names) fit.names.is_data unused first.1 in (
+          ap (λ (w : Option GroupLine). owner_met (owner_at bytes) w (entry_in image fit.place.file fit.place.page)) first.1 ∙ ap (λ (n : ℕ). owner_met n (Some first.0) (entry_in image fit.place.file fit.place.page)) none ∙ sym its.0 ∙ fit.owner,
+          ap (λ (w : Option GroupLine). class_met (owner_at bytes) w (class_at bytes)) first.1 ∙ ap (λ (n : ℕ). class_met n (Some first.0) (class_at bytes)) none ∙ sym its.1 ∙ fit.size,
+        )
 
     met_used : 1 ≤ owner_at (page_in image (fits_line k l got).place.file (fits_line k l got).place.page) → IsOfArea (forward.owners (fits_line k l got).place.file (fits_line k l got).place.page) (forward.sizes (fits_line k l got).place.file (fits_line k l got).place.page) (page_in image (fits_line k l got).place.file (fits_line k l got).place.page) → IsMet
     met_used some of =
-        let fit = fits_line k l got in
-        (owner_stays (owner_at bytes) (entry_in image fit.place.file fit.place.page) (first_there fit.place.file fit.place.page (lines_among groups)) some ∙ of.owner ∙ fit.owner,
-        class_stays (owner_at bytes) (class_at bytes) (first_there fit.place.file fit.place.page (lines_among groups)) some ∙ of.class ∙ fit.size)
+        let fit = fits_line k l got in (
+          owner_stays (owner_at bytes) (entry_in image fit.place.file fit.place.page) (first_there fit.place.file fit.place.page (lines_among groups)) some ∙ of.owner ∙ fit.owner,
+          class_stays (owner_at bytes) (class_at bytes) (first_there fit.place.file fit.place.page (lines_among groups)) some ∙ of.class ∙ fit.size,
+        )
 
     met : IsMet
     met =

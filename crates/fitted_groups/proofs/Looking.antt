@@ -70,7 +70,7 @@ module _ (image : Image) (pages : ℕ) (before lines : List GroupLine) where
   this_fits behind i l got fit =
       let split = split_at lines i l got in
       let parts : before ++ (lines ++ behind) ≡ (before ++ take i lines) ++ l ∷ (split.0 ++ behind) =
-          ap (λ (ls : List GroupLine). before ++ (ls ++ behind)) split.1 ∙ ap (λ (ls : List GroupLine). before ++ ls) (joins (take i lines) (l ∷ split.0) behind) ∙ sym (joins before (take i lines) (l ∷ (split.0 ++ behind))) in
+      ap (λ (ls : List GroupLine). before ++ (ls ++ behind)) split.1 ∙ ap (λ (ls : List GroupLine). before ++ ls) (joins (take i lines) (l ∷ split.0) behind) ∙ sym (joins before (take i lines) (l ∷ (split.0 ++ behind))) in
       let all : FitOver image pages ((before ++ take i lines) ++ l ∷ (split.0 ++ behind)) = subst (λ (ls : List GroupLine). FitOver image pages ls) parts fit in
       fits_upto image pages (before ++ take i lines) (split.0 ++ behind) l (all (length (before ++ take i lines) + 0) l (got_right (before ++ take i lines) (l ∷ (split.0 ++ behind)) 0 l refl))
 
@@ -98,7 +98,7 @@ pub allowed_in : (image : Image) (slot : ℕ) (g : Group) → standing image aij
 allowed_in image slot g stands i l got =
     let less = within g.lines i l got in
     let stood : what_stands (image aij_file (slot + i)) ≡ group_slot g (0 + i) (Some l) =
-        some_same _ _ (sym (standing_at image aij_file slot (count_of g) i (omega (arith, less))) ∙ ap (λ (ls : List (Option AijPart)). slice_get ls i) stands ∙ slot_at g 0 g.lines i l got) in
+    some_same _ _ (sym (standing_at image aij_file slot (count_of g) i (omega (arith, less))) ∙ ap (λ (ls : List (Option AijPart)). slice_get ls i) stands ∙ slot_at g 0 g.lines i l got) in
     its (subst (λ (w : Option AijPart). Holds (image aij_file (slot + i)) w) stood (standing_slots.stands (image aij_file (slot + i))))
   where
     its : Holds (image aij_file (slot + i)) (group_slot g (0 + i) (Some l)) → IsAllowedLine l
@@ -167,9 +167,9 @@ module _ (image : Image) (pages : ℕ) (before : List GroupLine) (journal : Jour
         let groups : journal.groups ≡ at.passed ++ (g ∷ next.0) = at.split ∙ ap (λ (l : List Group). at.passed ++ l) next.1 in
         let parts : lines_among (groups_above last journal.groups) ≡ front ++ (here ++ late) = ap (λ (l : List Group). lines_among (groups_above last l)) groups ∙ lines_both last at.passed (g ∷ next.0) ∙ ap (λ (l : List GroupLine). front ++ l) (lines_both last (g ∷ []) next.0) in
         let all : before ++ (lines_among (groups_above last journal.groups) ++ behind) ≡ (before ++ front) ++ (here ++ (late ++ behind)) =
-            ap (λ (l : List GroupLine). before ++ (l ++ behind)) parts
-            ∙ ap (λ (l : List GroupLine). before ++ l) (joins front (here ++ late) behind ∙ ap (λ (l : List GroupLine). front ++ l) (joins here late behind))
-            ∙ sym (joins before front (here ++ (late ++ behind))) in
+        ap (λ (l : List GroupLine). before ++ (l ++ behind)) parts
+        ∙ ap (λ (l : List GroupLine). before ++ l) (joins front (here ++ late) behind ∙ ap (λ (l : List GroupLine). front ++ l) (joins here late behind))
+        ∙ sym (joins before front (here ++ (late ++ behind))) in
         (late ++ behind, subst (λ (ls : List GroupLine). FitOver image pages ls) all fit)
 
   pub all_looked : (claims : List PageClaim) → ((g : Group) → IsWhole number g → standing stood aij_file slot (count_of g) ≡ slots_of g → ⊥) → FittedUpTo image pages before claims journal last slot number → AreFitted image pages (before ++ lines_among (groups_above last journal.groups)) claims

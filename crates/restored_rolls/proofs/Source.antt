@@ -72,9 +72,10 @@ module _ (was image : Image) (classes : ℕ → ℕ) (head : BackupHead) (lines 
 pub first : (image : Image) (root : Root) (lines : Lines) (groups : List Group) → TakesFirst image (forward_over image root lines groups) groups
 first image root lines groups file number l area plain unused found =
     let page = page_in image file number in
-    let none : owner_at page ≡ 0 = zeros_owner page unused in
-    (ap (λ (w : Option GroupLine). owner_met (owner_at page) w (entry_in image file number)) found ∙ ap (λ (n : ℕ). owner_met n (Some l) (entry_in image file number)) none,
-    ap (λ (w : Option GroupLine). class_met (owner_at page) w (class_at page)) found ∙ ap (λ (n : ℕ). class_met n (Some l) (class_at page)) none)
+    let none : owner_at page ≡ 0 = zeros_owner page unused in (
+      ap (λ (w : Option GroupLine). owner_met (owner_at page) w (entry_in image file number)) found ∙ ap (λ (n : ℕ). owner_met n (Some l) (entry_in image file number)) none,
+      ap (λ (w : Option GroupLine). class_met (owner_at page) w (class_at page)) found ∙ ap (λ (n : ℕ). class_met n (Some l) (class_at page)) none,
+    )
 
 module _ (was image : Image) (classes : ℕ → ℕ) (head : BackupHead) (lines : List BackupLine) (journal : Journal) (groups : List Group) (is : IsRestored was classes head lines journal image) where
   pub fits : FitPages image head.limits.pages groups → FitsImage (forward_over image is.root (lines_in lines) groups) is.root groups image
