@@ -147,6 +147,9 @@ returns-clause-missing g c = let v = g.D.Disk.view in let old = v c.args.disk.no
 
 -- ---- groups that don't fit
 
+pub returns-in_err-reached-clause-unfit : goal.returns-in_err-reached-clause-unfit
+returns-in_err-reached-clause-unfit g c = λ key is t former forward journals groups to_roll has fit. c.pass_all.ensures.no_unfit key (search rules)
+
 pub returns-in_err-reached-clause-unfitting : goal.returns-in_err-reached-clause-unfitting
 returns-in_err-reached-clause-unfitting g c = λ t former forward journals groups to_roll has unfit.
     let p = err_from_is_err_and c.from_residual.result c.from_residual.ensures.1 in
