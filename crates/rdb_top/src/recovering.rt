@@ -6,7 +6,7 @@ ghost use Rattle.rdb_outside.specs.Disk.{OnlyReads};
 ghost use Rattle.database_opening.specs.Others.{KeepsFile};
 ghost use Rattle.command_words.specs.Copies.{copies_in};
 ghost use Rattle.rmu_recover.specs.Recovering.{IsOther};
-ghost use Rattle.rmu_keeping.specs.Rolling.{is_recover_status, HasRolled, MayBeRecovered, LacksGroup, IsUsed, Rolls, RollsWithin, TellsGroups};
+ghost use Rattle.rmu_keeping.specs.Rolling.{is_recover_status, HasRolled, MayBeRecovered, LacksGroup, HasUnfit, IsUsed, Rolls, RollsWithin, TellsGroups};
 
 use command_words::copies_of;
 use rdb_outside::{Disk, Sink};
@@ -26,6 +26,8 @@ pub fn run_recover<D: Disk, K: Sink>(alloc: Global, words: &[Word], disk: &mut D
     ensures taken { result ≡ 4 → IsTrue (D.view disk.old).tells
         → IsUsed (D.view disk.old).content → ⊥ }
     ensures gap { IsTrue (D.view disk.old).tells → LacksGroup (D.view disk.old) (copies_in words.now)
+        → (HasRolled result → ⊥) × OnlyReads (D.view disk.old) (D.view disk.new) }
+    ensures unfitting { IsTrue (D.view disk.old).tells → HasUnfit (D.view disk.old) (copies_in words.now)
         → (HasRolled result → ⊥) × OnlyReads (D.view disk.old) (D.view disk.new) }
     ensures in_use { IsTrue (D.view disk.old).tells → IsUsed (D.view disk.old).content
         → OnlyReads (D.view disk.old) (D.view disk.new) }

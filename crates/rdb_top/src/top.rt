@@ -26,7 +26,7 @@ ghost use Rattle.journal_backup.specs.Copied.{copy_named};
 ghost use Rattle.rmu_restore.specs.Laying.{IsOther};
 ghost use Rattle.rmu_recover.specs.Recovering.{IsOther as IsBesideRoll};
 ghost use Rattle.rmu_keeping.specs.Keeping.{is_keeping_status, IsKept, MayBeOpened, MayBeRestored, BacksUp, BacksUpWithin, CopiesJournal, CopiesJournalWithin, Restores, RestoresWithin};
-ghost use Rattle.rmu_keeping.specs.Rolling.{is_recover_status, HasRolled, MayBeRecovered, LacksGroup, IsUsed, Rolls, RollsWithin, TellsGroups};
+ghost use Rattle.rmu_keeping.specs.Rolling.{is_recover_status, HasRolled, MayBeRecovered, LacksGroup, HasUnfit, IsUsed, Rolls, RollsWithin, TellsGroups};
 ghost use Rattle.rmu_commands.specs.Usable.{HasRootInUse, IsUsable, IsDumped};
 ghost use Rattle.rmu_commands.specs.Written.{HasText, Verifies, Dumps, DumpsPage, IsCleanDatabase, is_verify_status, is_dump_status};
 ghost use Rattle.workload_replies.specs.Replies.{has_death};
@@ -462,9 +462,13 @@ where
     // RECOVER: journals that follow on, with groups that fit, are never refused, and neither is a database in use.
     ensures no_roll { rolls_forward (command_for words.now) ≡ true → result.status ≡ 4 →
         IsTrue (D.view disk).tells → MayBeRecovered (D.view disk) (copies_in words.now) ⊎ IsUsed (D.view disk).content → ⊥ }
-    // Where a group is missing RECOVER isn't carried out and changes nothing, and a database in use is left as it is.
+    // Where a group is missing RECOVER isn't carried out and changes nothing.
     ensures lacking { rolls_forward (command_for words.now) ≡ true → IsTrue (D.view disk).tells → LacksGroup (D.view disk) (copies_in words.now) →
         (HasRolled result.status → ⊥) × OnlyReads (D.view disk) (D.view result.disk) }
+    // Where a line of the groups doesn't fit the page that it meets, RECOVER isn't carried out either (it ends with 4, if no device call fails and no memory is wanted), and leaves the disk as it was.
+    ensures unfitting { rolls_forward (command_for words.now) ≡ true → IsTrue (D.view disk).tells → HasUnfit (D.view disk) (copies_in words.now) →
+        (HasRolled result.status → ⊥) × OnlyReads (D.view disk) (D.view result.disk) }
+    // A database in use is left as it is.
     ensures rolled_before { rolls_forward (command_for words.now) ≡ true → IsTrue (D.view disk).tells → IsUsed (D.view disk).content →
         OnlyReads (D.view disk) (D.view result.disk) }
     // Nothing is said by RECOVER, and its statuses.

@@ -1,4 +1,3 @@
-pub mod Meeting
 pub mod Slots
 pub mod Sound
 pub mod Source

@@ -7,7 +7,7 @@ use Rattle.rdb_outside.specs.Disk.{Image}
 use Rattle.root_file.specs.declared.Root.{Root}
 use Rattle.root_file.specs.Root.{IsRoot}
 use Rattle.root_file.proofs.Readings.{one_root}
-use Rattle.rdb_page.specs.Page.{IsOwner, IsUnused, class_at}
+use Rattle.rdb_page.specs.Page.{IsUnused, class_at}
 use Rattle.rdb_page.specs.Whole.{IsUsedPage}
 use Rattle.area_files.specs.Areas.{IsPage, IsDataPage, IsSpacePage}
 use Rattle.space_pages.specs.Space.{owner_of}
@@ -22,24 +22,15 @@ use Rattle.stable_lines.specs.Journal.{Journal}
 use Rattle.stable_lines.specs.Image.{LineIs, as_it_stands, put_back, not_found}
 use Rattle.stable_lines.specs.Kept.{Kept, IsRujHeader, IsWellFormed, IsBelow}
 use Rattle.line_moves.specs.Contents.{IsOn}
-use Rattle.line_moves.proofs.Reading.{owner_is}
 use Rattle.rolled_lines.specs.HalfLaid.{writes_of}
 use Rattle.laid_groups.specs.Forward.{Forward, IsWrittenBy, MayBePage, MayBeSpace, MayHold}
+use Rattle.fitted_groups.specs.Meeting.{lines_among, first_there, owner_met, page_in, entry_in}
+use Rattle.fitted_groups.proofs.Meeting.{first_writes, owner_stays, class_stays, owner_entered}
+use Rattle.fitted_groups.proofs.Fits.{used_owner}
 use Rattle.rmu_recover.specs.Recovering.{MayStand}
 use Rattle.rmu_recover.proofs.Ended.{ceiling_grows}
-use Rattle.restored_rolls.specs.Meeting.{lines_among, first_there, owner_met, page_in, entry_in, forward_over}
+use Rattle.restored_rolls.specs.Meeting.{forward_over}
 use Rattle.restored_rolls.specs.Forth.{KeepsJournals}
-use Rattle.restored_rolls.proofs.Meeting.{first_writes, owner_stays, class_stays, owner_entered}
-
--- ---- a page that is used has an owner
-
-owner_some : (file area : ℕ) → IsOwner file area → 1 ≤ area
-owner_some file area (inl first) = omega (arith, first.1)
-owner_some file area (inr (inl second)) = omega (arith, second.1)
-owner_some file area (inr (inr third)) = omega (arith, third.1)
-
-pub used_owner : (file number : ℕ) (x : List ℕ) → IsUsedPage file number x → 1 ≤ owner_at x
-used_owner file number x used = subst (λ (n : ℕ). 1 ≤ n) (sym (owner_is x used.head used.stands.head)) (owner_some file used.head.owner used.stands.owner)
 
 module _ (image : Image) (classes : ℕ → ℕ) (lines : Lines) (journal : Journal) (kept : Kept classes lines journal image) (root : Root) (is : IsRoot (image root_file 0) root) (restored : root.state ≡ 3) where
   same_root : kept.root ≡ root

@@ -23,8 +23,9 @@ use Rattle.line_moves.proofs.KeyPlaces.{file_is}
 use Rattle.rmu_restore.specs.Restored.{IsRestored}
 use Rattle.rmu_restore.proofs.Finding.{some_found}
 use Rattle.rmu_recover.specs.Recovering.{AreSound}
-use Rattle.restored_rolls.specs.Meeting.{lines_among, first_there, class_behind, forward_over, FitPages, HaveClasses, AreOfClasses}
-use Rattle.restored_rolls.proofs.Meeting.{IsAmong, in_front, behind_front, class_stays}
+use Rattle.fitted_groups.specs.Meeting.{lines_among, first_there, class_behind, FitPages}
+use Rattle.fitted_groups.proofs.Meeting.{IsAmong, in_front, behind_front, class_stays}
+use Rattle.restored_rolls.specs.Meeting.{forward_over, HaveClasses, AreOfClasses}
 use Rattle.restored_rolls.proofs.Slots.{as_it_is}
 
 -- ---- a line behind groups is one of theirs, or was there before

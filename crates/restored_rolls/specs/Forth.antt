@@ -15,8 +15,9 @@ use Rattle.stable_lines.specs.Rolling.{laid_groups}
 use Rattle.rolled_lines.specs.Journals.{follow, laid}
 use Rattle.laid_groups.specs.Forward.{Forward}
 use Rattle.rmu_recover.specs.Journals.{files_of, AreJournalsIn}
-use Rattle.rmu_recover.specs.Recovering.{IsJournalFile, MayBeRolled, IsSource, AreSound}
-use Rattle.restored_rolls.specs.Meeting.{FitPages, HaveClasses}
+use Rattle.fitted_groups.specs.Meeting.{FitPages}
+use Rattle.rmu_recover.specs.Recovering.{IsJournalFile, MayBeRolled, IsSource, FitsImage, AreSound}
+use Rattle.restored_rolls.specs.Meeting.{HaveClasses}
 
 -- the after-image journal and its copies are as they were
 abbrev pub KeepsJournals : Image → Image → Type 0
@@ -42,4 +43,5 @@ pub record TakesGroups (image : Image) (head : BackupHead) (lines : List BackupL
 pub record IsReadyToRoll (was : Image) (copies : List ℕ) (root : Root) (forward : Forward) (journals : List Journal) (groups : List Group) (journal : Journal) (classes : ℕ → ℕ) (image : Image) : Type 0 where
   pub may : MayBeRolled was root forward image
   pub source : IsSource was copies root forward journals groups journal
+  pub fits : FitsImage forward root groups image
   pub sound : AreSound forward groups classes

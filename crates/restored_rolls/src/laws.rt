@@ -14,14 +14,15 @@ ghost use Rattle.stable_lines.specs.Rolling.{laid_groups, groups_above, rolled};
 ghost use Rattle.rolled_lines.specs.Journals.{follow, laid};
 ghost use Rattle.journal_backup.specs.Copied.{HasCopy};
 ghost use Rattle.rmu_restore.specs.Restored.{IsRestored};
+ghost use Rattle.fitted_groups.specs.Meeting.{TakesFirst, FitPages};
 ghost use Rattle.rmu_recover.specs.Journals.{files_of, AreJournalsIn};
 ghost use Rattle.rmu_recover.specs.Recovering.{MayBeRolled, IsToRoll, IsSource, AreSound, IsRolled};
-ghost use Rattle.restored_rolls.specs.Meeting.{forward_over, FitPages, HaveClasses, AreOfClasses};
+ghost use Rattle.restored_rolls.specs.Meeting.{forward_over, HaveClasses, AreOfClasses};
 ghost use Rattle.restored_rolls.specs.Forth.{KeepsJournals, HasBackupAndGroups, StoodBehind, TakesGroups, IsReadyToRoll};
 
 use rdb_outside::Disk;
 
-/// A restored image may be rolled forward over groups that follow on from its backup and fit its pages.
+/// A restored image may be rolled forward over groups that follow on from its backup; whether they fit its pages the roll-forward looks itself.
 pub fn restored_may_be_rolled()
     // Each of its slots is one that may stand before a roll-forward, whatever the groups.
     ensures may { (was image : Image) (classes : ℕ → ℕ) (head : BackupHead) (lines : List BackupLine)
@@ -34,8 +35,13 @@ pub fn restored_may_be_rolled()
         (journal : Journal) (groups : List Group) (copies : List ℕ) (journals : List Journal)
         → KeepsJournals was image → (is : IsRestored was classes head lines journal image)
         → AreJournalsIn was (files_of copies) journals → follow head.last_group journals ≡ laid groups
-        → FitPages image head.limits.pages groups
         → IsSource was copies is.root (forward_over image is.root (lines_in lines) groups) journals groups journal }
+
+    // A page that was never used is that of the first line that is laid on it.
+    ensures first { (was image : Image) (classes : ℕ → ℕ) (head : BackupHead) (lines : List BackupLine)
+        (journal : Journal) (groups : List Group)
+        → (is : IsRestored was classes head lines journal image)
+        → TakesFirst image (forward_over image is.root (lines_in lines) groups) groups }
 
     // They are sound where behind them each line lies on a page of its class.
     ensures sound { (was image : Image) (classes now : ℕ → ℕ) (head : BackupHead) (lines : List BackupLine)

@@ -2,10 +2,11 @@
 use Rattle.std.proofs.Common.{◌≡◌, ◌⊎◌, inl, inr, ℕ, true, List, Result, Ok, Err, is_err, refl, sym, ◌∙◌, ap, arith}
 use Rattle.std.proofs.lemmas.Bool.{false≢true}
 use Rattle.rdb_types.specs.declared.file.FileId.{FileId}
+use Rattle.rdb_types.specs.declared.keys.Dbkey.{Dbkey}
 use Rattle.journal_scan.specs.declared.group.Group.{Group}
 use Rattle.rolled_lines.specs.Journals.{Found, laid, gap}
 use Rattle.rmu_recover.specs.declared.fault.RecoverFault.{RecoverFault}
-use Rattle.rmu_recover.specs.declared.fault.RecoverFault.TheVariants.{Failed, NoMemory, Gap, Bad}
+use Rattle.rmu_recover.specs.declared.fault.RecoverFault.TheVariants.{Failed, NoMemory, Gap, Unfit, Bad}
 use Rattle.rmu_keeping.specs.Rolling.{rolling_status, HasRolled}
 
 -- a status of one that gave up
@@ -16,6 +17,7 @@ pub gave_up : (fault : RecoverFault) (status : ℕ) → status ≡ rolling_statu
 gave_up Failed status is = inl is
 gave_up NoMemory status is = inr (inr is)
 gave_up (Gap number) status is = inr (inl is)
+gave_up (Unfit key) status is = inr (inl is)
 gave_up (Bad file slot) status is = inr (inl is)
 
 pub not_rolled : (status : ℕ) → GaveUp status → HasRolled status → ⊥
@@ -58,14 +60,16 @@ pub failed : (fault : RecoverFault) (status : ℕ) → status ≡ rolling_status
 failed Failed status is three = refl
 failed NoMemory status is three = absurd (let no : 5 ≡ 3 = sym is ∙ three in omega (arith, no))
 failed (Gap number) status is three = absurd (let no : 4 ≡ 3 = sym is ∙ three in omega (arith, no))
+failed (Unfit key) status is three = absurd (let no : 4 ≡ 3 = sym is ∙ three in omega (arith, no))
 failed (Bad file slot) status is three = absurd (let no : 4 ≡ 3 = sym is ∙ three in omega (arith, no))
 
--- a group that is missing, or a slot that isn't what it has to be
+-- a group that is missing, a line that doesn't fit, or a slot that isn't what it has to be
 abbrev pub Refused : RecoverFault → Type 0
-Refused fault = ((number : ℕ) × (fault ≡ Gap number)) ⊎ ((file : FileId) × (slot : ℕ) × (fault ≡ Bad file slot))
+Refused fault = ((number : ℕ) × (fault ≡ Gap number)) ⊎ ((key : Dbkey) × (fault ≡ Unfit key)) ⊎ ((file : FileId) × (slot : ℕ) × (fault ≡ Bad file slot))
 
 pub refused : (fault : RecoverFault) (status : ℕ) → status ≡ rolling_status fault → status ≡ 4 → Refused fault
 refused Failed status is four = absurd (let no : 3 ≡ 4 = sym is ∙ four in omega (arith, no))
 refused NoMemory status is four = absurd (let no : 5 ≡ 4 = sym is ∙ four in omega (arith, no))
 refused (Gap number) status is four = inl (number, refl)
-refused (Bad file slot) status is four = inr (file, slot, refl)
+refused (Unfit key) status is four = inr (inl (key, refl))
+refused (Bad file slot) status is four = inr (inr (file, slot, refl))

@@ -9,12 +9,13 @@ use Rattle.new_database.specs.Maker.{root_file}
 use Rattle.stable_lines.specs.Journal.{Journal}
 use Rattle.rolled_lines.specs.Journals.{follow, gap}
 use Rattle.laid_groups.specs.Forward.{Forward}
+use Rattle.fitted_groups.specs.Meeting.{TakesFirst, FitPages}
 use Rattle.rmu_texts.specs.Numbers.{count_line}
 use Rattle.script_streams.specs.Fronts.{WritesFront}
 use Rattle.rmu_recover.specs.declared.fault.RecoverFault.{RecoverFault}
-use Rattle.rmu_recover.specs.declared.fault.RecoverFault.TheVariants.{Failed, NoMemory, Gap, Bad}
+use Rattle.rmu_recover.specs.declared.fault.RecoverFault.TheVariants.{Failed, NoMemory, Gap, Unfit, Bad}
 use Rattle.rmu_recover.specs.Journals.{files_of, AreJournalsIn}
-use Rattle.rmu_recover.specs.Recovering.{IsToRoll, IsSource, AreSound, IsRolled, WithinRecover}
+use Rattle.rmu_recover.specs.Recovering.{IsToRoll, IsSource, HasGroups, FitsImage, AreSound, IsRolled, WithinRecover}
 
 -- ---- statuses
 
@@ -26,6 +27,7 @@ abbrev pub rolling_status : RecoverFault → ℕ
 rolling_status Failed = 3
 rolling_status NoMemory = 5
 rolling_status (Gap number) = 4
+rolling_status (Unfit key) = 4
 rolling_status (Bad file slot) = 4
 
 -- the statuses at which it was carried out
@@ -44,6 +46,7 @@ pub record MayBeRecovered (disk : View) (copies : List ℕ) : Type 0 where
   pub aij : Journal
   pub to_roll : IsToRoll former root forward disk
   pub source : IsSource former copies root forward journals groups aij
+  pub fits : FitsImage forward root groups disk.content
 
 -- It is such a one, and between its journals a group is missing.
 pub record LacksGroup (disk : View) (copies : List ℕ) : Type 0 where
@@ -56,6 +59,17 @@ pub record LacksGroup (disk : View) (copies : List ℕ) : Type 0 where
   pub stand : AreJournalsIn former (files_of copies) journals
   pub missing : follow root.applied journals ≡ gap number
 
+-- Its journals follow on, and their groups don't fit its pages.
+pub record HasUnfit (disk : View) (copies : List ℕ) : Type 0 where
+  pub former : Image
+  pub root : Root
+  pub forward : Forward
+  pub journals : List Journal
+  pub groups : List Group
+  pub to_roll : IsToRoll former root forward disk
+  pub has : HasGroups former copies root journals groups
+  pub unfit : FitPages disk.content root.limits.pages groups → ⊥
+
 -- the root is that of a database in use
 pub record IsUsed (image : Image) : Type 0 where
   pub root : Root
@@ -67,13 +81,13 @@ pub record IsUsed (image : Image) : Type 0 where
 -- Each crash behind it leaves a database in use that stands for the lines of the backup with the groups laid over them.
 abbrev pub Rolls : View → View → List ℕ → Type 0
 Rolls old new copies = (former : Image) (root : Root) (forward : Forward) (journals : List Journal) (groups : List Group) (aij : Journal) (classes : ℕ → ℕ)
-    → IsToRoll former root forward old → IsSource former copies root forward journals groups aij → AreSound forward groups classes
+    → IsToRoll former root forward old → IsSource former copies root forward journals groups aij → TakesFirst old.content forward groups → AreSound forward groups classes
     → (image : Image) → LeftNow new image → IsRolled classes root forward groups aij image
 
 -- A crash at any moment of it leaves what one before might have left, an image that is rolled forward in part, from which the same command gives the same, or that.
 abbrev pub RollsWithin : View → View → List ℕ → Type 0
 RollsWithin old new copies = (former : Image) (root : Root) (forward : Forward) (journals : List Journal) (groups : List Group) (aij : Journal) (classes : ℕ → ℕ)
-    → IsToRoll former root forward old → IsSource former copies root forward journals groups aij → AreSound forward groups classes
+    → IsToRoll former root forward old → IsSource former copies root forward journals groups aij → TakesFirst old.content forward groups → AreSound forward groups classes
     → LeavesOnly old new (WithinRecover old former classes root forward groups aij)
 
 -- ---- what it writes

@@ -6,7 +6,7 @@ ghost use Rattle.rdb_outside.specs.Disk.{OnlyReads};
 ghost use Rattle.database_opening.specs.Others.{KeepsFile};
 ghost use Rattle.script_streams.specs.Fronts.{WritesFront};
 ghost use Rattle.rmu_recover.specs.Recovering.{IsOther};
-ghost use Rattle.rmu_keeping.specs.Rolling.{is_recover_status, rolling_status, HasRolled, MayBeRecovered, LacksGroup, IsUsed, Rolls, RollsWithin, groups_text, TellsGroups};
+ghost use Rattle.rmu_keeping.specs.Rolling.{is_recover_status, rolling_status, HasRolled, MayBeRecovered, LacksGroup, HasUnfit, IsUsed, Rolls, RollsWithin, groups_text, TellsGroups};
 
 use rdb_outside::{Disk, Sink};
 use rdb_types::Bytes;
@@ -22,6 +22,7 @@ fn status_of_rolling(fault: RecoverFault) -> u8
     match fault {
         RecoverFault::Failed => 3,
         RecoverFault::Gap(_) => 4,
+        RecoverFault::Unfit(_) => 4,
         RecoverFault::Bad(_, _) => 4,
         RecoverFault::NoMemory => 5,
     }
@@ -72,6 +73,10 @@ pub fn recover_command<D: Disk, K: Sink>(
 
     // Where a group is missing it isn't carried out, and nothing is changed.
     ensures gap { IsTrue (D.view disk.old).tells → LacksGroup (D.view disk.old) copies.now
+        → (HasRolled result → ⊥) × OnlyReads (D.view disk.old) (D.view disk.new) }
+
+    // Where a line of the groups doesn't fit the page that it meets it isn't carried out, and nothing is changed.
+    ensures unfitting { IsTrue (D.view disk.old).tells → HasUnfit (D.view disk.old) copies.now
         → (HasRolled result → ⊥) × OnlyReads (D.view disk.old) (D.view disk.new) }
 
     // A database in use is left as it is.

@@ -17,8 +17,10 @@ use Rattle.guarded_root.specs.Guarded.{IsEndOf, PendingOrEnd, IsRootSlot, IsPend
 use Rattle.laid_groups.specs.Forward.{Forward, IsReady, IsHeld, FitAll}
 use Rattle.laid_groups.specs.Laid.{LaidOver}
 use Rattle.laid_groups.specs.Passing.{ceiling_behind}
+use Rattle.fitted_groups.specs.Meeting.{TakesFirst, FitPages}
+use Rattle.fitted_groups.proofs.Fits.{fits_forward, takes_first, fit_pages}
 use Rattle.rmu_recover.specs.Journals.{files_of, AreJournalsIn}
-use Rattle.rmu_recover.specs.Recovering.{root_unfinished, root_rolled, MayStand, MayBeRolled, IsToRoll, IsSource, AreSound, IsRolled, WithinRecover, as_before, unfinished, rolled}
+use Rattle.rmu_recover.specs.Recovering.{root_unfinished, root_rolled, MayStand, MayBeRolled, IsToRoll, IsSource, AllFit, FitsImage, AreSound, IsRolled, WithinRecover, as_before, unfinished, rolled}
 use Rattle.rmu_recover.proofs.Ended.{ceiling_grows, is_rolled}
 use Rattle.rmu_recover.proofs.Walking.{journal_there}
 
@@ -38,11 +40,11 @@ tsn_below ceiling (x ∷ groups) zero g got =
     above c n top le = grind (arith, le)
 tsn_below ceiling (x ∷ groups) (suc i) g got = tsn_below (max ceiling (x.tsn.number + 1)) groups i g got
 
-pub all_fit : (former : Image) (copies : List ℕ) (root : Root) (forward : Forward) (journals : List Journal) (groups : List Group) (aij : Journal) → IsSource former copies root forward journals groups aij → (ceiling : ℕ) → ceiling ≡ forward.top → ceiling ≤ 2 ^ 62 → FitAll forward groups
-all_fit former copies root forward journals groups aij source ceiling same few i g got = record {
+pub all_fit : (former : Image) (copies : List ℕ) (root : Root) (forward : Forward) (journals : List Journal) (groups : List Group) (aij : Journal) → IsSource former copies root forward journals groups aij → AllFit forward groups → (ceiling : ℕ) → ceiling ≡ forward.top → ceiling ≤ 2 ^ 62 → FitAll forward groups
+all_fit former copies root forward journals groups aij source fit ceiling same few i g got = record {
   tsn = subst (λ (n : ℕ). g.tsn.number < n) (sym source.top) (tsn_below root.ceiling groups i g got);
   few = omega (arith, same, few);
-  each = source.fits i g got;
+  each = fit i g got;
 }
 
 -- ---- journals that are as they were
@@ -103,48 +105,61 @@ module _ (former : Image) (root : Root) (forward : Forward) where
   pub journals_now : (copies : List ℕ) (journals : List Journal) (image : Image) → MayBeRolled former root forward image → AreJournalsIn former (files_of copies) journals → AreJournalsIn image (files_of copies) journals
   journals_now copies journals image stands there = journals_there former image copies journals (λ number slot. (stands (copy_named number) slot).journal (inr refl)) (λ slot. (stands aij_file slot).journal (inl refl)) there
 
+  -- groups that fit the pages as they stand have their places in the end
+  pub fits_all : (copies : List ℕ) (journals : List Journal) (groups : List Group) (aij : Journal) → IsSource former copies root forward journals groups aij → (v : View) → IsToRoll former root forward v → LeftNow v v.content → TakesFirst v.content forward groups → FitPages v.content root.limits.pages groups → AllFit forward groups
+  fits_all copies journals groups aij source v to_roll left takes fit =
+      fits_forward v.content forward groups (λ f i. (content_stands v to_roll left f i).hold) takes source.writes (subst (λ (n : ℕ). FitPages v.content n groups) (sym source.pages) fit)
+
   -- ---- call by call
 
   module _ (groups : List Group) (aij : Journal) (classes : ℕ → ℕ) (old guarded : View) (to_roll : IsToRoll former root forward old) (adds : AddsOnly (IsRootSlot (root_unfinished root)) old guarded) where
     pub to_roll_guarded : IsToRoll former root forward guarded
     to_roll_guarded = to_roll_on (IsRootSlot (root_unfinished root)) old guarded adds may_root to_roll
 
-    pub within_guard : LeavesOnly old guarded (WithinRecover old former classes root forward groups aij)
-    within_guard = weaker old guarded (IsPendingOr old (IsRootSlot (root_unfinished root))) (WithinRecover old former classes root forward groups aij) at_once adds.leaves
-      where
-        at_once : (image : Image) → IsPendingOr old (IsRootSlot (root_unfinished root)) image → WithinRecover old former classes root forward groups aij image
-        at_once image each = ⊎_elim
-            (λ was. as_before (λ f i. ⊎_elim (λ p. p) (λ it. subst (λ (n : ℕ). Pending old f n (image f n)) (sym it.1) (subst (λ (g : FileId). Pending old g 0 (image g 0)) (sym it.0) was)) (each f i)))
-            (λ it. unfinished it.2 (image_on (IsRootSlot (root_unfinished root)) old may_root to_roll image each))
-            (each root_file 0)
-
     pub ready_guarded : IsReady forward guarded
     ready_guarded f i x p = (to_roll_guarded f i x p).hold
 
-    module _ (held : (x : List ℕ) → Pending guarded root_file 0 x → IsRoot x (root_unfinished root)) (laid : View) (lays : AddsOnly (IsHeld forward) guarded laid) where
-      pub to_roll_laid : IsToRoll former root forward laid
-      to_roll_laid = to_roll_on (IsHeld forward) guarded laid lays may_area to_roll_guarded
+    module _ (pages : forward.pages ≡ root.limits.pages) (fits : AllFit forward groups) where
+      -- such an image, whose pages the groups fit as well
+      begun : (image : Image) → IsRoot (image root_file 0) (root_unfinished root) → MayBeRolled former root forward image → WithinRecover old former classes root forward groups aij image
+      begun image is stands = unfinished is stands (record {
+        fit = subst (λ (n : ℕ). FitPages image n groups) pages (fit_pages forward groups fits image (λ f i. (stands f i).hold));
+        first = takes_first forward groups fits image;
+      })
 
-      root_or : (x : List ℕ) → Pending guarded root_file 0 x ⊎ IsHeld forward root_file 0 x → IsRoot x (root_unfinished root)
-      root_or x either = ⊎_elim (λ p. held x p) (λ it. absurd (let bad : RootKind ≡ Area = it.0 in (let no : ⊥ = cc in no))) either
+      pub within_guard : LeavesOnly old guarded (WithinRecover old former classes root forward groups aij)
+      within_guard = weaker old guarded (IsPendingOr old (IsRootSlot (root_unfinished root))) (WithinRecover old former classes root forward groups aij) at_once adds.leaves
+        where
+          at_once : (image : Image) → IsPendingOr old (IsRootSlot (root_unfinished root)) image → WithinRecover old former classes root forward groups aij image
+          at_once image each = ⊎_elim
+              (λ was. as_before (λ f i. ⊎_elim (λ p. p) (λ it. subst (λ (n : ℕ). Pending old f n (image f n)) (sym it.1) (subst (λ (g : FileId). Pending old g 0 (image g 0)) (sym it.0) was)) (each f i)))
+              (λ it. begun image it.2 (image_on (IsRootSlot (root_unfinished root)) old may_root to_roll image each))
+              (each root_file 0)
 
-      pub within_lays : LeavesOnly old laid (WithinRecover old former classes root forward groups aij)
-      within_lays = leaves_on old guarded laid (WithinRecover old former classes root forward groups aij) within_guard
-          (weaker guarded laid (IsPendingOr guarded (IsHeld forward)) (WithinRecover old former classes root forward groups aij)
-          (λ image each. unfinished (root_or (image root_file 0) (each root_file 0)) (image_on (IsHeld forward) guarded may_area to_roll_guarded image each)) lays.leaves)
+      module _ (held : (x : List ℕ) → Pending guarded root_file 0 x → IsRoot x (root_unfinished root)) (laid : View) (lays : AddsOnly (IsHeld forward) guarded laid) where
+        pub to_roll_laid : IsToRoll former root forward laid
+        to_roll_laid = to_roll_on (IsHeld forward) guarded laid lays may_area to_roll_guarded
 
-      module _ (copies : List ℕ) (journals : List Journal) (source : IsSource former copies root forward journals groups aij) (sound : AreSound forward groups classes) (left : LeftNow guarded guarded.content) (now : LeftNow laid laid.content) (over : LaidOver forward (writes_of groups) guarded.content laid.content) where
-        pub rolled_image : (image : Image) → IsEndOf laid.content (root_rolled root forward.top) image → IsRolled classes root forward groups aij image
-        rolled_image image ended = is_rolled former copies root forward journals groups aij classes source sound guarded.content laid.content image
-            (content_stands guarded to_roll_guarded left) (content_stands laid to_roll_laid now) over ended
+        root_or : (x : List ℕ) → Pending guarded root_file 0 x ⊎ IsHeld forward root_file 0 x → IsRoot x (root_unfinished root)
+        root_or x either = ⊎_elim (λ p. held x p) (λ it. absurd (let bad : RootKind ≡ Area = it.0 in (let no : ⊥ = cc in no))) either
 
-        pub within_end : (new : View) → LeavesOnly laid new (PendingOrEnd laid (root_rolled root forward.top)) → LeavesOnly old new (WithinRecover old former classes root forward groups aij)
-        within_end new leaves = leaves_on old laid new (WithinRecover old former classes root forward groups aij) within_lays
-            (weaker laid new (PendingOrEnd laid (root_rolled root forward.top)) (WithinRecover old former classes root forward groups aij) late leaves)
-          where
-            late : (image : Image) → PendingOrEnd laid (root_rolled root forward.top) image → WithinRecover old former classes root forward groups aij image
-            late image (inl each) = unfinished (root_or (image root_file 0) (lays.pending root_file 0 (image root_file 0) (each root_file 0))) (λ f i. to_roll_laid f i (image f i) (each f i))
-            late image (inr ended) = rolled (rolled_image image ended)
+        pub within_lays : LeavesOnly old laid (WithinRecover old former classes root forward groups aij)
+        within_lays = leaves_on old guarded laid (WithinRecover old former classes root forward groups aij) within_guard
+            (weaker guarded laid (IsPendingOr guarded (IsHeld forward)) (WithinRecover old former classes root forward groups aij)
+            (λ image each. begun image (root_or (image root_file 0) (each root_file 0)) (image_on (IsHeld forward) guarded may_area to_roll_guarded image each)) lays.leaves)
+
+        module _ (copies : List ℕ) (journals : List Journal) (source : IsSource former copies root forward journals groups aij) (sound : AreSound forward groups classes) (left : LeftNow guarded guarded.content) (now : LeftNow laid laid.content) (over : LaidOver forward (writes_of groups) guarded.content laid.content) where
+          pub rolled_image : (image : Image) → IsEndOf laid.content (root_rolled root forward.top) image → IsRolled classes root forward groups aij image
+          rolled_image image ended = is_rolled former copies root forward journals groups aij classes source sound guarded.content laid.content image
+              (content_stands guarded to_roll_guarded left) (content_stands laid to_roll_laid now) over ended
+
+          pub within_end : (new : View) → LeavesOnly laid new (PendingOrEnd laid (root_rolled root forward.top)) → LeavesOnly old new (WithinRecover old former classes root forward groups aij)
+          within_end new leaves = leaves_on old laid new (WithinRecover old former classes root forward groups aij) within_lays
+              (weaker laid new (PendingOrEnd laid (root_rolled root forward.top)) (WithinRecover old former classes root forward groups aij) late leaves)
+            where
+              late : (image : Image) → PendingOrEnd laid (root_rolled root forward.top) image → WithinRecover old former classes root forward groups aij image
+              late image (inl each) = begun image (root_or (image root_file 0) (lays.pending root_file 0 (image root_file 0) (each root_file 0))) (λ f i. to_roll_laid f i (image f i) (each f i))
+              late image (inr ended) = rolled (rolled_image image ended)
 
   -- ---- behind reads
 
@@ -161,5 +176,5 @@ module _ (former : Image) (root : Root) (forward : Forward) where
       where
         before : (image : Image) → WithinRecover mid former classes root forward groups aij image → WithinRecover old former classes root forward groups aij image
         before image (as_before is) = as_before (λ f i. (reads.keeps t).pending f i (image f i) (is f i))
-        before image (unfinished is stands) = unfinished is stands
+        before image (unfinished is stands takes) = unfinished is stands takes
         before image (rolled is) = rolled is

@@ -1,11 +1,12 @@
 -- What stopped a roll-forward, of what stopped a call or the laying of groups.
 use Rattle.std.proofs.Common.{◌≡◌, ℕ, refl}
 use Rattle.rdb_types.specs.declared.file.FileId.{FileId}
+use Rattle.rdb_types.specs.declared.keys.Dbkey.{Dbkey}
 use Rattle.line_store.specs.declared.answers.Fault.{Fault}
 use Rattle.line_store.specs.declared.answers.Fault.TheVariants as call
 use Rattle.line_opening.specs.declared.fault.OpeningFault.{OpeningFault}
 use Rattle.line_opening.specs.declared.fault.OpeningFault.TheVariants as laying
-use Rattle.rmu_recover.specs.declared.fault.RecoverFault.TheVariants.{Failed, Gap, Bad}
+use Rattle.rmu_recover.specs.declared.fault.RecoverFault.TheVariants.{Failed, Gap, Unfit, Bad}
 use Rattle.rmu_recover.specs.Faults.{of_call, of_laying}
 
 pub call_bad : (fault : Fault) (file : FileId) (slot : ℕ) → of_call fault ≡ Bad file slot → fault ≡ call.Bad file slot
@@ -36,3 +37,12 @@ pub laying_no_gap : (fault : OpeningFault) (number : ℕ) → of_laying fault �
 laying_no_gap laying.Failed number is = let bad : ⊥ = cc in bad
 laying_no_gap laying.NoMemory number is = let bad : ⊥ = cc in bad
 laying_no_gap (laying.Bad file slot) number is = let bad : ⊥ = cc in bad
+
+pub call_no_unfit : (fault : Fault) (key : Dbkey) → of_call fault ≡ Unfit key → ⊥
+call_no_unfit call.Failed key is = let bad : ⊥ = cc in bad
+call_no_unfit (call.Bad file slot) key is = let bad : ⊥ = cc in bad
+
+pub laying_no_unfit : (fault : OpeningFault) (key : Dbkey) → of_laying fault ≡ Unfit key → ⊥
+laying_no_unfit laying.Failed key is = let bad : ⊥ = cc in bad
+laying_no_unfit laying.NoMemory key is = let bad : ⊥ = cc in bad
+laying_no_unfit (laying.Bad file slot) key is = let bad : ⊥ = cc in bad

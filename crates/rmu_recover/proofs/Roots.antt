@@ -73,7 +73,6 @@ module _ (former : Image) (root : Root) (forward : Forward) (s : ℕ) where
       writes = source.writes;
       pages = source.pages;
       top = source.top;
-      fits = source.fits;
       journal = source.journal;
       commits = source.commits;
       below = source.below;
@@ -96,7 +95,7 @@ module _ (former : Image) (root : Root) (forward : Forward) (s : ℕ) where
           where
             again : (image : Image) → WithinRecover old former classes (record root { state = s }) forward groups aij image → WithinRecover old former classes root forward groups aij image
             again image (as_before is) = as_before is
-            again image (unfinished is stands) = unfinished is (λ f i. stand_back f i (image f i) (stands f i))
+            again image (unfinished is stands takes) = unfinished is (λ f i. stand_back f i (image f i) (stands f i)) (record { fit = takes.fit; first = takes.first })
             again image (rolled is) = rolled (record { root_is = is.root_is; kept = is.kept })
 
             back : (image : Image) → WithinRecover old former classes code forward groups aij image → WithinRecover old former classes root forward groups aij image

@@ -21,6 +21,7 @@ use Rattle.rolled_lines.specs.HalfLaid.{writes_of}
 use Rattle.rolled_lines.specs.Journals.{follow, laid}
 use Rattle.laid_groups.specs.Forward.{Forward, MayHold, FitLines}
 use Rattle.laid_groups.specs.Passing.{ceiling_behind}
+use Rattle.fitted_groups.specs.Meeting.{TakesFirst, FitPages}
 use Rattle.rmu_recover.specs.Journals.{files_of, AreJournalsIn}
 
 -- ---- the root
@@ -68,17 +69,30 @@ IsToRoll former root forward v = (f : FileId) (i : ℕ) (x : List ℕ) → Pendi
 
 -- ---- what is laid
 
--- The journals follow on from the root's applied group; these are the groups, whose lines fit their pages; the after-image journal is the last one.
+-- The journals follow on from the root's applied group; these are the groups; the after-image journal is the last one.
 pub record IsSource (former : Image) (copies : List ℕ) (root : Root) (forward : Forward) (journals : List Journal) (groups : List Group) (aij : Journal) : Type 0 where
   pub journals_stand : AreJournalsIn former (files_of copies) journals
   pub follows : follow root.applied journals ≡ laid groups
   pub writes : forward.writes ≡ writes_of groups
   pub pages : forward.pages ≡ root.limits.pages
   pub top : forward.top ≡ ceiling_behind root.ceiling groups
-  pub fits : (i : ℕ) (g : Group) → slice_get groups i ≡ Some g → FitLines forward g.lines
   pub journal : IsJournalOf former aij
   pub commits : HasNoCommit former (next_number aij)
   pub below : (i : ℕ) (g : Group) → slice_get aij.groups i ≡ Some g → g.tsn.number < forward.top
+
+-- each line of the groups has its place in the end
+abbrev pub AllFit : Forward → List Group → Type 0
+AllFit forward groups = (i : ℕ) (g : Group) → slice_get groups i ≡ Some g → FitLines forward g.lines
+
+-- The groups follow on from the root's applied one.
+pub record HasGroups (former : Image) (copies : List ℕ) (root : Root) (journals : List Journal) (groups : List Group) : Type 0 where
+  pub journals_stand : AreJournalsIn former (files_of copies) journals
+  pub follows : follow root.applied journals ≡ laid groups
+
+-- The groups fit the pages of the image, and a page that was never used is in the end that of the first line that is laid on it.
+pub record FitsImage (forward : Forward) (root : Root) (groups : List Group) (image : Image) : Type 0 where
+  pub fit : FitPages image root.limits.pages groups
+  pub first : TakesFirst image forward groups
 
 -- The lines that are rolled forward lie on data pages, and behind that each is of its page's class.
 pub record AreSound (forward : Forward) (groups : List Group) (classes : ℕ → ℕ) : Type 0 where
@@ -94,8 +108,8 @@ pub record IsRolled (classes : ℕ → ℕ) (root : Root) (forward : Forward) (g
   pub root_is : IsRoot (image root_file 0) (root_rolled root forward.top)
   pub kept : Kept classes (laid_groups groups forward.base) aij image
 
--- What a crash may leave within it: what it might have left before; an image that says that it is unfinished, from which the same roll-forward gives the same lines; or the lines rolled forward.
+-- What a crash may leave within it: what it might have left before; an image that says that it is unfinished and whose pages the groups fit, from which the same roll-forward gives the same lines; or the lines rolled forward.
 pub data WithinRecover (v : View) (former : Image) (classes : ℕ → ℕ) (root : Root) (forward : Forward) (groups : List Group) (aij : Journal) (image : Image) : Type 0 where
   as_before : IsPending v image → WithinRecover v former classes root forward groups aij image
-  unfinished : IsRoot (image root_file 0) (root_unfinished root) → MayBeRolled former root forward image → WithinRecover v former classes root forward groups aij image
+  unfinished : IsRoot (image root_file 0) (root_unfinished root) → MayBeRolled former root forward image → FitsImage forward root groups image → WithinRecover v former classes root forward groups aij image
   rolled : IsRolled classes root forward groups aij image → WithinRecover v former classes root forward groups aij image

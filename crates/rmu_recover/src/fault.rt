@@ -4,14 +4,15 @@ ghost use Rattle.std.specs.Prelude.{◌≡◌};
 use line_opening::OpeningFault;
 use line_store::Fault;
 use rdb_outside::Failed;
-use rdb_types::FileId;
+use rdb_types::{Dbkey, FileId};
 
-/// Why a roll-forward went no further: a device call failed, memory was wanted, the group of this number is missing, or the slot of this number isn't what it has to be.
+/// Why a roll-forward went no further: a device call failed, memory was wanted, the group of this number is missing, the line of this key doesn't fit the page that it meets, or the slot of this number isn't what it has to be.
 #[derive(Clone, Copy, Debug, PartialEq, Eq)]
 pub enum RecoverFault {
     Failed,
     NoMemory,
     Gap(u64),
+    Unfit(Dbkey),
     Bad(FileId, u32),
 }
 

@@ -24,8 +24,8 @@ use rdb_outside::Disk;
 use rdb_types::{FileId, FileKind};
 use std::alloc::Global;
 
-// The file of the copy of this number.
-fn copy_file(number: u32) -> FileId
+/// The file of the copy of this number.
+pub(crate) fn copy_file(number: u32) -> FileId
     ensures { result ≡ copy_named number }
 {
     FileId {
@@ -49,6 +49,7 @@ fn pass_next<D: Disk>(disk: &mut D, file: FileId, at: Reached) -> Result<Reached
     ensures gap { (number : ℕ) → IsErrOf result (RecoverFault.Gap number)
         → IsTrue (D.view disk.old).tells → (journal : Journal)
         → IsJournalIn (D.view disk.old).content file journal → at.last + 1 < journal.first }
+    ensures no_unfit { (key : _) → IsErrOf result (RecoverFault.Unfit key) → ⊥ }
     ensures reached { IfOk result (λ reached. IsTrue (D.view disk.old).tells → (journal : Journal)
         → IsJournalIn (D.view disk.old).content file journal → Reaches at journal reached) }
     ensures grows { IfOk result (λ reached. at.last ≤ reached.last) }
@@ -80,6 +81,7 @@ pub(crate) fn pass_all<D: Disk>(
         → IsTrue (D.view disk.old).tells → (journals : List Journal)
         → AreJournalsIn (D.view disk.old).content (files_of copies.now) journals
         → follow at.last journals ≡ gap_at number }
+    ensures no_unfit { (key : _) → IsErrOf result (RecoverFault.Unfit key) → ⊥ }
     ensures reached { IfOk result (λ reached. IsTrue (D.view disk.old).tells → (journals : List Journal)
         → AreJournalsIn (D.view disk.old).content (files_of copies.now) journals
         → FollowsTo at journals reached) }

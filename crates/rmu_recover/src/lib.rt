@@ -2,6 +2,7 @@
 #![tactic(auto)]
 
 mod fault;
+mod fitting;
 mod journals;
 mod recovering;
 

@@ -11,10 +11,12 @@ ghost use Rattle.stable_lines.specs.Journal.{Journal};
 ghost use Rattle.rolled_lines.specs.Journals.{follow, gap as gap_at};
 ghost use Rattle.database_opening.specs.Others.{KeepsFile};
 ghost use Rattle.laid_groups.specs.Forward.{Forward};
+ghost use Rattle.fitted_groups.specs.Meeting.{TakesFirst, FitPages};
 ghost use Rattle.rmu_recover.specs.Journals.{files_of, AreJournalsIn};
-ghost use Rattle.rmu_recover.specs.Recovering.{IsOther, IsToRoll, IsSource, AreSound, IsRolled, WithinRecover};
+ghost use Rattle.rmu_recover.specs.Recovering.{IsOther, IsToRoll, IsSource, AllFit, HasGroups, AreSound, IsRolled, WithinRecover};
 
 use crate::RecoverFault;
+use crate::fitting::check_fit;
 use crate::journals::{lay_all, pass_all};
 use guarded_root::{guard, unguard};
 use laid_groups::Reached;
@@ -64,18 +66,19 @@ fn carry_out<D: Disk>(
         → IsTrue (D.view disk.old).tells → (former : Content) (forward : Forward)
         → (journals : List Journal) (groups : List Group) (aij : Journal)
         → IsToRoll former root forward (D.view disk.old)
-        → IsSource former copies.now root forward journals groups aij → ceiling ≡ forward.top → ⊥ }
+        → IsSource former copies.now root forward journals groups aij → AllFit forward groups
+        → ceiling ≡ forward.top → ⊥ }
     ensures rolled { OnOk result (IsTrue (D.view disk.old).tells → (former : Content) (forward : Forward)
         → (journals : List Journal) (groups : List Group) (aij : Journal) (classes : ℕ → ℕ)
         → IsToRoll former root forward (D.view disk.old)
-        → IsSource former copies.now root forward journals groups aij
+        → IsSource former copies.now root forward journals groups aij → AllFit forward groups
         → AreSound forward groups classes → ceiling ≡ forward.top
         → (image : Content) → LeftNow (D.view disk.new) image
         → IsRolled classes root forward groups aij image) }
     ensures within { IsTrue (D.view disk.old).tells → (former : Content) (forward : Forward)
         → (journals : List Journal) (groups : List Group) (aij : Journal) (classes : ℕ → ℕ)
         → IsToRoll former root forward (D.view disk.old)
-        → IsSource former copies.now root forward journals groups aij
+        → IsSource former copies.now root forward journals groups aij → AllFit forward groups
         → AreSound forward groups classes → ceiling ≡ forward.top
         → LeavesOnly (D.view disk.old) (D.view disk.new)
         (WithinRecover (D.view disk.old) former classes root forward groups aij) }
@@ -118,11 +121,24 @@ fn roll<D: Disk>(
         → AreJournalsIn former (files_of copies.now) journals
         → follow root.applied journals ≡ gap_at number
         → IsErr result × OnlyReads (D.view disk.old) (D.view disk.new) }
+    ensures unfit { (key : _) → IsErrOf result (RecoverFault.Unfit key)
+        → IsTrue (D.view disk.old).tells → (former : Content) (forward : Forward)
+        → (journals : List Journal) (groups : List Group) → IsToRoll former root forward (D.view disk.old)
+        → HasGroups former copies.now root journals groups
+        → FitPages (D.view disk.old).content root.limits.pages groups → ⊥ }
+    ensures untouched { (key : _) → IsErrOf result (RecoverFault.Unfit key)
+        → OnlyReads (D.view disk.old) (D.view disk.new) }
+    ensures unfitting { IsTrue (D.view disk.old).tells → (former : Content) (forward : Forward)
+        → (journals : List Journal) (groups : List Group) → IsToRoll former root forward (D.view disk.old)
+        → HasGroups former copies.now root journals groups
+        → (FitPages (D.view disk.old).content root.limits.pages groups → ⊥)
+        → IsErr result × OnlyReads (D.view disk.old) (D.view disk.new) }
     ensures bad { (file : File) (slot : ℕ) → IsErrOf result (RecoverFault.Bad file slot)
         → IsTrue (D.view disk.old).tells → (former : Content) (forward : Forward)
         → (journals : List Journal) (groups : List Group) (aij : Journal)
         → IsToRoll former root forward (D.view disk.old)
-        → IsSource former copies.now root forward journals groups aij → ⊥ }
+        → IsSource former copies.now root forward journals groups aij
+        → TakesFirst (D.view disk.old).content forward groups → ⊥ }
     ensures count { IfOk result (λ count. IsTrue (D.view disk.old).tells
         → (former : Content) (forward : Forward)
         → (journals : List Journal) (groups : List Group) (aij : Journal)
@@ -134,6 +150,7 @@ fn roll<D: Disk>(
         → (journals : List Journal) (groups : List Group) (aij : Journal) (classes : ℕ → ℕ)
         → IsToRoll former root forward (D.view disk.old)
         → IsSource former copies.now root forward journals groups aij
+        → TakesFirst (D.view disk.old).content forward groups
         → AreSound forward groups classes
         → (image : Content) → LeftNow (D.view disk.new) image
         → IsRolled classes root forward groups aij image) }
@@ -142,6 +159,7 @@ fn roll<D: Disk>(
         → (journals : List Journal) (groups : List Group) (aij : Journal) (classes : ℕ → ℕ)
         → IsToRoll former root forward (D.view disk.old)
         → IsSource former copies.now root forward journals groups aij
+        → TakesFirst (D.view disk.old).content forward groups
         → AreSound forward groups classes
         → LeavesOnly (D.view disk.old) (D.view disk.new)
         (WithinRecover (D.view disk.old) former classes root forward groups aij) }
@@ -153,11 +171,12 @@ fn roll<D: Disk>(
         ceiling: root.ceiling,
     };
     let reached = pass_all(disk, copies, at)?;
+    check_fit(alloc, disk, copies, root.applied, root.limits.pages)?;
     carry_out(alloc, disk, copies, root, reached.ceiling)?;
     Ok(reached.last - root.applied)
 }
 
-/// Rolls a database that was restored, or rolled forward in part, forward over the copies of its after-image journal of these numbers, in their order, and that journal: each group above the last one that the root says is laid over the pages, and the database is in use behind it. It answers how many groups were laid, and none for a database in use, which it leaves as it is. The journals are read before anything is written; then each again, with one group in memory at a time. Behind a fault the same roll-forward begins again.
+/// Rolls a database that was restored, or rolled forward in part, forward over the copies of its after-image journal of these numbers, in their order, and that journal: each group above the last one that the root says is laid over the pages, and the database is in use behind it. It answers how many groups were laid, and none for a database in use, which it leaves as it is. The pages and the journals are read before anything is written, and where a line of the groups doesn't fit the page that it meets nothing is; then the journals are read again, and laid. It takes eight bytes a page and area file meanwhile, and one group is in memory at a time. Behind a fault the same roll-forward begins again.
 pub fn recover<D: Disk>(alloc: Global, disk: &mut D, copies: &[u32]) -> Result<u64, RecoverFault>
     // It doesn't give up by itself.
     ensures told { (D.view disk.new).tells ≡ (D.view disk.old).tells }
@@ -180,12 +199,28 @@ pub fn recover<D: Disk>(alloc: Global, disk: &mut D, copies: &[u32]) -> Result<u
         → follow root.applied journals ≡ gap_at number
         → IsErr result × OnlyReads (D.view disk.old) (D.view disk.new) }
 
-    // Journals that follow on, with groups that fit, are never refused.
+    // Where a line of the groups doesn't fit the page that it meets, it says which, and has written nothing.
+    ensures unfit { (key : _) → IsErrOf result (RecoverFault.Unfit key)
+        → IsTrue (D.view disk.old).tells → (former : Content) (root : Values) (forward : Forward)
+        → (journals : List Journal) (groups : List Group) → IsToRoll former root forward (D.view disk.old)
+        → HasGroups former copies.now root journals groups
+        → FitPages (D.view disk.old).content root.limits.pages groups → ⊥ }
+    ensures untouched { (key : _) → IsErrOf result (RecoverFault.Unfit key)
+        → OnlyReads (D.view disk.old) (D.view disk.new) }
+    ensures unfitting { IsTrue (D.view disk.old).tells
+        → (former : Content) (root : Values) (forward : Forward)
+        → (journals : List Journal) (groups : List Group) → IsToRoll former root forward (D.view disk.old)
+        → HasGroups former copies.now root journals groups
+        → (FitPages (D.view disk.old).content root.limits.pages groups → ⊥)
+        → IsErr result × OnlyReads (D.view disk.old) (D.view disk.new) }
+
+    // Else journals that follow on are never refused.
     ensures bad { (file : File) (slot : ℕ) → IsErrOf result (RecoverFault.Bad file slot)
         → IsTrue (D.view disk.old).tells → (former : Content) (root : Values) (forward : Forward)
         → (journals : List Journal) (groups : List Group) (aij : Journal)
         → IsToRoll former root forward (D.view disk.old)
-        → IsSource former copies.now root forward journals groups aij → ⊥ }
+        → IsSource former copies.now root forward journals groups aij
+        → TakesFirst (D.view disk.old).content forward groups → ⊥ }
 
     // A database in use is left as it is, and nothing is laid.
     ensures in_use { IsTrue (D.view disk.old).tells → (root : Values)
@@ -207,6 +242,7 @@ pub fn recover<D: Disk>(alloc: Global, disk: &mut D, copies: &[u32]) -> Result<u
         → (journals : List Journal) (groups : List Group) (aij : Journal) (classes : ℕ → ℕ)
         → IsToRoll former root forward (D.view disk.old)
         → IsSource former copies.now root forward journals groups aij
+        → TakesFirst (D.view disk.old).content forward groups
         → AreSound forward groups classes
         → (image : Content) → LeftNow (D.view disk.new) image
         → IsRolled classes root forward groups aij image) }
@@ -217,6 +253,7 @@ pub fn recover<D: Disk>(alloc: Global, disk: &mut D, copies: &[u32]) -> Result<u
         → (journals : List Journal) (groups : List Group) (aij : Journal) (classes : ℕ → ℕ)
         → IsToRoll former root forward (D.view disk.old)
         → IsSource former copies.now root forward journals groups aij
+        → TakesFirst (D.view disk.old).content forward groups
         → AreSound forward groups classes
         → LeavesOnly (D.view disk.old) (D.view disk.new)
         (WithinRecover (D.view disk.old) former classes root forward groups aij) }

@@ -4,7 +4,7 @@ use Rattle.rdb_outside.specs.Moments.{started, each_slot}
 use Rattle.database_opening.proofs.Others.{file_unused}
 use Rattle.rmu_recover.specs.Recovering.{as_before}
 use Rattle.command_words.specs.Copies.{copies_in}
-use Rattle.rmu_keeping.specs.Rolling.{MayBeRecovered, LacksGroup, Rolls, RollsWithin, TellsGroups}
+use Rattle.rmu_keeping.specs.Rolling.{MayBeRecovered, LacksGroup, HasUnfit, Rolls, RollsWithin, TellsGroups}
 use Rattle.rdb_top.proofs.recovering.run_recover.Goals as goal
 
 -- ---- over the copies that the words name
@@ -29,6 +29,11 @@ returns-in-Ok-clause-gap g c t lacks =
     let v = g.D.Disk.view in
     c.recover_command.ensures.gap t (subst (λ (ns : List ℕ). LacksGroup (v c.args.disk.now) ns) (sym (c.as_slice.ensures ∙ c.in-Ok.ensures.value)) lacks)
 
+pub returns-in-Ok-clause-unfitting : goal.returns-in-Ok-clause-unfitting
+returns-in-Ok-clause-unfitting g c t has =
+    let v = g.D.Disk.view in
+    c.recover_command.ensures.unfitting t (subst (λ (ns : List ℕ). HasUnfit (v c.args.disk.now) ns) (sym (c.as_slice.ensures ∙ c.in-Ok.ensures.value)) has)
+
 pub returns-in-Ok-clause-within : goal.returns-in-Ok-clause-within
 returns-in-Ok-clause-within g c t =
     let v = g.D.Disk.view in
@@ -49,11 +54,14 @@ returns-in-Err-clause-tells g c = record {
 pub returns-in-Err-clause-gap : goal.returns-in-Err-clause-gap
 returns-in-Err-clause-gap g c t lacks = (λ has. omega (arith, has), no_calls (g.D.Disk.view c.args.disk.now))
 
+pub returns-in-Err-clause-unfitting : goal.returns-in-Err-clause-unfitting
+returns-in-Err-clause-unfitting g c t has = (λ rolled. omega (arith, rolled), no_calls (g.D.Disk.view c.args.disk.now))
+
 pub returns-in-Err-clause-in_use : goal.returns-in-Err-clause-in_use
 returns-in-Err-clause-in_use g c t used = no_calls (g.D.Disk.view c.args.disk.now)
 
 pub returns-in-Err-clause-within : goal.returns-in-Err-clause-within
-returns-in-Err-clause-within g c = λ t former root forward journals groups aij classes to_roll source sound.
+returns-in-Err-clause-within g c = λ t former root forward journals groups aij classes to_roll source takes sound.
     let v = g.D.Disk.view c.args.disk.now in
     started v _ (λ image left. as_before (each_slot v image left))
 

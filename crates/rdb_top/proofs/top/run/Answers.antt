@@ -131,6 +131,11 @@ returns-in-Some-Recover-clause-lacking g c rolls told lacks =
     let gap = c.run_recover-status.ensures.gap told lacks in
     (λ has. gap.0 (subst HasRolled c.unsaid-in-Some-Recover.ensures.status has), rw c.unsaid-in-Some-Recover.ensures.disk gap.1)
 
+pub returns-in-Some-Recover-clause-unfitting : goal.returns-in-Some-Recover-clause-unfitting
+returns-in-Some-Recover-clause-unfitting g c rolls told has =
+    let unfit = c.run_recover-status.ensures.unfitting told has in
+    (λ rolled. unfit.0 (subst HasRolled c.unsaid-in-Some-Recover.ensures.status rolled), rw c.unsaid-in-Some-Recover.ensures.disk unfit.1)
+
 pub returns-in-Some-Recover-clause-rolled_before : goal.returns-in-Some-Recover-clause-rolled_before
 returns-in-Some-Recover-clause-rolled_before g c rolls told used = rw c.unsaid-in-Some-Recover.ensures.disk (c.run_recover-status.ensures.in_use told used)
 

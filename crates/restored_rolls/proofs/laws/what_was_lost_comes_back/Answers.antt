@@ -9,7 +9,8 @@ pub returns-clause-ready : goal.returns-clause-ready
 returns-clause-ready c = λ was image classes now head lines journal groups number copies journals has keeps is meets.
     record {
       may = source.may was image classes head lines journal groups keeps is;
-      source = source.source was image classes head lines journal groups keeps is meets.fit copies journals has.stand has.follows;
+      source = source.source was image classes head lines journal groups keeps is copies journals has.stand has.follows;
+      fits = source.fits was image classes head lines journal groups is meets.fit;
       sound = sound.sound was image classes head lines journal groups is meets.fit number has.backup now meets.classes_are;
     }
 

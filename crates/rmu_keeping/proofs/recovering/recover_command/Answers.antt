@@ -8,8 +8,8 @@ use Rattle.rmu_keeping.proofs.recovering.recover_command.Goals as goal
 -- ---- carried out
 
 pub returns-in-Ok-clause-rolled : goal.returns-in-Ok-clause-rolled
-returns-in-Ok-clause-rolled g c = λ has t former root forward journals groups aij classes to_roll source sound image now.
-    c.in-Ok.ensures.rolled t former root forward journals groups aij classes to_roll source sound image now
+returns-in-Ok-clause-rolled g c = λ has t former root forward journals groups aij classes to_roll source takes sound image now.
+    c.in-Ok.ensures.rolled t former root forward journals groups aij classes to_roll source takes sound image now
 
 pub returns-in-Ok-clause-tells : goal.returns-in-Ok-clause-tells
 returns-in-Ok-clause-tells g c = record {
@@ -38,6 +38,11 @@ returns-in-Ok-clause-gap g c = λ t lacks.
     let missing = c.recover.ensures.missing t lacks.former lacks.root lacks.forward lacks.journals lacks.number lacks.to_roll lacks.stand lacks.missing in
     absurd (none_given_up c.in-Ok.count c.recover.result c.in-Ok.is missing.0)
 
+pub returns-in-Ok-clause-unfitting : goal.returns-in-Ok-clause-unfitting
+returns-in-Ok-clause-unfitting g c = λ t has.
+    let unfit = c.recover.ensures.unfitting t has.former has.root has.forward has.journals has.groups has.to_roll has.has has.unfit in
+    absurd (none_given_up c.in-Ok.count c.recover.result c.in-Ok.is unfit.0)
+
 -- ---- given up
 
 pub returns-in-Err-clause-rolled : goal.returns-in-Err-clause-rolled
@@ -63,7 +68,8 @@ returns-in-Err-clause-device g c is =
 pub returns-in-Err-clause-refused : goal.returns-in-Err-clause-refused
 returns-in-Err-clause-refused g c is t may = elim (refused c.in-Err.fault c.status_of_rolling.result c.status_of_rolling.ensures is) [
   | inl met ↦ not_both may.groups met.0 _ may.source.follows (c.recover.ensures.gap met.0 (subst (λ (f : RecoverFault). IsErrOf c.recover.result f) met.1 c.in-Err.is) t may.former may.root may.forward may.journals may.to_roll may.source.journals_stand)
-  | inr met ↦ c.recover.ensures.bad met.0 met.1 (subst (λ (f : RecoverFault). IsErrOf c.recover.result f) met.2 c.in-Err.is) t may.former may.root may.forward may.journals may.groups may.aij may.to_roll may.source
+  | inr (inl met) ↦ c.recover.ensures.unfit met.0 (subst (λ (f : RecoverFault). IsErrOf c.recover.result f) met.1 c.in-Err.is) t may.former may.root may.forward may.journals may.groups may.to_roll (record { journals_stand = may.source.journals_stand; follows = may.source.follows }) may.fits.fit
+  | inr (inr met) ↦ c.recover.ensures.bad met.0 met.1 (subst (λ (f : RecoverFault). IsErrOf c.recover.result f) met.2 c.in-Err.is) t may.former may.root may.forward may.journals may.groups may.aij may.to_roll may.source may.fits.first
 ]
 
 pub returns-in-Err-clause-taken : goal.returns-in-Err-clause-taken
@@ -84,3 +90,8 @@ returns-in-Ok-clause-in_use g c = λ t used. c.recover.ensures.in_use t used.roo
 
 pub returns-in-Err-clause-in_use : goal.returns-in-Err-clause-in_use
 returns-in-Err-clause-in_use g c = λ t used. c.recover.ensures.in_use t used.root used.is used.state
+
+pub returns-in-Err-clause-unfitting : goal.returns-in-Err-clause-unfitting
+returns-in-Err-clause-unfitting g c = λ t has.
+    let unfit = c.recover.ensures.unfitting t has.former has.root has.forward has.journals has.groups has.to_roll has.has has.unfit in
+    (λ rolled. not_rolled c.status_of_rolling.result (gave_up c.in-Err.fault c.status_of_rolling.result c.status_of_rolling.ensures) rolled, unfit.1)

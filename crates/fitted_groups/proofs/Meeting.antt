@@ -10,7 +10,7 @@ use Rattle.stable_lines.specs.Slots.{area_file}
 use Rattle.stable_lines.specs.Journal.{write_of}
 use Rattle.rolled_lines.specs.HalfLaid.{writes_of}
 use Rattle.laid_groups.specs.Forward.{IsWrittenBy}
-use Rattle.restored_rolls.specs.Meeting.{lines_among, is_there, first_there, owner_met, class_met}
+use Rattle.fitted_groups.specs.Meeting.{lines_among, is_there, first_there, owner_met, class_met}
 
 -- ---- each line is a write
 
@@ -68,15 +68,15 @@ first_is file number (x ∷ ls) l found = by (λ rest. first_is file number ls l
         record { index = suc rest.index; is = rest.is; there = rest.there }
 
 -- it is a write of that page
-first_true : (a b : Bool) → (a && b) ≡ true → a ≡ true
+pub first_true : (a b : Bool) → (a && b) ≡ true → a ≡ true
 first_true true b is = refl
 first_true false b is = is
 
-second_true : (a b : Bool) → (a && b) ≡ true → b ≡ true
+pub second_true : (a b : Bool) → (a && b) ≡ true → b ≡ true
 second_true true b is = is
 second_true false b is = let bad : false ≡ true = is in let no : ⊥ = cc in absurd no
 
-same_number : (a b : ℕ) → (a == b) ≡ true → a ≡ b
+pub same_number : (a b : ℕ) → (a == b) ≡ true → a ≡ b
 same_number a b is = grind (arith, is)
 
 pub first_writes : (groups : List Group) (file number : ℕ) (l : GroupLine) → first_there file number (lines_among groups) ≡ Some l → IsWrittenBy (writes_of groups) file number
