@@ -52,3 +52,6 @@ returns-in-Ok-clause-gave_up g c told unopened = absurd (unopened c.ended.ensure
 
 pub returns-in-Err-clause-gave_up : goal.returns-in-Err-clause-gave_up
 returns-in-Err-clause-gave_up g c told unopened = rw c.unsaid.ensures.disk (c.in-Err.ensures.gave_up told)
+
+pub returns-in-Ok-clause-order : goal.returns-in-Ok-clause-order
+returns-in-Ok-clause-order g c told whole = rw c.ended.ensures.events (c.run_in_order.ensures.order (sym c.ended.ensures.is_whole ∙ whole) told)
