@@ -18,7 +18,7 @@ use Rattle.line_moves.proofs.Putting.{nat_cases}
 use Rattle.laid_groups.proofs.Once.{one_place}
 use Rattle.fitted_groups.specs.declared.claims.AreaEnds.{AreaEnds}
 use Rattle.fitted_groups.specs.declared.claims.PageClaim.{PageClaim}
-use Rattle.fitted_groups.specs.Meeting.{is_there, first_there, page_in, entry_in, owner_met, class_met, owner_over, class_over, FitsPage, FitOver}
+use Rattle.fitted_groups.specs.Meeting.{is_there, first_there, page_in, entry_in, owner_met, class_met, owner_over, class_over, FitsPage}
 use Rattle.fitted_groups.specs.Claims.{end_in, AreEnds, seat_of, claim_at, claim_over, MayClaim, HasClaims, AreFitted}
 use Rattle.fitted_groups.proofs.Firsts.{or_else, first_both, first_one, first_none, on_place, its_page, fit_one_more, first_area}
 

@@ -1,8 +1,7 @@
-use Rattle.std.proofs.Common.{◌≡◌, ◌≤◌, ◌∙◌, ℕ, ⊎_elim, sym, subst, arith}
+use Rattle.std.proofs.Common.{◌≡◌, ◌∙◌, sym, subst}
 use Rattle.rdb_types.specs.declared.file.FileId.{FileId}
 use Rattle.rdb_outside.specs.Disk.{zeros}
 use Rattle.rdb_outside.specs.Runs.{one_call}
-use Rattle.stable_lines.specs.Slots.{area_file}
 use Rattle.line_moves.proofs.Runs.{reads_once, still_tells}
 use Rattle.fitted_groups.proofs.Claiming.{are_ends}
 use Rattle.fitted_groups.proofs.claims.area_ends.Goals as goal

@@ -1,4 +1,4 @@
-use Rattle.std.proofs.Common.{rules, ◌≡◌, ◌*◌, [], List, length, drop, sym, subst, arith}
+use Rattle.std.proofs.Common.{◌≡◌, ◌*◌, [], List, length, drop, sym, subst, arith}
 use Rattle.rdb_outside.specs.Disk.{Image}
 use Rattle.rdb_outside.specs.Runs.{then_reads}
 use Rattle.line_moves.proofs.Runs.{still_tells}

@@ -1,8 +1,5 @@
-use Rattle.std.proofs.Common.{◌<◌, ◌∙◌, length, sym, subst, arith}
-use Rattle.rdb_page.specs.Page.{lines_of}
+use Rattle.std.proofs.Common.{sym, arith}
 use Rattle.line_moves.proofs.KeyPlaces.{area_is}
-use Rattle.laid_groups.proofs.Once.{one_place}
-use Rattle.fitted_groups.specs.Claims.{seat_of}
 use Rattle.fitted_groups.proofs.Claiming.{seat_inside, fitted_with, refuses, at_seat, off_seat, others_at}
 use Rattle.fitted_groups.proofs.lines.fit_line.Goals as goal
 
