@@ -1,5 +1,5 @@
 -- A claim looked at, and taken.
-use Rattle.std.proofs.Common.{◌≡◌, ◌≢◌, ℕ, zero, suc, ◌+◌, ◌*◌, ◌-◌, ◌/◌, ◌%◌, ◌≤◌, ◌<◌, Bool, true, false, List, [], ◌∷◌, ◌++◌, length, nat_eq, slice_get, slice_set, Option, Some, None, ◌⊎◌, inl, inr, ⊎_elim, refl, sym, ◌∙◌, ap, subst, arith}
+use Rattle.std.proofs.Common.{◌≡◌, ◌≢◌, ℕ, zero, suc, ◌+◌, ◌*◌, ◌-◌, ◌/◌, ◌%◌, ◌≤◌, ◌<◌, Bool, true, false, List, [], ◌∷◌, ◌++◌, length, take, nat_eq, slice_get, slice_set, Option, Some, None, ◌⊎◌, inl, inr, ⊎_elim, refl, sym, ◌∙◌, ap, subst, arith}
 use Rattle.std.specs.Prelude.{slice_index_or}
 use Rattle.std.proofs.lemmas.Bool.{eqb-true, eq-eqb}
 use Rattle.std.proofs.lemmas.Option.{slice_get-get_or}
@@ -9,15 +9,17 @@ use Rattle.rdb_page.specs.Page.{class_at, lines_of}
 use Rattle.area_files.specs.Areas.{IsDataPage}
 use Rattle.aij_journal.specs.declared.part.GroupLine.{GroupLine}
 use Rattle.aij_journal.specs.Part.{IsAllowedLine}
+use Rattle.journal_reading.specs.Journal.{EndsBy}
 use Rattle.stable_lines.specs.Slots.{area_file, IsAreaFile, owner_at}
 use Rattle.line_moves.specs.declared.places.Place.{Place}
 use Rattle.line_moves.specs.Changes.{IsPlaceOf}
 use Rattle.line_moves.proofs.KeyPlaces.{area_is, some_area}
 use Rattle.line_moves.proofs.Putting.{nat_cases}
 use Rattle.laid_groups.proofs.Once.{one_place}
+use Rattle.fitted_groups.specs.declared.claims.AreaEnds.{AreaEnds}
 use Rattle.fitted_groups.specs.declared.claims.PageClaim.{PageClaim}
-use Rattle.fitted_groups.specs.Meeting.{is_there, first_there, page_in, entry_in, owner_met, class_met, owner_over, class_over, FitsPage, FitOver}
-use Rattle.fitted_groups.specs.Claims.{seat_of, claim_at, claim_over, MayClaim, HasClaims, AreFitted}
+use Rattle.fitted_groups.specs.Meeting.{is_there, first_there, page_in, entry_in, owner_met, class_met, owner_over, class_over, FitsPage}
+use Rattle.fitted_groups.specs.Claims.{end_in, AreEnds, seat_of, claim_at, claim_over, MayClaim, HasClaims, AreFitted}
 use Rattle.fitted_groups.proofs.Firsts.{or_else, first_both, first_one, first_none, on_place, its_page, fit_one_more, first_area}
 
 -- ---- seats
@@ -180,7 +182,7 @@ module _ (image : Image) (pages : ℕ) (before : List GroupLine) (claims : List 
   its_claim = record { owner = l.key.area; class = l.class }
 
   may : l.key.page ≤ pages → MayClaim (record { owner = l.key.area; class = l.class }) (slice_get claims (seat_of place.file place.page)) → (owner_met own first 0 ≡ 0) ⊎ (claim_over image before place.file place.page ≡ its_claim)
-  may within may = subst (λ (w : Option PageClaim). MayClaim its_claim w) (its_seat within) may
+  may within was = subst (λ (w : Option PageClaim). MayClaim its_claim w) (its_seat within) was
 
   may_not : l.key.page ≤ pages → (owner_met own first 0 ≡ 0) ⊎ (claim_over image before place.file place.page ≡ its_claim) → MayClaim (record { owner = l.key.area; class = l.class }) (slice_get claims (seat_of place.file place.page))
   may_not within either = subst (λ (w : Option PageClaim). MayClaim its_claim w) (sym (its_seat within)) either
@@ -248,9 +250,9 @@ pub seat_area : (seat : ℕ) → IsAreaFile (seat % 3 + 1)
 seat_area seat = record { first = omega arith; last = omega arith }
 
 -- before any line
-unlaid : (own class : ℕ) → ◌≡◌ {A = PageClaim} (record { owner = owner_met own None 0; class = class_met own None class }) (record { owner = own; class = class })
-unlaid zero class = refl
-unlaid (suc own) class = refl
+unlaid : (owner size : ℕ) → ◌≡◌ {A = PageClaim} (record { owner = owner_met owner None 0; class = class_met owner None size }) (record { owner = owner; class = size })
+unlaid zero size = refl
+unlaid (suc n) size = refl
 
 module _ (image : Image) where
   abbrev Reads : ℕ → List PageClaim → Type 0
@@ -310,3 +312,30 @@ module _ (claims : List PageClaim) (seat : ℕ) (claim none : PageClaim) (less :
 
 pub not_class : (a b : ℕ) → a ≡ b → nat_eq a b ≡ false → ⊥
 not_class a b same off = let bad : true ≡ false = sym (eq-eqb a b same) ∙ off in cc
+
+-- ---- behind a slice of a vector
+
+pub front_of : (new rest : List PageClaim) (n : ℕ) → length new ≡ n → take n (new ++ rest) ≡ new
+front_of [] rest zero is = refl
+front_of [] rest (suc n) is = absurd (omega (arith, is))
+front_of (c ∷ new) rest zero is = absurd (omega (arith, is))
+front_of (c ∷ new) rest (suc n) is = ap (λ (l : List PageClaim). c ∷ l) (front_of new rest n (omega (arith, is)))
+
+-- ---- the ends of the three files
+
+three : (file : ℕ) → IsAreaFile file → (file ≡ 1) ⊎ (file ≡ 2) ⊎ (file ≡ 3)
+three file area = let low = area.first in let high = area.last in by (nat_cases file 1) (nat_cases file 2) low high
+  where
+    by : (file ≡ 1) ⊎ (file ≢ 1) → (file ≡ 2) ⊎ (file ≢ 2) → 1 ≤ file → file ≤ 3 → (file ≡ 1) ⊎ (file ≡ 2) ⊎ (file ≡ 3)
+    by (inl one) two low high = inl one
+    by (inr one) (inl two) low high = inr (inl two)
+    by (inr one) (inr two) low high = inr (inr (omega (arith, one, two, low, high)))
+
+pub are_ends : (image : Image) (ends : AreaEnds) → EndsBy image (area_file 1) ends.catalog → EndsBy image (area_file 2) ends.relations → EndsBy image (area_file 3) ends.indexes → AreEnds image ends
+are_ends image ends catalog relations indexes file area = ⊎_elim
+    (λ one. subst (λ (f : ℕ). EndsBy image (area_file f) (end_in ends f)) (sym one) catalog)
+    (λ more. ⊎_elim
+    (λ two. subst (λ (f : ℕ). EndsBy image (area_file f) (end_in ends f)) (sym two) relations)
+    (λ third. subst (λ (f : ℕ). EndsBy image (area_file f) (end_in ends f)) (sym third) indexes)
+    more)
+    (three file area)

@@ -1,5 +1,5 @@
 -- The first line on a page, of lines one behind another, and whether a line that fits goes on fitting.
-use Rattle.std.proofs.Common.{◌≡◌, ℕ, zero, suc, ◌≤◌, ◌<◌, ◌==◌, ◌&&◌, Bool, true, false, cond, List, [], ◌∷◌, ◌++◌, slice_get, Option, Some, None, ⊎_elim, refl, sym, ◌∙◌, ap, subst, arith}
+use Rattle.std.proofs.Common.{◌≡◌, ℕ, zero, suc, ◌≤◌, ◌==◌, Bool, true, false, cond, List, [], ◌∷◌, ◌++◌, slice_get, Option, Some, None, ⊎_elim, refl, sym, ◌∙◌, ap, subst}
 use Rattle.std.proofs.lemmas.Bool.{eq-eqb, and_from}
 use Rattle.rdb_outside.specs.Disk.{Image}
 use Rattle.rdb_page.specs.Page.{class_at}
@@ -10,8 +10,8 @@ use Rattle.stable_lines.proofs.Lists.{got_either, got_one}
 use Rattle.line_moves.specs.declared.places.Place.{Place}
 use Rattle.line_moves.specs.Changes.{IsPlaceOf}
 use Rattle.line_moves.proofs.KeyPlaces.{file_is, some_area}
-use Rattle.fitted_groups.specs.Meeting.{is_there, first_there, page_in, entry_in, owner_met, class_met, owner_over, class_over, FitsPage, FitOver}
-use Rattle.fitted_groups.proofs.Meeting.{IsFirst, first_is, first_true, second_true, same_number}
+use Rattle.fitted_groups.specs.Meeting.{is_there, first_there, page_in, entry_in, owner_met, class_met, FitsPage, FitOver}
+use Rattle.fitted_groups.proofs.Meeting.{first_is, first_true, second_true, same_number}
 
 abbrev pub or_else : Option GroupLine → Option GroupLine → Option GroupLine
 or_else None other = other

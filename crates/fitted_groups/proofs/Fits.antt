@@ -1,13 +1,12 @@
 -- Groups whose lines fit the pages of an image fit whatever a roll-forward goes by there.
-use Rattle.std.proofs.Common.{◌≡◌, ℕ, zero, suc, ◌-◌, ◌≤◌, ◌<◌, List, [], ◌∷◌, slice_get, Option, Some, None, ◌⊎◌, inl, inr, ⊎_elim, refl, sym, ◌∙◌, ap, subst, arith}
+use Rattle.std.proofs.Common.{◌≡◌, ℕ, suc, ◌-◌, ◌≤◌, List, [], ◌∷◌, slice_get, Option, Some, None, inl, inr, ⊎_elim, refl, sym, ◌∙◌, ap, subst, arith}
 use Rattle.rdb_outside.specs.Disk.{Image}
 use Rattle.rdb_page.specs.Page.{IsOwner, IsUnused, class_at}
 use Rattle.rdb_page.specs.Whole.{IsUsedPage}
 use Rattle.aij_journal.specs.declared.part.GroupLine.{GroupLine}
 use Rattle.journal_scan.specs.declared.group.Group.{Group}
 use Rattle.line_view.specs.declared.writes.Write.{Write}
-use Rattle.stable_lines.specs.Slots.{area_file, IsAreaFile, owner_at}
-use Rattle.stable_lines.specs.Journal.{write_of}
+use Rattle.stable_lines.specs.Slots.{area_file, owner_at}
 use Rattle.stable_lines.proofs.Lists.{got_either}
 use Rattle.stable_lines.proofs.Never.{zeros_owner}
 use Rattle.line_moves.specs.declared.places.Place.{Place}

@@ -12,7 +12,7 @@ returns-in_err-claim-clause-reads g c = let v = g.D.Disk.view in then_reads (v c
 pub loop-seat-preserved : goal.loop-seat-preserved
 loop-seat-preserved g c = let v = g.D.Disk.view in let old = v c.args.disk.now in let mid = v c.loop-seat.disk in let so_far = c.loop-seat.invariant in
     let seat = c.loop-seat.seat in let claims = c.loop-seat.claims in let claim = c.in_ok-claim.claim in
-    let within : seat < length claims = (let test = c.loop-seat-test.true in let size = so_far.size in let count = c.len.ensures in omega (arith, test, size, count)) in
+    let within : seat < length claims = (let test = c.loop-seat-test.true in let size = so_far.size in omega (arith, test, size)) in
     record {
       reads = then_reads old mid (v c.read_claim.new.disk) so_far.reads c.read_claim.ensures.reads;
       size = set_long claims seat claim ∙ so_far.size;
@@ -26,4 +26,4 @@ loop-seat-preserved g c = let v = g.D.Disk.view in let old = v c.args.disk.now i
 pub returns-clause-fitted : goal.returns-clause-fitted
 returns-clause-fitted g c = let old = g.D.Disk.view c.args.disk.now in let so_far = c.loop-seat.invariant in
     λ t ends pages size. all_read old.content pages c.loop-seat.claims (so_far.size ∙ size)
-    (λ k less. so_far.each t ends k (let past = c.loop-seat-test.false in let long = so_far.size in let count = c.len.ensures in omega (arith, less, past, long, count)))
+    (λ k less. so_far.each t ends k (let past = c.loop-seat-test.false in let long = so_far.size in omega (arith, less, past, long)))

@@ -1,7 +1,6 @@
-use Rattle.std.proofs.Common.{rules, ◌≡◌, ◌∙◌, ◌+◌, ◌++◌, ℕ, List, max, Some, None, Err, ap, sym, subst, arith}
+use Rattle.std.proofs.Common.{rules, ◌≡◌, ◌∙◌, ◌+◌, ◌++◌, ℕ, max, Some, None, Err, ap, sym, subst, arith}
 use Rattle.std.proofs.lemmas.Result.{err_from_is_err_and}
 use Rattle.rdb_outside.specs.Runs.{then_reads}
-use Rattle.aij_journal.specs.declared.part.GroupLine.{GroupLine}
 use Rattle.journal_reading.specs.declared.reading.AijFault.{AijFault}
 use Rattle.stable_lines.specs.Rolling.{groups_above}
 use Rattle.line_moves.proofs.Runs.{reads_once, still_tells}

@@ -1,4 +1,4 @@
-use Rattle.std.proofs.Common.{ℕ, List, ◌++◌, slice_get, Some, ◌≡◌, ap, sym, subst}
+use Rattle.std.proofs.Common.{ℕ, List, ◌++◌, slice_get, Some, ◌≡◌, sym, subst}
 use Rattle.aij_journal.specs.declared.part.GroupLine.{GroupLine}
 use Rattle.aij_journal.specs.Part.{IsAllowedLine}
 use Rattle.fitted_groups.specs.Meeting.{FitOver}

@@ -1,10 +1,12 @@
-use Rattle.std.proofs.Common.{rules, ◌∙◌, sym, subst}
+use Rattle.std.proofs.Common.{rules, ◌∙◌, List, [], sym, subst}
 use Rattle.std.proofs.lemmas.Result.{err_from_is_err_and}
 use Rattle.rdb_outside.specs.Disk.{Image}
 use Rattle.rdb_outside.specs.Runs.{then_reads}
 use Rattle.line_moves.proofs.Runs.{on_ok, still_tells}
 use Rattle.line_opening.proofs.Passed.{image_same}
 use Rattle.laid_groups.proofs.Faults.{err_same}
+use Rattle.fitted_groups.specs.declared.claims.PageClaim.{PageClaim}
+use Rattle.fitted_groups.specs.Claims.{AreFitted}
 use Rattle.rmu_recover.specs.Journals.{files_of, AreJournalsIn}
 use Rattle.rmu_recover.proofs.Faults.{laying_no_gap, laying_no_unfit}
 use Rattle.rmu_recover.proofs.fitting.check_fit.Goals as goal
@@ -35,10 +37,10 @@ pub returns-clause-fit : goal.returns-clause-fit
 returns-clause-fit g c = let v = g.D.Disk.view in let old = v c.args.disk.now in let mid = v c.page_claims.new.disk in let reads = c.page_claims.ensures.reads in
     on_ok _ _ c.fit_all.result (λ fit t journals groups there follows.
     let there_mid = subst (λ (m : Image). AreJournalsIn m (files_of c.args.copies.now) journals) (sym (image_same old mid reads t)) there in
-    fit (still_tells old mid reads.told t) journals groups there_mid follows old.content c.args.pages (c.in_ok-claims.ensures.fitted t)) c.fit_all.ensures.fit
+    fit (still_tells old mid reads.told t) journals groups there_mid follows old.content c.args.pages (subst (λ (cs : List PageClaim). AreFitted old.content c.args.pages [] cs) (sym c.as_mut_slice.ensures.value) (c.in_ok-claims.ensures.fitted t))) c.fit_all.ensures.fit
 
 pub returns-clause-unfit : goal.returns-clause-unfit
 returns-clause-unfit g c = let v = g.D.Disk.view in let old = v c.args.disk.now in let mid = v c.page_claims.new.disk in let reads = c.page_claims.ensures.reads in
     λ key is t journals groups there follows.
     let there_mid = subst (λ (m : Image). AreJournalsIn m (files_of c.args.copies.now) journals) (sym (image_same old mid reads t)) there in
-    c.fit_all.ensures.unfit key is (still_tells old mid reads.told t) journals groups there_mid follows old.content c.args.pages (c.in_ok-claims.ensures.fitted t)
+    c.fit_all.ensures.unfit key is (still_tells old mid reads.told t) journals groups there_mid follows old.content c.args.pages (subst (λ (cs : List PageClaim). AreFitted old.content c.args.pages [] cs) (sym c.as_mut_slice.ensures.value) (c.in_ok-claims.ensures.fitted t))
