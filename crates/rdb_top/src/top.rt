@@ -33,6 +33,7 @@ ghost use Rattle.workload_replies.specs.Replies.{has_death};
 ghost use Rattle.rdb_top.specs.Runs.{IsNoDatabase, IsRun, IsWhole, IsWritten, OfSomeScripts, is_workload, keeps_copies, rolls_forward, is_status, is_script_status, status_at, scripts_of, transcripts, sessions_of};
 ghost use Rattle.rdb_top.specs.Deaths.{letting};
 ghost use Rattle.rdb_top.specs.Workloads.{AreWorkloadRuns, LeavesAll, LeavesRuns};
+ghost use Rattle.workload_runs.specs.Deaths.{HaveCauses, SomeDied};
 ghost use Rattle.workload_runs.specs.Reports.{Reports};
 ghost use Rattle.workload_runs.specs.Statuses.{is_unharmed, is_workload_status, have_death, stopped_status};
 
@@ -478,6 +479,12 @@ where
     // There are three where there is a report, and nobody died in them.
     ensures workload_three { is_workload (command_for words.now) ≡ true → HasText result.status → length result.earlier ≡ 2 }
     ensures workload_lived { is_workload (command_for words.now) ≡ true → HasText result.status → (have_death result.earlier ≡ false) × (has_death result.events ≡ false) }
+    // Who died in the last one did so of a device call that failed in this run, of the gate, which names it, or for want of memory; under
+    // status 8 somebody did. So where no device call failed and the gate names nobody, it was for want of memory.
+    ensures workload_causes { is_workload (command_for words.now) ≡ true → IsTrue (D.view disk).tells → IsUnmade (D.view disk) →
+        HaveCauses (G.mortals gate.now) (Rose (D.view disk).faults (D.view result.disk).faults) (map event_of result.events) }
+    ensures workload_fallen { is_workload (command_for words.now) ≡ true → IsTrue (D.view disk).tells → IsUnmade (D.view disk) → result.status ≡ 8 →
+        SomeDied (G.mortals gate.now) (Rose (D.view disk).faults (D.view result.disk).faults) (map event_of result.events) }
     // It writes what the last run has counted, and how many faults the database has; status 7 says that there are some.
     ensures workload_reports { is_workload (command_for words.now) ≡ true →
         Reports (D.view result.disk) result.events result.status (K.tells out.old ≡ true) (K.taken out.old) (K.taken out.new) }

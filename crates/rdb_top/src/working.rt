@@ -10,6 +10,7 @@ ghost use Rattle.command_words.specs.Options.{limits_of, nothing_asked};
 ghost use Rattle.command_words.specs.Words.{command_of as command_for, AreAccounts};
 ghost use Rattle.rmu_commands.specs.Written.{HasText};
 ghost use Rattle.workload_replies.specs.Replies.{has_death};
+ghost use Rattle.workload_runs.specs.Deaths.{HaveCauses, SomeDied};
 ghost use Rattle.workload_runs.specs.Reports.{Reports};
 ghost use Rattle.line_runs.specs.Openings.{HasNoNumbers};
 ghost use Rattle.workload_runs.specs.Statuses.{is_unharmed, is_workload_status, have_death, stopped_status};
@@ -113,6 +114,10 @@ where
     ensures reports { Reports (D.view result.disk) result.events result.status (K.tells out.old ≡ true) (K.taken out.old) (K.taken out.new) }
     ensures died { result.status ≡ 8 → has_death result.events ≡ true }
     ensures lived { HasText result.status → (have_death result.earlier ≡ false) × (has_death result.events ≡ false) }
+    ensures causes { IsTrue (D.view disk).tells → IsUnmade (D.view disk) →
+        HaveCauses (G.mortals gate.now) (Rose (D.view disk).faults (D.view result.disk).faults) (map event_of result.events) }
+    ensures fallen { IsTrue (D.view disk).tells → IsUnmade (D.view disk) → result.status ≡ 8 →
+        SomeDied (G.mortals gate.now) (Rose (D.view disk).faults (D.view result.disk).faults) (map event_of result.events) }
     ensures device { result.status ≡ 3 → Rose (D.view disk).faults (D.view result.disk).faults }
     ensures sink { result.status ≡ 6 → Rose (K.faults out.old) (K.faults out.new) }
     ensures harmed { IsTrue (D.view disk).tells → IsUnmade (D.view disk) →

@@ -69,6 +69,10 @@ unmade-not-six status said seen which six = grind arith
 pub runs-not-nine : (runs : ℕ) → is_run_status runs ≡ true → runs ≡ 9 → ⊥
 runs-not-nine runs is nine = grind (arith, nat_tests)
 
+-- nobody died where no database was made
+pub unmade-not-eight : (status said : ℕ) → Seen status said → (said ≡ 3) ⊎ (said ≡ 9) → status ≡ 8 → ⊥
+unmade-not-eight status said seen which eight = grind arith
+
 -- nothing is refused where no database was made
 pub unmade-not-four : (status said : ℕ) → Seen status said → (said ≡ 3) ⊎ (said ≡ 9) → status ≡ 4 → ⊥
 unmade-not-four status said seen which four = grind arith

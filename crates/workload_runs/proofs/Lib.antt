@@ -1,11 +1,14 @@
 mod Among
 mod Chain
 pub mod Crash
+mod Deaths
 mod Ended
 mod Left
 mod Numbers
 pub mod Opening
 mod Outcomes
+mod Plain
 pub mod Reporting
+mod Stopless
 pub mod Stops
 mod Tallies

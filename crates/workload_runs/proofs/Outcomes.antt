@@ -9,6 +9,7 @@ use Rattle.session_states.specs.declared.item_queue.WholeScript.{WholeScript}
 use Rattle.line_cluster.specs.Deaths.{RoseBy}
 use Rattle.line_cluster.specs.Sound.{FollowsScripts}
 use Rattle.line_cluster.specs.Turned.{HaveAllEnded}
+use Rattle.line_runs.specs.Openings.{stop_of}
 use Rattle.workload_replies.specs.Replies.{has_death}
 use Rattle.workload_runs.specs.Runs.{Frame, IsRun, AreRuns, EndIf}
 use Rattle.workload_runs.specs.Statuses.{IsWhole, deaths_of_last, have_death, is_run_status, last_of}
@@ -33,6 +34,7 @@ pub record Outcome (told : Type 0) (f : Frame) (t : Tables) (ss : List (List Who
 pub record HasEnded (told : Type 0) (o : Opening) (sessions : ℕ) (s : List WholeScript) (e : List Declared) (before behind : ℕ) : Type 0 where
   pub count : length s ≡ sessions
   pub follows : FollowsScripts o s
+  pub stops : o.stops ≡ stop_of s
   pub legal : told → IsLegal o (map event_of e)
   pub whole : told → HaveAllEnded o sessions (map event_of e)
   pub lived : has_death e ≡ false
@@ -117,7 +119,7 @@ pub goes-on : (told : Type 0) (o : Opening) (sessions : ℕ) (s : List WholeScri
     → Outcome told (frame_of o) o.tables (s ∷ ss) (n + 1) a d accounts ended
 goes-on told o sessions s ss e es accounts n status ended a b c d run more front same = record {
   runs = λ it.
-      let is : IsRun (frame_of o) o.tables s (map event_of e) = record { opening = o; named = refl; lets = refl; begins = refl; follows = run.follows; legal = run.legal it } in
+      let is : IsRun (frame_of o) o.tables s (map event_of e) = record { opening = o; named = refl; lets = refl; begins = refl; follows = run.follows; stops = run.stops; legal = run.legal it } in
       before-more (frame_of o) o.tables s ss e es accounts status ended front is (subst (λ (k : ℕ). HaveAllEnded o k (map event_of e)) (sym run.count) (run.whole it)) (more.runs it);
   status = in-front-status e es accounts status ended front more.status;
   count = counted-more e es accounts status ended n front more.count;

@@ -1,4 +1,5 @@
 pub mod Among
+pub mod Deaths
 pub mod Left
 pub mod Numbers
 pub mod Reports

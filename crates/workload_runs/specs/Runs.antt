@@ -10,6 +10,7 @@ use Rattle.rdb_account.specs.Places.{Opening, place}
 use Rattle.session_states.specs.declared.item_queue.WholeScript.{WholeScript}
 use Rattle.line_cluster.specs.Sound.{FollowsScripts}
 use Rattle.line_cluster.specs.Turned.{HaveAllEnded}
+use Rattle.line_runs.specs.Openings.{stop_of}
 use Rattle.opened_store.specs.Opened.{is_taken_in}
 use Rattle.workload_runs.specs.declared.stand.Stand.{Stand}
 
@@ -27,6 +28,8 @@ pub record IsRun (f : Frame) (tables : Tables) (scripts : List WholeScript) (eve
   pub lets : opening.may_die ≡ f.may_die
   pub begins : opening.tables ≡ tables
   pub follows : FollowsScripts opening scripts
+  -- nobody else has a script that ends in a stop
+  pub stops : opening.stops ≡ stop_of scripts
   pub legal : IsLegal opening events
 
 -- what a run opens with: the limits and the groups that were read, the taken pages of the image, and these tables

@@ -6,7 +6,7 @@ ghost use Rattle.session_states.specs.declared.item_queue.WholeScript.{WholeScri
 ghost use Rattle.line_cluster.specs.Deaths.{RoseBy};
 ghost use Rattle.line_cluster.specs.Sound.{FollowsScripts};
 ghost use Rattle.line_cluster.specs.Turned.{HaveAllEnded};
-ghost use Rattle.line_runs.specs.Openings.{HasNoNumbers, OpensWith};
+ghost use Rattle.line_runs.specs.Openings.{HasNoNumbers, OpensWith, stop_of};
 ghost use Rattle.line_runs.specs.Prefix.{GaveUp, HoldsAll, HoldsPrefix};
 ghost use Rattle.workload_replies.specs.Replies.{has_death};
 ghost use Rattle.workload_runs.specs.Among.{may_die_by};
@@ -65,6 +65,7 @@ pub(crate) fn run_part<
     requires few { O.sessions ≤ MOST_SESSIONS }
     requires short { All (λ script. length script.items < 2 ^ 32) said.scripts.items }
     requires scripts { FollowsScripts O.opening said.scripts.items }
+    requires stops { O.opening.stops ≡ stop_of said.scripts.items }
     requires word { said.word ≡ O.opening.word }
     requires mortals { O.opening.may_die ≡ may_die_by (G.mortals gate.now) }
     requires opens { O.told → OpensWith ⟦<ReservingStatements as Statements>⟧.stands (D.view disk) O.opening }

@@ -2,7 +2,7 @@
 ghost use Rattle.std.specs.Prelude.{◌≡◌, ◌≤◌, ◌<◌, ◌^◌, ◌+◌, ◌∷◌, All, Some, [], true, false, length};
 ghost use Rattle.line_cluster.specs.Deaths.{RoseBy};
 ghost use Rattle.line_cluster.specs.Sound.{FollowsScripts};
-ghost use Rattle.line_runs.specs.Openings.{HasNoNumbers, OpensWith};
+ghost use Rattle.line_runs.specs.Openings.{HasNoNumbers, OpensWith, stop_of};
 ghost use Rattle.line_runs.specs.Prefix.{GaveUp};
 ghost use Rattle.workload_replies.specs.Replies.{has_death};
 ghost use Rattle.workload_runs.specs.Among.{may_die_by};
@@ -51,6 +51,7 @@ pub(crate) fn run_last<
     requires few { O.sessions ≤ MOST_SESSIONS }
     requires short { All (λ script. length script.items < 2 ^ 32) ready.prepared.said.scripts.items }
     requires scripts { FollowsScripts O.opening ready.prepared.said.scripts.items }
+    requires stops { O.opening.stops ≡ stop_of ready.prepared.said.scripts.items }
     requires word { ready.prepared.said.word ≡ O.opening.word }
     requires mortals { O.opening.may_die ≡ may_die_by (G.mortals gate.now) }
     requires opens { O.told → OpensWith ⟦<ReservingStatements as Statements>⟧.stands (D.view disk) O.opening }
@@ -90,6 +91,7 @@ pub(crate) fn run_transfers<
     requires few { O.sessions ≤ MOST_SESSIONS }
     requires short { All (λ script. length script.items < 2 ^ 32) ready.prepared.said.scripts.items }
     requires scripts { FollowsScripts O.opening ready.prepared.said.scripts.items }
+    requires stops { O.opening.stops ≡ stop_of ready.prepared.said.scripts.items }
     requires word { ready.prepared.said.word ≡ O.opening.word }
     requires mortals { O.opening.may_die ≡ may_die_by (G.mortals gate.now) }
     requires opens { O.told → OpensWith ⟦<ReservingStatements as Statements>⟧.stands (D.view disk) O.opening }
@@ -151,6 +153,7 @@ pub(crate) fn run_first<
     requires few { O.sessions ≤ MOST_SESSIONS }
     requires short { All (λ script. length script.items < 2 ^ 32) ready.prepared.said.scripts.items }
     requires scripts { FollowsScripts O.opening ready.prepared.said.scripts.items }
+    requires stops { O.opening.stops ≡ stop_of ready.prepared.said.scripts.items }
     requires word { ready.prepared.said.word ≡ O.opening.word }
     requires mortals { O.opening.may_die ≡ may_die_by (G.mortals gate.now) }
     requires opens { O.told → OpensWith ⟦<ReservingStatements as Statements>⟧.stands (D.view disk) O.opening }

@@ -1,10 +1,11 @@
 // The whole of a workload.
-ghost use Rattle.std.specs.Prelude.{◌≡◌, ◌≤◌, ◌+◌, ◌⊎◌, [], None, Some, true, false, length, IsTrue};
+ghost use Rattle.std.specs.Prelude.{◌≡◌, ◌≤◌, ◌+◌, ◌⊎◌, [], None, Some, true, false, length, map, IsTrue};
 ghost use Rattle.rdb_outside.specs.Causes.{Rose};
 ghost use Rattle.rdb_outside.specs.Disk.{Image, Keeps, LeavesOnly, LeftNow, OnlyReads};
 ghost use Rattle.root_file.specs.Root.{AreLimits};
 ghost use Rattle.new_database.specs.Maker.{IsUnmade, HasRoot};
 ghost use Rattle.new_database.specs.New.{IsNewDatabase, IsNewDatabaseOrNone};
+ghost use Rattle.rdb_account.specs.Events.{event_of};
 ghost use Rattle.rdb_meaning.specs.Contents.{no_tables};
 ghost use Rattle.line_cluster.specs.Deaths.{RoseBy};
 ghost use Rattle.line_runs.specs.Openings.{HasNoNumbers};
@@ -12,6 +13,7 @@ ghost use Rattle.line_runs.specs.Prefix.{HoldsAll};
 ghost use Rattle.rmu_commands.specs.Written.{HasText};
 ghost use Rattle.workload_replies.specs.Replies.{has_death};
 ghost use Rattle.workload_runs.specs.Among.{may_die_by};
+ghost use Rattle.workload_runs.specs.Deaths.{HaveCauses, SomeDied};
 ghost use Rattle.workload_runs.specs.Reports.{Reports};
 ghost use Rattle.workload_runs.specs.Left.{EndsHeld, HoldsRun, LastHolds, StandSince};
 ghost use Rattle.workload_runs.specs.Runs.{AreRuns, EndIf};
@@ -192,6 +194,12 @@ where
     // Some session died, or none.
     ensures died { result.status ≡ 8 → has_death (last_of result.accounts) ≡ true }
     ensures lived { HasText result.status → have_death result.accounts ≡ false }
+    // Who died in the last run did so of a device call that failed, of the gate, which names it, or for want of memory; under status 8
+    // somebody did.
+    ensures causes { IsTrue (D.view disk).tells → IsUnmade (D.view disk) →
+        HaveCauses (G.mortals gate.now) (Rose (D.view disk).faults (D.view result.disk).faults) (map event_of (last_of result.accounts)) }
+    ensures fallen { IsTrue (D.view disk).tells → IsUnmade (D.view disk) → result.status ≡ 8 →
+        SomeDied (G.mortals gate.now) (Rose (D.view disk).faults (D.view result.disk).faults) (map event_of (last_of result.accounts)) }
     // A device call failed, or one on the sink.
     ensures device { result.status ≡ 3 → Rose (D.view disk).faults (D.view result.disk).faults }
     ensures sink { result.status ≡ 6 → Rose (K.faults out.old) (K.faults out.new) }

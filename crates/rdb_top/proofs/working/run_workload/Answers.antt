@@ -12,6 +12,7 @@ use Rattle.sound_maps.specs.Maps.{IsSoundWith}
 use Rattle.rmu_commands.specs.Written.{HasText}
 use Rattle.workload_replies.specs.Replies.{has_death}
 use Rattle.workload_runs.specs.Among.{may_die_by}
+use Rattle.workload_runs.specs.Deaths.{HaveCauses, SomeDied}
 use Rattle.workload_runs.specs.Reports.{Reports}
 use Rattle.workload_runs.specs.Runs.{AreRuns, EndIf}
 use Rattle.workload_runs.specs.Scripts.{scripts_of_runs}
@@ -69,6 +70,22 @@ returns-in-Ok-clause-stopped g c told unmade three =
     (is-last c.workload.result.accounts c.last_apart.result.earlier c.last_apart.result.events c.last_apart.ensures.accounts)
     (c.workload.ensures.stopped told unmade (sym c.last_apart.ensures.status ∙ three)))
 
+-- of what they died
+pub returns-in-Ok-clause-causes : goal.returns-in-Ok-clause-causes
+returns-in-Ok-clause-causes g c told unmade =
+    let v = g.D.Disk.view in
+    rw c.last_apart.ensures.disk
+    (subst (λ (es : List Event). HaveCauses (g.G.Gate.mortals c.args.gate.now) (Rose (v c.args.disk).faults (v c.workload.result.disk).faults) (map event_of es))
+    (is-last c.workload.result.accounts c.last_apart.result.earlier c.last_apart.result.events c.last_apart.ensures.accounts) (c.workload.ensures.causes told unmade))
+
+pub returns-in-Ok-clause-fallen : goal.returns-in-Ok-clause-fallen
+returns-in-Ok-clause-fallen g c told unmade eight =
+    let v = g.D.Disk.view in
+    rw c.last_apart.ensures.disk
+    (subst (λ (es : List Event). SomeDied (g.G.Gate.mortals c.args.gate.now) (Rose (v c.args.disk).faults (v c.workload.result.disk).faults) (map event_of es))
+    (is-last c.workload.result.accounts c.last_apart.result.earlier c.last_apart.result.events c.last_apart.ensures.accounts)
+    (c.workload.ensures.fallen told unmade (sym c.last_apart.ensures.status ∙ eight)))
+
 -- what a crash leaves, by the words of the command
 pub returns-in-Ok-clause-images : goal.returns-in-Ok-clause-images
 returns-in-Ok-clause-images g c told unmade =
@@ -121,6 +138,14 @@ returns-in-Err-clause-reports g c = gave-up _ _ c.unsaid.result.status _ _ _ (in
 pub returns-in-Err-clause-harmed : goal.returns-in-Err-clause-harmed
 returns-in-Err-clause-harmed g c told unmade =
     rw c.unsaid.ensures.disk (rose-deaths (map event_of c.unsaid.result.events) None _ _ (nobody-died c.unsaid.result.events None _ c.unsaid.ensures.events refl))
+
+pub returns-in-Err-clause-causes : goal.returns-in-Err-clause-causes
+returns-in-Err-clause-causes g c told unmade =
+    let v = g.D.Disk.view in
+    subst (λ (es : List Event). HaveCauses (g.G.Gate.mortals c.args.gate.now) (Rose (v c.args.disk).faults (v c.unsaid.result.disk).faults) (map event_of es)) (sym c.unsaid.ensures.events) tt
+
+pub returns-in-Err-clause-fallen : goal.returns-in-Err-clause-fallen
+returns-in-Err-clause-fallen g c told unmade eight = absurd (let five = c.unsaid.ensures.status in omega (arith, five, eight))
 
 pub returns-in-Err-clause-standing : goal.returns-in-Err-clause-standing
 returns-in-Err-clause-standing g c told root = (inr (inl c.unsaid.ensures.status), rw c.unsaid.ensures.disk ((no_calls (g.D.Disk.view c.args.disk)).keeps told))

@@ -17,7 +17,7 @@ returns-then-status-ne0-clause-runs g c told more =
     let s = c.args.said.scripts.items in
     let ran = c.say-ran.result in
     let f : Frame = record { word = o.word; may_die = o.may_die } in
-    let run : IsRun f o.tables s (map event_of ran.events) = record { opening = o; named = refl; lets = refl; begins = refl; follows = c.requires.scripts; legal = c.say-ran.ensures.legal told } in
+    let run : IsRun f o.tables s (map event_of ran.events) = record { opening = o; named = refl; lets = refl; begins = refl; follows = c.requires.scripts; stops = c.requires.stops; legal = c.say-ran.ensures.legal told } in
     ended-by ran.fault f o.tables s more ran.events c.ended_by.result.accounts c.end_of_run-ended.result.status c.ended_by.result.status
     c.ended_by.ensures.begun c.ended_by.ensures.unsaid run
     (λ whole. subst (λ n. HaveAllEnded o n (map event_of ran.events)) (sym c.requires.sessions) (c.say-ran.ensures.whole told (c.end_of_run-ended.ensures.whole whole).0))
@@ -68,7 +68,7 @@ returns-then-status-ne0-clause-holds g c told more =
     let s = c.args.said.scripts.items in
     let ran = c.say-ran.result in
     let f : Frame = record { word = o.word; may_die = o.may_die } in
-    let run : IsRun f o.tables s (map event_of ran.events) = record { opening = o; named = refl; lets = refl; begins = refl; follows = c.requires.scripts; legal = c.say-ran.ensures.legal told } in
+    let run : IsRun f o.tables s (map event_of ran.events) = record { opening = o; named = refl; lets = refl; begins = refl; follows = c.requires.scripts; stops = c.requires.stops; legal = c.say-ran.ensures.legal told } in
     rw c.ended_by.ensures.disk (held-by IsSoundWith (v ran.disk) _ f o.tables s more ran.events run ran.fault c.ended_by.result.accounts c.end_of_run-ended.result.status c.ended_by.result.status
     c.ended_by.ensures.begun c.ended_by.ensures.unsaid
     (λ opened. record {

@@ -1,4 +1,4 @@
-use Rattle.std.proofs.Common.{◌≡◌, [], ◌∷◌, None, length, map, inl, refl, sym, ap, subst, arith}
+use Rattle.std.proofs.Common.{[], ◌∷◌, None, length, map, inl, refl, sym, ap, subst, arith}
 use Rattle.rdb_outside.specs.Disk.{View}
 use Rattle.rdb_account.specs.Events.{event_of}
 use Rattle.rdb_account.specs.Places.{place}
@@ -23,6 +23,7 @@ returns-in-Ok g c =
     let run : HasEnded told o g.O.Origin.sessions s e a b = record {
       count = c.requires.sessions;
       follows = c.requires.scripts;
+      stops = c.requires.stops;
       legal = c.in-Ok.ensures.legal;
       whole = c.in-Ok.ensures.whole;
       lived = c.in-Ok.ensures.lived;
@@ -42,7 +43,7 @@ returns-in-Ok g c =
       halted = halted-told None 0 c.one_run.result.halt c.one_run.result.status c.one_run.ensures.halt (nobody-halted None 0 refl);
       refused = λ it_is. refused-told (v c.one_run.result.disk) None 0 c.one_run.result.halt c.one_run.result.status c.one_run.ensures.halt (λ four. absurd (let no : ⊥ = omega (arith, four) in no));
       holds = λ it_is.
-          let own : IsRun (frame_of o) o.tables s (map event_of e) = record { opening = o; named = refl; lets = refl; begins = refl; follows = c.requires.scripts; legal = c.in-Ok.ensures.legal it_is } in
+          let own : IsRun (frame_of o) o.tables s (map event_of e) = record { opening = o; named = refl; lets = refl; begins = refl; follows = c.requires.scripts; stops = c.requires.stops; legal = c.in-Ok.ensures.legal it_is } in
           held-as-said IsSoundWith _ _ _ _ _ _ _ _ _ _ c.requires.says
           (held-alone IsSoundWith (v c.one_run.result.disk) _ (frame_of o) o.tables s [] e own c.one_run.result.accounts 0 c.one_run.result.status c.one_run.ensures.accounts
           (subst (λ d. EndsHeld IsSoundWith (IsWhole 0) (v d) o (length s) (map event_of e)) (sym c.one_run.ensures.disk)

@@ -1,4 +1,4 @@
-use Rattle.std.proofs.Common.{[], ◌∷◌, None, length, map, inl, refl, sym, ap, subst, ◌∙◌}
+use Rattle.std.proofs.Common.{[], ◌∷◌, None, length, map, refl, sym, ap, subst, ◌∙◌}
 use Rattle.rdb_outside.specs.Disk.{View}
 use Rattle.rdb_outside.specs.Moments.{each_slot}
 use Rattle.rdb_account.specs.Events.{event_of}
@@ -51,6 +51,7 @@ returns-in-Err-prepare g c =
     let run : HasEnded told o g.O.Origin.sessions s e a b = record {
       count = c.requires.sessions;
       follows = c.requires.scripts;
+      stops = c.requires.stops;
       legal = c.in-Ok.ensures.legal;
       whole = c.in-Ok.ensures.whole;
       lived = c.in-Ok.ensures.lived;
@@ -73,7 +74,7 @@ returns-in-Err-prepare g c =
           refused-told (v c.one_run.result.disk) None c.in-Err-prepare.status c.one_run.result.halt c.one_run.result.status c.one_run.ensures.halt
           (λ four. (subst (λ d. HasNoNumbers (v d)) (sym c.one_run.ensures.disk) (used-up (v c.in-Ok.done.disk) (v c.prepare.new.disk) c.prepare.ensures.reads (c.in-Err-prepare.ensures.refused (cc)))));
       holds = λ it_is.
-          let own : IsRun (frame_of o) o.tables s (map event_of e) = record { opening = o; named = refl; lets = refl; begins = refl; follows = c.requires.scripts; legal = c.in-Ok.ensures.legal it_is } in
+          let own : IsRun (frame_of o) o.tables s (map event_of e) = record { opening = o; named = refl; lets = refl; begins = refl; follows = c.requires.scripts; stops = c.requires.stops; legal = c.in-Ok.ensures.legal it_is } in
           held-as-said IsSoundWith _ _ _ _ _ _ _ _ _ _ c.requires.says
           (held-alone IsSoundWith (v c.one_run.result.disk) _ (frame_of o) o.tables s ss e own c.one_run.result.accounts c.in-Err-prepare.status c.one_run.result.status c.one_run.ensures.accounts
           (subst (λ d. EndsHeld IsSoundWith (IsWhole c.in-Err-prepare.status) (v d) o (length s) (map event_of e)) (sym c.one_run.ensures.disk)
@@ -98,6 +99,7 @@ returns-in-Ok-prepare g c =
     let run : HasEnded told o g.O.Origin.sessions s e a b = record {
       count = c.requires.sessions;
       follows = c.requires.scripts;
+      stops = c.requires.stops;
       legal = c.in-Ok.ensures.legal;
       whole = c.in-Ok.ensures.whole;
       lived = c.in-Ok.ensures.lived;
@@ -128,7 +130,7 @@ returns-in-Ok-prepare g c =
       refused = λ it_is.
           refused-told (v c.in_front.result.disk) next.halt next.status c.in_front.result.halt c.in_front.result.status c.in_front.ensures.halt (subst (λ d. IsRefused (v d) next.status) (sym c.in_front.ensures.disk) (c.run_last-behind.ensures.refused it_is));
       holds = λ it_is.
-          let own : IsRun (frame_of o) o.tables s (map event_of e) = record { opening = o; named = refl; lets = refl; begins = refl; follows = c.requires.scripts; legal = c.in-Ok.ensures.legal it_is } in
+          let own : IsRun (frame_of o) o.tables s (map event_of e) = record { opening = o; named = refl; lets = refl; begins = refl; follows = c.requires.scripts; stops = c.requires.stops; legal = c.in-Ok.ensures.legal it_is } in
           let all = subst (λ n. HaveAllEnded o n (map event_of e)) (sym c.requires.sessions) (c.in-Ok.ensures.whole it_is) in
           held-as-said IsSoundWith _ _ _ _ _ _ _ _ _ _ c.requires.says
           (held-front IsSoundWith (v c.in_front.result.disk) _ (frame_of o) o.tables s ss e own next.accounts c.in_front.result.accounts next.status c.in_front.result.status c.in_front.ensures.accounts all

@@ -1,20 +1,26 @@
-use Rattle.std.proofs.Common.{◌≡◌, ◌≤◌, ℕ, Bool, Err, inr, IsTrue, ap, sym, subst, ◌∙◌, arith}
+use Rattle.std.proofs.Common.{◌≡◌, ◌≤◌, ℕ, Bool, true, Err, inl, inr, refl, map, IsTrue, ap, sym, subst, ◌∙◌, arith}
 use Rattle.std.proofs.lemmas.Bool.{false≢true}
 use Rattle.std.proofs.lemmas.Option.{none-some}
 use Rattle.rdb_outside.specs.Causes.{Rose}
 use Rattle.rdb_outside.specs.Disk.{LeavesOnly}
+use Rattle.rdb_account.specs.Events.{event_of}
 use Rattle.rdb_meaning.specs.Contents.{no_tables}
 use Rattle.new_database.specs.Maker.{HasRoot, IsUnmade}
 use Rattle.new_database.specs.New.{IsNewDatabaseOrNone}
 use Rattle.line_runs.specs.Prefix.{HoldsAll}
+use Rattle.workload_replies.specs.Replies.{has_death}
 use Rattle.sound_maps.specs.Maps.{IsSoundWith}
 use Rattle.workload_runs.specs.Among.{may_die_by}
+use Rattle.workload_runs.specs.Deaths.{HaveCauses}
 use Rattle.workload_runs.specs.Left.{HoldsRun, LastHolds}
-use Rattle.workload_runs.specs.Runs.{AreRuns}
+use Rattle.workload_runs.specs.Runs.{AreRuns, EndIf}
 use Rattle.workload_runs.specs.Scripts.{scripts_of_runs}
+use Rattle.workload_runs.specs.Statuses.{IsWhole, deaths_of_last, last_of}
 use Rattle.workload_runs.proofs.Crash.{Unbegun, images-of, left-of, none-left, none-made, refused-behind}
-use Rattle.workload_runs.proofs.Ended.{harmed-all, runs-not-nine, said-so, seen-runs, seen-status, stopped-all, unharmed, unmade-not-four, unmade-not-six, unmade-report, unmade-status}
+use Rattle.workload_runs.proofs.Deaths.{causes-of-last, fell-by, some-died}
+use Rattle.workload_runs.proofs.Ended.{harmed-all, runs-not-nine, said-so, seen-runs, seen-status, stopped-all, unharmed, unmade-not-eight, unmade-not-four, unmade-not-six, unmade-report, unmade-status}
 use Rattle.workload_runs.proofs.Opening.{none-no-root}
+use Rattle.workload_runs.proofs.Stopless.{stopless}
 use Rattle.workload_runs.proofs.Stops.{nobody-halted}
 use Rattle.workload_runs.proofs.whole.workload.Goals as goal
 
@@ -60,6 +66,39 @@ returns-in-Ok-clause-stopped g c t unmade three =
     c.unwatched-in-Ok.result.accounts c.begin-runs.result.accounts c.finish.result.status c.begin-runs.result.status (c.unwatched-in-Ok.ensures.accounts ∙ c.finish.ensures.accounts) c.finish.ensures.kept said
     (c.begin-runs.ensures.stopped tells is) c.begin-runs.ensures.lived (c.begin-runs.ensures.harmed tells is)
     (λ zero_is. subst (λ d. Rose (v c.begin-runs.result.disk.disk).faults (v d).faults) (sym c.unwatched-in-Ok.ensures.disk) (c.finish.ensures.device said zero_is))
+
+-- ---- of what they died
+
+-- where no database was made nobody did
+pub returns-in-Err-clause-causes : goal.returns-in-Err-clause-causes
+returns-in-Err-clause-causes g c t unmade =
+    let v = g.D.Disk.view in
+    subst (λ es. HaveCauses (g.G.Gate.mortals c.args.gate.now) (Rose (v c.args.disk).faults (v c.unwatched.result.disk).faults) (map event_of (last_of es)))
+    (sym (c.unwatched.ensures.accounts ∙ c.unmade.ensures.accounts)) tt
+
+pub returns-in-Err-clause-fallen : goal.returns-in-Err-clause-fallen
+returns-in-Err-clause-fallen g c t unmade eight =
+    absurd (unmade-not-eight c.unwatched.result.status c.unmade.result.status c.unwatched.ensures.status c.unmade.ensures.status eight)
+
+pub returns-in-Ok-clause-causes : goal.returns-in-Ok-clause-causes
+returns-in-Ok-clause-causes g c t unmade =
+    let v = g.D.Disk.view in
+    let mortals = g.G.Gate.mortals c.args.gate.now in
+    let accounts = c.unwatched-in-Ok.result.accounts in
+    causes-of-last (EndIf (IsWhole c.unwatched-in-Ok.result.status)) (record { word = c.args.plan.now.word; may_die = may_die_by mortals }) mortals (Rose (v c.args.disk).faults (v c.unwatched-in-Ok.result.disk).faults) no_tables (scripts_of_runs c.args.plan.now.accounts) accounts
+    refl (stopless c.args.plan.now.accounts c.requires.accounts.0 c.requires.accounts.1)
+    (fell-by (deaths_of_last accounts) (v c.args.disk).faults (v c.unwatched-in-Ok.result.disk).faults (returns-in-Ok-clause-harmed g c t unmade))
+    (returns-in-Ok-clause-runs g c t unmade)
+
+pub returns-in-Ok-clause-fallen : goal.returns-in-Ok-clause-fallen
+returns-in-Ok-clause-fallen g c t unmade eight =
+    let v = g.D.Disk.view in
+    let accounts = c.unwatched-in-Ok.result.accounts in
+    let said = said-so 8 c.unwatched-in-Ok.result.status c.finish.result.status c.unwatched-in-Ok.ensures.status (λ five. omega (arith, five)) eight in
+    let runs : c.begin-runs.result.status ≡ 8 = sym (c.finish.ensures.dead (inl said)) ∙ said in
+    some-died (g.G.Gate.mortals c.args.gate.now) (Rose (v c.args.disk).faults (v c.unwatched-in-Ok.result.disk).faults) (last_of accounts)
+    (subst (λ es. has_death (last_of es) ≡ true) (sym (c.unwatched-in-Ok.ensures.accounts ∙ c.finish.ensures.accounts)) (c.begin-runs.ensures.died runs))
+    (returns-in-Ok-clause-causes g c t unmade)
 
 -- ---- what a crash leaves
 
