@@ -15,11 +15,7 @@ use Rattle.workload_runs.specs.Deaths.{HaveCauses}
 use Rattle.workload_runs.specs.Left.{HoldsRun, LastHolds}
 use Rattle.workload_runs.specs.Runs.{AreRuns, EndIf}
 use Rattle.workload_runs.specs.Scripts.{scripts_of_runs}
-<<<<<<< HEAD
-use Rattle.workload_runs.specs.Statuses.{deaths_of_last, last_of}
-=======
 use Rattle.workload_runs.specs.Statuses.{IsWhole, deaths_of_last, last_of}
->>>>>>> dd44d2477da54a2985b59ec2117a6c43c66b0033
 use Rattle.workload_runs.proofs.Crash.{Unbegun, images-of, left-of, none-left, none-made, refused-behind}
 use Rattle.workload_runs.proofs.Deaths.{causes-of-last, fell-by, some-died}
 use Rattle.workload_runs.proofs.Ended.{harmed-all, runs-not-nine, said-so, seen-runs, seen-status, stopped-all, unharmed, unmade-not-eight, unmade-not-four, unmade-not-six, unmade-report, unmade-status}
@@ -89,11 +85,7 @@ returns-in-Ok-clause-causes g c t unmade =
     let v = g.D.Disk.view in
     let mortals = g.G.Gate.mortals c.args.gate.now in
     let accounts = c.unwatched-in-Ok.result.accounts in
-<<<<<<< HEAD
-    causes-of-last _ (record { word = c.args.plan.now.word; may_die = may_die_by mortals }) mortals (Rose (v c.args.disk).faults (v c.unwatched-in-Ok.result.disk).faults) no_tables (scripts_of_runs c.args.plan.now.accounts) accounts
-=======
     causes-of-last (EndIf (IsWhole c.unwatched-in-Ok.result.status)) (record { word = c.args.plan.now.word; may_die = may_die_by mortals }) mortals (Rose (v c.args.disk).faults (v c.unwatched-in-Ok.result.disk).faults) no_tables (scripts_of_runs c.args.plan.now.accounts) accounts
->>>>>>> dd44d2477da54a2985b59ec2117a6c43c66b0033
     refl (stopless c.args.plan.now.accounts c.requires.accounts.0 c.requires.accounts.1)
     (fell-by (deaths_of_last accounts) (v c.args.disk).faults (v c.unwatched-in-Ok.result.disk).faults (returns-in-Ok-clause-harmed g c t unmade))
     (returns-in-Ok-clause-runs g c t unmade)
@@ -102,10 +94,6 @@ pub returns-in-Ok-clause-fallen : goal.returns-in-Ok-clause-fallen
 returns-in-Ok-clause-fallen g c t unmade eight =
     let v = g.D.Disk.view in
     let accounts = c.unwatched-in-Ok.result.accounts in
-<<<<<<< HEAD
-    let all = c.begin-runs.result.accounts in
-=======
->>>>>>> dd44d2477da54a2985b59ec2117a6c43c66b0033
     let said = said-so 8 c.unwatched-in-Ok.result.status c.finish.result.status c.unwatched-in-Ok.ensures.status (λ five. omega (arith, five)) eight in
     let runs : c.begin-runs.result.status ≡ 8 = sym (c.finish.ensures.dead (inl said)) ∙ said in
     some-died (g.G.Gate.mortals c.args.gate.now) (Rose (v c.args.disk).faults (v c.unwatched-in-Ok.result.disk).faults) (last_of accounts)
