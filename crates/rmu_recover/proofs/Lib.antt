@@ -4,4 +4,4 @@ pub mod Ended
 pub mod Course
 pub mod Faults
 pub mod Roots
-pub mod Fitting
+pub mod GroupsFit

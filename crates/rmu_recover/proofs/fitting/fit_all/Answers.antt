@@ -11,7 +11,7 @@ use Rattle.laid_groups.specs.Passing.{IsJournalIn}
 use Rattle.fitted_groups.specs.Meeting.{lines_among}
 use Rattle.rmu_recover.specs.Journals.{files_of}
 use Rattle.rmu_recover.proofs.Walking.{journal_there, this_copy, no_more_copies, none_yet, copy_next, journal_last, laid_to_next}
-use Rattle.rmu_recover.proofs.Fitting.{fitted_more, lines_left, fit_left, all_fit_pages}
+use Rattle.rmu_recover.proofs.GroupsFit.{fitted_more, lines_left, fit_left, all_fit_pages}
 use Rattle.rmu_recover.proofs.fitting.fit_all.Goals as goal
 
 pub loop-number-init : goal.loop-number-init

@@ -6,7 +6,7 @@ use Rattle.rolled_lines.specs.Journals.{follow, laid}
 use Rattle.fitted_groups.specs.Claims.{AreFitted}
 use Rattle.rmu_recover.specs.Journals.{files_of, AreJournalsIn}
 use Rattle.rmu_recover.proofs.Walking.{LaidTo}
-use Rattle.rmu_recover.proofs.Fitting.{FittedSoFar}
+use Rattle.rmu_recover.proofs.GroupsFit.{FittedSoFar}
 use Rattle.rmu_recover.proofs.fitting.fit_all.Given as goal
 
 abbrev pub invariant-loop-number : goal.invariant-loop-number
