@@ -12,6 +12,7 @@ use Rattle.database_opening.proofs.Others.{file_read, file_on}
 use Rattle.laid_groups.proofs.Faults.{err_same}
 use Rattle.rolled_lines.specs.Journals.{follow}
 use Rattle.fitted_groups.specs.Meeting.{TakesFirst, FitPages}
+use Rattle.rmu_recover.specs.Recovering.{HasGroups}
 use Rattle.rmu_recover.proofs.Faults.{call_no_gap, call_no_unfit, call_failed}
 use Rattle.rmu_recover.proofs.Course.{to_roll_read, within_reads, within_behind}
 use Rattle.rmu_recover.proofs.Roots.{its_root, has_root, not_used, to_roll_code, source_code, rolled_code, within_code}
@@ -215,7 +216,7 @@ returns-clause-unfit g c = let v = g.D.Disk.view in let old = v c.args.disk.now 
     let its = its_root former root forward old to_roll left c.in_ok-root.root (c.in_ok-root.ensures.stands t) in
     let told = still_tells old first reads.told t in
     let to_roll_first = to_roll_read former c.in_ok-root.root forward [] (record { first = 0; groups = [] }) (λ (n : ℕ). n) old first reads t (to_roll_code former root forward its.0 copies journals [] (record { first = 0; groups = [] }) c.in_ok-root.root its.1 old to_roll) in
-    let has_now = record { journals_stand = has.journals_stand; follows = ap (λ (r : Root). follow r.applied journals) its.1 ∙ has.follows } in
+    let has_now : HasGroups former copies c.in_ok-root.root journals groups = record { journals_stand = has.journals_stand; follows = ap (λ (r : Root). follow r.applied journals) its.1 ∙ has.follows } in
     c.roll.ensures.unfit key is told former forward journals groups to_roll_first has_now
     (subst (λ (r : Root). FitPages first.content r.limits.pages groups) (sym its.1) (subst (λ (m : Image). FitPages m root.limits.pages groups) (sym (image_same old first reads t)) fit))
 
@@ -229,7 +230,7 @@ returns-clause-unfitting g c = let v = g.D.Disk.view in let old = v c.args.disk.
     let its = its_root former root forward old to_roll left c.in_ok-root.root (c.in_ok-root.ensures.stands t) in
     let told = still_tells old first reads.told t in
     let to_roll_first = to_roll_read former c.in_ok-root.root forward [] (record { first = 0; groups = [] }) (λ (n : ℕ). n) old first reads t (to_roll_code former root forward its.0 copies journals [] (record { first = 0; groups = [] }) c.in_ok-root.root its.1 old to_roll) in
-    let has_now = record { journals_stand = has.journals_stand; follows = ap (λ (r : Root). follow r.applied journals) its.1 ∙ has.follows } in
+    let has_now : HasGroups former copies c.in_ok-root.root journals groups = record { journals_stand = has.journals_stand; follows = ap (λ (r : Root). follow r.applied journals) its.1 ∙ has.follows } in
     let unfit_now = λ (fit : FitPages first.content c.in_ok-root.root.limits.pages groups). unfit (subst (λ (m : Image). FitPages m root.limits.pages groups) (image_same old first reads t) (subst (λ (r : Root). FitPages first.content r.limits.pages groups) its.1 fit)) in
     let refused = c.roll.ensures.unfitting told former forward journals groups to_roll_first has_now unfit_now in
     (refused.0, then_reads old first (v c.roll.new.disk) reads refused.1)
