@@ -30,7 +30,7 @@ use Rattle.disk_store.specs.Standing.{HasBegun}
 use Rattle.disk_store.specs.Shown.{Shown, sight_of}
 use Rattle.disk_store.proofs.Kept.{kept-stays}
 use Rattle.disk_store.proofs.Stepping.{Becomes}
-use Rattle.disk_store.proofs.Passing.{passes-reads, aside-ceiling, slots-pass}
+use Rattle.disk_store.proofs.Passing.{header-beside, headers-all, passes-reads, aside-ceiling, slots-pass}
 use Rattle.disk_store.proofs.Changed.{used-all}
 use Rattle.change_steps.proofs.SnapWritten.{areas, snap-keeps, snap-tables}
 use Rattle.disk_store.proofs.SpentSlots.{spends-all, space-less, keeps-less, stands-less}
@@ -71,9 +71,10 @@ module _ (v w : View) (held : StoreMemory) (s : ℕ) (m : Member) (was : slice_g
     holds (suc k) some = takes.holds w.content followed held.limits.snaps (λ file is. holds_moved v.content w.content followed file held.limits.snaps (table_of held.slots file)
         (kept_in_slot v w followed (snap_of key) (chain - 1) shown.tells (unfollowed (omega (arith, some))) takes.writes) (shown.versions.slots file is))
 
-    stays-shown : StaysShown v w held behind h shown
+    stays-shown : StaysShown v w s held behind h shown
     stays-shown = record {
       areas = areas v w (snap_of key) (chain - 1) shown.tells takes.writes;
+      headers = headers-all v w s (header-beside v w (snap_file (snap_of key)) (chain - 1) shown.tells (λ e. cc) takes.writes);
       numbered = record {
         number = shown.numbers.number;
         first = shown.numbers.first;

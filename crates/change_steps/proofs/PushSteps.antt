@@ -17,7 +17,7 @@ use Rattle.line_store.specs.Sights.{bare, Does}
 use Rattle.line_versions.specs.Versions.{snap_of}
 use Rattle.line_versions.specs.Files.{entries_in, snap_file}
 use Rattle.line_versions.specs.Course.{Course, pushed}
-use Rattle.stable_lines.specs.Slots.{line_at}
+use Rattle.stable_lines.specs.Slots.{line_at, named}
 use Rattle.line_moves.specs.Calls.{OnlyWrites}
 use Rattle.line_moves.specs.Lines.{ChangedLines}
 use Rattle.disk_versions.specs.Courses.{course_pushed}
@@ -39,15 +39,15 @@ use Rattle.disk_store.specs.ChangeSteps.{rechained}
 use Rattle.disk_store.specs.Memory.{StoreMemory}
 use Rattle.disk_store.specs.Numbers.{kept_at, kept_in}
 use Rattle.disk_store.specs.Seats.{seat_with, stand_of, stand_at, steps_in}
-use Rattle.disk_store.specs.Standing.{HasBegun, StageStands}
+use Rattle.disk_store.specs.Standing.{HasBegun, IsJournalling, StageStands}
 use Rattle.disk_store.specs.Shown.{NumbersStand, TablesStand, WaitPushed, WaitsAs, Shown, pages_of, sight_of}
 use Rattle.disk_store.specs.Sound.{IsSound}
 use Rattle.disk_store.proofs.Moving.{itself}
 use Rattle.disk_store.proofs.Members.{get-within}
-use Rattle.disk_store.proofs.Beside.{SameAreas, stays-there}
+use Rattle.disk_store.proofs.Beside.{SameAreas, SameHeader, stays-there}
 use Rattle.disk_store.proofs.Kept.{kept-stays}
 use Rattle.disk_store.proofs.Stepping.{ComesTo, Becomes, does-step}
-use Rattle.disk_store.proofs.Passing.{Passes, passes-reads, reads-leave, reads-ceiling, aside-ceiling, tables-pass, slots-pass}
+use Rattle.disk_store.proofs.Passing.{Passes, header-beside, header-read, passes-reads, reads-leave, reads-ceiling, aside-ceiling, tables-pass, slots-pass}
 use Rattle.disk_store.proofs.Changed.{got-within, used-all}
 use Rattle.change_steps.proofs.LeftTo.{not-borne}
 use Rattle.change_steps.proofs.SnapWritten.{areas, snap-keeps, snap-tables}
@@ -114,8 +114,11 @@ module _ (v w : View) (held behind : StoreMemory) (s : ℕ) (m n : Member) (was 
     abbrev g : Ledger
     g = shown.ledger
 
+    abbrev journals : IsJournalling v g s m
+    journals = subst (λ x. StageStands x v g s m) at stands
+
     abbrev has : HasBegun g s m
-    has = subst (λ x. StageStands x v g s m) at stands
+    has = journals.begun
 
     wait-was : WaitPushed (shown.versions.waiting s) m.pushed m.written
     wait-was = subst (λ x. WaitsAs x shown.versions.waiting s m) at (shown.versions.waits s m was)
@@ -159,15 +162,15 @@ module _ (v w : View) (held behind : StoreMemory) (s : ℕ) (m n : Member) (was 
         subst (λ (x : Numbers). x.next + kept_in behind.members ≤ x.written) (sym numbers-is) (subst (λ (ms : List Member). held.numbers.next + kept_in ms ≤ held.numbers.written) (sym members-is) (kept-stays held.members s held.numbers.next held.numbers.written m n was (omega (arith, none)) shown.kept))
 
     -- what a step comes to that keeps the ledger
-    abbrev comes-so : (course : Course) → SameAreas v w → LedgerFacts w g → NumbersStand w g behind.numbers behind.next → TablesStand w g behind.tables → ReaderFacts w g behind.limits.snaps course (set_waiting s more shown.versions.waiting)
+    abbrev comes-so : (course : Course) → SameAreas v w → ((t : ℕ) → SameHeader t v w) → LedgerFacts w g → NumbersStand w g behind.numbers behind.next → TablesStand w g behind.tables → ReaderFacts w g behind.limits.snaps course (set_waiting s more shown.versions.waiting)
         → HoldsAll w.content course.followed behind.limits.snaps behind.slots → ((t : ℕ) → course.reader t ≡ shown.versions.course.reader t) → ComesTo v w behind s n g shown.versions.course shown.versions.waiting
-    comes-so course same facts numbered tabled readers slots reads = record {
+    comes-so course same header facts numbered tabled readers slots reads = record {
       ledger = g;
       facts = facts;
       limits = refl;
       none = λ t apart rests. rests;
-      others = λ t x apart got stood. stays-there v w g g t same (record { standing = inl refl; going = refl; commit = refl }) x stood;
-      mine = subst (λ x. StageStands x w g s n) (sym at-now) begun-now;
+      others = λ t x apart got stood. stays-there v w g g t same (record { standing = inl refl; going = refl; commit = refl }) x (header t) stood;
+      mine = subst (λ x. StageStands x w g s n) (sym at-now) (record { begun = begun-now; header = λ noted. ap named (header s) ∙ journals.header (sym named-is ∙ noted) ∙ ap (λ (k : Tsn). k.number) (sym tsn-is) });
       numbered = numbered;
       kept = kept-now;
       tabled = tabled;
@@ -225,7 +228,7 @@ module _ (v w : View) (held behind : StoreMemory) (s : ℕ) (m n : Member) (was 
       }))
 
       abbrev to-pushed : ComesTo v w behind s n shown.ledger shown.versions.course shown.versions.waiting
-      to-pushed = comes-so h shown stands course (areas v w (snap_of key) (chain - 1) t only) (snap-keeps v w (snap_of key) (chain - 1) t only shown.ledger shown.facts) numbered
+      to-pushed = comes-so h shown stands course (areas v w (snap_of key) (chain - 1) t only) (header-beside v w (snap_file (snap_of key)) (chain - 1) t (λ e. cc) only) (snap-keeps v w (snap_of key) (chain - 1) t only shown.ledger shown.facts) numbered
           (subst (λ x. TablesStand w shown.ledger x) (sym tables-is) (snap-tables v w (snap_of key) (chain - 1) t only shown.ledger held.tables shown.tables))
           (subst (λ x. ReaderFacts w shown.ledger x.snaps course (set_waiting s (more h shown stands) shown.versions.waiting)) (sym limits-is) readers-now)
           (subst (λ x. HoldsAll w.content course.followed x.snaps behind.slots) (sym limits-is) (holds h shown (ended h shown stands) (ap (λ (k : Tsn). shown.versions.course.going k.number) open-one.number ∙ shown.versions.readers.versions.goes s open-one.transaction open-one.is_open)))
@@ -262,7 +265,7 @@ module _ (v w : View) (held behind : StoreMemory) (s : ℕ) (m n : Member) (was 
       }))
 
       abbrev to-passed : ComesTo v w behind s n shown.ledger shown.versions.course shown.versions.waiting
-      to-passed = comes-so h shown stands shown.versions.course p.areas (read_ledger v w shown.ledger shown.tells reads shown.facts) numbered-first
+      to-passed = comes-so h shown stands shown.versions.course p.areas (header-read v w shown.tells reads) (read_ledger v w shown.ledger shown.tells reads shown.facts) numbered-first
           (subst (λ x. TablesStand w shown.ledger x) (sym tables-is) (tables-pass v w p shown.ledger shown.ledger held.tables refl shown.tables))
           (subst (λ x. ReaderFacts w shown.ledger x.snaps shown.versions.course (set_waiting s (more h shown stands) shown.versions.waiting)) (sym limits-is) (p.readers shown.ledger held.limits.snaps shown.versions.course (set_waiting s (more h shown stands) shown.versions.waiting) readers-first))
           (subst (λ x. HoldsAll w.content shown.versions.course.followed x.snaps behind.slots) (sym limits-is) (subst (λ x. HoldsAll w.content shown.versions.course.followed held.limits.snaps x) (sym slots-is) (slots-pass v w p shown.versions.course.followed held.limits.snaps held.slots shown.versions.slots)))

@@ -20,7 +20,7 @@ use Rattle.disk_store.specs.Standing.{HasBegun}
 use Rattle.disk_store.specs.Shown.{Shown, sight_of}
 use Rattle.disk_store.proofs.Kept.{kept-stays}
 use Rattle.disk_store.proofs.Stepping.{becomes-member, space-same}
-use Rattle.disk_store.proofs.Passing.{Passes, passes-reads, reads-leave, reads-ceiling, tables-pass, slots-pass}
+use Rattle.disk_store.proofs.Passing.{Passes, header-read, headers-all, passes-reads, reads-leave, reads-ceiling, tables-pass, slots-pass}
 use Rattle.change_steps.proofs.Breaking.{StaysShown, taken-broken, does-break, does-broken}
 
 module _ (v w : View) (held : StoreMemory) (s : ℕ) (m : Member) (was : slice_get held.members s ≡ Some m) (at : m.stage ≡ stage.Changing) (reads : OnlyReads v w) where
@@ -34,9 +34,10 @@ module _ (v w : View) (held : StoreMemory) (s : ℕ) (m : Member) (was : slice_g
     p : Passes v w
     p = passes-reads v w shown.tells reads
 
-    stays-shown : StaysShown v w held behind h shown
+    stays-shown : StaysShown v w s held behind h shown
     stays-shown = record {
       areas = p.areas;
+      headers = headers-all v w s (header-read v w shown.tells reads);
       numbered = record { number = shown.numbers.number; first = shown.numbers.first; ceiling = reads-ceiling v w shown.tells reads held.numbers shown.numbers.ceiling; group = shown.numbers.group };
       kept = kept-stays held.members s held.numbers.next held.numbers.written m n was (omega arith) shown.kept;
       tabled = tables-pass v w p shown.ledger shown.ledger held.tables refl shown.tables;

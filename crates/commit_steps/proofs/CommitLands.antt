@@ -111,7 +111,7 @@ module _ (v w : View) (held : StoreMemory) (s : ℕ) (m : Member) (was : slice_g
       facts = facts;
       limits = refl;
       none = λ t apart rested. rests v v g k t (λ file page is. refl) (λ classes lie. lie) (stays t apart) rested;
-      others = λ t x apart got stood. beside-stands held s m was (ap is_flying at) commits v w g k t x apart (sym (set-beside held.members s t n apart) ∙ got) (stays t apart) stood;
+      others = λ t x apart got stood. beside-stands held s m was (ap is_flying at) commits v w g k t x (makes.journals shown.tells t 0) apart (sym (set-beside held.members s t n apart) ∙ got) (stays t apart) stood;
       mine = ap (λ (b : Bool). cond b resting (g.standing s)) (itself s);
       numbered = record {
         number = shown.numbers.number;

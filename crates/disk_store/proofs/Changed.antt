@@ -147,8 +147,8 @@ module _ (v : View) (held : StoreMemory) (s : ℕ) (m : Member) (more : List Wri
       facts = shown.facts;
       limits = refl;
       none = λ t apart rests. rests;
-      others = λ t x apart got stood. stays-there v v g g t (same-areas v) (record { standing = inl refl; going = refl; commit = refl }) x stood;
-      mine = begun;
+      others = λ t x apart got stood. stays-there v v g g t (same-areas v) (record { standing = inl refl; going = refl; commit = refl }) x refl stood;
+      mine = record { begun = begun; header = λ noted. absurd (false≢true noted) };
       numbered = record { number = shown.numbers.number; first = shown.numbers.first; ceiling = shown.numbers.ceiling; group = shown.numbers.group };
       kept = kept-stays held.members s held.numbers.next held.numbers.written m next was (omega arith) shown.kept;
       tabled = tables-pass v v (passes-none v) g g held.tables refl shown.tables;

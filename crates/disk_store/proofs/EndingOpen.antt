@@ -111,7 +111,7 @@ module _ (v : View) (held : StoreMemory) (s : ℕ) (m : Member) (was : slice_get
       facts = ended_facts v g s shown.facts (may g stands) (not_ending v g s shown.facts (may g stands));
       limits = refl;
       none = λ t apart rests. ap (λ b. if b then resting else g.standing t) apart ∙ rests;
-      others = λ t x apart got stands. stays-there v v g (ended_by s g) t (same-areas v) (stays t apart) x stands;
+      others = λ t x apart got stands. stays-there v v g (ended_by s g) t (same-areas v) (stays t apart) x refl stands;
       mine = rests-next (ended_by s g) rests;
       numbered = record { number = shown.numbers.number; first = shown.numbers.first; ceiling = shown.numbers.ceiling; group = record { in_slot = shown.numbers.group.in_slot; numbered = shown.numbers.group.numbered } };
       kept = kept-stays held.members s held.numbers.next held.numbers.written m n was (omega (arith, free)) shown.kept;

@@ -43,7 +43,7 @@ use Rattle.disk_store.proofs.Kept.{kept-stays}
 use Rattle.disk_store.proofs.Ordered.{group-long, same-writes}
 use Rattle.disk_store.proofs.Beside.{StaysWith, same-classes, stays-with}
 use Rattle.disk_store.proofs.Stepping.{ComesTo, does-any}
-use Rattle.disk_store.proofs.Passing.{Passes, passes-reads, reads-leave, reads-ceiling, tables-pass, slots-pass}
+use Rattle.disk_store.proofs.Passing.{Passes, header-read, passes-reads, reads-leave, reads-ceiling, tables-pass, slots-pass}
 use Rattle.disk_store.proofs.LinesPut.{all-used}
 use Rattle.disk_store.proofs.Landed.{slot-behind, number-behind, tables-landed, becomes-landed, takes-landed}
 use Rattle.disk_store.proofs.Judged.{judged-at, its, as-held, slot-is}
@@ -114,7 +114,7 @@ module _ (v w : View) (held : StoreMemory) (s : ℕ) (m : Member) (was : slice_g
       facts = facts;
       limits = refl;
       none = λ t apart rests. standing-beside t apart ∙ rests;
-      others = λ t x apart got stood. stays-with v w g k t (λ file page is. p.areas.content file _) (same-classes v w p.areas) (stays t apart) x stood;
+      others = λ t x apart got stood. stays-with v w g k t (λ file page is. p.areas.content file _) (same-classes v w p.areas) (stays t apart) x (header-read v w shown.tells only t) stood;
       mine = ap (λ (x : ℕ). cond (s == x) resting (g.standing s)) j.commit.its ∙ ap (λ (b : Bool). cond b resting (g.standing s)) (itself s);
       numbered = record {
         number = shown.numbers.number;
