@@ -122,11 +122,14 @@ module _ (v w : View) (held : StoreMemory) (s : ℕ) (m : Member) (was : slice_g
     begun-named : (g : Ledger) → HasBegun g s m → HasBegun g s n
     begun-named g has = record { transaction = has.transaction; all = has.all; stable = has.stable; stands = has.stands; is_open = has.is_open; number = has.number; count = has.count; keys = has.keys }
 
+    journals-named : (g : Ledger) → IsTrue v.tells → HasBegun g s m → IsJournalling w g s n
+    journals-named g t has = record { begun = begun-named g has; header = λ noted. names t }
+
     pub does-name : Does s (stand_at held.members s) (λ h g. GoesOn s h g) (sight_of v held) (sight_of w (with_member s n held))
     does-name = subst (λ x. Does s (stand_of x) (λ h g. GoesOn s h g) (sight_of v held) (sight_of w (with_member s n held))) (sym was)
         (does-step v w held (record (with_member s n held) { numbers = held.numbers }) s m n was (becomes-member held held.numbers s n) plain only.told only.leaves
         (λ h shown stands. same-ledger v w (passes shown.tells) held s n h shown (headers-beside v w s slot shown.tells only) (aside-ceiling v w shown.tells (ruj_file s) slot (λ e. cc) only held.numbers shown.numbers.ceiling) (kept-stays held.members s held.numbers.next held.numbers.written m n was (omega arith) shown.kept) (facts h shown (has-begun shown.ledger stands))
-        (subst (λ x. StageStands x w shown.ledger s n) (sym at) (record { begun = begun-named shown.ledger (has-begun shown.ledger stands); header = λ noted. names shown.tells })) (subst (λ x. WaitsAs x shown.versions.waiting s n) (sym at) (subst (λ x. WaitsAs x shown.versions.waiting s m) at (shown.versions.waits s m was))))
+        (subst (λ x. StageStands x w shown.ledger s n) (sym at) (journals-named shown.ledger shown.tells (has-begun shown.ledger stands))) (subst (λ x. WaitsAs x shown.versions.waiting s n) (sym at) (subst (λ x. WaitsAs x shown.versions.waiting s m) at (shown.versions.waits s m was))))
         only.later only.no_fewer (stand_of (Some m)) (λ h g. GoesOn s h g) refl still (λ h shown stands. record { lines = refl; commit = refl }) space-same
         (λ h g start related moves. record { moves = subst (λ x. Moves s x h g) (sym related.seat) moves; less = let new = related.steps_behind in let old = related.steps in let less = named-less in omega (arith, new, old, less) }))
 
@@ -201,6 +204,9 @@ module _ (v w : View) (held : StoreMemory) (s : ℕ) (m : Member) (was : slice_g
           let long = length-more has.all undo in
           its.seat.names (omega (arith, long)) ∙ ap (λ (o : Open). o.tsn.number) (same_Some _ _ (sym its.seat.is_open ∙ has.is_open)) ∙ ap (λ (k : Tsn). k.number) (sym has.number)
 
+      mine-now : IsJournalling w after s more
+      mine-now = record { begun = mine; header = λ noted. header-more }
+
       -- the lines that wait are the same
       waits-still : (set_waiting s (shown.versions.waiting s) shown.versions.waiting) s ≡ shown.versions.waiting s
       waits-still = ap (λ b. if b then shown.versions.waiting s else shown.versions.waiting s) (itself s)
@@ -212,7 +218,7 @@ module _ (v w : View) (held : StoreMemory) (s : ℕ) (m : Member) (was : slice_g
         limits = refl;
         none = λ t apart rests. ap (λ b. if b then changing (has.all ++ undo ∷ []) has.stable else g.standing t) apart ∙ rests;
         others = λ t x apart got stood. stays-there v w g after t p.areas (there t apart) x (headers-beside v w s slot shown.tells only t apart) stood;
-        mine = subst (λ x. StageStands x w after s more) (sym at) (record { begun = mine; header = λ noted. header-more });
+        mine = subst (λ x. StageStands x w after s more) (sym at) mine-now;
         numbered = record { number = shown.numbers.number; first = shown.numbers.first; ceiling = aside-ceiling v w shown.tells (ruj_file s) slot (λ e. cc) only held.numbers shown.numbers.ceiling; group = shown.numbers.group };
         kept = kept-stays held.members s held.numbers.next held.numbers.written m more was (omega arith) shown.kept;
         tabled = tables-pass v w p g after held.tables refl shown.tables;

@@ -150,6 +150,9 @@ module _ (v w : View) (held behind : StoreMemory) (s : ℕ) (m n : Member) (was 
       keys = λ i undo got. ap (λ ks. slice_get ks i) keys-is ∙ has.keys i undo got;
     }
 
+    journals-now : SameHeader s v w → IsJournalling w g s n
+    journals-now same = record { begun = begun-now; header = λ noted. ap named same ∙ journals.header (sym named-is ∙ noted) ∙ ap (λ (k : Tsn). k.number) (sym tsn-is) }
+
     ended : shown.versions.course.going (line_at v.content key).tsn.number ≡ false
     ended = not-borne v g shown.facts s has.all has.stable has.stands key (left-still v g s m key has all-in is shown.facts) held.limits.snaps shown.versions.course shown.versions.waiting shown.versions.readers (now shown.tells)
 
@@ -170,7 +173,7 @@ module _ (v w : View) (held behind : StoreMemory) (s : ℕ) (m n : Member) (was 
       limits = refl;
       none = λ t apart rests. rests;
       others = λ t x apart got stood. stays-there v w g g t same (record { standing = inl refl; going = refl; commit = refl }) x (header t) stood;
-      mine = subst (λ x. StageStands x w g s n) (sym at-now) (record { begun = begun-now; header = λ noted. ap named (header s) ∙ journals.header (sym named-is ∙ noted) ∙ ap (λ (k : Tsn). k.number) (sym tsn-is) });
+      mine = subst (λ x. StageStands x w g s n) (sym at-now) (journals-now (header s));
       numbered = numbered;
       kept = kept-now;
       tabled = tabled;
