@@ -1,5 +1,5 @@
 -- A device call that writes no before-image journal.
-use Rattle.std.proofs.Common.{◌≡◌, ◌≢◌, ◌⊎◌, ◌+◌, ℕ, IsTrue, sym, ap, ◌∙◌}
+use Rattle.std.proofs.Common.{◌≡◌, ◌≢◌, ◌⊎◌, inl, inr, ◌+◌, ℕ, IsTrue, sym, ap, ◌∙◌}
 use Rattle.rdb_types.specs.declared.file.FileId.{FileId}
 use Rattle.rdb_types.specs.declared.file.FileKind.TheVariants.{Aij, Area, Ruj}
 use Rattle.rdb_outside.specs.Disk.{View}
