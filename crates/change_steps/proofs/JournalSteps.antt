@@ -182,12 +182,15 @@ module _ (v w : View) (held : StoreMemory) (s : ℕ) (m : Member) (was : slice_g
         | inr new ↦ ap (λ k. slice_get m.written.keys k) (new.0 ∙ sym has.count) ∙ is ∙ ap (λ (x : Undo). Some x.key) new.1
       ]
 
+      stands-more : after.standing s ≡ changing (has.all ++ undo ∷ []) has.stable
+      stands-more = ap (λ b. if b then changing (has.all ++ undo ∷ []) has.stable else g.standing s) (itself s)
+
       mine : HasBegun after s more
       mine = record {
         transaction = has.transaction;
         all = has.all ++ undo ∷ [];
         stable = has.stable;
-        stands = ap (λ b. if b then changing (has.all ++ undo ∷ []) has.stable else g.standing s) (itself s);
+        stands = stands-more;
         is_open = has.is_open;
         number = has.number;
         count = let long = length-more has.all undo in omega (arith, long, has.count);
@@ -200,7 +203,7 @@ module _ (v w : View) (held : StoreMemory) (s : ℕ) (m : Member) (was : slice_g
       -- its header stands, as one that has a before-image
       header-more : named (w.content (ruj_file s) 0) ≡ m.tsn.number
       header-more =
-          let its : IsChanging w g.base s (has.all ++ undo ∷ []) has.stable = subst (λ (st : Standing). MemberStands w g.base s st) mine.stands (facts-more.member s) in
+          let its : IsChanging w g.base s (has.all ++ undo ∷ []) has.stable = subst (λ (st : Standing). MemberStands w g.base s st) stands-more (facts-more.member s) in
           let long = length-more has.all undo in
           its.seat.names (omega (arith, long)) ∙ ap (λ (o : Open). o.tsn.number) (same_Some _ _ (sym its.seat.is_open ∙ has.is_open)) ∙ ap (λ (k : Tsn). k.number) (sym has.number)
 

@@ -230,8 +230,11 @@ module _ (v w : View) (held behind : StoreMemory) (s : ℕ) (m n : Member) (was 
         group = shown.numbers.group;
       }))
 
+      headers-stay : (r : ℕ) → SameHeader r v w
+      headers-stay r = header-beside v w (snap_file (snap_of key)) (chain - 1) t (λ e. cc) only r
+
       abbrev to-pushed : ComesTo v w behind s n shown.ledger shown.versions.course shown.versions.waiting
-      to-pushed = comes-so h shown stands course (areas v w (snap_of key) (chain - 1) t only) (header-beside v w (snap_file (snap_of key)) (chain - 1) t (λ e. cc) only) (snap-keeps v w (snap_of key) (chain - 1) t only shown.ledger shown.facts) numbered
+      to-pushed = comes-so h shown stands course (areas v w (snap_of key) (chain - 1) t only) headers-stay (snap-keeps v w (snap_of key) (chain - 1) t only shown.ledger shown.facts) numbered
           (subst (λ x. TablesStand w shown.ledger x) (sym tables-is) (snap-tables v w (snap_of key) (chain - 1) t only shown.ledger held.tables shown.tables))
           (subst (λ x. ReaderFacts w shown.ledger x.snaps course (set_waiting s (more h shown stands) shown.versions.waiting)) (sym limits-is) readers-now)
           (subst (λ x. HoldsAll w.content course.followed x.snaps behind.slots) (sym limits-is) (holds h shown (ended h shown stands) (ap (λ (k : Tsn). shown.versions.course.going k.number) open-one.number ∙ shown.versions.readers.versions.goes s open-one.transaction open-one.is_open)))
