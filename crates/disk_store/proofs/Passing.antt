@@ -1,5 +1,5 @@
 -- A device call that writes no area file and no snapshot file, and what stays shown behind it.
-use Rattle.std.proofs.Common.{◌≡◌, ◌≢◌, ◌≤◌, ◌-◌, ◌+◌, ◌==◌, ℕ, false, IsTrue, List, ◌⊎◌, inl, refl, sym, ap, subst, arith}
+use Rattle.std.proofs.Common.{◌≡◌, ◌≢◌, ◌≤◌, ◌-◌, ◌+◌, ℕ, IsTrue, List, ◌⊎◌, inl, refl, sym, ap, subst, arith}
 use Rattle.std.specs.Prelude.{slice_set}
 use Rattle.std.proofs.lemmas.Bool.{eqb-false}
 use Rattle.rdb_types.specs.declared.file.FileId.{FileId}
