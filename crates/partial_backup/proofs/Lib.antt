@@ -1,0 +1,4 @@
+pub mod Reaching
+pub mod Copies
+pub mod Standing
+pub mod Turns

@@ -1,0 +1,21 @@
+use Rattle.std.proofs.Common.{None, ap, subst}
+use Rattle.backup_making.specs.declared.making.Backup.{Backup}
+use Rattle.backup_making.specs.Making.{IsAt}
+use Rattle.partial_backup.proofs.Copies.{goes_on, stays}
+use Rattle.partial_backup.proofs.Turns.{done_steps}
+use Rattle.partial_backup.proofs.copying.Copying.go_on.Goals as goal
+
+pub returns-in-Failed-clause-not_done : goal.returns-in-Failed-clause-not_done
+returns-in-Failed-clause-not_done g c = let v = g.D.Disk.view in λ t former classes lines was.
+    stays former classes lines (v c.args.disk.now) (v c.step.new.disk) c.args.self.now was
+    (subst (λ (b : Backup). IsAt former (v c.step.new.disk) b was.copies) (c.step.ensures.stays c.in-Failed.is) (c.step.ensures.not_done c.in-Failed.is t former was.copies was.at))
+
+pub returns-in_default : goal.returns-in_default
+returns-in_default g c = let v = g.D.Disk.view in record {
+  moved = ap (λ (b : Backup). record { from = c.args.self.now.from; backup = b }) (c.step.ensures.moved c.in_default.not-Failed);
+  stays = tt;
+  steps = done_steps c.args.self.now.backup.number (v c.args.disk.now) (v c.step.new.disk) c.step.result c.in_default.not-Failed c.step.ensures.steps;
+  done = λ t former classes lines ordered none was. goes_on former classes lines (v c.args.disk.now) (v c.step.new.disk) c.args.self.now c.step.new.self (c.step.ensures.moved c.in_default.not-Failed) ordered none was
+      (c.step.ensures.done c.in_default.not-Failed t former was.copies was.at);
+  not_done = tt;
+}
